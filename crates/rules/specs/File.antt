@@ -1,0 +1,347 @@
+-- "The script file" and the questions 2 to 7: from a file's bytes to its script, or to the first no with number and place.
+use mathlib.Core.Bool.{Bool, true, false, cond, _&&_}
+use mathlib.Core.List.{List, [], _∷_, _++_}
+use Prim.Native.Nat.{ℕ, zero, suc, _+_}
+use lib.Dec.{leb, ltb}
+use lib.IntN.{ℤ, pos, natAbs}
+use lib.Signed.{leZ}
+use lib.ListN.{length}
+use Rattle.rules.specs.declared.Operand.{Operand}
+use Rattle.rules.specs.declared.Operand.the-variants.{Constant}
+use Rattle.rules.specs.declared.Comparison.{Comparison}
+use Rattle.rules.specs.declared.Comparison.the-variants.{Less}
+use Rattle.rules.specs.declared.Change.{Change}
+use Rattle.rules.specs.declared.Kind.{Kind}
+use Rattle.rules.specs.declared.Kind.the-variants.{Set, Move, Cue, Pick, Else, End, While, Do, For}
+use Rattle.rules.specs.declared.Name.{Name}
+use Rattle.rules.specs.declared.Word.{Word}
+use Rattle.rules.specs.declared.Word.the-variants.{Missing, Number, Variable, Compares, Keyword, Other}
+use Rattle.rules.specs.declared.RowRead.{RowRead}
+use Rattle.rules.specs.declared.RowRead.the-variants.{Read, Wrong}
+use Rattle.rules.specs.Values.{lowest, highest}
+use Rattle.rules.specs.Nesting.{Open, Nest, Nested, nested, wrong, nestRow}
+use Rattle.rules.specs.Ranges.{Range}
+use Rattle.rules.specs.Scripts.{Script}
+use Rattle.rules.specs.Text.{lf, split, nextWords, nextLines}
+
+-- Questions 3, 4 and 5 are asked of each word; 0: all have yes. All of them on one line go in order, so the line's first no is the least.
+unfoldable pub sooner : ℕ → ℕ → ℕ
+sooner zero q = q
+sooner (suc p) zero = suc p
+sooner (suc p) (suc q) = cond (leb p q) (suc p) (suc q)
+
+-- nothing after the last word
+unfoldable pub asksEnd : Word → ℕ
+asksEnd Missing = 0
+asksEnd (Number z) = 3
+asksEnd (Variable v) = 3
+asksEnd (Compares c) = 3
+asksEnd (Keyword n) = 3
+asksEnd Other = 3
+
+-- a number from lo to hi
+unfoldable pub asksNumber : ℤ → ℤ → Word → ℕ
+asksNumber lo hi Missing = 3
+asksNumber lo hi (Number z) = cond (leZ lo z && leZ z hi) 0 4
+asksNumber lo hi (Variable v) = 3
+asksNumber lo hi (Compares c) = 3
+asksNumber lo hi (Keyword n) = 3
+asksNumber lo hi Other = 3
+
+-- a variable below V
+unfoldable pub asksVariable : ℕ → Word → ℕ
+asksVariable vars Missing = 3
+asksVariable vars (Number z) = 3
+asksVariable vars (Variable v) = cond (ltb v vars) 0 5
+asksVariable vars (Compares c) = 3
+asksVariable vars (Keyword n) = 3
+asksVariable vars Other = 3
+
+-- X: a constant (−L to L) or a variable
+unfoldable pub asksOperand : ℕ → Word → ℕ
+asksOperand vars Missing = 3
+asksOperand vars (Number z) = cond (leZ lowest z && leZ z highest) 0 4
+asksOperand vars (Variable v) = cond (ltb v vars) 0 5
+asksOperand vars (Compares c) = 3
+asksOperand vars (Keyword n) = 3
+asksOperand vars Other = 3
+
+-- a comparison
+unfoldable pub asksComparison : Word → ℕ
+asksComparison Missing = 3
+asksComparison (Number z) = 3
+asksComparison (Variable v) = 3
+asksComparison (Compares c) = 0
+asksComparison (Keyword n) = 3
+asksComparison Other = 3
+
+-- what a word says, if it is such a word
+unfoldable pub numberOf : Word → ℤ
+numberOf Missing = pos 0
+numberOf (Number z) = z
+numberOf (Variable v) = pos 0
+numberOf (Compares c) = pos 0
+numberOf (Keyword n) = pos 0
+numberOf Other = pos 0
+
+unfoldable pub variableOf : Word → ℕ
+variableOf Missing = 0
+variableOf (Number z) = 0
+variableOf (Variable v) = v
+variableOf (Compares c) = 0
+variableOf (Keyword n) = 0
+variableOf Other = 0
+
+unfoldable pub operandOf : Word → Operand
+operandOf Missing = Constant (pos 0)
+operandOf (Number z) = Constant z
+operandOf (Variable v) = Operand.Variable v
+operandOf (Compares c) = Constant (pos 0)
+operandOf (Keyword n) = Constant (pos 0)
+operandOf Other = Constant (pos 0)
+
+unfoldable pub comparisonOf : Word → Comparison
+comparisonOf Missing = Less
+comparisonOf (Number z) = Less
+comparisonOf (Variable v) = Less
+comparisonOf (Compares c) = c
+comparisonOf (Keyword n) = Less
+comparisonOf Other = Less
+
+-- C is 0 to L in add and sub, 1 to L in mul and div
+unfoldable pub asksChange : Name → Word → ℕ
+asksChange Name.Set w = 3
+asksChange Name.Add w = asksNumber (pos 0) highest w
+asksChange Name.Sub w = asksNumber (pos 0) highest w
+asksChange Name.Mul w = asksNumber (pos 1) highest w
+asksChange Name.Div w = asksNumber (pos 1) highest w
+asksChange Name.Cue w = 3
+asksChange Name.Pick w = 3
+asksChange Name.Else w = 3
+asksChange Name.End w = 3
+asksChange Name.While w = 3
+asksChange Name.Do w = 3
+asksChange Name.For w = 3
+
+unfoldable pub changeOf : Name → Word → Change
+changeOf Name.Set w = Change.Add 0
+changeOf Name.Add w = Change.Add (natAbs (numberOf w))
+changeOf Name.Sub w = Change.Sub (natAbs (numberOf w))
+changeOf Name.Mul w = Change.Mul (natAbs (numberOf w))
+changeOf Name.Div w = Change.Div (natAbs (numberOf w))
+changeOf Name.Cue w = Change.Add 0
+changeOf Name.Pick w = Change.Add 0
+changeOf Name.Else w = Change.Add 0
+changeOf Name.End w = Change.Add 0
+changeOf Name.While w = Change.Add 0
+changeOf Name.Do w = Change.Add 0
+changeOf Name.For w = Change.Add 0
+
+-- a for's step row: the word of an arithmetic row and its constant
+unfoldable pub asksStep : Word → Word → ℕ
+asksStep Missing w = 3
+asksStep (Number z) w = 3
+asksStep (Variable v) w = 3
+asksStep (Compares c) w = 3
+asksStep (Keyword n) w = asksChange n w
+asksStep Other w = 3
+
+unfoldable pub stepOf : Word → Word → Change
+stepOf Missing w = Change.Add 0
+stepOf (Number z) w = Change.Add 0
+stepOf (Variable v) w = Change.Add 0
+stepOf (Compares c) w = Change.Add 0
+stepOf (Keyword n) w = changeOf n w
+stepOf Other w = Change.Add 0
+
+-- the row, if question q is none
+unfoldable pub checked : ℕ → Kind → RowRead
+checked zero k = Read k
+checked (suc q) k = Wrong (suc q)
+
+-- "Rows": each with its words
+module _ (vars : ℕ) (w : ℕ → Word) where
+  -- `pick`, `else`, `end`
+  unfoldable pub bareRow : Kind → RowRead
+  bareRow k = checked (asksEnd (w 1)) k
+
+  -- `set v0 X`
+  unfoldable pub setRow : RowRead
+  setRow = checked (sooner (asksVariable vars (w 1)) (sooner (asksOperand vars (w 2)) (asksEnd (w 3)))) (Set (variableOf (w 1)) (operandOf (w 2)))
+
+  -- `add v0 C`, `sub v0 C`, `mul v0 C`, `div v0 C`
+  unfoldable pub moveRow : Name → RowRead
+  moveRow n = checked (sooner (asksVariable vars (w 1)) (sooner (asksChange n (w 2)) (asksEnd (w 3)))) (Move (variableOf (w 1)) (changeOf n (w 2)))
+
+  -- `cue N` (0 to 9,999)
+  unfoldable pub cueRow : RowRead
+  cueRow = checked (sooner (asksNumber (pos 0) (pos 9_999) (w 1)) (asksEnd (w 2))) (Cue (natAbs (numberOf (w 1))))
+
+  -- the test of a `while v0 <= X` or `do v0 <= X`
+  unfoldable pub asksTest : ℕ
+  asksTest = sooner (asksVariable vars (w 1)) (sooner (asksComparison (w 2)) (sooner (asksOperand vars (w 3)) (asksEnd (w 4))))
+
+  unfoldable pub whileRow : RowRead
+  whileRow = checked asksTest (While (variableOf (w 1)) (comparisonOf (w 2)) (operandOf (w 3)))
+
+  unfoldable pub doRow : RowRead
+  doRow = checked asksTest (Do (variableOf (w 1)) (comparisonOf (w 2)) (operandOf (w 3)))
+
+  -- `for v0 X <= Y add C`
+  unfoldable pub asksFor : ℕ
+  asksFor =
+      sooner (asksVariable vars (w 1)) (sooner (asksOperand vars (w 2)) (sooner (asksComparison (w 3)) (sooner (asksOperand vars (w 4))
+      (sooner (asksStep (w 5) (w 6)) (asksEnd (w 7))))))
+
+  unfoldable pub forRow : RowRead
+  forRow = checked asksFor (For (variableOf (w 1)) (operandOf (w 2)) (comparisonOf (w 3)) (operandOf (w 4)) (stepOf (w 5) (w 6)))
+
+  -- by the first word
+  unfoldable pub namedRow : Name → RowRead
+  namedRow Name.Set = setRow
+  namedRow Name.Add = moveRow Name.Add
+  namedRow Name.Sub = moveRow Name.Sub
+  namedRow Name.Mul = moveRow Name.Mul
+  namedRow Name.Div = moveRow Name.Div
+  namedRow Name.Cue = cueRow
+  namedRow Name.Pick = bareRow Pick
+  namedRow Name.Else = bareRow Else
+  namedRow Name.End = bareRow End
+  namedRow Name.While = whileRow
+  namedRow Name.Do = doRow
+  namedRow Name.For = forRow
+
+  unfoldable pub firstWord : Word → RowRead
+  firstWord Missing = Wrong 3
+  firstWord (Number z) = Wrong 3
+  firstWord (Variable v) = Wrong 3
+  firstWord (Compares c) = Wrong 3
+  firstWord (Keyword n) = namedRow n
+  firstWord Other = Wrong 3
+
+  unfoldable pub rowOf : RowRead
+  rowOf = firstWord (w 0)
+
+-- what lines read, with the lines after them; or the first no, with number and place
+pub data Reading (A : Type 0) : Type 0 where
+  read : A → List (List ℕ) → Reading A
+  refused : ℕ → ℕ → Reading A
+
+-- then the lines after them
+unfoldable pub andThen : {A B : Type 0} → Reading A → (A → List (List ℕ) → Reading B) → Reading B
+andThen (read x ls) k = k x ls
+andThen (refused q p) k = refused q p
+
+-- the question q of line p, then what follows
+unfoldable pub unless : {A : Type 0} → ℕ → ℕ → Reading A → Reading A
+unless zero p r = r
+unless (suc q) p r = refused (suc q) p
+
+-- `script=`, `vars=`, `range=`, `rows=`, `row=`
+abbrev pub scriptKey : List ℕ
+scriptKey = 115 ∷ 99 ∷ 114 ∷ 105 ∷ 112 ∷ 116 ∷ 61 ∷ []
+
+abbrev pub varsKey : List ℕ
+varsKey = 118 ∷ 97 ∷ 114 ∷ 115 ∷ 61 ∷ []
+
+abbrev pub rangeKey : List ℕ
+rangeKey = 114 ∷ 97 ∷ 110 ∷ 103 ∷ 101 ∷ 61 ∷ []
+
+abbrev pub rowsKey : List ℕ
+rowsKey = 114 ∷ 111 ∷ 119 ∷ 115 ∷ 61 ∷ []
+
+abbrev pub rowKey : List ℕ
+rowKey = 114 ∷ 111 ∷ 119 ∷ 61 ∷ []
+
+-- `script=1`; another script number is of the wrong shape
+unfoldable pub asksOne : Word → ℕ
+asksOne Missing = 3
+asksOne (Number z) = cond (leZ (pos 1) z && leZ z (pos 1)) 0 3
+asksOne (Variable v) = 3
+asksOne (Compares c) = 3
+asksOne (Keyword n) = 3
+asksOne Other = 3
+
+unfoldable pub scriptLine : List (List ℕ) → Reading ℕ
+scriptLine ls = unless (sooner (asksOne (nextWords scriptKey ls 0)) (asksEnd (nextWords scriptKey ls 1))) 1 (read 1 (nextLines ls))
+
+-- `vars=V` (0 to 16), `rows=R` (0 to 256)
+unfoldable pub countLine : List ℕ → ℕ → ℕ → List (List ℕ) → Reading ℕ
+countLine key most p ls =
+    unless (sooner (asksNumber (pos 0) (pos most) (nextWords key ls 0)) (asksEnd (nextWords key ls 1))) p
+    (read (natAbs (numberOf (nextWords key ls 0))) (nextLines ls))
+
+-- `range=LO HI`: −L to L, LO at most HI
+unfoldable pub asksOrder : Word → Word → ℕ
+asksOrder lo hi = cond (leZ (numberOf lo) (numberOf hi)) 0 4
+
+unfoldable pub asksRange : (ℕ → Word) → ℕ
+asksRange w =
+    sooner (asksNumber lowest highest (w 0)) (sooner (asksNumber lowest highest (w 1)) (sooner (asksEnd (w 2)) (asksOrder (w 0) (w 1))))
+
+unfoldable pub rangeOf : (ℕ → Word) → Range
+rangeOf w = record { lo = numberOf (w 0); hi = numberOf (w 1) }
+
+-- n lines from line p on, after those read
+unfoldable pub rangeLines : ℕ → ℕ → List (List ℕ) → List Range → Reading (List Range)
+rangeLines zero p ls done = read done ls
+rangeLines (suc n) p ls done =
+    unless (asksRange (nextWords rangeKey ls)) p (rangeLines n (suc p) (nextLines ls) (done ++ (rangeOf (nextWords rangeKey ls) ∷ [])))
+
+-- the rows read, and the blocks that are open after them
+pub record Rows : Type 0 where
+  pub kinds : List Kind
+  pub nest : Nest
+
+-- questions 6 and 7 of a row
+unfoldable pub placed : ℕ → List Kind → Kind → Nested → (Rows → Reading Rows) → Reading Rows
+placed p done k (nested s) next = next (record { kinds = done ++ (k ∷ []); nest = s })
+placed p done k (wrong q) next = refused q p
+
+-- all questions of a row's line
+unfoldable pub rowLine : ℕ → Rows → RowRead → (Rows → Reading Rows) → Reading Rows
+rowLine p done (Wrong q) next = refused q p
+rowLine p done (Read k) next = placed p (done .kinds) k (nestRow k (done .nest)) next
+
+-- n rows from line p on, after those read
+unfoldable pub rowLines : ℕ → ℕ → ℕ → List (List ℕ) → Rows → Reading Rows
+rowLines vars zero p ls done = read done ls
+rowLines vars (suc n) p ls done =
+    rowLine p done (rowOf vars (nextWords rowKey ls)) (λ rows. rowLines vars n (suc p) (nextLines ls) rows)
+
+-- the line after the last: no bytes stand there, and no block is open
+unfoldable pub asksRest : List (List ℕ) → ℕ
+asksRest [] = 0
+asksRest ([] ∷ []) = 0
+asksRest ([] ∷ (m ∷ more)) = 3
+asksRest ((b ∷ s) ∷ ls) = 3
+
+unfoldable pub asksClosed : List Open → ℕ
+asksClosed [] = 0
+asksClosed (o ∷ os) = 6
+
+unfoldable pub lastLine : ℕ → List Range → Rows → List (List ℕ) → Reading Script
+lastLine p ranges rows ls =
+    unless (sooner (asksRest ls) (asksClosed (rows .nest .open-blocks))) p (read (record { ranges = ranges; rows = rows .kinds }) ls)
+
+-- no row yet
+abbrev pub noRows : Rows
+noRows = record { kinds = []; nest = record { open-blocks = []; loops = 0 } }
+
+-- from the rows on, and from the ranges on; V variables
+unfoldable pub rowPart : ℕ → List Range → List (List ℕ) → Reading Script
+rowPart vars ranges ls =
+    andThen (countLine rowsKey 256 (3 + vars) ls) λ n more.
+    andThen (rowLines vars n (4 + vars) more noRows) λ rows rest.
+    lastLine (4 + vars + n) ranges rows rest
+
+unfoldable pub rangePart : ℕ → List (List ℕ) → Reading Script
+rangePart vars ls = andThen (rangeLines vars 3 ls []) λ ranges more. rowPart vars ranges more
+
+-- "Key=value lines in this order"
+unfoldable pub linesScript : List (List ℕ) → Reading Script
+linesScript ls = andThen (scriptLine ls) λ _ more. andThen (countLine varsKey 16 2 more) λ vars rest. rangePart vars rest
+
+-- 2: a file of at most 16,384 bytes
+unfoldable pub fileScript : List ℕ → Reading Script
+fileScript file = cond (leb (length file) 16_384) (linesScript (split lf file)) (refused 2 16_384)
