@@ -1,0 +1,91 @@
+-- Demand 3 from the bytes of a file: an accepted file has an accepted script, and a store that passes question 15 is inside its ranges.
+use mathlib.Core.Path.{_≡_, refl, sym, _∙_, ap}
+use mathlib.Core.Bool.{Bool, true, false, cond, _&&_}
+use mathlib.Core.List.{List, [], _∷_}
+use Prim.Native.Nat.{ℕ, zero, suc, _≤_, _<_}
+use native.Mathlib.Omega.{arith}
+use lib.Dec.{T, leb, leb→le}
+use lib.IntN.{ℤ}
+use lib.Signed.{leZ, leZ-yes, _≤ℤ_}
+use lib.ListN.{length}
+use Rattle.ints.proofs.Diffs.{both}
+use Rattle.rules.specs.Ranges.{Range}
+use Rattle.rules.specs.Figures.{Prices}
+use Rattle.rules.specs.Questions.{Verdict, passed, refused, verdict}
+use Rattle.rules.specs.Scripts.{Script, envOf, storeOf, treeOf, Legal, Accepted, StoreIn}
+use Rattle.rules.specs.File
+use Rattle.rules.specs.Calls.{Judged, accepted, refuses, judgedBy, judgedFile, judged, storeVerdict, runScript}
+use Rattle.rules.specs.Claim.{Demand3, Demand3File}
+use Rattle.rules.proofs.Accepted.{refused-not}
+use Rattle.rules.proofs.Demand.{demand3}
+use Rattle.rules.proofs.Reading.{read-legal}
+
+no : {A : Type 0} (q p : ℕ) (script : Script) → Judged.refuses q p ≡ accepted script → A
+no q p script e = absurd (let z : _≡_ {A = ℕ} 0 1 = cc in omega arith)
+
+-- what an accepted file gives
+pub record FileAccepted (π : Prices) (scratch : ℕ) (file : List ℕ) (script : Script) : Type 0 where
+  pub room : 8_192 ≤ scratch
+  pub lines : (ls : List (List ℕ)) × (File.fileScript file ≡ File.read script ls)
+  pub script-accepted : Accepted π script
+
+by-verdict : (π : Prices) (scratch : ℕ) (file : List ℕ) (s script : Script) (ls : List (List ℕ)) (v : Verdict) → T (leb 8_192 scratch)
+    → File.fileScript file ≡ File.read s ls → verdict π (length (s .rows)) (envOf (s .ranges)) (treeOf (s .rows)) ≡ v → judgedBy s v ≡ accepted script → FileAccepted π scratch file script
+unfolding judgedBy
+by-verdict π scratch file s script ls passed t e v h =
+    let same : s ≡ script = cc in
+    let lines : File.fileScript file ≡ File.read script ls = e ∙ ap (λ x. File.read x ls) same in
+    record {
+      room = leb→le 8_192 scratch t;
+      lines = (ls, lines);
+      script-accepted = record {
+        legal = read-legal file script ls lines;
+        loops = ap (λ (x : Script). verdict π (length (x .rows)) (envOf (x .ranges)) (treeOf (x .rows))) (sym same) ∙ v;
+      };
+    }
+by-verdict π scratch file s script ls (refused q p) t e v h = no q p script h
+
+by-file : (π : Prices) (scratch : ℕ) (file : List ℕ) (script : Script) (r : File.Reading Script) → T (leb 8_192 scratch) → File.fileScript file ≡ r
+    → judgedFile π r ≡ accepted script → FileAccepted π scratch file script
+unfolding judgedFile
+by-file π scratch file script (File.read s ls) t e h = by-verdict π scratch file s script ls _ t e refl h
+by-file π scratch file script (File.refused q p) t e h = no q p script h
+
+pub file-accepted : (π : Prices) (scratch : ℕ) (file : List ℕ) (script : Script) → judged π scratch file ≡ accepted script → FileAccepted π scratch file script
+unfolding judged
+file-accepted π scratch file script e = go (leb 8_192 scratch) (λ t. t) e
+  where
+    go : (b : Bool) → (T b → T (leb 8_192 scratch)) → cond b (judgedFile π (File.fileScript file)) (refuses 1 8_192) ≡ accepted script → FileAccepted π scratch file script
+    go true f h = by-file π scratch file script (File.fileScript file) (f tt) refl h
+    go false f h = no 1 8_192 script h
+
+-- a store that passes question 15
+abbrev Each : List Range → List ℤ → Type 0
+Each rs xs = (w : ℕ) → w < length rs → (envOf rs w .lo ≤ℤ storeOf xs w) × (storeOf xs w ≤ℤ envOf rs w .hi)
+
+pub store-passes : (i : ℕ) (rs : List Range) (xs : List ℤ) → storeVerdict i rs xs ≡ passed → (length xs ≡ length rs) × Each rs xs
+unfolding storeVerdict
+store-passes i [] [] e = (refl, λ w h. absurd (omega arith))
+store-passes i [] (x ∷ xs) e = refused-not 15 i e
+store-passes i (r ∷ rs) [] e = refused-not 15 i e
+store-passes i (r ∷ rs) (x ∷ xs) e = go (leZ (r .lo) x && leZ x (r .hi)) (λ t. t) (λ h. store-passes (suc i) rs xs h) e
+  where
+    go : (b : Bool) → (T b → T (leZ (r .lo) x && leZ x (r .hi))) → (storeVerdict (suc i) rs xs ≡ passed → (length xs ≡ length rs) × Each rs xs)
+        → cond b (storeVerdict (suc i) rs xs) (refused 15 i) ≡ passed → (length (x ∷ xs) ≡ length (r ∷ rs)) × Each (r ∷ rs) (x ∷ xs)
+    go true f ih h =
+        let (l, each) = ih h in
+        let (a, b) = both (leZ (r .lo) x) (leZ x (r .hi)) (f tt) in
+        (ap suc l, at a b each)
+      where
+        at : T (leZ (r .lo) x) → T (leZ x (r .hi)) → Each rs xs → Each (r ∷ rs) (x ∷ xs)
+        at a b each zero k = (leZ-yes a, leZ-yes b)
+        at a b each (suc w) k = each w (omega arith)
+    go false f ih h = refused-not 15 i h
+
+pub store-in : (script : Script) (store : List ℤ) → storeVerdict 0 (script .ranges) store ≡ passed → StoreIn script store
+store-in script store e = let (l, each) = store-passes 0 (script .ranges) store e in record { whole = l; each = each }
+
+pub demand3-file : Demand3File
+unfolding Demand3File Demand3 runScript
+demand3-file π one scratch file script e store h picks =
+    demand3 π one script (file-accepted π scratch file script e .script-accepted) store (store-in script store h) picks _ (omega arith)
