@@ -1,0 +1,2 @@
+-- What the contracts on words cite.
+pub mod Words
