@@ -31,7 +31,7 @@ sooner (suc p) zero = suc p
 sooner (suc p) (suc q) = cond (leb p q) (suc p) (suc q)
 
 -- nothing after the last word
-unfoldable pub asksEnd : Word → ℕ
+abbrev pub asksEnd : Word → ℕ
 asksEnd Missing = 0
 asksEnd (Number z) = 3
 asksEnd (Variable v) = 3
@@ -40,7 +40,7 @@ asksEnd (Keyword n) = 3
 asksEnd Other = 3
 
 -- a number from lo to hi
-unfoldable pub asksNumber : ℤ → ℤ → Word → ℕ
+abbrev pub asksNumber : ℤ → ℤ → Word → ℕ
 asksNumber lo hi Missing = 3
 asksNumber lo hi (Number z) = cond (leZ lo z && leZ z hi) 0 4
 asksNumber lo hi (Variable v) = 3
@@ -49,7 +49,7 @@ asksNumber lo hi (Keyword n) = 3
 asksNumber lo hi Other = 3
 
 -- a variable below V
-unfoldable pub asksVariable : ℕ → Word → ℕ
+abbrev pub asksVariable : ℕ → Word → ℕ
 asksVariable vars Missing = 3
 asksVariable vars (Number z) = 3
 asksVariable vars (Variable v) = cond (ltb v vars) 0 5
@@ -58,7 +58,7 @@ asksVariable vars (Keyword n) = 3
 asksVariable vars Other = 3
 
 -- X: a constant (−L to L) or a variable
-unfoldable pub asksOperand : ℕ → Word → ℕ
+abbrev pub asksOperand : ℕ → Word → ℕ
 asksOperand vars Missing = 3
 asksOperand vars (Number z) = cond (leZ lowest z && leZ z highest) 0 4
 asksOperand vars (Variable v) = cond (ltb v vars) 0 5
@@ -67,7 +67,7 @@ asksOperand vars (Keyword n) = 3
 asksOperand vars Other = 3
 
 -- a comparison
-unfoldable pub asksComparison : Word → ℕ
+abbrev pub asksComparison : Word → ℕ
 asksComparison Missing = 3
 asksComparison (Number z) = 3
 asksComparison (Variable v) = 3
@@ -76,7 +76,7 @@ asksComparison (Keyword n) = 3
 asksComparison Other = 3
 
 -- what a word says, if it is such a word
-unfoldable pub numberOf : Word → ℤ
+abbrev pub numberOf : Word → ℤ
 numberOf Missing = pos 0
 numberOf (Number z) = z
 numberOf (Variable v) = pos 0
@@ -84,7 +84,7 @@ numberOf (Compares c) = pos 0
 numberOf (Keyword n) = pos 0
 numberOf Other = pos 0
 
-unfoldable pub variableOf : Word → ℕ
+abbrev pub variableOf : Word → ℕ
 variableOf Missing = 0
 variableOf (Number z) = 0
 variableOf (Variable v) = v
@@ -92,7 +92,7 @@ variableOf (Compares c) = 0
 variableOf (Keyword n) = 0
 variableOf Other = 0
 
-unfoldable pub operandOf : Word → Operand
+abbrev pub operandOf : Word → Operand
 operandOf Missing = Constant (pos 0)
 operandOf (Number z) = Constant z
 operandOf (Variable v) = Operand.Variable v
@@ -100,7 +100,7 @@ operandOf (Compares c) = Constant (pos 0)
 operandOf (Keyword n) = Constant (pos 0)
 operandOf Other = Constant (pos 0)
 
-unfoldable pub comparisonOf : Word → Comparison
+abbrev pub comparisonOf : Word → Comparison
 comparisonOf Missing = Less
 comparisonOf (Number z) = Less
 comparisonOf (Variable v) = Less
@@ -109,7 +109,7 @@ comparisonOf (Keyword n) = Less
 comparisonOf Other = Less
 
 -- C is 0 to L in add and sub, 1 to L in mul and div
-unfoldable pub asksChange : Name → Word → ℕ
+abbrev pub asksChange : Name → Word → ℕ
 asksChange Name.Set w = 3
 asksChange Name.Add w = asksNumber (pos 0) highest w
 asksChange Name.Sub w = asksNumber (pos 0) highest w
@@ -123,7 +123,7 @@ asksChange Name.While w = 3
 asksChange Name.Do w = 3
 asksChange Name.For w = 3
 
-unfoldable pub changeOf : Name → Word → Change
+abbrev pub changeOf : Name → Word → Change
 changeOf Name.Set w = Change.Add 0
 changeOf Name.Add w = Change.Add (natAbs (numberOf w))
 changeOf Name.Sub w = Change.Sub (natAbs (numberOf w))
@@ -138,7 +138,7 @@ changeOf Name.Do w = Change.Add 0
 changeOf Name.For w = Change.Add 0
 
 -- a for's step row: the word of an arithmetic row and its constant
-unfoldable pub asksStep : Word → Word → ℕ
+abbrev pub asksStep : Word → Word → ℕ
 asksStep Missing w = 3
 asksStep (Number z) w = 3
 asksStep (Variable v) w = 3
@@ -146,7 +146,7 @@ asksStep (Compares c) w = 3
 asksStep (Keyword n) w = asksChange n w
 asksStep Other w = 3
 
-unfoldable pub stepOf : Word → Word → Change
+abbrev pub stepOf : Word → Word → Change
 stepOf Missing w = Change.Add 0
 stepOf (Number z) w = Change.Add 0
 stepOf (Variable v) w = Change.Add 0
@@ -197,7 +197,7 @@ module _ (vars : ℕ) (w : ℕ → Word) where
   forRow = checked asksFor (For (variableOf (w 1)) (operandOf (w 2)) (comparisonOf (w 3)) (operandOf (w 4)) (stepOf (w 5) (w 6)))
 
   -- by the first word
-  unfoldable pub namedRow : Name → RowRead
+  abbrev pub namedRow : Name → RowRead
   namedRow Name.Set = setRow
   namedRow Name.Add = moveRow Name.Add
   namedRow Name.Sub = moveRow Name.Sub
@@ -211,7 +211,7 @@ module _ (vars : ℕ) (w : ℕ → Word) where
   namedRow Name.Do = doRow
   namedRow Name.For = forRow
 
-  unfoldable pub firstWord : Word → RowRead
+  abbrev pub firstWord : Word → RowRead
   firstWord Missing = Wrong 3
   firstWord (Number z) = Wrong 3
   firstWord (Variable v) = Wrong 3
@@ -254,7 +254,7 @@ abbrev pub rowKey : List ℕ
 rowKey = 114 ∷ 111 ∷ 119 ∷ 61 ∷ []
 
 -- `script=1`; another script number is of the wrong shape
-unfoldable pub asksOne : Word → ℕ
+abbrev pub asksOne : Word → ℕ
 asksOne Missing = 3
 asksOne (Number z) = cond (leZ (pos 1) z && leZ z (pos 1)) 0 3
 asksOne (Variable v) = 3

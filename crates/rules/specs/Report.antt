@@ -7,9 +7,18 @@ use lib.IntN.{ℤ, pos, negsuc}
 use lib.ListN.{length}
 use Rattle.rules.specs.declared.Step.{Step}
 use Rattle.rules.specs.declared.Step.the-variants.{Add, Grow, Shrink, Unknown}
+use Rattle.rules.specs.declared.LoopLine.{LoopLine}
 use Rattle.rules.specs.Figures.{Prices, Line}
 use Rattle.rules.specs.Scripts.{Script, reportTicks, reportLines}
 use Rattle.rules.specs.Text.{lf, space, minus}
+
+-- a line as code holds it
+abbrev pub lineOf : LoopLine → Line
+lineOf l = record { row = l .row; step = l .step; turns = l .turns; total = l .total; exact = l .exact }
+
+unfoldable pub linesOf : List LoopLine → List Line
+linesOf [] = []
+linesOf (l ∷ ls) = lineOf l ∷ linesOf ls
 
 -- a number in decimal, with at most k digits
 unfoldable pub decimalIn : ℕ → ℕ → List ℕ
