@@ -1,0 +1,2 @@
+-- Laws of a row's words.
+pub mod Laws

@@ -1,0 +1,2 @@
+-- What the contracts on a row's words cite.
+pub mod Words
