@@ -1,0 +1,34 @@
+use mir.Facts.{toZ-ofZ}
+use mir.Syntax.{w64}
+use mir.Val.{SFits}
+use borrow.Author.Needs.{needs}
+use Rattle.rules.specs.Report.{firstEnd}
+use Rattle.report.proofs.first_end.Statement.{statement}
+use Rattle.report.proofs.first_end.Tie as tie
+
+returns : tie.Need-returns
+unfolding firstEnd
+returns c = let f : SFits w64 (c .before .step .given .0 .0) = search needs in rw (c .before .step .given .1, toZ-ofZ f)
+
+returns-2 : tie.Need-returns-2
+unfolding firstEnd
+returns-2 c = rw (c .before .step2 .given .1)
+
+returns-3 : tie.Need-returns-3
+unfolding firstEnd
+returns-3 c = rw (c .before .step3 .given .1)
+
+returns-4 : tie.Need-returns-4
+unfolding firstEnd
+returns-4 c = rw (c .enum-told .given .1)
+
+pub first-end-spec : {M : Type 1} → statement M
+first-end-spec = tie.close (tie.spec
+    (λ c. search needs)
+    (λ c. search needs)
+    (λ c. search needs)
+    (λ c. search needs)
+    returns
+    returns-2
+    returns-3
+    returns-4)
