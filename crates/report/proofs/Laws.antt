@@ -11,14 +11,17 @@ use lib.Seq.{getD-take, getD-at}
 use lib.Dec.{T}
 use mir.Syntax.{w64}
 use mir.Val.{Fits, SFits}
-use Rattle.ints.proofs.Parts.{ints, add-parts, minus-parts, P, N, lone, abs-parts}
+use borrow.Author.Tests.{le-leb, lt-leb}
+use Rattle.ints.proofs.Parts.{ints, add-parts, minus-parts}
 use Rattle.rules.specs.declared.LoopLine.{LoopLine}
+use Rattle.rules.specs.declared.Reply.the-variants.{Accepted, Refused}
+use Rattle.rules.specs.Calls.{fitting, written}
 use Rattle.rules.specs.Figures.{Line}
 use Rattle.rules.specs.Report.{lineOf, linesOf, joined, sign, size, decimal, stepName, firstEnd, secondEnd, exactName, keyLine, loopLine, loopLines, reportText, reportKey, rowsKey, loopsKey, ticksKey}
 use Rattle.pieces.specs.declared.Label.the-variants.{Loop, Space, Newline}
 use Rattle.pieces.specs.declared.Piece.{Piece}
 use Rattle.pieces.specs.declared.Piece.the-variants.{Nothing, Fixed, Number}
-use Rattle.pieces.specs.Pieces.{pieceText, pieceTexts}
+use Rattle.pieces.specs.Pieces.{pieceText, pieceTexts, Wrote}
 use Rattle.report.specs.Lines.{textLines, tableLines}
 
 -- a number below 0: one more, and that turned round
@@ -138,3 +141,12 @@ report-line rows ticks loops k lines e = rw e
 pub table-text : (rows loops ticks : ℕ) (lines : List LoopLine) → reportText rows (linesOf (take loops lines)) ticks ≡ joined (tableLines rows lines loops ticks)
 unfolding reportText textLines
 table-text rows loops ticks lines = refl
+
+-- the answer and the buffer, where the text does not fit and where it does
+pub refused-text : (text old : List ℕ) (n : ℕ) → n ≡ length text → length old < n → (Refused 14 n ≡ fitting text (length old)) × (old ≡ written text old)
+unfolding fitting written
+refused-text text old n e h = let l : length old < length text = omega arith in rw (lt-leb _ _ l) (ap (λ (k : ℕ). Refused 14 k) e, refl)
+
+pub accepted-text : (text old new : List ℕ) (r : ℕ) → length text ≤ length old → Wrote text old new r → (Accepted r ≡ fitting text (length old)) × (new ≡ written text old)
+unfolding fitting written
+accepted-text text old new r h w = rw (le-leb _ _ h, w .count) (refl, w .kept)
