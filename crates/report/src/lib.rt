@@ -29,25 +29,32 @@ enum End {
     Factor(u64),
 }
 
-fn first_end(step: Step) -> End
-    ensures { λ r. ⌜ endOf r ≡ firstEnd step ⌝ }
-{
-    match step {
-        Step::Add(a, _) => End::Change(a),
-        Step::Grow(f, _) => End::Factor(f),
-        Step::Shrink(f, _) => End::Factor(f),
-        Step::Unknown => End::Factor(0),
-    }
+// Both ends of a step.
+struct Ends {
+    first: End,
+    second: End,
 }
 
-fn second_end(step: Step) -> End
-    ensures { λ r. ⌜ endOf r ≡ secondEnd step ⌝ }
+fn both_ends(step: Step) -> Ends
+    ensures { λ r. ⌜ (endOf (r .first) ≡ firstEnd step) × (endOf (r .second) ≡ secondEnd step) ⌝ }
 {
     match step {
-        Step::Add(_, b) => End::Change(b),
-        Step::Grow(_, g) => End::Factor(g),
-        Step::Shrink(_, g) => End::Factor(g),
-        Step::Unknown => End::Factor(0),
+        Step::Add(a, b) => Ends {
+            first: End::Change(a),
+            second: End::Change(b),
+        },
+        Step::Grow(f, g) => Ends {
+            first: End::Factor(f),
+            second: End::Factor(g),
+        },
+        Step::Shrink(f, g) => Ends {
+            first: End::Factor(f),
+            second: End::Factor(g),
+        },
+        Step::Unknown => Ends {
+            first: End::Factor(0),
+            second: End::Factor(0),
+        },
     }
 }
 
@@ -114,8 +121,9 @@ fn loop_line(line: LoopLine) -> [Piece; 17]
     ensures { λ r. ⌜ joined (pieceTexts r) ≡ loopLine (lineOf line) ⌝ }
 {
     let step = line.step;
-    let a = first_end(step);
-    let b = second_end(step);
+    let both = both_ends(step);
+    let a = both.first;
+    let b = both.second;
     let gap = Piece::Fixed(Label::Space);
     [
         Piece::Fixed(Label::Loop),

@@ -1,10 +1,8 @@
 use Rattle.pieces.proofs.Laws.{room-none, room-one, room-more}
 use borrow.Author.Needs.{needs}
 use native.Mathlib.Omega.{arith}
-use mathlib.Core.Path.{_≡_, refl, sym, ap, _∙_}
-use Prim.Native.Nat.{ℕ, zero, suc, _+_, _*_, _-_, _≤_, _<_, min}
-use lib.ListN.{length, getD, take, drop}
-use Prim.Native.Nat.{ℕ, _<_}
+use mathlib.Core.Path.{sym, ap, _∙_}
+use Prim.Native.Nat.{ℕ, _+_, _<_}
 use borrow.Fn.Kinds.{In}
 use borrow.Fn.PlainCycle.{Measures, is, falls, and}
 use Rattle.pieces.proofs.digits_len.Reads as digits-len
@@ -24,63 +22,26 @@ abbrev digits-len-below : ℕ → In 0 digits-len-kinds.ps
 digits-len-below t =
     and 0 digits-len-kinds.ps (falls 0 digits-len-kinds.ps _<_ μ-digits-len t) digits-len.Pre
 
--- src/lib.rt:61:9
-digits-len-returns :
-    (t : ℕ) →
-    digits-len-lts.Need-returns
-    (digits-len-below t, digits-len.Post)
-    (digits-len-at t)
-    digits-len.Post
-digits-len-returns t c = (sym (room-none _ _ (c .if1 .taken)), omega arith)
+abbrev given : ℕ → digits-len-lts.Claims
+given t = (digits-len-below t, digits-len.Post)
 
--- src/lib.rt:64:9
-digits-len-returns-2 : (t : ℕ) → digits-len-lts.Need-returns-2 (
-  digits-len-below t,
-  digits-len.Post,
-) (digits-len-at t) digits-len.Post
-digits-len-returns-2 t c = (sym (room-one _ _ (c .before .if1 .left) (c .if2 .taken)), omega (arith, c .before .if1 .left))
+returns : (t : ℕ) → digits-len-lts.Need-returns (given t) (digits-len-at t) digits-len.Post
+returns t c = (sym (room-none _ _ (c .if1 .taken)), omega arith)
 
--- src/lib.rt:66:16
-digits-len-sub-digits-len : (t : ℕ) → digits-len-lts.Need-sub-digits-len (
-  digits-len-below t,
-  digits-len.Post,
-) (digits-len-at t) digits-len.Post
-digits-len-sub-digits-len t c = search needs
+returns-2 : (t : ℕ) → digits-len-lts.Need-returns-2 (given t) (digits-len-at t) digits-len.Post
+returns-2 t c = (sym (room-one _ _ (c .before .if1 .left) (c .if2 .taken)), omega (arith, c .before .if1 .left))
 
--- src/lib.rt:66:5
-digits-len-digits-len-requires : (t : ℕ) → digits-len-lts.Need-digits-len-requires (
-  digits-len-below t,
-  digits-len.Post,
-) (digits-len-at t) digits-len.Post
-digits-len-digits-len-requires t c κs = search needs
-
--- src/lib.rt:66:5
-digits-len-add-result : (t : ℕ) → digits-len-lts.Need-add-result (
-  digits-len-below t,
-  digits-len.Post,
-) (digits-len-at t) digits-len.Post
-digits-len-add-result t c = search needs
-
--- src/lib.rt:57:1
-digits-len-returns-3 : (t : ℕ) → digits-len-lts.Need-returns-3 (
-  digits-len-below t,
-  digits-len.Post,
-) (digits-len-at t) digits-len.Post
-digits-len-returns-3 t c =
+returns-3 : (t : ℕ) → digits-len-lts.Need-returns-3 (given t) (digits-len-at t) digits-len.Post
+returns-3 t c =
     let two = c .before in
     let h = c .digits-len .ensures in
     (ap (λ (n : ℕ). n + 1) (h .0) ∙ sym (room-more _ _ (two .before .if1 .left) (two .if2 .left)), omega (arith, h .1, two .before .if1 .left))
 
 pub +digits-len-spec : {M : Type 1} → statement M
-+digits-len-spec = close μ-digits-len λ t. digits-len-lts.spec (
-  digits-len-below t,
-  digits-len.Post,
-)
-    (digits-len-at t)
-    digits-len.Post
-    (digits-len-returns t)
-    (digits-len-returns-2 t)
-    (digits-len-sub-digits-len t)
-    (digits-len-digits-len-requires t)
-    (digits-len-add-result t)
-    (digits-len-returns-3 t)
++digits-len-spec = close μ-digits-len λ t. digits-len-lts.spec (given t) (digits-len-at t) digits-len.Post
+    (returns t)
+    (returns-2 t)
+    (λ c. search needs)
+    (λ c κs. search needs)
+    (λ c. search needs)
+    (returns-3 t)

@@ -14,18 +14,16 @@ returns c =
     let m = b .before in
     let a = m .before in
     let name = a .before in
-    let second = name .before in
-    let first = second .before in
+    let e = name .before .both-ends .ensures in
     loop-spelled _ _ _ _ _ _ _ (name .step-name .ensures)
-    (a .end-sign .ensures ∙ ap sign (first .first-end .ensures))
-    (m .end-size .ensures ∙ ap (λ (z : ℤ). decimal (size z)) (first .first-end .ensures))
-    (b .end-sign2 .ensures ∙ ap sign (second .second-end .ensures))
-    (n .end-size2 .ensures ∙ ap (λ (z : ℤ). decimal (size z)) (second .second-end .ensures))
+    (a .end-sign .ensures ∙ ap sign (e .0))
+    (m .end-size .ensures ∙ ap (λ (z : ℤ). decimal (size z)) (e .0))
+    (b .end-sign2 .ensures ∙ ap sign (e .1))
+    (n .end-size2 .ensures ∙ ap (λ (z : ℤ). decimal (size z)) (e .1))
     (mark .exact-name .ensures)
 
 pub loop-line-spec : {M : Type 1} → statement M
 loop-line-spec = tie.close (tie.spec
-    (λ c κs. search needs)
     (λ c κs. search needs)
     (λ c κs. search needs)
     (λ c κs. search needs)
