@@ -29,12 +29,13 @@ enum End {
     Factor(u64),
 }
 
-// Both ends of a step.
+// A step's two ends.
 struct Ends {
     first: End,
     second: End,
 }
 
+// Both ends of a step, as its kind has them.
 fn both_ends(step: Step) -> Ends
     ensures { λ r. ⌜ (endOf (r .first) ≡ firstEnd step) × (endOf (r .second) ≡ secondEnd step) ⌝ }
 {
