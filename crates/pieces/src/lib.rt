@@ -1,0 +1,164 @@
+// The pieces of a report line: how long each is, and its bytes.
+ghost use mathlib.Core.Path.{_≡_};
+ghost use Prim.Native.Nat.{_+_, _≤_, _<_};
+ghost use lib.ListN.{length, take};
+ghost use Rattle.rules.specs.Report.{decimalIn, joined};
+ghost use Rattle.pieces.specs.Pieces.{labelText, pieceText, pieceTexts, Wrote};
+
+// The fixed texts of a report.
+pub enum Label {
+    Report,
+    Rows,
+    Loops,
+    Loop,
+    Ticks,
+    Space,
+    Newline,
+    Minus,
+    Add,
+    Grow,
+    Shrink,
+    Exact,
+    Most,
+}
+
+// A part of a line: no bytes, a fixed text, or a number in decimal.
+pub enum Piece {
+    Nothing,
+    Fixed(Label),
+    Number(u64),
+}
+
+// The bytes of a fixed text, and then zeros.
+fn letters(label: Label) -> [u8; 7]
+    ensures { λ r. ⌜ take (length (labelText label)) r ≡ labelText label ⌝ }
+{
+    match label {
+        Label::Report => [114, 101, 112, 111, 114, 116, 61],
+        Label::Rows => [114, 111, 119, 115, 61, 0, 0],
+        Label::Loops => [108, 111, 111, 112, 115, 61, 0],
+        Label::Loop => [108, 111, 111, 112, 61, 0, 0],
+        Label::Ticks => [116, 105, 99, 107, 115, 61, 0],
+        Label::Space => [32, 0, 0, 0, 0, 0, 0],
+        Label::Newline => [10, 0, 0, 0, 0, 0, 0],
+        Label::Minus => [45, 0, 0, 0, 0, 0, 0],
+        Label::Add => [97, 100, 100, 0, 0, 0, 0],
+        Label::Grow => [103, 114, 111, 119, 0, 0, 0],
+        Label::Shrink => [115, 104, 114, 105, 110, 107, 0],
+        Label::Exact => [101, 120, 97, 99, 116, 0, 0],
+        Label::Most => [109, 111, 115, 116, 0, 0, 0],
+    }
+}
+
+// How many bytes a fixed text has.
+fn label_len(label: Label) -> usize
+    ensures { λ r. ⌜ (r ≡ length (labelText label)) × (r ≤ 7) ⌝ }
+{
+    match label {
+        Label::Report => 7,
+        Label::Rows => 5,
+        Label::Loops => 6,
+        Label::Loop => 5,
+        Label::Ticks => 6,
+        Label::Space => 1,
+        Label::Newline => 1,
+        Label::Minus => 1,
+        Label::Add => 3,
+        Label::Grow => 4,
+        Label::Shrink => 6,
+        Label::Exact => 5,
+        Label::Most => 4,
+    }
+}
+
+// How many digits n has, at most k.
+fn digits_len(k: u32, n: u64) -> usize
+    ensures { λ r. ⌜ (r ≡ length (decimalIn k n)) × (r ≤ k) ⌝ }
+{
+    if k == 0 {
+        return 0;
+    }
+    if n < 10 {
+        return 1;
+    }
+    digits_len(k - 1, n / 10) + 1
+}
+
+// How many bytes a piece has.
+fn piece_len(piece: Piece) -> usize
+    ensures { λ r. ⌜ (r ≡ length (pieceText piece)) × (r ≤ 20) ⌝ }
+{
+    match piece {
+        Piece::Nothing => 0,
+        Piece::Fixed(label) => label_len(label),
+        Piece::Number(n) => digits_len(20, n),
+    }
+}
+
+// How many bytes a line has.
+pub fn line_len(pieces: [Piece; 17]) -> usize
+    ensures { λ r. ⌜ (r ≡ length (joined (pieceTexts pieces))) × (r ≤ 340) ⌝ }
+{
+    let mut len: usize = 0;
+    let mut i: usize = 0;
+    while i < 17 {
+        let piece = pieces[i];
+        len += piece_len(piece);
+        i += 1;
+    }
+    len
+}
+
+// Writes the digits of n, of which there are at most k.
+fn put_digits(k: u32, n: u64, out: &mut [u8]) -> usize
+    requires { ⌜ length (decimalIn k n) ≤ length (now out) ⌝ }
+    ensures { λ r. ⌜ Wrote (decimalIn k n) (now (out .entry)) (now (out .exit)) r ⌝ }
+{
+    if k == 0 {
+        return 0;
+    }
+    if n < 10 {
+        out[0] = 48 + n as u8;
+        return 1;
+    }
+    let at = put_digits(k - 1, n / 10, out);
+    out[at] = 48 + (n % 10) as u8;
+    at + 1
+}
+
+// Writes a fixed text.
+fn put_label(label: Label, out: &mut [u8]) -> usize
+    requires { ⌜ length (labelText label) ≤ length (now out) ⌝ }
+    ensures { λ r. ⌜ Wrote (labelText label) (now (out .entry)) (now (out .exit)) r ⌝ }
+{
+    let text = letters(label);
+    let len = label_len(label);
+    bytes::copy(&text[..len], out)
+}
+
+// Writes a piece.
+fn put_piece(piece: Piece, out: &mut [u8]) -> usize
+    requires { ⌜ length (pieceText piece) ≤ length (now out) ⌝ }
+    ensures { λ r. ⌜ Wrote (pieceText piece) (now (out .entry)) (now (out .exit)) r ⌝ }
+{
+    match piece {
+        Piece::Nothing => 0,
+        Piece::Fixed(label) => put_label(label, out),
+        Piece::Number(n) => put_digits(20, n, out),
+    }
+}
+
+// Writes a line, each piece into the rest.
+pub fn put_line(pieces: [Piece; 17], out: &mut [u8]) -> usize
+    requires { ⌜ length (joined (pieceTexts pieces)) ≤ length (now out) ⌝ }
+    ensures { λ r. ⌜ Wrote (joined (pieceTexts pieces)) (now (out .entry)) (now (out .exit)) r ⌝ }
+{
+    let mut at: usize = 0;
+    let mut i: usize = 0;
+    while i < 17 {
+        let piece = pieces[i];
+        at += put_piece(piece, &mut out[at..]);
+        i += 1;
+    }
+    at
+}

@@ -1,0 +1,45 @@
+use borrow.Author.Needs.{needs}
+use native.Mathlib.Omega.{arith}
+use mathlib.Core.Path.{_≡_, ap, _∙_}
+use lib.IntN.{ℤ, pos, natAbs}
+use mir.Facts.{toZ-ofZ}
+use mir.Syntax.{w64}
+use mir.Val.{SFits}
+use Rattle.report.proofs.Laws.{Below, below, above, above-size}
+use Rattle.report.proofs.size.Statement.{statement}
+use Rattle.report.proofs.size.Tie as tie
+
+known : (c : tie.Then1) → Below (c .before .args .z)
+known c = let f = c .before .fits .z in below _ (simp (toZ-ofZ f) at (c .if1 .taken)) f
+
+add-result : tie.Need-add-result
+add-result c = rw (toZ-ofZ (c .before .fits .z)) (known c .up)
+
+sub-result : tie.Need-sub-result
+sub-result c = let k = known c in rw (toZ-ofZ (c .before .fits .z), toZ-ofZ (k .up)) (k .down)
+
+cast-result : tie.Need-cast-result
+cast-result c =
+    let k = known c in
+    rw (toZ-ofZ (c .before .fits .z), toZ-ofZ (k .up), toZ-ofZ (k .down), k .is) (tt, record { fits = omega (arith, k .small) })
+
+add-result-2 : tie.Need-add-result-2
+add-result-2 c =
+    let k = known c in
+    rw (toZ-ofZ (c .before .fits .z), toZ-ofZ (k .up), toZ-ofZ (k .down), k .is) (record { fits = omega (arith, k .small) })
+
+returns : tie.Need-returns
+returns c =
+    let k = known c in
+    rw (toZ-ofZ (c .before .fits .z), toZ-ofZ (k .up), toZ-ofZ (k .down), k .is) (k .whole)
+
+cast-result-2 : tie.Need-cast-result-2
+cast-result-2 c = let f = c .before .fits .z in rw (toZ-ofZ f) (above _ (simp (toZ-ofZ f) at (c .if1 .left)) f)
+
+returns-2 : tie.Need-returns-2
+returns-2 c = let f = c .before .fits .z in rw (toZ-ofZ f) (above-size _ (simp (toZ-ofZ f) at (c .if1 .left)))
+
+pub size-spec : {M : Type 1} → statement M
+size-spec =
+    tie.close
+    (tie.spec add-result sub-result cast-result add-result-2 returns cast-result-2 returns-2)
