@@ -1,0 +1,3 @@
+-- The machine's states in memory, and what a run answers.
+pub mod States
+pub mod Answered
