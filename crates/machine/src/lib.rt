@@ -36,14 +36,6 @@ pub struct Machine {
     pub status: Status,
 }
 
-// What a run answers beside the store and the counts.
-pub struct Ran {
-    pub ending: Ending,
-    pub row: usize,
-    pub ticks: u64,
-    pub used: usize,
-}
-
 // The run ends before or after a tick, at row `at`.
 fn ended(m: Machine, left: u64, ending: Ending, at: usize) -> Machine
     ensures { λ r. ⌜ r ≡ overAt m left ending at ⌝ }
