@@ -1,225 +1,17 @@
 // The run of a script as a machine over its rows: one row a step, at most one tick a step.
-use pairs::Tables;
-use rules::Change;
+use actions::Machine;
 use rules::Comparison;
-use rules::Ending;
 use rules::Kind;
 use rules::Operand;
 use rules::Row;
-ghost use mathlib.Core.Path.{_≡_};
-ghost use mathlib.Core.Bool.{true, false, cond};
-ghost use lib.Dec.{eqb};
 ghost use mathlib.Core.List.{List};
-ghost use Prim.Native.Nat.{ℕ, _+_, _≤_, _<_, max};
-ghost use lib.ListN.{length, getD, take};
-ghost use lib.IntN.{ℤ};
+ghost use Prim.Native.Nat.{ℕ};
+ghost use lib.ListN.{length};
 ghost use Rattle.rules.specs.declared.Kind.{Kind};
-ghost use Rattle.rules.specs.Blocks.{from, changed, assign, cue};
 ghost use Rattle.rules.specs.Figures.{ones};
-ghost use Rattle.rules.specs.Run.{holds};
-ghost use Rattle.rules.specs.RowMachine.{Tally, tests, test, onEnd, onRow};
-ghost use Rattle.rules.specs.Scripts.{storeOf, OperandBelow, ChangeLimits, RowLimits, RowBelow};
-ghost use Rattle.machine.specs.States.{overAt, onAt, putTo, plainTo, pickTo, forTo, phaseOf, tallyOf, isGoing, Acts, Steps, Testable, Doable, Fitting, Counted, Room};
-
-// Going, or over: the ending and its row.
-pub enum Status {
-    Going,
-    Over(Ending, usize),
-}
-
-// Before a row: whether a for's start or step there is done, the ticks that are left, the bytes used.
-pub struct Machine {
-    pub row: usize,
-    pub testing: bool,
-    pub left: u64,
-    pub used: usize,
-    pub status: Status,
-}
-
-// The run ends before or after a tick, at row `at`.
-fn ended(m: Machine, left: u64, ending: Ending, at: usize) -> Machine
-    ensures { λ r. ⌜ r ≡ overAt m left ending at ⌝ }
-{
-    Machine {
-        row: m.row,
-        testing: m.testing,
-        left: left,
-        used: m.used,
-        status: Status::Over(ending, at),
-    }
-}
-
-// The run goes on at a row.
-fn on(m: Machine, left: u64, row: usize, testing: bool) -> Machine
-    ensures { λ r. ⌜ r ≡ onAt m left row testing ⌝ }
-{
-    Machine {
-        row: row,
-        testing: testing,
-        left: left,
-        used: m.used,
-        status: Status::Going,
-    }
-}
-
-// A tick, and the variable v gets z: on to a row. Or z is past ±L.
-fn put(
-    m: Machine,
-    at: usize,
-    v: u8,
-    z: i64,
-    row: usize,
-    testing: bool,
-    store: &mut [i32],
-) -> Machine
-    requires { ⌜ v < length (now store) ⌝ }
-    ensures { λ r. ⌜ ((c : Tally) → Acts m r (now (store .entry)) (now (store .exit)) c c (putTo at v z row testing)) ⌝ }
-{
-    let left = m.left;
-    if left == 0 {
-        return ended(m, left, Ending::Spent, at);
-    }
-    if values::within_limits(z) {
-        let i = v as usize;
-        store[i] = z as i32;
-        on(m, left - 1, row, testing)
-    } else {
-        ended(m, left - 1, Ending::Range, at)
-    }
-}
-
-// `set`, and a for's start.
-fn set_row(
-    m: Machine,
-    at: usize,
-    v: u8,
-    x: Operand,
-    row: usize,
-    testing: bool,
-    store: &mut [i32],
-) -> Machine
-    requires { ⌜ (v < length (now store)) × OperandBelow (length (now store)) x ⌝ }
-    ensures { λ r. ⌜ ((c : Tally) → Acts m r (now (store .entry)) (now (store .exit)) c c (plainTo at (assign v (from x)) row testing)) ⌝ }
-{
-    let z = values::value_of(x, store);
-    put(m, at, v, z as i64, row, testing, store)
-}
-
-// An arithmetic row, and a for's step.
-fn move_row(
-    m: Machine,
-    at: usize,
-    v: u8,
-    change: Change,
-    row: usize,
-    testing: bool,
-    store: &mut [i32],
-) -> Machine
-    requires { ⌜ (v < length (now store)) × ChangeLimits change ⌝ }
-    ensures { λ r. ⌜ ((c : Tally) → Acts m r (now (store .entry)) (now (store .exit)) c c (plainTo at (assign v (changed change)) row testing)) ⌝ }
-{
-    let x = values::value_of(Operand::Variable(v), store);
-    let z = values::changed(change, x);
-    put(m, at, v, z, row, testing, store)
-}
-
-// A cue.
-fn cue_row(m: Machine) -> Machine
-    requires { ⌜ m .row < 256 ⌝ }
-    ensures { λ r. ⌜ ((store : List ℤ) (c : Tally) (n : ℕ) → Acts m r store store c c (plainTo (m .row) (cue n) (m .row + 1) false)) ⌝ }
-{
-    let left = m.left;
-    if left == 0 {
-        return ended(m, left, Ending::Spent, m.row);
-    }
-    on(m, left - 1, m.row + 1, false)
-}
-
-// Byte 0 takes the one row, any other the next.
-fn branch(byte: u8, other: usize, next: usize) -> usize
-    ensures { λ r. ⌜ r ≡ cond (eqb byte 0) other next ⌝ }
-{
-    if byte == 0 { other } else { next }
-}
-
-// A pick takes its byte: 0 to row `other`, any other to the next row.
-fn pick_row(m: Machine, other: usize, picks: &[u8]) -> Machine
-    requires { ⌜ m .row < 256 ⌝ }
-    ensures { λ r. ⌜ ((store : List ℤ) (c : Tally) → Steps m r store store (now (picks .entry)) c c (pickTo (m .row) other)) ⌝ }
-{
-    let left = m.left;
-    let at = m.row;
-    if left == 0 {
-        return ended(m, left, Ending::Spent, at);
-    }
-    let used = m.used;
-    if used < picks.len() {
-        Machine {
-            row: branch(picks[used], other, at + 1),
-            testing: false,
-            left: left - 1,
-            used: used + 1,
-            status: Status::Going,
-        }
-    } else {
-        ended(m, left - 1, Ending::NoPick, at)
-    }
-}
-
-fn larger(a: u64, b: u64) -> u64
-    ensures { λ r. ⌜ r ≡ max a b ⌝ }
-{
-    if a < b { b } else { a }
-}
-
-// A turn of the loop at row h begins.
-fn count_turn(h: usize, turns: &mut [u64], all: &mut [u64], most: &mut [u64])
-    requires { ⌜ (h < 256) × Room (now turns) (now all) (now most) ⌝ }
-    ensures { λ _. ⌜ Counted h (now (turns .entry)) (now (all .entry)) (now (most .entry)) (now (turns .exit)) (now (all .exit)) (now (most .exit)) ⌝ }
-{
-    let t = turns[h] + 1;
-    turns[h] = t;
-    all[h] = all[h] + 1;
-    most[h] = larger(most[h], t);
-}
-
-// Does the test hold?
-fn passes(v: u8, comparison: Comparison, x: Operand, store: &[i32]) -> bool
-    requires { ⌜ (v < length (now store)) × OperandBelow (length (now store)) x ⌝ }
-    ensures { λ r. ⌜ r ≡ holds (test v comparison x) (storeOf (now (store .entry))) ⌝ }
-{
-    let a = values::value_of(Operand::Variable(v), store);
-    let b = values::value_of(x, store);
-    values::holds(comparison, a, b)
-}
-
-// The test of the loop at row h, whose `end` is row e.
-fn test_row(
-    m: Machine,
-    h: usize,
-    e: usize,
-    v: u8,
-    comparison: Comparison,
-    x: Operand,
-    store: &[i32],
-    turns: &mut [u64],
-    all: &mut [u64],
-    most: &mut [u64],
-) -> Machine
-    requires { ⌜ Testable h e v x (now store) (now turns) (now all) (now most) ⌝ }
-    ensures { λ r. ⌜ Acts m r (now (store .entry)) (now (store .entry)) (tallyOf (now (turns .entry)) (now (all .entry)) (now (most .entry))) (tallyOf (now (turns .exit)) (now (all .exit)) (now (most .exit))) (tests ones h e (test v comparison x)) ⌝ }
-{
-    let left = m.left;
-    if left == 0 {
-        return ended(m, left, Ending::Spent, h);
-    }
-    if passes(v, comparison, x, store) {
-        count_turn(h, turns, all, most);
-        on(m, left - 1, h + 1, false)
-    } else {
-        on(m, left - 1, e + 1, false)
-    }
-}
+ghost use Rattle.rules.specs.RowMachine.{onEnd, onRow};
+ghost use Rattle.rules.specs.Scripts.{OperandBelow};
+ghost use Rattle.actions.specs.States.{forTo, phaseOf, tallyOf, Acts, Steps, Testable, Doable, Fitting};
 
 // The `end` of the block that row h begins: a loop's step and test.
 fn end_row(
@@ -237,19 +29,19 @@ fn end_row(
     let kind = head.kind;
     let e = m.row;
     match kind {
-        Kind::End => on(m, m.left, e + 1, false),
-        Kind::Else => on(m, m.left, e + 1, false),
-        Kind::Pick => on(m, m.left, e + 1, false),
-        Kind::Set(_, _) => on(m, m.left, e + 1, false),
-        Kind::Move(_, _) => on(m, m.left, e + 1, false),
-        Kind::Cue(_) => on(m, m.left, e + 1, false),
-        Kind::While(v, c, x) => test_row(m, h, e, v, c, x, store, turns, all, most),
-        Kind::Do(v, c, x) => test_row(m, h, e, v, c, x, store, turns, all, most),
+        Kind::End => actions::on(m, m.left, e + 1, false),
+        Kind::Else => actions::on(m, m.left, e + 1, false),
+        Kind::Pick => actions::on(m, m.left, e + 1, false),
+        Kind::Set(_, _) => actions::on(m, m.left, e + 1, false),
+        Kind::Move(_, _) => actions::on(m, m.left, e + 1, false),
+        Kind::Cue(_) => actions::on(m, m.left, e + 1, false),
+        Kind::While(v, c, x) => actions::test_row(m, h, e, v, c, x, store, turns, all, most),
+        Kind::Do(v, c, x) => actions::test_row(m, h, e, v, c, x, store, turns, all, most),
         Kind::For(v, _, c, x, change) => {
             if m.testing {
-                test_row(m, h, e, v, c, x, store, turns, all, most)
+                actions::test_row(m, h, e, v, c, x, store, turns, all, most)
             } else {
-                move_row(m, h, v, change, e, true, store)
+                actions::move_row(m, h, v, change, e, true, store)
             }
         }
     }
@@ -273,10 +65,10 @@ fn for_row(
 {
     let i = m.row;
     if m.testing {
-        return test_row(m, i, e, v, c, x, store, turns, all, most);
+        return actions::test_row(m, i, e, v, c, x, store, turns, all, most);
     }
     turns[i] = 0;
-    set_row(m, i, v, y, i, true, store)
+    actions::set_row(m, i, v, y, i, true, store)
 }
 
 // One row: `e` closes the block that it begins, or it closes the block that row h, `head`, begins.
@@ -299,19 +91,19 @@ pub fn step(
     let i = m.row;
     match kind {
         Kind::End => end_row(m, head, h, store, turns, all, most),
-        Kind::Else => on(m, m.left, e + 1, false),
-        Kind::Pick => pick_row(m, e + 1, picks),
-        Kind::Set(v, x) => set_row(m, i, v, x, i + 1, false, store),
-        Kind::Move(v, change) => move_row(m, i, v, change, i + 1, false, store),
-        Kind::Cue(_) => cue_row(m),
+        Kind::Else => actions::on(m, m.left, e + 1, false),
+        Kind::Pick => actions::pick_row(m, e + 1, picks),
+        Kind::Set(v, x) => actions::set_row(m, i, v, x, i + 1, false, store),
+        Kind::Move(v, change) => actions::move_row(m, i, v, change, i + 1, false, store),
+        Kind::Cue(_) => actions::cue_row(m),
         Kind::While(v, c, x) => {
             turns[i] = 0;
-            test_row(m, i, e, v, c, x, store, turns, all, most)
+            actions::test_row(m, i, e, v, c, x, store, turns, all, most)
         }
         Kind::Do(_, _, _) => {
             turns[i] = 0;
-            count_turn(i, turns, all, most);
-            on(m, m.left, i + 1, false)
+            actions::count_turn(i, turns, all, most);
+            actions::on(m, m.left, i + 1, false)
         }
         Kind::For(v, y, c, x, _) => for_row(m, e, v, y, c, x, store, turns, all, most),
     }

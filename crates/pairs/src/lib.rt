@@ -1,7 +1,6 @@
 // The partner rows: of each row that begins a block the row that closes it, and the other way round.
 use rules::Kind;
 use rules::Row;
-ghost use mathlib.Core.Path.{_≡_};
 ghost use Prim.Native.Nat.{_≤_, _<_};
 ghost use lib.ListN.{take};
 ghost use Rattle.rules.specs.Blocks.{kindsOf};

@@ -1,10 +1,10 @@
 -- The loop over the steps of the machine: what a step keeps, and what falls. Assumes nothing.
 use mathlib.Core.Path.{_≡_, refl, sym, _∙_, ap, subst}
-use mathlib.Core.Bool.{Bool, true, false, cond, not}
+use mathlib.Core.Bool.{Bool, true, false, cond}
 use mathlib.Core.List.{List, [], _∷_}
-use Prim.Native.Nat.{ℕ, zero, suc, _+_, _≤_, _<_, _^_}
+use Prim.Native.Nat.{ℕ, zero, suc, _≤_, _<_}
 use native.Mathlib.Omega.{arith}
-use lib.Dec.{T, leb, ltb, eqb, eqb→eq}
+use lib.Dec.{T, eqb, eqb→eq}
 use lib.ListN.{length, getD, take}
 use lib.IntN.{ℤ}
 use Rattle.rules.specs.declared.Kind.{Kind}
@@ -15,9 +15,9 @@ use Rattle.rules.specs.declared.Ending.the-variants.{Ended}
 use Rattle.rules.specs.Values.{put}
 use Rattle.rules.specs.Blocks.{Test, kindsOf}
 use Rattle.rules.specs.Figures.{Prices, ones}
-use Rattle.rules.specs.Run.{State, Out, go, halt, exec, holds}
+use Rattle.rules.specs.Run.{State, Out, go, halt, holds}
 use Rattle.rules.specs.RowMachine.{Tally, begin, turn, Phase, fresh, testing, Place, Next, more, over, to, chosen, outcome, paid, picked, tests, onEnd, onRow, next, steps, Partners, Pairs, rank}
-use Rattle.rules.specs.Scripts.{All, none, some, RowLimits, RowBelow}
+use Rattle.rules.specs.Scripts.{All, some, RowLimits, RowBelow}
 use Rattle.rules.proofs.RowSimulation.{falls-more, next-row, next-past}
 use Rattle.rules.proofs.Pairing.{partners, pairs-in}
 use Rattle.rules.proofs.Nesting.{tree-of}
@@ -25,10 +25,10 @@ use Rattle.rules.proofs.Laws.{kinds-first, kind-of}
 use Rattle.pairs.specs.declared.Tables.{Tables}
 use Rattle.pairs.specs.Tables.{tableOf, Found}
 use Rattle.rules.specs.Nesting.{nest, nestRows}
-use Rattle.machine.specs.declared.Machine.{Machine}
-use Rattle.machine.specs.declared.Status.{Status}
-use Rattle.machine.specs.declared.Status.the-variants.{Going, Over}
-use Rattle.machine.specs.States.{phaseOf, stateOf, placeOf, tallyOf, byStatus, nextOf, isGoing, overAt, Room, Doable, Fitting, Steps}
+use Rattle.actions.specs.declared.Machine.{Machine}
+use Rattle.actions.specs.declared.Status.{Status}
+use Rattle.actions.specs.declared.Status.the-variants.{Going, Over}
+use Rattle.actions.specs.States.{phaseOf, stateOf, placeOf, tallyOf, byStatus, nextOf, isGoing, overAt, Room, Doable, Fitting, Steps}
 use Rattle.runner.specs.Runs.{Roomy, roomy-over, roomy-more, Ready, Finished}
 
 -- every element by its index

@@ -1,20 +1,19 @@
 -- The start of a run and its answer. Assumes nothing.
-use mathlib.Core.Path.{_≡_, refl, sym, _∙_, ap, subst}
+use mathlib.Core.Path.{_≡_, refl, sym, _∙_, ap}
 use mathlib.Core.Bool.{Bool, true, false, not}
-use mathlib.Core.List.{List, []}
-use Prim.Native.Nat.{ℕ, zero, suc, _+_, _*_, _-_, _≤_, _<_, _^_}
+use mathlib.Core.List.{List}
+use Prim.Native.Nat.{ℕ, zero, _+_, _*_, _≤_, _<_}
 use native.Mathlib.Nat.{mul-le-mul}
 use native.Mathlib.Decide.{ℕ-discrete}
 use native.Mathlib.Omega.{arith}
 use lib.Dec.{T, ltb, ltb→lt, nltb→le}
-use lib.ListN.{length, getD, set, take, drop, length-drop, List·getD-eq-default}
+use lib.ListN.{length, getD, set, take, length-drop, List·getD-eq-default}
 use lib.Seq.{getD-set-same, getD-set-other}
 use lib.IntN.{ℤ}
 use Rattle.rules.specs.declared.Row.{Row}
-use Rattle.rules.specs.declared.Ending.{Ending}
 use Rattle.rules.specs.Blocks.{kindsOf}
 use Rattle.rules.specs.Figures.{ones}
-use Rattle.rules.specs.Answers.{Answer, storeList}
+use Rattle.rules.specs.Answers.{storeList}
 use Rattle.rules.specs.RowMachine.{more, over, fresh, steps, start, rank}
 use Rattle.rules.specs.Scripts.{storeOf}
 use Rattle.rules.proofs.RowSimulation.{row-answer}
@@ -22,13 +21,12 @@ use Rattle.rules.proofs.Nesting.{tree-of}
 use Rattle.rules.proofs.Laws.{kinds-first, list-of-store}
 use Rattle.pairs.specs.declared.Tables.{Tables}
 use Rattle.pairs.specs.Tables.{tableOf, Found}
-use Rattle.machine.specs.declared.Machine.{Machine}
-use Rattle.machine.specs.declared.Status.{Status}
-use Rattle.machine.specs.declared.Status.the-variants.{Going, Over}
-use Rattle.machine.specs.States.{stateOf, placeOf, tallyOf, byStatus, nextOf, isGoing}
-use Rattle.runner.specs.declared.Ran.{Ran}
-use Rattle.runner.specs.Runs.{Runnable, roomy-more, Ready, Finished}
-use Rattle.runner.specs.Answered.{runOf, Cleared, ranBy, ranOf, Given, Answered}
+use Rattle.actions.specs.declared.Machine.{Machine}
+use Rattle.actions.specs.declared.Status.{Status}
+use Rattle.actions.specs.declared.Status.the-variants.{Going, Over}
+use Rattle.actions.specs.States.{stateOf, placeOf, tallyOf, byStatus, isGoing}
+use Rattle.runner.specs.Runs.{roomy-more, Ready, Finished}
+use Rattle.runner.specs.Answered.{runOf, Cleared, ranBy, Given, Answered}
 use Rattle.runner.proofs.Loop.{partners-of}
 
 -- ---- counts set to 0

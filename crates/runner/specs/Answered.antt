@@ -6,15 +6,14 @@ use lib.ListN.{length, getD, take}
 use lib.IntN.{ℤ}
 use Rattle.rules.specs.declared.Kind.{Kind}
 use Rattle.rules.specs.declared.Row.{Row}
-use Rattle.rules.specs.declared.Ending.{Ending}
 use Rattle.rules.specs.declared.Ending.the-variants.{Spent}
 use Rattle.rules.specs.Blocks.{kindsOf}
 use Rattle.rules.specs.Figures.{ones}
 use Rattle.rules.specs.Answers.{Answer, runTree, storeList, sumAt, mostAt}
 use Rattle.rules.specs.Scripts.{storeOf, treeOf}
-use Rattle.machine.specs.declared.Machine.{Machine}
-use Rattle.machine.specs.declared.Status.{Status}
-use Rattle.machine.specs.declared.Status.the-variants.{Going, Over}
+use Rattle.actions.specs.declared.Machine.{Machine}
+use Rattle.actions.specs.declared.Status.{Status}
+use Rattle.actions.specs.declared.Status.the-variants.{Going, Over}
 use Rattle.runner.specs.declared.Ran.{Ran}
 use Rattle.runner.specs.Runs.{Runnable}
 

@@ -2,7 +2,7 @@
 use mathlib.Core.Path.{_≡_}
 use mathlib.Core.Bool.{false}
 use mathlib.Core.List.{List, []}
-use Prim.Native.Nat.{ℕ, suc, _+_, _≤_, _<_, _^_}
+use Prim.Native.Nat.{ℕ, _+_, _≤_, _<_, _^_}
 use lib.ListN.{length, take}
 use lib.IntN.{ℤ}
 use Rattle.rules.specs.declared.Kind.{Kind}
@@ -16,8 +16,8 @@ use Rattle.rules.specs.RowMachine.{Tally, Place, Next, more, over, steps, rank}
 use Rattle.rules.specs.Scripts.{All, RowLimits, RowBelow}
 use Rattle.pairs.specs.declared.Tables.{Tables}
 use Rattle.pairs.specs.Tables.{tableOf, Found}
-use Rattle.machine.specs.declared.Machine.{Machine}
-use Rattle.machine.specs.States.{nextOf, tallyOf, isGoing}
+use Rattle.actions.specs.declared.Machine.{Machine}
+use Rattle.actions.specs.States.{nextOf, tallyOf, isGoing}
 
 -- the questions 4 to 7 of rows over so many variables
 pub record Runnable (vars : ℕ) (rows : List Kind) : Type 0 where

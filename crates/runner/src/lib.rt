@@ -1,15 +1,14 @@
 // The run of a script: the machine from its start to its end, and its answer.
-use machine::Machine;
-use machine::Status;
+use actions::Machine;
+use actions::Status;
 use pairs::Tables;
 use rules::Ending;
 use rules::Row;
 ghost use mathlib.Core.Path.{_≡_};
-ghost use mathlib.Core.Bool.{true, false};
 ghost use Prim.Native.Nat.{_≤_};
 ghost use lib.ListN.{length, take};
 ghost use Rattle.rules.specs.Blocks.{kindsOf};
-ghost use Rattle.machine.specs.States.{isGoing, tallyOf, overAt};
+ghost use Rattle.actions.specs.States.{isGoing, tallyOf, overAt};
 ghost use Rattle.runner.specs.Runs.{Ready, Finished};
 ghost use Rattle.runner.specs.Answered.{Cleared, ranOf, runOf, Given, Answered};
 

@@ -2,7 +2,7 @@
 use Rattle.machine.proofs.Laws.{passed, by-flag, tests-while, tests-do, tests-for}
 -- `machine::end_row` meets its contract. Assumes nothing.
 use Rattle.rules.specs.Figures.{ones}
-use Rattle.machine.specs.States.{Doable, phaseOf}
+use Rattle.actions.specs.States.{Doable, phaseOf}
 -- `machine::end_row` meets its contract. Assumes nothing.
 
 use Rattle.rules.specs.RowMachine.{onEnd}

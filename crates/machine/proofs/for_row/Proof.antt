@@ -1,12 +1,13 @@
 -- `machine::for_row` meets its contract. Assumes nothing.
 use Rattle.rules.specs.RowMachine.{begin}
-use Rattle.machine.specs.States.{plainTo}
+use Rattle.actions.specs.States.{plainTo}
 use Rattle.rules.specs.Blocks.{from, assign}
-use Rattle.machine.proofs.Laws.{begun, after}
+use Rattle.actions.proofs.Laws.{begun}
+use Rattle.machine.proofs.Laws.{after}
 -- `machine::for_row` meets its contract. Assumes nothing.
 use Rattle.machine.proofs.Laws.{by-flag}
 -- `machine::for_row` meets its contract. Assumes nothing.
-use Rattle.machine.specs.States.{forTo}
+use Rattle.actions.specs.States.{forTo}
 -- `machine::for_row` meets its contract. Assumes nothing.
 
 use mathlib.Core.Bool.{true, false}

@@ -1,8 +1,9 @@
 -- `machine::step` meets its contract. Assumes nothing.
-use Rattle.machine.proofs.Laws.{passed, begun, room-begun, after, tests-while, tests-for, tests-begun, acts-row, steps-row, is-end, is-else, is-pick, is-set, is-move, is-cue, is-while, is-do, is-for}
+use Rattle.actions.proofs.Laws.{begun, room-begun}
+use Rattle.machine.proofs.Laws.{passed, after, tests-while, tests-for, tests-begun, acts-row, steps-row, is-end, is-else, is-pick, is-set, is-move, is-cue, is-while, is-do, is-for}
 -- `machine::step` meets its contract. Assumes nothing.
 use lib.ListN.{set}
-use Rattle.machine.specs.States.{Doable, tallyOf}
+use Rattle.actions.specs.States.{Doable, tallyOf}
 use Rattle.rules.specs.RowMachine.{begin, turn, test, tests}
 use Rattle.rules.specs.Figures.{ones}
 use Rattle.rules.specs.declared.Kind.{Kind}

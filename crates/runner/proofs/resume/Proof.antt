@@ -1,6 +1,6 @@
 -- `runner::resume` meets its contract. The invariant: the state is reached by steps from the first one. The measure: the weight of the state. Assumes nothing.
 use Rattle.runner.proofs.Loop.{Runs, weight, runs-start, doable, fitting, head-in, runs-step, runs-past, runs-over}
-use Rattle.machine.specs.States.{nextOf, tallyOf}
+use Rattle.actions.specs.States.{nextOf, tallyOf}
 use Rattle.rules.specs.Blocks.{kindsOf}
 use mir.Val.{Fits}
 use mir.Syntax.{w8}

@@ -1,14 +1,14 @@
-use Rattle.machine.proofs.Laws.{limits-fit}
+use Rattle.actions.proofs.Laws.{limits-fit}
 use Rattle.rules.specs.Values.{inLimits}
 use mir.Facts.{toZ-ofZ}
 use mathlib.Core.Bool.{true, false}
--- `machine::put` meets its contract. Assumes nothing.
-use Rattle.machine.proofs.Laws.{put-spent, put-range, put-done}
+-- `actions::put` meets its contract. Assumes nothing.
+use Rattle.actions.proofs.Laws.{put-spent, put-range, put-done}
 use mir.Facts.{toZ-ofZ}
 use mathlib.Core.Path.{_≡_, sym, _∙_}
 use borrow.Author.Needs.{needs}
-use Rattle.machine.proofs.put.Statement.{statement}
-use Rattle.machine.proofs.put.Tie as tie
+use Rattle.actions.proofs.put.Statement.{statement}
+use Rattle.actions.proofs.put.Tie as tie
 
 returns : tie.Need-returns
 returns c = λ d. rw (c .ended .ensures) (put-spent _ _ _ _ _ _ _ (c .before .before .args .testing) (c .before .if1 .taken))

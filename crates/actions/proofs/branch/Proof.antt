@@ -1,7 +1,7 @@
--- `machine::branch` meets its contract. Assumes nothing.
+-- `actions::branch` meets its contract. Assumes nothing.
 use borrow.Author.Tests.{eq-eqb, ne-eqb}
-use Rattle.machine.proofs.branch.Statement.{statement}
-use Rattle.machine.proofs.branch.Tie as tie
+use Rattle.actions.proofs.branch.Statement.{statement}
+use Rattle.actions.proofs.branch.Tie as tie
 
 returns : tie.Need-returns
 returns c = rw (eq-eqb _ _ (c .if1 .taken))

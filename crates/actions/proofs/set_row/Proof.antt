@@ -1,15 +1,15 @@
-use Rattle.machine.proofs.Laws.{put-plain}
+use Rattle.actions.proofs.Laws.{put-plain}
 use Rattle.rules.specs.Blocks.{from}
 use Rattle.rules.specs.Run.{result}
 use mir.Facts.{toZ-ofZ, sfits-widen}
 use borrow.Author.Needs.{sfits-of}
 use mir.Val.{SFits}
 use mir.Syntax.{w32, w64}
--- `machine::set_row` meets its contract. Assumes nothing.
+-- `actions::set_row` meets its contract. Assumes nothing.
 use mir.Facts.{toZ-ofZ}
 use borrow.Author.Needs.{needs}
-use Rattle.machine.proofs.set_row.Statement.{statement}
-use Rattle.machine.proofs.set_row.Tie as tie
+use Rattle.actions.proofs.set_row.Statement.{statement}
+use Rattle.actions.proofs.set_row.Tie as tie
 
 cast-put : tie.Need-cast-put
 cast-put c = let f : SFits w32 (c .value-of .result) = sfits-of (c .value-of .ok) in rw (toZ-ofZ f) (sfits-widen tt f)

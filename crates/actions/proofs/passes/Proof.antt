@@ -1,4 +1,4 @@
--- `machine::passes` meets its contract. Assumes nothing.
+-- `actions::passes` meets its contract. Assumes nothing.
 use Rattle.rules.specs.Values.{value, compares}
 use borrow.Author.Needs.{sfits-of}
 use mir.Val.{SFits}
@@ -6,8 +6,8 @@ use mir.Syntax.{w32}
 use mir.Facts.{toZ-ofZ}
 use mathlib.Core.Path.{_∙_}
 use borrow.Author.Needs.{needs}
-use Rattle.machine.proofs.passes.Statement.{statement}
-use Rattle.machine.proofs.passes.Tie as tie
+use Rattle.actions.proofs.passes.Statement.{statement}
+use Rattle.actions.proofs.passes.Tie as tie
 
 returns : tie.Need-returns
 unfolding value

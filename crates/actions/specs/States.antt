@@ -2,23 +2,22 @@
 use mathlib.Core.Path.{_≡_}
 use mathlib.Core.Bool.{Bool, true, false}
 use mathlib.Core.List.{List, []}
-use Prim.Native.Nat.{ℕ, suc, _+_, _≤_, _<_, _^_}
-use lib.ListN.{length, getD, take, drop}
+use Prim.Native.Nat.{ℕ, _≤_, _<_, _^_}
+use lib.ListN.{length, getD, drop}
 use lib.IntN.{ℤ}
 use Rattle.rules.specs.declared.Kind.{Kind}
 use Rattle.rules.specs.declared.Kind.the-variants.{End}
-use Rattle.rules.specs.declared.Row.{Row}
 use Rattle.rules.specs.declared.Operand.{Operand}
 use Rattle.rules.specs.declared.Comparison.{Comparison}
 use Rattle.rules.specs.declared.Ending.{Ending}
-use Rattle.rules.specs.Blocks.{from, Plain, assign, kindsOf}
+use Rattle.rules.specs.Blocks.{from, Plain, assign}
 use Rattle.rules.specs.Figures.{ones}
 use Rattle.rules.specs.Run.{State, charge, write, exec}
-use Rattle.rules.specs.RowMachine.{Tally, begin, turn, Phase, fresh, testing, Place, Next, more, over, to, outcome, paid, picked, tests, test, onRow, steps, rank}
+use Rattle.rules.specs.RowMachine.{Tally, begin, turn, Phase, fresh, testing, Place, Next, more, over, to, outcome, paid, picked, tests, test}
 use Rattle.rules.specs.Scripts.{storeOf, OperandBelow, RowLimits, RowBelow}
-use Rattle.machine.specs.declared.Status.{Status}
-use Rattle.machine.specs.declared.Status.the-variants.{Going, Over}
-use Rattle.machine.specs.declared.Machine.{Machine}
+use Rattle.actions.specs.declared.Status.{Status}
+use Rattle.actions.specs.declared.Status.the-variants.{Going, Over}
+use Rattle.actions.specs.declared.Machine.{Machine}
 
 -- a for's start or step is done
 abbrev pub phaseOf : Bool → Phase

@@ -1,9 +1,9 @@
--- `machine::count_turn` meets its contract. Assumes nothing.
-use Rattle.machine.proofs.Laws.{turned}
+-- `actions::count_turn` meets its contract. Assumes nothing.
+use Rattle.actions.proofs.Laws.{turned}
 use native.Mathlib.Omega.{arith}
 use borrow.Author.Needs.{needs}
-use Rattle.machine.proofs.count_turn.Statement.{statement}
-use Rattle.machine.proofs.count_turn.Tie as tie
+use Rattle.actions.proofs.count_turn.Statement.{statement}
+use Rattle.actions.proofs.count_turn.Tie as tie
 
 add-t : tie.Need-add-t
 add-t c = let s = c .before .before .before .before in omega (arith, s .pre .1 .turn (s .args .h))

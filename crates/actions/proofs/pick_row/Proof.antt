@@ -1,9 +1,9 @@
--- `machine::pick_row` meets its contract. Assumes nothing.
-use Rattle.machine.proofs.Laws.{pick-spent, pick-one, pick-none}
+-- `actions::pick_row` meets its contract. Assumes nothing.
+use Rattle.actions.proofs.Laws.{pick-spent, pick-one, pick-none}
 use native.Mathlib.Numerals.{add-one}
 use borrow.Author.Needs.{needs}
-use Rattle.machine.proofs.pick_row.Statement.{statement}
-use Rattle.machine.proofs.pick_row.Tie as tie
+use Rattle.actions.proofs.pick_row.Statement.{statement}
+use Rattle.actions.proofs.pick_row.Tie as tie
 
 returns : tie.Need-returns
 returns c = λ store d. rw (c .ended .ensures) (pick-spent _ _ _ _ _ _ (c .before .if1 .taken))

@@ -1,4 +1,4 @@
-use Rattle.machine.proofs.Laws.{put-plain}
+use Rattle.actions.proofs.Laws.{put-plain}
 use Rattle.rules.specs.Blocks.{changed}
 use Rattle.rules.specs.Run.{result}
 use Rattle.rules.specs.Values.{value, applied}
@@ -6,12 +6,12 @@ use mir.Facts.{toZ-ofZ}
 use borrow.Author.Needs.{sfits-of}
 use mir.Val.{SFits}
 use mir.Syntax.{w32, w64}
--- `machine::move_row` meets its contract. Assumes nothing.
+-- `actions::move_row` meets its contract. Assumes nothing.
 use mir.Facts.{toZ-ofZ}
 use mathlib.Core.Path.{_∙_, ap}
 use borrow.Author.Needs.{needs}
-use Rattle.machine.proofs.move_row.Statement.{statement}
-use Rattle.machine.proofs.move_row.Tie as tie
+use Rattle.actions.proofs.move_row.Statement.{statement}
+use Rattle.actions.proofs.move_row.Tie as tie
 
 returns : tie.Need-returns
 unfolding result value

@@ -1,9 +1,9 @@
 use mathlib.Core.Bool.{false}
--- `machine::cue_row` meets its contract. Assumes nothing.
-use Rattle.machine.proofs.Laws.{cue-spent, cue-done}
+-- `actions::cue_row` meets its contract. Assumes nothing.
+use Rattle.actions.proofs.Laws.{cue-spent, cue-done}
 use borrow.Author.Needs.{needs}
-use Rattle.machine.proofs.cue_row.Statement.{statement}
-use Rattle.machine.proofs.cue_row.Tie as tie
+use Rattle.actions.proofs.cue_row.Statement.{statement}
+use Rattle.actions.proofs.cue_row.Tie as tie
 
 returns : tie.Need-returns
 returns c = λ store d n. rw (c .ended .ensures) (cue-spent _ _ _ _ _ _ false (c .before .if1 .taken))
