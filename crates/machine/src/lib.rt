@@ -63,12 +63,12 @@ fn for_row(
     requires { ⌜ Testable (m .row) e v x (now store) (now turns) (now all) (now most) × OperandBelow (length (now store)) y ⌝ }
     ensures { λ r. ⌜ Acts m r (now (store .entry)) (now (store .exit)) (tallyOf (now (turns .entry)) (now (all .entry)) (now (most .entry))) (tallyOf (now (turns .exit)) (now (all .exit)) (now (most .exit))) (forTo (m .row) e v y c x (m .testing)) ⌝ }
 {
-    let i = m.row;
+    let h = m.row;
     if m.testing {
-        return actions::test_row(m, i, e, v, c, x, store, turns, all, most);
+        return actions::test_row(m, h, e, v, c, x, store, turns, all, most);
     }
-    turns[i] = 0;
-    actions::set_row(m, i, v, y, i, true, store)
+    turns[h] = 0;
+    actions::set_row(m, h, v, y, h, true, store)
 }
 
 // One row: `e` closes the block that it begins, or it closes the block that row h, `head`, begins.

@@ -32,7 +32,7 @@ test-row-requires : tie.Need-test-row-requires
 test-row-requires c κs = tests-begun (tests-while (known (c .before .before .before .before .before .before .before .before .before .before .before) _ (c .before .before .before .before .before .kind3 .given .1)))
 
 count-turn-requires : tie.Need-count-turn-requires
-count-turn-requires c κs = let s = c .before .before .before .before .before .before .before .before .before in (s .pre .0 .rows .0, room-begun _ _ _ _ (s .pre .0 .rows .0) (s .pre .0 .room))
+count-turn-requires c κs = let s = c .before .before .before .before .before .before .before .before .before in (search needs, room-begun _ _ _ _ (s .pre .0 .rows .0) (s .pre .0 .room))
 
 for-row-requires : tie.Need-for-row-requires
 for-row-requires c κs = let q = known (c .before .before .before .before .before .before .before .before .before .before .before) _ (c .before .before .before .before .before .kind4 .given .1) in (tests-for q, q .below .1)
