@@ -8,6 +8,7 @@ use Rattle.rules.specs.declared.Kind.{Kind}
 use Rattle.rules.specs.declared.Kind.the-variants.{Set, Move, Cue, Pick, Else, End, While, Do, For}
 use Rattle.rules.specs.declared.Row.{Row}
 use Rattle.rules.specs.Blocks.{kindsOf}
+use Rattle.rules.specs.Figures.{Line}
 use Rattle.rules.specs.Nesting.{nest, nestRows}
 use Rattle.loops.specs.declared.Loops.{Loops}
 
@@ -53,3 +54,8 @@ pub record Listed (rows : List Kind) (all most : List ℕ) (l : Loops) : Type 0 
   pub heads : take (l .count) (l .rows) ≡ headsOf rows
   pub sums : take (l .count) (l .all) ≡ mapped (λ p. getD all p 0) (headsOf rows)
   pub mosts : take (l .count) (l .most) ≡ mapped (λ p. getD most p 0) (headsOf rows)
+
+-- the head rows of the report's lines
+unfoldable pub lineRows : List Line → List ℕ
+lineRows [] = []
+lineRows (l ∷ ls) = l .row ∷ lineRows ls

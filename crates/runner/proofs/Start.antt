@@ -15,7 +15,7 @@ use Rattle.rules.specs.Blocks.{kindsOf}
 use Rattle.rules.specs.Figures.{ones}
 use Rattle.rules.specs.Answers.{storeList}
 use Rattle.rules.specs.RowMachine.{more, over, fresh, steps, start, rank}
-use Rattle.rules.specs.Scripts.{storeOf}
+use Rattle.rules.specs.Scripts.{Script, Legal, storeOf}
 use Rattle.rules.proofs.RowSimulation.{row-answer}
 use Rattle.rules.proofs.Nesting.{tree-of}
 use Rattle.rules.proofs.Laws.{kinds-first, list-of-store}
@@ -28,6 +28,10 @@ use Rattle.actions.specs.States.{stateOf, placeOf, tallyOf, byStatus, isGoing}
 use Rattle.runner.specs.Runs.{roomy-more, Ready, Finished}
 use Rattle.runner.specs.Answered.{runOf, Cleared, ranBy, Given, Answered}
 use Rattle.runner.proofs.Loop.{partners-of}
+
+-- a script that passes the questions 4 to 7 may run
+pub runnable : (script : Script) → Legal script → Runnable (length (script .ranges)) (script .rows)
+runnable script ok = record { limits = ok .numbers .1; below = ok .variables; closed = ok .closed }
 
 -- ---- counts set to 0
 -- the first n
