@@ -25,7 +25,7 @@ use Rattle.actions.specs.declared.Machine.{Machine}
 use Rattle.actions.specs.declared.Status.{Status}
 use Rattle.actions.specs.declared.Status.the-variants.{Going, Over}
 use Rattle.actions.specs.States.{stateOf, placeOf, tallyOf, byStatus, isGoing}
-use Rattle.runner.specs.Runs.{roomy-more, Ready, Finished}
+use Rattle.runner.specs.Runs.{Runnable, roomy-more, Ready, Finished}
 use Rattle.runner.specs.Answered.{runOf, Cleared, ranBy, Given, Answered}
 use Rattle.runner.proofs.Loop.{partners-of}
 
