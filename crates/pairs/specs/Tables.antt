@@ -16,24 +16,30 @@ stackOf l (suc n) = getD l n 0 ∷ stackOf l n
 abbrev pub tableOf : List ℕ → ℕ → ℕ
 tableOf l i = getD l i 0
 
-abbrev pub pairsOf : Tables → Pairs
-pairsOf t = record { stack = stackOf (t .stack) (t .depth); shut = tableOf (t .shut); opener = tableOf (t .opener) }
+-- the tables and the stack of `depth` open rows
+abbrev pub pairsOf : List ℕ → List ℕ → List ℕ → ℕ → Pairs
+pairsOf shut opener stack depth = record { stack = stackOf stack depth; shut = tableOf shut; opener = tableOf opener }
+
+-- 256 rows each
+pub record Sized (shut opener stack : List ℕ) : Type 0 where
+  pub sizes : (length shut ≡ 256) × (length opener ≡ 256) × (length stack ≡ 256)
 
 -- row j begins a block
-pub record Pushed (t : Tables) (j : ℕ) (r : Tables) : Type 0 where
-  pub same : pairsOf r ≡ push j (pairsOf t)
-  pub deep : r .depth ≤ suc j
+pub record Pushed (j depth : ℕ) (stack : List ℕ) (r : ℕ) (stack′ : List ℕ) : Type 0 where
+  pub same : (shut opener : List ℕ) → pairsOf shut opener stack′ r ≡ push j (pairsOf shut opener stack depth)
+  pub deep : r ≤ suc j
 
 -- row j closes the innermost open row
-pub record Closed (t : Tables) (j : ℕ) (r : Tables) : Type 0 where
-  pub same : pairsOf r ≡ closing j (pairsOf t .stack) (pairsOf t .shut) (pairsOf t .opener)
-  pub deep : r .depth ≤ j
+pub record Closed (j depth : ℕ) (shut opener stack : List ℕ) (r : ℕ) (shut′ opener′ : List ℕ) : Type 0 where
+  pub same : pairsOf shut′ opener′ stack r ≡ closing j (stackOf stack depth) (tableOf shut) (tableOf opener)
+  pub deep : r ≤ j
 
 -- row j, of kind k
-pub record Paired (t : Tables) (k : Kind) (j : ℕ) (r : Tables) : Type 0 where
-  pub same : pairsOf r ≡ pairRow k j (pairsOf t)
-  pub deep : r .depth ≤ suc j
+pub record Paired (k : Kind) (j depth : ℕ) (shut opener stack : List ℕ) (r : ℕ) (shut′ opener′ stack′ : List ℕ) : Type 0 where
+  pub same : pairsOf shut′ opener′ stack′ r ≡ pairRow k j (pairsOf shut opener stack depth)
+  pub deep : r ≤ suc j
 
--- all rows
-pub record Found (rows : List Kind) (r : Tables) : Type 0 where
-  pub same : pairsOf r ≡ pairs rows (length rows)
+-- all rows: the tables are those of the pass of `rules`
+pub record Found (rows : List Kind) (t : Tables) : Type 0 where
+  pub shuts : tableOf (t .shut) ≡ pairs rows (length rows) .shut
+  pub openers : tableOf (t .opener) ≡ pairs rows (length rows) .opener

@@ -1,65 +1,68 @@
 // The partner rows: of each row that begins a block the row that closes it, and the other way round.
 use rules::Kind;
 use rules::Row;
+ghost use mathlib.Core.Path.{_≡_};
 ghost use Prim.Native.Nat.{_≤_, _<_};
-ghost use lib.ListN.{take};
+ghost use lib.ListN.{length, take};
 ghost use Rattle.rules.specs.Blocks.{kindsOf};
-ghost use Rattle.pairs.specs.Tables.{Pushed, Closed, Paired, Found};
+ghost use Rattle.pairs.specs.Tables.{Sized, Pushed, Closed, Paired, Found};
 
-// The tables so far, and the stack of the open rows.
+// The tables: `shut` of a row that begins a block, `opener` of a row that closes one.
 pub struct Tables {
     pub shut: [u8; 256],
     pub opener: [u8; 256],
-    pub stack: [u8; 256],
-    pub depth: usize,
 }
 
-// Row j begins a block.
-fn push(t: Tables, j: usize) -> Tables
-    requires { ⌜ (t .depth ≤ j) × (j < 256) ⌝ }
-    ensures { λ r. ⌜ Pushed t j r ⌝ }
+// Row j begins a block: one more open row.
+fn push(j: usize, depth: usize, stack: &mut [u8]) -> usize
+    requires { ⌜ (depth ≤ j) × (j < 256) × (length (now stack) ≡ 256) ⌝ }
+    ensures { λ r. ⌜ Pushed j depth (now (stack .entry)) r (now (stack .exit)) ⌝ }
 {
-    let mut next = t;
-    let at = t.depth;
-    next.stack[at] = j as u8;
-    next.depth = at + 1;
-    next
+    stack[depth] = j as u8;
+    depth + 1
 }
 
 // Row j closes the innermost open row.
-fn close(t: Tables, j: usize) -> Tables
-    requires { ⌜ (t .depth ≤ j) × (j < 256) ⌝ }
-    ensures { λ r. ⌜ Closed t j r ⌝ }
+fn close(j: usize, depth: usize, shut: &mut [u8], opener: &mut [u8], stack: &[u8]) -> usize
+    requires { ⌜ (depth ≤ j) × (j < 256) × Sized (now shut) (now opener) (now stack) ⌝ }
+    ensures { λ r. ⌜ Closed j depth (now (shut .entry)) (now (opener .entry)) (now (stack .entry)) r (now (shut .exit)) (now (opener .exit)) ⌝ }
 {
-    let depth = t.depth;
     if depth == 0 {
-        return t;
+        return depth;
     }
-    let mut next = t;
     let top = depth - 1;
-    let i = next.stack[top];
+    let i = stack[top];
     let at = i as usize;
-    next.shut[at] = j as u8;
-    next.opener[j] = i;
-    next.depth = top;
-    next
+    shut[at] = j as u8;
+    opener[j] = i;
+    top
 }
 
 // Row j.
-fn pair_row(t: Tables, kind: Kind, j: usize) -> Tables
-    requires { ⌜ (t .depth ≤ j) × (j < 256) ⌝ }
-    ensures { λ r. ⌜ Paired t kind j r ⌝ }
+fn pair_row(
+    kind: Kind,
+    j: usize,
+    depth: usize,
+    shut: &mut [u8],
+    opener: &mut [u8],
+    stack: &mut [u8],
+) -> usize
+    requires { ⌜ (depth ≤ j) × (j < 256) × Sized (now shut) (now opener) (now stack) ⌝ }
+    ensures { λ r. ⌜ Paired kind j depth (now (shut .entry)) (now (opener .entry)) (now (stack .entry)) r (now (shut .exit)) (now (opener .exit)) (now (stack .exit)) ⌝ }
 {
     match kind {
-        Kind::End => close(t, j),
-        Kind::Else => push(close(t, j), j),
-        Kind::Pick => push(t, j),
-        Kind::Set(_, _) => t,
-        Kind::Move(_, _) => t,
-        Kind::Cue(_) => t,
-        Kind::While(_, _, _) => push(t, j),
-        Kind::Do(_, _, _) => push(t, j),
-        Kind::For(_, _, _, _, _) => push(t, j),
+        Kind::End => close(j, depth, shut, opener, stack),
+        Kind::Else => {
+            let open = close(j, depth, shut, opener, stack);
+            push(j, open, stack)
+        }
+        Kind::Pick => push(j, depth, stack),
+        Kind::Set(_, _) => depth,
+        Kind::Move(_, _) => depth,
+        Kind::Cue(_) => depth,
+        Kind::While(_, _, _) => push(j, depth, stack),
+        Kind::Do(_, _, _) => push(j, depth, stack),
+        Kind::For(_, _, _, _, _) => push(j, depth, stack),
     }
 }
 
@@ -68,18 +71,19 @@ pub fn partners(rows: [Row; 256], count: usize) -> Tables
     requires { ⌜ count ≤ 256 ⌝ }
     ensures { λ r. ⌜ Found (take count (kindsOf rows)) r ⌝ }
 {
-    let mut t = Tables {
-        shut: [0; 256],
-        opener: [0; 256],
-        stack: [0; 256],
-        depth: 0,
-    };
+    let mut shut = [0u8; 256];
+    let mut opener = [0u8; 256];
+    let mut stack = [0u8; 256];
+    let mut depth = 0;
     let mut j = 0;
     while j < count {
         let row = rows[j];
         let kind = row.kind;
-        t = pair_row(t, kind, j);
+        depth = pair_row(kind, j, depth, &mut shut, &mut opener, &mut stack);
         j += 1;
     }
-    t
+    Tables {
+        shut: shut,
+        opener: opener,
+    }
 }

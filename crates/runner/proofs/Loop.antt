@@ -16,7 +16,7 @@ use Rattle.rules.specs.Values.{put}
 use Rattle.rules.specs.Blocks.{Test, kindsOf}
 use Rattle.rules.specs.Figures.{Prices, ones}
 use Rattle.rules.specs.Run.{State, Out, go, halt, holds}
-use Rattle.rules.specs.RowMachine.{Tally, begin, turn, Phase, fresh, testing, Place, Next, more, over, to, chosen, outcome, paid, picked, tests, onEnd, onRow, next, steps, Partners, Pairs, rank}
+use Rattle.rules.specs.RowMachine.{Tally, begin, turn, Phase, fresh, testing, Place, Next, more, over, to, chosen, outcome, paid, picked, tests, onEnd, onRow, next, steps, Partners, pairs, rank}
 use Rattle.rules.specs.Scripts.{All, some, RowLimits, RowBelow}
 use Rattle.rules.proofs.RowSimulation.{falls-more, next-row, next-past}
 use Rattle.rules.proofs.Pairing.{partners, pairs-in}
@@ -172,7 +172,7 @@ module _ (rows : List Kind) (shut opener : ℕ → ℕ) where
 pub partners-of : (rows : List Kind) (n : ℕ) → nestRows rows (record { open-blocks = []; loops = 0 }) ≡ nest [] n → (t : Tables) → Found rows t → Partners rows (tableOf (t .shut)) (tableOf (t .opener))
 partners-of rows n e t f =
     let (tree, whole) = tree-of rows n e in
-    subst (λ (p : Pairs). Partners rows (p .shut) (p .opener)) (sym (f .same)) (partners rows tree whole)
+    subst (λ g. Partners rows g (tableOf (t .opener))) (sym (f .shuts)) (subst (λ g. Partners rows (pairs rows (length rows) .shut) g) (sym (f .openers)) (partners rows tree whole))
 
 -- ---- the code's loop
 abbrev kinds : List Row → ℕ → List Kind
@@ -211,7 +211,7 @@ module _ (rows : List Row) (count : ℕ) (t : Tables) (picks : List ℕ) (m₀ :
   opener-in i l =
       let e = size-is in
       let q = pairs-in ks (omega arith) (length ks) (omega arith) in
-      subst (λ n. opener i < n) e (subst (λ (p : Pairs). p .opener i < length ks) (sym (ready .found .same)) (q .opener-in i))
+      subst (λ n. opener i < n) e (subst (λ (g : ℕ → ℕ). g i < length ks) (sym (ready .found .openers)) (q .opener-in i))
 
   pub runs-start : Runs rows count t picks m₀ store₀ turns₀ all₀ most₀ m₀ store₀ turns₀ all₀ most₀
   runs-start = record { lengths = (refl, refl, refl, refl); held = held-start ks shut opener _ (ready .room); left = omega arith; used = ready .used }
