@@ -162,6 +162,7 @@ pub fn pick_row(m: Machine, other: usize, picks: &[u8]) -> Machine
     }
 }
 
+// The larger of two counts.
 fn larger(a: u64, b: u64) -> u64
     ensures { λ r. ⌜ r ≡ max a b ⌝ }
 {

@@ -16,6 +16,7 @@ pub struct Loops {
     pub most: [u64; 16],
 }
 
+// Does a row begin a loop?
 fn is_loop(kind: Kind) -> bool
     ensures { λ r. ⌜ r ≡ isLoop kind ⌝ }
 {

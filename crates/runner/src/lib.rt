@@ -8,10 +8,11 @@ ghost use mathlib.Core.Path.{_≡_};
 ghost use Prim.Native.Nat.{_≤_};
 ghost use lib.ListN.{length, take};
 ghost use Rattle.rules.specs.Blocks.{kindsOf};
-ghost use Rattle.actions.specs.States.{isGoing, tallyOf, overAt};
+ghost use Rattle.actions.specs.States.{isGoing, tallyOf};
 ghost use Rattle.runner.specs.Runs.{Ready, Finished};
 ghost use Rattle.runner.specs.Answered.{Cleared, ranOf, runOf, Given, Answered};
 
+// Is the run still going?
 fn going(m: Machine) -> bool
     ensures { λ r. ⌜ r ≡ isGoing (m .status) ⌝ }
 {
@@ -19,19 +20,6 @@ fn going(m: Machine) -> bool
     match status {
         Status::Going => true,
         Status::Over(_, _) => false,
-    }
-}
-
-// Past the last row the run is ended.
-fn ended(m: Machine, count: usize) -> Machine
-    ensures { λ r. ⌜ r ≡ overAt m (m .left) Ending.Ended count ⌝ }
-{
-    Machine {
-        row: m.row,
-        testing: m.testing,
-        left: m.left,
-        used: m.used,
-        status: Status::Over(Ending::Ended, count),
     }
 }
 
@@ -60,7 +48,7 @@ pub fn resume(
             let head = rows[h];
             m = machine::step(m, row, e, head, h, store, picks, turns, all, most);
         } else {
-            m = ended(m, count);
+            m = actions::ended(m, m.left, Ending::Ended, count);
         }
     }
     m
