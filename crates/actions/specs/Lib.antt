@@ -1,0 +1,2 @@
+-- The machine's states in memory.
+pub mod States

@@ -1,0 +1,218 @@
+// What one tick of a run does: an assignment, a cue, a pick, a test.
+use rules::Change;
+use rules::Comparison;
+use rules::Ending;
+use rules::Operand;
+ghost use mathlib.Core.Path.{_≡_};
+ghost use mathlib.Core.Bool.{false, cond};
+ghost use lib.Dec.{eqb};
+ghost use mathlib.Core.List.{List};
+ghost use Prim.Native.Nat.{ℕ, _+_, _<_, max};
+ghost use lib.ListN.{length};
+ghost use lib.IntN.{ℤ};
+ghost use Rattle.rules.specs.Blocks.{from, changed, assign, cue};
+ghost use Rattle.rules.specs.Figures.{ones};
+ghost use Rattle.rules.specs.Run.{holds};
+ghost use Rattle.rules.specs.RowMachine.{Tally, tests, test};
+ghost use Rattle.rules.specs.Scripts.{storeOf, OperandBelow, ChangeLimits};
+ghost use Rattle.actions.specs.States.{overAt, onAt, putTo, plainTo, pickTo, tallyOf, Acts, Steps, Testable, Counted, Room};
+
+// Going, or over: the ending and its row.
+pub enum Status {
+    Going,
+    Over(Ending, usize),
+}
+
+// Before a row: whether a for's start or step there is done, the ticks that are left, the bytes used.
+pub struct Machine {
+    pub row: usize,
+    pub testing: bool,
+    pub left: u64,
+    pub used: usize,
+    pub status: Status,
+}
+
+// The run ends before or after a tick, at row `at`.
+pub fn ended(m: Machine, left: u64, ending: Ending, at: usize) -> Machine
+    ensures { λ r. ⌜ r ≡ overAt m left ending at ⌝ }
+{
+    Machine {
+        row: m.row,
+        testing: m.testing,
+        left: left,
+        used: m.used,
+        status: Status::Over(ending, at),
+    }
+}
+
+// The run goes on at a row.
+pub fn on(m: Machine, left: u64, row: usize, testing: bool) -> Machine
+    ensures { λ r. ⌜ r ≡ onAt m left row testing ⌝ }
+{
+    Machine {
+        row: row,
+        testing: testing,
+        left: left,
+        used: m.used,
+        status: Status::Going,
+    }
+}
+
+// A tick, and the variable v gets z: on to a row. Or z is past ±L.
+fn put(
+    m: Machine,
+    at: usize,
+    v: u8,
+    z: i64,
+    row: usize,
+    testing: bool,
+    store: &mut [i32],
+) -> Machine
+    requires { ⌜ v < length (now store) ⌝ }
+    ensures { λ r. ⌜ ((c : Tally) → Acts m r (now (store .entry)) (now (store .exit)) c c (putTo at v z row testing)) ⌝ }
+{
+    let left = m.left;
+    if left == 0 {
+        return ended(m, left, Ending::Spent, at);
+    }
+    if values::within_limits(z) {
+        let i = v as usize;
+        store[i] = z as i32;
+        on(m, left - 1, row, testing)
+    } else {
+        ended(m, left - 1, Ending::Range, at)
+    }
+}
+
+// `set`, and a for's start.
+pub fn set_row(
+    m: Machine,
+    at: usize,
+    v: u8,
+    x: Operand,
+    row: usize,
+    testing: bool,
+    store: &mut [i32],
+) -> Machine
+    requires { ⌜ (v < length (now store)) × OperandBelow (length (now store)) x ⌝ }
+    ensures { λ r. ⌜ ((c : Tally) → Acts m r (now (store .entry)) (now (store .exit)) c c (plainTo at (assign v (from x)) row testing)) ⌝ }
+{
+    let z = values::value_of(x, store);
+    put(m, at, v, z as i64, row, testing, store)
+}
+
+// An arithmetic row, and a for's step.
+pub fn move_row(
+    m: Machine,
+    at: usize,
+    v: u8,
+    change: Change,
+    row: usize,
+    testing: bool,
+    store: &mut [i32],
+) -> Machine
+    requires { ⌜ (v < length (now store)) × ChangeLimits change ⌝ }
+    ensures { λ r. ⌜ ((c : Tally) → Acts m r (now (store .entry)) (now (store .exit)) c c (plainTo at (assign v (changed change)) row testing)) ⌝ }
+{
+    let x = values::value_of(Operand::Variable(v), store);
+    let z = values::changed(change, x);
+    put(m, at, v, z, row, testing, store)
+}
+
+// A cue.
+pub fn cue_row(m: Machine) -> Machine
+    requires { ⌜ m .row < 256 ⌝ }
+    ensures { λ r. ⌜ ((store : List ℤ) (c : Tally) (n : ℕ) → Acts m r store store c c (plainTo (m .row) (cue n) (m .row + 1) false)) ⌝ }
+{
+    let left = m.left;
+    if left == 0 {
+        return ended(m, left, Ending::Spent, m.row);
+    }
+    on(m, left - 1, m.row + 1, false)
+}
+
+// Byte 0 takes the one row, any other the next.
+fn branch(byte: u8, other: usize, next: usize) -> usize
+    ensures { λ r. ⌜ r ≡ cond (eqb byte 0) other next ⌝ }
+{
+    if byte == 0 { other } else { next }
+}
+
+// A pick takes its byte: 0 to row `other`, any other to the next row.
+pub fn pick_row(m: Machine, other: usize, picks: &[u8]) -> Machine
+    requires { ⌜ m .row < 256 ⌝ }
+    ensures { λ r. ⌜ ((store : List ℤ) (c : Tally) → Steps m r store store (now (picks .entry)) c c (pickTo (m .row) other)) ⌝ }
+{
+    let left = m.left;
+    let at = m.row;
+    if left == 0 {
+        return ended(m, left, Ending::Spent, at);
+    }
+    let used = m.used;
+    if used < picks.len() {
+        Machine {
+            row: branch(picks[used], other, at + 1),
+            testing: false,
+            left: left - 1,
+            used: used + 1,
+            status: Status::Going,
+        }
+    } else {
+        ended(m, left - 1, Ending::NoPick, at)
+    }
+}
+
+// The larger of two counts.
+fn larger(a: u64, b: u64) -> u64
+    ensures { λ r. ⌜ r ≡ max a b ⌝ }
+{
+    if a < b { b } else { a }
+}
+
+// A turn of the loop at row h begins.
+pub fn count_turn(h: usize, turns: &mut [u64], all: &mut [u64], most: &mut [u64])
+    requires { ⌜ (h < 256) × Room (now turns) (now all) (now most) ⌝ }
+    ensures { λ _. ⌜ Counted h (now (turns .entry)) (now (all .entry)) (now (most .entry)) (now (turns .exit)) (now (all .exit)) (now (most .exit)) ⌝ }
+{
+    let t = turns[h] + 1;
+    turns[h] = t;
+    all[h] = all[h] + 1;
+    most[h] = larger(most[h], t);
+}
+
+// Does the test hold?
+fn passes(v: u8, comparison: Comparison, x: Operand, store: &[i32]) -> bool
+    requires { ⌜ (v < length (now store)) × OperandBelow (length (now store)) x ⌝ }
+    ensures { λ r. ⌜ r ≡ holds (test v comparison x) (storeOf (now (store .entry))) ⌝ }
+{
+    let a = values::value_of(Operand::Variable(v), store);
+    let b = values::value_of(x, store);
+    values::holds(comparison, a, b)
+}
+
+// The test of the loop at row h, whose `end` is row e.
+pub fn test_row(
+    m: Machine,
+    h: usize,
+    e: usize,
+    v: u8,
+    comparison: Comparison,
+    x: Operand,
+    store: &[i32],
+    turns: &mut [u64],
+    all: &mut [u64],
+    most: &mut [u64],
+) -> Machine
+    requires { ⌜ Testable h e v x (now store) (now turns) (now all) (now most) ⌝ }
+    ensures { λ r. ⌜ Acts m r (now (store .entry)) (now (store .entry)) (tallyOf (now (turns .entry)) (now (all .entry)) (now (most .entry))) (tallyOf (now (turns .exit)) (now (all .exit)) (now (most .exit))) (tests ones h e (test v comparison x)) ⌝ }
+{
+    if m.left == 0 {
+        return ended(m, m.left, Ending::Spent, h);
+    }
+    if passes(v, comparison, x, store) {
+        count_turn(h, turns, all, most);
+        on(m, m.left - 1, h + 1, false)
+    } else {
+        on(m, m.left - 1, e + 1, false)
+    }
+}

@@ -1,0 +1,2 @@
+-- The loops of the rows.
+pub mod Loops

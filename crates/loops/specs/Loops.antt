@@ -1,0 +1,61 @@
+-- The loops of the rows in row order, by their head rows.
+use mathlib.Core.Path.{_≡_}
+use mathlib.Core.Bool.{Bool, true, false, cond}
+use mathlib.Core.List.{List, [], _∷_}
+use Prim.Native.Nat.{ℕ, suc, _+_, _≤_}
+use lib.ListN.{length, getD, set, take}
+use Rattle.rules.specs.declared.Kind.{Kind}
+use Rattle.rules.specs.declared.Kind.the-variants.{Set, Move, Cue, Pick, Else, End, While, Do, For}
+use Rattle.rules.specs.declared.Row.{Row}
+use Rattle.rules.specs.Blocks.{kindsOf}
+use Rattle.rules.specs.Figures.{Line}
+use Rattle.rules.specs.Nesting.{nest, nestRows}
+use Rattle.loops.specs.declared.Loops.{Loops}
+
+abbrev pub isLoop : Kind → Bool
+isLoop (Set v x) = false
+isLoop (Move v c) = false
+isLoop (Cue n) = false
+isLoop Pick = false
+isLoop Else = false
+isLoop End = false
+isLoop (While v c x) = true
+isLoop (Do v c x) = true
+isLoop (For v y c x d) = true
+
+-- the head rows from row i on
+unfoldable pub headsFrom : ℕ → List Kind → List ℕ
+headsFrom i [] = []
+headsFrom i (k ∷ ks) = cond (isLoop k) (i ∷ headsFrom (suc i) ks) (headsFrom (suc i) ks)
+
+abbrev pub headsOf : List Kind → List ℕ
+headsOf rows = headsFrom 0 rows
+
+-- a number for each
+unfoldable pub mapped : (ℕ → ℕ) → List ℕ → List ℕ
+mapped f [] = []
+mapped f (p ∷ ps) = f p ∷ mapped f ps
+
+-- row p is listed, if it is a loop's head
+abbrev pub withRow : Bool → ℕ → ℕ → ℕ → Loops → Loops
+withRow true p a m l = record { count = l .count + 1; rows = set (l .rows) (l .count) p; all = set (l .all) (l .count) a; most = set (l .most) (l .count) m }
+withRow false p a m l = l
+
+-- rows that pass the questions 6 and 7, and counts for each row
+pub record Listable (rows : List Row) (count : ℕ) (all most : List ℕ) : Type 0 where
+  pub size : count ≤ 256
+  pub closed : (n : ℕ) × (nestRows (take count (kindsOf rows)) (record { open-blocks = []; loops = 0 }) ≡ nest [] n)
+  pub long : (256 ≤ length all) × (256 ≤ length most)
+
+-- the loops with their counts
+pub record Listed (rows : List Kind) (all most : List ℕ) (l : Loops) : Type 0 where
+  pub few : l .count ≤ 16
+  pub number : l .count ≡ length (headsOf rows)
+  pub heads : take (l .count) (l .rows) ≡ headsOf rows
+  pub sums : take (l .count) (l .all) ≡ mapped (λ p. getD all p 0) (headsOf rows)
+  pub mosts : take (l .count) (l .most) ≡ mapped (λ p. getD most p 0) (headsOf rows)
+
+-- the head rows of the report's lines
+unfoldable pub lineRows : List Line → List ℕ
+lineRows [] = []
+lineRows (l ∷ ls) = l .row ∷ lineRows ls

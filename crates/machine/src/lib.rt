@@ -1,0 +1,110 @@
+// The run of a script as a machine over its rows: one row a step, at most one tick a step.
+use actions::Machine;
+use rules::Comparison;
+use rules::Kind;
+use rules::Operand;
+use rules::Row;
+ghost use mathlib.Core.List.{List};
+ghost use Prim.Native.Nat.{ℕ};
+ghost use lib.ListN.{length};
+ghost use Rattle.rules.specs.declared.Kind.{Kind};
+ghost use Rattle.rules.specs.Figures.{ones};
+ghost use Rattle.rules.specs.RowMachine.{onEnd, onRow};
+ghost use Rattle.rules.specs.Scripts.{OperandBelow};
+ghost use Rattle.actions.specs.States.{forTo, phaseOf, tallyOf, Acts, Steps, Testable, Doable, Fitting};
+
+// The `end` of the block that row h begins: a loop's step and test.
+fn end_row(
+    m: Machine,
+    head: Row,
+    h: usize,
+    store: &mut [i32],
+    turns: &mut [u64],
+    all: &mut [u64],
+    most: &mut [u64],
+) -> Machine
+    requires { ⌜ Doable (m .row) h (head .kind) (now store) (now turns) (now all) (now most) ⌝ }
+    ensures { λ r. ⌜ ((rows : List Kind) (shut opener : ℕ → ℕ) → Acts m r (now (store .entry)) (now (store .exit)) (tallyOf (now (turns .entry)) (now (all .entry)) (now (most .entry))) (tallyOf (now (turns .exit)) (now (all .exit)) (now (most .exit))) (onEnd ones rows shut opener (head .kind) h (m .row) (phaseOf (m .testing)))) ⌝ }
+{
+    let kind = head.kind;
+    let e = m.row;
+    match kind {
+        Kind::End => actions::on(m, m.left, e + 1, false),
+        Kind::Else => actions::on(m, m.left, e + 1, false),
+        Kind::Pick => actions::on(m, m.left, e + 1, false),
+        Kind::Set(_, _) => actions::on(m, m.left, e + 1, false),
+        Kind::Move(_, _) => actions::on(m, m.left, e + 1, false),
+        Kind::Cue(_) => actions::on(m, m.left, e + 1, false),
+        Kind::While(v, c, x) => actions::test_row(m, h, e, v, c, x, store, turns, all, most),
+        Kind::Do(v, c, x) => actions::test_row(m, h, e, v, c, x, store, turns, all, most),
+        Kind::For(v, _, c, x, change) => {
+            if m.testing {
+                actions::test_row(m, h, e, v, c, x, store, turns, all, most)
+            } else {
+                actions::move_row(m, h, v, change, e, true, store)
+            }
+        }
+    }
+}
+
+// A for's head: its start, and its first test.
+fn for_row(
+    m: Machine,
+    e: usize,
+    v: u8,
+    y: Operand,
+    c: Comparison,
+    x: Operand,
+    store: &mut [i32],
+    turns: &mut [u64],
+    all: &mut [u64],
+    most: &mut [u64],
+) -> Machine
+    requires { ⌜ Testable (m .row) e v x (now store) (now turns) (now all) (now most) × OperandBelow (length (now store)) y ⌝ }
+    ensures { λ r. ⌜ Acts m r (now (store .entry)) (now (store .exit)) (tallyOf (now (turns .entry)) (now (all .entry)) (now (most .entry))) (tallyOf (now (turns .exit)) (now (all .exit)) (now (most .exit))) (forTo (m .row) e v y c x (m .testing)) ⌝ }
+{
+    let h = m.row;
+    if m.testing {
+        return actions::test_row(m, h, e, v, c, x, store, turns, all, most);
+    }
+    turns[h] = 0;
+    actions::set_row(m, h, v, y, h, true, store)
+}
+
+// One row: `e` closes the block that it begins, or it closes the block that row h, `head`, begins.
+pub fn step(
+    m: Machine,
+    row: Row,
+    e: usize,
+    head: Row,
+    h: usize,
+    store: &mut [i32],
+    picks: &[u8],
+    turns: &mut [u64],
+    all: &mut [u64],
+    most: &mut [u64],
+) -> Machine
+    requires { ⌜ Doable e (m .row) (row .kind) (now store) (now turns) (now all) (now most) × Doable (m .row) h (head .kind) (now store) (now turns) (now all) (now most) ⌝ }
+    ensures { λ r. ⌜ ((rows : List Kind) (shut opener : ℕ → ℕ) → Fitting rows shut opener (m .row) e h (head .kind) → Steps m r (now (store .entry)) (now (store .exit)) (now (picks .entry)) (tallyOf (now (turns .entry)) (now (all .entry)) (now (most .entry))) (tallyOf (now (turns .exit)) (now (all .exit)) (now (most .exit))) (onRow ones rows shut opener (row .kind) (m .row) (phaseOf (m .testing)))) ⌝ }
+{
+    let kind = row.kind;
+    let i = m.row;
+    match kind {
+        Kind::End => end_row(m, head, h, store, turns, all, most),
+        Kind::Else => actions::on(m, m.left, e + 1, false),
+        Kind::Pick => actions::pick_row(m, e + 1, picks),
+        Kind::Set(v, x) => actions::set_row(m, i, v, x, i + 1, false, store),
+        Kind::Move(v, change) => actions::move_row(m, i, v, change, i + 1, false, store),
+        Kind::Cue(_) => actions::cue_row(m),
+        Kind::While(v, c, x) => {
+            turns[i] = 0;
+            actions::test_row(m, i, e, v, c, x, store, turns, all, most)
+        }
+        Kind::Do(_, _, _) => {
+            turns[i] = 0;
+            actions::count_turn(i, turns, all, most);
+            actions::on(m, m.left, i + 1, false)
+        }
+        Kind::For(v, y, c, x, _) => for_row(m, e, v, y, c, x, store, turns, all, most),
+    }
+}

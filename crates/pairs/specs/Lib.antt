@@ -1,0 +1,2 @@
+-- What the tables of partner rows mean.
+pub mod Tables

@@ -1,0 +1,287 @@
+-- The loop over the steps of the machine: what a step keeps, and what falls. Assumes nothing.
+use mathlib.Core.Path.{_≡_, refl, sym, _∙_, ap, subst}
+use mathlib.Core.Bool.{Bool, true, false, cond}
+use mathlib.Core.List.{List, [], _∷_}
+use Prim.Native.Nat.{ℕ, zero, suc, _≤_, _<_}
+use native.Mathlib.Omega.{arith}
+use lib.Dec.{T, eqb, eqb→eq}
+use lib.ListN.{length, getD, take}
+use lib.IntN.{ℤ}
+use Rattle.rules.specs.declared.Kind.{Kind}
+use Rattle.rules.specs.declared.Kind.the-variants.{Set, Move, Cue, Pick, Else, End, While, Do, For}
+use Rattle.rules.specs.declared.Row.{Row}
+use Rattle.rules.specs.declared.Ending.{Ending}
+use Rattle.rules.specs.declared.Ending.the-variants.{Ended}
+use Rattle.rules.specs.Values.{put}
+use Rattle.rules.specs.Blocks.{Test, kindsOf}
+use Rattle.rules.specs.Figures.{Prices, ones}
+use Rattle.rules.specs.Run.{State, Out, go, halt, holds}
+use Rattle.rules.specs.RowMachine.{Tally, begin, turn, Phase, fresh, testing, Place, Next, more, over, to, chosen, outcome, paid, picked, tests, onEnd, onRow, next, steps, Partners, pairs, rank}
+use Rattle.rules.specs.Scripts.{All, some, RowLimits, RowBelow}
+use Rattle.rules.proofs.RowSimulation.{falls-more, next-row, next-past}
+use Rattle.rules.proofs.Pairing.{partners, pairs-in}
+use Rattle.rules.proofs.Nesting.{tree-of}
+use Rattle.rules.proofs.Laws.{kinds-first, kind-of}
+use Rattle.pairs.specs.declared.Tables.{Tables}
+use Rattle.pairs.specs.Tables.{tableOf, Found}
+use Rattle.rules.specs.Nesting.{nest, nestRows}
+use Rattle.actions.specs.declared.Machine.{Machine}
+use Rattle.actions.specs.declared.Status.{Status}
+use Rattle.actions.specs.declared.Status.the-variants.{Going, Over}
+use Rattle.actions.specs.States.{phaseOf, stateOf, placeOf, tallyOf, byStatus, nextOf, isGoing, overAt, Room, Doable, Fitting, Steps}
+use Rattle.runner.specs.Runs.{Roomy, roomy-over, roomy-more, Ready, Finished}
+
+-- every element by its index
+pub all-index : {A : Type 0} {Q : A → Type 0} (l : List A) (i : ℕ) (d : A) → All Q l → i < length l → Q (getD l i d)
+all-index [] i d h l = absurd (omega arith)
+all-index (x ∷ xs) zero d (some q h) l = q
+all-index (x ∷ xs) (suc i) d (some q h) l = all-index xs i d h (omega arith)
+
+-- ---- a step adds at most one turn to each count
+data Near (c : Tally) : Next → Type 0 where
+  near-over : {e : Ending} {i : ℕ} {s : State} {d : Tally} → Near c (over e i s d)
+  near-more : {m : Place} → ((p : ℕ) → (m .tally .turns p ≤ suc (c .turns p)) × (m .tally .sum p ≤ suc (c .sum p))) → Near c (more m)
+
+-- a tally that is not above c
+data Less (c : Tally) (d : Tally) : Type 0 where
+  less : ((p : ℕ) → (d .turns p ≤ c .turns p) × (d .sum p ≤ c .sum p)) → Less c d
+
+less-same : (c : Tally) → Less c c
+less-same c = less λ p. (omega arith, omega arith)
+
+put-less : (f : ℕ → ℕ) (h p : ℕ) → put f h 0 p ≤ f p
+put-less f h p = by (eqb p h)
+  where
+    by : (b : Bool) → cond b 0 (f p) ≤ f p
+    by true = omega arith
+    by false = omega arith
+
+less-begin : (h : ℕ) (c : Tally) → Less c (begin h c)
+unfolding begin
+less-begin h c = less λ p. (put-less (c .turns) h p, omega arith)
+
+-- one more at h
+put-one : (f : ℕ → ℕ) (h p : ℕ) → put f h (suc (f h)) p ≤ suc (f p)
+put-one f h p = by (eqb p h) (eqb→eq p h)
+  where
+    by : (b : Bool) → (T b → p ≡ h) → cond b (suc (f h)) (f p) ≤ suc (f p)
+    by true q = omega (arith, ap f (q tt))
+    by false q = omega arith
+
+module _ {c d : Tally} where
+  near-to : (j : ℕ) (ph : Phase) (s : State) → Less c d → Near c (to j ph s d)
+  near-to j ph s (less f) = near-more {m = record { row = j; phase = ph; now = s; tally = d }} λ p. let (a, b) = f p in (omega arith, omega arith)
+
+  near-turn : (j h : ℕ) (ph : Phase) (s : State) → Less c d → Near c (to j ph s (turn h d))
+  unfolding turn
+  near-turn j h ph s (less f) = near-more {m = record { row = j; phase = ph; now = s; tally = turn h d }} λ p. let (a, b) = f p in (omega (arith, put-one (d .turns) h p), omega (arith, put-one (d .sum) h p))
+
+near-chosen : {c : Tally} (b : Bool) {x y : Next} → Near c x → Near c y → Near c (chosen b x y)
+unfolding chosen
+near-chosen true f g = f
+near-chosen false f g = g
+
+module _ (π : Prices) where
+  near-tests : {c d : Tally} (h e : ℕ) (t : Test) (s : State) → Less c d → Near c (tests π h e t s d)
+  unfolding tests paid
+  near-tests h e t s l = near-chosen _ (near-chosen (holds t (s .store)) (near-turn _ _ _ _ l) (near-to _ _ _ l)) near-over
+
+  near-outcome : {c d : Tally} (o : Out) (j : ℕ) (ph : Phase) → Less c d → Near c (outcome o d (λ u. to j ph u d))
+  unfolding outcome
+  near-outcome (go s es) j ph l = near-to j ph s l
+  near-outcome (halt e i s es) j ph l = near-over
+
+  near-picked : (i j : ℕ) (l : List ℕ) (s : State) (c : Tally) → Near c (picked i j l s c)
+  unfolding picked
+  near-picked i j [] s c = near-over
+  near-picked i j (x ∷ xs) s c = near-chosen (eqb x 0) (near-to _ _ _ (less-same c)) (near-to _ _ _ (less-same c))
+
+  module _ (rows : List Kind) (shut opener : ℕ → ℕ) where
+    near-end : (r : Kind) (h e : ℕ) (ph : Phase) (s : State) (c : Tally) → Near c (onEnd π rows shut opener r h e ph s c)
+    unfolding onEnd
+    near-end (Set v x) h e ph s c = near-to _ _ _ (less-same c)
+    near-end (Move v d) h e ph s c = near-to _ _ _ (less-same c)
+    near-end (Cue n) h e ph s c = near-to _ _ _ (less-same c)
+    near-end Pick h e ph s c = near-to _ _ _ (less-same c)
+    near-end Else h e ph s c = near-to _ _ _ (less-same c)
+    near-end End h e ph s c = near-to _ _ _ (less-same c)
+    near-end (While v d x) h e ph s c = near-tests h e _ s (less-same c)
+    near-end (Do v d x) h e ph s c = near-tests h e _ s (less-same c)
+    near-end (For v y d x m) h e fresh s c = near-outcome _ _ _ (less-same c)
+    near-end (For v y d x m) h e testing s c = near-tests h e _ s (less-same c)
+
+    near-row : (r : Kind) (i : ℕ) (ph : Phase) (s : State) (c : Tally) → Near c (onRow π rows shut opener r i ph s c)
+    unfolding onRow paid
+    near-row (Set v x) i ph s c = near-outcome _ _ _ (less-same c)
+    near-row (Move v d) i ph s c = near-outcome _ _ _ (less-same c)
+    near-row (Cue n) i ph s c = near-outcome _ _ _ (less-same c)
+    near-row Pick i ph s c = near-chosen _ (near-picked i _ (s .picks) _ c) near-over
+    near-row Else i ph s c = near-to _ _ _ (less-same c)
+    near-row End i ph s c = near-end _ _ i ph s c
+    near-row (While v d x) i ph s c = near-tests i _ _ s (less-begin i c)
+    near-row (Do v d x) i ph s c = near-turn _ i _ s (less-begin i c)
+    near-row (For v y d x m) i fresh s c = near-outcome _ _ _ (less-begin i c)
+    near-row (For v y d x m) i testing s c = near-tests i _ _ s (less-same c)
+
+    near-next : (m : Place) → Near (m .tally) (next π rows shut opener m)
+    unfolding next
+    near-next m = near-chosen _ (near-row _ (m .row) (m .phase) (m .now) (m .tally)) near-over
+
+-- what falls
+abbrev pub weight : ℕ → Next → ℕ
+weight R (more m) = suc (rank R m)
+weight R (over e i s c) = 0
+
+module _ (rows : List Kind) (shut opener : ℕ → ℕ) where
+  abbrev R : ℕ
+  R = length rows
+
+  -- one step more
+  step-more : (n : ℕ) (a : Next) (m : Place) → steps ones rows shut opener n a ≡ more m → steps ones rows shut opener (suc n) a ≡ next ones rows shut opener m
+  unfolding steps
+  step-more zero a m e = ap (steps ones rows shut opener 1) e
+  step-more (suc n) (more p) m e = step-more n (next ones rows shut opener p) m e
+  step-more (suc n) (over f i s c) m e = absurd (let z : _≡_ {A = ℕ} 0 1 = cc in omega arith)
+
+  -- the state x is reached from the start, with room
+  pub record Held (start x : Next) : Type 0 where
+    pub n : ℕ
+    pub same : steps ones rows shut opener n start ≡ x
+    pub room : Roomy R x
+
+  held-start : (start : Next) → Roomy R start → Held start start
+  unfolding steps
+  held-start start r = record { n = 0; same = refl; room = r }
+
+  module _ (fit : Partners rows shut opener) where
+    roomy-next : (m : Place) (x : Next) → Roomy R (more m) → x ≡ next ones rows shut opener m → Roomy R x × (weight R x < suc (rank R m))
+    roomy-next m (over e i s c) r q = (roomy-over, omega arith)
+    roomy-next m (more m′) (roomy-more r) q =
+        let (_, l) = falls-more ones (omega arith) rows shut opener fit m m′ (sym q) in
+        (by (subst (Near (m .tally)) (sym q) (near-next ones rows shut opener m)) l, omega arith)
+      where
+        by : Near (m .tally) (more m′) → rank R m′ < rank R m → Roomy R (more m′)
+        by (near-more f) l = roomy-more {m = m′} λ p. let (a, b) = f p in let (u, v) = r p in (omega arith, omega arith)
+
+    held-next : (start : Next) (m : Place) (x : Next) → Held start (more m) → x ≡ next ones rows shut opener m → Held start x × (weight R x < suc (rank R m))
+    held-next start m x h q =
+        let (r, l) = roomy-next m x (h .room) q in
+        (record { n = suc (h .n); same = step-more (h .n) start m (h .same) ∙ sym q; room = r }, l)
+
+-- the tables that one pass finds
+pub partners-of : (rows : List Kind) (n : ℕ) → nestRows rows (record { open-blocks = []; loops = 0 }) ≡ nest [] n → (t : Tables) → Found rows t → Partners rows (tableOf (t .shut)) (tableOf (t .opener))
+partners-of rows n e t f =
+    let (tree, whole) = tree-of rows n e in
+    subst (λ g. Partners rows g (tableOf (t .opener))) (sym (f .shuts)) (subst (λ g. Partners rows (pairs rows (length rows) .shut) g) (sym (f .openers)) (partners rows tree whole))
+
+-- ---- the code's loop
+abbrev kinds : List Row → ℕ → List Kind
+kinds rows count = take count (kindsOf rows)
+
+-- what the loop keeps
+pub record Runs (rows : List Row) (count : ℕ) (t : Tables) (picks : List ℕ) (m₀ : Machine) (store₀ : List ℤ) (turns₀ all₀ most₀ : List ℕ) (m : Machine) (store : List ℤ) (turns all most : List ℕ) : Type 0 where
+  pub lengths : (length store ≡ length store₀) × (length turns ≡ length turns₀) × (length all ≡ length all₀) × (length most ≡ length most₀)
+  pub held : Held (kinds rows count) (tableOf (t .shut)) (tableOf (t .opener)) (nextOf m₀ store₀ picks (tallyOf turns₀ all₀ most₀)) (nextOf m store picks (tallyOf turns all most))
+  pub left : m .left ≤ m₀ .left
+  pub used : m .used ≤ length picks
+
+-- a machine that is going
+going-is : (s : Status) → isGoing s ≡ true → s ≡ Going
+going-is Going e = refl
+going-is (Over x i) e = absurd (let z : _≡_ {A = ℕ} 0 1 = cc in omega arith)
+
+module _ (rows : List Row) (count : ℕ) (t : Tables) (picks : List ℕ) (m₀ : Machine) (store₀ : List ℤ) (turns₀ all₀ most₀ : List ℕ) (full : length rows ≡ 256)
+    (ready : Ready rows count t m₀ store₀ picks turns₀ all₀ most₀) where
+  abbrev ks : List Kind
+  ks = kinds rows count
+
+  abbrev shut : ℕ → ℕ
+  shut = tableOf (t .shut)
+
+  abbrev opener : ℕ → ℕ
+  opener = tableOf (t .opener)
+
+  size-is : length ks ≡ count
+  size-is = kinds-first count rows (omega (arith, ready .size))
+
+  fit : Partners ks shut opener
+  fit = partners-of ks (ready .runs .closed .0) (ready .runs .closed .1) t (ready .found)
+
+  opener-in : (i : ℕ) → i < count → opener i < count
+  opener-in i l =
+      let e = size-is in
+      let q = pairs-in ks (omega arith) (length ks) (omega arith) in
+      subst (λ n. opener i < n) e (subst (λ (g : ℕ → ℕ). g i < length ks) (sym (ready .found .openers)) (q .opener-in i))
+
+  pub runs-start : Runs rows count t picks m₀ store₀ turns₀ all₀ most₀ m₀ store₀ turns₀ all₀ most₀
+  runs-start = record { lengths = (refl, refl, refl, refl); held = held-start ks shut opener _ (ready .room); left = omega arith; used = ready .used }
+
+  module _ (m : Machine) (store : List ℤ) (turns all most : List ℕ) (now : Runs rows count t picks m₀ store₀ turns₀ all₀ most₀ m store turns all most) (on : isGoing (m .status) ≡ true) where
+    abbrev here : Place
+    here = placeOf m store picks (tallyOf turns all most)
+
+    is-here : nextOf m store picks (tallyOf turns all most) ≡ more here
+    is-here = ap (λ z. byStatus z m store picks (tallyOf turns all most)) (going-is (m .status) on)
+
+    held-here : Held ks shut opener (nextOf m₀ store₀ picks (tallyOf turns₀ all₀ most₀)) (more here)
+    held-here = subst (λ x. Held ks shut opener (nextOf m₀ store₀ picks (tallyOf turns₀ all₀ most₀)) x) is-here (now .held)
+
+    room-here : Room turns all most
+    room-here = by (held-here .room)
+      where
+        by : Roomy (length ks) (more here) → Room turns all most
+        by (roomy-more f) =
+            let (a, b, c) = ready .long in
+            let (_, d, e, g) = now .lengths in
+            record { rows = (omega arith, omega arith, omega arith); turn = λ p. let (u, v) = f p in (omega arith, omega arith) }
+
+    pub doable : (j e : ℕ) → j < count → e < 256 → Doable e j (getD rows j (record { kind = End }) .kind) store turns all most
+    doable j e l k =
+        let n = size-is in
+        let q = kind-of count rows j l in
+        record {
+          rows = (omega (arith, ready .size), k);
+          limits = subst RowLimits q (all-index ks j End (ready .runs .limits) (omega arith));
+          below = subst (λ v. RowBelow v (getD rows j (record { kind = End }) .kind)) (sym (now .lengths .0)) (subst (RowBelow (length store₀)) q (all-index ks j End (ready .runs .below) (omega arith)));
+          room = room-here;
+        }
+
+    pub fitting : m .row < count → Fitting ks shut opener (m .row) (shut (m .row)) (opener (m .row)) (getD rows (opener (m .row)) (record { kind = End }) .kind)
+    fitting l = record { shuts = refl; opens = refl; kind = kind-of count rows (opener (m .row)) (opener-in (m .row) l) }
+
+    pub head-in : m .row < count → opener (m .row) < count
+    head-in l = opener-in (m .row) l
+
+    -- another state that is one step on
+    runs-on : (r : Machine) (store′ : List ℤ) (turns′ all′ most′ : List ℕ) → (length store′ ≡ length store) × (length turns′ ≡ length turns) × (length all′ ≡ length all) × (length most′ ≡ length most)
+        → nextOf r store′ picks (tallyOf turns′ all′ most′) ≡ next ones ks shut opener here → r .left ≤ m .left → r .used ≤ length picks
+        → Runs rows count t picks m₀ store₀ turns₀ all₀ most₀ r store′ turns′ all′ most′ × (weight (length ks) (nextOf r store′ picks (tallyOf turns′ all′ most′)) < weight (length ks) (nextOf m store picks (tallyOf turns all most)))
+    runs-on r store′ turns′ all′ most′ (a, b, c, d) q l u =
+        let (h, w) = held-next ks shut opener fit _ here _ held-here q in
+        let (a′, b′, c′, d′) = now .lengths in (
+          record { lengths = (a ∙ a′, b ∙ b′, c ∙ c′, d ∙ d′); held = h; left = omega (arith, now .left); used = u },
+          subst (λ x. weight (length ks) (nextOf r store′ picks (tallyOf turns′ all′ most′)) < weight (length ks) x) (sym is-here) w,
+        )
+
+    -- a row
+    pub runs-step : (r : Machine) (store′ : List ℤ) (turns′ all′ most′ : List ℕ) → (length store′ ≡ length store) × (length turns′ ≡ length turns) × (length all′ ≡ length all) × (length most′ ≡ length most)
+        → m .row < count
+        → Steps m r store store′ picks (tallyOf turns all most) (tallyOf turns′ all′ most′) (onRow ones ks shut opener (getD rows (m .row) (record { kind = End }) .kind) (m .row) (phaseOf (m .testing)))
+        → Runs rows count t picks m₀ store₀ turns₀ all₀ most₀ r store′ turns′ all′ most′ × (weight (length ks) (nextOf r store′ picks (tallyOf turns′ all′ most′)) < weight (length ks) (nextOf m store picks (tallyOf turns all most)))
+    runs-step r store′ turns′ all′ most′ same l s =
+        let n = size-is in
+        runs-on r store′ turns′ all′ most′ same (s .same ∙ sym (next-row ones ks shut opener (m .row) _ _ _ _ (omega arith) (kind-of count rows (m .row) l))) (s .left) (s .used (now .used))
+
+    -- past the last row
+    pub runs-past : count ≤ m .row
+        → Runs rows count t picks m₀ store₀ turns₀ all₀ most₀ (overAt m (m .left) Ended count) store turns all most
+        × (weight (length ks) (over Ended count (stateOf m store picks) (tallyOf turns all most)) < weight (length ks) (nextOf m store picks (tallyOf turns all most)))
+    runs-past l =
+        let n = size-is in
+        runs-on (overAt m (m .left) Ended count) store turns all most (refl, refl, refl, refl)
+        (sym (next-past ones ks shut opener (m .row) _ _ _ (omega arith) ∙ ap (λ k. over Ended k (stateOf m store picks) (tallyOf turns all most)) n)) (omega arith) (now .used)
+
+  -- it is over
+  pub runs-over : (m : Machine) (store : List ℤ) (turns all most : List ℕ) → Runs rows count t picks m₀ store₀ turns₀ all₀ most₀ m store turns all most → isGoing (m .status) ≡ false
+      → Finished ks t m₀ m store₀ store picks (tallyOf turns₀ all₀ most₀) (tallyOf turns all most)
+  runs-over m store turns all most now off = record { n = now .held .n; same = now .held .same; over = off; left = now .left; used = now .used }

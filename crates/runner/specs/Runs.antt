@@ -1,0 +1,48 @@
+-- What the loop over the machine's steps asks and ensures.
+use mathlib.Core.Path.{_≡_}
+use mathlib.Core.Bool.{false}
+use mathlib.Core.List.{List, []}
+use Prim.Native.Nat.{ℕ, _+_, _≤_, _<_, _^_}
+use lib.ListN.{length, take}
+use lib.IntN.{ℤ}
+use Rattle.rules.specs.declared.Kind.{Kind}
+use Rattle.rules.specs.declared.Row.{Row}
+use Rattle.rules.specs.declared.Ending.{Ending}
+use Rattle.rules.specs.Blocks.{kindsOf}
+use Rattle.rules.specs.Nesting.{nest, nestRows}
+use Rattle.rules.specs.Figures.{ones}
+use Rattle.rules.specs.Run.{State}
+use Rattle.rules.specs.RowMachine.{Tally, Place, Next, more, over, steps, rank}
+use Rattle.rules.specs.Scripts.{All, RowLimits, RowBelow}
+use Rattle.pairs.specs.declared.Tables.{Tables}
+use Rattle.pairs.specs.Tables.{tableOf, Found}
+use Rattle.actions.specs.declared.Machine.{Machine}
+use Rattle.actions.specs.States.{nextOf, tallyOf, isGoing}
+
+-- the questions 4 to 7 of rows over so many variables
+pub record Runnable (vars : ℕ) (rows : List Kind) : Type 0 where
+  pub limits : All RowLimits rows
+  pub below : All (RowBelow vars) rows
+  pub closed : (n : ℕ) × (nestRows rows (record { open-blocks = []; loops = 0 }) ≡ nest [] n)
+
+-- no count outgrows 64 bits on the way to the end
+pub data Roomy (R : ℕ) : Next → Type 0 where
+  roomy-over : {e : Ending} {i : ℕ} {s : State} {c : Tally} → Roomy R (over e i s c)
+  roomy-more : {m : Place} → ((p : ℕ) → (m .tally .turns p + rank R m < 2 ^ 63) × (m .tally .sum p + rank R m < 2 ^ 63)) → Roomy R (more m)
+
+-- the loop may begin
+pub record Ready (rows : List Row) (count : ℕ) (t : Tables) (m : Machine) (store : List ℤ) (picks turns all most : List ℕ) : Type 0 where
+  pub size : count ≤ 256
+  pub runs : Runnable (length store) (take count (kindsOf rows))
+  pub found : Found (take count (kindsOf rows)) t
+  pub long : (256 ≤ length turns) × (256 ≤ length all) × (256 ≤ length most)
+  pub room : Roomy (length (take count (kindsOf rows))) (nextOf m store picks (tallyOf turns all most))
+  pub used : m .used ≤ length picks
+
+-- some steps of `rules`' machine lead from m to r, and r is over
+pub record Finished (rows : List Kind) (t : Tables) (m r : Machine) (store store′ : List ℤ) (picks : List ℕ) (c c′ : Tally) : Type 0 where
+  pub n : ℕ
+  pub same : steps ones rows (tableOf (t .shut)) (tableOf (t .opener)) n (nextOf m store picks c) ≡ nextOf r store′ picks c′
+  pub over : isGoing (r .status) ≡ false
+  pub left : r .left ≤ m .left
+  pub used : r .used ≤ length picks

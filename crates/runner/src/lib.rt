@@ -1,0 +1,125 @@
+// The run of a script: the machine from its start to its end, and its answer.
+use actions::Machine;
+use actions::Status;
+use pairs::Tables;
+use rules::Ending;
+use rules::Row;
+ghost use mathlib.Core.Path.{_≡_};
+ghost use Prim.Native.Nat.{_≤_};
+ghost use lib.ListN.{length, take};
+ghost use Rattle.rules.specs.Blocks.{kindsOf};
+ghost use Rattle.actions.specs.States.{isGoing, tallyOf};
+ghost use Rattle.runner.specs.Runs.{Ready, Finished};
+ghost use Rattle.runner.specs.Answered.{Cleared, ranOf, runOf, Given, Answered};
+
+// Is the run still going?
+fn going(m: Machine) -> bool
+    ensures { λ r. ⌜ r ≡ isGoing (m .status) ⌝ }
+{
+    let status = m.status;
+    match status {
+        Status::Going => true,
+        Status::Over(_, _) => false,
+    }
+}
+
+// From a state on until the run is over. A run that is spent goes on from its last state with more ticks.
+pub fn resume(
+    rows: [Row; 256],
+    count: usize,
+    tables: Tables,
+    from: Machine,
+    store: &mut [i32],
+    picks: &[u8],
+    turns: &mut [u64],
+    all: &mut [u64],
+    most: &mut [u64],
+) -> Machine
+    requires { ⌜ Ready rows count tables from (now store) (now picks) (now turns) (now all) (now most) ⌝ }
+    ensures { λ r. ⌜ Finished (take count (kindsOf rows)) tables from r (now (store .entry)) (now (store .exit)) (now (picks .entry)) (tallyOf (now (turns .entry)) (now (all .entry)) (now (most .entry))) (tallyOf (now (turns .exit)) (now (all .exit)) (now (most .exit))) ⌝ }
+{
+    let mut m = from;
+    while going(m) {
+        let i = m.row;
+        if i < count {
+            let row = rows[i];
+            let e = tables.shut[i] as usize;
+            let h = tables.opener[i] as usize;
+            let head = rows[h];
+            m = machine::step(m, row, e, head, h, store, picks, turns, all, most);
+        } else {
+            m = actions::ended(m, m.left, Ending::Ended, count);
+        }
+    }
+    m
+}
+
+// All counts to 0.
+fn clear(counts: &mut [u64])
+    ensures { λ _. ⌜ Cleared (now (counts .exit)) ⌝ }
+{
+    let mut i = 0;
+    while i < counts.len() {
+        counts[i] = 0;
+        i += 1;
+    }
+}
+
+// What a run answers beside the store and the counts.
+pub struct Ran {
+    pub ending: Ending,
+    pub row: usize,
+    pub ticks: u64,
+    pub used: usize,
+}
+
+// The answer of a machine that is over, after `allowance` ticks less what is left.
+fn answer(m: Machine, allowance: u64) -> Ran
+    requires { ⌜ m .left ≤ allowance ⌝ }
+    ensures { λ r. ⌜ r ≡ ranOf m allowance ⌝ }
+{
+    let status = m.status;
+    match status {
+        Status::Going => Ran {
+            ending: Ending::Spent,
+            row: m.row,
+            ticks: allowance - m.left,
+            used: m.used,
+        },
+        Status::Over(e, i) => Ran {
+            ending: e,
+            row: i,
+            ticks: allowance - m.left,
+            used: m.used,
+        },
+    }
+}
+
+// The run of the first `count` rows: document 01's, with the turns of the loops by their head rows. `turns` is a scratch.
+pub fn run_rows(
+    rows: [Row; 256],
+    count: usize,
+    store: &mut [i32],
+    picks: &[u8],
+    allowance: u64,
+    turns: &mut [u64],
+    all: &mut [u64],
+    most: &mut [u64],
+) -> Ran
+    requires { ⌜ Given rows count (now store) allowance (now turns) (now all) (now most) ⌝ }
+    ensures { λ r. ⌜ Answered (runOf (take count (kindsOf rows)) (now (store .entry)) (now (picks .entry)) allowance) r (length (now (store .entry))) (now (store .exit)) (now (all .exit)) (now (most .exit)) ⌝ }
+{
+    clear(turns);
+    clear(all);
+    clear(most);
+    let tables = pairs::partners(rows, count);
+    let start = Machine {
+        row: 0,
+        testing: false,
+        left: allowance,
+        used: 0,
+        status: Status::Going,
+    };
+    let end = resume(rows, count, tables, start, store, picks, turns, all, most);
+    answer(end, allowance)
+}

@@ -1,0 +1,65 @@
+// Arithmetic on one value: operands, arithmetic rows, comparisons, limits.
+use rules::Change;
+use rules::Comparison;
+use rules::Operand;
+ghost use mathlib.Core.Path.{_≡_};
+ghost use Prim.Native.Nat.{_≤_};
+ghost use lib.ListN.{length};
+ghost use Rattle.rules.specs.Values.{value, quotient, applied, compares, inLimits};
+ghost use Rattle.rules.specs.Scripts.{storeOf, OperandBelow, ChangeLimits};
+
+// The value of an operand.
+pub fn value_of(x: Operand, store: &[i32]) -> i32
+    requires { ⌜ OperandBelow (length (now store)) x ⌝ }
+    ensures { λ r. ⌜ r ≡ value x (storeOf (now (store .entry))) ⌝ }
+{
+    match x {
+        Operand::Constant(k) => k,
+        Operand::Variable(w) => {
+            let at = w as usize;
+            store[at]
+        }
+    }
+}
+
+// The quotient of a `div` row.
+fn quotient_of(x: i32, c: u32) -> i64
+    requires { ⌜ 1 ≤ c ⌝ }
+    ensures { λ r. ⌜ r ≡ quotient x c ⌝ }
+{
+    x as i64 / c as i64
+}
+
+// An arithmetic row, applied to a value.
+pub fn changed(change: Change, x: i32) -> i64
+    requires { ⌜ ChangeLimits change ⌝ }
+    ensures { λ r. ⌜ r ≡ applied change x ⌝ }
+{
+    match change {
+        Change::Add(c) => x as i64 + c as i64,
+        Change::Sub(c) => x as i64 - c as i64,
+        Change::Mul(c) => x as i64 * c as i64,
+        Change::Div(c) => quotient_of(x, c),
+    }
+}
+
+// Does a comparison hold?
+pub fn holds(comparison: Comparison, x: i32, y: i32) -> bool
+    ensures { λ r. ⌜ r ≡ compares comparison x y ⌝ }
+{
+    match comparison {
+        Comparison::Less => x < y,
+        Comparison::AtMost => x <= y,
+        Comparison::Greater => x > y,
+        Comparison::AtLeast => x >= y,
+        Comparison::Equal => x == y,
+        Comparison::Different => x != y,
+    }
+}
+
+// Is a result within −L and L?
+pub fn within_limits(z: i64) -> bool
+    ensures { λ r. ⌜ r ≡ inLimits z ⌝ }
+{
+    -1_000_000_000 <= z && z <= 1_000_000_000
+}
