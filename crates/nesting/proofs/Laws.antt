@@ -9,7 +9,7 @@ use lib.Dec.{ltb}
 use lib.ListN.{length, getD, set}
 use lib.Seq.{getD-set-same, getD-set-other}
 use borrow.Author.Tests.{lt-ltb, le-ltb}
-use Rattle.rules.specs.Nesting.{in-loop, in-pick, wrong, nest, opens, elses, ends}
+use Rattle.rules.specs.Nesting.{in-loop, in-pick, in-else, wrong, nest, opens, elses, ends}
 use Rattle.rules.specs.File.{asksClosed}
 use Rattle.nesting.specs.declared.Blocks.{Blocks}
 use Rattle.nesting.specs.Open.{openOf, openBlocks, nestOf}
@@ -59,14 +59,14 @@ module _ (d n : ℕ) (kinds : List ℕ) where
       no false = refl
 
 -- an else in a pick, and anywhere else
-pub else-fits : (d n : ℕ) (kinds : List ℕ) → (d ≡ 0 → ⊥) → d ≤ length kinds → getD kinds (d - 1) 0 ≡ 2
-    → nest (openBlocks d (set kinds (d - 1) 3)) n ≡ elses (openBlocks d kinds) n
+pub else-fits : (d n k : ℕ) (kinds : List ℕ) → (d ≡ 0 → ⊥) → d ≤ length kinds → getD kinds (d - 1) 0 ≡ 2 → openOf k ≡ in-else
+    → nest (openBlocks d (set kinds (d - 1) k)) n ≡ elses (openBlocks d kinds) n
 unfolding elses openOf openBlocks
-else-fits zero n kinds z h e = absurd (z refl)
-else-fits (suc d) n kinds z h e =
+else-fits zero n k kinds z h e i = absurd (z refl)
+else-fits (suc d) n k kinds z h e i =
     let s : suc d - 1 ≡ d = omega arith in
     let f : getD kinds d 0 ≡ 2 = rw s at e in
-    rw (s, open-next d 3 kinds h, f)
+    rw (s, open-next d k kinds h, i, f)
 
 pub else-wrong : (d n : ℕ) (kinds : List ℕ) → (getD kinds (d - 1) 0 ≡ 2 → ⊥) → wrong 6 ≡ elses (openBlocks d kinds) n
 unfolding elses openOf openBlocks

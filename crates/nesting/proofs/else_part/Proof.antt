@@ -2,9 +2,9 @@
 use lib.ListN.{length}
 use native.Mathlib.Omega.{arith}
 use borrow.Author.Needs.{needs}
-use mathlib.Core.Path.{_≡_}
+use mathlib.Core.Path.{_≡_, refl}
 use Rattle.rules.specs.Nesting.{elses}
-use Rattle.nesting.specs.Open.{nestOf, nestedOf}
+use Rattle.nesting.specs.Open.{openOf, nestOf, nestedOf}
 use Rattle.nesting.proofs.Laws.{else-fits, else-wrong, none-open}
 use Rattle.nesting.proofs.else_part.Statement.{statement}
 use Rattle.nesting.proofs.else_part.Tie as tie
@@ -14,11 +14,11 @@ unfolding nestedOf nestOf elses
 returns c = let b = c .before .before .args .b in (rw (none-open (b .depth) (b .kinds) (c .if1 .taken)), search needs)
 
 returns-2 : tie.Need-returns-2
-unfolding nestedOf nestOf
+unfolding nestedOf nestOf openOf
 returns-2 c =
     let b = c .before .before .before .args .b in
     let l : length (b .kinds) ≡ 8 = search needs in
-    (else-fits (b .depth) (b .loops) (b .kinds) (c .before .if1 .left) (omega arith) (c .if2 .taken), search needs)
+    (else-fits (b .depth) (b .loops) _ (b .kinds) (c .before .if1 .left) (omega arith) (c .if2 .taken) refl, search needs)
 
 returns-3 : tie.Need-returns-3
 unfolding nestedOf nestOf
