@@ -1,2 +1,3 @@
 -- Laws of the words of a line.
 pub mod Laws
+pub mod Cut

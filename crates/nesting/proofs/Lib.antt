@@ -1,0 +1,2 @@
+-- Laws of the open blocks.
+pub mod Laws

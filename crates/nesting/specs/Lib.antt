@@ -1,0 +1,2 @@
+-- What the contracts on open blocks cite.
+pub mod Open
