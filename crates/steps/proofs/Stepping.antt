@@ -56,11 +56,11 @@ module _ (rows : List Row) (count at v : ℕ) where
 
       pub closed : i < count → shapeOf (kindAt rows i) ≡ Shape.Close → Walked rows count at i s (step v) × Ends (i - at) s
       unfolding stepFrom
-      closed l h = (at-close rows count (steps v) at still (λ x. refl) (k .walk) l (r .built) h, k .ends)
+      closed l h = (at-close rows count (steps v) at still refl (k .walk) l (r .built) h, k .ends)
 
       pub ended : count ≤ i → Walked rows count at i s (step v) × Ends (i - at) s
       unfolding stepFrom
-      ended l = (at-last rows count (steps v) at still (λ x. refl) (k .walk) (r .built) l, k .ends)
+      ended l = (at-last rows count (steps v) at still refl (k .walk) (r .built) l, k .ends)
 
       module _ (l : i < count) where
         pub row-room : Ends 512 (rowStep v (plainOf (kindAt rows i)))

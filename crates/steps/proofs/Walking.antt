@@ -56,9 +56,9 @@ module _ (rows : List Row) (count : ℕ) where
           record { low = omega arith; high = omega arith; value = k .value ∙ ap (f x) (t .block) ∙ g _; place = k .place ∙ t .end }
 
     -- the walk is over: x is the answer, and i the row that closes the block
-    module _ (none : (x : A) → f x done ≡ x) {i : ℕ} {x : A} (k : Walking i x) where
+    module _ {i : ℕ} {x : A} (none : f x done ≡ x) (k : Walking i x) where
       stopped : ClosedAt rows count i → Walked rows count at i x (f x₀)
-      stopped t = record { value = sym (k .value ∙ ap (f x) (t .block) ∙ none x); place = sym (k .place ∙ t .end); low = k .low; high = k .high }
+      stopped t = record { value = sym (k .value ∙ ap (f x) (t .block) ∙ none); place = sym (k .place ∙ t .end); low = k .low; high = k .high }
 
       pub at-close : i < count → Whole rows count → shapeOf (kindAt rows i) ≡ Shape.Close → Walked rows count at i x (f x₀)
       at-close l built h = stopped (law-at i l built Shape.Close h)

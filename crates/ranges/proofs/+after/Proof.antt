@@ -104,11 +104,11 @@ loop-again-3 t c =
 
 returns : (t : ℕ) → lts.Need-returns (given t) (here t) after.Post Inv μ
 unfolding model.after
-returns t c = at-close _ _ _ _ _ (λ x. refl) (c .before .before .before .before .before .loop .inv) (c .before .before .before .before .loop-test .taken) (c .before .before .before .before .before .before .pre .1 .built) (sym (c .before .before .shape-of .ensures) ∙ c .enum-told4 .given .1)
+returns t c = at-close _ _ _ _ _ refl (c .before .before .before .before .before .loop .inv) (c .before .before .before .before .loop-test .taken) (c .before .before .before .before .before .before .pre .1 .built) (sym (c .before .before .shape-of .ensures) ∙ c .enum-told4 .given .1)
 
 returns-2 : (t : ℕ) → lts.Need-returns-2 (given t) (here t) after.Post Inv μ
 unfolding model.after
-returns-2 t c = at-last _ _ _ _ _ (λ x. refl) (c .before .loop .inv) (c .before .before .pre .1 .built) (c .loop-test .left)
+returns-2 t c = at-last _ _ _ _ _ refl (c .before .loop .inv) (c .before .before .pre .1 .built) (c .loop-test .left)
 
 pub +after-spec : {M : Type 1} → statement M
 +after-spec = close μ-after λ t. lts.spec (given t)

@@ -103,10 +103,10 @@ loop-again-3 t c =
     (loop-row _ _ _ _ _ (c .before .before .before .before .before .before .before .before .before .loop .inv) (c .before .before .before .before .before .before .before .before .loop-test .taken) (c .before .before .before .before .before .before .before .before .before .before .pre .1 .built) (loop-1 t (c .before .before .before)) (from-loop _ _ _ (sym (c .before .before .before .before .before .before .shape-of .ensures) ∙ c .before .before .before .before .enum-told3 .given .1) _ _))
 
 returns : (t : ℕ) → lts.Need-returns (given t) (here t) assigned.Post Inv μ
-returns t c = at-close _ _ _ _ _ from-none (c .before .before .before .before .before .loop .inv) (c .before .before .before .before .loop-test .taken) (c .before .before .before .before .before .before .pre .1 .built) (sym (c .before .before .shape-of .ensures) ∙ c .enum-told4 .given .1)
+returns t c = at-close _ _ _ _ _ (from-none _) (c .before .before .before .before .before .loop .inv) (c .before .before .before .before .loop-test .taken) (c .before .before .before .before .before .before .pre .1 .built) (sym (c .before .before .shape-of .ensures) ∙ c .enum-told4 .given .1)
 
 returns-2 : (t : ℕ) → lts.Need-returns-2 (given t) (here t) assigned.Post Inv μ
-returns-2 t c = at-last _ _ _ _ _ from-none (c .before .loop .inv) (c .before .before .pre .1 .built) (c .loop-test .left)
+returns-2 t c = at-last _ _ _ _ _ (from-none _) (c .before .loop .inv) (c .before .before .pre .1 .built) (c .loop-test .left)
 
 pub +assigned-spec : {M : Type 1} → statement M
 +assigned-spec = close μ-assigned λ t. lts.spec (given t)

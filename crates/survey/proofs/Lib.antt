@@ -1,0 +1,4 @@
+-- The laws that belong to no one function.
+pub mod Folding
+pub mod Parts
+pub mod Going
