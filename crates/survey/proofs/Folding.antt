@@ -194,7 +194,7 @@ module _ (i : ℕ) (p : Plain) where
   lines-snoc (pick j e a b rest) o β = ap (λ l. lines o β a ++ (lines o β b ++ l)) (lines-snoc rest o _)
   lines-snoc (loop j e form test body rest) o β = ap (λ l. line o j form (atStart form test β) test body ∷ (lines (turns form (atStart form test β) test body * o) (inside form (atStart form test β) test body) body ++ l)) (lines-snoc rest o _)
 
-  count-snoc : (b : Block) → loopCount (snoc b i p) ≡ loopCount b
+  pub count-snoc : (b : Block) → loopCount (snoc b i p) ≡ loopCount b
   unfolding loopCount snoc
   count-snoc done = refl
   count-snoc (plain j q rest) = count-snoc rest

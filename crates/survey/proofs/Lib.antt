@@ -2,3 +2,8 @@
 pub mod Folding
 pub mod Parts
 pub mod Going
+pub mod Totals
+pub mod Verdicts
+pub mod Counts
+pub mod Legals
+pub mod Results

@@ -33,11 +33,13 @@ ghost use Rattle.rules.specs.Steps.{assigns};
 ghost use Rattle.rules.specs.Bounds.{FineOperand};
 ghost use Rattle.rules.specs.Ranges.{join, after};
 ghost use Rattle.rules.specs.Questions.{keeps};
+ghost use Rattle.rules.specs.Scripts.{scriptOf, Legal};
 ghost use Rattle.steps.specs.Tree.{kindAt, blockAt, Ready};
 ghost use Rattle.steps.specs.Sets.{setOf};
 ghost use Rattle.steps.specs.Body.{AtLoop};
 ghost use Rattle.ranges.specs.Env.{envOf};
 ghost use Rattle.survey.specs.Fold.{lineOf, linesOf, lastTicks, LoopOf, OverOf, Restarted, Lined, Closed, EndedAt, Walkable, Surveyed};
+ghost use Rattle.survey.specs.Whole.{FirstNo, BlankFrom, SurveyOf};
 
 // A loop's line of the report.
 pub struct Line {
@@ -346,4 +348,74 @@ fn walk(
         }
     }
     ended(t, i)
+}
+
+// The first question that has no, 0 for none, and its place.
+struct Refusal {
+    number: u32,
+    place: usize,
+}
+
+// 8 to 12 before 13; of 13 the first block before the file.
+fn first_no(t: Tally, count: usize) -> Refusal
+    ensures { λ r. ⌜ FirstNo t count r ⌝ }
+{
+    if t.number != 0 {
+        return Refusal {
+            number: t.number,
+            place: t.place,
+        };
+    }
+    if t.over < 256 {
+        return Refusal {
+            number: 13,
+            place: t.over,
+        };
+    }
+    if t.spent <= LIMIT {
+        return Refusal {
+            number: 0,
+            place: 0,
+        };
+    }
+    Refusal {
+        number: 13,
+        place: count,
+    }
+}
+
+// The questions 8 to 13 of a file (number 0: all have yes), and the report's figures.
+pub struct Figures {
+    pub number: u32,
+    pub place: usize,
+    pub ticks: u64,
+    pub loops: usize,
+    pub lines: [Line; 16],
+}
+
+// The first `count` rows and the first `vars` ranges of a script that has passed the questions 4 to 7.
+pub fn survey(rows: [Row; 256], count: usize, ranges: [[i32; 2]; 16], vars: usize) -> Figures
+    requires { ⌜ Legal (scriptOf ranges vars rows count) × (count ≤ 256) × BlankFrom vars ranges ⌝ }
+    ensures { λ r. ⌜ SurveyOf (scriptOf ranges vars rows count) count r ⌝ }
+{
+    let none = [NO_LINE; 16];
+    let empty = Tally {
+        number: 0,
+        place: 0,
+        over: 256,
+        spent: 0,
+        loops: 0,
+        lines: none,
+        next: 0,
+    };
+    let t = walk(rows, count, 0, ranges, 1, empty);
+    let no = first_no(t, count);
+    let lines = t.lines;
+    Figures {
+        number: no.number,
+        place: no.place,
+        ticks: t.spent,
+        loops: t.loops,
+        lines: lines,
+    }
 }
