@@ -18,11 +18,11 @@ use Rattle.steps.specs.Tree.{kindAt, blockAt, endAt, Whole, Ready, Walked, shap
 use Rattle.steps.specs.Body.{bodyAt}
 use Rattle.steps.proofs.Laws.{PickIs, LoopIs}
 use Rattle.steps.proofs.Walking.{Walking, begin, plain-row, pick-row, loop-row, at-close, at-last}
-use Rattle.ticks.specs.Capped.{capped}
+use Rattle.ticks.specs.Capped.{capped, overOf}
 use Rattle.turns.specs.Needs.{answer}
 use Rattle.survey.specs.declared.Tally.{Tally}
 use Rattle.survey.specs.declared.Turning.{Turning}
-use Rattle.survey.specs.Fold.{loopCount, cut, cuts, linesOf, overOf, State, folded, tallied, lastTicks, LoopOf, OverOf, Restarted, Lined, Closed, EndedAt, Walkable, Passed, Surveyed}
+use Rattle.survey.specs.Fold.{loopCount, cut, cuts, linesOf, State, folded, tallied, lastTicks, LoopOf, Restarted, Lined, Closed, EndedAt, Walkable, Passed, Surveyed}
 use Rattle.survey.proofs.Folding.{state-is, cap-lines, fold-none, fold-plain, fold-pick, fold-loop, pastPlain, pastPick, pastLoop, SameBody, same-body}
 
 -- what a walk over a block found, part by part, from a tally with these parts

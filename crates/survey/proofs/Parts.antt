@@ -1,12 +1,10 @@
 -- What the small functions find, in terms of the rules.
-use mathlib.Core.Path.{_≡_, refl, sym, ap, _∙_}
-use mathlib.Core.Bool.{Bool, true, false, _&&_}
+use mathlib.Core.Path.{_≡_, refl, ap}
+use mathlib.Core.Bool.{Bool, _&&_}
 use mathlib.Core.List.{List, [], _∷_, _++_}
-use Prim.Native.Nat.{ℕ, zero, suc, _+_, _≤_, _<_}
+use Prim.Native.Nat.{ℕ, zero, suc, _+_, _<_}
 use native.Mathlib.Omega.{arith}
 use native.Mathlib.Numerals.{add-one}
-use borrow.Author.Tests.{lt-ltb, le-ltb, le-leb, lt-leb}
-use lib.Dec.{leb}
 use lib.ListN.{length, take, set}
 use Rattle.rules.specs.declared.Comparison.{Comparison}
 use Rattle.rules.specs.declared.Step.{Step}
@@ -15,10 +13,9 @@ use Rattle.rules.specs.Steps.{step}
 use Rattle.rules.specs.Ranges.{Range, Env, single, bounds, edge, sort}
 use Rattle.rules.specs.Turns.{atTest, turnsOf, turns}
 use Rattle.rules.specs.Figures.{Line, even, isExact}
-use Rattle.rules.specs.Questions.{Verdict, passed, refused, andThen, asked, tickLimit, keeps, loopVerdict, ofLoop}
-use Rattle.ticks.specs.Capped.{capped}
+use Rattle.rules.specs.Questions.{keeps, loopVerdict, ofLoop}
 use Rattle.survey.specs.declared.Line as code
-use Rattle.survey.specs.Fold.{lineOf, lineList, overOf}
+use Rattle.survey.specs.Fold.{lineOf, lineList}
 
 -- ---- one loop
 module _ (form : Form) (ρ : Env) (test : Test) (body : Block) (st : Step) (keep : Bool) (c : Comparison) (s n : Range)
@@ -32,20 +29,6 @@ module _ (form : Form) (ρ : Env) (test : Test) (body : Block) (st : Step) (keep
 
   pub loop-exact : even st && (single s && single n) ≡ isExact ρ test body
   loop-exact = λ j. even (a j) && (single (p j) && single (q j))
-
--- ---- the first block over the limit
-module _ (over e ticks F : ℕ) (h : ticks ≡ capped F) where
-  pub over-kept : over < 256 → overOf over ≡ andThen (overOf over) (asked 13 e (leb F tickLimit) passed)
-  unfolding overOf andThen
-  over-kept l = rw (lt-ltb over 256 l)
-
-  pub over-none : 256 ≤ over → ticks ≤ 1_000_000_000_000 → overOf over ≡ andThen (overOf over) (asked 13 e (leb F tickLimit) passed)
-  unfolding overOf andThen asked tickLimit
-  over-none l k = rw (le-ltb over 256 l, le-leb F 1_000_000_000_000 (omega arith))
-
-  pub over-first : 256 ≤ over → 1_000_000_000_000 < ticks → e < 256 → overOf e ≡ andThen (overOf over) (asked 13 e (leb F tickLimit) passed)
-  unfolding overOf andThen asked tickLimit
-  over-first l k m = rw (le-ltb over 256 l, lt-ltb e 256 m, lt-leb F 1_000_000_000_000 (omega arith))
 
 -- ---- one line more
 line-next : (l : code.Line) (ls : List code.Line) (k : ℕ) → k < length ls → lineList (take (suc k) (set ls k l)) ≡ lineList (take k ls) ++ (lineOf l ∷ [])

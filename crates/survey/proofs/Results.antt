@@ -18,7 +18,8 @@ use Rattle.turns.specs.Needs.{answer}
 use Rattle.survey.specs.declared.Tally.{Tally}
 use Rattle.survey.specs.declared.Refusal.{Refusal}
 use Rattle.survey.specs.declared.Figures.{Figures}
-use Rattle.survey.specs.Fold.{loopCount, cuts, linesOf, overOf, tallied, Surveyed}
+use Rattle.ticks.specs.Capped.{overOf}
+use Rattle.survey.specs.Fold.{loopCount, cuts, linesOf, tallied, Surveyed}
 use Rattle.survey.specs.Whole.{BlankFrom, FirstNo, of-loop, of-block, of-file, none, SurveyOf}
 use Rattle.survey.proofs.Going.{Part, from-parts, part-of, refused-in}
 use Rattle.survey.proofs.Totals.{lines-true}

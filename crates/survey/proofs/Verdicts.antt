@@ -10,7 +10,7 @@ use Rattle.rules.specs.Ranges.{Env}
 use Rattle.rules.specs.Figures.{ones, ticks}
 use Rattle.rules.specs.Questions.{Verdict, passed, refused, andThen, asked, tickLimit, loopsVerdict, blocksVerdict, verdict}
 use Rattle.turns.specs.Needs.{answer}
-use Rattle.survey.specs.Fold.{overOf}
+use Rattle.ticks.specs.Capped.{overOf}
 
 module _ (count : ℕ) (ρ : Env) (b : Block) where
   pub verdict-loop : (n p : ℕ) → (n ≡ 0 → ⊥) → loopsVerdict ρ b ≡ refused n p → verdict ones count ρ b ≡ answer n p

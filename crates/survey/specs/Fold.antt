@@ -1,9 +1,7 @@
 -- The survey as one fold over a block: ranges, verdicts, ticks, lines. Ticks and totals stop just past the limit.
 use mathlib.Core.Path.{_≡_}
-use mathlib.Core.Bool.{Bool, cond}
 use mathlib.Core.List.{List, [], _∷_, _++_}
 use Prim.Native.Nat.{ℕ, zero, suc, _+_, _*_, _≤_, _<_}
-use lib.Dec.{ltb, leb}
 use lib.ListN.{length, take, set}
 use Rattle.rules.specs.declared.Row.{Row}
 use Rattle.rules.specs.declared.Kind.{Kind}
@@ -18,7 +16,7 @@ use Rattle.rules.specs.Questions.{Verdict, passed, refused, andThen, asked, tic
 use Rattle.steps.specs.Tree.{kindAt, blockAt, endAt, Ready, formOf, testOf}
 use Rattle.steps.specs.Sets.{setOf}
 use Rattle.steps.specs.Body.{bodyAt, EndsAt}
-use Rattle.ticks.specs.Capped.{capped}
+use Rattle.ticks.specs.Capped.{capped, overOf, OverOf}
 use Rattle.turns.specs.Needs.{answer}
 use Rattle.survey.specs.declared.Line as code
 use Rattle.survey.specs.declared.Tally.{Tally}
@@ -49,10 +47,6 @@ lineList (l ∷ ls) = lineOf l ∷ lineList ls
 
 abbrev pub linesOf : List code.Line → ℕ → List Line
 linesOf ls k = lineList (take k ls)
-
--- the first block over the limit, as a verdict; 256 and more: none
-unfoldable pub overOf : ℕ → Verdict
-overOf o = cond (ltb o 256) (refused 13 o) passed
 
 -- what the fold carries
 pub record State : Type 0 where
@@ -97,10 +91,6 @@ pub record LoopOf (rows : List Row) (count i : ℕ) (ρ : Env) (r : Turning) : T
   pub moves : r .step ≡ step (testOf (kindAt rows i) .tested) (bodyAt rows count i)
   pub sets : (w : ℕ) → setOf (r .set) w ≡ assigns w (bodyAt rows count i)
   pub ends : EndsAt rows count i (r .next)
-
--- one block more, of F ticks, that ends at row e
-pub record OverOf (over e ticks r : ℕ) : Type 0 where
-  pub value : (F : ℕ) → ticks ≡ capped F → overOf r ≡ andThen (overOf over) (asked 13 e (leb F tickLimit) passed)
 
 pub record Restarted (t : Tally) (spent : ℕ) (r : Tally) : Type 0 where
   pub value : (ρ : Env) → tallied r ρ ≡ record { env = ρ; verdict = passed; spent = spent; over = overOf (t .over); lines = linesOf (t .lines) (t .loops); loops = t .loops }

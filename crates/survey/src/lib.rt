@@ -19,6 +19,8 @@ use steps::body_step;
 use steps::has;
 use steps::past_else;
 use steps::shape_of;
+use ticks::LIMIT;
+use ticks::first_over;
 use ticks::loop_ticks;
 use ticks::plus;
 use ticks::times;
@@ -38,7 +40,7 @@ ghost use Rattle.steps.specs.Tree.{kindAt, blockAt, Ready};
 ghost use Rattle.steps.specs.Sets.{setOf};
 ghost use Rattle.steps.specs.Body.{AtLoop};
 ghost use Rattle.ranges.specs.Env.{envOf};
-ghost use Rattle.survey.specs.Fold.{lineOf, linesOf, lastTicks, LoopOf, OverOf, Restarted, Lined, Closed, EndedAt, Walkable, Surveyed};
+ghost use Rattle.survey.specs.Fold.{lineOf, linesOf, lastTicks, LoopOf, Restarted, Lined, Closed, EndedAt, Walkable, Surveyed};
 ghost use Rattle.survey.specs.Whole.{FirstNo, BlankFrom, SurveyOf};
 
 // A loop's line of the report.
@@ -136,19 +138,6 @@ fn after_pick(
     let mut e: usize = 0;
     let b = after(rows, count, second, r, &mut e);
     joined(a, b)
-}
-
-const LIMIT: u64 = 1_000_000_000_000;
-
-// The first `end` row over the limit of question 13, with a block of these ticks that ends at row e.
-fn first_over(over: usize, e: usize, ticks: u64) -> usize
-    requires { ⌜ e < 256 ⌝ }
-    ensures { λ r. ⌜ OverOf over e ticks r ⌝ }
-{
-    if over < 256 {
-        return over;
-    }
-    if ticks <= LIMIT { over } else { e }
 }
 
 fn larger(x: u64, y: u64) -> u64

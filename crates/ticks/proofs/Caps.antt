@@ -4,11 +4,12 @@ use mathlib.Core.Bool.{Bool, true, false}
 use Prim.Native.Nat.{ℕ, zero, suc, _+_, _*_, _≤_, _<_}
 use native.Mathlib.Nat.{mul-le-mul}
 use native.Mathlib.Omega.{arith}
-use borrow.Author.Tests.{leb-true, leb-false}
+use borrow.Author.Tests.{leb-true, leb-false, lt-ltb, le-ltb, le-leb, lt-leb}
 use lib.Dec.{leb}
 use Rattle.rules.specs.Blocks.{Form, while, do-while, for}
 use Rattle.rules.specs.Figures.{ones, loopTicks}
-use Rattle.ticks.specs.Capped.{capped, once}
+use Rattle.rules.specs.Questions.{passed, andThen, asked, tickLimit}
+use Rattle.ticks.specs.Capped.{capped, once, overOf}
 
 abbrev most : ℕ
 most = 1_000_000_000_001
@@ -43,3 +44,17 @@ pub once-small : (form : Form) → once form ≤ 2
 once-small while = omega arith
 once-small do-while = omega arith
 once-small (for x) = omega arith
+
+-- ---- the first block over the limit
+module _ (over e ticks F : ℕ) (h : ticks ≡ capped F) where
+  pub over-kept : over < 256 → overOf over ≡ andThen (overOf over) (asked 13 e (leb F tickLimit) passed)
+  unfolding overOf andThen
+  over-kept l = rw (lt-ltb over 256 l)
+
+  pub over-none : 256 ≤ over → ticks ≤ 1_000_000_000_000 → overOf over ≡ andThen (overOf over) (asked 13 e (leb F tickLimit) passed)
+  unfolding overOf andThen asked tickLimit
+  over-none l k = rw (le-ltb over 256 l, le-leb F 1_000_000_000_000 (omega arith))
+
+  pub over-first : 256 ≤ over → 1_000_000_000_000 < ticks → e < 256 → overOf e ≡ andThen (overOf over) (asked 13 e (leb F tickLimit) passed)
+  unfolding overOf andThen asked tickLimit
+  over-first l k m = rw (le-ltb over 256 l, lt-ltb e 256 m, lt-leb F 1_000_000_000_000 (omega arith))

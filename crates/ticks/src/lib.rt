@@ -1,10 +1,10 @@
-// Ticks: sums and products that stop just past the limit of question 13, and the ticks of a loop.
+// Ticks: sums and products that stop just past the limit of question 13, the ticks of a loop, the first block over the limit.
 use rules::Kind;
 ghost use mathlib.Core.Path.{_≡_};
-ghost use Prim.Native.Nat.{ℕ, _+_, _*_, _≤_};
+ghost use Prim.Native.Nat.{ℕ, _+_, _*_, _≤_, _<_};
 ghost use Rattle.rules.specs.Figures.{ones, loopTicks};
 ghost use Rattle.steps.specs.Tree.{formOf};
-ghost use Rattle.ticks.specs.Capped.{capped, once};
+ghost use Rattle.ticks.specs.Capped.{capped, once, OverOf};
 
 // The first number over the limit.
 pub const MOST: u64 = 1_000_000_000_001;
@@ -51,4 +51,18 @@ pub fn loop_ticks(kind: Kind, n: u64, b: u64) -> u64
 {
     let all = times(n, plus(b, 1));
     plus(all, besides(kind))
+}
+
+// The limit of question 13.
+pub const LIMIT: u64 = 1_000_000_000_000;
+
+// The first `end` row over the limit of question 13, with a block of these ticks that ends at row e.
+pub fn first_over(over: usize, e: usize, ticks: u64) -> usize
+    requires { ⌜ e < 256 ⌝ }
+    ensures { λ r. ⌜ OverOf over e ticks r ⌝ }
+{
+    if over < 256 {
+        return over;
+    }
+    if ticks <= LIMIT { over } else { e }
 }

@@ -352,7 +352,8 @@ pub fn ask(late: bool, step: Step, keeps: bool, comparison: Comparison, s: Span,
     if !known(step) {
         return refused(8);
     }
-    if !moving(step) {
+    let moves = moving(step);
+    if !moves {
         return refused(9);
     }
     if !keeps {

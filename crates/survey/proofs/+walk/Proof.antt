@@ -11,9 +11,9 @@ use Rattle.steps.specs.Body.{bodyAt}
 use Rattle.steps.proofs.Laws.{PickIs, LoopIs}
 use Rattle.steps.proofs.Walking.{ready, begin, pick-at, loop-at, at-close, at-last}
 use Rattle.ranges.specs.Env.{envOf}
-use Rattle.ticks.specs.Capped.{capped}
+use Rattle.ticks.specs.Capped.{capped, overOf}
 use Rattle.turns.specs.Needs.{answer}
-use Rattle.survey.specs.Fold.{loopCount, linesOf, overOf, tallied, lastTicks, LoopOf, Passed}
+use Rattle.survey.specs.Fold.{loopCount, linesOf, tallied, lastTicks, LoopOf, Passed}
 use Rattle.survey.proofs.Folding.{fold-none}
 use Rattle.survey.proofs.Going.{Part, from-parts, part-of, refused-in, closing, restart-walkable, lined-walkable, Going, go-plain, pick-room, pick-first, pick-second, go-pick, loop-room, loop-refused, body-refused, go-loop, last-small}
 use borrow.Fn.Kinds.{In}

@@ -50,13 +50,6 @@ counted c =
 while-turns-requires : tie.Need-while-turns-requires
 while-turns-requires c κs = let fe : SFits w64 (c .before .before .before .before .edge .result) = sfits-of (c .before .before .before .before .edge .ok) in rw (toZ-ofZ fe) (counted c)
 
-add-t44 : tie.Need-add-t44
-add-t44 c =
-    let k = c .before .before in
-    let fe : SFits w64 (c .before .before .before .before .before .before .edge .result) = sfits-of (c .before .before .before .before .before .before .edge .ok) in
-    let e = rw (toZ-ofZ fe) at (c .before .while-turns .ensures) in
-    omega (arith, turns-few (c .before .before .before .before .before .before .before .before .before .before .before .before .before .before .args .step) (sort (c .before .before .before .before .before .before .before .before .before .before .before .before .before .before .args .comparison)) (c .before .before .before .before .before .at-test .result) (c .before .before .before .before .whole .result) (c .before .before .before .before .before .before .edge .result) (counted k))
-
 returns-6 : tie.Need-returns-6
 returns-6 c =
     let more = accepted _ _ _ _ _ _ (sym (c .before .before .before .before .before .before .before .before .before .before .before .before .before .known .ensures) ∙ not-no (c .before .before .before .before .before .before .before .before .before .before .before .before .if1 .left)) (sym (c .before .before .before .before .before .before .before .before .before .before .before .moving .ensures) ∙ not-no (c .before .before .before .before .before .before .before .before .before .before .if2 .left)) (not-no (c .before .before .before .before .before .before .before .before .before .if3 .left)) (sym (c .before .before .before .before .before .before .before .before .suits .ensures) ∙ not-no (c .before .before .before .before .before .before .before .if4 .left)) _ _ _ (c .before .before .before .before .before .at-test .ensures .0) (c .before .before .before .before .whole .ensures .0) (toZ-ofZ (sfits-of (c .before .before .before .before .before .before .edge .ok)) ∙ c .before .before .before .before .before .before .edge .ensures .0) (sym (c .before .before .before .has-figure .ensures) ∙ not-no (c .before .before .if5 .left)) _ (c .before .while-turns .ensures) in
@@ -89,6 +82,10 @@ ask-spec =
     (λ c κs. search needs)
     returns-5
     while-turns-requires
-    add-t44
+    (λ c.
+    let k = c .before .before in
+    let fe : SFits w64 (c .before .before .before .before .before .before .edge .result) = sfits-of (c .before .before .before .before .before .before .edge .ok) in
+    let e = rw (toZ-ofZ fe) at (c .before .while-turns .ensures) in
+    omega (arith, turns-few (c .before .before .before .before .before .before .before .before .before .before .before .before .before .before .args .step) (sort (c .before .before .before .before .before .before .before .before .before .before .before .before .before .before .args .comparison)) (c .before .before .before .before .before .at-test .result) (c .before .before .before .before .whole .result) (c .before .before .before .before .before .before .edge .result) (counted k)))
     returns-6
     returns-7)

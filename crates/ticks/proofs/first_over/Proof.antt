@@ -1,8 +1,8 @@
--- `survey::first_over` meets its contract.
+-- `ticks::first_over` meets its contract.
 use borrow.Author.Needs.{needs}
-use Rattle.survey.proofs.Parts.{over-kept, over-none, over-first}
-use Rattle.survey.proofs.first_over.Statement.{statement}
-use Rattle.survey.proofs.first_over.Tie as tie
+use Rattle.ticks.proofs.Caps.{over-kept, over-none, over-first}
+use Rattle.ticks.proofs.first_over.Statement.{statement}
+use Rattle.ticks.proofs.first_over.Tie as tie
 
 returns : tie.Need-returns
 returns c = record { value = λ F h. over-kept _ _ _ F h (c .if1 .taken) }
