@@ -1,20 +1,20 @@
--- The array of ranges and the function that it stands for. Assumes nothing.
-use mathlib.Core.Path.{_≡_, refl, sym, ap, _∙_}
+-- The array of ranges and the function that it stands for.
+use mathlib.Core.Path.{_≡_, refl, sym}
 use mathlib.Core.Bool.{Bool, true, false, cond}
 use mathlib.Core.List.{List, [], _∷_}
 use Prim.Native.Nat.{ℕ, _+_, _≤_, _<_}
 use native.Mathlib.Omega.{arith}
-use borrow.Author.Tests.{eqb-true, eqb-false, ltb-true, ltb-false, lt-ltb, le-ltb, eq-eqb, ne-eqb}
+use borrow.Author.Tests.{eqb-true, eqb-false, ltb-true, ltb-false, lt-ltb, le-ltb}
 use lib.Dec.{eqb, ltb}
 use lib.IntN.{ℤ, pos}
-use lib.ListN.{length, getD, set, List·getD-eq-default}
+use lib.ListN.{length, set, List·getD-eq-default}
 use lib.Seq.{getD-set-same, getD-set-other}
 use Rattle.rules.specs.Values.{put}
 use Rattle.ints.specs.Ints.{minZ, maxZ}
 use Rattle.rules.specs.Ranges.{Range, Env, join, afterRow, sourceRange}
 use Rattle.rules.specs.declared.Change.{Change}
 use Rattle.rules.specs.Blocks.{assign, changed}
-use Rattle.ranges.specs.Env.{lowOf, highOf, envOf, upTo, joinRange, changedRange}
+use Rattle.ranges.specs.Env.{envOf, upTo, joinRange, changedRange}
 
 abbrev two : ℤ → ℤ → List ℤ
 two lo hi = lo ∷ (hi ∷ [])

@@ -1,4 +1,4 @@
--- A number of 32 bits and a constant of the rows: what is made of them fits 64 bits. Assumes nothing.
+-- A number of 32 bits and a constant of the rows: what is made of them fits 64 bits.
 use Prim.Native.Nat.{ℕ, _≤_}
 use native.Mathlib.Nat.{mul-le-mul}
 use lib.IntN.{ℤ, pos, _+ℤ_, _-ℤ_, _*ℤ_}

@@ -1,19 +1,19 @@
 -- What the tree is at a row of each shape: the laws of `rules` for the rows of an array.
-use mathlib.Core.Path.{_≡_, refl, sym, ap, _∙_}
+use mathlib.Core.Path.{_≡_, refl, sym, _∙_}
 use mathlib.Core.List.{List}
 use Prim.Native.Nat.{ℕ, suc, _+_, _≤_, _<_}
 use native.Mathlib.Omega.{arith}
 use native.Mathlib.Numerals.{add-one}
-use lib.ListN.{length, getD, take}
+use lib.ListN.{length}
 use lib.Seq.{getD-take}
 use Rattle.rules.specs.declared.Row.{Row}
 use Rattle.rules.specs.declared.Kind.{Kind}
 use Rattle.rules.specs.declared.Kind.the-variants.{Set, Move, Cue, Pick, Else, End, While, Do, For}
-use Rattle.rules.specs.Blocks.{Form, Test, Block, done, plain, pick, loop, kindsOf}
+use Rattle.rules.specs.Blocks.{done, plain, pick, loop, kindsOf}
 use Rattle.rules.proofs.Laws.{kinds-at}
 use Rattle.rules.proofs.Rows.{rowAt, LoopAt, PickAt, alone, both, block-last, block-set, block-move, block-cue, block-while, block-do, block-for, block-pick, block-end, block-else}
 use Rattle.steps.specs.declared.Shape.{Shape}
-use Rattle.steps.specs.Tree.{nothing, kindAt, kinds, blockAt, endAt, Whole, shapeOf, plainOf, formOf, testOf, withLast, pastElse, secondAt}
+use Rattle.steps.specs.Tree.{nothing, kindAt, kinds, blockAt, endAt, Whole, shapeOf, plainOf, formOf, testOf, withLast, secondAt}
 
 module _ (rows : List Row) (count : ℕ) where
   -- the laws: what stands at row i, by its shape

@@ -1,6 +1,6 @@
--- The walk that finds a variable's step: its loop, and how large the step's ends get. Assumes nothing.
-use mathlib.Core.Path.{_≡_, refl, sym, ap, _∙_}
-use mathlib.Core.Bool.{Bool, true, false, cond, _||_}
+-- The walk that finds a variable's step: its loop, and how large the step's ends get.
+use mathlib.Core.Path.{_≡_, refl, sym}
+use mathlib.Core.Bool.{Bool, cond, _||_}
 use mathlib.Core.List.{List}
 use Prim.Native.Nat.{ℕ, _+_, _-_, _≤_, _<_}
 use native.Mathlib.Omega.{arith}
@@ -13,11 +13,11 @@ use Rattle.rules.specs.declared.Kind.the-variants.{Set, Move, Cue, Pick, Else, 
 use Rattle.rules.specs.declared.Step.{Step}
 use Rattle.rules.specs.declared.Step.the-variants.{Add, Grow, Shrink, Unknown}
 use Rattle.rules.specs.Blocks.{changed, Plain, assign, Block, done, plain, pick, loop, snoc}
-use Rattle.rules.specs.Steps.{still, sets, starts, assigns, sourceStep, changeStep, rowStep, then, either, stepFrom, step}
+use Rattle.rules.specs.Steps.{still, starts, assigns, sourceStep, changeStep, rowStep, then, either, stepFrom, step}
 use Rattle.rules.specs.Bounds.{Ends, Fine}
 use Rattle.rules.proofs.Ends.{ends-more, ends-only, still-ends, then-ends, either-ends, change-ends}
 use Rattle.steps.specs.declared.Shape.{Shape}
-use Rattle.steps.specs.Tree.{Ready, Walked, kindAt, blockAt, shapeOf, plainOf, formOf, testOf, withLast}
+use Rattle.steps.specs.Tree.{Ready, Walked, kindAt, blockAt, shapeOf, plainOf, withLast}
 use Rattle.steps.specs.Body.{bodyAt}
 use Rattle.steps.proofs.Laws.{PickIs, LoopIs}
 use Rattle.steps.proofs.Walking.{Walking, begin, plain-row, pick-row, loop-row, at-close, at-last}

@@ -1,14 +1,13 @@
--- The loop of a walk over the rows of a block, for any fold `f` from the first row to the last. Assumes nothing.
+-- The loop of a walk over the rows of a block, for any fold `f` from the first row to the last.
 use mathlib.Core.Path.{_≡_, refl, sym, ap, _∙_}
 use mathlib.Core.List.{List}
 use Prim.Native.Nat.{ℕ, _+_, _≤_, _<_}
 use native.Mathlib.Omega.{arith}
 use Rattle.rules.specs.declared.Row.{Row}
-use Rattle.rules.specs.declared.Kind.{Kind}
 use Rattle.rules.specs.Blocks.{Block, done, plain, pick, loop}
 use Rattle.steps.specs.declared.Shape.{Shape}
-use Rattle.steps.specs.Tree.{Ready, Walked, kindAt, Whole, blockAt, endAt, shapeOf, plainOf, formOf, testOf, withLast, pastElse, secondAt}
-use Rattle.steps.proofs.Laws.{RowLaw, PlainAt, PickIs, LoopIs, ClosedAt, row-law, last-law}
+use Rattle.steps.specs.Tree.{Ready, Walked, kindAt, Whole, blockAt, endAt, shapeOf, plainOf, formOf, testOf, withLast, pastElse}
+use Rattle.steps.proofs.Laws.{RowLaw, PickIs, LoopIs, ClosedAt, row-law, last-law}
 
 -- the rows build from any row on
 pub ready : {rows : List Row} {count i j : ℕ} → Ready rows count i → j ≤ count → Ready rows count j

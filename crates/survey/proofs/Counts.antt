@@ -10,7 +10,7 @@ use lib.ListN.{length, drop}
 use lib.Seq.{drop-cons, drop-length}
 use Rattle.rules.specs.declared.Kind.{Kind}
 use Rattle.rules.specs.declared.Kind.the-variants.{Set, Move, Cue, Pick, Else, End, While, Do, For}
-use Rattle.rules.specs.Blocks.{from, changed, Plain, assign, cue, Test, Form, Block, done, plain, pick, loop, snoc, Part, to-end, to-else, Built, parts, misfit, inFront, loopHead, pickHead, plainRow, closes, onRow, build, blockOf}
+use Rattle.rules.specs.Blocks.{from, changed, Plain, assign, cue, Test, Form, Block, done, plain, pick, loop, Part, to-end, to-else, Built, parts, misfit, inFront, loopHead, pickHead, plainRow, closes, onRow, build}
 use Rattle.rules.specs.Nesting.{Open, in-loop, in-pick, in-else, Nest, Nested, nested, wrong, nest, opens, elses, ends, nestRow, andRows, nestRows}
 use Rattle.rules.proofs.Rows.{rowAt, partsAt, parts-row, parts-last, no-misfit}
 use Rattle.survey.specs.Fold.{loopCount}

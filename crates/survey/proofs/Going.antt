@@ -1,6 +1,5 @@
 -- The survey's walk, row by row: what the code carries is what the fold carries.
-use mathlib.Core.Path.{_≡_, refl, sym, ap, ap₂, subst, _∙_}
-use mathlib.Core.Bool.{Bool, true, false}
+use mathlib.Core.Path.{_≡_, refl, sym, ap, ap₂, _∙_}
 use mathlib.Core.List.{List, [], _∷_, _++_}
 use Prim.Native.Nat.{ℕ, zero, suc, _+_, _*_, _≤_, _<_, max}
 use native.Mathlib.Omega.{arith}
@@ -8,22 +7,22 @@ use lib.Dec.{leb}
 use Rattle.rules.specs.declared.Row.{Row}
 use Rattle.rules.specs.declared.Kind.{Kind}
 use Rattle.rules.specs.declared.Kind.the-variants.{Set, Move, Cue, Pick, Else, End, While, Do, For}
-use Rattle.rules.specs.Blocks.{Plain, Test, Form, Block, plain, pick, loop}
+use Rattle.rules.specs.Blocks.{Plain, Test, Form, Block, pick, loop}
 use Rattle.rules.specs.Ranges.{Env, full, afterRow, join, atStart, inside, outside, after}
 use Rattle.rules.specs.Turns.{turns}
 use Rattle.rules.specs.Figures.{ones, loopTicks, ticks, Line, line, lines}
 use Rattle.rules.specs.Questions.{Verdict, passed, refused, andThen, asked, tickLimit, ofLoop, loopsVerdict, blocksVerdict}
 use Rattle.steps.specs.declared.Shape.{Shape}
-use Rattle.steps.specs.Tree.{kindAt, blockAt, endAt, Whole, Ready, Walked, shapeOf, plainOf, formOf, testOf, withLast}
+use Rattle.steps.specs.Tree.{kindAt, blockAt, Whole, Ready, Walked, shapeOf, plainOf, formOf, testOf}
 use Rattle.steps.specs.Body.{bodyAt}
 use Rattle.steps.proofs.Laws.{PickIs, LoopIs}
-use Rattle.steps.proofs.Walking.{Walking, begin, plain-row, pick-row, loop-row, at-close, at-last}
+use Rattle.steps.proofs.Walking.{Walking, plain-row, pick-row, loop-row}
 use Rattle.ticks.specs.Capped.{capped, overOf}
 use Rattle.turns.specs.Needs.{answer}
 use Rattle.survey.specs.declared.Tally.{Tally}
 use Rattle.survey.specs.declared.Turning.{Turning}
 use Rattle.survey.specs.Fold.{loopCount, cut, cuts, linesOf, State, folded, tallied, lastTicks, LoopOf, Restarted, Lined, Closed, EndedAt, Walkable, Passed, Surveyed}
-use Rattle.survey.proofs.Folding.{state-is, cap-lines, fold-none, fold-plain, fold-pick, fold-loop, pastPlain, pastPick, pastLoop, SameBody, same-body}
+use Rattle.survey.proofs.Folding.{state-is, cap-lines, fold-plain, fold-pick, fold-loop, pastPlain, pastPick, pastLoop, SameBody, same-body}
 
 -- what a walk over a block found, part by part, from a tally with these parts
 pub record Part (outer : ℕ) (ρ : Env) (s : ℕ) (o : Verdict) (ls : List Line) (n : ℕ) (b : Block) (r : Tally) : Type 0 where

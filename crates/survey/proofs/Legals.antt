@@ -2,7 +2,7 @@
 use mathlib.Core.Path.{_≡_, refl, sym, ap, subst, _∙_}
 use mathlib.Core.Bool.{Bool, true, false}
 use mathlib.Core.List.{List, [], _∷_}
-use Prim.Native.Nat.{ℕ, zero, suc, _+_, _≤_, _<_}
+use Prim.Native.Nat.{ℕ, zero, suc, _≤_, _<_}
 use native.Mathlib.Omega.{arith}
 use borrow.Author.Tests.{ltb-true, ltb-false}
 use lib.Dec.{ltb}
@@ -21,13 +21,12 @@ use Rattle.rules.specs.declared.Change.the-variants.{Add, Sub, Mul, Div}
 use Rattle.rules.specs.Values.{lowest, highest}
 use Rattle.rules.specs.Blocks.{kindsOf}
 use Rattle.rules.specs.Bounds.{Near, FineOperand, FineChange, Fine}
-use Rattle.rules.specs.Ranges.{Range, Env}
 use Rattle.rules.specs.Scripts as scripts
 use Rattle.rules.specs.Scripts.{All, none, some, pairRange, pairRanges, scriptOf, ofBuilt, treeOf, OperandLimits, ChangeLimits, RowLimits, OperandBelow, RowBelow, Legal}
 use Rattle.rules.proofs.Laws.{kinds-length}
 use Rattle.rules.proofs.Nesting.{tree-of}
 use Rattle.rules.proofs.Rows.{rowAt, block-whole}
-use Rattle.steps.specs.Tree.{kinds, kindAt, blockAt, Whole, Ready}
+use Rattle.steps.specs.Tree.{kinds, blockAt, Whole, Ready}
 use Rattle.steps.proofs.Laws.{kind-is}
 use Rattle.ranges.specs.Env.{envOf}
 use Rattle.survey.specs.Fold.{loopCount}

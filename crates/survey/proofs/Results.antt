@@ -1,7 +1,7 @@
 -- The survey's answer, from what the walk over the whole file found.
-use mathlib.Core.Path.{_≡_, refl, sym, ap, _∙_}
-use mathlib.Core.List.{List, [], _++_}
-use Prim.Native.Nat.{ℕ, _+_, _≤_, _<_}
+use mathlib.Core.Path.{_≡_, sym, _∙_}
+use mathlib.Core.List.{List, []}
+use Prim.Native.Nat.{ℕ, _≤_}
 use native.Mathlib.Omega.{arith}
 use lib.IntN.{ℤ}
 use lib.ListN.{length, take}
@@ -9,7 +9,7 @@ use Rattle.rules.specs.declared.Row.{Row}
 use Rattle.rules.specs.Blocks.{Block}
 use Rattle.rules.specs.Ranges.{Env}
 use Rattle.rules.specs.Figures.{ones, ticks, lines}
-use Rattle.rules.specs.Questions.{passed, andThen, blocksVerdict, verdict}
+use Rattle.rules.specs.Questions.{passed, andThen, verdict}
 use Rattle.rules.specs.Scripts as scripts
 use Rattle.rules.specs.Scripts.{pairRanges, scriptOf, treeOf, Legal}
 use Rattle.steps.specs.Tree.{kinds, blockAt}
@@ -18,10 +18,9 @@ use Rattle.turns.specs.Needs.{answer}
 use Rattle.survey.specs.declared.Tally.{Tally}
 use Rattle.survey.specs.declared.Refusal.{Refusal}
 use Rattle.survey.specs.declared.Figures.{Figures}
-use Rattle.ticks.specs.Capped.{overOf}
-use Rattle.survey.specs.Fold.{loopCount, cuts, linesOf, tallied, Surveyed}
+use Rattle.survey.specs.Fold.{tallied, Surveyed}
 use Rattle.survey.specs.Whole.{BlankFrom, FirstNo, of-loop, of-block, of-file, none, SurveyOf}
-use Rattle.survey.proofs.Going.{Part, from-parts, part-of, refused-in}
+use Rattle.survey.proofs.Going.{from-parts, part-of, refused-in}
 use Rattle.survey.proofs.Totals.{lines-true}
 use Rattle.survey.proofs.Verdicts.{verdict-loop, verdict-block, verdict-file, verdict-passed}
 use Rattle.survey.proofs.Legals.{env-is, file-is, few-in}

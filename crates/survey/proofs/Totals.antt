@@ -1,18 +1,18 @@
 -- A line's total is at most the file's ticks: so the totals of an accepted file are the true ones.
-use mathlib.Core.Path.{_≡_, refl, sym, ap, ap₂, _∙_}
-use mathlib.Core.List.{List, [], _∷_, _++_}
-use Prim.Native.Nat.{ℕ, _+_, _*_, _≤_, max}
+use mathlib.Core.Path.{_≡_, refl, ap, ap₂, _∙_}
+use mathlib.Core.List.{List, [], _∷_}
+use Prim.Native.Nat.{ℕ, _+_, _*_, _≤_}
 use native.Mathlib.Nat.{le-trans, le-of-eq, mul-le-mul-left, mul-comm, mul-assoc}
 use native.Mathlib.Omega.{arith}
 use Rattle.rules.specs.Blocks.{Block, done, plain, pick, loop}
 use Rattle.rules.specs.Ranges.{Env, afterRow, join, atStart, inside, outside, after}
 use Rattle.rules.specs.Turns.{turns}
-use Rattle.rules.specs.Figures.{ones, price, loopTicks, ticks, Line, line, lines}
+use Rattle.rules.specs.Figures.{ones, loopTicks, ticks, Line, line, lines}
 use Rattle.rules.specs.Scripts.{All, none, some}
 use Rattle.rules.proofs.Good.{all-append, all-map}
-use Rattle.ticks.specs.Capped.{capped, once}
+use Rattle.ticks.specs.Capped.{capped}
 use Rattle.ticks.proofs.Caps.{loop-ticks-is}
-use Rattle.survey.specs.Fold.{cut, cuts}
+use Rattle.survey.specs.Fold.{cuts}
 
 Within : ℕ → Line → Type 0
 Within m l = l .total ≤ m

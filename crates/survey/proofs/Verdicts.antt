@@ -1,14 +1,11 @@
 -- The verdict of the whole file, from the walk's answer.
-use mathlib.Core.Path.{_≡_, refl, sym, ap, _∙_}
-use mathlib.Core.Bool.{Bool, true, false}
-use Prim.Native.Nat.{ℕ, zero, suc, _+_, _≤_, _<_}
-use native.Mathlib.Omega.{arith}
+use mathlib.Core.Path.{_≡_, refl, sym, _∙_}
+use Prim.Native.Nat.{ℕ, zero, suc, _≤_, _<_}
 use borrow.Author.Tests.{lt-ltb, le-ltb, le-leb, lt-leb}
-use lib.Dec.{leb}
 use Rattle.rules.specs.Blocks.{Block}
 use Rattle.rules.specs.Ranges.{Env}
 use Rattle.rules.specs.Figures.{ones, ticks}
-use Rattle.rules.specs.Questions.{Verdict, passed, refused, andThen, asked, tickLimit, loopsVerdict, blocksVerdict, verdict}
+use Rattle.rules.specs.Questions.{passed, refused, andThen, asked, tickLimit, loopsVerdict, blocksVerdict, verdict}
 use Rattle.turns.specs.Needs.{answer}
 use Rattle.ticks.specs.Capped.{overOf}
 

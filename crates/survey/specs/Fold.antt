@@ -1,18 +1,17 @@
 -- The survey as one fold over a block: ranges, verdicts, ticks, lines. Ticks and totals stop just past the limit.
 use mathlib.Core.Path.{_≡_}
 use mathlib.Core.List.{List, [], _∷_, _++_}
-use Prim.Native.Nat.{ℕ, zero, suc, _+_, _*_, _≤_, _<_}
-use lib.ListN.{length, take, set}
+use Prim.Native.Nat.{ℕ, _+_, _≤_}
+use lib.ListN.{take, set}
 use Rattle.rules.specs.declared.Row.{Row}
 use Rattle.rules.specs.declared.Kind.{Kind}
 use Rattle.rules.specs.declared.Kind.the-variants.{Set, Move, Cue, Pick, Else, End, While, Do, For}
-use Rattle.rules.specs.declared.Step.{Step}
 use Rattle.rules.specs.Blocks.{Block, done, plain, pick, loop}
 use Rattle.rules.specs.Steps.{assigns, step}
 use Rattle.rules.specs.Ranges.{Env, after}
 use Rattle.rules.specs.Turns.{turns}
 use Rattle.rules.specs.Figures.{ones, ticks, Line, isExact, lines}
-use Rattle.rules.specs.Questions.{Verdict, passed, refused, andThen, asked, tickLimit, ofLoop, loopsVerdict, blocksVerdict}
+use Rattle.rules.specs.Questions.{Verdict, passed, refused, andThen, ofLoop, loopsVerdict, blocksVerdict}
 use Rattle.steps.specs.Tree.{kindAt, blockAt, endAt, Ready, formOf, testOf}
 use Rattle.steps.specs.Sets.{setOf}
 use Rattle.steps.specs.Body.{bodyAt, EndsAt}

@@ -3,9 +3,9 @@ use mathlib.Core.Path.{_≡_}
 use mathlib.Core.List.{List, []}
 use Prim.Native.Nat.{ℕ, _≤_, _<_}
 use lib.IntN.{ℤ, pos}
-use lib.ListN.{length, getD}
+use lib.ListN.{getD}
 use Rattle.rules.specs.Figures.{ones}
-use Rattle.rules.specs.Questions.{Verdict, passed, refused, verdict}
+use Rattle.rules.specs.Questions.{verdict}
 use Rattle.rules.specs.Scripts.{Script, pairRange, envOf, treeOf, reportTicks, reportLines}
 use Rattle.turns.specs.Needs.{answer}
 use Rattle.survey.specs.declared.Tally.{Tally}

@@ -1,15 +1,15 @@
 -- From the answers to the questions 8 to 12 to what the turns ask, and that turns are few.
 use mathlib.Core.Path.{_≡_, refl, sym, ap, subst}
 use mathlib.Core.Bool.{Bool, true, false, cond, _&&_, _||_}
-use Prim.Native.Nat.{ℕ, zero, suc, _+_, _*_, _/_, _≤_, _<_}
+use Prim.Native.Nat.{ℕ, zero, suc, _*_, _≤_, _<_}
 use native.Mathlib.Nat.{div-le-self}
 use native.Mathlib.Omega.{arith}
-use lib.Dec.{leb, leb→le, T}
+use lib.Dec.{leb}
 use lib.IntN.{ℤ, pos, negsuc, natAbs, negℤ, _-ℤ_, _*ℤ_}
 use lib.Signed.{_≤ℤ_, leZ, ltZ}
 use borrow.Author.Tests.{leb-true}
 use Rattle.ints.specs.Ints.{eqZ}
-use Rattle.ints.proofs.Parts.{P, N, ints, eqZ-true, minus-parts, abs-parts, neg-parts}
+use Rattle.ints.proofs.Parts.{ints, eqZ-true, minus-parts, abs-parts}
 use Rattle.ints.proofs.Scale.{mul-P, mul-N}
 use Rattle.rules.specs.declared.Step.{Step}
 use Rattle.rules.specs.declared.Step.the-variants.{Add, Grow, Shrink, Unknown}

@@ -1,16 +1,15 @@
 -- The questions 8 to 12 in their order, from the answers that the code finds.
 use mathlib.Core.Path.{_≡_, refl, sym, ap, _∙_}
 use mathlib.Core.Bool.{Bool, true, false, not, cond}
-use Prim.Native.Nat.{ℕ, suc, _+_}
+use Prim.Native.Nat.{ℕ, suc}
 use native.Mathlib.Omega.{arith}
-use native.Mathlib.Numerals.{add-one}
 use lib.IntN.{ℤ}
 use Rattle.rules.specs.declared.Comparison.{Comparison}
 use Rattle.rules.specs.declared.Step.{Step}
 use Rattle.rules.specs.Blocks.{Form, while, do-while}
 use Rattle.rules.specs.Ranges.{Range, sort, isDo, edge}
-use Rattle.rules.specs.Turns.{whileTurns, atTest, turnsOf}
-use Rattle.rules.specs.Questions.{Verdict, passed, refused, asked, known, moving, suits, hasFigure, loopVerdict}
+use Rattle.rules.specs.Turns.{whileTurns, atTest}
+use Rattle.rules.specs.Questions.{Verdict, refused, asked, known, moving, suits, hasFigure, loopVerdict}
 use Rattle.turns.specs.declared.Figure.{Figure}
 use Rattle.turns.specs.Needs.{answer, FigureOf}
 

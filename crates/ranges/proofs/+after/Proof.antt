@@ -1,7 +1,7 @@
+-- `ranges::after` meets its contract.
 use borrow.Author.Needs.{needs}
-use native.Mathlib.Omega.{arith}
 use Prim.Native.Nat.{ℕ, _<_, _-_, _+_}
-use mathlib.Core.Path.{_≡_, refl, sym, ap, _∙_}
+use mathlib.Core.Path.{refl, sym, _∙_}
 use Rattle.rules.specs.Ranges as model
 use Rattle.steps.specs.Tree.{kindAt, endAt, pastElse}
 use Rattle.steps.proofs.Laws.{PickIs, LoopIs}

@@ -1,16 +1,10 @@
+-- `ranges::after_row` meets its contract.
 use mathlib.Core.Path.{_∙_}
 use Rattle.ranges.proofs.Envs.{after-move}
 use Rattle.rules.specs.Ranges.{afterRow, sourceRange}
-use native.Mathlib.Omega.{arith}
 use borrow.Author.Needs.{needs}
 use Rattle.ranges.proofs.after_row.Statement.{statement}
 use Rattle.ranges.proofs.after_row.Tie as tie
-use Rattle.ranges.proofs.after_row.Reads as reads
-use Rattle.ranges.proofs.after_row.Lts as lts
-use Rattle.ranges.proofs.bounds.Reads as bounds-reads
-use Rattle.ranges.proofs.changed.Reads as changed-reads
-use Rattle.ranges.proofs.put.Reads as put-reads
-use Rattle.ranges.proofs.span_at.Reads as span-at-reads
 
 bounds-requires : tie.Need-bounds-requires
 bounds-requires c κs = let h = rw (c .before .kind .given .1) at (c .before .before .before .pre) in h .1

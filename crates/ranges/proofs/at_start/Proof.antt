@@ -1,13 +1,9 @@
+-- `ranges::at_start` meets its contract.
 use Rattle.rules.specs.Ranges.{atStart}
 use Rattle.steps.specs.Tree.{formOf, testOf}
-use native.Mathlib.Omega.{arith}
 use borrow.Author.Needs.{needs}
 use Rattle.ranges.proofs.at_start.Statement.{statement}
 use Rattle.ranges.proofs.at_start.Tie as tie
-use Rattle.ranges.proofs.at_start.Reads as reads
-use Rattle.ranges.proofs.at_start.Lts as lts
-use Rattle.ranges.proofs.bounds.Reads as bounds-reads
-use Rattle.ranges.proofs.put.Reads as put-reads
 
 bounds-requires : tie.Need-bounds-requires
 bounds-requires c κs = let h = rw (c .before .kind .given .1) at (c .before .before .before .pre) in h .1

@@ -1,17 +1,13 @@
+-- `ranges::by_step` meets its contract.
 use borrow.Author.Needs.{sfits-of}
 use mir.Syntax.{w32}
 use mir.Val.{SFits}
 use mir.Facts.{toZ-ofZ}
 use Rattle.rules.specs.Values.{lowest, highest}
 use Rattle.rules.specs.Ranges.{byStep}
-use native.Mathlib.Omega.{arith}
 use borrow.Author.Needs.{needs}
 use Rattle.ranges.proofs.by_step.Statement.{statement}
 use Rattle.ranges.proofs.by_step.Tie as tie
-use Rattle.ranges.proofs.by_step.Reads as reads
-use Rattle.ranges.proofs.by_step.Lts as lts
-use Rattle.ranges.proofs.higher.Reads as higher-reads
-use Rattle.ranges.proofs.lower.Reads as lower-reads
 
 returns : tie.Need-returns
 unfolding byStep lowest highest

@@ -1,25 +1,19 @@
+-- `ranges::changed` meets its contract.
 use Rattle.ranges.specs.Env.{changedRange}
 use borrow.Author.Needs.{sfits-of}
 use mir.Syntax.{w32}
 use mir.Val.{SFits}
 use mir.Facts.{toZ-ofZ}
-use native.Mathlib.Omega.{arith}
 use borrow.Author.Needs.{needs}
 use Rattle.ranges.proofs.changed.Statement.{statement}
 use Rattle.ranges.proofs.changed.Tie as tie
-use Rattle.ranges.proofs.changed.Reads as reads
-use Rattle.ranges.proofs.changed.Lts as lts
-use Rattle.ranges.proofs.moved.Reads as moved-reads
 
--- src/lib.rt:129:13
 moved-requires : tie.Need-moved-requires
 moved-requires c κs = search needs
 
--- src/lib.rt:130:13
 moved-requires-2 : tie.Need-moved-requires-2
 moved-requires-2 c κs = search needs
 
--- src/lib.rt:124:1
 returns : tie.Need-returns
 unfolding changedRange
 returns c =

@@ -1,21 +1,15 @@
+-- `ranges::chosen` meets its contract.
 use Rattle.rules.specs.Values.{lowest, highest}
-use borrow.Author.Needs.{needs}
-use native.Mathlib.Omega.{arith}
 use Rattle.ranges.proofs.chosen.Statement.{statement}
 use Rattle.ranges.proofs.chosen.Tie as tie
-use Rattle.ranges.proofs.chosen.Reads as reads
-use Rattle.ranges.proofs.chosen.Lts as lts
 
--- src/lib.rt:206:1
 returns : tie.Need-returns
 returns c = rw (c .before .if1 .taken, c .if2 .taken)
 
--- src/lib.rt:206:1
 returns-2 : tie.Need-returns-2
 unfolding lowest highest
 returns-2 c = rw (c .before .if1 .taken, c .if2 .left)
 
--- src/lib.rt:206:1
 returns-3 : tie.Need-returns-3
 returns-3 c = rw (c .if1 .left)
 

@@ -1,10 +1,6 @@
--- `ranges::drawn` meets its contract. Assumes nothing.
+-- `ranges::drawn` meets its contract.
 use borrow.Author.Needs.{needs}
-use mathlib.Core.Path.{_≡_}
-use mathlib.Core.Bool.{true, false}
-use lib.IntN.{ℤ, pos, negsuc}
 use Rattle.rules.specs.Values.{lowest, highest}
-use lib.Signed.{ltZ}
 use mir.Syntax.{w32}
 use mir.Val.{SFits}
 use mir.Facts.{toZ-ofZ}

@@ -1,3 +1,4 @@
+-- `ranges::head_of` meets its contract.
 use mathlib.Core.Path.{refl}
 use Rattle.steps.specs.Tree.{testOf}
 use Rattle.ranges.proofs.Wide.{zero-near}
@@ -5,8 +6,6 @@ use native.Mathlib.Omega.{arith}
 use borrow.Author.Needs.{needs}
 use Rattle.ranges.proofs.head_of.Statement.{statement}
 use Rattle.ranges.proofs.head_of.Tie as tie
-use Rattle.ranges.proofs.head_of.Reads as reads
-use Rattle.ranges.proofs.head_of.Lts as lts
 
 returns : tie.Need-returns
 unfolding testOf

@@ -1,4 +1,4 @@
--- `spans::joined` meets its contract: the first i variables are joined. Assumes nothing.
+-- `ranges::joined` meets its contract: the first i variables are joined.
 use Prim.Native.Nat.{_≤_, _-_}
 use mathlib.Core.Path.{_≡_, sym, _∙_}
 use borrow.Author.Needs.{needs}

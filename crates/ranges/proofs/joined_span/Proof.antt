@@ -1,25 +1,18 @@
+-- `ranges::joined_span` meets its contract.
 use mir.Syntax.{w32}
 use mir.Val.{SFits}
 use mir.Facts.{toZ-ofZ}
 use borrow.Author.Needs.{sfits-of}
-use native.Mathlib.Omega.{arith}
 use borrow.Author.Needs.{needs}
 use Rattle.ranges.proofs.joined_span.Statement.{statement}
 use Rattle.ranges.proofs.joined_span.Tie as tie
-use Rattle.ranges.proofs.joined_span.Reads as reads
-use Rattle.ranges.proofs.joined_span.Lts as lts
-use Rattle.ranges.proofs.higher.Reads as higher-reads
-use Rattle.ranges.proofs.lower.Reads as lower-reads
 
--- src/lib.rt:68:13
 lower-requires : tie.Need-lower-requires
 lower-requires c κs = search needs
 
--- src/lib.rt:69:13
 higher-requires : tie.Need-higher-requires
 higher-requires c κs = search needs
 
--- src/lib.rt:64:1
 returns : tie.Need-returns
 returns c =
     let s = c .before .before .before .before .before .before .args in

@@ -1,16 +1,13 @@
+-- `ranges::moved` meets its contract.
 use borrow.Author.Needs.{sfits-of}
-use mir.Syntax.{w32, w64}
+use mir.Syntax.{w32}
 use mir.Val.{SFits}
 use mir.Facts.{toZ-ofZ}
 use Rattle.rules.specs.Values.{applied}
 use Rattle.ranges.proofs.Wide.{Wide, wide}
-use native.Mathlib.Omega.{arith}
 use borrow.Author.Needs.{needs}
 use Rattle.ranges.proofs.moved.Statement.{statement}
 use Rattle.ranges.proofs.moved.Tie as tie
-use Rattle.ranges.proofs.moved.Reads as reads
-use Rattle.ranges.proofs.moved.Lts as lts
-use Rattle.ranges.proofs.drawn.Reads as drawn-reads
 
 known : (c : tie.After-known-told) → Wide (c .before .before .before .args .x) (c .before .change .given .0 .0)
 known c = let h = rw (c .before .change .given .1) at (c .before .before .before .pre) in wide _ _ (c .before .before .before .fits .x) (h)

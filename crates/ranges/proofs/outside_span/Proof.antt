@@ -1,12 +1,9 @@
+-- `ranges::outside_span` meets its contract.
 use Rattle.rules.specs.Values.{lowest, highest}
 use Rattle.rules.specs.Ranges.{outsideRange}
-use native.Mathlib.Omega.{arith}
 use borrow.Author.Needs.{needs}
 use Rattle.ranges.proofs.outside_span.Statement.{statement}
 use Rattle.ranges.proofs.outside_span.Tie as tie
-use Rattle.ranges.proofs.outside_span.Reads as reads
-use Rattle.ranges.proofs.outside_span.Lts as lts
-use Rattle.ranges.proofs.by_step.Reads as by-step-reads
 
 returns : tie.Need-returns
 unfolding outsideRange lowest highest

@@ -1,24 +1,18 @@
+-- `ranges::put` meets its contract.
 use mir.Syntax.{w32}
 use mir.Val.{SFits}
 use mir.Facts.{toZ-ofZ}
-use borrow.Author.Needs.{sfits-of}
 use Rattle.ranges.proofs.Envs.{env-set}
-use native.Mathlib.Omega.{arith}
 use borrow.Author.Needs.{needs}
 use Rattle.ranges.proofs.put.Statement.{statement}
 use Rattle.ranges.proofs.put.Tie as tie
-use Rattle.ranges.proofs.put.Reads as reads
-use Rattle.ranges.proofs.put.Lts as lts
 
--- src/lib.rt:38:5
 mul-next : tie.Need-mul-next
 mul-next c = search needs
 
--- src/lib.rt:38:5
 array-set-from-next : tie.Need-array-set-from-next
 array-set-from-next c = search needs
 
--- src/lib.rt:31:1
 returns : tie.Need-returns
 returns c =
     let s = c .before .before in

@@ -1,7 +1,7 @@
 -- `steps::step_of` meets its contract: the step over the rows walked, and the block that is left.
 use borrow.Author.Needs.{needs}
 use Prim.Native.Nat.{ℕ, _<_, _-_, _+_}
-use mathlib.Core.Path.{refl, sym, ap, _∙_}
+use mathlib.Core.Path.{refl, sym, _∙_}
 use Rattle.rules.specs.declared.Step.the-variants.{Unknown}
 use Rattle.rules.proofs.Ends.{ends-only}
 use Rattle.steps.specs.Tree.{kindAt, endAt, pastElse}

@@ -1,12 +1,8 @@
+-- `steps::row_step` meets its contract.
 use Rattle.rules.specs.Steps.{rowStep, sourceStep}
-use native.Mathlib.Omega.{arith}
 use borrow.Author.Needs.{needs}
 use Rattle.steps.proofs.row_step.Statement.{statement}
 use Rattle.steps.proofs.row_step.Tie as tie
-use Rattle.steps.proofs.row_step.Reads as reads
-use Rattle.steps.proofs.row_step.Lts as lts
-use Rattle.rules.proofs.change_step.Reads as change-step-reads
-use Rattle.rules.proofs.only.Reads as only-reads
 
 change-step-requires : tie.Need-change-step-requires
 change-step-requires c κs = let h = rw (c .before .kind2 .given .1) at (c .before .before .before .pre) in h .1

@@ -5,7 +5,7 @@ use Prim.Native.Nat.{ℕ, _<_, _-_, _+_, _≤_}
 use mathlib.Core.Path.{_≡_, refl, sym, ap, ap₂, subst, _∙_}
 use mathlib.Core.List.{[], _∷_, _++_}
 use Rattle.rules.specs.Ranges.{atStart, inside, outside}
-use Rattle.rules.specs.Questions.{passed, refused, ofLoop, loopsVerdict}
+use Rattle.rules.specs.Questions.{refused, loopsVerdict}
 use Rattle.steps.specs.Tree.{kindAt, blockAt, endAt, pastElse, formOf, testOf}
 use Rattle.steps.specs.Body.{bodyAt}
 use Rattle.steps.proofs.Laws.{PickIs, LoopIs}

@@ -1,6 +1,5 @@
 -- `survey::one_loop` meets its contract.
 use borrow.Author.Needs.{needs}
-use native.Mathlib.Omega.{arith}
 use mathlib.Core.Path.{sym, ap, _∙_}
 use Rattle.rules.specs.Steps.{step}
 use Rattle.rules.specs.Questions.{keeps}

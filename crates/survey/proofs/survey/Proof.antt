@@ -2,11 +2,10 @@
 use borrow.Author.Needs.{needs}
 use native.Mathlib.Omega.{arith}
 use mathlib.Core.Path.{_≡_, refl}
-use Prim.Native.Nat.{_≤_, _+_}
+use Prim.Native.Nat.{_≤_}
 use lib.ListN.{length}
-use Rattle.steps.specs.Tree.{blockAt}
 use Rattle.ticks.specs.Capped.{overOf}
-use Rattle.survey.specs.Fold.{loopCount, lineList}
+use Rattle.survey.specs.Fold.{lineList}
 use Rattle.survey.proofs.Legals.{ready, few-in}
 use Rattle.survey.proofs.Results.{result}
 use Rattle.survey.proofs.survey.Statement.{statement}

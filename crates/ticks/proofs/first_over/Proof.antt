@@ -1,5 +1,4 @@
 -- `ticks::first_over` meets its contract.
-use borrow.Author.Needs.{needs}
 use Rattle.ticks.proofs.Caps.{over-kept, over-none, over-first}
 use Rattle.ticks.proofs.first_over.Statement.{statement}
 use Rattle.ticks.proofs.first_over.Tie as tie

@@ -1,3 +1,4 @@
+-- `turns::add_turns` meets its contract.
 use borrow.Author.Needs.{sfits-of}
 use mir.Syntax.{w64}
 use mir.Val.{SFits}
@@ -6,17 +7,9 @@ use lib.IntN.{ℤ, pos, negsuc, negℤ}
 use lib.Signed.{_≤ℤ_}
 use Rattle.ints.proofs.Parts.{ints, neg-parts}
 use Rattle.rules.specs.Turns.{whileTurns}
-use native.Mathlib.Omega.{arith}
 use borrow.Author.Needs.{needs}
 use Rattle.turns.proofs.add_turns.Statement.{statement}
 use Rattle.turns.proofs.add_turns.Tie as tie
-use Rattle.turns.proofs.add_turns.Reads as reads
-use Rattle.turns.proofs.add_turns.Lts as lts
-use Rattle.turns.proofs.apart.Reads as apart-reads
-use Rattle.turns.proofs.climb.Reads as climb-reads
-use Rattle.turns.proofs.negated.Reads as negated-reads
-use Rattle.turns.proofs.one_if.Reads as one-if-reads
-use Rattle.turns.proofs.share.Reads as share-reads
 
 up : (b : ℤ) → b ≤ℤ negsuc 0 → pos 1 ≤ℤ negℤ b
 up b h = omega (ints, neg-parts b)

@@ -1,3 +1,4 @@
+-- `turns::apart` meets its contract.
 use mathlib.Core.Path.{_≡_, refl, _∙_}
 use Prim.Native.Nat.{zero, suc, _<_}
 use lib.IntN.{ℤ, pos, negsuc, natAbs, _-ℤ_}
@@ -12,9 +13,6 @@ use native.Mathlib.Omega.{arith}
 use borrow.Author.Needs.{needs}
 use Rattle.turns.proofs.apart.Statement.{statement}
 use Rattle.turns.proofs.apart.Tie as tie
-use Rattle.turns.proofs.apart.Reads as reads
-use Rattle.turns.proofs.apart.Lts as lts
-use Rattle.turns.proofs.distance.Reads as distance-reads
 
 abs-of : (a : ℤ) → natAbs (a -ℤ pos 0) ≡ natAbs a
 abs-of a = omega (ints, minus-parts a (pos 0), abs-parts (a -ℤ pos 0), abs-parts a)

@@ -5,7 +5,7 @@ use mir.Syntax.{w32}
 use mir.Val.{SFits}
 use mir.Facts.{toZ-ofZ}
 use Rattle.rules.specs.Ranges.{edge}
-use Rattle.turns.proofs.Small.{Small, small}
+use Rattle.turns.proofs.Small.{small}
 use Rattle.turns.proofs.edge.Statement.{statement}
 use Rattle.turns.proofs.edge.Tie as tie
 

@@ -3,7 +3,6 @@ use borrow.Author.Needs.{needs}
 use borrow.Author.Needs.{sfits-of}
 use mir.Syntax.{w64}
 use mir.Val.{SFits}
-use mir.Facts.{toZ-ofZ}
 use Rattle.ints.proofs.Parts.{eq-test}
 use Rattle.rules.specs.Figures.{even}
 use Rattle.turns.proofs.even.Statement.{statement}

@@ -1,11 +1,10 @@
 -- `turns::has_figure` meets its contract.
 use borrow.Author.Needs.{needs, sfits-of}
 use mathlib.Core.Path.{sym, _∙_}
-use native.Mathlib.Omega.{arith}
 use mir.Syntax.{w32, w64}
 use mir.Val.{SFits}
 use mir.Facts.{toZ-ofZ}
-use Rattle.ints.proofs.Parts.{ints, eqZ-yes, eqZ-no}
+use Rattle.ints.proofs.Parts.{eqZ-yes, eqZ-no}
 use Rattle.rules.specs.Questions.{hasFigure}
 use Rattle.turns.proofs.Answers.{not-still, near-step}
 use Rattle.turns.proofs.Moves.{add-other, add-uneven, add-even}

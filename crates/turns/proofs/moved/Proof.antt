@@ -1,14 +1,13 @@
 -- `turns::moved` meets its contract.
-use borrow.Author.Needs.{needs, sfits-of}
+use borrow.Author.Needs.{needs}
 use mathlib.Core.Path.{refl}
-use Prim.Native.Nat.{_≤_, _<_}
+use Prim.Native.Nat.{_≤_}
 use native.Mathlib.Omega.{arith}
 use borrow.Author.Tests.{leb-true}
-use mir.Syntax.{w32, w64}
+use mir.Syntax.{w32}
 use mir.Val.{SFits}
 use mir.Facts.{toZ-ofZ}
 use Rattle.rules.specs.Steps.{cap}
-use Rattle.rules.specs.Bounds.{Near}
 use Rattle.rules.specs.Turns.{moved}
 use Rattle.rules.specs.Questions.{moving}
 use Rattle.turns.proofs.Small.{Small, small, Summed, summed, Scaled, scaled}

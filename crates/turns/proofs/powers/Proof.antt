@@ -1,12 +1,9 @@
--- `figures::powers` meets its contract: at has been multiplied k times, and the fuel of the definition is not spent. Assumes nothing.
-use borrow.Author.Needs.{needs}
-use mathlib.Core.Path.{_≡_, refl, sym, ap, _∙_}
-use mathlib.Core.Bool.{true, false}
+-- `turns::powers` meets its contract: at has been multiplied k times, and the fuel of the definition is not spent.
+use mathlib.Core.Path.{_≡_, refl, _∙_}
 use Prim.Native.Nat.{ℕ, zero, suc, _+_, _*_, _-_, _≤_, _<_}
 use native.Mathlib.Nat.{mul-le-mul-left, mul-le-mul}
 use native.Mathlib.Omega.{arith}
 use borrow.Author.Tests.{le-leb, lt-leb}
-use lib.Dec.{leb}
 use Rattle.rules.specs.Turns.{powers}
 use Rattle.turns.proofs.powers.Statement.{statement}
 use Rattle.turns.proofs.powers.Tie as tie

@@ -1,14 +1,11 @@
+-- `turns::share` meets its contract.
 use mir.Syntax.{w64}
 use mir.Val.{SFits}
 use mir.Facts.{toZ-ofZ}
 use borrow.Author.Needs.{needs}
-use native.Mathlib.Omega.{arith}
 use Rattle.turns.proofs.share.Statement.{statement}
 use Rattle.turns.proofs.share.Tie as tie
-use Rattle.turns.proofs.share.Reads as reads
-use Rattle.turns.proofs.share.Lts as lts
 
--- src/lib.rt:108:1
 returns : tie.Need-returns
 returns c =
     let f0 : SFits w64 (c .before .before .before .before .before .args .s .lo) = search needs in
@@ -18,7 +15,6 @@ returns c =
     let t = simp (toZ-ofZ f0, toZ-ofZ f3) at (c .if1 .taken) in
     simp (toZ-ofZ f1, toZ-ofZ f2, t)
 
--- src/lib.rt:108:1
 returns-2 : tie.Need-returns-2
 returns-2 c =
     let f0 : SFits w64 (c .before .before .before .before .before .args .s .lo) = search needs in

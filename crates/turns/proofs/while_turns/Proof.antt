@@ -1,3 +1,4 @@
+-- `turns::while_turns` meets its contract.
 use mathlib.Core.Path.{_≡_, sym, subst₃}
 use lib.IntN.{ℤ}
 use Rattle.rules.specs.declared.Step.the-variants.{Add}
@@ -9,14 +10,9 @@ use mir.Syntax.{w64}
 use mir.Val.{SFits}
 use mir.Facts.{toZ-ofZ}
 use Rattle.rules.specs.Turns.{whileTurns}
-use native.Mathlib.Omega.{arith}
 use borrow.Author.Needs.{needs}
 use Rattle.turns.proofs.while_turns.Statement.{statement}
 use Rattle.turns.proofs.while_turns.Tie as tie
-use Rattle.turns.proofs.while_turns.Reads as reads
-use Rattle.turns.proofs.while_turns.Lts as lts
-use Rattle.turns.proofs.add_turns.Reads as add-turns-reads
-use Rattle.turns.proofs.scale.Reads as scale-reads
 
 same-numbers : (d : Sort) (s n : Wide) (a a′ b b′ e e′ : ℤ) → a′ ≡ a → b′ ≡ b → e′ ≡ e → Countable (Add a b) d s n e → Countable (Add a′ b′) d s n e′
 same-numbers d s n a a′ b b′ e e′ p q r h = subst₃ (λ x y z. Countable (Add x y) d s n z) (sym p) (sym q) (sym r) h

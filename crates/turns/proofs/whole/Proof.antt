@@ -4,7 +4,7 @@ use mathlib.Core.Path.{refl}
 use mir.Syntax.{w32}
 use mir.Val.{SFits}
 use mir.Facts.{toZ-ofZ}
-use Rattle.turns.proofs.Small.{Small, small}
+use Rattle.turns.proofs.Small.{small}
 use Rattle.turns.proofs.whole.Statement.{statement}
 use Rattle.turns.proofs.whole.Tie as tie
 
