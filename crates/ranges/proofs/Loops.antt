@@ -1,0 +1,47 @@
+-- The ranges at a body's start and after a loop, from what the code finds one by one.
+use mathlib.Core.Path.{_≡_, ap, _∙_}
+use mathlib.Core.Bool.{Bool, false, cond}
+use mathlib.Core.List.{List}
+use Prim.Native.Nat.{ℕ, _≤_}
+use native.Mathlib.Omega.{arith}
+use lib.Dec.{eqb}
+use lib.ListN.{length, List·getD-eq-default}
+use Rattle.rules.specs.declared.Comparison.{Comparison}
+use Rattle.rules.specs.declared.Operand.{Operand}
+use Rattle.rules.specs.declared.Step.{Step}
+use Rattle.rules.specs.Blocks.{Test, Form, Block}
+use Rattle.rules.specs.Steps.{assigns, step}
+use Rattle.rules.specs.Ranges.{Range, Env, full, bounds, edge, sort, insideRange, outsideRange, loopEnv, inside, outside}
+use Rattle.steps.specs.Sets.{setOf}
+use Rattle.ranges.specs.Env.{widenedEnv}
+
+-- one variable, as the code finds it
+pub wide-at : (set : ℕ → Bool) (mine : Range) (v : ℕ) (ρ : Env) (w : ℕ) (x y : Range) (p : Bool) → x ≡ cond p (cond (eqb w v) mine full) y → y ≡ ρ w → p ≡ set w
+    → x ≡ widenedEnv set mine v ρ w
+unfolding widenedEnv
+wide-at set mine v ρ w x y p a b c = rw (a, b, c)
+
+-- past the last variable
+pub wide-far : (l : List Bool) → length l ≡ 16 → (mine : Range) (v : ℕ) (ρ : Env) (w : ℕ) → 16 ≤ w → widenedEnv (setOf l) mine v ρ w ≡ ρ w
+unfolding widenedEnv setOf
+wide-far l e mine v ρ w h = rw (List·getD-eq-default l false {n = w} (omega arith))
+
+-- the set is what the body assigns
+wide-is : (set : ℕ → Bool) (mine : Range) (test : Test) (ρ : Env) (body : Block) → ((w : ℕ) → set w ≡ assigns w body)
+    → widenedEnv set mine (test .tested) ρ ≡ loopEnv mine ρ test body
+unfolding widenedEnv loopEnv
+wide-is set mine test ρ body h = λ d w. cond (h w d) (cond (eqb w (test .tested)) mine full) (ρ w)
+
+module _ (test : Test) (body : Block) (set : ℕ → Bool) (h : (w : ℕ) → set w ≡ assigns w body) (ρ σ : Env) (mine s : Range) (v : ℕ) (c : Comparison)
+    (a : σ ≡ widenedEnv set mine v ρ) (q : v ≡ test .tested) (r : c ≡ test .comparison) (f : s ≡ ρ v) where
+  whole : σ ≡ loopEnv mine ρ test body
+  whole = a ∙ ap (λ u. widenedEnv set mine u ρ) q ∙ wide-is set mine test ρ body h
+
+  pub outside-is : (st : Step) → mine ≡ outsideRange st (sort c) s → st ≡ step (test .tested) body → σ ≡ outside ρ test body
+  outside-is st m e =
+      whole ∙ ap (λ x. loopEnv x ρ test body) (m ∙ ap (λ x. outsideRange st (sort c) x) f ∙ (λ j. outsideRange (e j) (sort (r j)) (ρ (q j))))
+
+  pub inside-is : (form : Form) (x : Operand) (n : Range) → mine ≡ insideRange form (sort c) s (edge c n) → n ≡ bounds ρ x → x ≡ test .limit → σ ≡ inside form ρ test body
+  inside-is form x n m g e =
+      whole ∙ ap (λ y. loopEnv y ρ test body)
+      (m ∙ (λ j. insideRange form (sort c) (f j) (edge c (g j))) ∙ (λ j. insideRange form (sort (r j)) (ρ (q j)) (edge (r j) (bounds ρ (e j)))))

@@ -1,0 +1,453 @@
+// The known ranges of the variables, carried through a block.
+use rules::Change;
+use rules::Comparison;
+use rules::Kind;
+use rules::Operand;
+use rules::Row;
+use rules::Step;
+use steps::Shape;
+use steps::body_sets;
+use steps::body_step;
+use steps::has;
+use steps::past_else;
+use steps::shape_of;
+ghost use mathlib.Core.Path.{_≡_};
+ghost use mathlib.Core.Bool.{cond};
+ghost use lib.IntN.{ℤ, pos, _+ℤ_, _-ℤ_};
+ghost use Prim.Native.Nat.{ℕ, _+_, _≤_, _<_};
+ghost use Rattle.ints.specs.Ints.{minZ, maxZ, drawn};
+ghost use Rattle.rules.specs.Values.{lowest, highest, put, applied};
+ghost use Rattle.rules.specs.Blocks.{Form, Block};
+ghost use Rattle.rules.specs.Ranges.{bounds, join, full, afterRow, atStart, edge, sort, isDo, insideRange, byStep, outsideRange, after};
+ghost use Rattle.rules.specs.Bounds.{Fine, FineOperand, FineChange};
+ghost use Rattle.steps.specs.Tree.{plainOf, formOf, testOf, Ready, Walked};
+ghost use Rattle.steps.specs.Sets.{setOf};
+ghost use Rattle.steps.specs.Body.{AtLoop};
+ghost use Rattle.ranges.specs.Env.{envOf, rangeOf, joinRange, changedRange, widenedEnv, HeadOf, InsideOf, OutsideOf, AfterLoop};
+
+// A pair of ends.
+pub struct Span {
+    pub lo: i32,
+    pub hi: i32,
+}
+
+// The range of v.
+pub fn span_at(r: [[i32; 2]; 16], v: u8) -> Span
+    requires { ⌜ v < 16 ⌝ }
+    ensures { λ s. ⌜ rangeOf s ≡ envOf r v ⌝ }
+{
+    let i = v as usize;
+    let e = r[i];
+    Span { lo: e[0], hi: e[1] }
+}
+
+// The ranges, but s for v.
+pub fn put(r: [[i32; 2]; 16], v: u8, s: Span) -> [[i32; 2]; 16]
+    requires { ⌜ v < 16 ⌝ }
+    ensures { λ x. ⌜ envOf x ≡ put (envOf r) v (rangeOf s) ⌝ }
+{
+    let mut next = r;
+    let lo = s.lo;
+    let hi = s.hi;
+    let i = v as usize;
+    next[i] = [lo, hi];
+    next
+}
+
+// An operand's range.
+pub fn bounds(r: [[i32; 2]; 16], x: Operand) -> Span
+    requires { ⌜ FineOperand x ⌝ }
+    ensures { λ s. ⌜ rangeOf s ≡ bounds (envOf r) x ⌝ }
+{
+    match x {
+        Operand::Constant(k) => Span { lo: k, hi: k },
+        Operand::Variable(w) => span_at(r, w),
+    }
+}
+
+fn lower(a: i32, b: i32) -> i32
+    ensures { λ r. ⌜ r ≡ minZ a b ⌝ }
+{
+    if a <= b { a } else { b }
+}
+
+fn higher(a: i32, b: i32) -> i32
+    ensures { λ r. ⌜ r ≡ maxZ a b ⌝ }
+{
+    if a <= b { b } else { a }
+}
+
+fn joined_span(x: Span, y: Span) -> Span
+    ensures { λ s. ⌜ rangeOf s ≡ joinRange (rangeOf x) (rangeOf y) ⌝ }
+{
+    Span {
+        lo: lower(x.lo, y.lo),
+        hi: higher(x.hi, y.hi),
+    }
+}
+
+// The ranges over a pick.
+pub fn joined(a: [[i32; 2]; 16], b: [[i32; 2]; 16]) -> [[i32; 2]; 16]
+    ensures { λ r. ⌜ envOf r ≡ join (envOf a) (envOf b) ⌝ }
+{
+    let mut r = a;
+    for i in 0..16 {
+        let s = joined_span(span_at(a, i), span_at(b, i));
+        let next = put(r, i, s);
+        r = next;
+    }
+    r
+}
+
+const L: i64 = 1_000_000_000;
+
+// A number drawn back to -L or L if past it.
+fn drawn(s: i64) -> i32
+    ensures { λ r. ⌜ r ≡ drawn lowest highest s ⌝ }
+{
+    if s < -L {
+        return -1_000_000_000;
+    }
+    if L < s {
+        return 1_000_000_000;
+    }
+    s as i32
+}
+
+// An arithmetic row applied to one end.
+fn moved(x: i32, change: Change) -> i32
+    requires { ⌜ FineChange change ⌝ }
+    ensures { λ r. ⌜ r ≡ drawn lowest highest (applied change x) ⌝ }
+{
+    match change {
+        Change::Add(c) => drawn(x as i64 + c as i64),
+        Change::Sub(c) => drawn(x as i64 - c as i64),
+        Change::Mul(c) => drawn(x as i64 * c as i64),
+        Change::Div(c) => drawn(x as i64 / c as i64),
+    }
+}
+
+fn changed(s: Span, change: Change) -> Span
+    requires { ⌜ FineChange change ⌝ }
+    ensures { λ r. ⌜ rangeOf r ≡ changedRange change (rangeOf s) ⌝ }
+{
+    Span {
+        lo: moved(s.lo, change),
+        hi: moved(s.hi, change),
+    }
+}
+
+// The ranges after a plain row; of a for, after its step row.
+pub fn after_row(r: [[i32; 2]; 16], kind: Kind) -> [[i32; 2]; 16]
+    requires { ⌜ Fine kind ⌝ }
+    ensures { λ x. ⌜ envOf x ≡ afterRow (envOf r) (plainOf kind) ⌝ }
+{
+    match kind {
+        Kind::Set(v, x) => put(r, v, bounds(r, x)),
+        Kind::Move(v, c) => put(r, v, changed(span_at(r, v), c)),
+        Kind::Cue(_) => r,
+        Kind::Pick => r,
+        Kind::Else => r,
+        Kind::End => r,
+        Kind::While(_, _, _) => r,
+        Kind::Do(_, _, _) => r,
+        Kind::For(v, _, _, _, c) => put(r, v, changed(span_at(r, v), c)),
+    }
+}
+
+// The ranges at a loop's start: after a for's start assignment.
+pub fn at_start(r: [[i32; 2]; 16], kind: Kind) -> [[i32; 2]; 16]
+    requires { ⌜ Fine kind ⌝ }
+    ensures { λ x. ⌜ envOf x ≡ atStart (formOf kind) (testOf kind) (envOf r) ⌝ }
+{
+    match kind {
+        Kind::Set(_, _) => r,
+        Kind::Move(_, _) => r,
+        Kind::Cue(_) => r,
+        Kind::Pick => r,
+        Kind::Else => r,
+        Kind::End => r,
+        Kind::While(_, _, _) => r,
+        Kind::Do(_, _, _) => r,
+        Kind::For(v, x, _, _, _) => put(r, v, bounds(r, x)),
+    }
+}
+
+// The test of a loop.
+pub struct Head {
+    pub tested: u8,
+    pub comparison: Comparison,
+    pub limit: Operand,
+}
+
+// The test of a loop's head; any other row gives what is not read.
+pub fn head_of(kind: Kind) -> Head
+    requires { ⌜ Fine kind ⌝ }
+    ensures { λ r. ⌜ HeadOf kind r ⌝ }
+{
+    match kind {
+        Kind::Set(_, _) => NO_HEAD,
+        Kind::Move(_, _) => NO_HEAD,
+        Kind::Cue(_) => NO_HEAD,
+        Kind::Pick => NO_HEAD,
+        Kind::Else => NO_HEAD,
+        Kind::End => NO_HEAD,
+        Kind::While(v, c, x) => Head {
+            tested: v,
+            comparison: c,
+            limit: x,
+        },
+        Kind::Do(v, c, x) => Head {
+            tested: v,
+            comparison: c,
+            limit: x,
+        },
+        Kind::For(v, _, c, x, _) => Head {
+            tested: v,
+            comparison: c,
+            limit: x,
+        },
+    }
+}
+
+const NO_HEAD: Head = Head {
+    tested: 0,
+    comparison: Comparison::Less,
+    limit: Operand::Constant(0),
+};
+
+const FULL: Span = Span {
+    lo: -1_000_000_000,
+    hi: 1_000_000_000,
+};
+
+// One variable over a loop: its own range for the tested one, all for what the body assigns, else as before.
+fn chosen(changes: bool, own: bool, mine: Span, old: Span) -> Span
+    ensures { λ r. ⌜ rangeOf r ≡ cond changes (cond own (rangeOf mine) full) (rangeOf old) ⌝ }
+{
+    if changes {
+        if own { mine } else { FULL }
+    } else {
+        old
+    }
+}
+
+// The ranges over a loop whose body assigns a set of variables, with its tested variable's range.
+fn widened(set: [bool; 16], start: [[i32; 2]; 16], mine: Span, v: u8) -> [[i32; 2]; 16]
+    ensures { λ r. ⌜ envOf r ≡ widenedEnv (setOf set) (rangeOf mine) v (envOf start) ⌝ }
+{
+    let mut r = start;
+    for w in 0..16 {
+        let s = chosen(has(set, w), w == v, mine, span_at(start, w));
+        let next = put(r, w, s);
+        r = next;
+    }
+    r
+}
+
+// A do is tested after its body.
+pub fn is_do(kind: Kind) -> bool
+    ensures { λ r. ⌜ r ≡ isDo (formOf kind) ⌝ }
+{
+    match kind {
+        Kind::Set(_, _) => false,
+        Kind::Move(_, _) => false,
+        Kind::Cue(_) => false,
+        Kind::Pick => false,
+        Kind::Else => false,
+        Kind::End => false,
+        Kind::While(_, _, _) => false,
+        Kind::Do(_, _, _) => true,
+        Kind::For(_, _, _, _, _) => false,
+    }
+}
+
+fn choice(first: bool, a: i32, b: i32) -> i32
+    ensures { λ r. ⌜ r ≡ cond first a b ⌝ }
+{
+    if first { a } else { b }
+}
+
+// The larger of t and the number below m.
+fn below(t: i32, m: i32) -> i32
+    ensures { λ r. ⌜ r ≡ maxZ t (m -ℤ pos 1) ⌝ }
+{
+    if t < m { m - 1 } else { t }
+}
+
+// The smaller of t and the number above m.
+fn above(t: i32, m: i32) -> i32
+    ensures { λ r. ⌜ r ≡ minZ t (m +ℤ pos 1) ⌝ }
+{
+    if m < t { m + 1 } else { t }
+}
+
+// The tested variable's range at the body's start: s its start range, n the limit's.
+fn inside_span(late: bool, comparison: Comparison, s: Span, n: Span) -> Span
+    ensures { λ r. ⌜ ((form : Form) → late ≡ isDo form → rangeOf r ≡ insideRange form (sort comparison) (rangeOf s) (edge comparison (rangeOf n))) ⌝ }
+{
+    match comparison {
+        Comparison::Less => Span {
+            lo: s.lo,
+            hi: below(choice(late, s.hi, s.lo), n.hi),
+        },
+        Comparison::AtMost => Span {
+            lo: s.lo,
+            hi: higher(choice(late, s.hi, s.lo), n.hi),
+        },
+        Comparison::Greater => Span {
+            lo: above(choice(late, s.lo, s.hi), n.lo),
+            hi: s.hi,
+        },
+        Comparison::AtLeast => Span {
+            lo: lower(choice(late, s.lo, s.hi), n.lo),
+            hi: s.hi,
+        },
+        Comparison::Equal => FULL,
+        Comparison::Different => FULL,
+    }
+}
+
+// The ranges at the body's start, from those at the loop's start and the variables that the body assigns.
+pub fn inside(kind: Kind, set: [bool; 16], begun: [[i32; 2]; 16]) -> [[i32; 2]; 16]
+    requires { ⌜ Fine kind ⌝ }
+    ensures { λ r. ⌜ InsideOf kind (setOf set) (envOf begun) (envOf r) ⌝ }
+{
+    let head = head_of(kind);
+    let v = head.tested;
+    let comparison = head.comparison;
+    let limit = head.limit;
+    let s = span_at(begun, v);
+    let n = bounds(begun, limit);
+    let mine = inside_span(is_do(kind), comparison, s, n);
+    widened(set, begun, mine, v)
+}
+
+// The tested variable after the loop, by its step.
+fn by_step(step: Step, up: bool, s: Span) -> Span
+    ensures { λ r. ⌜ rangeOf r ≡ byStep step up (rangeOf s) ⌝ }
+{
+    match step {
+        Step::Add(_, _) => {
+            if up {
+                Span {
+                    lo: s.lo,
+                    hi: 1_000_000_000,
+                }
+            } else {
+                Span {
+                    lo: -1_000_000_000,
+                    hi: s.hi,
+                }
+            }
+        }
+        Step::Grow(_, _) => Span {
+            lo: s.lo,
+            hi: 1_000_000_000,
+        },
+        Step::Shrink(_, _) => Span {
+            lo: lower(s.lo, 0),
+            hi: higher(s.hi, 0),
+        },
+        Step::Unknown => FULL,
+    }
+}
+
+// The tested variable's range after the loop, from its range at the start.
+fn outside_span(step: Step, comparison: Comparison, s: Span) -> Span
+    ensures { λ r. ⌜ rangeOf r ≡ outsideRange step (sort comparison) (rangeOf s) ⌝ }
+{
+    match comparison {
+        Comparison::Less => by_step(step, true, s),
+        Comparison::AtMost => by_step(step, true, s),
+        Comparison::Greater => by_step(step, false, s),
+        Comparison::AtLeast => by_step(step, false, s),
+        Comparison::Equal => FULL,
+        Comparison::Different => FULL,
+    }
+}
+
+// The ranges after a loop, from those at its start, the variables that its body assigns and the tested variable's step.
+pub fn outside(kind: Kind, set: [bool; 16], step: Step, begun: [[i32; 2]; 16]) -> [[i32; 2]; 16]
+    requires { ⌜ Fine kind ⌝ }
+    ensures { λ r. ⌜ OutsideOf kind (setOf set) step (envOf begun) (envOf r) ⌝ }
+{
+    let head = head_of(kind);
+    let v = head.tested;
+    let comparison = head.comparison;
+    let mine = outside_span(step, comparison, span_at(begun, v));
+    widened(set, begun, mine, v)
+}
+
+// The ranges after the loop at row i; `next` gets its end.
+fn after_loop(
+    rows: [Row; 256],
+    count: usize,
+    i: usize,
+    r: [[i32; 2]; 16],
+    next: &mut usize,
+) -> [[i32; 2]; 16]
+    requires { ⌜ AtLoop rows count i ⌝ }
+    ensures { λ x. ⌜ AfterLoop rows count i (envOf r) (envOf x) (now (next .exit)) ⌝ }
+{
+    let row = rows[i];
+    let kind = row.kind;
+    let head = head_of(kind);
+    let v = head.tested;
+    let begun = at_start(r, kind);
+    let body = body_sets(rows, count, i);
+    let set = body.set;
+    let moves = body_step(rows, count, i, v);
+    let step = moves.step;
+    *next = body.next;
+    outside(kind, set, step, begun)
+}
+
+// The ranges after the block that starts at row `at`; `next` gets the row that closes the block.
+pub fn after(
+    rows: [Row; 256],
+    count: usize,
+    at: usize,
+    start: [[i32; 2]; 16],
+    next: &mut usize,
+) -> [[i32; 2]; 16]
+    requires { ⌜ Ready rows count at ⌝ }
+    ensures { λ r. ⌜ Walked rows count at (now (next .exit)) (envOf r) (after (envOf start)) ⌝ }
+{
+    let mut r = start;
+    let mut i = at;
+    while i < count {
+        let row = rows[i];
+        let kind = row.kind;
+        match shape_of(kind) {
+            Shape::Plain => {
+                let x = after_row(r, kind);
+                r = x;
+                i = i + 1;
+            }
+            Shape::Branch => {
+                let mut m: usize = 0;
+                let a = after(rows, count, i + 1, r, &mut m);
+                let closer = rows[m];
+                let closing = closer.kind;
+                let mut e: usize = 0;
+                let b = after(rows, count, past_else(closing, m), r, &mut e);
+                let x = joined(a, b);
+                r = x;
+                i = e + 1;
+            }
+            Shape::Loop => {
+                let mut e: usize = 0;
+                let x = after_loop(rows, count, i, r, &mut e);
+                r = x;
+                i = e + 1;
+            }
+            Shape::Close => {
+                *next = i;
+                return r;
+            }
+        }
+    }
+    *next = i;
+    r
+}

@@ -1,0 +1,130 @@
+-- The set of assigned variables as a fold from the first row.
+use mathlib.Core.Path.{_≡_, refl, sym, ap, _∙_}
+use mathlib.Core.Bool.{Bool, true, false, cond, _||_}
+use mathlib.Core.List.{List, [], _∷_}
+use Prim.Native.Nat.{ℕ, zero, suc, _<_}
+use native.Mathlib.Omega.{arith}
+use lib.Dec.{eqb}
+use lib.ListN.{length, getD, set}
+use Rattle.rules.specs.declared.Kind.{Kind}
+use Rattle.rules.specs.declared.Kind.the-variants.{Set, Move, Cue, Pick, Else, End, While, Do, For}
+use Rattle.rules.specs.Blocks.{Plain, Block, done, plain, pick, loop, snoc}
+use Rattle.rules.specs.Steps.{sets, starts, assigns}
+use Rattle.rules.proofs.Laws.{put-set}
+use Rattle.steps.specs.declared.Shape.{Shape}
+use Rattle.steps.specs.Tree.{shapeOf, plainOf, formOf, testOf, withLast}
+use Rattle.steps.specs.Sets.{setOf, withOne, withRow, assignsFrom}
+
+pub no-shape : {A : Type 0} → Shape.Plain ≡ Shape.Loop → A
+no-shape e = absurd (let z : _≡_ {A = ℕ} 0 1 = cc in omega arith)
+
+or-assoc : (a b c : Bool) → a || (b || c) ≡ (a || b) || c
+or-assoc true b c = refl
+or-assoc false b c = refl
+
+or-false : (x : Bool) → x || false ≡ x
+or-false true = refl
+or-false false = refl
+
+-- a row at the end
+pub assigns-snoc : (v : ℕ) (b : Block) (i : ℕ) (p : Plain) → assigns v (snoc b i p) ≡ assigns v b || sets v p
+unfolding assigns snoc
+assigns-snoc v done i p = or-false (sets v p)
+assigns-snoc v (plain j q rest) i p = rw (assigns-snoc v rest i p) (or-assoc (sets v q) _ _)
+assigns-snoc v (pick j e a b rest) i p = rw (assigns-snoc v rest i p) (or-assoc (assigns v a || assigns v b) _ _)
+assigns-snoc v (loop j e form test body rest) i p = rw (assigns-snoc v rest i p) (or-assoc (starts v form test || assigns v body) _ _)
+
+or-cond : (a t : Bool) → cond t true a ≡ a || t
+or-cond true true = refl
+or-cond true false = refl
+or-cond false true = refl
+or-cond false false = refl
+
+-- one variable stored
+pub set-one : (l : List Bool) (v : ℕ) → v < length l → setOf (set l v true) ≡ withOne (setOf l) v
+unfolding setOf withOne
+set-one l v h = put-set l v true false h ∙ (λ d w. or-cond (getD l w false) (eqb w v) d)
+
+-- the rows that assign v, and those that assign none
+pub row-one : (x : ℕ → Bool) (v : ℕ) (p : Plain) → ((w : ℕ) → sets w p ≡ eqb w v) → withOne x v ≡ withRow x p
+unfolding withOne withRow
+row-one x v p h = λ d w. x w || sym (h w) d
+
+pub row-none : (x : ℕ → Bool) (p : Plain) → ((w : ℕ) → sets w p ≡ false) → x ≡ withRow x p
+unfolding withRow
+row-none x p h = λ d w. (sym (or-false (x w)) ∙ ap (λ z. x w || z) (sym (h w))) d
+
+module _ (x : ℕ → Bool) where
+  pub from-none : assignsFrom x done ≡ x
+  unfolding assignsFrom assigns
+  from-none = λ d w. or-false (x w) d
+
+  module _ (i : ℕ) where
+    pub from-plain : (p : Plain) (rest : Block) → assignsFrom x (plain i p rest) ≡ assignsFrom (withRow x p) rest
+    unfolding assignsFrom assigns withRow
+    from-plain p rest = λ d w. or-assoc (x w) (sets w p) (assigns w rest) d
+
+    pub from-pick : (e : ℕ) (a b rest : Block) → assignsFrom x (pick i e a b rest) ≡ assignsFrom (assignsFrom (assignsFrom x a) b) rest
+    unfolding assignsFrom assigns
+    from-pick e a b rest = λ d w. (or-assoc (x w) (assigns w a || assigns w b) (assigns w rest) ∙ ap (λ z. z || assigns w rest) (or-assoc (x w) (assigns w a) (assigns w b))) d
+
+-- what a loop assigns, its start and its body: what its body assigns
+or-again : (a b : Bool) → a || (b || a) ≡ b || a
+or-again true true = refl
+or-again true false = refl
+or-again false b = refl
+
+pub body-assigns : (v : ℕ) (k : Kind) → shapeOf k ≡ Shape.Loop → (i : ℕ) (b : Block) → assigns v (withLast k i b) ≡ assigns v b || sets v (plainOf k)
+unfolding withLast sets
+body-assigns v (Set w x) h i b = no-shape h
+body-assigns v (Move w c) h i b = no-shape h
+body-assigns v (Cue n) h i b = sym (or-false _)
+body-assigns v Pick h i b = sym (or-false _)
+body-assigns v Else h i b = sym (or-false _)
+body-assigns v End h i b = sym (or-false _)
+body-assigns v (While w c x) h i b = sym (or-false _)
+body-assigns v (Do w c x) h i b = sym (or-false _)
+body-assigns v (For w s c x d) h i b = assigns-snoc v b i _
+
+pub loop-assigns : (v : ℕ) (k : Kind) → shapeOf k ≡ Shape.Loop → (i : ℕ) (b : Block) → starts v (formOf k) (testOf k) || assigns v (withLast k i b) ≡ assigns v (withLast k i b)
+unfolding formOf testOf withLast sets
+loop-assigns v (Set w x) h i b = no-shape h
+loop-assigns v (Move w c) h i b = no-shape h
+loop-assigns v (Cue n) h i b = refl
+loop-assigns v Pick h i b = refl
+loop-assigns v Else h i b = refl
+loop-assigns v End h i b = refl
+loop-assigns v (While w c x) h i b = refl
+loop-assigns v (Do w c x) h i b = refl
+loop-assigns v (For w s c x d) h i b = rw (assigns-snoc v b i) (or-again (eqb v w) (assigns v b))
+
+pub from-loop : (x : ℕ → Bool) (i : ℕ) (k : Kind) → shapeOf k ≡ Shape.Loop → (e : ℕ) (b rest : Block)
+    → assignsFrom x (loop i e (formOf k) (testOf k) (withLast k i b) rest) ≡ assignsFrom (withRow (assignsFrom x b) (plainOf k)) rest
+unfolding assignsFrom assigns withRow
+from-loop x i k h e b rest = λ d w.
+    (or-assoc (x w) (starts w (formOf k) (testOf k) || assigns w (withLast k i b)) (assigns w rest)
+    ∙ ap (λ z. (x w || z) || assigns w rest) (loop-assigns w k h i b ∙ body-assigns w k h i b)
+    ∙ ap (λ z. z || assigns w rest) (or-assoc (x w) (assigns w b) (sets w (plainOf k)))) d
+
+-- no variable is in the set
+unfoldable pub clear : List Bool → Bool
+clear [] = true
+clear (true ∷ l) = false
+clear (false ∷ l) = clear l
+
+no-true : {A : Type 0} → false ≡ true → A
+no-true e = absurd (let z : _≡_ {A = ℕ} 0 1 = cc in omega arith)
+
+none-in : (l : List Bool) → clear l ≡ true → (w : ℕ) → getD l w false ≡ false
+unfolding clear
+none-in [] e w = refl
+none-in (true ∷ l) e w = no-true e
+none-in (false ∷ l) e zero = refl
+none-in (false ∷ l) e (suc w) = none-in l e w
+
+-- the set of a loop's body, from the empty set
+pub body-set : (v : ℕ) (l : List Bool) (k : Kind) → shapeOf k ≡ Shape.Loop → clear l ≡ true → (i : ℕ) (b : Block) (y z : ℕ → Bool)
+    → y ≡ withRow z (plainOf k) → z ≡ assignsFrom (setOf l) b → y v ≡ assigns v (withLast k i b)
+unfolding setOf withRow assignsFrom
+body-set v l k h e i b y z p q =
+    ap (λ f. f v) (p ∙ ap (λ f. withRow f (plainOf k)) q) ∙ ap (λ t. (t || assigns v b) || sets v (plainOf k)) (none-in l e v) ∙ sym (body-assigns v k h i b)

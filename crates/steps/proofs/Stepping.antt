@@ -1,0 +1,130 @@
+-- The walk that finds a variable's step: its loop, and how large the step's ends get.
+use mathlib.Core.Path.{_≡_, refl, sym}
+use mathlib.Core.Bool.{Bool, cond, _||_}
+use mathlib.Core.List.{List}
+use Prim.Native.Nat.{ℕ, _+_, _-_, _≤_, _<_}
+use native.Mathlib.Omega.{arith}
+use lib.Dec.{eqb}
+use lib.IntN.{ℤ, pos, _+ℤ_}
+use Rattle.ints.proofs.Parts.{ints, add-parts}
+use Rattle.rules.specs.declared.Row.{Row}
+use Rattle.rules.specs.declared.Kind.{Kind}
+use Rattle.rules.specs.declared.Kind.the-variants.{Set, Move, Cue, Pick, Else, End, While, Do, For}
+use Rattle.rules.specs.declared.Step.{Step}
+use Rattle.rules.specs.declared.Step.the-variants.{Add, Grow, Shrink, Unknown}
+use Rattle.rules.specs.Blocks.{changed, Plain, assign, Block, done, plain, pick, loop, snoc}
+use Rattle.rules.specs.Steps.{still, starts, assigns, sourceStep, changeStep, rowStep, then, either, stepFrom, step}
+use Rattle.rules.specs.Bounds.{Ends, Fine}
+use Rattle.rules.proofs.Ends.{ends-more, ends-only, still-ends, then-ends, either-ends, change-ends}
+use Rattle.steps.specs.declared.Shape.{Shape}
+use Rattle.steps.specs.Tree.{Ready, Walked, kindAt, blockAt, shapeOf, plainOf, withLast}
+use Rattle.steps.specs.Body.{bodyAt}
+use Rattle.steps.proofs.Laws.{PickIs, LoopIs}
+use Rattle.steps.proofs.Walking.{Walking, begin, plain-row, pick-row, loop-row, at-close, at-last}
+use Rattle.steps.proofs.Sets.{loop-assigns, no-shape}
+
+-- the step of one row within its limits
+pub row-ends : (v : ℕ) (k : Kind) → Fine k → Ends 1 (rowStep v (plainOf k))
+unfolding rowStep sourceStep
+row-ends v (Set w x) h = ends-only 1 (eqb v w) Unknown tt
+row-ends v (Move w c) (l, h) = ends-only 1 (eqb v w) (changeStep c) (change-ends c h)
+row-ends v (Cue n) h = still-ends 1
+row-ends v Pick h = still-ends 1
+row-ends v Else h = still-ends 1
+row-ends v End h = still-ends 1
+row-ends v (While w c x) h = still-ends 1
+row-ends v (Do w c x) h = still-ends 1
+row-ends v (For w s c x d) (l, p, q, h) = ends-only 1 (eqb v w) (changeStep d) (change-ends d h)
+
+abbrev pub steps : ℕ → Step → Block → Step
+steps v x b = stepFrom x v b
+
+module _ (rows : List Row) (count at v : ℕ) where
+  -- at row i, s is the step over the rows from `at`
+  pub record Stepping (i : ℕ) (s : Step) : Type 0 where
+    pub walk : Walking rows count (steps v) at still i s
+    pub ends : Ends (i - at) s
+
+  module _ (r : Ready rows count at) where
+    pub starts-at : Stepping at still
+    starts-at = record { walk = begin rows count (steps v) at still (r .within); ends = still-ends (at - at) }
+
+    module _ {i : ℕ} {s : Step} (k : Stepping i s) where
+      -- what `then` asks
+      pub room : Ends 512 s
+      room = let w = k .walk in ends-more (i - at) 512 (omega arith) s (k .ends)
+
+      pub closed : i < count → shapeOf (kindAt rows i) ≡ Shape.Close → Walked rows count at i s (step v) × Ends (i - at) s
+      unfolding stepFrom
+      closed l h = (at-close rows count (steps v) at still refl (k .walk) l (r .built) h, k .ends)
+
+      pub ended : count ≤ i → Walked rows count at i s (step v) × Ends (i - at) s
+      unfolding stepFrom
+      ended l = (at-last rows count (steps v) at still refl (k .walk) (r .built) l, k .ends)
+
+      module _ (l : i < count) where
+        pub row-room : Ends 512 (rowStep v (plainOf (kindAt rows i)))
+        row-room = ends-more 1 512 (omega arith) (rowStep v (plainOf (kindAt rows i))) (row-ends v (kindAt rows i) (r .fine i l))
+
+        -- a step x of at most e − i rows after s
+        next : (x : Step) (n e : ℕ) → n + i ≤ e → Ends n x → Walking rows count (steps v) at still e (then s x) → Stepping e (then s x)
+        next x n e b h w = record { walk = w; ends = let z = k .walk in ends-more (i - at + n) (e - at) (omega arith) (then s x) (then-ends (i - at) n s x (k .ends) h) }
+
+        pub plain-step : shapeOf (kindAt rows i) ≡ Shape.Plain → Stepping (i + 1) (then s (rowStep v (plainOf (kindAt rows i))))
+        unfolding stepFrom
+        plain-step h =
+            next (rowStep v (plainOf (kindAt rows i))) 1 (i + 1) (omega arith) (row-ends v (kindAt rows i) (r .fine i l))
+            (plain-row rows count (steps v) at still (k .walk) l (r .built) h (λ rest. refl))
+
+        module _ {m q e : ℕ} (t : PickIs rows count i m q e) {x y : Step}
+            (f : Walked rows count (i + 1) m x (step v) × Ends (m - (i + 1)) x) (g : Walked rows count q e y (step v) × Ends (e - q) y) where
+          either-room : Ends (e - i) (either x y)
+          either-room =
+              either-ends (e - i) x y (ends-more (m - (i + 1)) (e - i) (omega arith) x (f .1)) (ends-more (e - q) (e - i) (omega arith) y (g .1))
+
+          pub pick-room : Ends 512 (either x y)
+          pick-room = ends-more (e - i) 512 (omega arith) (either x y) either-room
+
+          pub pick-step : Stepping (e + 1) (then s (either x y))
+          unfolding stepFrom
+          pick-step =
+              next (either x y) (e - i) (e + 1) (omega arith) either-room
+              (pick-row rows count (steps v) at still (k .walk) l (r .built) t (λ rest. rw (f .0 .value, g .0 .value) refl))
+
+        pub loop-step : {e : ℕ} → LoopIs rows count (kindAt rows i) i e → shapeOf (kindAt rows i) ≡ Shape.Loop → {x : Bool} → x ≡ assigns v (bodyAt rows count i)
+            → Stepping (e + 1) (then s (cond x Unknown still))
+        unfolding stepFrom
+        loop-step {e} t h {x} f =
+            next (cond x Unknown still) 1 (e + 1) (omega arith) (ends-only 1 x Unknown tt)
+            (loop-row rows count (steps v) at still (k .walk) l (r .built) t
+            (λ rest. rw (loop-assigns v (kindAt rows i) h i (blockAt rows count (i + 1)), f) refl))
+
+add-none : (a : ℤ) → a +ℤ pos 0 ≡ a
+add-none a = omega (ints, add-parts a (pos 0))
+
+then-still : (s : Step) → then s still ≡ s
+unfolding then
+then-still (Add a b) = rw (add-none a, add-none b)
+then-still (Grow f g) = refl
+then-still (Shrink f g) = refl
+then-still Unknown = refl
+
+step-snoc : (x : Step) (v : ℕ) (b : Block) (i : ℕ) (p : Plain) → stepFrom x v (snoc b i p) ≡ then (stepFrom x v b) (rowStep v p)
+unfolding stepFrom snoc
+step-snoc x v done i p = refl
+step-snoc x v (plain j q rest) i p = step-snoc (then x (rowStep v q)) v rest i p
+step-snoc x v (pick j e a b rest) i p = step-snoc (then x (either (stepFrom still v a) (stepFrom still v b))) v rest i p
+step-snoc x v (loop j e form test body rest) i p = step-snoc (then x (cond (starts v form test || assigns v body) Unknown still)) v rest i p
+
+-- the step over a loop's body
+pub body-is : (v : ℕ) (k : Kind) → shapeOf k ≡ Shape.Loop → (i : ℕ) (b : Block) → then (step v b) (rowStep v (plainOf k)) ≡ step v (withLast k i b)
+unfolding withLast rowStep
+body-is v (Set w x) h i b = no-shape h
+body-is v (Move w c) h i b = no-shape h
+body-is v (Cue n) h i b = then-still (step v b)
+body-is v Pick h i b = then-still (step v b)
+body-is v Else h i b = then-still (step v b)
+body-is v End h i b = then-still (step v b)
+body-is v (While w c x) h i b = then-still (step v b)
+body-is v (Do w c x) h i b = then-still (step v b)
+body-is v (For w s c x d) h i b = sym (step-snoc still v b i (assign w (changed d)))

@@ -1,0 +1,4 @@
+-- What the contracts of the walks cite.
+pub mod Tree
+pub mod Sets
+pub mod Body

@@ -1,0 +1,24 @@
+-- Sets of variables: an array of bools as the function of the variable's number.
+use mathlib.Core.Bool.{Bool, false, _||_}
+use mathlib.Core.List.{List}
+use Prim.Native.Nat.{ℕ}
+use lib.Dec.{eqb}
+use lib.ListN.{getD}
+use Rattle.rules.specs.Blocks.{Plain, Block}
+use Rattle.rules.specs.Steps.{sets, assigns}
+
+-- the set that an array holds
+unfoldable pub setOf : List Bool → ℕ → Bool
+setOf l w = getD l w false
+
+-- with one variable more
+unfoldable pub withOne : (ℕ → Bool) → ℕ → ℕ → Bool
+withOne x v w = x w || eqb w v
+
+-- with the variable that a row assigns
+unfoldable pub withRow : (ℕ → Bool) → Plain → ℕ → Bool
+withRow x p w = x w || sets w p
+
+-- with the variables that a block assigns
+unfoldable pub assignsFrom : (ℕ → Bool) → Block → ℕ → Bool
+assignsFrom x b w = x w || assigns w b

@@ -1,0 +1,355 @@
+-- `survey::walk` meets its contract: what the rows walked gave, and the block that is left.
+use borrow.Author.Needs.{needs}
+use native.Mathlib.Omega.{arith}
+use Prim.Native.Nat.{ℕ, _<_, _-_, _+_, _≤_}
+use mathlib.Core.Path.{_≡_, refl, sym, ap, ap₂, subst, _∙_}
+use mathlib.Core.List.{[], _∷_, _++_}
+use Rattle.rules.specs.Ranges.{atStart, inside, outside}
+use Rattle.rules.specs.Questions.{refused, loopsVerdict}
+use Rattle.steps.specs.Tree.{kindAt, blockAt, endAt, pastElse, formOf, testOf}
+use Rattle.steps.specs.Body.{bodyAt}
+use Rattle.steps.proofs.Laws.{PickIs, LoopIs}
+use Rattle.steps.proofs.Walking.{ready, begin, pick-at, loop-at, at-close, at-last}
+use Rattle.ranges.specs.Env.{envOf}
+use Rattle.ticks.specs.Capped.{capped, overOf}
+use Rattle.turns.specs.Needs.{answer}
+use Rattle.survey.specs.Fold.{loopCount, linesOf, tallied, lastTicks, LoopOf, Passed}
+use Rattle.survey.proofs.Folding.{fold-none}
+use Rattle.survey.proofs.Going.{Part, from-parts, part-of, refused-in, closing, restart-walkable, lined-walkable, Going, go-plain, pick-room, pick-first, pick-second, go-pick, loop-room, loop-refused, body-refused, go-loop, last-small}
+use borrow.Fn.Kinds.{In}
+use borrow.Fn.PlainCycle.{Measures, is, falls, and}
+use Rattle.survey.proofs.walk.Reads as walk
+use Rattle.survey.proofs.walk.Kinds as walk-kinds
+use Rattle.survey.proofs.+walk.Lts-walk as lts
+use Rattle.ranges.proofs.after_row.Reads as after-row-reads
+use Rattle.ranges.proofs.at_start.Reads as at-start-reads
+use Rattle.ranges.proofs.inside.Reads as inside-reads
+use Rattle.ranges.proofs.outside.Reads as outside-reads
+use Rattle.steps.proofs.past_else.Reads as past-else-reads
+use Rattle.steps.proofs.shape_of.Reads as shape-of-reads
+use Rattle.survey.proofs.after_pick.Reads as after-pick-reads
+use Rattle.survey.proofs.closed.Reads as closed-reads
+use Rattle.survey.proofs.ended.Reads as ended-reads
+use Rattle.survey.proofs.larger.Reads as larger-reads
+use Rattle.survey.proofs.last_ticks.Reads as last-ticks-reads
+use Rattle.survey.proofs.lined.Reads as lined-reads
+use Rattle.survey.proofs.one_loop.Reads as one-loop-reads
+use Rattle.survey.proofs.refused.Reads as refused-reads
+use Rattle.survey.proofs.restarted.Reads as restarted-reads
+use Rattle.ticks.proofs.loop_ticks.Reads as loop-ticks-reads
+use Rattle.ticks.proofs.plus.Reads as plus-reads
+use Rattle.ticks.proofs.times.Reads as times-reads
+use Rattle.survey.proofs.+walk.{statement}
+use Rattle.survey.proofs.+walk.Tie.{close}
+
+-- the rows left
+abbrev μ-walk : Measures 0 walk-kinds.ps ℕ
+μ-walk κs a = a .1 .0 - a .1 .1 .0
+
+abbrev here : ℕ → In 0 walk-kinds.ps
+here t = and 0 walk-kinds.ps (is 0 walk-kinds.ps μ-walk t) walk.Pre
+
+abbrev below : ℕ → In 0 walk-kinds.ps
+below t = and 0 walk-kinds.ps (falls 0 walk-kinds.ps _<_ μ-walk t) walk.Pre
+
+abbrev Inv : lts.InvT-loop
+Inv count at outer rows r₀ t₀ i₀ r t i = Going rows count outer at (tallied t₀ (envOf r₀)) i (envOf r) t
+
+abbrev μ : lts.MeasureT-loop
+μ count at outer rows r₀ t₀ i₀ r t i = count - i
+
+abbrev given : ℕ → lts.Claims
+given t = (shape-of-reads.Asked, shape-of-reads.Learnt, after-row-reads.Asked, after-row-reads.Learnt, plus-reads.Asked, plus-reads.Learnt, restarted-reads.Asked, restarted-reads.Learnt, below t, walk.Post, past-else-reads.Asked, past-else-reads.Learnt, after-pick-reads.Asked, after-pick-reads.Learnt, larger-reads.Asked, larger-reads.Learnt, closed-reads.Asked, closed-reads.Learnt, at-start-reads.Asked, at-start-reads.Learnt, one-loop-reads.Asked, one-loop-reads.Learnt, refused-reads.Asked, refused-reads.Learnt, times-reads.Asked, times-reads.Learnt, last-ticks-reads.Asked, last-ticks-reads.Learnt, lined-reads.Asked, lined-reads.Learnt, inside-reads.Asked, inside-reads.Learnt, outside-reads.Asked, outside-reads.Learnt, loop-ticks-reads.Asked, loop-ticks-reads.Learnt, ended-reads.Asked, ended-reads.Learnt)
+
+-- ---- a pick: before its first part, after it, after both
+pick-0 : (t : ℕ) (c : lts.After-enum-told2 (given t) (here t) walk.Post Inv μ) → let s = c .before .before .before .before .before .before .args in let m = endAt (s .t1) (s .count) (c .before .before .before .before .before .loop .i + 1) in
+    PickIs (s .t1) (s .count) (c .before .before .before .before .before .loop .i) m (pastElse (kindAt (s .t1) m) m) (endAt (s .t1) (s .count) (pastElse (kindAt (s .t1) m) m))
+pick-0 t c = pick-at _ _ _ (c .before .before .before .before .loop-test .taken) (c .before .before .before .before .before .before .pre .1 .ready .built) (sym (c .before .before .shape-of .ensures) ∙ c .enum-told2 .given .1) refl refl refl
+
+passed-1 : (t : ℕ) (c : lts.Else1 (given t) (here t) walk.Post Inv μ) → let s = c .before .before .before .before .before .before .before .before .before .before .args in Passed (s .t1) (s .count) (c .before .before .before .before .before .before .before .before .before .loop .i + 1) (envOf (c .before .before .before .before .before .before .before .before .before .loop .r)) (s .outer) (c .before .before .before .restarted2 .result) (c .before .before .walk .result)
+passed-1 t c = c .before .before .walk .ensures .whole (c .if1 .left)
+
+part-1 : (t : ℕ) (c : lts.Else1 (given t) (here t) walk.Post Inv μ) → let s = c .before .before .before .before .before .before .before .before .before .before .args in let y = c .before .before .before .before .before .before .before .before .before .loop .t in
+    Part (s .outer) (envOf (c .before .before .before .before .before .before .before .before .before .loop .r)) 0 (overOf (y .over)) (linesOf (y .lines) (y .loops)) (y .loops) (blockAt (s .t1) (s .count) (c .before .before .before .before .before .before .before .before .before .loop .i + 1)) (c .before .before .walk .result)
+part-1 t c = let y = c .before .before .before .before .before .before .before .before .before .loop .t in part-of 0 (overOf (y .over)) (linesOf (y .lines) (y .loops)) (y .loops) (c .before .before .before .restarted2 .ensures .value _) (passed-1 t c)
+
+pick-1 : (t : ℕ) (c : lts.Else1 (given t) (here t) walk.Post Inv μ) → let s = c .before .before .before .before .before .before .before .before .before .before .args in let m = c .before .before .walk .result .next in
+    PickIs (s .t1) (s .count) (c .before .before .before .before .before .before .before .before .before .loop .i) m (pastElse (kindAt (s .t1) m) m) (endAt (s .t1) (s .count) (pastElse (kindAt (s .t1) m) m))
+pick-1 t c = pick-at _ _ _ (c .before .before .before .before .before .before .before .before .loop-test .taken) (c .before .before .before .before .before .before .before .before .before .before .pre .1 .ready .built) (sym (c .before .before .before .before .before .before .shape-of .ensures) ∙ c .before .before .before .before .enum-told2 .given .1) (passed-1 t c .place) refl refl
+
+pick-q : (t : ℕ) (c : lts.After-past-else (given t) (here t) walk.Post Inv μ) → let s = c .before .before .before .before .before .before .before .before .before .before .before .before .args in
+    PickIs (s .t1) (s .count) (c .before .before .before .before .before .before .before .before .before .before .before .loop .i) (c .before .before .before .before .walk .result .next) (c .past-else .result) (endAt (s .t1) (s .count) (c .past-else .result))
+pick-q t c = pick-at _ _ _ (c .before .before .before .before .before .before .before .before .before .before .loop-test .taken) (c .before .before .before .before .before .before .before .before .before .before .before .before .pre .1 .ready .built) (sym (c .before .before .before .before .before .before .before .before .shape-of .ensures) ∙ c .before .before .before .before .before .before .enum-told2 .given .1) (passed-1 t (c .before .before) .place) (c .past-else .ensures) refl
+
+passed-2 : (t : ℕ) (c : lts.Else2 (given t) (here t) walk.Post Inv μ) → let s = c .before .before .before .before .before .before .before .before .before .before .before .before .before .before .before .before .args in Passed (s .t1) (s .count) (c .before .before .before .before .past-else .result) (envOf (c .before .before .before .before .before .before .before .before .before .before .before .before .before .before .before .loop .r)) (s .outer) (c .before .before .before .restarted3 .result) (c .before .before .walk2 .result)
+passed-2 t c = c .before .before .walk2 .ensures .whole (c .if2 .left)
+
+pick-2 : (t : ℕ) (c : lts.Else2 (given t) (here t) walk.Post Inv μ) → let s = c .before .before .before .before .before .before .before .before .before .before .before .before .before .before .before .before .args in
+    PickIs (s .t1) (s .count) (c .before .before .before .before .before .before .before .before .before .before .before .before .before .before .before .loop .i) (c .before .before .before .before .before .before .before .before .walk .result .next) (c .before .before .before .before .past-else .result) (c .before .before .walk2 .result .next)
+pick-2 t c = pick-at _ _ _ (c .before .before .before .before .before .before .before .before .before .before .before .before .before .before .loop-test .taken) (c .before .before .before .before .before .before .before .before .before .before .before .before .before .before .before .before .pre .1 .ready .built) (sym (c .before .before .before .before .before .before .before .before .before .before .before .before .shape-of .ensures) ∙ c .before .before .before .before .before .before .before .before .before .before .enum-told2 .given .1) (passed-1 t (c .before .before .before .before .before .before) .place) (c .before .before .before .before .past-else .ensures) (passed-2 t c .place)
+
+part-2 : (t : ℕ) (c : lts.Else2 (given t) (here t) walk.Post Inv μ) → let s = c .before .before .before .before .before .before .before .before .before .before .before .before .before .before .before .before .args in let y = c .before .before .before .before .before .before .before .before .walk .result in
+    Part (s .outer) (envOf (c .before .before .before .before .before .before .before .before .before .before .before .before .before .before .before .loop .r)) 0 (overOf (y .over)) (linesOf (y .lines) (y .loops)) (y .loops) (blockAt (s .t1) (s .count) (c .before .before .before .before .past-else .result)) (c .before .before .walk2 .result)
+part-2 t c = let y = c .before .before .before .before .before .before .before .before .walk .result in part-of 0 (overOf (y .over)) (linesOf (y .lines) (y .loops)) (y .loops) (c .before .before .before .restarted3 .ensures .value _) (passed-2 t c)
+
+-- ---- a loop: at its head, after its body
+one-1 : (t : ℕ) (c : lts.After-one-loop (given t) (here t) walk.Post Inv μ) → let s = c .before .before .before .before .before .before .before .before .args in let i = c .before .before .before .before .before .before .before .loop .i in let k = kindAt (s .t1) i in
+    LoopOf (s .t1) (s .count) i (atStart (formOf k) (testOf k) (envOf (c .before .before .before .before .before .before .before .loop .r))) (c .one-loop .result)
+one-1 t c = let s = c .before .before .before .before .before .before .before .before .args in subst (λ ρ. LoopOf (s .t1) (s .count) (c .before .before .before .before .before .before .before .loop .i) ρ (c .one-loop .result)) (c .before .at-start .ensures) (c .one-loop .ensures)
+
+loop-1 : (t : ℕ) (c : lts.After-one-loop (given t) (here t) walk.Post Inv μ) → let s = c .before .before .before .before .before .before .before .before .args in
+    LoopIs (s .t1) (s .count) (kindAt (s .t1) (c .before .before .before .before .before .before .before .loop .i)) (c .before .before .before .before .before .before .before .loop .i) (c .one-loop .result .next)
+loop-1 t c = loop-at _ _ _ (c .before .before .before .before .before .before .loop-test .taken) (c .before .before .before .before .before .before .before .before .pre .1 .ready .built) (sym (c .before .before .before .before .shape-of .ensures) ∙ c .before .before .enum-told3 .given .1) (c .one-loop .ensures .ends .place)
+
+inside-1 : (t : ℕ) (c : lts.After-inside (given t) (here t) walk.Post Inv μ) → let s = c .before .before .before .before .before .before .before .before .before .before .before .before .before .before .before .args in let i = c .before .before .before .before .before .before .before .before .before .before .before .before .before .before .loop .i in let k = kindAt (s .t1) i in let b = bodyAt (s .t1) (s .count) i in
+    envOf (c .inside .result) ≡ inside (formOf k) (atStart (formOf k) (testOf k) (envOf (c .before .before .before .before .before .before .before .before .before .before .before .before .before .before .loop .r))) (testOf k) b
+inside-1 t c =
+    let s = c .before .before .before .before .before .before .before .before .before .before .before .before .before .before .before .args in
+    let i = c .before .before .before .before .before .before .before .before .before .before .before .before .before .before .loop .i in
+    let k = kindAt (s .t1) i in
+    let b = bodyAt (s .t1) (s .count) i in
+    c .inside .ensures .value b (c .before .before .before .before .before .before .before .one-loop .ensures .sets) ∙ ap (λ ρ. inside (formOf k) ρ (testOf k) b) (c .before .before .before .before .before .before .before .before .at-start .ensures)
+
+passed-3 : (t : ℕ) (c : lts.Else4 (given t) (here t) walk.Post Inv μ) → let s = c .before .before .before .before .before .before .before .before .before .before .before .before .before .before .before .before .before .before .args in Passed (s .t1) (s .count) (c .before .before .before .before .before .before .before .before .before .before .before .before .before .before .before .before .before .loop .i + 1) (envOf (c .before .before .before .inside .result)) (c .before .before .before .before .before .before .times .result) (c .before .before .before .before .lined .result) (c .before .before .walk3 .result)
+passed-3 t c = c .before .before .walk3 .ensures .whole (c .if4 .left)
+
+-- ---- the needs
+loop-holds : (t : ℕ) → lts.Need-loop-holds (given t) (here t) walk.Post Inv μ
+loop-holds t c = record { walk = begin _ _ _ _ _ (c .pre .1 .ready .within); small = c .pre .1 .small }
+
+after-row-requires : (t : ℕ) → lts.Need-after-row-requires (given t) (here t) walk.Post Inv μ
+after-row-requires t c κs = c .before .before .before .before .before .before .pre .1 .ready .fine _ (c .before .before .before .before .loop-test .taken)
+
+plus-requires : (t : ℕ) → lts.Need-plus-requires (given t) (here t) walk.Post Inv μ
+plus-requires t c κs = (c .before .before .before .before .before .before .loop .inv .small, omega arith)
+
+add-i : (t : ℕ) → lts.Need-add-i (given t) (here t) walk.Post Inv μ
+add-i t c = search needs
+
+loop-again : (t : ℕ) → lts.Need-loop-again (given t) (here t) walk.Post Inv μ
+loop-again t c = go-plain _ _ _ _ _ (c .before .before .before .before .before .before .before .before .loop .inv) (c .before .before .before .before .before .before .before .loop-test .taken) (c .before .before .before .before .before .before .before .before .before .pre .1 .ready .built) (sym (c .before .before .before .before .before .shape-of .ensures) ∙ c .before .before .before .enum-told .given .1) (c .before .before .after-row .ensures) (c .before .plus .ensures) (c .restarted .ensures)
+
+walk-requires : (t : ℕ) → lts.Need-walk-requires (given t) (here t) walk.Post Inv μ
+walk-requires t c κs =
+    let p = pick-room _ _ _ _ _ (c .before .before .before .before .before .before .loop .inv) (c .before .before .before .before .before .loop-test .taken) (c .before .before .before .before .before .before .before .pre .1 .ready .built) (pick-0 t (c .before)) (c .before .before .before .before .before .before .before .pre .1 .room) in
+    (search needs, restart-walkable (ready (c .before .before .before .before .before .before .before .pre .1 .ready) (search needs)) (c .restarted2 .ensures) (omega arith) (c .before .before .before .before .before .before .before .pre .1 .times) (omega arith))
+
+returns : (t : ℕ) → lts.Need-returns (given t) (here t) walk.Post Inv μ
+returns t c = record {
+  stopped = λ h. pick-first _ _ _ _ _ (c .before .before .before .before .before .before .before .before .before .loop .inv) (c .before .before .before .before .before .before .before .before .loop-test .taken) (c .before .before .before .before .before .before .before .before .before .before .pre .1 .ready .built) (pick-0 t (c .before .before .before .before)) _ _ (refused-in (c .before .before .walk .ensures) h);
+  whole = λ z. absurd (c .if1 .taken z);
+}
+
+mul-closer : (t : ℕ) → lts.Need-mul-closer (given t) (here t) walk.Post Inv μ
+mul-closer t c = let k = pick-1 t c in let f = c .before .before .before .before .before .before .before .before .before .before .pre .1 .ready .few in search needs
+
+array-copy-out-closer : (t : ℕ) → lts.Need-array-copy-out-closer (given t) (here t) walk.Post Inv μ
+array-copy-out-closer t c = let k = pick-1 t c in let f = c .before .before .before .before .before .before .before .before .before .before .pre .1 .ready .few in search needs
+
+past-else-requires : (t : ℕ) → lts.Need-past-else-requires (given t) (here t) walk.Post Inv μ
+past-else-requires t c κs = let k = pick-1 t (c .before) in let f = c .before .before .before .before .before .before .before .before .before .before .before .pre .1 .ready .few in search needs
+
+walk-requires-2 : (t : ℕ) → lts.Need-walk-requires-2 (given t) (here t) walk.Post Inv μ
+walk-requires-2 t c κs =
+    let u = pick-q t (c .before) in
+    let p = pick-room _ _ _ _ _ (c .before .before .before .before .before .before .before .before .before .before .before .before .loop .inv) (c .before .before .before .before .before .before .before .before .before .before .before .loop-test .taken) (c .before .before .before .before .before .before .before .before .before .before .before .before .before .pre .1 .ready .built) u (c .before .before .before .before .before .before .before .before .before .before .before .before .before .pre .1 .room) in
+    let n = part-1 t (c .before .before .before) .count in
+    let w = c .before .before .before .before .before .before .before .before .before .before .before .before .loop .inv .walk in
+    let z = c .before .before .before .before .before .before .before .before .before .before .before .before .before .pre .0 in
+    let l = c .before .before .before .before .before .before .before .before .before .before .before .loop-test .taken in
+    let q = c .before .past-else .ensures in
+    (search needs, restart-walkable (ready (c .before .before .before .before .before .before .before .before .before .before .before .before .before .pre .1 .ready) (u .some)) (c .restarted3 .ensures) (omega arith) (c .before .before .before .before .before .before .before .before .before .before .before .before .before .pre .1 .times) (omega arith))
+
+returns-2 : (t : ℕ) → lts.Need-returns-2 (given t) (here t) walk.Post Inv μ
+returns-2 t c = record {
+  stopped = λ h. pick-second _ _ _ _ _ (c .before .before .before .before .before .before .before .before .before .before .before .before .before .before .before .loop .inv) (c .before .before .before .before .before .before .before .before .before .before .before .before .before .before .loop-test .taken) (c .before .before .before .before .before .before .before .before .before .before .before .before .before .before .before .before .pre .1 .ready .built) (pick-q t (c .before .before .before .before)) _ _ (part-1 t (c .before .before .before .before .before .before) .verdict) (refused-in (c .before .before .walk2 .ensures) h);
+  whole = λ z. absurd (c .if2 .taken z);
+}
+
+after-pick-requires : (t : ℕ) → lts.Need-after-pick-requires (given t) (here t) walk.Post Inv μ
+after-pick-requires t c κs = let r = c .before .before .before .before .before .before .before .before .before .before .before .before .before .before .before .before .pre .1 .ready in let u = pick-2 t c in (ready r (search needs), ready r (u .some))
+
+plus-requires-2 : (t : ℕ) → lts.Need-plus-requires-2 (given t) (here t) walk.Post Inv μ
+plus-requires-2 t c κs = (omega arith, omega (arith, c .larger .ensures, passed-1 t (c .before .before .before .before .before .before .before .before) .small, passed-2 t (c .before .before) .small))
+
+closed-requires : (t : ℕ) → lts.Need-closed-requires (given t) (here t) walk.Post Inv μ
+closed-requires t c κs = let u = pick-2 t (c .before .before .before) in let f = c .before .before .before .before .before .before .before .before .before .before .before .before .before .before .before .before .before .before .before .pre .1 .ready .few in (omega arith, c .before .before .before .before .before .before .before .before .before .before .before .before .before .before .before .before .before .before .loop .inv .small, omega (arith, c .plus2 .ensures))
+
+add-i-2 : (t : ℕ) → lts.Need-add-i-2 (given t) (here t) walk.Post Inv μ
+add-i-2 t c = let k = pick-2 t (c .before .before .before .before) in let f = c .before .before .before .before .before .before .before .before .before .before .before .before .before .before .before .before .before .before .before .before .pre .1 .ready .few in search needs
+
+loop-less-2 : (t : ℕ) → lts.Need-loop-less-2 (given t) (here t) walk.Post Inv μ
+loop-less-2 t c = let k = pick-2 t (c .before .before .before .before) in search needs
+
+loop-again-2 : (t : ℕ) → lts.Need-loop-again-2 (given t) (here t) walk.Post Inv μ
+loop-again-2 t c =
+    go-pick _ _ _ _ _ (c .before .before .before .before .before .before .before .before .before .before .before .before .before .before .before .before .before .before .before .loop .inv) (c .before .before .before .before .before .before .before .before .before .before .before .before .before .before .before .before .before .before .loop-test .taken) (c .before .before .before .before .before .before .before .before .before .before .before .before .before .before .before .before .before .before .before .before .pre .1 .ready .built) (pick-2 t (c .before .before .before .before)) (part-1 t (c .before .before .before .before .before .before .before .before .before .before)) (part-2 t (c .before .before .before .before))
+    (c .before .plus2 .ensures ∙ ap (λ m. capped (1 + m)) (c .before .before .larger .ensures)) (c .closed .ensures) (c .before .before .before .after-pick .ensures)
+
+at-start-requires : (t : ℕ) → lts.Need-at-start-requires (given t) (here t) walk.Post Inv μ
+at-start-requires t c κs = c .before .before .before .before .before .before .pre .1 .ready .fine _ (c .before .before .before .before .loop-test .taken)
+
+one-loop-requires : (t : ℕ) → lts.Need-one-loop-requires (given t) (here t) walk.Post Inv μ
+one-loop-requires t c κs = record {
+  ready = ready (c .before .before .before .before .before .before .before .pre .1 .ready) (search needs);
+  inside = c .before .before .before .before .before .loop-test .taken;
+  loops = sym (c .before .before .before .shape-of .ensures) ∙ c .before .enum-told3 .given .1;
+}
+
+returns-3 : (t : ℕ) → lts.Need-returns-3 (given t) (here t) walk.Post Inv μ
+returns-3 t c =
+    let e = c .refused .ensures in
+    record {
+      stopped = λ h. loop-refused _ _ _ _ _ (c .before .before .before .before .before .before .before .before .before .before .loop .inv) (c .before .before .before .before .before .before .before .before .before .loop-test .taken) (c .before .before .before .before .before .before .before .before .before .before .before .pre .1 .ready .built) (loop-1 t (c .before .before .before)) _ (c .before .if3 .taken) (one-1 t (c .before .before .before) .verdict) ∙ ap₂ refused (sym (e .0)) (sym (e .1));
+      whole = λ z. absurd (c .before .if3 .taken (sym (e .0) ∙ z));
+    }
+
+times-requires : (t : ℕ) → lts.Need-times-requires (given t) (here t) walk.Post Inv μ
+times-requires t c κs = c .before .before .before .before .before .before .before .before .before .before .before .pre .1 .times
+
+room-1 : (t : ℕ) (c : lts.After-one-loop (given t) (here t) walk.Post Inv μ) → let s = c .before .before .before .before .before .before .before .before .args in
+    c .before .before .before .before .before .before .before .loop .t .loops + 1 + loopCount (blockAt (s .t1) (s .count) (c .before .before .before .before .before .before .before .loop .i + 1)) ≤ 16
+room-1 t c = loop-room _ _ _ _ _ (c .before .before .before .before .before .before .before .loop .inv) (c .before .before .before .before .before .before .loop-test .taken) (c .before .before .before .before .before .before .before .before .pre .1 .ready .built) (loop-1 t c) (c .before .before .before .before .before .before .before .before .pre .1 .room)
+
+lined-requires : (t : ℕ) → lts.Need-lined-requires (given t) (here t) walk.Post Inv μ
+lined-requires t c κs = omega (arith, room-1 t (c .before .before .before .before .before))
+
+inside-requires : (t : ℕ) → lts.Need-inside-requires (given t) (here t) walk.Post Inv μ
+inside-requires t c κs = c .before .before .before .before .before .before .before .before .before .before .before .before .before .before .pre .1 .ready .fine _ (c .before .before .before .before .before .before .before .before .before .before .before .before .loop-test .taken)
+
+walk-requires-3 : (t : ℕ) → lts.Need-walk-requires-3 (given t) (here t) walk.Post Inv μ
+walk-requires-3 t c κs =
+    let k = kindAt (c .before .before .before .before .before .before .before .before .before .before .before .before .before .before .before .args .t1) (c .before .before .before .before .before .before .before .before .before .before .before .before .before .before .loop .i) in
+    let w = c .before .before .before .before .before .before .before .before .before .before .before .before .before .before .loop .inv .walk in
+    let z = c .before .before .before .before .before .before .before .before .before .before .before .before .before .before .before .pre .0 in
+    let l = c .before .before .before .before .before .before .before .before .before .before .before .before .before .loop-test .taken in
+    (search needs, lined-walkable (ready (c .before .before .before .before .before .before .before .before .before .before .before .before .before .before .before .pre .1 .ready) (search needs)) (c .before .lined .ensures) (omega (arith, c .before .before .last-ticks .ensures, last-small k)) (omega (arith, c .before .before .before .times .ensures)) (room-1 t (c .before .before .before .before .before .before .before)))
+
+returns-4 : (t : ℕ) → lts.Need-returns-4 (given t) (here t) walk.Post Inv μ
+unfolding answer
+returns-4 t c =
+    let s = c .before .before .before .before .before .before .before .before .before .before .before .before .before .before .before .before .before .before .args in
+    let i = c .before .before .before .before .before .before .before .before .before .before .before .before .before .before .before .before .before .loop .i in
+    record {
+      stopped = λ h. body-refused _ _ _ _ _ (c .before .before .before .before .before .before .before .before .before .before .before .before .before .before .before .before .before .loop .inv) (c .before .before .before .before .before .before .before .before .before .before .before .before .before .before .before .before .loop-test .taken) (c .before .before .before .before .before .before .before .before .before .before .before .before .before .before .before .before .before .before .pre .1 .ready .built) (loop-1 t (c .before .before .before .before .before .before .before .before .before .before)) _ _
+          (one-1 t (c .before .before .before .before .before .before .before .before .before .before) .verdict ∙ ap (λ n. answer n i) (c .before .before .before .before .before .before .before .before .if3 .left))
+          (sym (ap (λ ρ. loopsVerdict ρ (blockAt (s .t1) (s .count) (i + 1))) (inside-1 t (c .before .before .before))) ∙ refused-in (c .before .before .walk3 .ensures) h);
+      whole = λ z. absurd (c .if4 .taken z);
+    }
+
+outside-requires : (t : ℕ) → lts.Need-outside-requires (given t) (here t) walk.Post Inv μ
+outside-requires t c κs = c .before .before .before .before .before .before .before .before .before .before .before .before .before .before .before .before .before .before .pre .1 .ready .fine _ (c .before .before .before .before .before .before .before .before .before .before .before .before .before .before .before .before .loop-test .taken)
+
+loop-ticks-requires : (t : ℕ) → lts.Need-loop-ticks-requires (given t) (here t) walk.Post Inv μ
+loop-ticks-requires t c κs = passed-3 t (c .before) .small
+
+closed-requires-2 : (t : ℕ) → lts.Need-closed-requires-2 (given t) (here t) walk.Post Inv μ
+closed-requires-2 t c κs =
+    let u = loop-1 t (c .before .before .before .before .before .before .before .before .before .before .before .before) in
+    let f = c .before .before .before .before .before .before .before .before .before .before .before .before .before .before .before .before .before .before .before .before .pre .1 .ready .few in
+    let m = passed-3 t (c .before .before) .small in
+    let b = c .before .before .before .before .walk3 .result .spent in
+    (omega arith, c .before .before .before .before .before .before .before .before .before .before .before .before .before .before .before .before .before .before .before .loop .inv .small, omega (arith, c .loop-ticks .ensures b (omega arith)))
+
+add-i-3 : (t : ℕ) → lts.Need-add-i-3 (given t) (here t) walk.Post Inv μ
+add-i-3 t c = let k = loop-1 t (c .before .before .before .before .before .before .before .before .before .before .before .before .before) in let f = c .before .before .before .before .before .before .before .before .before .before .before .before .before .before .before .before .before .before .before .before .before .pre .1 .ready .few in search needs
+
+loop-less-3 : (t : ℕ) → lts.Need-loop-less-3 (given t) (here t) walk.Post Inv μ
+loop-less-3 t c = let k = loop-1 t (c .before .before .before .before .before .before .before .before .before .before .before .before .before) in search needs
+
+loop-again-3 : (t : ℕ) → lts.Need-loop-again-3 (given t) (here t) walk.Post Inv μ
+loop-again-3 t c =
+    let s = c .before .before .before .before .before .before .before .before .before .before .before .before .before .before .before .before .before .before .before .before .before .args in
+    let i = c .before .before .before .before .before .before .before .before .before .before .before .before .before .before .before .before .before .before .before .before .loop .i in
+    let y = c .before .before .before .before .before .before .before .before .before .before .before .before .before .before .before .before .before .before .before .before .loop .t in
+    let k = kindAt (s .t1) i in
+    let body = bodyAt (s .t1) (s .count) i in
+    let one = c .before .before .before .before .before .before .before .before .before .before .before .before .before .one-loop .result in
+    let total = c .before .before .before .before .before .before .before .before .before .times .result in
+    let o = c .before .before .before .before .before .before .before .before .before .before .before .before .before .one-loop .ensures in
+    let ls = linesOf (y .lines) (y .loops) ++ (record { row = i; step = one .step; turns = one .turns; total = total; exact = one .exact } ∷ []) in
+    let α : envOf (c .before .before .outside .result) ≡ outside (atStart (formOf k) (testOf k) (envOf (c .before .before .before .before .before .before .before .before .before .before .before .before .before .before .before .before .before .before .before .before .loop .r))) (testOf k) body =
+    c .before .before .outside .ensures .value body (o .sets) (o .moves) ∙ ap (λ ρ. outside ρ (testOf k) body) (c .before .before .before .before .before .before .before .before .before .before .before .before .before .before .at-start .ensures) in
+    let part : Part total (envOf (c .before .before .before .before .before .before .inside .result)) (lastTicks k) (overOf (y .over)) ls (y .loops + 1) (blockAt (s .t1) (s .count) (i + 1)) (c .before .before .before .before .before .walk3 .result) =
+    part-of (lastTicks k) (overOf (y .over)) ls (y .loops + 1) (c .before .before .before .before .before .before .before .lined .ensures .value _ ∙ ap (λ n. from-parts (envOf (c .before .before .before .before .before .before .inside .result)) n (overOf (y .over)) ls (y .loops + 1)) (c .before .before .before .before .before .before .before .before .last-ticks .ensures)) (passed-3 t (c .before .before .before)) in
+    go-loop _ _ _ _ _ (c .before .before .before .before .before .before .before .before .before .before .before .before .before .before .before .before .before .before .before .before .loop .inv) (c .before .before .before .before .before .before .before .before .before .before .before .before .before .before .before .before .before .before .before .loop-test .taken) (c .before .before .before .before .before .before .before .before .before .before .before .before .before .before .before .before .before .before .before .before .before .pre .1 .ready .built) (loop-1 t (c .before .before .before .before .before .before .before .before .before .before .before .before .before)) (one-1 t (c .before .before .before .before .before .before .before .before .before .before .before .before .before)) (c .before .before .before .before .before .before .before .before .before .before .before .if3 .left) (c .before .before .before .before .before .before .before .before .before .times .ensures)
+    (subst (λ ρ. Part total ρ (lastTicks k) (overOf (y .over)) ls (y .loops + 1) (blockAt (s .t1) (s .count) (i + 1)) (c .before .before .before .before .before .walk3 .result)) (inside-1 t (c .before .before .before .before .before .before)) part)
+    (c .before .loop-ticks .ensures) (c .closed2 .ensures) α
+
+returns-5 : (t : ℕ) → lts.Need-returns-5 (given t) (here t) walk.Post Inv μ
+returns-5 t c =
+    let k = c .before .before .before .before .before .before .loop .inv in
+    let e = c .ended .ensures in
+    record {
+      stopped = λ h. absurd (h (e .number));
+      whole = λ z. closing (at-close _ _ _ _ _ (fold-none _ _ (k .small)) (k .walk) (c .before .before .before .before .before .loop-test .taken) (c .before .before .before .before .before .before .before .pre .1 .ready .built) (sym (c .before .before .before .shape-of .ensures) ∙ c .before .enum-told4 .given .1)) (k .small) e;
+    }
+
+returns-6 : (t : ℕ) → lts.Need-returns-6 (given t) (here t) walk.Post Inv μ
+returns-6 t c =
+    let k = c .before .before .loop .inv in
+    let e = c .ended2 .ensures in
+    record {
+      stopped = λ h. absurd (h (e .number));
+      whole = λ z. closing (at-last _ _ _ _ _ (fold-none _ _ (k .small)) (k .walk) (c .before .before .before .pre .1 .ready .built) (c .before .loop-test .left)) (k .small) e;
+    }
+
+pub +walk-spec : {M : Type 1} → statement M
++walk-spec = close μ-walk λ t. lts.spec (given t)
+    (here t)
+    walk.Post
+    Inv
+    μ
+    (loop-holds t)
+    (λ c. search needs)
+    (λ c. search needs)
+    (λ c κs. search needs)
+    (λ c. search needs)
+    (after-row-requires t)
+    (plus-requires t)
+    (λ c κs. search needs)
+    (add-i t)
+    (λ c. search needs)
+    (loop-again t)
+    (λ c. search needs)
+    (λ c. search needs)
+    (λ c κs. search needs)
+    (walk-requires t)
+    (returns t)
+    (mul-closer t)
+    (array-copy-out-closer t)
+    (past-else-requires t)
+    (λ c κs. search needs)
+    (walk-requires-2 t)
+    (returns-2 t)
+    (λ c. let f = c .before .before .before .before .before .before .before .before .before .before .before .before .before .before .before .before .pre .1 .ready .few in let l = c .before .before .before .before .before .before .before .before .before .before .before .before .before .before .loop-test .taken in search needs)
+    (after-pick-requires t)
+    (λ c κs. search needs)
+    (plus-requires-2 t)
+    (closed-requires t)
+    (add-i-2 t)
+    (loop-less-2 t)
+    (loop-again-2 t)
+    (λ c. search needs)
+    (at-start-requires t)
+    (one-loop-requires t)
+    (λ c κs. search needs)
+    (returns-3 t)
+    (times-requires t)
+    (λ c κs. search needs)
+    (lined-requires t)
+    (λ c. let f = c .before .before .before .before .before .before .before .before .before .before .before .before .before .before .pre .1 .ready .few in let l = c .before .before .before .before .before .before .before .before .before .before .before .before .loop-test .taken in search needs)
+    (inside-requires t)
+    (walk-requires-3 t)
+    (returns-4 t)
+    (outside-requires t)
+    (loop-ticks-requires t)
+    (closed-requires-2 t)
+    (add-i-3 t)
+    (loop-less-3 t)
+    (loop-again-3 t)
+    (λ c. search needs)
+    (λ c κs. search needs)
+    (returns-5 t)
+    (λ c κs. search needs)
+    (returns-6 t)

@@ -1,0 +1,226 @@
+-- The survey's fold goes past one row at a time.
+use mathlib.Core.Path.{_≡_, refl, sym, ap, ap₂, _∙_}
+use mathlib.Core.Bool.{Bool, true, false}
+use mathlib.Core.List.{List, [], _∷_, _++_}
+use Prim.Native.Nat.{ℕ, _+_, _*_, _≤_, max}
+use native.Mathlib.Omega.{arith}
+use lib.Dec.{leb}
+use Rattle.rules.specs.declared.Kind.{Kind}
+use Rattle.rules.specs.declared.Kind.the-variants.{Set, Move, Cue, Pick, Else, End, While, Do, For}
+use Rattle.rules.specs.Blocks.{Plain, assign, cue, changed, Test, Form, Block, done, plain, pick, loop, snoc}
+use Rattle.rules.specs.Ranges.{Env, afterRow, join, atStart, inside, outside, after}
+use Rattle.rules.specs.Turns.{turns}
+use Rattle.rules.specs.Figures.{ones, price, loopTicks, ticks, Line, line, lines}
+use Rattle.rules.specs.Questions.{Verdict, passed, refused, andThen, asked, tickLimit, ofLoop, loopsVerdict, blocksVerdict}
+use Rattle.steps.specs.Tree.{withLast}
+use Rattle.ticks.specs.Capped.{capped}
+use Rattle.ticks.proofs.Caps.{cap-mul}
+use Rattle.survey.specs.Fold.{loopCount, cut, cuts, State, folded, lastTicks}
+
+-- ---- verdicts one after the other
+pub then-passed : (v : Verdict) → andThen v passed ≡ v
+unfolding andThen
+then-passed passed = refl
+then-passed (refused n p) = refl
+
+pub then-assoc : (u v w : Verdict) → andThen (andThen u v) w ≡ andThen u (andThen v w)
+unfolding andThen
+then-assoc passed v w = refl
+then-assoc (refused n p) v w = refl
+
+asked-then : (n p : ℕ) (b : Bool) (v : Verdict) → asked n p b v ≡ andThen (asked n p b passed) v
+unfolding andThen asked
+asked-then n p true v = refl
+asked-then n p false v = refl
+
+-- ---- lists of lines
+append-none : (x : List Line) → x ++ [] ≡ x
+append-none [] = refl
+append-none (l ∷ x) = ap (λ r. l ∷ r) (append-none x)
+
+append-assoc : (x y z : List Line) → (x ++ y) ++ z ≡ x ++ (y ++ z)
+append-assoc [] y z = refl
+append-assoc (l ∷ x) y z = ap (λ r. l ∷ r) (append-assoc x y z)
+
+pub cuts-append : (x y : List Line) → cuts (x ++ y) ≡ cuts x ++ cuts y
+unfolding cuts
+cuts-append [] y = refl
+cuts-append (l ∷ x) y = ap (λ r. cut l ∷ r) (cuts-append x y)
+
+-- the lines of parts, one after the other
+lines-pick : (x a b r : List Line) → x ++ cuts (a ++ (b ++ r)) ≡ ((x ++ cuts a) ++ cuts b) ++ cuts r
+lines-pick x a b r =
+    ap (λ l. x ++ l) (cuts-append a (b ++ r) ∙ ap (λ l. cuts a ++ l) (cuts-append b r)) ∙ sym (append-assoc x (cuts a) (cuts b ++ cuts r)) ∙ sym (append-assoc (x ++ cuts a) (cuts b) (cuts r))
+
+lines-loop : (x : List Line) (l : Line) (b r : List Line) → x ++ cuts (l ∷ (b ++ r)) ≡ ((x ++ (cut l ∷ [])) ++ cuts b) ++ cuts r
+unfolding cuts
+lines-loop x l b r =
+    ap (λ y. x ++ (cut l ∷ y)) (cuts-append b r) ∙ sym (append-assoc x (cut l ∷ []) (cuts b ++ cuts r)) ∙ sym (append-assoc (x ++ (cut l ∷ [])) (cuts b) (cuts r))
+
+-- totals that stop just past the limit: so may the turns of the loops round
+pub cap-lines : (o : ℕ) (ρ : Env) (b : Block) → cuts (lines (capped o) ρ b) ≡ cuts (lines o ρ b)
+unfolding lines cuts
+cap-lines o ρ done = refl
+cap-lines o ρ (plain i p rest) = cap-lines o (afterRow ρ p) rest
+cap-lines o ρ (pick i e a b rest) =
+    cuts-append (lines (capped o) ρ a) _ ∙ ap₂ _++_ (cap-lines o ρ a) (cuts-append (lines (capped o) ρ b) _ ∙ ap₂ _++_ (cap-lines o ρ b) (cap-lines o (join (after ρ a) (after ρ b)) rest) ∙ sym (cuts-append (lines o ρ b) _))
+    ∙ sym (cuts-append (lines o ρ a) _)
+cap-lines o ρ (loop i e form test body rest) =
+    let σ = atStart form test ρ in
+    let n = turns form σ test body in
+    let β = inside form σ test body in
+    let α = outside σ test body in
+    let first : cut (line (capped o) i form σ test body) ≡ cut (line o i form σ test body) = ap (λ t. record { row = i; step = line o i form σ test body .step; turns = n; total = t; exact = line o i form σ test body .exact }) (cap-mul n o) in
+    let inner : cuts (lines (n * capped o) β body) ≡ cuts (lines (n * o) β body) = sym (cap-lines (n * capped o) β body) ∙ ap (λ t. cuts (lines t β body)) (cap-mul n o) ∙ cap-lines (n * o) β body in
+    ap₂ _∷_ first (cuts-append (lines (n * capped o) β body) _ ∙ ap₂ _++_ inner (cap-lines o α rest) ∙ sym (cuts-append (lines (n * o) β body) _))
+
+-- ---- states
+pub state-is : {x y : State} → x .env ≡ y .env → x .verdict ≡ y .verdict → x .spent ≡ y .spent → x .over ≡ y .over → x .lines ≡ y .lines → x .loops ≡ y .loops → x ≡ y
+state-is a b c d e f = λ j. record { env = a j; verdict = b j; spent = c j; over = d j; lines = e j; loops = f j }
+
+module _ (outer : ℕ) (x : State) where
+  pub fold-none : x .spent ≤ 1_000_000_000_001 → folded outer x done ≡ x
+  unfolding folded after loopsVerdict ticks blocksVerdict lines cuts loopCount
+  fold-none h = state-is refl (then-passed (x .verdict)) (omega arith) (then-passed (x .over)) (append-none (x .lines)) (omega arith)
+
+  -- past a plain row
+  abbrev pub pastPlain : Plain → State
+  pastPlain p = record { env = afterRow (x .env) p; verdict = x .verdict; spent = capped (x .spent + 1); over = x .over; lines = x .lines; loops = x .loops }
+
+  one : (p : Plain) → price ones p ≡ 1
+  unfolding price
+  one (assign v y) = refl
+  one (cue n) = refl
+
+  pub fold-plain : (i : ℕ) (p : Plain) (rest : Block) → folded outer x (plain i p rest) ≡ folded outer (pastPlain p) rest
+  unfolding folded after loopsVerdict ticks blocksVerdict lines loopCount
+  fold-plain i p rest = state-is refl refl (omega (arith, one p)) refl refl refl
+
+  -- past a pick
+  abbrev pickTicks : Block → Block → ℕ
+  pickTicks a b = 1 + max (ticks ones (x .env) a) (ticks ones (x .env) b)
+
+  abbrev pub pastPick : ℕ → Block → Block → State
+  pastPick e a b = record {
+    env = join (after (x .env) a) (after (x .env) b);
+    verdict = andThen (andThen (x .verdict) (loopsVerdict (x .env) a)) (loopsVerdict (x .env) b);
+    spent = capped (x .spent + (1 + max (ticks ones (x .env) a) (ticks ones (x .env) b)));
+    over = andThen (andThen (andThen (x .over) (blocksVerdict ones (x .env) a)) (blocksVerdict ones (x .env) b)) (asked 13 e (leb (1 + max (ticks ones (x .env) a) (ticks ones (x .env) b)) tickLimit) passed);
+    lines = (x .lines ++ cuts (lines outer (x .env) a)) ++ cuts (lines outer (x .env) b);
+    loops = x .loops + loopCount a + loopCount b;
+  }
+
+  pub fold-pick : (i e : ℕ) (a b rest : Block) → folded outer x (pick i e a b rest) ≡ folded outer (pastPick e a b) rest
+  unfolding folded after loopsVerdict ticks blocksVerdict lines loopCount
+  fold-pick i e a b rest =
+      let ρ = x .env in
+      let σ = join (after ρ a) (after ρ b) in
+      let F = 1 + max (ticks ones ρ a) (ticks ones ρ b) in
+      let q = asked 13 e (leb F tickLimit) passed in
+      state-is refl
+      (sym (then-assoc (x .verdict) _ _) ∙ sym (then-assoc _ _ _))
+      (omega arith)
+      (ap (λ v. andThen (x .over) (andThen (blocksVerdict ones ρ a) (andThen (blocksVerdict ones ρ b) v))) (asked-then 13 e (leb F tickLimit) _)
+      ∙ sym (then-assoc (x .over) _ _) ∙ sym (then-assoc _ _ _) ∙ sym (then-assoc _ q _))
+      (lines-pick (x .lines) (lines outer ρ a) (lines outer ρ b) (lines outer σ rest))
+      (omega arith)
+
+  -- past a loop
+  module _ (i e : ℕ) (form : Form) (test : Test) (body : Block) where
+    abbrev σ : Env
+    σ = atStart form test (x .env)
+
+    abbrev β : Env
+    β = inside form (atStart form test (x .env)) test body
+
+    abbrev n : ℕ
+    n = turns form (atStart form test (x .env)) test body
+
+    abbrev pub pastLoop : State
+    pastLoop = record {
+      env = outside σ test body;
+      verdict = andThen (andThen (x .verdict) (ofLoop i form σ test body)) (loopsVerdict β body);
+      spent = capped (x .spent + loopTicks ones form n (ticks ones β body));
+      over = andThen (andThen (x .over) (blocksVerdict ones β body)) (asked 13 e (leb (loopTicks ones form n (ticks ones β body)) tickLimit) passed);
+      lines = (x .lines ++ (cut (line outer i form σ test body) ∷ [])) ++ cuts (lines (n * outer) β body);
+      loops = x .loops + 1 + loopCount body;
+    }
+
+    pub fold-loop : (rest : Block) → folded outer x (loop i e form test body rest) ≡ folded outer pastLoop rest
+    unfolding folded after loopsVerdict ticks blocksVerdict lines cuts loopCount
+    fold-loop rest =
+        let F = loopTicks ones form n (ticks ones β body) in
+        let q = asked 13 e (leb F tickLimit) passed in
+        state-is refl
+        (sym (then-assoc (x .verdict) _ _) ∙ sym (then-assoc _ _ _))
+        (omega arith)
+        (ap (λ v. andThen (x .over) (andThen (blocksVerdict ones β body) v)) (asked-then 13 e (leb F tickLimit) _)
+        ∙ sym (then-assoc (x .over) _ _) ∙ sym (then-assoc _ q _))
+        (lines-loop (x .lines) (line outer i form σ test body) (lines (n * outer) β body) (lines outer (outside σ test body) rest))
+        (omega arith)
+
+-- ---- a for's step row adds a tick to its body, and nothing else
+pub record SameBody (k : Kind) (b c : Block) : Type 0 where
+  pub loops : (β : Env) → loopsVerdict β c ≡ loopsVerdict β b
+  pub over : (β : Env) → blocksVerdict ones β c ≡ blocksVerdict ones β b
+  pub lined : (o : ℕ) (β : Env) → lines o β c ≡ lines o β b
+  pub count : loopCount c ≡ loopCount b
+  pub ticked : (β : Env) → ticks ones β c ≡ lastTicks k + ticks ones β b
+
+price-one : (p : Plain) → price ones p ≡ 1
+unfolding price
+price-one (assign v y) = refl
+price-one (cue n) = refl
+
+module _ (i : ℕ) (p : Plain) where
+  loops-snoc : (b : Block) (β : Env) → loopsVerdict β (snoc b i p) ≡ loopsVerdict β b
+  unfolding loopsVerdict snoc
+  loops-snoc done β = refl
+  loops-snoc (plain j q rest) β = loops-snoc rest _
+  loops-snoc (pick j e a b rest) β = ap (λ v. andThen (loopsVerdict β a) (andThen (loopsVerdict β b) v)) (loops-snoc rest _)
+  loops-snoc (loop j e form test body rest) β = ap (λ v. andThen (ofLoop j form (atStart form test β) test body) (andThen (loopsVerdict (inside form (atStart form test β) test body) body) v)) (loops-snoc rest _)
+
+  over-snoc : (b : Block) (β : Env) → blocksVerdict ones β (snoc b i p) ≡ blocksVerdict ones β b
+  unfolding blocksVerdict snoc
+  over-snoc done β = refl
+  over-snoc (plain j q rest) β = over-snoc rest (afterRow β q)
+  over-snoc (pick j e a b rest) β = ap (λ v. andThen (blocksVerdict ones β a) (andThen (blocksVerdict ones β b) (asked 13 e (leb (1 + max (ticks ones β a) (ticks ones β b)) tickLimit) v))) (over-snoc rest (join (after β a) (after β b)))
+  over-snoc (loop j e form test body rest) β = ap (λ v. andThen (blocksVerdict ones (inside form (atStart form test β) test body) body) (asked 13 e (leb (loopTicks ones form (turns form (atStart form test β) test body) (ticks ones (inside form (atStart form test β) test body) body)) tickLimit) v)) (over-snoc rest (outside (atStart form test β) test body))
+
+  lines-snoc : (b : Block) (o : ℕ) (β : Env) → lines o β (snoc b i p) ≡ lines o β b
+  unfolding lines snoc
+  lines-snoc done o β = refl
+  lines-snoc (plain j q rest) o β = lines-snoc rest o _
+  lines-snoc (pick j e a b rest) o β = ap (λ l. lines o β a ++ (lines o β b ++ l)) (lines-snoc rest o _)
+  lines-snoc (loop j e form test body rest) o β = ap (λ l. line o j form (atStart form test β) test body ∷ (lines (turns form (atStart form test β) test body * o) (inside form (atStart form test β) test body) body ++ l)) (lines-snoc rest o _)
+
+  pub count-snoc : (b : Block) → loopCount (snoc b i p) ≡ loopCount b
+  unfolding loopCount snoc
+  count-snoc done = refl
+  count-snoc (plain j q rest) = count-snoc rest
+  count-snoc (pick j e a b rest) = omega (arith, count-snoc rest)
+  count-snoc (loop j e form test body rest) = omega (arith, count-snoc rest)
+
+  ticks-snoc : (b : Block) (β : Env) → ticks ones β (snoc b i p) ≡ 1 + ticks ones β b
+  unfolding ticks snoc
+  ticks-snoc done β = omega (arith, price-one p)
+  ticks-snoc (plain j q rest) β = omega (arith, ticks-snoc rest (afterRow β q))
+  ticks-snoc (pick j e a b rest) β = omega (arith, ticks-snoc rest (join (after β a) (after β b)))
+  ticks-snoc (loop j e form test body rest) β = omega (arith, ticks-snoc rest (outside (atStart form test β) test body))
+
+itself : (k : Kind) (b : Block) → lastTicks k ≡ 0 → SameBody k b b
+itself k b h = record { loops = λ β. refl; over = λ β. refl; lined = λ o β. refl; count = refl; ticked = λ β. omega arith }
+
+pub same-body : (k : Kind) (i : ℕ) (b : Block) → SameBody k b (withLast k i b)
+unfolding withLast
+same-body (Set v x) i b = itself (Set v x) b refl
+same-body (Move v c) i b = itself (Move v c) b refl
+same-body (Cue m) i b = itself (Cue m) b refl
+same-body Pick i b = itself Pick b refl
+same-body Else i b = itself Else b refl
+same-body End i b = itself End b refl
+same-body (While v c x) i b = itself (While v c x) b refl
+same-body (Do v c x) i b = itself (Do v c x) b refl
+same-body (For v s c x d) i b =
+    let p = assign v (changed d) in
+    record { loops = loops-snoc i p b; over = over-snoc i p b; lined = lines-snoc i p b; count = count-snoc i p b; ticked = ticks-snoc i p b }

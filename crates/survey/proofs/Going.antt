@@ -1,0 +1,228 @@
+-- The survey's walk, row by row: what the code carries is what the fold carries.
+use mathlib.Core.Path.{_≡_, refl, sym, ap, ap₂, _∙_}
+use mathlib.Core.List.{List, [], _∷_, _++_}
+use Prim.Native.Nat.{ℕ, zero, suc, _+_, _*_, _≤_, _<_, max}
+use native.Mathlib.Omega.{arith}
+use lib.Dec.{leb}
+use Rattle.rules.specs.declared.Row.{Row}
+use Rattle.rules.specs.declared.Kind.{Kind}
+use Rattle.rules.specs.declared.Kind.the-variants.{Set, Move, Cue, Pick, Else, End, While, Do, For}
+use Rattle.rules.specs.Blocks.{Plain, Test, Form, Block, pick, loop}
+use Rattle.rules.specs.Ranges.{Env, full, afterRow, join, atStart, inside, outside, after}
+use Rattle.rules.specs.Turns.{turns}
+use Rattle.rules.specs.Figures.{ones, loopTicks, ticks, Line, line, lines}
+use Rattle.rules.specs.Questions.{Verdict, passed, refused, andThen, asked, tickLimit, ofLoop, loopsVerdict, blocksVerdict}
+use Rattle.steps.specs.declared.Shape.{Shape}
+use Rattle.steps.specs.Tree.{kindAt, blockAt, Whole, Ready, Walked, shapeOf, plainOf, formOf, testOf}
+use Rattle.steps.specs.Body.{bodyAt}
+use Rattle.steps.proofs.Laws.{PickIs, LoopIs}
+use Rattle.steps.proofs.Walking.{Walking, plain-row, pick-row, loop-row}
+use Rattle.ticks.specs.Capped.{capped, overOf}
+use Rattle.turns.specs.Needs.{answer}
+use Rattle.survey.specs.declared.Tally.{Tally}
+use Rattle.survey.specs.declared.Turning.{Turning}
+use Rattle.survey.specs.Fold.{loopCount, cut, cuts, linesOf, State, folded, tallied, lastTicks, LoopOf, Restarted, Lined, Closed, EndedAt, Walkable, Passed, Surveyed}
+use Rattle.survey.proofs.Folding.{state-is, cap-lines, fold-plain, fold-pick, fold-loop, pastPlain, pastPick, pastLoop, SameBody, same-body}
+
+-- what a walk over a block found, part by part, from a tally with these parts
+pub record Part (outer : ℕ) (ρ : Env) (s : ℕ) (o : Verdict) (ls : List Line) (n : ℕ) (b : Block) (r : Tally) : Type 0 where
+  pub verdict : loopsVerdict ρ b ≡ passed
+  pub spent : r .spent ≡ capped (s + ticks ones ρ b)
+  pub over : overOf (r .over) ≡ andThen o (blocksVerdict ones ρ b)
+  pub lined : linesOf (r .lines) (r .loops) ≡ ls ++ cuts (lines outer ρ b)
+  pub count : r .loops ≡ n + loopCount b
+
+abbrev pub from-parts : Env → ℕ → Verdict → List Line → ℕ → State
+from-parts ρ s o ls n = record { env = ρ; verdict = passed; spent = s; over = o; lines = ls; loops = n }
+
+pub part-of : {rows : List Row} {count at outer : ℕ} {ρ : Env} {t r : Tally} (s : ℕ) (o : Verdict) (ls : List Line) (n : ℕ) → tallied t ρ ≡ from-parts ρ s o ls n
+    → Passed rows count at ρ outer t r → Part outer ρ s o ls n (blockAt rows count at) r
+unfolding folded andThen
+part-of {rows} {count} {at} {outer} {ρ} {t} {r} s o ls n e p =
+    let b = blockAt rows count at in
+    let v : tallied r (after ρ b) ≡ folded outer (from-parts ρ s o ls n) b = p .value ∙ ap (λ x. folded outer x b) e in
+    record {
+      verdict = sym (ap (λ (x : State). x .verdict) v);
+      spent = ap (λ (x : State). x .spent) v;
+      over = ap (λ (x : State). x .over) v;
+      lined = ap (λ (x : State). x .lines) v;
+      count = ap (λ (x : State). x .loops) v;
+    }
+
+-- or which loop it refused
+pub refused-in : {rows : List Row} {count at outer : ℕ} {ρ : Env} {t r : Tally} → Surveyed rows count at ρ outer t r → (r .number ≡ 0 → ⊥)
+    → loopsVerdict ρ (blockAt rows count at) ≡ refused (r .number) (r .place)
+unfolding folded andThen
+refused-in s h = s .stopped h
+
+pub last-small : (k : Kind) → lastTicks k ≤ 1
+last-small (Set v x) = omega arith
+last-small (Move v c) = omega arith
+last-small (Cue n) = omega arith
+last-small Pick = omega arith
+last-small Else = omega arith
+last-small End = omega arith
+last-small (While v c x) = omega arith
+last-small (Do v c x) = omega arith
+last-small (For v s c x d) = omega arith
+
+-- the walk is over
+pub closing : {rows : List Row} {count at outer i : ℕ} {ρ ρ₀ : Env} {t t₀ r : Tally} → Walked rows count at i (tallied t ρ) (folded outer (tallied t₀ ρ₀)) → t .spent ≤ 1_000_000_000_001 → EndedAt t i r
+    → Passed rows count at ρ₀ outer t₀ r
+unfolding folded
+closing {rows} {count} {at} {outer} {i} {ρ} {ρ₀} {t} {t₀} {r} w s h =
+    let b = blockAt rows count at in
+    let e : ρ ≡ after ρ₀ b = ap (λ (x : State). x .env) (w .value) in
+    let m : r .spent ≡ t .spent = ap (λ (x : State). x .spent) (h .value ρ) in
+    record {
+      value = ap (tallied r) (sym e) ∙ h .value ρ ∙ w .value;
+      place = h .next ∙ w .place;
+      low = omega (arith, h .next, w .low);
+      high = omega (arith, h .next, w .high);
+      small = omega arith;
+    }
+
+nowhere : Env
+nowhere w = full
+
+-- a tally that a walk may start from
+pub restart-walkable : {rows : List Row} {count a outer s : ℕ} {t r : Tally} → Ready rows count a → Restarted t s r → s ≤ 1_000_000_000_001 → outer ≤ 1_000_000_000_001
+    → t .loops + loopCount (blockAt rows count a) ≤ 16 → Walkable rows count a outer r
+restart-walkable {t} {r} k h l o m =
+    let p = ap (λ (x : State). x .spent) (h .value nowhere) in
+    let q = ap (λ (x : State). x .loops) (h .value nowhere) in
+    record { ready = k; small = omega arith; times = o; room = omega arith }
+
+pub lined-walkable : {rows : List Row} {count a outer i total s : ℕ} {one : Turning} {t r : Tally} → Ready rows count a → Lined t i one total s r → s ≤ 1_000_000_000_001 → outer ≤ 1_000_000_000_001
+    → t .loops + 1 + loopCount (blockAt rows count a) ≤ 16 → Walkable rows count a outer r
+lined-walkable {t} {r} k h l o m =
+    let p = ap (λ (x : State). x .spent) (h .value nowhere) in
+    let q = ap (λ (x : State). x .loops) (h .value nowhere) in
+    record { ready = k; small = omega arith; times = o; room = omega arith }
+
+module _ (rows : List Row) (count outer at : ℕ) (x₀ : State) where
+  pub record Going (i : ℕ) (ρ : Env) (t : Tally) : Type 0 where
+    pub walk : Walking rows count (folded outer) at x₀ i (tallied t ρ)
+    pub small : t .spent ≤ 1_000_000_000_001
+
+  module _ {i : ℕ} {ρ : Env} {t : Tally} (k : Going i ρ t) where
+    -- the loops that are left
+    pub room : folded outer x₀ (blockAt rows count at) .loops ≡ t .loops + loopCount (blockAt rows count i)
+    unfolding folded
+    room = ap (λ (x : State). x .loops) (k .walk .value)
+
+    module _ (l : i < count) (built : Whole rows count) where
+      pub go-plain : shapeOf (kindAt rows i) ≡ Shape.Plain → {σ : Env} {p : ℕ} {r : Tally} → σ ≡ afterRow ρ (plainOf (kindAt rows i)) → p ≡ capped (t .spent + 1) → Restarted t p r → Going (i + 1) σ r
+      go-plain h {σ} {p} {r} a b c =
+          let e : tallied r σ ≡ pastPlain outer (tallied t ρ) (plainOf (kindAt rows i)) = c .value σ ∙ state-is a refl b refl refl refl in
+          record {
+            walk = plain-row rows count (folded outer) at x₀ (k .walk) l built h (λ rest. fold-plain outer (tallied t ρ) i (plainOf (kindAt rows i)) rest ∙ ap (λ y. folded outer y rest) (sym e));
+            small = let z : r .spent ≡ p = ap (λ (x : State). x .spent) (c .value σ) in omega arith;
+          }
+
+      -- ---- a pick
+      module _ {m q e : ℕ} (u : PickIs rows count i m q e) where
+        abbrev A : Block
+        A = blockAt rows count (i + 1)
+
+        abbrev B : Block
+        B = blockAt rows count q
+
+        pub pick-room : x₀ .loops + loopCount (blockAt rows count at) ≤ 16 → t .loops + loopCount A + loopCount B ≤ 16
+        unfolding folded loopCount
+        pick-room h = omega (arith, room, ap loopCount (u .block))
+
+        verdict-pick : folded outer x₀ (blockAt rows count at) .verdict ≡ andThen (andThen (andThen passed (loopsVerdict ρ A)) (loopsVerdict ρ B)) (loopsVerdict (join (after ρ A) (after ρ B)) (blockAt rows count (e + 1)))
+        unfolding folded
+        verdict-pick = ap (λ (x : State). x .verdict) (k .walk .value ∙ ap (folded outer (tallied t ρ)) (u .block) ∙ fold-pick outer (tallied t ρ) i e A B _)
+
+        pub pick-first : (n p : ℕ) → loopsVerdict ρ A ≡ refused n p → folded outer x₀ (blockAt rows count at) .verdict ≡ refused n p
+        unfolding andThen
+        pick-first n p h = verdict-pick ∙ ap (λ v. andThen (andThen v (loopsVerdict ρ B)) (loopsVerdict (join (after ρ A) (after ρ B)) (blockAt rows count (e + 1)))) h
+
+        pub pick-second : (n p : ℕ) → loopsVerdict ρ A ≡ passed → loopsVerdict ρ B ≡ refused n p → folded outer x₀ (blockAt rows count at) .verdict ≡ refused n p
+        unfolding andThen
+        pick-second n p g h = verdict-pick ∙ ap₂ (λ v w. andThen (andThen v w) (loopsVerdict (join (after ρ A) (after ρ B)) (blockAt rows count (e + 1)))) g h
+
+        pub go-pick : {a b : Tally} {F : ℕ} {σ : Env} {r : Tally}
+            → Part outer ρ 0 (overOf (t .over)) (linesOf (t .lines) (t .loops)) (t .loops) A a
+            → Part outer ρ 0 (overOf (a .over)) (linesOf (a .lines) (a .loops)) (a .loops) B b
+            → F ≡ capped (1 + max (a .spent) (b .spent)) → Closed t b e F r → σ ≡ join (after ρ A) (after ρ B) → Going (e + 1) σ r
+        unfolding andThen
+        go-pick {a} {b} {F} {σ} {r} pa pb f c s =
+            let G = 1 + max (ticks ones ρ A) (ticks ones ρ B) in
+            let fg : F ≡ capped G = omega (arith, pa .spent, pb .spent) in
+            let z : tallied r σ ≡ pastPick outer (tallied t ρ) e A B = state-is s
+            (sym (ap₂ (λ v w. andThen v w) (pa .verdict) (pb .verdict)))
+            (omega (arith, c .spent))
+            (c .over .value G fg ∙ ap (λ v. andThen v (asked 13 e (leb G tickLimit) passed)) (pb .over ∙ ap (λ v. andThen v (blocksVerdict ones ρ B)) (pa .over)))
+            (c .lines ∙ pb .lined ∙ ap (λ x. x ++ cuts (lines outer ρ B)) (pa .lined))
+            (c .loops ∙ pb .count ∙ ap (λ x. x + loopCount B) (pa .count)) in
+            record {
+              walk = pick-row rows count (folded outer) at x₀ (k .walk) l built u (λ rest. fold-pick outer (tallied t ρ) i e A B rest ∙ ap (λ y. folded outer y rest) (sym z));
+              small = omega (arith, c .spent);
+            }
+
+      -- ---- a loop
+      module _ {e : ℕ} (u : LoopIs rows count (kindAt rows i) i e) where
+        abbrev form : Form
+        form = formOf (kindAt rows i)
+
+        abbrev test : Test
+        test = testOf (kindAt rows i)
+
+        abbrev body : Block
+        body = bodyAt rows count i
+
+        abbrev σ : Env
+        σ = atStart form test ρ
+
+        abbrev β : Env
+        β = inside form σ test body
+
+        same : SameBody (kindAt rows i) (blockAt rows count (i + 1)) body
+        same = same-body (kindAt rows i) i (blockAt rows count (i + 1))
+
+        pub loop-room : x₀ .loops + loopCount (blockAt rows count at) ≤ 16 → t .loops + 1 + loopCount (blockAt rows count (i + 1)) ≤ 16
+        unfolding folded loopCount
+        loop-room h = omega (arith, room, ap loopCount (u .block), same .count)
+
+        verdict-loop : folded outer x₀ (blockAt rows count at) .verdict ≡ andThen (andThen (andThen passed (ofLoop i form σ test body)) (loopsVerdict β body)) (loopsVerdict (outside σ test body) (blockAt rows count (e + 1)))
+        unfolding folded
+        verdict-loop = ap (λ (x : State). x .verdict) (k .walk .value ∙ ap (folded outer (tallied t ρ)) (u .block) ∙ fold-loop outer (tallied t ρ) i e form test body _)
+
+        pub loop-refused : (n : ℕ) → (n ≡ 0 → ⊥) → ofLoop i form σ test body ≡ answer n i → folded outer x₀ (blockAt rows count at) .verdict ≡ refused n i
+        unfolding andThen answer
+        loop-refused zero h g = absurd (h refl)
+        loop-refused (suc n) h g = verdict-loop ∙ ap (λ v. andThen (andThen v (loopsVerdict β body)) (loopsVerdict (outside σ test body) (blockAt rows count (e + 1)))) g
+
+        pub body-refused : (n p : ℕ) → ofLoop i form σ test body ≡ passed → loopsVerdict β (blockAt rows count (i + 1)) ≡ refused n p → folded outer x₀ (blockAt rows count at) .verdict ≡ refused n p
+        unfolding andThen
+        body-refused n p g h = verdict-loop ∙ ap₂ (λ v w. andThen (andThen v w) (loopsVerdict (outside σ test body) (blockAt rows count (e + 1)))) g (same .loops β ∙ h)
+
+        pub go-loop : {one : Turning} {total F : ℕ} {α : Env} {b r : Tally}
+            → LoopOf rows count i σ one → one .number ≡ 0 → total ≡ capped (one .turns * outer)
+            → Part total β (lastTicks (kindAt rows i)) (overOf (t .over)) (linesOf (t .lines) (t .loops) ++ (record { row = i; step = one .step; turns = one .turns; total = total; exact = one .exact } ∷ [])) (t .loops + 1) (blockAt rows count (i + 1)) b
+            → ((G : ℕ) → b .spent ≡ capped G → F ≡ capped (loopTicks ones form (one .turns) G)) → Closed t b e F r → α ≡ outside σ test body → Going (e + 1) α r
+        unfolding andThen answer
+        go-loop {one} {total} {F} {α} {b} {r} lo z h p f c s =
+            let n = turns form σ test body in
+            let tn : one .turns ≡ n = lo .turns z in
+            let G = ticks ones β body in
+            let fg : F ≡ capped (loopTicks ones form n G) = f G (p .spent ∙ ap capped (sym (same .ticked β))) ∙ ap (λ m. capped (loopTicks ones form m G)) tn in
+            let ht : total ≡ capped (n * outer) = h ∙ ap (λ m. capped (m * outer)) tn in
+            let v : ofLoop i form σ test body ≡ passed = lo .verdict ∙ ap (λ m. answer m i) z in
+            let L : record { row = i; step = one .step; turns = one .turns; total = total; exact = one .exact } ≡ cut (line outer i form σ test body) =
+            (λ j. record { row = i; step = lo .moves j; turns = tn j; total = ht j; exact = lo .exact j }) in
+            let inner : cuts (lines total β (blockAt rows count (i + 1))) ≡ cuts (lines (n * outer) β body) =
+            ap (λ m. cuts (lines m β (blockAt rows count (i + 1)))) ht ∙ cap-lines (n * outer) β (blockAt rows count (i + 1)) ∙ ap cuts (sym (same .lined (n * outer) β)) in
+            let y : tallied r α ≡ pastLoop outer (tallied t ρ) i e form test body = state-is s
+            (sym (ap₂ (λ a w. andThen a w) v (same .loops β ∙ p .verdict)))
+            (omega (arith, c .spent))
+            (c .over .value (loopTicks ones form n G) fg ∙ ap (λ w. andThen w (asked 13 e (leb (loopTicks ones form n G) tickLimit) passed)) (p .over ∙ ap (andThen (overOf (t .over))) (sym (same .over β))))
+            (c .lines ∙ p .lined ∙ ap₂ (λ a w. (linesOf (t .lines) (t .loops) ++ (a ∷ [])) ++ w) L inner)
+            (c .loops ∙ p .count ∙ ap (λ m. t .loops + 1 + m) (sym (same .count))) in
+            record {
+              walk = loop-row rows count (folded outer) at x₀ (k .walk) l built u (λ rest. fold-loop outer (tallied t ρ) i e form test body rest ∙ ap (λ w. folded outer w rest) (sym y));
+              small = omega (arith, c .spent);
+            }

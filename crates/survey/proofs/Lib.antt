@@ -1,0 +1,9 @@
+-- The laws that belong to no one function.
+pub mod Folding
+pub mod Parts
+pub mod Going
+pub mod Totals
+pub mod Verdicts
+pub mod Counts
+pub mod Legals
+pub mod Results

@@ -1,0 +1,79 @@
+-- The survey's answer, from what the walk over the whole file found.
+use mathlib.Core.Path.{_≡_, sym, _∙_}
+use mathlib.Core.List.{List, []}
+use Prim.Native.Nat.{ℕ, _≤_}
+use native.Mathlib.Omega.{arith}
+use lib.IntN.{ℤ}
+use lib.ListN.{length, take}
+use Rattle.rules.specs.declared.Row.{Row}
+use Rattle.rules.specs.Blocks.{Block}
+use Rattle.rules.specs.Ranges.{Env}
+use Rattle.rules.specs.Figures.{ones, ticks, lines}
+use Rattle.rules.specs.Questions.{passed, andThen, verdict}
+use Rattle.rules.specs.Scripts as scripts
+use Rattle.rules.specs.Scripts.{pairRanges, scriptOf, treeOf, Legal}
+use Rattle.steps.specs.Tree.{kinds, blockAt}
+use Rattle.ranges.specs.Env.{envOf}
+use Rattle.turns.specs.Needs.{answer}
+use Rattle.survey.specs.declared.Tally.{Tally}
+use Rattle.survey.specs.declared.Refusal.{Refusal}
+use Rattle.survey.specs.declared.Figures.{Figures}
+use Rattle.survey.specs.Fold.{tallied, Surveyed}
+use Rattle.survey.specs.Whole.{BlankFrom, FirstNo, of-loop, of-block, of-file, none, SurveyOf}
+use Rattle.survey.proofs.Going.{from-parts, part-of, refused-in}
+use Rattle.survey.proofs.Totals.{lines-true}
+use Rattle.survey.proofs.Verdicts.{verdict-loop, verdict-block, verdict-file, verdict-passed}
+use Rattle.survey.proofs.Legals.{env-is, file-is, few-in}
+
+no-number : {A : Type 0} {n : ℕ} → n ≡ 13 → n ≡ 0 → A
+no-number p q = absurd (let z : ⊥ = omega arith in z)
+
+module _ (ranges : List (List ℤ)) (vars : ℕ) (rows : List Row) (count : ℕ) (legal : Legal (scriptOf ranges vars rows count)) (few : count ≤ 256) (all : count ≤ length rows) (blank : BlankFrom vars ranges) where
+  abbrev ρ : Env
+  ρ = envOf ranges
+
+  abbrev b : Block
+  b = blockAt rows count 0
+
+  -- what is found of the array is the script's
+  moved : {A : Type 0} (f : Env → Block → A) → f (scripts.envOf (take vars (pairRanges ranges))) (treeOf (kinds rows count)) ≡ f ρ b
+  moved f = λ j. f (env-is ranges vars blank j) (sym (file-is ranges vars rows count legal few all) j)
+
+  abbrev figures : Tally → Refusal → Figures
+  figures t f = record { number = f .number; place = f .place; ticks = t .spent; loops = t .loops; lines = t .lines }
+
+  pub result : (t₀ t : Tally) → tallied t₀ ρ ≡ from-parts ρ 0 passed [] 0 → Surveyed rows count 0 ρ 1 t₀ t → (f : Refusal) → FirstNo t count f
+      → SurveyOf (scriptOf ranges vars rows count) count (record { number = f .number; place = f .place; ticks = t .spent; loops = t .loops; lines = t .lines })
+  unfolding scriptOf andThen
+  result t₀ t e s f (of-loop h p q) = record {
+    verdict = moved (verdict ones count) ∙ verdict-loop count ρ b (t .number) (t .place) h (refused-in s h) ∙ (λ j. answer (sym p j) (sym q j));
+    ticks = λ z. absurd (h (sym p ∙ z));
+    loops = λ z. absurd (h (sym p ∙ z));
+    lines = λ z. absurd (h (sym p ∙ z));
+  }
+  result t₀ t e s f (of-block z l p q) =
+      let part = part-of 0 passed [] 0 e (s .whole z) in
+      record {
+        verdict = moved (verdict ones count) ∙ verdict-block count ρ b (part .verdict) (t .over) (part .over) l ∙ (λ j. answer (sym p j) (sym q j));
+        ticks = λ w. no-number p w;
+        loops = λ w. no-number p w;
+        lines = λ w. no-number p w;
+      }
+  result t₀ t e s f (of-file z l k p q) =
+      let part = part-of 0 passed [] 0 e (s .whole z) in
+      record {
+        verdict = moved (verdict ones count) ∙ verdict-file count ρ b (part .verdict) (t .over) (part .over) l (omega (arith, part .spent)) ∙ (λ j. answer (sym p j) (sym q j));
+        ticks = λ w. no-number p w;
+        loops = λ w. no-number p w;
+        lines = λ w. no-number p w;
+      }
+  result t₀ t e s f (none z l k p) =
+      let part = part-of 0 passed [] 0 e (s .whole z) in
+      let m : ticks ones ρ b ≤ 1_000_000_000_000 = omega (arith, part .spent) in
+      let n : t .spent ≡ ticks ones ρ b = omega (arith, part .spent) in
+      record {
+        verdict = moved (verdict ones count) ∙ verdict-passed count ρ b (part .verdict) (t .over) (part .over) l (f .place) m ∙ (λ j. answer (sym p j) (f .place));
+        ticks = λ w. n ∙ sym (moved (ticks ones));
+        loops = λ w. omega (arith, part .count, few-in ranges vars rows count legal few all);
+        lines = λ w. part .lined ∙ lines-true b ρ m ∙ sym (moved (lines 1));
+      }

@@ -1,0 +1,32 @@
+-- `survey::survey` meets its contract.
+use borrow.Author.Needs.{needs}
+use native.Mathlib.Omega.{arith}
+use mathlib.Core.Path.{_≡_, refl}
+use Prim.Native.Nat.{_≤_}
+use lib.ListN.{length}
+use Rattle.ticks.specs.Capped.{overOf}
+use Rattle.survey.specs.Fold.{lineList}
+use Rattle.survey.proofs.Legals.{ready, few-in}
+use Rattle.survey.proofs.Results.{result}
+use Rattle.survey.proofs.survey.Statement.{statement}
+use Rattle.survey.proofs.survey.Tie as tie
+
+walk-requires : tie.Need-walk-requires
+walk-requires c κs =
+    let a = c .args in
+    let l : length (a .rows) ≡ 256 = search needs in
+    let all : a .count ≤ length (a .rows) = omega (arith, c .pre .1) in
+    let n = few-in (a .ranges) (a .vars) (a .rows) (a .count) (c .pre .0) (c .pre .1) all in
+    record { ready = ready (a .ranges) (a .vars) (a .rows) (a .count) (c .pre .0) (c .pre .1) all; small = omega arith; times = omega arith; room = omega arith }
+
+returns : tie.Need-returns
+unfolding lineList overOf
+returns c =
+    let s = c .before .before .before in
+    let a = s .args in
+    let l : length (a .rows) ≡ 256 = search needs in
+    let all : a .count ≤ length (a .rows) = omega (arith, s .pre .1) in
+    result (a .ranges) (a .vars) (a .rows) (a .count) (s .pre .0) (s .pre .1) all (s .pre .2) _ (c .before .before .walk .result) refl (c .before .before .walk .ensures) (c .before .first-no .result) (c .before .first-no .ensures)
+
+pub survey-spec : {M : Type 1} → statement M
+survey-spec = tie.close (tie.spec walk-requires (λ c κs. search needs) returns)

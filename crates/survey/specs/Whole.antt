@@ -1,0 +1,32 @@
+-- The answer of the survey: the questions 8 to 13 of the whole file, and the report's ticks and lines.
+use mathlib.Core.Path.{_≡_}
+use mathlib.Core.List.{List, []}
+use Prim.Native.Nat.{ℕ, _≤_, _<_}
+use lib.IntN.{ℤ, pos}
+use lib.ListN.{getD}
+use Rattle.rules.specs.Figures.{ones}
+use Rattle.rules.specs.Questions.{verdict}
+use Rattle.rules.specs.Scripts.{Script, pairRange, envOf, treeOf, reportTicks, reportLines}
+use Rattle.turns.specs.Needs.{answer}
+use Rattle.survey.specs.declared.Tally.{Tally}
+use Rattle.survey.specs.declared.Refusal.{Refusal}
+use Rattle.survey.specs.declared.Figures.{Figures}
+use Rattle.survey.specs.Fold.{linesOf}
+
+-- the ranges from variable `vars` on are [0, 0]
+pub record BlankFrom (vars : ℕ) (ranges : List (List ℤ)) : Type 0 where
+  pub blank : (w : ℕ) → vars ≤ w → pairRange (getD ranges w []) ≡ record { lo = pos 0; hi = pos 0 }
+
+-- the first question that has no, from what the walk found
+pub data FirstNo (t : Tally) (count : ℕ) (r : Refusal) : Type 0 where
+  of-loop : (t .number ≡ 0 → ⊥) → r .number ≡ t .number → r .place ≡ t .place → FirstNo t count r
+  of-block : t .number ≡ 0 → t .over < 256 → r .number ≡ 13 → r .place ≡ t .over → FirstNo t count r
+  of-file : t .number ≡ 0 → 256 ≤ t .over → 1_000_000_000_000 < t .spent → r .number ≡ 13 → r .place ≡ count → FirstNo t count r
+  none : t .number ≡ 0 → 256 ≤ t .over → t .spent ≤ 1_000_000_000_000 → r .number ≡ 0 → FirstNo t count r
+
+-- number and place are the verdict; of an accepted file, the ticks and the lines are the report's
+pub record SurveyOf (script : Script) (rows : ℕ) (s : Figures) : Type 0 where
+  pub verdict : verdict ones rows (envOf (script .ranges)) (treeOf (script .rows)) ≡ answer (s .number) (s .place)
+  pub ticks : s .number ≡ 0 → s .ticks ≡ reportTicks ones script
+  pub loops : s .number ≡ 0 → s .loops ≤ 16
+  pub lines : s .number ≡ 0 → linesOf (s .lines) (s .loops) ≡ reportLines script

@@ -1,0 +1,60 @@
+-- Capped sums and products.
+use mathlib.Core.Path.{_≡_, refl, _∙_}
+use mathlib.Core.Bool.{Bool, true, false}
+use Prim.Native.Nat.{ℕ, zero, suc, _+_, _*_, _≤_, _<_}
+use native.Mathlib.Nat.{mul-le-mul}
+use native.Mathlib.Omega.{arith}
+use borrow.Author.Tests.{leb-true, leb-false, lt-ltb, le-ltb, le-leb, lt-leb}
+use lib.Dec.{leb}
+use Rattle.rules.specs.Blocks.{Form, while, do-while, for}
+use Rattle.rules.specs.Figures.{ones, loopTicks}
+use Rattle.rules.specs.Questions.{passed, andThen, asked, tickLimit}
+use Rattle.ticks.specs.Capped.{capped, once, overOf}
+
+abbrev most : ℕ
+most = 1_000_000_000_001
+
+-- a product past the limit stays past it
+pub past : (n b : ℕ) → 1 ≤ n → most ≤ b → most ≤ n * b
+past n b h l = let k : 1 * most ≤ n * b = mul-le-mul h l in omega arith
+
+pub cap-mul : (n b : ℕ) → capped (n * capped b) ≡ capped (n * b)
+cap-mul zero b = omega arith
+cap-mul (suc n) b = go (leb b most) refl
+  where
+    go : (t : Bool) → leb b most ≡ t → capped (suc n * capped b) ≡ capped (suc n * b)
+    go true e = let l : b ≤ most = leb-true b most e in let h : capped b ≡ b = omega arith in rw h
+    go false e =
+        let l : most < b = leb-false b most e in
+        let h : capped b ≡ most = omega arith in
+        rw h (omega (arith, past (suc n) most (omega arith) (omega arith), past (suc n) b (omega arith) (omega arith)))
+
+-- the turns of a body, from capped figures
+pub turns-of : (n b B p x : ℕ) → b ≡ capped B → p ≡ capped (b + 1) → x ≡ capped (n * p) → x ≡ capped (n * (B + 1))
+turns-of n b B p x h k l = let q : p ≡ capped (B + 1) = omega arith in l ∙ (rw q (cap-mul n (B + 1)))
+
+-- the ticks of a loop: its turns, and what an entry takes beside them
+pub loop-ticks-is : (form : Form) (n b : ℕ) → loopTicks ones form n b ≡ n * (b + 1) + once form
+unfolding loopTicks
+loop-ticks-is while n b = refl
+loop-ticks-is do-while n b = omega arith
+loop-ticks-is (for x) n b = omega arith
+
+pub once-small : (form : Form) → once form ≤ 2
+once-small while = omega arith
+once-small do-while = omega arith
+once-small (for x) = omega arith
+
+-- ---- the first block over the limit
+module _ (over e ticks F : ℕ) (h : ticks ≡ capped F) where
+  pub over-kept : over < 256 → overOf over ≡ andThen (overOf over) (asked 13 e (leb F tickLimit) passed)
+  unfolding overOf andThen
+  over-kept l = rw (lt-ltb over 256 l)
+
+  pub over-none : 256 ≤ over → ticks ≤ 1_000_000_000_000 → overOf over ≡ andThen (overOf over) (asked 13 e (leb F tickLimit) passed)
+  unfolding overOf andThen asked tickLimit
+  over-none l k = rw (le-ltb over 256 l, le-leb F 1_000_000_000_000 (omega arith))
+
+  pub over-first : 256 ≤ over → 1_000_000_000_000 < ticks → e < 256 → overOf e ≡ andThen (overOf over) (asked 13 e (leb F tickLimit) passed)
+  unfolding overOf andThen asked tickLimit
+  over-first l k m = rw (le-ltb over 256 l, lt-ltb e 256 m, lt-leb F 1_000_000_000_000 (omega arith))

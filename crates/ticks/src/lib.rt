@@ -1,0 +1,68 @@
+// Ticks: sums and products that stop just past the limit of question 13, the ticks of a loop, the first block over the limit.
+use rules::Kind;
+ghost use mathlib.Core.Path.{_≡_};
+ghost use Prim.Native.Nat.{ℕ, _+_, _*_, _≤_, _<_};
+ghost use Rattle.rules.specs.Figures.{ones, loopTicks};
+ghost use Rattle.steps.specs.Tree.{formOf};
+ghost use Rattle.ticks.specs.Capped.{capped, once, OverOf};
+
+// The first number over the limit.
+pub const MOST: u64 = 1_000_000_000_001;
+
+pub fn plus(x: u64, y: u64) -> u64
+    requires { ⌜ (x ≤ 1_000_000_000_001) × (y ≤ 1_000_000_000_001) ⌝ }
+    ensures { λ r. ⌜ r ≡ capped (x + y) ⌝ }
+{
+    let s = x + y;
+    if s <= MOST { s } else { MOST }
+}
+
+pub fn times(n: u64, b: u64) -> u64
+    requires { ⌜ b ≤ 1_000_000_000_001 ⌝ }
+    ensures { λ r. ⌜ r ≡ capped (n * b) ⌝ }
+{
+    if b == 0 {
+        return 0;
+    }
+    if n <= MOST / b { n * b } else { MOST }
+}
+
+// What an entry takes beside its turns: a while its last test, a for its start too, a do nothing.
+fn besides(kind: Kind) -> u64
+    ensures { λ r. ⌜ r ≡ once (formOf kind) ⌝ }
+{
+    match kind {
+        Kind::Set(_, _) => 1,
+        Kind::Move(_, _) => 1,
+        Kind::Cue(_) => 1,
+        Kind::Pick => 1,
+        Kind::Else => 1,
+        Kind::End => 1,
+        Kind::While(_, _, _) => 1,
+        Kind::Do(_, _, _) => 0,
+        Kind::For(_, _, _, _, _) => 2,
+    }
+}
+
+// The ticks of a loop of n turns, b those of its body.
+pub fn loop_ticks(kind: Kind, n: u64, b: u64) -> u64
+    requires { ⌜ b ≤ 1_000_000_000_001 ⌝ }
+    ensures { λ r. ⌜ ((B : ℕ) → b ≡ capped B → r ≡ capped (loopTicks ones (formOf kind) n B)) ⌝ }
+{
+    let all = times(n, plus(b, 1));
+    plus(all, besides(kind))
+}
+
+// The limit of question 13.
+pub const LIMIT: u64 = 1_000_000_000_000;
+
+// The first `end` row over the limit of question 13, with a block of these ticks that ends at row e.
+pub fn first_over(over: usize, e: usize, ticks: u64) -> usize
+    requires { ⌜ e < 256 ⌝ }
+    ensures { λ r. ⌜ OverOf over e ticks r ⌝ }
+{
+    if over < 256 {
+        return over;
+    }
+    if ticks <= LIMIT { over } else { e }
+}

@@ -1,0 +1,76 @@
+-- What the figures ask of their numbers, and what one loop's figure says.
+use mathlib.Core.Path.{_≡_}
+use mathlib.Core.Bool.{Bool, true, false, cond, _&&_}
+use Prim.Native.Nat.{ℕ, zero, suc, _≤_}
+use lib.IntN.{ℤ, pos, negsuc, _+ℤ_, _*ℤ_}
+use lib.Signed.{_≤ℤ_, leZ}
+use Rattle.ints.specs.Ints.{eqZ}
+use Rattle.rules.specs.declared.Step.{Step}
+use Rattle.rules.specs.declared.Comparison.{Comparison}
+use Rattle.rules.specs.Blocks.{Form}
+use Rattle.rules.specs.Bounds.{Near}
+use Rattle.rules.specs.Ranges.{Range, Sort, rising, falling, same, differ, single, sort, isDo, edge}
+use Rattle.rules.specs.Turns.{apart, atTest, turnsOf}
+use Rattle.rules.specs.Questions.{Verdict, passed, refused, loopVerdict}
+use Rattle.turns.specs.declared.Wide.{Wide}
+use Rattle.turns.specs.declared.Figure.{Figure}
+
+-- a range in the code, of 64 bits
+abbrev pub rangeOf : Wide → Range
+rangeOf w = record { lo = w .lo; hi = w .hi }
+
+pub record Ranged (w : Wide) : Type 0 where
+  pub low : Near 512 (w .lo)
+  pub high : Near 512 (w .hi)
+
+-- how large what the first test sees is
+abbrev pub Begun : Step → Wide → Type 0
+Begun (Step.Add a b) r = Ranged r
+Begun (Step.Grow f g) r = Unit {0}
+Begun (Step.Shrink f g) r = Near 4 (r .hi)
+Begun Step.Unknown r = Unit {0}
+
+-- what the figure of a step and a sort of test asks: the answers to questions 8 to 12
+abbrev pub Countable : Step → Sort → Wide → Wide → ℤ → Type 0
+Countable (Step.Add a b) rising s n e = Ranged s × Near 512 e × (pos 1 ≤ℤ a)
+Countable (Step.Add a b) falling s n e = Ranged s × Near 512 e × Near 512 b × (b ≤ℤ negsuc 0)
+Countable (Step.Add a b) same s n e = Unit {0}
+Countable (Step.Add a b) differ s n e = Near 512 a × (a ≡ pos 0 → ⊥) × Ranged s × Ranged n
+Countable (Step.Grow f g) d s n e = (pos 1 ≤ℤ s .lo) × Near 4 e × (2 ≤ f) × (f ≤ 2_000_000_001)
+Countable (Step.Shrink f g) d s n e = (pos 1 ≤ℤ e) × Near 4 (s .hi) × (2 ≤ f) × (f ≤ 2_000_000_001)
+Countable Step.Unknown d s n e = Unit {0}
+
+-- the sorts of tests, as answers
+abbrev pub isRising : Sort → Bool
+isRising rising = true
+isRising falling = false
+isRising same = false
+isRising differ = false
+
+abbrev pub isFalling : Sort → Bool
+isFalling rising = false
+isFalling falling = true
+isFalling same = false
+isFalling differ = false
+
+abbrev pub isDiffer : Sort → Bool
+isDiffer rising = false
+isDiffer falling = false
+isDiffer same = false
+isDiffer differ = true
+
+-- the terms of the figure under !=
+unfoldable pub meeting : ℤ → Range → Range → Bool
+meeting a r n =
+    cond (eqZ a (pos 1)) (leZ (r .hi) (n .lo)) (cond (eqZ a (negsuc 0)) (leZ (n .hi) (r .lo))
+    (single r && (single n && eqZ (r .lo +ℤ a *ℤ pos (apart a r n)) (n .lo))))
+
+-- the verdict of a question's number, 0 for none, at row i
+unfoldable pub answer : ℕ → ℕ → Verdict
+answer zero i = passed
+answer (suc n) i = refused (suc n) i
+
+-- a loop's figure: its verdict, and its turns if it passed
+pub record FigureOf (late : Bool) (st : Step) (keep : Bool) (c : Comparison) (s n : Range) (f : Figure) : Type 0 where
+  pub verdict : (form : Form) → late ≡ isDo form → (i : ℕ) → loopVerdict i st keep (sort c) s (atTest form st s) n (edge c n) ≡ answer (f .number) i
+  pub turns : (form : Form) → late ≡ isDo form → f .number ≡ 0 → f .turns ≡ turnsOf form st (sort c) s n (edge c n)

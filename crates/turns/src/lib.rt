@@ -1,0 +1,407 @@
+// The questions 8 to 12 of one loop, and the turns of one entry.
+use ranges::Span;
+use rules::Comparison;
+use rules::Step;
+ghost use mathlib.Core.Path.{_≡_};
+ghost use mathlib.Core.Bool.{Bool, true, cond, _&&_};
+ghost use Prim.Native.Nat.{ℕ, suc, _≤_};
+ghost use lib.IntN.{ℤ, pos, natAbs, negℤ, _-ℤ_};
+ghost use lib.Signed.{_≤ℤ_};
+ghost use Rattle.rules.specs.Blocks.{Form};
+ghost use Rattle.rules.specs.Bounds.{Near, Ends};
+ghost use Rattle.rules.specs.Ranges.{Range, edge, sort, isDo, single, rising, falling};
+ghost use Rattle.rules.specs.Turns.{powers, scale, climb, share, apart, whileTurns, moved, atTest};
+ghost use Rattle.rules.specs.Figures.{even};
+ghost use Rattle.rules.specs.Questions.{known, moving, suits, hasFigure};
+ghost use Rattle.ranges.specs.Env as env;
+ghost use Rattle.turns.specs.Needs.{rangeOf, Ranged, Begun, Countable, isRising, isFalling, isDiffer, meeting, FigureOf};
+
+// How many k have t times f to the k at most e.
+fn powers(t: u64, e: u64, f: u64) -> u64
+    requires { ⌜ (1 ≤ t) × (e ≤ 4_000_000_000) × (2 ≤ f) × (f ≤ 2_000_000_001) ⌝ }
+    ensures { λ r. ⌜ r ≡ powers (suc e) t e f ⌝ }
+{
+    let mut at = t;
+    let mut k: u64 = 0;
+    while at <= e {
+        at = at * f;
+        k = k + 1;
+    }
+    k
+}
+
+// Add rising: from t by a, while at most e.
+fn climb(t: i64, e: i64, a: i64) -> u64
+    requires { ⌜ Near 512 t × Near 512 e × (pos 1 ≤ℤ a) ⌝ }
+    ensures { λ r. ⌜ r ≡ climb t e a ⌝ }
+{
+    if e < t {
+        return 0;
+    }
+    let gap = (e - t) as u64;
+    gap / (a as u64) + 1
+}
+
+// Grow: from t times f, while at most e.
+fn scale(t: i64, e: i64, f: u64) -> u64
+    requires { ⌜ (pos 1 ≤ℤ t) × Near 4 e × (2 ≤ f) × (f ≤ 2_000_000_001) ⌝ }
+    ensures { λ r. ⌜ r ≡ scale t e f ⌝ }
+{
+    if e < t {
+        return 0;
+    }
+    powers(t as u64, e as u64, f)
+}
+
+// A range of 64 bits: a start moved by one turn is not drawn back.
+pub struct Wide {
+    pub lo: i64,
+    pub hi: i64,
+}
+
+// The distance of two numbers.
+fn distance(x: i64, y: i64) -> u64
+    requires { ⌜ Near 512 x × Near 512 y ⌝ }
+    ensures { λ r. ⌜ r ≡ natAbs (x -ℤ y) ⌝ }
+{
+    if x < y {
+        (y - x) as u64
+    } else {
+        (x - y) as u64
+    }
+}
+
+// Do s and n share a number?
+fn share(s: Wide, n: Wide) -> bool
+    ensures { λ r. ⌜ r ≡ share (rangeOf s) (rangeOf n) ⌝ }
+{
+    let a = s.lo;
+    let b = s.hi;
+    let c = n.lo;
+    let d = n.hi;
+    if a <= d { c <= b } else { false }
+}
+
+fn one_if(t: bool) -> u64
+    ensures { λ r. ⌜ r ≡ cond t 1 0 ⌝ }
+{
+    if t { 1 } else { 0 }
+}
+
+// The turns under !=.
+fn apart(a: i64, s: Wide, n: Wide) -> u64
+    requires { ⌜ Near 512 a × (a ≡ pos 0 → ⊥) × Ranged s × Ranged n ⌝ }
+    ensures { λ r. ⌜ r ≡ apart a (rangeOf s) (rangeOf n) ⌝ }
+{
+    if a == 1 {
+        return distance(n.hi, s.lo);
+    }
+    if a == -1 {
+        return distance(s.hi, n.lo);
+    }
+    distance(n.lo, s.lo) / distance(a, 0)
+}
+
+fn negated(a: i64) -> i64
+    requires { ⌜ Near 512 a ⌝ }
+    ensures { λ r. ⌜ r ≡ negℤ a ⌝ }
+{
+    -a
+}
+
+// The turns of a step Add[a,b]: s what the first test sees, n the limit's range, e its end.
+fn add_turns(a: i64, b: i64, comparison: Comparison, s: Wide, n: Wide, e: i64) -> u64
+    requires { ⌜ Countable (Step.Add a b) (sort comparison) s n e ⌝ }
+    ensures { λ r. ⌜ r ≡ whileTurns (Step.Add a b) (sort comparison) (rangeOf s) (rangeOf n) e ⌝ }
+{
+    let low = s.lo;
+    let high = s.hi;
+    match comparison {
+        Comparison::Less => climb(low, e, a),
+        Comparison::AtMost => climb(low, e, a),
+        Comparison::Greater => climb(e, high, negated(b)),
+        Comparison::AtLeast => climb(e, high, negated(b)),
+        Comparison::Equal => one_if(share(s, n)),
+        Comparison::Different => apart(a, s, n),
+    }
+}
+
+// The turns of a while or a for.
+fn while_turns(step: Step, comparison: Comparison, s: Wide, n: Wide, e: i64) -> u64
+    requires { ⌜ Countable step (sort comparison) s n e ⌝ }
+    ensures { λ r. ⌜ r ≡ whileTurns step (sort comparison) (rangeOf s) (rangeOf n) e ⌝ }
+{
+    let low = s.lo;
+    let high = s.hi;
+    match step {
+        Step::Add(a, b) => add_turns(a, b, comparison, s, n, e),
+        Step::Grow(f, _) => scale(low, e, f),
+        Step::Shrink(f, _) => scale(e, high, f),
+        Step::Unknown => 0,
+    }
+}
+
+// The limit's end that the test reads, E.
+fn edge(comparison: Comparison, n: Span) -> i64
+    ensures { λ r. ⌜ (r ≡ edge comparison (env.rangeOf n)) × Near 4 r ⌝ }
+{
+    let lo = n.lo as i64;
+    let hi = n.hi as i64;
+    match comparison {
+        Comparison::Less => hi - 1,
+        Comparison::AtMost => hi,
+        Comparison::Greater => lo + 1,
+        Comparison::AtLeast => lo,
+        Comparison::Equal => lo,
+        Comparison::Different => lo,
+    }
+}
+
+fn whole(s: Span) -> Wide
+    ensures { λ r. ⌜ (rangeOf r ≡ env.rangeOf s) × Ranged r × Near 4 (r .hi) ⌝ }
+{
+    Wide {
+        lo: s.lo as i64,
+        hi: s.hi as i64,
+    }
+}
+
+// The start moved by one turn, not drawn back.
+fn moved(step: Step, s: Span) -> Wide
+    requires { ⌜ Ends 256 step × (moving step ≡ true) ⌝ }
+    ensures { λ r. ⌜ (rangeOf r ≡ moved step (env.rangeOf s)) × Begun step r ⌝ }
+{
+    let lo = s.lo as i64;
+    let hi = s.hi as i64;
+    match step {
+        Step::Add(a, b) => Wide {
+            lo: lo + a,
+            hi: hi + b,
+        },
+        Step::Grow(f, _) => Wide {
+            lo: lo * f as i64,
+            hi: hi * f as i64,
+        },
+        Step::Shrink(f, _) => Wide {
+            lo: lo / f as i64,
+            hi: hi / f as i64,
+        },
+        Step::Unknown => Wide { lo: lo, hi: hi },
+    }
+}
+
+// What the first test sees.
+fn at_test(late: bool, step: Step, s: Span) -> Wide
+    requires { ⌜ Ends 256 step × (moving step ≡ true) ⌝ }
+    ensures { λ r. ⌜ ((form : Form) → late ≡ isDo form → rangeOf r ≡ atTest form step (env.rangeOf s)) × Begun step r ⌝ }
+{
+    if late {
+        return moved(step, s);
+    }
+    whole(s)
+}
+
+// 8: is the step known?
+fn known(step: Step) -> bool
+    ensures { λ r. ⌜ r ≡ known step ⌝ }
+{
+    match step {
+        Step::Add(_, _) => true,
+        Step::Grow(_, _) => true,
+        Step::Shrink(_, _) => true,
+        Step::Unknown => false,
+    }
+}
+
+// 9: does it move?
+fn moving(step: Step) -> bool
+    ensures { λ r. ⌜ r ≡ moving step ⌝ }
+{
+    match step {
+        Step::Add(a, b) => { if 1 <= a { true } else { b <= -1 } }
+        Step::Grow(f, _) => 2 <= f,
+        Step::Shrink(f, _) => 2 <= f,
+        Step::Unknown => false,
+    }
+}
+
+fn rises(comparison: Comparison) -> bool
+    ensures { λ r. ⌜ r ≡ isRising (sort comparison) ⌝ }
+{
+    match comparison {
+        Comparison::Less => true,
+        Comparison::AtMost => true,
+        Comparison::Greater => false,
+        Comparison::AtLeast => false,
+        Comparison::Equal => false,
+        Comparison::Different => false,
+    }
+}
+
+fn falls(comparison: Comparison) -> bool
+    ensures { λ r. ⌜ r ≡ isFalling (sort comparison) ⌝ }
+{
+    match comparison {
+        Comparison::Less => false,
+        Comparison::AtMost => false,
+        Comparison::Greater => true,
+        Comparison::AtLeast => true,
+        Comparison::Equal => false,
+        Comparison::Different => false,
+    }
+}
+
+// 11: does the comparison fit?
+fn suits(step: Step, comparison: Comparison) -> bool
+    ensures { λ r. ⌜ r ≡ suits step (sort comparison) ⌝ }
+{
+    let up = rises(comparison);
+    let down = falls(comparison);
+    match step {
+        Step::Add(a, b) => {
+            if up {
+                1 <= a
+            } else {
+                if down { b <= -1 } else { true }
+            }
+        }
+        Step::Grow(_, _) => up,
+        Step::Shrink(_, _) => down,
+        Step::Unknown => false,
+    }
+}
+
+// The terms of the figure under !=, a the step, r what the first test sees.
+fn meets(a: i64, r: Wide, n: Wide) -> bool
+    requires { ⌜ Near 512 a × (a ≡ pos 0 → ⊥) × Ranged r × Ranged n ⌝ }
+    ensures { λ t. ⌜ t ≡ meeting a (rangeOf r) (rangeOf n) ⌝ }
+{
+    let low = r.lo;
+    let high = r.hi;
+    let first = n.lo;
+    let last = n.hi;
+    if a == 1 {
+        return high <= first;
+    }
+    if a == -1 {
+        return last <= low;
+    }
+    if low != high {
+        return false;
+    }
+    if first != last {
+        return false;
+    }
+    let k = apart(a, r, n) as i64;
+    low + a * k == first
+}
+
+fn is_differ(comparison: Comparison) -> bool
+    ensures { λ r. ⌜ r ≡ isDiffer (sort comparison) ⌝ }
+{
+    match comparison {
+        Comparison::Less => false,
+        Comparison::AtMost => false,
+        Comparison::Greater => false,
+        Comparison::AtLeast => false,
+        Comparison::Equal => false,
+        Comparison::Different => true,
+    }
+}
+
+// 12: s the start, r what the first test sees, n the limit's range, e its end.
+fn has_figure(step: Step, comparison: Comparison, s: Span, r: Wide, n: Wide, e: i64) -> bool
+    requires { ⌜ Ends 256 step × (moving step ≡ true) × Begun step r × Ranged n ⌝ }
+    ensures { λ t. ⌜ t ≡ hasFigure step (sort comparison) (env.rangeOf s) (rangeOf r) (rangeOf n) e ⌝ }
+{
+    let start = s.lo;
+    match step {
+        Step::Add(a, b) => {
+            if is_differ(comparison) {
+                if a == b { meets(a, r, n) } else { false }
+            } else {
+                true
+            }
+        }
+        Step::Grow(_, _) => 1 <= start,
+        Step::Shrink(_, _) => 1 <= e,
+        Step::Unknown => true,
+    }
+}
+
+// The number of the first question that has no, or 0 and the turns of one entry.
+pub struct Figure {
+    pub number: u32,
+    pub turns: u64,
+}
+
+fn refused(number: u32) -> Figure
+    ensures { λ r. ⌜ r ≡ record { number = number; turns = 0 } ⌝ }
+{
+    Figure {
+        number: number,
+        turns: 0,
+    }
+}
+
+// The questions 8 to 12 in their order, then the turns. late: a do; keeps: the answer to 10.
+pub fn ask(late: bool, step: Step, keeps: bool, comparison: Comparison, s: Span, n: Span) -> Figure
+    requires { ⌜ Ends 256 step ⌝ }
+    ensures { λ r. ⌜ FigureOf late step keeps comparison (env.rangeOf s) (env.rangeOf n) r ⌝ }
+{
+    if !known(step) {
+        return refused(8);
+    }
+    let moves = moving(step);
+    if !moves {
+        return refused(9);
+    }
+    if !keeps {
+        return refused(10);
+    }
+    if !suits(step, comparison) {
+        return refused(11);
+    }
+    let e = edge(comparison, n);
+    let r = at_test(late, step, s);
+    let limit = whole(n);
+    if !has_figure(step, comparison, s, r, limit, e) {
+        return refused(12);
+    }
+    let more = while_turns(step, comparison, r, limit, e);
+    Figure {
+        number: 0,
+        turns: if late { more + 1 } else { more },
+    }
+}
+
+// The two ends of the step are equal.
+fn even(step: Step) -> bool
+    ensures { λ r. ⌜ r ≡ even step ⌝ }
+{
+    match step {
+        Step::Add(a, b) => a == b,
+        Step::Grow(f, g) => f == g,
+        Step::Shrink(f, g) => f == g,
+        Step::Unknown => false,
+    }
+}
+
+fn single(s: Span) -> bool
+    ensures { λ r. ⌜ r ≡ single (env.rangeOf s) ⌝ }
+{
+    let lo = s.lo;
+    let hi = s.hi;
+    lo == hi
+}
+
+// Exact: the ends of the step are equal, and s and n are single numbers.
+pub fn exact(step: Step, s: Span, n: Span) -> bool
+    ensures { λ r. ⌜ r ≡ even step && (single (env.rangeOf s) && single (env.rangeOf n)) ⌝ }
+{
+    if even(step) {
+        if single(s) { single(n) } else { false }
+    } else {
+        false
+    }
+}
