@@ -312,7 +312,7 @@ pub none-left : (k : ℕ) → wordsOf [] k ≡ Missing
 unfolding wordsOf
 none-left k = refl
 
-cut-missing : Missing ≡ cut Missing
+pub cut-missing : Missing ≡ cut Missing
 unfolding cut
 cut-missing = refl
 

@@ -1,0 +1,85 @@
+-- What the reader's answers stand for in the rules' reading of a file.
+use mathlib.Core.Path.{_≡_}
+use mathlib.Core.Bool.{Bool, true, false, cond}
+use mathlib.Core.List.{List, [], _∷_, _++_}
+use Prim.Native.Nat.{ℕ, zero, suc, _+_, _≤_, _<_}
+use lib.Dec.{eqb}
+use lib.IntN.{ℤ, pos}
+use lib.ListN.{length, getD, take, drop}
+use Rattle.rules.specs.declared.Word.{Word}
+use Rattle.rules.specs.declared.Word.the-variants.{Missing}
+use Rattle.rules.specs.declared.Row.{Row}
+use Rattle.rules.specs.Blocks.{kindsOf}
+use Rattle.rules.specs.Ranges.{Range}
+use Rattle.rules.specs.Scripts.{Script, ends}
+use Rattle.rules.specs.Text.{split, nextWords, nextLines}
+use Rattle.rules.specs.File
+use Rattle.rules.specs.File.{Reading, read, refused, Rows, unless, countLine, asksRange, rangeKey, rangeLines, rowLines, noRows}
+use Rattle.text.specs.Words.{cut}
+use Rattle.reader.specs.declared.Counted.{Counted}
+use Rattle.reader.specs.declared.Ranged.{Ranged}
+use Rattle.reader.specs.declared.Ranges.{Ranges}
+use Rattle.nesting.specs.Open.{nestOf}
+use Rattle.reader.specs.declared.Listed.{Listed}
+use Rattle.reader.specs.declared.Loaded.{Loaded}
+
+-- an array holds the words w, their numbers cut off
+pub record Holds (r : List Word) (w : ℕ → Word) : Type 0 where
+  pub each : (k : ℕ) → k < 8 → getD r k Missing ≡ cut (w k)
+
+-- the lines of a text
+abbrev pub lines : List ℕ → List (List ℕ)
+lines s = split 10 s
+
+-- what a count line of the text `rest` reads; p its line's number
+unfoldable pub countOf : List ℕ → ℕ → Counted → Reading ℕ
+countOf rest p (Counted.Count n k) = read n (lines (drop k rest))
+countOf rest p (Counted.Wrong q) = refused q p
+
+-- a count lies within its limit, and its line within the text
+abbrev pub Within : List ℕ → ℕ → Counted → Type 0
+Within rest most (Counted.Count n k) = (n ≤ most) × (k ≤ length rest)
+Within rest most (Counted.Wrong q) = q ≡ 0 → ⊥
+
+pub record CountRead (key rest : List ℕ) (most : ℕ) (r : Counted) : Type 0 where
+  pub line : (p : ℕ) → countLine key most p (lines rest) ≡ countOf rest p r
+  pub within : Within rest most r
+
+-- what a range line reads, and then f
+unfoldable pub rangeOf : List ℕ → ℕ → (Range → List (List ℕ) → Reading (List Range)) → Ranged → Reading (List Range)
+rangeOf rest p f (Ranged.Range a b k) = f (record { lo = a; hi = b }) (lines (drop k rest))
+rangeOf rest p f (Ranged.Wrong q) = refused q p
+
+abbrev pub RangeWithin : List ℕ → Ranged → Type 0
+RangeWithin rest (Ranged.Range a b k) = k ≤ length rest
+RangeWithin rest (Ranged.Wrong q) = q ≡ 0 → ⊥
+
+pub record RangeRead (rest : List ℕ) (r : Ranged) : Type 0 where
+  pub line : (p : ℕ) (f : Range → List (List ℕ) → Reading (List Range))
+      → unless (asksRange (nextWords rangeKey (lines rest))) p (f (File.rangeOf (nextWords rangeKey (lines rest))) (nextLines (lines rest))) ≡ rangeOf rest p f r
+  pub within : RangeWithin rest r
+
+-- all range lines of a file, n of them
+unfoldable pub rangesOf : List ℕ → ℕ → Ranges → Reading (List Range)
+rangesOf file n r = cond (eqb (r .number) 0) (read (ends n (r .low) (r .high)) (lines (drop (r .at) file))) (refused (r .number) (r .place))
+
+pub record RangesRead (file : List ℕ) (at n : ℕ) (r : Ranges) : Type 0 where
+  pub all : rangeLines n 3 (lines (drop at file)) [] ≡ rangesOf file n r
+  pub within : r .at ≤ length file
+
+-- all row lines of a file, n of them
+unfoldable pub rowsOf : List ℕ → ℕ → Listed → Reading Rows
+rowsOf file n r =
+    cond (eqb (r .number) 0) (read (record { kinds = take n (kindsOf (r .rows)); nest = nestOf (r .blocks) }) (lines (drop (r .at) file))) (refused (r .number) (r .place))
+
+pub record RowsRead (file : List ℕ) (at vars n : ℕ) (r : Listed) : Type 0 where
+  pub all : rowLines vars n (4 + vars) (lines (drop at file)) noRows ≡ rowsOf file n r
+  pub within : r .at ≤ length file
+
+-- the script of a loaded file: the first `vars` ranges and the first `count` rows
+unfoldable pub scriptOf : Loaded → Script
+scriptOf r = record { ranges = ends (r .vars) (r .low) (r .high); rows = take (r .count) (kindsOf (r .rows)) }
+
+-- a loaded file, or its refusal
+unfoldable pub loadedOf : Loaded → Reading Script
+loadedOf r = cond (eqb (r .number) 0) (read (scriptOf r) ([] ∷ [])) (refused (r .number) (r .place))

@@ -1,0 +1,350 @@
+// Reads a script file line by line: the questions 2 to 7. Each line's reader gets the unread rest of the file.
+use nesting::Blocks;
+use nesting::nest_row;
+use rows::asks_end;
+use rows::asks_number;
+use rows::asks_one;
+use rows::asks_order;
+use rows::number_of;
+use rows::row_of;
+use rows::sooner;
+use rules::BLANK;
+use rules::Row;
+use rules::RowRead;
+use rules::Word;
+use text::position;
+use text::starts_with;
+use text::words;
+ghost use mathlib.Core.Path.{_≡_};
+ghost use mathlib.Core.List.{List, [], _∷_};
+ghost use Prim.Native.Nat.{ℕ, _+_, _≤_, _<_};
+ghost use lib.IntN.{pos, natAbs};
+ghost use lib.Signed.{_≤ℤ_};
+ghost use lib.ListN.{length, drop};
+ghost use Rattle.rules.specs.Text.{lineWords, nextWords};
+ghost use Rattle.rules.specs.Scripts.{ends};
+ghost use Rattle.rules.specs.File.{refused, andThen, rowOf, rowKey, varsKey, scriptLine, countLine, rowLines, noRows, lastLine, rowPart, rangePart, fileScript};
+ghost use Rattle.text.specs.Words.{before};
+ghost use Rattle.reader.specs.Read.{Holds, lines, countOf, CountRead, Within, RangeRead, RangesRead, RowsRead, loadedOf};
+
+// The words of a line after its key; with another key there are none.
+fn keyed(line: &[u8], key: &[u8]) -> [Word; 8]
+    ensures { λ r. ⌜ Holds r (lineWords (now (key .entry)) (now (line .entry))) ⌝ }
+{
+    if starts_with(line, key) {
+        let k = key.len();
+        return words(&line[k..]);
+    }
+    [Word::Missing; 8]
+}
+
+// The words of the next line, which is n bytes long.
+fn line_words(rest: &[u8], n: usize, key: &[u8]) -> [Word; 8]
+    requires { ⌜ n ≡ before 10 (now rest) ⌝ }
+    ensures { λ r. ⌜ Holds r (nextWords (now (key .entry)) (lines (now (rest .entry)))) ⌝ }
+{
+    if n == rest.len() {
+        return [Word::Missing; 8];
+    }
+    keyed(&rest[..n], key)
+}
+
+// What a count line says: the count, and the line's length with its LF.
+pub enum Counted {
+    Count(usize, usize),
+    Wrong(u32),
+}
+
+// `vars=V` and `rows=R`
+fn count_line(rest: &[u8], key: &[u8], most: i32) -> Counted
+    requires { ⌜ (pos 0 ≤ℤ most) × (most ≤ℤ pos 1_000_000_000) ⌝ }
+    ensures { λ r. ⌜ CountRead (now (key .entry)) (now (rest .entry)) (natAbs most) r ⌝ }
+{
+    let n = position(rest, b'\n');
+    let w = line_words(rest, n, key);
+    let x = w[0];
+    let q = sooner(asks_number(0, most, x), asks_end(w[1]));
+    if q == 0 {
+        Counted::Count(number_of(x) as usize, n + 1)
+    } else {
+        Counted::Wrong(q)
+    }
+}
+
+// `script=1`
+fn script_line(rest: &[u8]) -> Counted
+    ensures { λ r. ⌜ (scriptLine (lines (now (rest .entry))) ≡ countOf (now (rest .entry)) 1 r) × Within (now (rest .entry)) 1 r ⌝ }
+{
+    let n = position(rest, b'\n');
+    let w = line_words(rest, n, b"script=");
+    let q = sooner(asks_one(w[0]), asks_end(w[1]));
+    if q == 0 {
+        Counted::Count(1, n + 1)
+    } else {
+        Counted::Wrong(q)
+    }
+}
+
+// What a range line says: its ends, and its length with its LF.
+pub enum Ranged {
+    Range(i32, i32, usize),
+    Wrong(u32),
+}
+
+// `range=LO HI`
+fn range_line(rest: &[u8]) -> Ranged
+    ensures { λ r. ⌜ RangeRead (now (rest .entry)) r ⌝ }
+{
+    let n = position(rest, b'\n');
+    let w = line_words(rest, n, b"range=");
+    let lo = w[0];
+    let hi = w[1];
+    let ends = sooner(asks_end(w[2]), asks_order(lo, hi));
+    let high = sooner(asks_number(-1_000_000_000, 1_000_000_000, hi), ends);
+    let q = sooner(asks_number(-1_000_000_000, 1_000_000_000, lo), high);
+    if q == 0 {
+        Ranged::Range(number_of(lo), number_of(hi), n + 1)
+    } else {
+        Ranged::Wrong(q)
+    }
+}
+
+// The ranges: question 0 for none, or the first no with its line; the bytes read; the ends.
+pub struct Ranges {
+    pub number: u32,
+    pub place: usize,
+    pub at: usize,
+    pub low: [i32; 16],
+    pub high: [i32; 16],
+}
+
+// The n range lines from byte `at` on.
+fn read_ranges(file: &[u8], at: usize, n: usize) -> Ranges
+    requires { ⌜ (at ≤ length (now file)) × (n ≤ 16) ⌝ }
+    ensures { λ r. ⌜ RangesRead (now (file .entry)) at n r ⌝ }
+{
+    let mut low = [0i32; 16];
+    let mut high = [0i32; 16];
+    let mut next = at;
+    let mut i: usize = 0;
+    while i < n {
+        let r = range_line(&file[next..]);
+        match r {
+            Ranged::Range(a, b, k) => {
+                low[i] = a;
+                high[i] = b;
+                next = next + k;
+                i += 1;
+            }
+            Ranged::Wrong(q) => {
+                return Ranges {
+                    number: q,
+                    place: 3 + i,
+                    at: next,
+                    low,
+                    high,
+                };
+            }
+        }
+    }
+    Ranges {
+        number: 0,
+        place: 0,
+        at: next,
+        low,
+        high,
+    }
+}
+
+// The rows: question 0 for none, or the first no with its line; the bytes read; the open blocks; the rows.
+pub struct Listed {
+    pub number: u32,
+    pub place: usize,
+    pub at: usize,
+    pub blocks: Blocks,
+    pub rows: [Row; 256],
+}
+
+// The next line's row.
+fn row_line(rest: &[u8], n: usize, vars: u32) -> RowRead
+    requires { ⌜ (n ≡ before 10 (now rest)) × (vars ≤ 16) ⌝ }
+    ensures { λ r. ⌜ r ≡ rowOf vars (nextWords rowKey (lines (now (rest .entry)))) ⌝ }
+{
+    let w = line_words(rest, n, b"row=");
+    row_of(vars, w)
+}
+
+// The n row lines from byte `at` on.
+fn read_rows(file: &[u8], at: usize, vars: usize, n: usize) -> Listed
+    requires { ⌜ (at ≤ length (now file)) × (vars ≤ 16) × (n ≤ 256) ⌝ }
+    ensures { λ r. ⌜ RowsRead (now (file .entry)) at vars n r ⌝ }
+{
+    let mut rows = [BLANK; 256];
+    let mut blocks = Blocks {
+        kinds: [0u8; 8],
+        depth: 0,
+        loops: 0,
+    };
+    let mut next = at;
+    let mut i: usize = 0;
+    while i < n {
+        let len = position(&file[next..], b'\n');
+        let r = row_line(&file[next..], len, vars as u32);
+        match r {
+            RowRead::Read(kind) => {
+                let p = nest_row(kind, blocks);
+                let number = p.number;
+                if number != 0 {
+                    return Listed {
+                        number,
+                        place: 4 + vars + i,
+                        at: next,
+                        blocks,
+                        rows,
+                    };
+                }
+                let after = p.blocks;
+                blocks = after;
+                rows[i] = Row { kind };
+                next = next + len + 1;
+                i += 1;
+            }
+            RowRead::Wrong(q) => {
+                return Listed {
+                    number: q,
+                    place: 4 + vars + i,
+                    at: next,
+                    blocks,
+                    rows,
+                };
+            }
+        }
+    }
+    Listed {
+        number: 0,
+        place: 0,
+        at: next,
+        blocks,
+        rows,
+    }
+}
+
+// A loaded file: question 0 for none, or the first no with its place; the ranges' ends and the rows.
+pub struct Loaded {
+    pub number: u32,
+    pub place: usize,
+    pub vars: usize,
+    pub count: usize,
+    pub low: [i32; 16],
+    pub high: [i32; 16],
+    pub rows: [Row; 256],
+}
+
+fn refused(number: u32, place: usize) -> Loaded
+    requires { ⌜ (number ≡ 0 → ⊥) ⌝ }
+    ensures { λ r. ⌜ (loadedOf r ≡ refused number place) × (r .count ≤ 256) ⌝ }
+{
+    Loaded {
+        number,
+        place,
+        vars: 0,
+        count: 0,
+        low: [0i32; 16],
+        high: [0i32; 16],
+        rows: [BLANK; 256],
+    }
+}
+
+// The rows, and the line after the last.
+fn load_rows(
+    file: &[u8],
+    at: usize,
+    vars: usize,
+    n: usize,
+    low: [i32; 16],
+    high: [i32; 16],
+) -> Loaded
+    requires { ⌜ (at ≤ length (now file)) × (vars ≤ 16) × (n ≤ 256) ⌝ }
+    ensures { λ r. ⌜ (loadedOf r ≡ andThen (rowLines vars n (4 + vars) (lines (drop at (now (file .entry)))) noRows) (lastLine (4 + vars + n) (ends vars low high))) × (r .count ≤ 256) ⌝ }
+{
+    let l = read_rows(file, at, vars, n);
+    let number = l.number;
+    let place = l.place;
+    if number != 0 {
+        return refused(number, place);
+    }
+    let end = l.at;
+    if end < file.len() {
+        return refused(3, 4 + vars + n);
+    }
+    let b = l.blocks;
+    let depth = b.depth;
+    if depth != 0 {
+        return refused(6, 4 + vars + n);
+    }
+    let rows = l.rows;
+    Loaded {
+        number: 0,
+        place: 0,
+        vars,
+        count: n,
+        low,
+        high,
+        rows,
+    }
+}
+
+// `rows=R` and on.
+fn load_count(file: &[u8], at: usize, vars: usize, low: [i32; 16], high: [i32; 16]) -> Loaded
+    requires { ⌜ (at ≤ length (now file)) × (vars ≤ 16) ⌝ }
+    ensures { λ r. ⌜ (loadedOf r ≡ rowPart vars (ends vars low high) (lines (drop at (now (file .entry))))) × (r .count ≤ 256) ⌝ }
+{
+    let c = count_line(&file[at..], b"rows=", 256);
+    match c {
+        Counted::Count(n, k) => load_rows(file, at + k, vars, n, low, high),
+        Counted::Wrong(q) => refused(q, 3 + vars),
+    }
+}
+
+// The ranges and on.
+fn load_ranges(file: &[u8], at: usize, vars: usize) -> Loaded
+    requires { ⌜ (at ≤ length (now file)) × (vars ≤ 16) ⌝ }
+    ensures { λ r. ⌜ (loadedOf r ≡ rangePart vars (lines (drop at (now (file .entry))))) × (r .count ≤ 256) ⌝ }
+{
+    let r = read_ranges(file, at, vars);
+    let number = r.number;
+    let place = r.place;
+    if number != 0 {
+        return refused(number, place);
+    }
+    let next = r.at;
+    let low = r.low;
+    let high = r.high;
+    load_count(file, next, vars, low, high)
+}
+
+// `vars=V` and on.
+fn load_vars(file: &[u8], at: usize) -> Loaded
+    requires { ⌜ at ≤ length (now file) ⌝ }
+    ensures { λ r. ⌜ (loadedOf r ≡ andThen (countLine varsKey 16 2 (lines (drop at (now (file .entry))))) rangePart) × (r .count ≤ 256) ⌝ }
+{
+    let c = count_line(&file[at..], b"vars=", 16);
+    match c {
+        Counted::Count(n, k) => load_ranges(file, at + k, n),
+        Counted::Wrong(q) => refused(q, 2),
+    }
+}
+
+// A file's script, or its first no.
+pub fn load(file: &[u8]) -> Loaded
+    ensures { λ r. ⌜ (loadedOf r ≡ fileScript (now (file .entry))) × (r .count ≤ 256) ⌝ }
+{
+    if 16_384 < file.len() {
+        return refused(2, 16_384);
+    }
+    let c = script_line(file);
+    match c {
+        Counted::Count(_, k) => load_vars(file, k),
+        Counted::Wrong(q) => refused(q, 1),
+    }
+}
