@@ -23,7 +23,7 @@ ghost use Rattle.rules.specs.Bounds.{Fine, FineOperand, FineChange};
 ghost use Rattle.steps.specs.Tree.{plainOf, formOf, testOf, Ready, Walked};
 ghost use Rattle.steps.specs.Sets.{setOf};
 ghost use Rattle.steps.specs.Body.{AtLoop};
-ghost use Rattle.ranges.specs.Env.{envOf, rangeOf, joinRange, changedRange, widenedEnv, HeadOf, InsideOf, OutsideOf, AfterLoop};
+ghost use Rattle.ranges.specs.Env.{envOf, rangeOf, joinRange, changedRange, widenedEnv, late, HeadOf, InsideOf, OutsideOf, AfterLoop};
 
 // A pair of ends.
 pub struct Span {
@@ -247,7 +247,7 @@ fn widened(set: [bool; 16], start: [[i32; 2]; 16], mine: Span, v: u8) -> [[i32; 
 
 // A do is tested after its body.
 pub fn is_do(kind: Kind) -> bool
-    ensures { λ r. ⌜ r ≡ isDo (formOf kind) ⌝ }
+    ensures { λ r. ⌜ r ≡ late kind ⌝ }
 {
     match kind {
         Kind::Set(_, _) => false,
