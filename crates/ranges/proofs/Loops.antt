@@ -1,19 +1,22 @@
 -- The ranges at a body's start and after a loop, from what the code finds one by one.
-use mathlib.Core.Path.{_≡_, ap, _∙_}
+use mathlib.Core.Path.{_≡_, refl, ap, _∙_}
 use mathlib.Core.Bool.{Bool, false, cond}
 use mathlib.Core.List.{List}
 use Prim.Native.Nat.{ℕ, _≤_}
 use native.Mathlib.Omega.{arith}
 use lib.Dec.{eqb}
 use lib.ListN.{length, List·getD-eq-default}
+use Rattle.rules.specs.declared.Kind.{Kind}
+use Rattle.rules.specs.declared.Kind.the-variants.{Set, Move, Cue, Pick, Else, End, While, Do, For}
 use Rattle.rules.specs.declared.Comparison.{Comparison}
 use Rattle.rules.specs.declared.Operand.{Operand}
 use Rattle.rules.specs.declared.Step.{Step}
 use Rattle.rules.specs.Blocks.{Test, Form, Block}
 use Rattle.rules.specs.Steps.{assigns, step}
-use Rattle.rules.specs.Ranges.{Range, Env, full, bounds, edge, sort, insideRange, outsideRange, loopEnv, inside, outside}
+use Rattle.rules.specs.Ranges.{Range, Env, full, bounds, edge, sort, insideRange, outsideRange, loopEnv, inside, outside, isDo}
+use Rattle.steps.specs.Tree.{formOf}
 use Rattle.steps.specs.Sets.{setOf}
-use Rattle.ranges.specs.Env.{widenedEnv}
+use Rattle.ranges.specs.Env.{widenedEnv, late}
 
 -- one variable, as the code finds it
 pub wide-at : (set : ℕ → Bool) (mine : Range) (v : ℕ) (ρ : Env) (w : ℕ) (x y : Range) (p : Bool) → x ≡ cond p (cond (eqb w v) mine full) y → y ≡ ρ w → p ≡ set w
@@ -45,3 +48,16 @@ module _ (test : Test) (body : Block) (set : ℕ → Bool) (h : (w : ℕ) → se
   inside-is form x n m g e =
       whole ∙ ap (λ y. loopEnv y ρ test body)
       (m ∙ (λ j. insideRange form (sort c) (f j) (edge c (g j))) ∙ (λ j. insideRange form (sort (r j)) (ρ (q j)) (edge (r j) (bounds ρ (e j)))))
+
+-- a do is tested late
+pub late-is : (k : Kind) → late k ≡ isDo (formOf k)
+unfolding formOf
+late-is (Set v x) = refl
+late-is (Move v c) = refl
+late-is (Cue n) = refl
+late-is Pick = refl
+late-is Else = refl
+late-is End = refl
+late-is (While v c x) = refl
+late-is (Do v c x) = refl
+late-is (For v s c x d) = refl

@@ -14,16 +14,16 @@ use steps::shape_of;
 ghost use mathlib.Core.Path.{_≡_};
 ghost use mathlib.Core.Bool.{cond};
 ghost use lib.IntN.{ℤ, pos, _+ℤ_, _-ℤ_};
-ghost use Prim.Native.Nat.{ℕ, _+_, _≤_, _<_};
+ghost use Prim.Native.Nat.{_+_, _<_};
 ghost use Rattle.ints.specs.Ints.{minZ, maxZ, drawn};
 ghost use Rattle.rules.specs.Values.{lowest, highest, put, applied};
-ghost use Rattle.rules.specs.Blocks.{Form, Block};
+ghost use Rattle.rules.specs.Blocks.{Form};
 ghost use Rattle.rules.specs.Ranges.{bounds, join, full, afterRow, atStart, edge, sort, isDo, insideRange, byStep, outsideRange, after};
 ghost use Rattle.rules.specs.Bounds.{Fine, FineOperand, FineChange};
 ghost use Rattle.steps.specs.Tree.{plainOf, formOf, testOf, Ready, Walked};
 ghost use Rattle.steps.specs.Sets.{setOf};
 ghost use Rattle.steps.specs.Body.{AtLoop};
-ghost use Rattle.ranges.specs.Env.{envOf, rangeOf, joinRange, changedRange, widenedEnv, HeadOf, InsideOf, OutsideOf, AfterLoop};
+ghost use Rattle.ranges.specs.Env.{envOf, rangeOf, joinRange, changedRange, widenedEnv, late, HeadOf, InsideOf, OutsideOf, AfterLoop};
 
 // A pair of ends.
 pub struct Span {
@@ -247,7 +247,7 @@ fn widened(set: [bool; 16], start: [[i32; 2]; 16], mine: Span, v: u8) -> [[i32; 
 
 // A do is tested after its body.
 pub fn is_do(kind: Kind) -> bool
-    ensures { λ r. ⌜ r ≡ isDo (formOf kind) ⌝ }
+    ensures { λ r. ⌜ r ≡ late kind ⌝ }
 {
     match kind {
         Kind::Set(_, _) => false,

@@ -1,5 +1,5 @@
 -- Demand 3 from the bytes of a file: an accepted file has an accepted script, and a store that passes question 15 is inside its ranges.
-use mathlib.Core.Path.{_≡_, refl, sym, _∙_, ap}
+use mathlib.Core.Path.{_≡_, refl, _∙_, ap, subst}
 use mathlib.Core.Bool.{Bool, true, false, cond, _&&_}
 use mathlib.Core.List.{List, [], _∷_}
 use Prim.Native.Nat.{ℕ, zero, suc, _≤_, _<_}
@@ -10,12 +10,12 @@ use lib.Signed.{leZ, leZ-yes, _≤ℤ_}
 use lib.ListN.{length}
 use Rattle.ints.proofs.Diffs.{both}
 use Rattle.rules.specs.Ranges.{Range}
-use Rattle.rules.specs.Figures.{Prices}
+use Rattle.rules.specs.Figures.{Prices, ones}
 use Rattle.rules.specs.Questions.{Verdict, passed, refused, verdict}
 use Rattle.rules.specs.Scripts.{Script, envOf, storeOf, treeOf, Legal, Accepted, StoreIn}
 use Rattle.rules.specs.File
 use Rattle.rules.specs.Calls.{Judged, accepted, refuses, judgedBy, judgedFile, judged, storeVerdict, runScript}
-use Rattle.rules.specs.Claim.{Demand3, Demand3File}
+use Rattle.rules.specs.Claim.{Demand3, Demand3File, Demand3Of}
 use Rattle.rules.proofs.Accepted.{refused-not}
 use Rattle.rules.proofs.Demand.{demand3}
 use Rattle.rules.proofs.Reading.{read-legal}
@@ -29,26 +29,25 @@ pub record FileAccepted (π : Prices) (scratch : ℕ) (file : List ℕ) (script 
   pub lines : (ls : List (List ℕ)) × (File.fileScript file ≡ File.read script ls)
   pub script-accepted : Accepted π script
 
-by-verdict : (π : Prices) (scratch : ℕ) (file : List ℕ) (s script : Script) (ls : List (List ℕ)) (v : Verdict) → T (leb 8_192 scratch)
-    → File.fileScript file ≡ File.read s ls → verdict π (length (s .rows)) (envOf (s .ranges)) (treeOf (s .rows)) ≡ v → judgedBy s v ≡ accepted script → FileAccepted π scratch file script
+-- a legal script that the questions 8 to 13 accept
+pub judged-accepted : (π : Prices) (s script : Script) (v : Verdict) → Legal s → verdict π (length (s .rows)) (envOf (s .ranges)) (treeOf (s .rows)) ≡ v
+    → judgedBy s v ≡ accepted script → (s ≡ script) × Accepted π script
 unfolding judgedBy
-by-verdict π scratch file s script ls passed t e v h =
+judged-accepted π s script passed legal v h =
     let same : s ≡ script = cc in
-    let lines : File.fileScript file ≡ File.read script ls = e ∙ ap (λ x. File.read x ls) same in
-    record {
-      room = leb→le 8_192 scratch t;
-      lines = (ls, lines);
-      script-accepted = record {
-        legal = read-legal file script ls lines;
-        loops = ap (λ (x : Script). verdict π (length (x .rows)) (envOf (x .ranges)) (treeOf (x .rows))) (sym same) ∙ v;
-      };
-    }
-by-verdict π scratch file s script ls (refused q p) t e v h = no q p script h
+    (same, subst (Accepted π) same (record { legal = legal; loops = v }))
+judged-accepted π s script (refused q p) legal v h = no q p script h
+
+by-verdict : (π : Prices) (scratch : ℕ) (file : List ℕ) (s script : Script) (ls : List (List ℕ)) → T (leb 8_192 scratch)
+    → File.fileScript file ≡ File.read s ls → judgedBy s (verdict π (length (s .rows)) (envOf (s .ranges)) (treeOf (s .rows))) ≡ accepted script → FileAccepted π scratch file script
+by-verdict π scratch file s script ls t e h =
+    let (same, ok) = judged-accepted π s script _ (read-legal file s ls e) refl h in
+    record { room = leb→le 8_192 scratch t; lines = (ls, e ∙ ap (λ x. File.read x ls) same); script-accepted = ok }
 
 by-file : (π : Prices) (scratch : ℕ) (file : List ℕ) (script : Script) (r : File.Reading Script) → T (leb 8_192 scratch) → File.fileScript file ≡ r
     → judgedFile π r ≡ accepted script → FileAccepted π scratch file script
 unfolding judgedFile
-by-file π scratch file script (File.read s ls) t e h = by-verdict π scratch file s script ls _ t e refl h
+by-file π scratch file script (File.read s ls) t e h = by-verdict π scratch file s script ls t e h
 by-file π scratch file script (File.refused q p) t e h = no q p script h
 
 pub file-accepted : (π : Prices) (scratch : ℕ) (file : List ℕ) (script : Script) → judged π scratch file ≡ accepted script → FileAccepted π scratch file script
@@ -89,3 +88,15 @@ pub demand3-file : Demand3File
 unfolding Demand3File Demand3 runScript
 demand3-file π one scratch file script e store h picks =
     demand3 π one script (file-accepted π scratch file script e .script-accepted) store (store-in script store h) picks _ (omega arith)
+
+-- demand 3 of one call: of a file, and of a script that has been read
+module _ (store : List ℤ) (picks : List ℕ) (allowance : ℕ) where
+  demand3-judged : (j : Judged) → ((script : Script) → j ≡ accepted script → Accepted ones script) → Demand3Of j store picks allowance
+  unfolding Demand3Of Demand3 runScript
+  demand3-judged j ok script e h enough = demand3 ones (omega arith) script (ok script e) store (store-in script store h) picks allowance enough
+
+  pub demand3-call : (scratch : ℕ) (file : List ℕ) → Demand3Of (judged ones scratch file) store picks allowance
+  demand3-call scratch file = demand3-judged _ (λ script e. file-accepted ones scratch file script e .script-accepted)
+
+  pub demand3-script : (script : Script) → Legal script → Demand3Of (judgedBy script (verdict ones (length (script .rows)) (envOf (script .ranges)) (treeOf (script .rows)))) store picks allowance
+  demand3-script script legal = demand3-judged _ (λ s e. judged-accepted ones script s _ legal refl e .1)

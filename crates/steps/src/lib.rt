@@ -5,10 +5,10 @@ use rules::Step;
 use rules::change_step;
 use rules::only;
 ghost use mathlib.Core.Path.{_≡_};
-ghost use Prim.Native.Nat.{ℕ, _+_, _-_, _≤_, _<_};
+ghost use Prim.Native.Nat.{_-_, _<_};
 ghost use Rattle.rules.specs.Steps.{rowStep, step};
 ghost use Rattle.rules.specs.Bounds.{Fine, Ends};
-ghost use Rattle.steps.specs.Tree.{shapeOf, kindAt, plainOf, pastElse, Ready, Walked};
+ghost use Rattle.steps.specs.Tree.{shapeOf, plainOf, pastElse, Ready, Walked};
 ghost use Rattle.steps.specs.Sets.{setOf, withOne, withRow, assignsFrom};
 ghost use Rattle.steps.specs.Body.{AtLoop, BodySets, BodyStep};
 

@@ -21,7 +21,7 @@ use Rattle.ticks.specs.Capped.{capped, overOf}
 use Rattle.turns.specs.Needs.{answer}
 use Rattle.survey.specs.declared.Tally.{Tally}
 use Rattle.survey.specs.declared.Turning.{Turning}
-use Rattle.survey.specs.Fold.{loopCount, cut, cuts, linesOf, State, folded, tallied, lastTicks, LoopOf, Restarted, Lined, Closed, EndedAt, Walkable, Passed, Surveyed}
+use Rattle.survey.specs.Fold.{loopCount, cut, cuts, firstLines, State, folded, tallied, lastTicks, LoopOf, Restarted, Lined, Closed, EndedAt, Walkable, Passed, Surveyed}
 use Rattle.survey.proofs.Folding.{state-is, cap-lines, fold-plain, fold-pick, fold-loop, pastPlain, pastPick, pastLoop, SameBody, same-body}
 
 -- what a walk over a block found, part by part, from a tally with these parts
@@ -29,7 +29,7 @@ pub record Part (outer : ℕ) (ρ : Env) (s : ℕ) (o : Verdict) (ls : List Line
   pub verdict : loopsVerdict ρ b ≡ passed
   pub spent : r .spent ≡ capped (s + ticks ones ρ b)
   pub over : overOf (r .over) ≡ andThen o (blocksVerdict ones ρ b)
-  pub lined : linesOf (r .lines) (r .loops) ≡ ls ++ cuts (lines outer ρ b)
+  pub lined : firstLines (r .lines) (r .loops) ≡ ls ++ cuts (lines outer ρ b)
   pub count : r .loops ≡ n + loopCount b
 
 abbrev pub from-parts : Env → ℕ → Verdict → List Line → ℕ → State
@@ -145,8 +145,8 @@ module _ (rows : List Row) (count outer at : ℕ) (x₀ : State) where
         pick-second n p g h = verdict-pick ∙ ap₂ (λ v w. andThen (andThen v w) (loopsVerdict (join (after ρ A) (after ρ B)) (blockAt rows count (e + 1)))) g h
 
         pub go-pick : {a b : Tally} {F : ℕ} {σ : Env} {r : Tally}
-            → Part outer ρ 0 (overOf (t .over)) (linesOf (t .lines) (t .loops)) (t .loops) A a
-            → Part outer ρ 0 (overOf (a .over)) (linesOf (a .lines) (a .loops)) (a .loops) B b
+            → Part outer ρ 0 (overOf (t .over)) (firstLines (t .lines) (t .loops)) (t .loops) A a
+            → Part outer ρ 0 (overOf (a .over)) (firstLines (a .lines) (a .loops)) (a .loops) B b
             → F ≡ capped (1 + max (a .spent) (b .spent)) → Closed t b e F r → σ ≡ join (after ρ A) (after ρ B) → Going (e + 1) σ r
         unfolding andThen
         go-pick {a} {b} {F} {σ} {r} pa pb f c s =
@@ -202,7 +202,7 @@ module _ (rows : List Row) (count outer at : ℕ) (x₀ : State) where
 
         pub go-loop : {one : Turning} {total F : ℕ} {α : Env} {b r : Tally}
             → LoopOf rows count i σ one → one .number ≡ 0 → total ≡ capped (one .turns * outer)
-            → Part total β (lastTicks (kindAt rows i)) (overOf (t .over)) (linesOf (t .lines) (t .loops) ++ (record { row = i; step = one .step; turns = one .turns; total = total; exact = one .exact } ∷ [])) (t .loops + 1) (blockAt rows count (i + 1)) b
+            → Part total β (lastTicks (kindAt rows i)) (overOf (t .over)) (firstLines (t .lines) (t .loops) ++ (record { row = i; step = one .step; turns = one .turns; total = total; exact = one .exact } ∷ [])) (t .loops + 1) (blockAt rows count (i + 1)) b
             → ((G : ℕ) → b .spent ≡ capped G → F ≡ capped (loopTicks ones form (one .turns) G)) → Closed t b e F r → α ≡ outside σ test body → Going (e + 1) α r
         unfolding andThen answer
         go-loop {one} {total} {F} {α} {b} {r} lo z h p f c s =
@@ -220,7 +220,7 @@ module _ (rows : List Row) (count outer at : ℕ) (x₀ : State) where
             (sym (ap₂ (λ a w. andThen a w) v (same .loops β ∙ p .verdict)))
             (omega (arith, c .spent))
             (c .over .value (loopTicks ones form n G) fg ∙ ap (λ w. andThen w (asked 13 e (leb (loopTicks ones form n G) tickLimit) passed)) (p .over ∙ ap (andThen (overOf (t .over))) (sym (same .over β))))
-            (c .lines ∙ p .lined ∙ ap₂ (λ a w. (linesOf (t .lines) (t .loops) ++ (a ∷ [])) ++ w) L inner)
+            (c .lines ∙ p .lined ∙ ap₂ (λ a w. (firstLines (t .lines) (t .loops) ++ (a ∷ [])) ++ w) L inner)
             (c .loops ∙ p .count ∙ ap (λ m. t .loops + 1 + m) (sym (same .count))) in
             record {
               walk = loop-row rows count (folded outer) at x₀ (k .walk) l built u (λ rest. fold-loop outer (tallied t ρ) i e form test body rest ∙ ap (λ w. folded outer w rest) (sym y));

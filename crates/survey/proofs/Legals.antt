@@ -90,7 +90,7 @@ module _ (r : List (List ℤ)) (vars : ℕ) (h : BlankFrom vars r) where
 
 -- ---- rows
 module _ (ranges : List (List ℤ)) (vars : ℕ) (rows : List Row) (count : ℕ) (legal : Legal (scriptOf ranges vars rows count)) (few : count ≤ 256) (all : count ≤ length rows) where
-  long : length (kinds rows count) ≡ count
+  pub long : length (kinds rows count) ≡ count
   long = length-take-le count (kindsOf rows) (omega (arith, kinds-length rows))
 
   pub whole : Whole rows count

@@ -8,14 +8,14 @@ use native.Mathlib.Numerals.{add-one}
 use lib.ListN.{length, take, set}
 use Rattle.rules.specs.declared.Comparison.{Comparison}
 use Rattle.rules.specs.declared.Step.{Step}
+use Rattle.rules.specs.declared.LoopLine.{LoopLine}
 use Rattle.rules.specs.Blocks.{Test, Form, Block}
 use Rattle.rules.specs.Steps.{step}
 use Rattle.rules.specs.Ranges.{Range, Env, single, bounds, edge, sort}
 use Rattle.rules.specs.Turns.{atTest, turnsOf, turns}
 use Rattle.rules.specs.Figures.{Line, even, isExact}
 use Rattle.rules.specs.Questions.{keeps, loopVerdict, ofLoop}
-use Rattle.survey.specs.declared.Line as code
-use Rattle.survey.specs.Fold.{lineOf, lineList}
+use Rattle.rules.specs.Report.{lineOf, linesOf}
 
 -- ---- one loop
 module _ (form : Form) (ρ : Env) (test : Test) (body : Block) (st : Step) (keep : Bool) (c : Comparison) (s n : Range)
@@ -31,11 +31,11 @@ module _ (form : Form) (ρ : Env) (test : Test) (body : Block) (st : Step) (keep
   loop-exact = λ j. even (a j) && (single (p j) && single (q j))
 
 -- ---- one line more
-line-next : (l : code.Line) (ls : List code.Line) (k : ℕ) → k < length ls → lineList (take (suc k) (set ls k l)) ≡ lineList (take k ls) ++ (lineOf l ∷ [])
-unfolding lineList
+line-next : (l : LoopLine) (ls : List LoopLine) (k : ℕ) → k < length ls → linesOf (take (suc k) (set ls k l)) ≡ linesOf (take k ls) ++ (lineOf l ∷ [])
+unfolding linesOf
 line-next l [] k h = absurd (omega arith)
 line-next l (x ∷ ls) zero h = refl
 line-next l (x ∷ ls) (suc k) h = ap (λ r. lineOf x ∷ r) (line-next l ls k (omega arith))
 
-pub line-set : (ls : List code.Line) (k : ℕ) (l : code.Line) → k < length ls → lineList (take (k + 1) (set ls k l)) ≡ lineList (take k ls) ++ (lineOf l ∷ [])
+pub line-set : (ls : List LoopLine) (k : ℕ) (l : LoopLine) → k < length ls → linesOf (take (k + 1) (set ls k l)) ≡ linesOf (take k ls) ++ (lineOf l ∷ [])
 line-set ls k l h = rw (add-one k) (line-next l ls k h)

@@ -1,5 +1,5 @@
 -- The survey's answer, from what the walk over the whole file found.
-use mathlib.Core.Path.{_≡_, sym, _∙_}
+use mathlib.Core.Path.{_≡_, ap, sym, _∙_}
 use mathlib.Core.List.{List, []}
 use Prim.Native.Nat.{ℕ, _≤_}
 use native.Mathlib.Omega.{arith}
@@ -11,7 +11,7 @@ use Rattle.rules.specs.Ranges.{Env}
 use Rattle.rules.specs.Figures.{ones, ticks, lines}
 use Rattle.rules.specs.Questions.{passed, andThen, verdict}
 use Rattle.rules.specs.Scripts as scripts
-use Rattle.rules.specs.Scripts.{pairRanges, scriptOf, treeOf, Legal}
+use Rattle.rules.specs.Scripts.{pairRanges, scriptOf, treeOf, Legal, Accepted}
 use Rattle.steps.specs.Tree.{kinds, blockAt}
 use Rattle.ranges.specs.Env.{envOf}
 use Rattle.turns.specs.Needs.{answer}
@@ -23,7 +23,7 @@ use Rattle.survey.specs.Whole.{BlankFrom, FirstNo, of-loop, of-block, of
 use Rattle.survey.proofs.Going.{from-parts, part-of, refused-in}
 use Rattle.survey.proofs.Totals.{lines-true}
 use Rattle.survey.proofs.Verdicts.{verdict-loop, verdict-block, verdict-file, verdict-passed}
-use Rattle.survey.proofs.Legals.{env-is, file-is, few-in}
+use Rattle.survey.proofs.Legals.{env-is, long, file-is, few-in}
 
 no-number : {A : Type 0} {n : ℕ} → n ≡ 13 → n ≡ 0 → A
 no-number p q = absurd (let z : ⊥ = omega arith in z)
@@ -77,3 +77,11 @@ module _ (ranges : List (List ℤ)) (vars : ℕ) (rows : List Row) (count : ℕ)
         loops = λ w. omega (arith, part .count, few-in ranges vars rows count legal few all);
         lines = λ w. part .lined ∙ lines-true b ρ m ∙ sym (moved (lines 1));
       }
+
+  -- a file that passes here is accepted
+  pub accepted : (s : Figures) → SurveyOf (scriptOf ranges vars rows count) count s → s .number ≡ 0 → Accepted ones (scriptOf ranges vars rows count)
+  unfolding scriptOf answer
+  accepted s h z = record {
+    legal = legal;
+    loops = ap (λ n. verdict ones n (scripts.envOf (take vars (pairRanges ranges))) (treeOf (kinds rows count))) (long ranges vars rows count legal few all) ∙ h .verdict ∙ ap (λ n. answer n (s .place)) z;
+  }

@@ -4,6 +4,7 @@ use mathlib.Core.List.{List, [], _∷_, _++_}
 use Prim.Native.Nat.{ℕ, _+_, _≤_}
 use lib.ListN.{take, set}
 use Rattle.rules.specs.declared.Row.{Row}
+use Rattle.rules.specs.declared.LoopLine.{LoopLine}
 use Rattle.rules.specs.declared.Kind.{Kind}
 use Rattle.rules.specs.declared.Kind.the-variants.{Set, Move, Cue, Pick, Else, End, While, Do, For}
 use Rattle.rules.specs.Blocks.{Block, done, plain, pick, loop}
@@ -12,12 +13,12 @@ use Rattle.rules.specs.Ranges.{Env, after}
 use Rattle.rules.specs.Turns.{turns}
 use Rattle.rules.specs.Figures.{ones, ticks, Line, isExact, lines}
 use Rattle.rules.specs.Questions.{Verdict, passed, refused, andThen, ofLoop, loopsVerdict, blocksVerdict}
+use Rattle.rules.specs.Report.{linesOf}
 use Rattle.steps.specs.Tree.{kindAt, blockAt, endAt, Ready, formOf, testOf}
 use Rattle.steps.specs.Sets.{setOf}
 use Rattle.steps.specs.Body.{bodyAt, EndsAt}
 use Rattle.ticks.specs.Capped.{capped, overOf, OverOf}
 use Rattle.turns.specs.Needs.{answer}
-use Rattle.survey.specs.declared.Line as code
 use Rattle.survey.specs.declared.Tally.{Tally}
 use Rattle.survey.specs.declared.Turning.{Turning}
 
@@ -36,16 +37,9 @@ unfoldable pub cuts : List Line → List Line
 cuts [] = []
 cuts (l ∷ ls) = cut l ∷ cuts ls
 
--- a line of the code, and the first k of an array
-abbrev pub lineOf : code.Line → Line
-lineOf l = record { row = l .row; step = l .step; turns = l .turns; total = l .total; exact = l .exact }
-
-unfoldable pub lineList : List code.Line → List Line
-lineList [] = []
-lineList (l ∷ ls) = lineOf l ∷ lineList ls
-
-abbrev pub linesOf : List code.Line → ℕ → List Line
-linesOf ls k = lineList (take k ls)
+-- the first k lines of an array
+abbrev pub firstLines : List LoopLine → ℕ → List Line
+firstLines ls k = linesOf (take k ls)
 
 -- what the fold carries
 pub record State : Type 0 where
@@ -68,7 +62,7 @@ folded outer x b = record {
 
 -- the code's tally, with the ranges beside it, where no loop was refused
 abbrev pub tallied : Tally → Env → State
-tallied t ρ = record { env = ρ; verdict = passed; spent = t .spent; over = overOf (t .over); lines = linesOf (t .lines) (t .loops); loops = t .loops }
+tallied t ρ = record { env = ρ; verdict = passed; spent = t .spent; over = overOf (t .over); lines = firstLines (t .lines) (t .loops); loops = t .loops }
 
 -- a for's step row is the last row of its body
 abbrev pub lastTicks : Kind → ℕ
@@ -92,7 +86,7 @@ pub record LoopOf (rows : List Row) (count i : ℕ) (ρ : Env) (r : Turning) : T
   pub ends : EndsAt rows count i (r .next)
 
 pub record Restarted (t : Tally) (spent : ℕ) (r : Tally) : Type 0 where
-  pub value : (ρ : Env) → tallied r ρ ≡ record { env = ρ; verdict = passed; spent = spent; over = overOf (t .over); lines = linesOf (t .lines) (t .loops); loops = t .loops }
+  pub value : (ρ : Env) → tallied r ρ ≡ record { env = ρ; verdict = passed; spent = spent; over = overOf (t .over); lines = firstLines (t .lines) (t .loops); loops = t .loops }
 
 pub record Lined (t : Tally) (i : ℕ) (one : Turning) (total spent : ℕ) (r : Tally) : Type 0 where
   pub value : (ρ : Env) → tallied r ρ ≡ record {
@@ -100,14 +94,14 @@ pub record Lined (t : Tally) (i : ℕ) (one : Turning) (total spent : ℕ) (r : 
     verdict = passed;
     spent = spent;
     over = overOf (t .over);
-    lines = linesOf (t .lines) (t .loops) ++ (record { row = i; step = one .step; turns = one .turns; total = total; exact = one .exact } ∷ []);
+    lines = firstLines (t .lines) (t .loops) ++ (record { row = i; step = one .step; turns = one .turns; total = total; exact = one .exact } ∷ []);
     loops = t .loops + 1;
   }
 
 pub record Closed (t inner : Tally) (e ticks : ℕ) (r : Tally) : Type 0 where
   pub spent : r .spent ≡ capped (t .spent + ticks)
   pub over : OverOf (inner .over) e ticks (r .over)
-  pub lines : linesOf (r .lines) (r .loops) ≡ linesOf (inner .lines) (inner .loops)
+  pub lines : firstLines (r .lines) (r .loops) ≡ firstLines (inner .lines) (inner .loops)
   pub loops : r .loops ≡ inner .loops
 
 pub record EndedAt (t : Tally) (i : ℕ) (r : Tally) : Type 0 where

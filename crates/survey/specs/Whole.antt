@@ -11,7 +11,7 @@ use Rattle.turns.specs.Needs.{answer}
 use Rattle.survey.specs.declared.Tally.{Tally}
 use Rattle.survey.specs.declared.Refusal.{Refusal}
 use Rattle.survey.specs.declared.Figures.{Figures}
-use Rattle.survey.specs.Fold.{linesOf}
+use Rattle.survey.specs.Fold.{firstLines}
 
 -- the ranges from variable `vars` on are [0, 0]
 pub record BlankFrom (vars : ℕ) (ranges : List (List ℤ)) : Type 0 where
@@ -29,4 +29,4 @@ pub record SurveyOf (script : Script) (rows : ℕ) (s : Figures) : Type 0 where
   pub verdict : verdict ones rows (envOf (script .ranges)) (treeOf (script .rows)) ≡ answer (s .number) (s .place)
   pub ticks : s .number ≡ 0 → s .ticks ≡ reportTicks ones script
   pub loops : s .number ≡ 0 → s .loops ≤ 16
-  pub lines : s .number ≡ 0 → linesOf (s .lines) (s .loops) ≡ reportLines script
+  pub lines : s .number ≡ 0 → firstLines (s .lines) (s .loops) ≡ reportLines script

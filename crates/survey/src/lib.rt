@@ -10,6 +10,7 @@ use ranges::joined;
 use ranges::outside;
 use ranges::span_at;
 use rules::Kind;
+use rules::LoopLine;
 use rules::Operand;
 use rules::Row;
 use rules::Step;
@@ -27,7 +28,6 @@ use ticks::times;
 use turns::ask;
 use turns::exact;
 ghost use mathlib.Core.Path.{_≡_};
-ghost use mathlib.Core.Bool.{Bool};
 ghost use mathlib.Core.List.{[], _∷_, _++_};
 ghost use Prim.Native.Nat.{ℕ, _+_, _≤_, _<_, max};
 ghost use Rattle.rules.specs.Blocks.{Block};
@@ -36,23 +36,15 @@ ghost use Rattle.rules.specs.Bounds.{FineOperand};
 ghost use Rattle.rules.specs.Ranges.{join, after};
 ghost use Rattle.rules.specs.Questions.{keeps};
 ghost use Rattle.rules.specs.Scripts.{scriptOf, Legal};
-ghost use Rattle.steps.specs.Tree.{kindAt, blockAt, Ready};
+ghost use Rattle.rules.specs.Report.{lineOf};
+ghost use Rattle.steps.specs.Tree.{blockAt, Ready};
 ghost use Rattle.steps.specs.Sets.{setOf};
 ghost use Rattle.steps.specs.Body.{AtLoop};
 ghost use Rattle.ranges.specs.Env.{envOf};
-ghost use Rattle.survey.specs.Fold.{lineOf, linesOf, lastTicks, LoopOf, Restarted, Lined, Closed, EndedAt, Walkable, Surveyed};
+ghost use Rattle.survey.specs.Fold.{firstLines, lastTicks, LoopOf, Restarted, Lined, Closed, EndedAt, Walkable, Surveyed};
 ghost use Rattle.survey.specs.Whole.{FirstNo, BlankFrom, SurveyOf};
 
-// A loop's line of the report.
-pub struct Line {
-    pub row: usize,
-    pub step: Step,
-    pub turns: u64,
-    pub total: u64,
-    pub exact: bool,
-}
-
-const NO_LINE: Line = Line {
+const NO_LINE: LoopLine = LoopLine {
     row: 0,
     step: Step::Unknown,
     turns: 0,
@@ -68,7 +60,7 @@ struct Tally {
     over: usize,
     spent: u64,
     loops: usize,
-    lines: [Line; 16],
+    lines: [LoopLine; 16],
     next: usize,
 }
 
@@ -180,9 +172,9 @@ fn restarted(t: Tally, spent: u64) -> Tally
 }
 
 // The lines with one more.
-fn with_line(lines: [Line; 16], k: usize, line: Line) -> [Line; 16]
+fn with_line(lines: [LoopLine; 16], k: usize, line: LoopLine) -> [LoopLine; 16]
     requires { ⌜ k < 16 ⌝ }
-    ensures { λ r. ⌜ linesOf r (k + 1) ≡ linesOf lines k ++ (lineOf line ∷ []) ⌝ }
+    ensures { λ r. ⌜ firstLines r (k + 1) ≡ firstLines lines k ++ (lineOf line ∷ []) ⌝ }
 {
     let mut next = lines;
     next[k] = line;
@@ -197,7 +189,7 @@ fn lined(t: Tally, i: usize, one: Turning, total: u64, spent: u64) -> Tally
     let lines = t.lines;
     let k = t.loops;
     let step = one.step;
-    let line = Line {
+    let line = LoopLine {
         row: i,
         step: step,
         turns: one.turns,
@@ -379,7 +371,7 @@ pub struct Figures {
     pub place: usize,
     pub ticks: u64,
     pub loops: usize,
-    pub lines: [Line; 16],
+    pub lines: [LoopLine; 16],
 }
 
 // The first `count` rows and the first `vars` ranges of a script that has passed the questions 4 to 7.

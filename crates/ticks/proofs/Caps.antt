@@ -6,10 +6,13 @@ use native.Mathlib.Nat.{mul-le-mul}
 use native.Mathlib.Omega.{arith}
 use borrow.Author.Tests.{leb-true, leb-false, lt-ltb, le-ltb, le-leb, lt-leb}
 use lib.Dec.{leb}
+use Rattle.rules.specs.declared.Kind.{Kind}
+use Rattle.rules.specs.declared.Kind.the-variants.{Set, Move, Cue, Pick, Else, End, While, Do, For}
 use Rattle.rules.specs.Blocks.{Form, while, do-while, for}
 use Rattle.rules.specs.Figures.{ones, loopTicks}
 use Rattle.rules.specs.Questions.{passed, andThen, asked, tickLimit}
-use Rattle.ticks.specs.Capped.{capped, once, overOf}
+use Rattle.steps.specs.Tree.{formOf}
+use Rattle.ticks.specs.Capped.{capped, once, onceOf, overOf}
 
 abbrev most : ℕ
 most = 1_000_000_000_001
@@ -39,6 +42,18 @@ unfolding loopTicks
 loop-ticks-is while n b = refl
 loop-ticks-is do-while n b = omega arith
 loop-ticks-is (for x) n b = omega arith
+
+pub once-is : (k : Kind) → onceOf k ≡ once (formOf k)
+unfolding formOf
+once-is (Set v x) = refl
+once-is (Move v c) = refl
+once-is (Cue n) = refl
+once-is Pick = refl
+once-is Else = refl
+once-is End = refl
+once-is (While v c x) = refl
+once-is (Do v c x) = refl
+once-is (For v s c x d) = refl
 
 pub once-small : (form : Form) → once form ≤ 2
 once-small while = omega arith

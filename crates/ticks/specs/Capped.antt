@@ -3,6 +3,8 @@ use mathlib.Core.Path.{_≡_}
 use mathlib.Core.Bool.{cond}
 use Prim.Native.Nat.{ℕ, min}
 use lib.Dec.{ltb, leb}
+use Rattle.rules.specs.declared.Kind.{Kind}
+use Rattle.rules.specs.declared.Kind.the-variants.{Set, Move, Cue, Pick, Else, End, While, Do, For}
 use Rattle.rules.specs.Blocks.{Form, while, do-while, for}
 use Rattle.rules.specs.Questions.{Verdict, passed, refused, andThen, asked, tickLimit}
 
@@ -14,6 +16,18 @@ abbrev pub once : Form → ℕ
 once while = 1
 once do-while = 0
 once (for x) = 2
+
+-- the same of a loop's head row
+abbrev pub onceOf : Kind → ℕ
+onceOf (Set v x) = 1
+onceOf (Move v c) = 1
+onceOf (Cue n) = 1
+onceOf Pick = 1
+onceOf Else = 1
+onceOf End = 1
+onceOf (While v c x) = 1
+onceOf (Do v c x) = 0
+onceOf (For v s c x d) = 2
 
 -- the first block over the limit, as a verdict; 256 and more: none
 unfoldable pub overOf : ℕ → Verdict

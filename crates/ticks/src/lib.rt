@@ -4,7 +4,7 @@ ghost use mathlib.Core.Path.{_≡_};
 ghost use Prim.Native.Nat.{ℕ, _+_, _*_, _≤_, _<_};
 ghost use Rattle.rules.specs.Figures.{ones, loopTicks};
 ghost use Rattle.steps.specs.Tree.{formOf};
-ghost use Rattle.ticks.specs.Capped.{capped, once, OverOf};
+ghost use Rattle.ticks.specs.Capped.{capped, onceOf, OverOf};
 
 // The first number over the limit.
 pub const MOST: u64 = 1_000_000_000_001;
@@ -29,7 +29,7 @@ pub fn times(n: u64, b: u64) -> u64
 
 // What an entry takes beside its turns: a while its last test, a for its start too, a do nothing.
 fn besides(kind: Kind) -> u64
-    ensures { λ r. ⌜ r ≡ once (formOf kind) ⌝ }
+    ensures { λ r. ⌜ r ≡ onceOf kind ⌝ }
 {
     match kind {
         Kind::Set(_, _) => 1,

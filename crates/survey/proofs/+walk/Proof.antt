@@ -13,7 +13,7 @@ use Rattle.steps.proofs.Walking.{ready, begin, pick-at, loop-at, at-close, at-l
 use Rattle.ranges.specs.Env.{envOf}
 use Rattle.ticks.specs.Capped.{capped, overOf}
 use Rattle.turns.specs.Needs.{answer}
-use Rattle.survey.specs.Fold.{loopCount, linesOf, tallied, lastTicks, LoopOf, Passed}
+use Rattle.survey.specs.Fold.{loopCount, firstLines, tallied, lastTicks, LoopOf, Passed}
 use Rattle.survey.proofs.Folding.{fold-none}
 use Rattle.survey.proofs.Going.{Part, from-parts, part-of, refused-in, closing, restart-walkable, lined-walkable, Going, go-plain, pick-room, pick-first, pick-second, go-pick, loop-room, loop-refused, body-refused, go-loop, last-small}
 use borrow.Fn.Kinds.{In}
@@ -70,8 +70,8 @@ passed-1 : (t : ℕ) (c : lts.Else1 (given t) (here t) walk.Post Inv μ) → let
 passed-1 t c = c .before .before .walk .ensures .whole (c .if1 .left)
 
 part-1 : (t : ℕ) (c : lts.Else1 (given t) (here t) walk.Post Inv μ) → let s = c .before .before .before .before .before .before .before .before .before .before .args in let y = c .before .before .before .before .before .before .before .before .before .loop .t in
-    Part (s .outer) (envOf (c .before .before .before .before .before .before .before .before .before .loop .r)) 0 (overOf (y .over)) (linesOf (y .lines) (y .loops)) (y .loops) (blockAt (s .t1) (s .count) (c .before .before .before .before .before .before .before .before .before .loop .i + 1)) (c .before .before .walk .result)
-part-1 t c = let y = c .before .before .before .before .before .before .before .before .before .loop .t in part-of 0 (overOf (y .over)) (linesOf (y .lines) (y .loops)) (y .loops) (c .before .before .before .restarted2 .ensures .value _) (passed-1 t c)
+    Part (s .outer) (envOf (c .before .before .before .before .before .before .before .before .before .loop .r)) 0 (overOf (y .over)) (firstLines (y .lines) (y .loops)) (y .loops) (blockAt (s .t1) (s .count) (c .before .before .before .before .before .before .before .before .before .loop .i + 1)) (c .before .before .walk .result)
+part-1 t c = let y = c .before .before .before .before .before .before .before .before .before .loop .t in part-of 0 (overOf (y .over)) (firstLines (y .lines) (y .loops)) (y .loops) (c .before .before .before .restarted2 .ensures .value _) (passed-1 t c)
 
 pick-1 : (t : ℕ) (c : lts.Else1 (given t) (here t) walk.Post Inv μ) → let s = c .before .before .before .before .before .before .before .before .before .before .args in let m = c .before .before .walk .result .next in
     PickIs (s .t1) (s .count) (c .before .before .before .before .before .before .before .before .before .loop .i) m (pastElse (kindAt (s .t1) m) m) (endAt (s .t1) (s .count) (pastElse (kindAt (s .t1) m) m))
@@ -89,8 +89,8 @@ pick-2 : (t : ℕ) (c : lts.Else2 (given t) (here t) walk.Post Inv μ) → let s
 pick-2 t c = pick-at _ _ _ (c .before .before .before .before .before .before .before .before .before .before .before .before .before .before .loop-test .taken) (c .before .before .before .before .before .before .before .before .before .before .before .before .before .before .before .before .pre .1 .ready .built) (sym (c .before .before .before .before .before .before .before .before .before .before .before .before .shape-of .ensures) ∙ c .before .before .before .before .before .before .before .before .before .before .enum-told2 .given .1) (passed-1 t (c .before .before .before .before .before .before) .place) (c .before .before .before .before .past-else .ensures) (passed-2 t c .place)
 
 part-2 : (t : ℕ) (c : lts.Else2 (given t) (here t) walk.Post Inv μ) → let s = c .before .before .before .before .before .before .before .before .before .before .before .before .before .before .before .before .args in let y = c .before .before .before .before .before .before .before .before .walk .result in
-    Part (s .outer) (envOf (c .before .before .before .before .before .before .before .before .before .before .before .before .before .before .before .loop .r)) 0 (overOf (y .over)) (linesOf (y .lines) (y .loops)) (y .loops) (blockAt (s .t1) (s .count) (c .before .before .before .before .past-else .result)) (c .before .before .walk2 .result)
-part-2 t c = let y = c .before .before .before .before .before .before .before .before .walk .result in part-of 0 (overOf (y .over)) (linesOf (y .lines) (y .loops)) (y .loops) (c .before .before .before .restarted3 .ensures .value _) (passed-2 t c)
+    Part (s .outer) (envOf (c .before .before .before .before .before .before .before .before .before .before .before .before .before .before .before .loop .r)) 0 (overOf (y .over)) (firstLines (y .lines) (y .loops)) (y .loops) (blockAt (s .t1) (s .count) (c .before .before .before .before .past-else .result)) (c .before .before .walk2 .result)
+part-2 t c = let y = c .before .before .before .before .before .before .before .before .walk .result in part-of 0 (overOf (y .over)) (firstLines (y .lines) (y .loops)) (y .loops) (c .before .before .before .restarted3 .ensures .value _) (passed-2 t c)
 
 -- ---- a loop: at its head, after its body
 one-1 : (t : ℕ) (c : lts.After-one-loop (given t) (here t) walk.Post Inv μ) → let s = c .before .before .before .before .before .before .before .before .args in let i = c .before .before .before .before .before .before .before .loop .i in let k = kindAt (s .t1) i in
@@ -267,7 +267,7 @@ loop-again-3 t c =
     let one = c .before .before .before .before .before .before .before .before .before .before .before .before .before .one-loop .result in
     let total = c .before .before .before .before .before .before .before .before .before .times .result in
     let o = c .before .before .before .before .before .before .before .before .before .before .before .before .before .one-loop .ensures in
-    let ls = linesOf (y .lines) (y .loops) ++ (record { row = i; step = one .step; turns = one .turns; total = total; exact = one .exact } ∷ []) in
+    let ls = firstLines (y .lines) (y .loops) ++ (record { row = i; step = one .step; turns = one .turns; total = total; exact = one .exact } ∷ []) in
     let α : envOf (c .before .before .outside .result) ≡ outside (atStart (formOf k) (testOf k) (envOf (c .before .before .before .before .before .before .before .before .before .before .before .before .before .before .before .before .before .before .before .before .loop .r))) (testOf k) body =
     c .before .before .outside .ensures .value body (o .sets) (o .moves) ∙ ap (λ ρ. outside ρ (testOf k) body) (c .before .before .before .before .before .before .before .before .before .before .before .before .before .before .at-start .ensures) in
     let part : Part total (envOf (c .before .before .before .before .before .before .inside .result)) (lastTicks k) (overOf (y .over)) ls (y .loops + 1) (blockAt (s .t1) (s .count) (i + 1)) (c .before .before .before .before .before .walk3 .result) =

@@ -7,6 +7,7 @@ use Rattle.rules.specs.Ranges.{bounds}
 use Rattle.steps.specs.Tree.{kindAt, formOf, testOf}
 use Rattle.steps.specs.Body.{bodyAt}
 use Rattle.ranges.specs.Env.{envOf}
+use Rattle.ranges.proofs.Loops.{late-is}
 use Rattle.survey.proofs.Parts.{loop-verdict, loop-turns, loop-exact}
 use Rattle.survey.proofs.one_loop.Statement.{statement}
 use Rattle.survey.proofs.one_loop.Tie as tie
@@ -31,8 +32,8 @@ returns c =
     let n = c .before .before .before .before .bounds .ensures ∙ ap (bounds ρ) (h .limit) in
     let f = c .before .ask .ensures in
     record {
-      verdict = sym (loop-verdict (formOf k) ρ (testOf k) body _ _ _ _ _ st keep (h .comparison) s n (a .i)) ∙ f .verdict (formOf k) (c .before .before .before .is-do .ensures) (a .i);
-      turns = λ z. f .turns (formOf k) (c .before .before .before .is-do .ensures) z ∙ loop-turns (formOf k) ρ (testOf k) body _ _ _ _ _ st keep (h .comparison) s n;
+      verdict = sym (loop-verdict (formOf k) ρ (testOf k) body _ _ _ _ _ st keep (h .comparison) s n (a .i)) ∙ f .verdict (formOf k) (c .before .before .before .is-do .ensures ∙ late-is k) (a .i);
+      turns = λ z. f .turns (formOf k) (c .before .before .before .is-do .ensures ∙ late-is k) z ∙ loop-turns (formOf k) ρ (testOf k) body _ _ _ _ _ st keep (h .comparison) s n;
       exact = c .exact .ensures ∙ loop-exact (formOf k) ρ (testOf k) body _ _ _ _ _ st keep (h .comparison) s n;
       moves = st;
       sets = b .value;

@@ -4,8 +4,8 @@ use native.Mathlib.Omega.{arith}
 use mathlib.Core.Path.{_≡_, refl}
 use Prim.Native.Nat.{_≤_}
 use lib.ListN.{length}
+use Rattle.rules.specs.Report.{linesOf}
 use Rattle.ticks.specs.Capped.{overOf}
-use Rattle.survey.specs.Fold.{lineList}
 use Rattle.survey.proofs.Legals.{ready, few-in}
 use Rattle.survey.proofs.Results.{result}
 use Rattle.survey.proofs.survey.Statement.{statement}
@@ -20,7 +20,7 @@ walk-requires c κs =
     record { ready = ready (a .ranges) (a .vars) (a .rows) (a .count) (c .pre .0) (c .pre .1) all; small = omega arith; times = omega arith; room = omega arith }
 
 returns : tie.Need-returns
-unfolding lineList overOf
+unfolding linesOf overOf
 returns c =
     let s = c .before .before .before in
     let a = s .args in
