@@ -274,25 +274,21 @@ fn accepted(f: &mut Files) {
         &[&["cue 1"; 254][..], &["for v0 1 < 3 mul 2", "end"]].concat(),
         "254 grow 2 2 2 2 exact, 260",
     );
-    // Two towers of eight loops with one turn each, filled up with the longest rows: the longest file that is accepted.
-    let head = |v: usize| format!("for v{v} -1000000000 >= -1000000000 sub 1000000000");
-    let heads: Vec<String> = (8..16).map(head).collect();
-    let tower: Vec<&str> = heads.iter().map(String::as_str).collect();
-    // v10 to v15 have three letters; the fill is on a variable that no loop tests.
+    // Two towers of eight loops with one turn each, filled up with the longest rows: about the longest file that
+    // can be accepted, since a number inside its limits has at most eleven bytes.
+    let heads: Vec<String> = (7..15).map(|v| format!("for v{v} -1000000000 >= -1000000000 sub 1000000000")).collect();
     let mut rows: Vec<&str> = Vec::new();
+    let mut lines = String::new();
     for _ in 0..2 {
-        rows.extend(&tower);
-        rows.extend(["mul v0 1000000000"; 112]);
+        for head in &heads {
+            lines += &format!("{} add -1000000000 -1000000000 1 1 exact, ", rows.len());
+            rows.push(head);
+        }
+        rows.extend(["set v15 -1000000000"; 112]);
         rows.extend(["end"; 8]);
     }
-    let mut lines = String::new();
-    for tower in [0, 128] {
-        for k in 0..8 {
-            lines += &format!("{} add -1000000000 -1000000000 1 1 exact, ", tower + k);
-        }
-    }
     // From inside: 112 + 4 for each loop.
-    f.rows("accepted-worst", &[ALL; 16], &rows, &format!("{lines}{}", 2 * (112 + 8 * 4)));
+    f.rows("accepted-worst", &[(-L, -L); 16], &rows, &format!("{lines}{}", 2 * (112 + 8 * 4)));
 }
 
 fn questions_2_and_3(f: &mut Files) {
