@@ -84,24 +84,25 @@ fn nested(turns: u64) -> Vec<u8> {
     )
 }
 
-/// The shortest of several rounds, each of as many calls as fill a while.
-fn time(quick: bool, mut call: impl FnMut()) -> Duration {
-    let begin = Instant::now();
-    call();
-    let once = begin.elapsed().max(Duration::from_nanos(20));
-    let round = Duration::from_millis(if quick { 2 } else { 40 });
-    let calls = (round.as_nanos() / once.as_nanos()).clamp(1, 1_000_000) as u32;
-    let rounds = if once > Duration::from_millis(300) { 2 } else { 5 };
-    (0..rounds)
-        .map(|_| {
-            let begin = Instant::now();
-            for _ in 0..calls {
-                call();
-            }
-            begin.elapsed() / calls
-        })
-        .min()
-        .unwrap()
+/// For each of the two the shortest of several rounds, each of as many calls as fill a while; the rounds take turns.
+fn time(quick: bool, mut first: impl FnMut(), mut second: impl FnMut()) -> (Duration, Duration) {
+    fn round(calls: u32, call: &mut impl FnMut()) -> Duration {
+        let begin = Instant::now();
+        for _ in 0..calls {
+            call();
+        }
+        begin.elapsed() / calls
+    }
+    let once = round(1, &mut first).max(round(1, &mut second)).max(Duration::from_nanos(20));
+    let length = Duration::from_millis(if quick { 2 } else { 30 });
+    let calls = (length.as_nanos() / once.as_nanos()).clamp(1, 1_000_000) as u32;
+    let rounds = if once > Duration::from_millis(300) { 2 } else { 7 };
+    let mut best = (Duration::MAX, Duration::MAX);
+    for _ in 0..rounds {
+        best.0 = best.0.min(round(calls, &mut first));
+        best.1 = best.1.min(round(calls, &mut second));
+    }
+    best
 }
 
 fn human(time: Duration) -> String {
@@ -133,12 +134,15 @@ impl Bench {
         assert_eq!((number, place), expected, "{name}");
         assert!(ours == theirs, "{name}");
         let scratch = &mut self.scratch;
-        let library = time(self.quick, || {
-            black_box(library::report(black_box(file), scratch, &mut theirs, &mut place));
-        });
-        let oracle = time(self.quick, || {
-            let _ = black_box(oracle::report_into(black_box(file), SCRATCH, &mut ours));
-        });
+        let (library, oracle) = time(
+            self.quick,
+            || {
+                black_box(library::report(black_box(file), scratch, &mut theirs, &mut place));
+            },
+            || {
+                let _ = black_box(oracle::report_into(black_box(file), SCRATCH, &mut ours));
+            },
+        );
         let (bytes, answer) = (file.len(), if number == 0 { "accepted".into() } else { format!("refused {number}") });
         self.line(&format!("report: {name}, {bytes} bytes, {answer}"), library, oracle);
     }
@@ -153,14 +157,17 @@ impl Bench {
         assert_eq!((number, &answer[..8]), (0, &first[..]), "{name}");
         assert_eq!(ours, theirs, "{name}");
         let scratch = &mut self.scratch;
-        let library = time(self.quick, || {
-            theirs.copy_from_slice(store);
-            black_box(library::run(black_box(file), scratch, &mut theirs, picks, u64::MAX, &mut answer));
-        });
-        let oracle = time(self.quick, || {
-            ours.copy_from_slice(store);
-            let _ = black_box(oracle::run_counts(black_box(file), SCRATCH, &mut ours, picks, u64::MAX));
-        });
+        let (library, oracle) = time(
+            self.quick,
+            || {
+                theirs.copy_from_slice(store);
+                black_box(library::run(black_box(file), scratch, &mut theirs, picks, u64::MAX, &mut answer));
+            },
+            || {
+                ours.copy_from_slice(store);
+                let _ = black_box(oracle::run_counts(black_box(file), SCRATCH, &mut ours, picks, u64::MAX));
+            },
+        );
         self.line(&format!("run: {name}, {} ticks", counts.ticks), library, oracle);
     }
 }
@@ -172,7 +179,7 @@ fn main() {
         println!("NOT a release build: these times say nothing");
     }
     println!("Same process, same input. Scratch and report buffer are reused and not cleared between calls; the store is");
-    println!("set before each run. Both run calls read and analyse the file first. Best of 5 rounds (2 if over 0.3 s).");
+    println!("set before each run. Both run calls read and analyse the file first. Best of 7 rounds (2 if over 0.3 s).");
     println!("The oracle keeps its rows on the heap and counts only, without a list of entries.");
     println!();
     println!("{:<54} {:>12} {:>12} {:>8}", "workload", "library", "oracle", "ratio");

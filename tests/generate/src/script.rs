@@ -186,9 +186,27 @@ impl Builder<'_> {
         if depth > 0 && self.left >= 6 && self.rng.chance(25) {
             self.left -= 2;
             self.rows.push("pick".into());
-            let row = one(self.rng);
+            let still = self.rng.chance(25);
+            let row = match (still, self.rng.below(3)) {
+                (true, 0) => "cue 5".into(),
+                (true, 1) => format!("div v{v} 1"),
+                (true, _) => format!("sub v{v} 0"),
+                _ => one(self.rng),
+            };
             self.push(row);
-            if self.rng.chance(75) {
+            if still {
+                // It stands in the first branch, or in both.
+                self.push("else".into());
+                if self.rng.chance(80) {
+                    let row = one(self.rng);
+                    self.push(row);
+                }
+                self.rows.push("end".into());
+                if self.rng.chance(80) {
+                    let row = one(self.rng);
+                    self.push(row);
+                }
+            } else if self.rng.chance(75) {
                 self.push("else".into());
                 let row = one(self.rng);
                 self.push(row);
@@ -250,8 +268,11 @@ impl Builder<'_> {
                 };
                 (within(if way == Way::Up { limit - far } else { limit + far }), limit)
             }
-            Way::Grow => (self.rng.between(1, 20) - self.rng.chance(3) as i64, value(self.rng).abs()),
-            Way::Shrink => (value(self.rng).abs(), self.rng.between(1, 5) - self.rng.chance(3) as i64),
+            // Sometimes round 0, where question 12 refuses even a loop that would have no turn.
+            Way::Grow if self.rng.chance(6) => (self.rng.between(-1, 2), self.rng.between(-4, 4)),
+            Way::Shrink if self.rng.chance(6) => (self.rng.between(-4, 4), self.rng.between(-2, 2)),
+            Way::Grow => (self.rng.between(1, 20), value(self.rng).abs()),
+            Way::Shrink => (value(self.rng).abs(), self.rng.between(1, 5)),
         };
         let mut body_locked = locked | 1 << v;
         let mut other = None;
@@ -497,7 +518,7 @@ fn slow(rng: &mut Rng) -> Vec<u8> {
     match rng.below(4) {
         // The figure is 10^12 − 2, and the cues more; or a turn more.
         0 => {
-            let outer = 999_997 + rng.below(3);
+            let outer = rng.one_of(&[999_998, 999_998, 999_998, 999_997, 999_999]);
             let wrap = rng.below(3);
             if wrap == 1 {
                 rows.push("pick".into());
