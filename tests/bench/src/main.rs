@@ -1,0 +1,205 @@
+//! bench [quick]: times the library against the oracle. Both are called in this process with the same
+//! input; the answers are compared before anything is timed.
+
+use library::ANSWER;
+use oracle::{Ending, SCRATCH};
+use std::hint::black_box;
+use std::time::{Duration, Instant};
+
+fn file(ranges: &[(i64, i64)], rows: &[String]) -> Vec<u8> {
+    let mut text = format!("script=1\nvars={}\n", ranges.len());
+    for (lo, hi) in ranges {
+        text += &format!("range={lo} {hi}\n");
+    }
+    text += &format!("rows={}\n", rows.len());
+    for row in rows {
+        text += &format!("row={row}\n");
+    }
+    text.into_bytes()
+}
+
+fn rows(text: &str) -> Vec<String> {
+    text.split(", ").map(String::from).collect()
+}
+
+fn chase() -> Vec<u8> {
+    file(
+        &[(0, 0), (1, 4), (0, 255)],
+        &rows("cue 1, for v0 1 <= 9 add 5, cue 7, for v1 0 < v0 add 1, cue 8, end, pick, set v2 255, else, div v2 2, end, end, cue 9"),
+    )
+}
+
+/// 256 rows, 16 loops, 8 deep: two towers of eight loops, every row a long one.
+fn worst() -> Vec<u8> {
+    let mut rows = Vec::new();
+    let tower = |rows: &mut Vec<String>| {
+        for v in 0..8 {
+            rows.push(format!("for v{v} 999999990 <= 1000000000 add 1000000000"));
+            rows.push(format!("set v{} -1000000000", 8 + v));
+        }
+        rows.extend((0..104).map(|i| format!("add v{} 1000000000", 8 + i % 8)));
+        rows.extend((0..8).map(|_| "end".to_string()));
+    };
+    tower(&mut rows);
+    tower(&mut rows);
+    assert_eq!(rows.len(), 256);
+    file(&[(-1_000_000_000, 1_000_000_000); 16], &rows)
+}
+
+/// The same, with a block left open: refused by question 6 behind the last line.
+fn refused() -> Vec<u8> {
+    let text = String::from_utf8(worst()).unwrap();
+    let cut = text.len() - "row=end\n".len();
+    format!("{}row=cue 1\n", &text[..cut]).into_bytes()
+}
+
+/// One loop with so many rows in it.
+fn body(count: usize) -> Vec<u8> {
+    let mut all = rows("while v0 < 5, add v0 1");
+    all.extend((0..count - 3).map(|i| format!("add v{} 7", 1 + i % 3)));
+    all.push("end".into());
+    file(&[(0, 0); 4], &all)
+}
+
+fn counting(turns: u64) -> Vec<u8> {
+    file(&[(0, 0)], &rows(&format!("while v0 < {turns}, add v0 1, end")))
+}
+
+/// A for round three picks in each other.
+fn picking(turns: u64) -> Vec<u8> {
+    file(
+        &[(0, 0), (0, 0)],
+        &rows(&format!(
+            "for v0 1 <= {turns} add 1, pick, pick, set v1 1, else, pick, cue 2, else, cue 3, end, end, else, cue 4, end, end"
+        )),
+    )
+}
+
+fn nested(turns: u64) -> Vec<u8> {
+    file(
+        &[(0, 0); 4],
+        &rows(&format!(
+            "for v0 1 <= {turns} add 1, for v1 0 < 10 add 1, for v2 10 > 0 sub 1, set v3 v2, end, end, end"
+        )),
+    )
+}
+
+/// For each of the two the shortest of several rounds, each of as many calls as fill a while; the rounds take turns.
+fn time(quick: bool, mut first: impl FnMut(), mut second: impl FnMut()) -> (Duration, Duration) {
+    fn round(calls: u32, call: &mut impl FnMut()) -> Duration {
+        let begin = Instant::now();
+        for _ in 0..calls {
+            call();
+        }
+        begin.elapsed() / calls
+    }
+    let once = round(1, &mut first).max(round(1, &mut second)).max(Duration::from_nanos(20));
+    let length = Duration::from_millis(if quick { 2 } else { 30 });
+    let calls = (length.as_nanos() / once.as_nanos()).clamp(1, 1_000_000) as u32;
+    let rounds = if once > Duration::from_millis(300) { 2 } else { 7 };
+    let mut best = (Duration::MAX, Duration::MAX);
+    for _ in 0..rounds {
+        best.0 = best.0.min(round(calls, &mut first));
+        best.1 = best.1.min(round(calls, &mut second));
+    }
+    best
+}
+
+fn human(time: Duration) -> String {
+    let ns = time.as_nanos() as f64;
+    match ns {
+        n if n < 1e3 => format!("{n:.0} ns"),
+        n if n < 1e6 => format!("{:.2} us", n / 1e3),
+        n if n < 1e9 => format!("{:.2} ms", n / 1e6),
+        n => format!("{:.2} s", n / 1e9),
+    }
+}
+
+struct Bench {
+    quick: bool,
+    scratch: Vec<u32>,
+}
+
+impl Bench {
+    fn line(&self, name: &str, library: Duration, oracle: Duration) {
+        let ratio = library.as_secs_f64() / oracle.as_secs_f64();
+        println!("{name:<54} {:>12} {:>12} {ratio:>8.2}", human(library), human(oracle));
+    }
+
+    fn report(&mut self, name: &str, file: &[u8]) {
+        let (mut ours, mut theirs) = (vec![0; 2_048], vec![0; 2_048]);
+        let mut place = 0;
+        let number = library::report(file, &mut self.scratch, &mut theirs, &mut place);
+        let expected = oracle::report_into(file, SCRATCH, &mut ours).map_or_else(|r| r, |length| (0, length));
+        assert_eq!((number, place), expected, "{name}");
+        assert!(ours == theirs, "{name}");
+        let scratch = &mut self.scratch;
+        let (library, oracle) = time(
+            self.quick,
+            || {
+                black_box(library::report(black_box(file), scratch, &mut theirs, &mut place));
+            },
+            || {
+                let _ = black_box(oracle::report_into(black_box(file), SCRATCH, &mut ours));
+            },
+        );
+        let (bytes, answer) = (file.len(), if number == 0 { "accepted".into() } else { format!("refused {number}") });
+        self.line(&format!("report: {name}, {bytes} bytes, {answer}"), library, oracle);
+    }
+
+    fn run(&mut self, name: &str, file: &[u8], store: &[i32], picks: &[u8]) {
+        let mut answer = [0; ANSWER];
+        let (mut ours, mut theirs) = (store.to_vec(), store.to_vec());
+        let number = library::run(file, &mut self.scratch, &mut theirs, picks, u64::MAX, &mut answer);
+        let (counts, loops) = oracle::run_counts(file, SCRATCH, &mut ours, picks, u64::MAX).expect(name);
+        assert_eq!(counts.ending, Ending::Ended, "{name}");
+        let first = [0, counts.row as u64, counts.ticks, counts.used as u64, loops as u64, 0, counts.all[0], counts.most[0]];
+        assert_eq!((number, &answer[..8]), (0, &first[..]), "{name}");
+        assert_eq!(ours, theirs, "{name}");
+        let scratch = &mut self.scratch;
+        let (library, oracle) = time(
+            self.quick,
+            || {
+                theirs.copy_from_slice(store);
+                black_box(library::run(black_box(file), scratch, &mut theirs, picks, u64::MAX, &mut answer));
+            },
+            || {
+                ours.copy_from_slice(store);
+                let _ = black_box(oracle::run_counts(black_box(file), SCRATCH, &mut ours, picks, u64::MAX));
+            },
+        );
+        self.line(&format!("run: {name}, {} ticks", counts.ticks), library, oracle);
+    }
+}
+
+fn main() {
+    let quick = std::env::args().nth(1).is_some_and(|word| word == "quick");
+    let mut bench = Bench { quick, scratch: vec![0; SCRATCH] };
+    if cfg!(debug_assertions) {
+        println!("NOT a release build: these times say nothing");
+    }
+    println!("Same process, same input. Scratch and report buffer are reused and not cleared between calls; the store is");
+    println!("set before each run. Both run calls read and analyse the file first. Best of 7 rounds (2 if over 0.3 s).");
+    println!("The oracle keeps its rows on the heap and counts only, without a list of entries.");
+    println!();
+    println!("{:<54} {:>12} {:>12} {:>8}", "workload", "library", "oracle", "ratio");
+    bench.report("small chase", &chase());
+    bench.report("worst file", &worst());
+    bench.report("worst file left open", &refused());
+    for count in [3, 30, 256] {
+        bench.report(&format!("one loop, {count} rows"), &body(count));
+    }
+    let most = if quick { 500_000 } else { 50_000_000 };
+    for turns in [most / 100, most / 10, most] {
+        bench.run("while", &counting(turns), &[0], &[]);
+    }
+    let most = if quick { 10_000 } else { 1_000_000 };
+    let picks: Vec<u8> = (0..3 * most).map(|i: u64| (i.wrapping_mul(0x9e37_79b9_7f4a_7c15) >> 62) as u8 & 1).collect();
+    for turns in [most / 100, most / 10, most] {
+        bench.run("picks, 3 deep", &picking(turns), &[0, 0], &picks);
+    }
+    let most = if quick { 1_000 } else { 100_000 };
+    for turns in [most / 100, most / 10, most] {
+        bench.run("fors, 3 deep", &nested(turns), &[0; 4], &[]);
+    }
+}

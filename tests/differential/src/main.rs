@@ -1,0 +1,305 @@
+//! differential [COUNT [SEED [FIRST]]]: compares the library with the oracle on COUNT generated files, from
+//! file number FIRST on. The first difference is printed with its file, and the exit code is 1.
+
+use generate::{allowance, any_store, case, picks, store, Rng, SEED};
+use library::ANSWER;
+use oracle::{Ending, Plan, Refusal, Run, SCRATCH};
+use std::process::exit;
+use std::time::Instant;
+
+/// The longest run that is waited for where the plan is longer.
+const LONGEST: u64 = 30_000;
+/// Bytes and numbers before and after everything lent, which must keep their values.
+const GUARD: usize = 64;
+
+/// Room between two guards.
+struct Room<T> {
+    all: Vec<T>,
+    length: usize,
+    guard: T,
+}
+
+impl<T: Copy + PartialEq> Room<T> {
+    fn new(contents: impl Iterator<Item = T>, guard: T) -> Room<T> {
+        let mut all = vec![guard; GUARD];
+        all.extend(contents);
+        let length = all.len() - GUARD;
+        all.resize(length + 2 * GUARD, guard);
+        Room { all, length, guard }
+    }
+
+    fn lent(&mut self) -> &mut [T] {
+        &mut self.all[GUARD..GUARD + self.length]
+    }
+
+    fn guarded(&self) -> bool {
+        let kept = |part: &[T]| part.iter().all(|n| *n == self.guard);
+        kept(&self.all[..GUARD]) && kept(&self.all[GUARD + self.length..])
+    }
+}
+
+#[derive(Default)]
+struct Tally {
+    accepted: u64,
+    refused: [u64; 16],
+    reports: u64,
+    runs: u64,
+    endings: [u64; 4],
+    run_refusals: u64,
+    demands: u64,
+    entries: u64,
+    ticks: u64,
+}
+
+struct Checker {
+    file: Vec<u8>,
+    seed: u64,
+    index: u64,
+    scratch: Vec<u32>,
+    rng: Rng,
+    tally: Tally,
+}
+
+fn word(ending: Ending) -> u64 {
+    match ending {
+        Ending::Ended => 0,
+        Ending::Spent => 1,
+        Ending::Range => 2,
+        Ending::NoPick => 3,
+    }
+}
+
+impl Checker {
+    fn differ(&self, call: &str, expected: &dyn std::fmt::Debug, got: &dyn std::fmt::Debug) -> ! {
+        println!("difference in file {} of seed {}: {call}", self.index, self.seed);
+        println!("oracle:  {expected:?}");
+        println!("library: {got:?}");
+        println!("file ({} bytes): \"{}\"", self.file.len(), self.file.escape_ascii());
+        exit(1)
+    }
+
+    fn same<T: PartialEq + std::fmt::Debug>(&self, call: &str, what: &str, expected: T, got: T) {
+        if expected != got {
+            self.differ(&format!("{what} of {call}"), &expected, &got);
+        }
+    }
+
+    /// The scratch for the next call, with a guard behind it: as the last call left it, or filled.
+    fn scratch(&mut self, length: usize) -> Vec<u32> {
+        let mut scratch = std::mem::take(&mut self.scratch);
+        scratch.resize(length + GUARD, 0xa5a5_a5a5);
+        match self.rng.below(8) {
+            0 => scratch.fill(0),
+            1 => scratch.fill(u32::MAX),
+            2 => {
+                let n = self.rng.next() as u32;
+                scratch.fill(n);
+            }
+            _ => {}
+        }
+        scratch[length..].fill(0xa5a5_a5a5);
+        scratch
+    }
+
+    fn scratch_back(&mut self, call: &str, scratch: Vec<u32>, length: usize, before: Option<Vec<u32>>) {
+        self.same(call, "numbers past the scratch", &[0xa5a5_a5a5; GUARD][..], &scratch[length..]);
+        if let Some(before) = before {
+            if before != scratch {
+                self.differ(&format!("{call}: scratch touched under question 1"), &"untouched", &"touched");
+            }
+        }
+        self.scratch = scratch;
+    }
+
+    fn report(&mut self, scratch_len: usize, buffer_len: usize, expected: &Result<Vec<u8>, Refusal>) {
+        self.tally.reports += 1;
+        let call = &format!("report with {scratch_len} scratch numbers and a buffer of {buffer_len}");
+        let mut scratch = self.scratch(scratch_len);
+        let before = (scratch_len < SCRATCH).then(|| scratch.clone());
+        let salt = self.rng.next() as u8;
+        let pattern = |i: usize| (i as u8).wrapping_mul(31) ^ salt;
+        let mut buffer = Room::new((0..buffer_len).map(pattern), 0x5a);
+        let mut place = [0x1122_3344_5566_7788u64; 3];
+        let file = self.file.clone();
+        let number = library::report(&file, &mut scratch[..scratch_len], buffer.lent(), &mut place[1]);
+        self.same(call, "file after the call", &self.file, &file);
+        let place_kept = place[0] == 0x1122_3344_5566_7788 && place[2] == place[0];
+        if !buffer.guarded() || !place_kept {
+            self.differ(call, &"bytes round the buffer and the place kept", &"changed");
+        }
+        let mut full: Vec<u8> = (0..buffer_len).map(pattern).collect();
+        match expected {
+            Ok(text) => {
+                full[..text.len()].copy_from_slice(text);
+                self.same(call, "answer", (0, text.len() as u64), (number, place[1]));
+            }
+            Err(refusal) => self.same(call, "answer", *refusal, (number, place[1])),
+        }
+        if full != buffer.lent() {
+            let (full, got) = (full.escape_ascii().to_string(), buffer.lent().escape_ascii().to_string());
+            self.differ(&format!("buffer of {call}"), &full, &got);
+        }
+        self.scratch_back(call, scratch, scratch_len, before);
+    }
+
+    fn run(&mut self, scratch_len: usize, store: &[i32], picks: &[u8], allowance: u64, expected: &Result<Run, Refusal>) {
+        self.tally.runs += 1;
+        let call = &format!(
+            "run with {scratch_len} scratch numbers, store {store:?}, allowance {allowance}, {} picks {:?}..",
+            picks.len(),
+            &picks[..picks.len().min(40)]
+        );
+        let mut scratch = self.scratch(scratch_len);
+        let before = (scratch_len < SCRATCH).then(|| scratch.clone());
+        let mut lent_store = Room::new(store.iter().copied(), 0x5a5a_5a5a);
+        let mut answer = Room::new((0..ANSWER as u64).map(|i| !i), 0x5a5a);
+        let file = self.file.clone();
+        let lent_picks = picks.to_vec();
+        let number = library::run(
+            &file,
+            &mut scratch[..scratch_len],
+            lent_store.lent(),
+            &lent_picks,
+            allowance,
+            answer.lent().try_into().unwrap(),
+        );
+        self.same(call, "file after the call", &self.file, &file);
+        self.same(call, "picks after the call", picks, &lent_picks);
+        if !lent_store.guarded() || !answer.guarded() {
+            self.differ(call, &"numbers round store and answer kept", &"changed");
+        }
+        let mut numbers = [0u64; ANSWER];
+        match expected {
+            Err((refusal, place)) => {
+                self.tally.run_refusals += 1;
+                numbers[0] = *place;
+                self.same(call, "number", *refusal, number);
+                self.same(call, "store", store, lent_store.lent());
+            }
+            Ok(run) => {
+                self.tally.endings[word(run.ending) as usize] += 1;
+                self.tally.ticks += run.ticks;
+                numbers[..5].copy_from_slice(&[
+                    word(run.ending),
+                    run.row as u64,
+                    run.ticks,
+                    run.used as u64,
+                    run.loops.len() as u64,
+                ]);
+                for (k, &(row, all, most)) in run.loops.iter().enumerate() {
+                    numbers[5 + 3 * k..8 + 3 * k].copy_from_slice(&[row as u64, all, most]);
+                }
+                self.same(call, "number", 0, number);
+                self.same(call, "store", &run.store[..], lent_store.lent());
+            }
+        }
+        self.same(call, "answer", &numbers[..], answer.lent());
+        self.scratch_back(call, scratch, scratch_len, before);
+    }
+
+    fn accepted(&mut self, plan: &Plan) {
+        self.tally.accepted += 1;
+        let text = oracle::report_text(plan);
+        let length = text.len();
+        for buffer_len in [length - 1, length, length + 1, 0, 4_096, self.rng.below(length)] {
+            let expected = if buffer_len < length { Err((14, length as u64)) } else { Ok(text.clone()) };
+            self.report(SCRATCH, buffer_len, &expected);
+        }
+        let more = SCRATCH + 1 + self.rng.below(500);
+        self.report(more, length, &Ok(text));
+
+        for _ in 0..5 {
+            let store = store(&mut self.rng, &plan.script);
+            let picks = picks(&mut self.rng);
+            // Demand 3, on the oracle's own list, where the run is short enough to be made.
+            let first = oracle::run_planned(plan, &store, &picks, plan.ticks.min(LONGEST));
+            let short = match &first {
+                Ok(run) => plan.ticks <= LONGEST || run.ending != Ending::Spent,
+                Err(_) => true,
+            };
+            if let (Ok(run), true) = (&first, short) {
+                self.tally.demands += 1;
+                self.tally.entries += run.entries.len() as u64;
+                if let Some(what) = oracle::breach(plan, run) {
+                    let call = format!("demand 3 with store {store:?}, picks {picks:?}: {what}");
+                    self.differ(&call, &run, &"not asked");
+                }
+            }
+            let allowance = allowance(&mut self.rng, plan, short, LONGEST);
+            let expected = oracle::run_planned(plan, &store, &picks, allowance);
+            self.run(SCRATCH, &store, &picks, allowance, &expected);
+            if short && self.rng.chance(40) {
+                self.run(SCRATCH, &store, &picks, plan.ticks, &first);
+            }
+        }
+    }
+
+    fn refused(&mut self, refusal: Refusal) {
+        self.tally.refused[refusal.0 as usize] += 1;
+        for buffer_len in [0, 300] {
+            self.report(SCRATCH, buffer_len, &Err(refusal));
+        }
+        let (store, picks) = (any_store(&mut self.rng), picks(&mut self.rng));
+        let allowance = self.rng.next();
+        self.run(SCRATCH, &store, &picks, allowance, &Err(refusal));
+    }
+
+    fn case(&mut self) {
+        match oracle::plan(&self.file, SCRATCH) {
+            Ok(plan) => self.accepted(&plan),
+            Err(refusal) => self.refused(refusal),
+        }
+        let little = if self.rng.chance(80) { SCRATCH - 1 } else { self.rng.below(SCRATCH) };
+        self.report(little, 500, &Err((1, SCRATCH as u64)));
+        let (store, picks) = (any_store(&mut self.rng), picks(&mut self.rng));
+        self.run(little, &store, &picks, 100, &Err((1, SCRATCH as u64)));
+    }
+}
+
+fn main() {
+    let arguments: Vec<String> = std::env::args().skip(1).collect();
+    let number = |at: usize, default: u64| {
+        arguments.get(at).map_or(default, |word| {
+            word.parse().unwrap_or_else(|_| {
+                println!("use: differential [COUNT [SEED [FIRST]]]");
+                exit(2)
+            })
+        })
+    };
+    let (count, seed, first) = (number(0, 20_000), number(1, SEED), number(2, 0));
+    let begin = Instant::now();
+    let mut checker = Checker {
+        file: Vec::new(),
+        seed,
+        index: 0,
+        scratch: vec![0xdead_beef; SCRATCH],
+        rng: Rng::new(seed, 0),
+        tally: Tally::default(),
+    };
+    for index in first..first + count {
+        let (file, rng) = case(seed, index);
+        checker.file = file;
+        checker.index = index;
+        checker.rng = rng;
+        checker.case();
+    }
+    let t = &checker.tally;
+    let refused: Vec<String> = (2..=13).map(|number| format!("{number}:{}", t.refused[number])).collect();
+    println!(
+        "no difference: {count} files of seed {seed}, {} accepted, refused {}; {} report calls; {} run calls ({} refused, \
+         ended {}, spent {}, range {}, no pick {}, {} ticks); demand 3 held in {} runs with {} entries; {:.1} s",
+        t.accepted,
+        refused.join(" "),
+        t.reports,
+        t.runs,
+        t.run_refusals,
+        t.endings[0],
+        t.endings[1],
+        t.endings[2],
+        t.endings[3],
+        t.ticks,
+        t.demands,
+        t.entries,
+        begin.elapsed().as_secs_f64()
+    );
+}

@@ -1,0 +1,494 @@
+//! files DIRECTORY: writes the hand-made script files and their answers. Every answer in the table below was
+//! found by thought from document 01; the program stops if the oracle's differs.
+//!
+//! An answer is "refused NUMBER PLACE", or the loop lines and the ticks of the report, with commas between.
+
+use std::path::Path;
+
+struct Files<'d> {
+    directory: &'d Path,
+    count: usize,
+    wrong: usize,
+}
+
+fn text(ranges: &[(i64, i64)], rows: &[&str]) -> Vec<u8> {
+    let mut text = format!("script=1\nvars={}\n", ranges.len());
+    for (lo, hi) in ranges {
+        text += &format!("range={lo} {hi}\n");
+    }
+    text += &format!("rows={}\n", rows.len());
+    for row in rows {
+        text += &format!("row={row}\n");
+    }
+    text.into_bytes()
+}
+
+impl Files<'_> {
+    fn bytes(&mut self, name: &str, file: &[u8], thought: &str) {
+        let answer = match oracle::plan(file, oracle::SCRATCH) {
+            Ok(plan) => String::from_utf8(oracle::report_text(&plan)).unwrap(),
+            Err((number, place)) => format!("refused={number} {place}\n"),
+        };
+        let expected = match thought.strip_prefix("refused ") {
+            Some(refusal) => format!("refused={refusal}\n"),
+            None => {
+                let mut parts: Vec<&str> = thought.split(", ").collect();
+                let ticks = parts.pop().unwrap();
+                let rows = String::from_utf8_lossy(file).lines().filter(|line| line.starts_with("row=")).count();
+                let loops: String = parts.iter().map(|line| format!("loop={line}\n")).collect();
+                format!("report=1\nrows={rows}\nloops={}\n{loops}ticks={ticks}\n", parts.len())
+            }
+        };
+        if expected != answer {
+            self.wrong += 1;
+            println!("{name}: thought\n{expected}but the oracle says\n{answer}");
+        }
+        let script = self.directory.join(format!("{name}.script"));
+        assert!(!script.exists(), "{name} twice");
+        std::fs::write(script, file).unwrap();
+        std::fs::write(self.directory.join(format!("{name}.expected")), answer).unwrap();
+        self.count += 1;
+    }
+
+    fn rows(&mut self, name: &str, ranges: &[(i64, i64)], rows: &[&str], thought: &str) {
+        self.bytes(name, &text(ranges, rows), thought);
+    }
+
+    /// Rows in one string, with commas between.
+    fn brief(&mut self, name: &str, ranges: &[(i64, i64)], rows: &str, thought: &str) {
+        let rows: Vec<&str> = rows.split(", ").collect();
+        self.rows(name, ranges, &rows, thought);
+    }
+
+    /// A file with two variables and this one row, which has line 6.
+    fn row(&mut self, name: &str, row: &str, thought: &str) {
+        self.rows(name, &[(0, 0), (0, 0)], &[row], thought);
+    }
+}
+
+const L: i64 = 1_000_000_000;
+const ALL: (i64, i64) = (-L, L);
+
+fn main() {
+    let directory = std::env::args().nth(1).expect("use: files DIRECTORY");
+    let mut f = Files { directory: Path::new(&directory), count: 0, wrong: 0 };
+    checked_figures(&mut f);
+    accepted(&mut f);
+    questions_2_and_3(&mut f);
+    questions_4_and_5(&mut f);
+    questions_6_and_7(&mut f);
+    questions_8_to_12(&mut f);
+    question_13(&mut f);
+    println!("{} files, {} not as thought", f.count, f.wrong);
+    std::process::exit((f.wrong > 0) as i32);
+}
+
+/// Document 01's listing and its checked figures. A while of N turns with one row has 2N + 1 ticks, a do 2N.
+fn checked_figures(f: &mut Files) {
+    f.brief(
+        "figure-listing",
+        &[(0, 0), (1, 4)],
+        "for v0 1 <= 9 add 5, for v1 0 < v0 add 1, cue 7, end, end, cue 8",
+        "0 add 5 5 2 2 exact, 1 add 1 1 9 18 most, 65",
+    );
+    let mut figure = |name: &str, start: i64, rows: &str, thought: &str| {
+        f.brief(&format!("figure-{name}"), &[(start, start)], rows, thought)
+    };
+    figure("le-9-add-5-from-1", 1, "while v0 <= 9, add v0 5, end", "0 add 5 5 2 2 exact, 5");
+    figure("le-9-add-5-from-9", 9, "while v0 <= 9, add v0 5, end", "0 add 5 5 1 1 exact, 3");
+    figure("le-9-add-5-from-10", 10, "while v0 <= 9, add v0 5, end", "0 add 5 5 0 0 exact, 1");
+    figure("lt-6-add-5-from-1", 1, "while v0 < 6, add v0 5, end", "0 add 5 5 1 1 exact, 3");
+    figure("lt-7-add-5-from-1", 1, "while v0 < 7, add v0 5, end", "0 add 5 5 2 2 exact, 5");
+    figure("do-le-9-add-5-from-1", 1, "do v0 <= 9, add v0 5, end", "0 add 5 5 2 2 exact, 4");
+    figure("do-le-9-add-5-from-10", 10, "do v0 <= 9, add v0 5, end", "0 add 5 5 1 1 exact, 2");
+    figure("ge-1-sub-5-from-9", 9, "while v0 >= 1, sub v0 5, end", "0 add -5 -5 2 2 exact, 5");
+    figure("le-8-mul-2-from-1", 1, "while v0 <= 8, mul v0 2, end", "0 grow 2 2 4 4 exact, 9");
+    figure("le-7-mul-2-from-1", 1, "while v0 <= 7, mul v0 2, end", "0 grow 2 2 3 3 exact, 7");
+    figure("le-8-mul-2-from-0", 0, "while v0 <= 8, mul v0 2, end", "refused 12 0");
+    figure("ge-1-div-2-from-8", 8, "while v0 >= 1, div v0 2, end", "0 shrink 2 2 4 4 exact, 9");
+    figure("gt-0-div-2-from-8", 8, "while v0 > 0, div v0 2, end", "0 shrink 2 2 4 4 exact, 9");
+    figure("ge-0-div-2-from-8", 8, "while v0 >= 0, div v0 2, end", "refused 12 0");
+    figure("do-le-8-mul-2-from-3", 3, "do v0 <= 8, mul v0 2, end", "0 grow 2 2 2 2 exact, 4");
+    figure("ne-9-add-3-from-0", 0, "while v0 != 9, add v0 3, end", "0 add 3 3 3 3 exact, 7");
+    figure("ne-10-add-3-from-0", 0, "while v0 != 10, add v0 3, end", "refused 12 0");
+    figure("do-ne-5-add-1-from-5", 5, "do v0 != 5, add v0 1, end", "refused 12 0");
+    figure("eq-5-add-1-from-5", 5, "while v0 == 5, add v0 1, end", "0 add 1 1 1 1 exact, 3");
+    figure("eq-5-add-1-from-4", 4, "while v0 == 5, add v0 1, end", "0 add 1 1 0 0 exact, 1");
+    figure("do-eq-5-add-1-from-4", 4, "do v0 == 5, add v0 1, end", "0 add 1 1 2 2 exact, 4");
+    // Four turns of a pick (1 + 1), a row and a test, and the last test.
+    figure(
+        "lt-10-pick-2-or-3-then-1",
+        0,
+        "while v0 < 10, pick, add v0 2, else, add v0 3, end, add v0 1, end",
+        "0 add 3 4 4 4 most, 17",
+    );
+    figure(
+        "lt-10-pick-sub-3-or-5-then-add-4",
+        0,
+        "while v0 < 10, pick, sub v0 3, else, sub v0 5, end, add v0 4, end",
+        "refused 9 0",
+    );
+}
+
+fn accepted(f: &mut Files) {
+    f.rows("accepted-nothing", &[], &[], "0");
+    f.rows("accepted-16-variables", &[(-5, 5); 16], &["set v15 v0", "add v9 0", "cue 9999"], "3");
+    f.rows("accepted-ranges-at-the-limits", &[ALL, (L, L), (-L, -L)], &["set v0 -1000000000", "set v1 1000000000"], "2");
+    f.rows("accepted-256-rows", &[], &["cue 0"; 256], "256");
+    f.brief(
+        "accepted-every-row",
+        &[(0, 0), (3, 4)],
+        "set v0 v1, set v0 -7, add v0 1000000000, sub v0 1000000000, mul v0 1, div v0 3, cue 0, pick, cue 1, cue 2, else, \
+         cue 3, end, while v1 < 5, add v1 1, end, do v1 > 0, sub v1 2, end, for v0 2 <= 9 mul 3, add v0 0, end",
+        // 7 rows, the pick 1 + 2; while from 3: 2 turns, 5 ticks; then v1 is [3, L]: the do has 1 + the figure
+        // from L - 2 down to 1, floor((L - 3)/2) + 1 = 499999999, so 500000000 turns of 2; for 2, 6: 2(1 + 2) + 2.
+        "13 add 1 1 2 2 most, 16 add -2 -2 500000000 500000000 most, 19 grow 3 3 2 2 exact, 1000000023",
+    );
+    f.brief(
+        "accepted-six-comparisons",
+        &[(0, 0)],
+        "for v0 0 < 3 add 1, end, for v0 0 <= 3 add 1, end, for v0 3 > 0 sub 1, end, for v0 3 >= 0 sub 1, end, \
+         for v0 3 == 3 sub 1, end, for v0 3 != 0 sub 1, end",
+        // A for of N turns without a row has 2N + 2 ticks: 8, 10, 8, 10, 4, 8.
+        "0 add 1 1 3 3 exact, 2 add 1 1 4 4 exact, 4 add -1 -1 3 3 exact, 6 add -1 -1 4 4 exact, \
+         8 add -1 -1 1 1 exact, 10 add -1 -1 3 3 exact, 48",
+    );
+    f.brief(
+        "accepted-for-with-a-moving-body",
+        &[(0, 9)],
+        "for v0 v0 < 20 add 3, pick, sub v0 1, end, end",
+        // Step 2 to 3, worst start 0: floor(19/2) + 1 = 10 turns of 2 + 2 ticks.
+        "0 add 2 3 10 10 most, 42",
+    );
+    f.brief("accepted-for-without-a-turn", &[(0, 0)], "for v0 9 < 9 add 1, cue 1, end", "0 add 1 1 0 0 exact, 2");
+    f.brief(
+        "accepted-add-back-then-grow",
+        &[(1, 1)],
+        "while v0 < 5, add v0 5, sub v0 5, mul v0 2, end",
+        "0 grow 2 2 3 3 exact, 13",
+    );
+    f.brief(
+        "accepted-pick-or-not-then-grow",
+        &[(1, 1)],
+        "while v0 <= 8, pick, mul v0 3, end, mul v0 2, end",
+        "0 grow 2 6 4 4 most, 17",
+    );
+    f.brief(
+        "accepted-factor-counts-as-two-thousand-million-and-one",
+        &[(1, 1)],
+        "while v0 <= 1000000000, mul v0 1000000000, mul v0 1000000000, end",
+        "0 grow 2000000001 2000000001 1 1 exact, 4",
+    );
+    f.brief(
+        "accepted-do-shrink-from-below-zero",
+        &[(-9, -2)],
+        "do v0 >= 1, div v0 2, end",
+        "0 shrink 2 2 1 1 most, 2",
+    );
+    f.brief(
+        "accepted-range-after-shrink",
+        &[(-3, 8), (0, 0)],
+        "while v0 > 2, div v0 2, end, for v1 v0 <= 0 add 1, end",
+        // E is 3: 3, 6: two turns, 5 ticks. After it v0 is [-3, 8]: 4 turns from -3, 10 ticks.
+        "0 shrink 2 2 2 2 most, 3 add 1 1 4 4 most, 15",
+    );
+    f.brief(
+        "accepted-ranges-drawn-back",
+        &[(5, L)],
+        "mul v0 7, sub v0 35, while v0 < 1000000000, add v0 500000000, end",
+        // [35, L] and then [0, L - 35]: from 0 the turns are floor((L - 1)/(L/2)) + 1 = 2.
+        "2 add 500000000 500000000 2 2 most, 7",
+    );
+    f.brief(
+        "accepted-do-body-starts-past-the-limit",
+        &[(1, 20), (0, 0)],
+        "do v0 <= 9, for v1 1 <= v0 add 1, end, add v0 5, end",
+        // The do: 1 + from 6 to 9 by 5: 2 turns. In the body v0 is [1, 20]: 20 turns, 42 ticks. 2(43 + 1).
+        "0 add 5 5 2 2 most, 1 add 1 1 20 40 most, 88",
+    );
+    f.brief(
+        "accepted-falling-body-range",
+        &[(9, 9), (0, 0)],
+        "while v0 > 5, for v1 0 > v0 sub 1, end, for v1 0 < v0 add 1, end, sub v0 1, end",
+        // E is 6: 4 turns. v0 in the body is [6, 9]: no turn of the first, 9 of the second: 2 and 20 ticks and a row.
+        "0 add -1 -1 4 4 exact, 1 add -1 -1 0 0 most, 3 add 1 1 9 36 most, 97",
+    );
+    f.brief(
+        "accepted-equal-body-range-is-all",
+        &[(5, 5), (0, 0)],
+        "while v0 == 5, add v0 1, end, for v1 0 < v0 add 1, end",
+        "0 add 1 1 1 1 exact, 3 add 1 1 1000000000 1000000000 most, 2000000005",
+    );
+    f.brief(
+        "accepted-unequal-by-ones-over-ranges",
+        &[(1, 5), (5, 9)],
+        "while v0 != v1, add v0 1, end",
+        "0 add 1 1 8 8 most, 17",
+    );
+    f.brief(
+        "accepted-unequal-down-by-ones-over-ranges",
+        &[(5, 9), (1, 5)],
+        "do v1 != -3, sub v1 1, end, while v0 != -3, sub v0 1, end",
+        // The do starts moved: [0, 4], so 1 + 7. The while 9 + 3 = 12.
+        "0 add -1 -1 8 8 most, 3 add -1 -1 12 12 most, 41",
+    );
+    f.brief(
+        "accepted-do-equal-over-a-moved-range",
+        &[(0, 3)],
+        "do v0 == 9, pick, add v0 1, else, add v0 6, end, end",
+        // Moved: [1, 9], which has 9. Two turns of the pick's 2 and the test.
+        "0 add 1 6 2 2 most, 6",
+    );
+    f.brief(
+        "accepted-limit-in-a-variable-that-a-for-start-changes",
+        &[(0, 0), (3, 3)],
+        "for v0 v1 < v1 add 1, end, while v1 < v0, add v1 1, end",
+        // No turn of the first, 2 ticks. Then v0 is [3, L]: L - 3 turns.
+        "0 add 1 1 0 0 exact, 2 add 1 1 999999997 999999997 most, 1999999997",
+    );
+    f.brief(
+        "accepted-heavy-body-without-a-turn",
+        &[(0, 0); 3],
+        "for v2 1 <= 0 add 1, for v0 1 <= 600000 add 1, for v1 1 <= 499999 add 1, end, end, \
+         for v0 1 <= 600000 add 1, for v1 1 <= 499999 add 1, end, end, end",
+        "0 add 1 1 0 0 exact, 1 add 1 1 600000 0 exact, 2 add 1 1 499999 0 exact, \
+         5 add 1 1 600000 0 exact, 6 add 1 1 499999 0 exact, 2",
+    );
+    f.brief(
+        "accepted-ticks-at-the-limit",
+        &[(0, 0); 2],
+        "for v0 1 <= 999998 add 1, for v1 1 <= 499999 add 1, end, end, cue 1, cue 2",
+        // Inside 2·499999 + 2 = 10^6, so 999998·(10^6 + 2) + 2 = 10^12 - 2.
+        "0 add 1 1 999998 999998 exact, 1 add 1 1 499999 499998000002 exact, 1000000000000",
+    );
+    f.rows("accepted-8-deep", &[], &[&["pick"; 8][..], &["else"], &["end"; 8]].concat(), "8");
+    f.rows(
+        "accepted-16-loops",
+        &[(0, 0)],
+        &["for v0 1 < 1 add 1", "end"].repeat(16),
+        &format!("{}32", (0..16).map(|k| format!("{} add 1 1 0 0 exact, ", 2 * k)).collect::<String>()),
+    );
+    f.rows(
+        "accepted-loop-in-the-last-rows",
+        &[(0, 0)],
+        &[&["cue 1"; 254][..], &["for v0 1 < 3 mul 2", "end"]].concat(),
+        "254 grow 2 2 2 2 exact, 260",
+    );
+    // Two towers of eight loops with one turn each, filled up with the longest rows: about the longest file that
+    // can be accepted, since a number inside its limits has at most eleven bytes.
+    let heads: Vec<String> = (7..15).map(|v| format!("for v{v} -1000000000 >= -1000000000 sub 1000000000")).collect();
+    let mut rows: Vec<&str> = Vec::new();
+    let mut lines = String::new();
+    for _ in 0..2 {
+        for head in &heads {
+            lines += &format!("{} add -1000000000 -1000000000 1 1 exact, ", rows.len());
+            rows.push(head);
+        }
+        rows.extend(["set v15 -1000000000"; 112]);
+        rows.extend(["end"; 8]);
+    }
+    // From inside: 112 + 4 for each loop.
+    f.rows("accepted-worst", &[(-L, -L); 16], &rows, &format!("{lines}{}", 2 * (112 + 8 * 4)));
+}
+
+fn questions_2_and_3(f: &mut Files) {
+    f.bytes("refused-3-empty-file", b"", "refused 3 1");
+    f.bytes("refused-3-lone-lf", b"\n", "refused 3 1");
+    f.bytes("refused-3-first-line-without-lf", b"script=1", "refused 3 1");
+    f.bytes("refused-3-script-2", b"script=2\nvars=0\nrows=0\n", "refused 3 1");
+    f.bytes("refused-3-script-01", b"script=01\nvars=0\nrows=0\n", "refused 3 1");
+    f.bytes("refused-3-no-second-line", b"script=1\n", "refused 3 2");
+    f.bytes("refused-3-vars-minus-zero", b"script=1\nvars=-0\nrows=0\n", "refused 3 2");
+    f.bytes("refused-3-vars-leading-zero", b"script=1\nvars=00\nrows=0\n", "refused 3 2");
+    f.bytes("refused-3-vars-plus", b"script=1\nvars=+1\nrange=0 0\nrows=0\n", "refused 3 2");
+    f.bytes("refused-3-missing-range", b"script=1\nvars=1\nrows=0\n", "refused 3 3");
+    f.bytes("refused-3-extra-range", b"script=1\nvars=0\nrange=0 0\nrows=0\n", "refused 3 3");
+    f.bytes("refused-3-range-of-one", b"script=1\nvars=1\nrange=0\nrows=0\n", "refused 3 3");
+    f.bytes("refused-3-range-doubled-space", b"script=1\nvars=1\nrange=0  0\nrows=0\n", "refused 3 3");
+    f.bytes("refused-3-range-space-at-the-end", b"script=1\nvars=1\nrange=0 0 \nrows=0\n", "refused 3 3");
+    f.bytes("refused-3-rows-line-without-lf", b"script=1\nvars=0\nrows=0", "refused 3 3");
+    f.bytes("refused-3-row-missing", b"script=1\nvars=0\nrows=2\nrow=cue 1\n", "refused 3 5");
+    f.bytes("refused-3-row-too-many", b"script=1\nvars=0\nrows=1\nrow=cue 1\nrow=cue 1\n", "refused 3 5");
+    f.bytes("refused-3-last-line-without-lf", b"script=1\nvars=0\nrows=1\nrow=cue 1", "refused 3 4");
+    f.bytes("refused-3-extra-lf", b"script=1\nvars=0\nrows=1\nrow=cue 1\n\n", "refused 3 5");
+    f.bytes("refused-3-extra-nul", b"script=1\nvars=0\nrows=0\n\0", "refused 3 4");
+    f.bytes("refused-3-extra-bytes-and-an-open-block", b"script=1\nvars=0\nrows=1\nrow=pick\nx", "refused 3 5");
+    f.bytes("refused-3-cr-lf", b"script=1\r\nvars=0\r\nrows=0\r\n", "refused 3 1");
+    f.bytes("refused-3-cr-on-the-last-line", b"script=1\nvars=0\nrows=1\nrow=end\r\n", "refused 3 4");
+    f.bytes("refused-3-nul-in-a-number", b"script=1\nvars=0\nrows=1\nrow=cue 1\0\n", "refused 3 4");
+    f.bytes("refused-3-byte-order-mark", b"\xef\xbb\xbfscript=1\nvars=0\nrows=0\n", "refused 3 1");
+    f.row("refused-3-empty-row", "", "refused 3 6");
+    f.row("refused-3-row-minus-zero", "set v0 -0", "refused 3 6");
+    f.row("refused-3-row-leading-zero", "set v0 007", "refused 3 6");
+    f.row("refused-3-variable-leading-zero", "set v00 7", "refused 3 6");
+    f.row("refused-3-variable-below-zero", "set v-1 7", "refused 3 6");
+    f.row("refused-3-variable-without-number", "set v 7", "refused 3 6");
+    f.row("refused-3-capital-letter", "set V0 7", "refused 3 6");
+    f.row("refused-3-tab", "set v0\t7", "refused 3 6");
+    f.row("refused-3-space-before", " cue 1", "refused 3 6");
+    f.row("refused-3-space-after", "pick ", "refused 3 6");
+    f.row("refused-3-add-a-variable", "add v0 v1", "refused 3 6");
+    f.row("refused-3-cue-a-variable", "cue v0", "refused 3 6");
+    f.row("refused-3-constant-tested", "while 1 <= v0", "refused 3 6");
+    f.row("refused-3-one-equals-sign", "while v0 = 1", "refused 3 6");
+    f.row("refused-3-for-step-set", "for v0 1 <= 2 set 1", "refused 3 6");
+    f.row("refused-3-for-of-six-words", "for v0 1 <= 2 add", "refused 3 6");
+    f.row("refused-3-for-of-eight-words", "for v0 1 <= 2 add v0 1", "refused 3 6");
+    // 3 before 4 and 5 on one line; a line before the next.
+    f.row("refused-3-before-4-and-5", "add v99 -1 1", "refused 3 6");
+    f.rows("refused-4-on-a-line-before-3", &[], &["cue -1", "cue"], "refused 4 4");
+    f.rows("refused-3-row-255", &[], &[&["cue 1"; 255][..], &["cue"]].concat(), "refused 3 259");
+    let mut more = text(&[], &["cue 1"; 256]);
+    more.extend_from_slice(b"row=cue 1\n");
+    f.bytes("refused-3-behind-row-255", &more, "refused 3 260");
+
+    let digits = |count: usize, sign: &str| format!("script=1\nvars=0\nrows=1\nrow=cue {sign}{}\n", "9".repeat(count));
+    let short = digits(0, "").len();
+    f.bytes("refused-4-file-of-16384-bytes", digits(16_384 - short, "").as_bytes(), "refused 4 4");
+    f.bytes("refused-2-file-of-16385-bytes", digits(16_385 - short, "").as_bytes(), "refused 2 16384");
+    f.bytes("refused-3-16384-letters", &[b'x'; 16_384], "refused 3 1");
+    f.bytes("refused-2-16385-letters", &[b'x'; 16_385], "refused 2 16384");
+    f.bytes("refused-3-16384-lf", &[b'\n'; 16_384], "refused 3 1");
+    f.bytes("refused-2-good-file-with-zeros-behind", &[text(&[], &[]), vec![0; 40_000]].concat(), "refused 2 16384");
+}
+
+fn questions_4_and_5(f: &mut Files) {
+    let long = "9".repeat(5_000);
+    f.bytes("refused-4-vars-17", b"script=1\nvars=17\n", "refused 4 2");
+    f.bytes("refused-4-vars-minus-1", b"script=1\nvars=-1\nrows=0\n", "refused 4 2");
+    f.bytes("refused-4-vars-of-5000-digits", format!("script=1\nvars={long}\n").as_bytes(), "refused 4 2");
+    f.bytes("refused-4-range-turned-round", b"script=1\nvars=1\nrange=1 0\nrows=0\n", "refused 4 3");
+    f.bytes("refused-4-range-below", b"script=1\nvars=1\nrange=-1000000001 0\nrows=0\n", "refused 4 3");
+    f.bytes("refused-4-range-above", b"script=1\nvars=2\nrange=0 0\nrange=0 1000000001\nrows=0\n", "refused 4 4");
+    f.bytes("refused-4-range-past-64-bits", b"script=1\nvars=1\nrange=-18446744073709551616 18446744073709551616\nrows=0\n", "refused 4 3");
+    f.bytes("refused-4-rows-257", b"script=1\nvars=0\nrows=257\n", "refused 4 3");
+    f.bytes("refused-4-rows-4294967296", b"script=1\nvars=0\nrows=4294967296\n", "refused 4 3");
+    f.row("refused-4-set-above", "set v0 1000000001", "refused 4 6");
+    f.row("refused-4-set-below", "set v0 -1000000001", "refused 4 6");
+    f.row("refused-4-set-4294967296", "set v0 4294967296", "refused 4 6");
+    f.row("refused-4-add-minus-1", "add v0 -1", "refused 4 6");
+    f.row("refused-4-sub-above", "sub v0 1000000001", "refused 4 6");
+    f.row("refused-4-mul-0", "mul v0 0", "refused 4 6");
+    f.row("refused-4-div-0", "div v0 0", "refused 4 6");
+    f.row("refused-4-cue-10000", "cue 10000", "refused 4 6");
+    f.row("refused-4-cue-minus-1", "cue -1", "refused 4 6");
+    f.row("refused-4-limit-above", "while v0 <= 1000000001", "refused 4 6");
+    f.row("refused-4-do-limit-below", "do v0 > -1000000001", "refused 4 6");
+    f.row("refused-4-for-start", "for v0 1000000001 <= 1 add 1", "refused 4 6");
+    f.row("refused-4-for-limit", "for v0 1 <= 1000000001 add 1", "refused 4 6");
+    f.row("refused-4-for-step-div-0", "for v0 1 <= 2 div 0", "refused 4 6");
+    f.row("refused-4-before-5", "add v99 -1", "refused 4 6");
+    f.row("refused-4-minus-and-5000-digits", &format!("set v0 -{long}"), "refused 4 6");
+    f.rows("refused-4-row-255", &[], &[&["cue 1"; 255][..], &["cue 10000"]].concat(), "refused 4 259");
+    f.rows("refused-5-no-variables", &[], &["set v0 1"], "refused 5 4");
+    f.row("refused-5-set", "set v2 1", "refused 5 6");
+    f.row("refused-5-set-from", "set v0 v2", "refused 5 6");
+    f.row("refused-5-limit", "while v0 <= v16", "refused 5 6");
+    f.row("refused-5-for-start", "for v0 v2 <= 1 add 1", "refused 5 6");
+    f.row("refused-5-variable-256", "add v256 1", "refused 5 6");
+    f.row("refused-5-variable-past-64-bits", "add v18446744073709551616 1", "refused 5 6");
+    f.row("refused-5-variable-of-5000-digits", &format!("add v{long} 1"), "refused 5 6");
+    f.rows("refused-5-before-7", &[(0, 0)], &[&["pick"; 8][..], &["while v1 < 1"]].concat(), "refused 5 13");
+    f.rows("refused-5-row-255", &[(0, 0)], &[&["cue 1"; 255][..], &["mul v1 1"]].concat(), "refused 5 260");
+}
+
+fn questions_6_and_7(f: &mut Files) {
+    f.rows("refused-6-else-in-row-0", &[], &["else"], "refused 6 4");
+    f.rows("refused-6-end-in-row-0", &[], &["end"], "refused 6 4");
+    f.rows("refused-6-second-else", &[], &["pick", "else", "else", "end"], "refused 6 6");
+    f.rows("refused-6-else-in-a-loop", &[(0, 0)], &["pick", "while v0 < 1", "else", "end", "end"], "refused 6 7");
+    f.rows("refused-6-end-too-many", &[], &["pick", "end", "end"], "refused 6 6");
+    f.rows("refused-6-end-in-row-255", &[], &[&["cue 1"; 255][..], &["end"]].concat(), "refused 6 259");
+    f.rows("refused-6-open-pick", &[], &["pick", "pick", "end"], "refused 6 7");
+    f.rows("refused-6-open-else", &[], &["pick", "else"], "refused 6 6");
+    f.rows("refused-6-open-loop-in-row-255", &[(0, 0)], &[&["cue 1"; 255][..], &["while v0 < 1"]].concat(), "refused 6 261");
+    f.rows("refused-7-nine-deep", &[], &[&["pick"; 9][..], &["end"; 9]].concat(), "refused 7 12");
+    f.rows(
+        "refused-7-nine-deep-in-an-else",
+        &[(0, 0)],
+        &[&["pick"; 8][..], &["else", "for v0 1 < 2 add 1", "end"], &["end"; 8]].concat(),
+        "refused 7 14",
+    );
+    f.rows("refused-7-seventeen-loops", &[(0, 0)], &["for v0 1 < 2 add 1", "end"].repeat(17), "refused 7 37");
+    f.rows(
+        "refused-7-seventeenth-loop-in-row-255",
+        &[(0, 0)],
+        &[&["for v0 1 < 2 add 1", "end"].repeat(16)[..], &["cue 1"; 223], &["do v0 < 2"]].concat(),
+        "refused 7 260",
+    );
+}
+
+fn questions_8_to_12(f: &mut Files) {
+    let one: &[(i64, i64)] = &[(1, 1)];
+    let two: &[(i64, i64)] = &[(1, 1), (9, 9)];
+    f.brief("refused-8-set", one, "while v0 < 5, set v0 9, end", "refused 8 0");
+    f.brief("refused-8-add-and-mul", one, "while v0 < 5, add v0 1, mul v0 2, end", "refused 8 0");
+    f.brief("refused-8-div-and-mul", one, "while v0 < 5, div v0 2, mul v0 3, end", "refused 8 0");
+    f.brief("refused-8-pick-of-add-and-mul", one, "while v0 < 5, pick, add v0 1, else, mul v0 2, end, end", "refused 8 0");
+    f.brief("refused-8-unknown-and-standing", one, "while v0 < 5, set v0 2, add v0 0, end", "refused 8 0");
+    f.brief("refused-8-inner-loop", two, "cue 1, do v0 < 5, add v0 1, while v1 < 9, mul v0 1, end, end", "refused 8 1");
+    f.brief("refused-8-inner-for", two, "while v0 < 5, add v0 1, for v0 1 > 3 sub 1, end, end", "refused 8 0");
+    f.rows("refused-8-head-row-253", one, &[&["cue 1"; 253][..], &["while v0 < 5", "set v0 v0", "end"]].concat(), "refused 8 253");
+    f.brief("refused-9-no-row", one, "while v0 < 5, end", "refused 9 0");
+    f.brief("refused-9-standing-rows", one, "while v0 < 5, mul v0 1, div v0 1, add v0 0, sub v0 0, end", "refused 9 0");
+    f.brief("refused-9-pick-without-else", one, "while v0 < 5, pick, add v0 1, end, end", "refused 9 0");
+    f.brief("refused-9-pick-and-factor-1", one, "while v0 < 5, pick, else, mul v0 2, end, end", "refused 9 0");
+    f.brief("refused-9-for-held", one, "for v0 1 < 5 add 1, sub v0 1, end", "refused 9 0");
+    f.brief("refused-9-before-the-inner-8", two, "while v0 < 5, while v1 < 5, set v1 1, end, end", "refused 9 0");
+    f.brief("refused-9-inner-after-the-outer", two, "while v0 < 5, add v0 1, while v1 < 5, end, end", "refused 9 2");
+    f.brief("refused-9-in-the-then-before-8-in-the-else", two, "pick, do v0 < 5, end, else, do v0 < 5, set v0 1, end, end", "refused 9 1");
+    f.rows("refused-9-head-row-254", one, &[&["cue 1"; 254][..], &["while v0 < 5", "end"]].concat(), "refused 9 254");
+    f.brief("refused-10-limit-assigned", two, "while v0 < v1, add v0 1, add v1 1, end", "refused 10 0");
+    f.brief("refused-10-limit-in-a-standing-row", two, "while v0 < v1, add v0 1, sub v1 0, end", "refused 10 0");
+    f.brief("refused-10-limit-is-the-tested", one, "while v0 <= v0, add v0 1, end", "refused 10 0");
+    f.brief("refused-10-limit-is-the-for-s-own", one, "for v0 1 < v0 add 1, end", "refused 10 0");
+    f.brief("refused-10-limit-of-an-inner-for", two, "while v0 < v1, add v0 1, for v1 1 < 2 add 1, end, end", "refused 10 0");
+    f.brief("refused-10-before-11", two, "while v0 > v1, add v0 1, set v1 v1, end", "refused 10 0");
+    f.brief("refused-11-rising-gt", one, "while v0 > 5, add v0 1, end", "refused 11 0");
+    f.brief("refused-11-falling-le", one, "while v0 <= 5, sub v0 1, end", "refused 11 0");
+    f.brief("refused-11-grow-ge", one, "while v0 >= 5, mul v0 2, end", "refused 11 0");
+    f.brief("refused-11-shrink-lt", one, "do v0 < 5, div v0 2, end", "refused 11 0");
+    f.brief("refused-11-grow-eq", one, "while v0 == 5, mul v0 2, end", "refused 11 0");
+    f.brief("refused-11-shrink-ne", one, "while v0 != 0, div v0 2, end", "refused 11 0");
+    f.brief("refused-12-do-grow-from-0", &[(0, 5)], "do v0 < 5, mul v0 2, end", "refused 12 0");
+    f.brief("refused-12-grow-below-the-limit-0", &[(0, 0)], "while v0 < 0, mul v0 2, end", "refused 12 0");
+    f.brief("refused-12-shrink-gt-minus-1", &[(5, 5)], "while v0 > -1, div v0 2, end", "refused 12 0");
+    f.brief("refused-12-shrink-limit-range", &[(5, 5), (0, 7)], "while v0 >= v1, div v0 2, end", "refused 12 0");
+    f.brief("refused-12-ne-two-steps", &[(0, 0)], "while v0 != 6, pick, add v0 1, else, add v0 2, end, end", "refused 12 0");
+    f.brief("refused-12-ne-away", &[(7, 7)], "while v0 != 5, add v0 1, end", "refused 12 0");
+    f.brief("refused-12-ne-away-by-threes", &[(8, 8)], "while v0 != 5, add v0 3, end", "refused 12 0");
+    f.brief("refused-12-ne-threes-from-a-range", &[(2, 5)], "while v0 != 8, add v0 3, end", "refused 12 0");
+    f.brief("refused-12-ne-over-crossing-ranges", &[(1, 5), (4, 9)], "while v0 != v1, add v0 1, end", "refused 12 0");
+    // After the do v1 is not known to be positive.
+    f.brief("refused-12-for-start-unknown", two, "do v1 > 0, sub v1 2, end, for v0 v1 <= 9 mul 3, end", "refused 12 3");
+    f.brief("refused-12-inner-start-unknown", two, "while v0 < 5, while v1 < 9, mul v1 2, end, add v0 1, end", "refused 12 1");
+}
+
+fn question_13(f: &mut Files) {
+    let part = "for v0 1 <= 600000 add 1, for v1 1 <= 499999 add 1, end, end";
+    let two: &[(i64, i64)] = &[(0, 0); 2];
+    f.brief(
+        "refused-13-loop",
+        two,
+        "for v0 1 <= 999999 add 1, for v1 1 <= 499999 add 1, end, end, cue 1",
+        "refused 13 3",
+    );
+    f.brief("refused-13-file", two, &format!("{part}, {part}"), "refused 13 8");
+    f.brief("refused-13-file-by-one", two, "for v0 1 <= 999998 add 1, for v1 1 <= 499999 add 1, end, end, cue 1, cue 2, cue 3", "refused 13 7");
+    f.brief("refused-13-pick", two, &format!("pick, {part}, {part}, else, cue 1, end, cue 2"), "refused 13 11");
+    f.brief("refused-13-inside-a-loop-without-a-turn", &[(0, 0); 3], &format!("for v2 1 <= 0 add 1, pick, {part}, {part}, end, end"), "refused 13 10");
+    let heads: Vec<String> = (0..8).map(|v| format!("for v{v} -1000000000 <= 1000000000 add 1")).collect();
+    let mut rows: Vec<&str> = heads.iter().map(String::as_str).collect();
+    rows.extend(["end"; 8]);
+    f.rows("refused-13-eight-deep-past-128-bits", &[(0, 0); 8], &rows, "refused 13 9");
+    let late: Vec<&str> = part.split(", ").collect();
+    let mut rows = [vec!["cue 1"; 248], late.repeat(2)].concat();
+    f.rows("refused-13-file-of-256-rows", two, &rows, "refused 13 256");
+    rows.remove(0);
+    rows.remove(0);
+    rows.insert(246, "pick");
+    rows.push("end");
+    f.rows("refused-13-end-row-255", two, &rows, "refused 13 255");
+    f.brief("refused-9-before-13", two, &format!("{part}, {part}, do v0 > 0, div v0 1, end"), "refused 9 8");
+    f.brief("refused-12-before-13", two, &format!("{part}, {part}, while v0 != 5, add v0 3, end"), "refused 12 8");
+}

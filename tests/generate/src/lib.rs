@@ -1,0 +1,107 @@
+//! Seeded random cases. Most files are built so that they are likely to be accepted; some are careless,
+//! some are aimed at one question, some are damaged afterwards.
+
+mod damage;
+mod rng;
+mod script;
+
+pub use rng::Rng;
+
+use oracle::{Plan, Script};
+
+/// The seed that is used when none is given.
+pub const SEED: u64 = 20_260_115;
+
+/// The file number `index` of a seed, and the generator that goes on with its stores, picks and allowances.
+pub fn case(seed: u64, index: u64) -> (Vec<u8>, Rng) {
+    let mut rng = Rng::new(seed, index);
+    let file = match rng.below(100) {
+        0..=55 => script::likely(&mut rng),
+        56..=67 => script::careless(&mut rng),
+        68..=75 => script::aimed(&mut rng),
+        _ => {
+            let file = script::likely(&mut rng);
+            damage::damaged(&mut rng, file)
+        }
+    };
+    (file, rng)
+}
+
+/// A store for an accepted file: mostly inside its ranges, often at an end, sometimes wrong or of another length.
+pub fn store(rng: &mut Rng, script: &Script) -> Vec<i32> {
+    let corner = rng.below(4);
+    let mut store: Vec<i32> = script.ranges[..script.vars]
+        .iter()
+        .map(|&[lo, hi]| match corner {
+            0 => lo,
+            1 => hi,
+            _ => rng.between(lo as i64, hi as i64) as i32,
+        })
+        .collect();
+    if rng.chance(8) {
+        match rng.below(5) {
+            0 => {
+                store.pop();
+            }
+            1 => store.push(rng.one_of(&[0, 1, -1_000_000_001, i32::MIN, i32::MAX])),
+            2 => store.clear(),
+            _ => {
+                for _ in 0..1 + rng.below(2) {
+                    if !store.is_empty() {
+                        let i = rng.below(store.len());
+                        let [lo, hi] = script.ranges[i];
+                        store[i] = rng.one_of(&[lo - 1, hi + 1, i32::MIN, i32::MAX, 1_000_000_001]);
+                    }
+                }
+                if rng.chance(20) {
+                    store.resize(script.vars + 3, 0);
+                }
+            }
+        }
+    }
+    store
+}
+
+/// A store for any file at all.
+pub fn any_store(rng: &mut Rng) -> Vec<i32> {
+    (0..rng.below(18)).map(|_| rng.next() as i32).collect()
+}
+
+pub fn picks(rng: &mut Rng) -> Vec<u8> {
+    let length = match rng.below(6) {
+        0 => 0,
+        1 => rng.below(4),
+        2 => rng.below(40),
+        _ => 2_000,
+    };
+    let kind = rng.below(4);
+    (0..length)
+        .map(|_| match kind {
+            0 => 1,
+            1 => 0,
+            2 => rng.below(2) as u8,
+            _ => rng.one_of(&[0, 0, 1, 2, 48, 49, 128, 255]),
+        })
+        .collect()
+}
+
+/// An allowance for a file; `most` is the longest run that the caller can wait for, unless the run of
+/// T ticks is known to be short.
+pub fn allowance(rng: &mut Rng, plan: &Plan, short: bool, most: u64) -> u64 {
+    let t = plan.ticks;
+    let wanted = match rng.below(9) {
+        0 => 0,
+        1 => 1,
+        2 => t.saturating_sub(1),
+        3 | 4 => t,
+        5 => t + 1,
+        6 => u64::MAX,
+        7 => rng.next() % (t + 2),
+        _ => rng.next() % (t.min(40) + 2),
+    };
+    if short {
+        wanted
+    } else {
+        wanted.min(rng.next() % (most + 1))
+    }
+}

@@ -1,0 +1,375 @@
+//! The loop analysis: questions 8 to 13.
+
+use crate::read::{Change, Compare, Kind, Loop, Op, Operand, Row, Script, L};
+use crate::Refusal;
+
+/// Question 13's limit.
+pub const TICK_LIMIT: u128 = 1_000_000_000_000;
+const FACTOR_LIMIT: i64 = 2_000_000_001;
+
+/// How a variable moves in one turn.
+#[derive(Clone, Copy, Debug, PartialEq, Eq)]
+pub enum Step {
+    Add(i64, i64),
+    Grow(i64, i64),
+    Shrink(i64, i64),
+    Unknown,
+}
+
+impl Step {
+    pub const STILL: Step = Step::Add(0, 0);
+
+    fn of(by: Change) -> Step {
+        let c = by.c as i64;
+        match by.op {
+            Op::Add => Step::Add(c, c),
+            Op::Sub => Step::Add(-c, -c),
+            Op::Mul | Op::Div if c == 1 => Step::STILL,
+            Op::Mul => Step::Grow(c, c),
+            Op::Div => Step::Shrink(c, c),
+        }
+    }
+
+    /// In sequence.
+    pub fn then(self, next: Step) -> Step {
+        use Step::*;
+        let times = |f: i64, g: i64| (f * g).min(FACTOR_LIMIT);
+        match (self, next) {
+            (Unknown, _) | (_, Unknown) => Unknown,
+            (Step::STILL, step) | (step, Step::STILL) => step,
+            (Add(a, b), Add(c, d)) => Add(a + c, b + d),
+            (Grow(a, b), Grow(c, d)) => Grow(times(a, c), times(b, d)),
+            (Shrink(a, b), Shrink(c, d)) => Shrink(times(a, c), times(b, d)),
+            _ => Unknown,
+        }
+    }
+
+    /// Over a pick.
+    pub fn either(self, other: Step) -> Step {
+        use Step::*;
+        match (self, other) {
+            (Add(a, b), Add(c, d)) => Add(a.min(c), b.max(d)),
+            (Grow(a, b), Grow(c, d)) => Grow(a.min(c), b.max(d)),
+            (Shrink(a, b), Shrink(c, d)) => Shrink(a.min(c), b.max(d)),
+            (Step::STILL, Grow(a, b)) | (Grow(a, b), Step::STILL) => Grow(a.min(1), b.max(1)),
+            (Step::STILL, Shrink(a, b)) | (Shrink(a, b), Step::STILL) => Shrink(a.min(1), b.max(1)),
+            _ => Unknown,
+        }
+    }
+}
+
+/// The step of `v` over the rows from `from` to before `to`.
+pub fn step(rows: &[Row], from: usize, to: usize, v: u8) -> Step {
+    let mut whole = Step::STILL;
+    let mut r = from;
+    while r < to {
+        let (part, next) = match rows[r] {
+            Row::Set { v: w, .. } if w == v => (Step::Unknown, r + 1),
+            Row::Change { v: w, by } if w == v => (Step::of(by), r + 1),
+            Row::Pick { middle, end } => {
+                let (middle, end) = (middle as usize, end as usize);
+                let first = step(rows, r + 1, middle, v);
+                let second = step(rows, middle + 1, end, v);
+                (first.either(second), end + 1)
+            }
+            Row::Loop(l) => {
+                let assigned = loop_assigns(rows, r, &l) & (1 << v) != 0;
+                (if assigned { Step::Unknown } else { Step::STILL }, l.end as usize + 1)
+            }
+            _ => (Step::STILL, r + 1),
+        };
+        whole = whole.then(part);
+        r = next;
+    }
+    whole
+}
+
+/// The variables that a loop's body assigns, as bits; a for's own is one of them.
+fn loop_assigns(rows: &[Row], head: usize, l: &Loop) -> u16 {
+    let own = match l.kind {
+        Kind::For { .. } => 1 << l.v,
+        Kind::While | Kind::Do => 0,
+    };
+    rows[head + 1..l.end as usize].iter().fold(own, |all, row| match *row {
+        Row::Set { v, .. } | Row::Change { v, .. } => all | 1 << v,
+        Row::Loop(Loop { kind: Kind::For { .. }, v, .. }) => all | 1 << v,
+        _ => all,
+    })
+}
+
+/// A known range, low end and high end.
+type Range = [i32; 2];
+type Ranges = [Range; 16];
+const ALL: Range = [-L, L];
+
+fn range_of(x: Operand, ranges: &Ranges) -> Range {
+    match x {
+        Operand::Constant(c) => [c, c],
+        Operand::Variable(v) => ranges[v as usize],
+    }
+}
+
+fn draw_back(value: i64) -> i32 {
+    value.clamp(-L as i64, L as i64) as i32
+}
+
+/// A loop's line of the report.
+#[derive(Clone, Copy, Debug, PartialEq, Eq)]
+pub struct Line {
+    pub row: usize,
+    pub step: Step,
+    pub turns: u64,
+    /// Exact up to u128::MAX, and not less than that where it stands.
+    pub total: u128,
+    pub exact: bool,
+}
+
+/// What an accepted file is known to do.
+#[derive(Clone, Debug)]
+pub struct Plan {
+    pub script: Script,
+    pub lines: Vec<Line>,
+    pub ticks: u64,
+}
+
+/// E: the last value of the limit's worst end for which the test can hold.
+fn edge(compare: Compare, n: Range) -> i64 {
+    match compare {
+        Compare::Le => n[1] as i64,
+        Compare::Lt => n[1] as i64 - 1,
+        Compare::Ge => n[0] as i64,
+        Compare::Gt => n[0] as i64 + 1,
+        Compare::Eq | Compare::Ne => 0,
+    }
+}
+
+/// 1 + the largest k with low·f^k <= high, or 0 if there is none; low >= 1 and f >= 2 if low <= high.
+fn powers(low: i64, f: i64, high: i64) -> i64 {
+    let (mut low, mut count) = (low as i128, 0);
+    while low <= high as i128 {
+        low *= f as i128;
+        count += 1;
+    }
+    count
+}
+
+/// The while figure of an == loop from the start s.
+fn equal_turns(s: [i64; 2], n: [i64; 2]) -> i64 {
+    (s[0] <= n[1] && n[0] <= s[1]) as i64
+}
+
+/// The while figure of a != loop from the start s, with step a..b; None refuses.
+fn unequal_turns(a: i64, b: i64, s: [i64; 2], n: [i64; 2]) -> Option<i64> {
+    if a != b {
+        return None;
+    }
+    if a == 1 {
+        return (s[1] <= n[0]).then_some(n[1] - s[0]);
+    }
+    if a == -1 {
+        return (s[0] >= n[1]).then_some(s[1] - n[0]);
+    }
+    if s[0] != s[1] || n[0] != n[1] {
+        return None;
+    }
+    let distance = n[0] - s[0];
+    (distance % a == 0 && distance / a >= 0).then_some(distance / a)
+}
+
+/// Questions 8 to 12 of one loop, and its turns; the error is the question's number.
+fn turns(l: &Loop, step: Step, assigned: u16, s: Range, n: Range) -> Result<u64, u32> {
+    // 8 and 9
+    let moves = match step {
+        Step::Unknown => return Err(8),
+        Step::Add(a, b) => a >= 1 || b <= -1,
+        Step::Grow(f, _) | Step::Shrink(f, _) => f >= 2,
+    };
+    if !moves {
+        return Err(9);
+    }
+    if let Operand::Variable(w) = l.limit {
+        if assigned & (1 << w) != 0 {
+            return Err(10);
+        }
+    }
+    let fits = match (l.compare, step) {
+        (Compare::Lt | Compare::Le, Step::Add(a, _)) => a >= 1,
+        (Compare::Lt | Compare::Le, Step::Grow(..)) => true,
+        (Compare::Gt | Compare::Ge, Step::Add(_, b)) => b <= -1,
+        (Compare::Gt | Compare::Ge, Step::Shrink(..)) => true,
+        (Compare::Eq | Compare::Ne, Step::Add(..)) => true,
+        _ => false,
+    };
+    if !fits {
+        return Err(11);
+    }
+    let is_do = l.kind == Kind::Do;
+    let e = edge(l.compare, n);
+    let [lo, hi] = [s[0] as i64, s[1] as i64];
+    let n = [n[0] as i64, n[1] as i64];
+    let figure = match step {
+        Step::Add(a, b) if matches!(l.compare, Compare::Eq | Compare::Ne) => {
+            let s = if is_do { [lo + a, hi + b] } else { [lo, hi] };
+            if l.compare == Compare::Eq {
+                equal_turns(s, n)
+            } else {
+                unequal_turns(a, b, s, n).ok_or(12u32)?
+            }
+        }
+        Step::Add(a, _) if a >= 1 => {
+            let t = if is_do { lo + a } else { lo };
+            if t > e { 0 } else { (e - t) / a + 1 }
+        }
+        Step::Add(_, b) => {
+            let t = if is_do { hi + b } else { hi };
+            if t < e { 0 } else { (t - e) / -b + 1 }
+        }
+        Step::Grow(f, _) => {
+            if lo < 1 {
+                return Err(12);
+            }
+            powers(if is_do { lo * f } else { lo }, f, e)
+        }
+        Step::Shrink(f, _) => {
+            if e < 1 {
+                return Err(12);
+            }
+            powers(e, f, if is_do { hi / f } else { hi })
+        }
+        Step::Unknown => unreachable!("question 8"),
+    };
+    Ok((figure + is_do as i64) as u64)
+}
+
+/// The tested variable's ranges at the body's start and after the loop.
+fn tested_ranges(l: &Loop, step: Step, s: Range, n: Range) -> (Range, Range) {
+    if matches!(l.compare, Compare::Eq | Compare::Ne) {
+        return (ALL, ALL);
+    }
+    let is_do = l.kind == Kind::Do;
+    let e = edge(l.compare, n);
+    let rising = matches!(l.compare, Compare::Lt | Compare::Le);
+    let body = if rising {
+        [s[0], (if is_do { s[1] } else { s[0] } as i64).max(e) as i32]
+    } else {
+        [(if is_do { s[0] } else { s[1] } as i64).min(e) as i32, s[1]]
+    };
+    let after = match step {
+        Step::Shrink(..) => [s[0].min(0), s[1].max(0)],
+        _ if rising => [s[0], L],
+        _ => [-L, s[1]],
+    };
+    (body, after)
+}
+
+struct Walk<'a> {
+    rows: &'a [Row],
+    lines: Vec<Line>,
+    /// The first `end` row whose block is over the tick limit.
+    over: Option<usize>,
+}
+
+impl Walk<'_> {
+    /// The ticks of the rows from `from` to before `to`, entered with `ranges`, which become those after
+    /// them; `round` is the product of the turns of the loops round them.
+    ///
+    /// Ticks and totals are exact up to u128::MAX and stay there, unless a loop of 0 turns makes them 0.
+    fn block(&mut self, from: usize, to: usize, ranges: &mut Ranges, round: u128) -> Result<u128, Refusal> {
+        let mut ticks = 0u128;
+        let mut r = from;
+        while r < to {
+            let (part, end) = match self.rows[r] {
+                Row::Set { v, x } => {
+                    ranges[v as usize] = range_of(x, ranges);
+                    (1, r)
+                }
+                Row::Change { v, by } => {
+                    let [lo, hi] = ranges[v as usize];
+                    ranges[v as usize] = [draw_back(by.apply(lo)), draw_back(by.apply(hi))];
+                    (1, r)
+                }
+                Row::Cue { .. } => (1, r),
+                Row::Pick { middle, end } => {
+                    let (middle, end) = (middle as usize, end as usize);
+                    let mut other = *ranges;
+                    let first = self.block(r + 1, middle, ranges, round)?;
+                    let second = self.block(middle + 1, end, &mut other, round)?;
+                    for (range, other) in ranges.iter_mut().zip(other) {
+                        *range = [range[0].min(other[0]), range[1].max(other[1])];
+                    }
+                    (self.limited(first.max(second).saturating_add(1), end), end)
+                }
+                Row::Loop(l) => {
+                    let ticks = self.looped(r, &l, ranges, round)?;
+                    (self.limited(ticks, l.end as usize), l.end as usize)
+                }
+                Row::Else { .. } | Row::End { .. } => unreachable!("not inside a block's own rows"),
+            };
+            ticks = ticks.saturating_add(part);
+            r = end + 1;
+        }
+        Ok(ticks)
+    }
+
+    /// Blocks come here in the order of their `end` rows.
+    fn limited(&mut self, ticks: u128, end: usize) -> u128 {
+        if ticks > TICK_LIMIT {
+            self.over.get_or_insert(end);
+        }
+        ticks
+    }
+
+    fn looped(&mut self, head: usize, l: &Loop, ranges: &mut Ranges, round: u128) -> Result<u128, Refusal> {
+        let (v, end) = (l.v as usize, l.end as usize);
+        if let Kind::For { start, .. } = l.kind {
+            ranges[v] = range_of(start, ranges);
+        }
+        let s = ranges[v];
+        let n = range_of(l.limit, ranges);
+        let mut step = step(self.rows, head + 1, end, l.v);
+        if let Kind::For { step: by, .. } = l.kind {
+            step = step.then(Step::of(by));
+        }
+        let assigned = loop_assigns(self.rows, head, l);
+        let turns = turns(l, step, assigned, s, n).map_err(|number| (number, head as u64))?;
+        let total = round.saturating_mul(turns as u128);
+        let (Step::Add(a, b) | Step::Grow(a, b) | Step::Shrink(a, b)) = step else {
+            unreachable!("question 8")
+        };
+        let exact = a == b && s[0] == s[1] && n[0] == n[1];
+        self.lines.push(Line { row: head, step, turns, total, exact });
+
+        let (at_body, after) = tested_ranges(l, step, s, n);
+        for (w, range) in ranges.iter_mut().enumerate() {
+            if assigned & (1 << w) != 0 {
+                *range = ALL;
+            }
+        }
+        let mut body_ranges = *ranges;
+        body_ranges[v] = at_body;
+        ranges[v] = after;
+        let body = self.block(head + 1, end, &mut body_ranges, total)?;
+        let times = |extra: u128| body.saturating_add(extra).saturating_mul(turns as u128);
+        Ok(match l.kind {
+            Kind::While => times(1).saturating_add(1),
+            Kind::For { .. } => times(2).saturating_add(2),
+            Kind::Do => times(1),
+        })
+    }
+}
+
+/// Questions 8 to 13.
+pub fn analyse(script: Script) -> Result<Plan, Refusal> {
+    let mut walk = Walk { rows: &script.rows, lines: Vec::with_capacity(script.loops), over: None };
+    let mut ranges = script.ranges;
+    let count = script.rows.len();
+    let ticks = walk.block(0, count, &mut ranges, 1)?;
+    if let Some(end) = walk.over {
+        return Err((13, end as u64));
+    }
+    if ticks > TICK_LIMIT {
+        return Err((13, count as u64));
+    }
+    let lines = walk.lines;
+    Ok(Plan { script, lines, ticks: ticks as u64 })
+}

@@ -1,0 +1,406 @@
+//! The script reader: questions 2 to 7.
+
+use crate::Refusal;
+
+/// L of document 01.
+pub const L: i32 = 1_000_000_000;
+pub const FILE_LIMIT: usize = 16_384;
+const DEPTH_LIMIT: usize = 8;
+const LOOP_LIMIT: usize = 16;
+
+/// A number of any length is read up to this one, which is outside every limit.
+const FAR: i64 = 2_000_000_000;
+/// The same for a variable's number.
+const FAR_VARIABLE: i64 = 255;
+
+#[derive(Clone, Copy, Debug, PartialEq, Eq)]
+pub enum Operand {
+    Constant(i32),
+    Variable(u8),
+}
+
+#[derive(Clone, Copy, Debug, PartialEq, Eq)]
+pub enum Op {
+    Add,
+    Sub,
+    Mul,
+    Div,
+}
+
+/// An arithmetic row without its variable.
+#[derive(Clone, Copy, Debug, PartialEq, Eq)]
+pub struct Change {
+    pub op: Op,
+    pub c: i32,
+}
+
+#[derive(Clone, Copy, Debug, PartialEq, Eq)]
+pub enum Compare {
+    Lt,
+    Le,
+    Gt,
+    Ge,
+    Eq,
+    Ne,
+}
+
+#[derive(Clone, Copy, Debug, PartialEq, Eq)]
+pub enum Kind {
+    While,
+    Do,
+    For { start: Operand, step: Change },
+}
+
+#[derive(Clone, Copy, Debug, PartialEq, Eq)]
+pub struct Loop {
+    pub kind: Kind,
+    pub v: u8,
+    pub compare: Compare,
+    pub limit: Operand,
+    /// The row of its `end`.
+    pub end: u16,
+    /// Its place among the loops, in row order.
+    pub index: u8,
+}
+
+#[derive(Clone, Copy, Debug, PartialEq, Eq)]
+pub enum Row {
+    Set { v: u8, x: Operand },
+    Change { v: u8, by: Change },
+    Cue { n: i32 },
+    /// `middle` is the row of its `else`, or of its `end` if it has none: the branches are the rows
+    /// between head and middle, and between middle and end.
+    Pick { middle: u16, end: u16 },
+    Else { end: u16 },
+    End { head: u16 },
+    Loop(Loop),
+}
+
+/// Stands for the row of an `else` or `end` that is not read yet.
+const OPEN: u16 = u16::MAX;
+
+#[derive(Clone, Debug)]
+pub struct Script {
+    pub vars: usize,
+    pub ranges: [[i32; 2]; 16],
+    pub rows: Vec<Row>,
+    pub loops: usize,
+}
+
+impl Change {
+    /// The value after the row, before anything is drawn back.
+    #[inline]
+    pub fn apply(self, value: i32) -> i64 {
+        let (value, c) = (value as i64, self.c as i64);
+        match self.op {
+            Op::Add => value + c,
+            Op::Sub => value - c,
+            Op::Mul => value * c,
+            Op::Div => value / c,
+        }
+    }
+
+    fn within_limits(self) -> bool {
+        let least = match self.op {
+            Op::Add | Op::Sub => 0,
+            Op::Mul | Op::Div => 1,
+        };
+        (least..=L).contains(&self.c)
+    }
+}
+
+impl Compare {
+    #[inline]
+    pub fn holds(self, left: i32, right: i32) -> bool {
+        match self {
+            Compare::Lt => left < right,
+            Compare::Le => left <= right,
+            Compare::Gt => left > right,
+            Compare::Ge => left >= right,
+            Compare::Eq => left == right,
+            Compare::Ne => left != right,
+        }
+    }
+}
+
+impl Operand {
+    fn within_limits(self) -> bool {
+        match self {
+            Operand::Constant(c) => (-L..=L).contains(&c),
+            Operand::Variable(_) => true,
+        }
+    }
+
+    fn is_below(self, vars: usize) -> bool {
+        match self {
+            Operand::Constant(_) => true,
+            Operand::Variable(v) => (v as usize) < vars,
+        }
+    }
+}
+
+impl Row {
+    /// Question 4 of a row line.
+    fn within_limits(&self) -> bool {
+        match *self {
+            Row::Set { x, .. } => x.within_limits(),
+            Row::Change { by, .. } => by.within_limits(),
+            Row::Cue { n } => (0..=9_999).contains(&n),
+            Row::Pick { .. } | Row::Else { .. } | Row::End { .. } => true,
+            Row::Loop(l) => {
+                l.limit.within_limits()
+                    && match l.kind {
+                        Kind::While | Kind::Do => true,
+                        Kind::For { start, step } => start.within_limits() && step.within_limits(),
+                    }
+            }
+        }
+    }
+
+    /// Question 5 of a row line.
+    fn variables_below(&self, vars: usize) -> bool {
+        let known = |v: u8| (v as usize) < vars;
+        match *self {
+            Row::Set { v, x } => known(v) && x.is_below(vars),
+            Row::Change { v, .. } => known(v),
+            Row::Cue { .. } | Row::Pick { .. } | Row::Else { .. } | Row::End { .. } => true,
+            Row::Loop(l) => {
+                known(l.v)
+                    && l.limit.is_below(vars)
+                    && match l.kind {
+                        Kind::While | Kind::Do => true,
+                        Kind::For { start, .. } => start.is_below(vars),
+                    }
+            }
+        }
+    }
+}
+
+/// A decimal number without plus or leading zeros, `-` only before a non-zero one; cut to ±FAR.
+fn number(word: &[u8]) -> Option<i32> {
+    let (negative, digits) = match word {
+        [b'-', digits @ ..] => (true, digits),
+        _ => (false, word),
+    };
+    match digits {
+        [] => return None,
+        [b'0'] if !negative => return Some(0),
+        [b'0', ..] => return None,
+        _ => {}
+    }
+    let mut n = 0i64;
+    for &digit in digits {
+        if !digit.is_ascii_digit() {
+            return None;
+        }
+        n = (n * 10 + (digit - b'0') as i64).min(FAR);
+    }
+    Some(if negative { -n } else { n } as i32)
+}
+
+/// `v` and a number not below 0; cut to FAR_VARIABLE.
+fn variable(word: &[u8]) -> Option<u8> {
+    match word {
+        [b'v', digits @ ..] if digits.first() != Some(&b'-') => {
+            number(digits).map(|n| (n as i64).min(FAR_VARIABLE) as u8)
+        }
+        _ => None,
+    }
+}
+
+fn operand(word: &[u8]) -> Option<Operand> {
+    if word.first() == Some(&b'v') {
+        variable(word).map(Operand::Variable)
+    } else {
+        number(word).map(Operand::Constant)
+    }
+}
+
+fn change(op: &[u8], c: &[u8]) -> Option<Change> {
+    let op = match op {
+        b"add" => Op::Add,
+        b"sub" => Op::Sub,
+        b"mul" => Op::Mul,
+        b"div" => Op::Div,
+        _ => return None,
+    };
+    Some(Change { op, c: number(c)? })
+}
+
+fn compare(word: &[u8]) -> Option<Compare> {
+    Some(match word {
+        b"<" => Compare::Lt,
+        b"<=" => Compare::Le,
+        b">" => Compare::Gt,
+        b">=" => Compare::Ge,
+        b"==" => Compare::Eq,
+        b"!=" => Compare::Ne,
+        _ => return None,
+    })
+}
+
+/// Question 3 of a row line: what follows `row=`.
+fn row(text: &[u8]) -> Option<Row> {
+    let mut words: [&[u8]; 7] = [b""; 7];
+    let mut count = 0;
+    for word in text.split(|&b| b == b' ') {
+        if count == words.len() {
+            return None;
+        }
+        words[count] = word;
+        count += 1;
+    }
+    let looped = |kind, v, cmp, limit| {
+        Some(Row::Loop(Loop {
+            kind,
+            v: variable(v)?,
+            compare: compare(cmp)?,
+            limit: operand(limit)?,
+            end: OPEN,
+            index: 0,
+        }))
+    };
+    match words[..count] {
+        [b"set", v, x] => Some(Row::Set { v: variable(v)?, x: operand(x)? }),
+        [b"cue", n] => Some(Row::Cue { n: number(n)? }),
+        [b"pick"] => Some(Row::Pick { middle: OPEN, end: OPEN }),
+        [b"else"] => Some(Row::Else { end: OPEN }),
+        [b"end"] => Some(Row::End { head: OPEN }),
+        [b"while", v, cmp, x] => looped(Kind::While, v, cmp, x),
+        [b"do", v, cmp, x] => looped(Kind::Do, v, cmp, x),
+        [b"for", v, x, cmp, y, op, c] => {
+            looped(Kind::For { start: operand(x)?, step: change(op, c)? }, v, cmp, y)
+        }
+        [op, v, c] => Some(Row::Change { v: variable(v)?, by: change(op, c)? }),
+        _ => None,
+    }
+}
+
+/// The unread rest of the file and the number of the line it begins with.
+struct Lines<'a> {
+    rest: &'a [u8],
+    line: u64,
+}
+
+impl<'a> Lines<'a> {
+    /// What follows `key` on the next line; a line that is missing, has no LF or another key is refused.
+    fn next(&mut self, key: &[u8]) -> Result<&'a [u8], Refusal> {
+        self.line += 1;
+        let wrong = (3, self.line);
+        let length = self.rest.iter().position(|&b| b == b'\n').ok_or(wrong)?;
+        let line = &self.rest[..length];
+        self.rest = &self.rest[length + 1..];
+        line.strip_prefix(key).ok_or(wrong)
+    }
+
+    /// A line of one number from 0 to `most`.
+    fn count(&mut self, key: &[u8], most: i32) -> Result<usize, Refusal> {
+        let n = number(self.next(key)?).ok_or((3, self.line))?;
+        if (0..=most).contains(&n) {
+            Ok(n as usize)
+        } else {
+            Err((4, self.line))
+        }
+    }
+
+    fn range(&mut self) -> Result<[i32; 2], Refusal> {
+        let mut words = self.next(b"range=")?.split(|&b| b == b' ');
+        let wrong = (3, self.line);
+        let (Some(lo), Some(hi), None) = (words.next(), words.next(), words.next()) else {
+            return Err(wrong);
+        };
+        let (lo, hi) = (number(lo).ok_or(wrong)?, number(hi).ok_or(wrong)?);
+        if -L <= lo && lo <= hi && hi <= L {
+            Ok([lo, hi])
+        } else {
+            Err((4, self.line))
+        }
+    }
+}
+
+/// Questions 2 to 7.
+pub fn script(file: &[u8]) -> Result<Script, Refusal> {
+    if file.len() > FILE_LIMIT {
+        return Err((2, FILE_LIMIT as u64));
+    }
+    let mut lines = Lines { rest: file, line: 0 };
+    if lines.next(b"script=")? != b"1" {
+        return Err((3, 1));
+    }
+    let vars = lines.count(b"vars=", 16)?;
+    let mut ranges = [[0; 2]; 16];
+    for range in &mut ranges[..vars] {
+        *range = lines.range()?;
+    }
+    let count = lines.count(b"rows=", 256)?;
+    let mut rows: Vec<Row> = Vec::with_capacity(count);
+    let mut loops = 0;
+    // The head rows of the blocks that are open.
+    let mut open = [0u16; DEPTH_LIMIT];
+    let mut depth = 0;
+    for r in 0..count as u16 {
+        let mut row = row(lines.next(b"row=")?).ok_or((3, lines.line))?;
+        let line = lines.line;
+        if !row.within_limits() {
+            return Err((4, line));
+        }
+        if !row.variables_below(vars) {
+            return Err((5, line));
+        }
+        match &mut row {
+            Row::Else { .. } => {
+                if depth == 0 {
+                    return Err((6, line));
+                }
+                match &mut rows[open[depth - 1] as usize] {
+                    Row::Pick { middle, .. } if *middle == OPEN => *middle = r,
+                    _ => return Err((6, line)),
+                }
+            }
+            Row::End { head } => {
+                if depth == 0 {
+                    return Err((6, line));
+                }
+                depth -= 1;
+                *head = open[depth];
+                match &mut rows[*head as usize] {
+                    Row::Pick { middle, end } => {
+                        *end = r;
+                        if *middle == OPEN {
+                            *middle = r;
+                        } else {
+                            let middle = *middle as usize;
+                            rows[middle] = Row::Else { end: r };
+                        }
+                    }
+                    Row::Loop(l) => l.end = r,
+                    _ => unreachable!("only picks and loops open a block"),
+                }
+            }
+            Row::Pick { .. } | Row::Loop(_) => {
+                if depth == DEPTH_LIMIT {
+                    return Err((7, line));
+                }
+                open[depth] = r;
+                depth += 1;
+                if let Row::Loop(l) = &mut row {
+                    if loops == LOOP_LIMIT {
+                        return Err((7, line));
+                    }
+                    l.index = loops as u8;
+                    loops += 1;
+                }
+            }
+            Row::Set { .. } | Row::Change { .. } | Row::Cue { .. } => {}
+        }
+        rows.push(row);
+    }
+    let after = lines.line + 1;
+    if !lines.rest.is_empty() {
+        return Err((3, after));
+    }
+    if depth > 0 {
+        return Err((6, after));
+    }
+    Ok(Script { vars, ranges, rows, loops })
+}

@@ -1,0 +1,220 @@
+//! The script runner.
+
+use crate::read::{Kind, Loop, Operand, Row, Script, L};
+use crate::Refusal;
+
+#[derive(Clone, Copy, Debug, PartialEq, Eq)]
+pub enum Ending {
+    Ended,
+    Spent,
+    Range,
+    NoPick,
+}
+
+/// One entry of a loop.
+#[derive(Clone, Copy, Debug, PartialEq, Eq)]
+pub struct Entry {
+    /// The loop's head row.
+    pub row: usize,
+    pub turns: u64,
+    /// Whether its test ended it.
+    pub tested: bool,
+}
+
+/// What the run call answers beside the store; `all` and `most` by the loops' order.
+#[derive(Clone, Copy, Debug, PartialEq, Eq)]
+pub struct Counts {
+    pub ending: Ending,
+    pub row: usize,
+    pub ticks: u64,
+    pub used: usize,
+    pub all: [u64; 16],
+    pub most: [u64; 16],
+}
+
+/// Who is told of the entries.
+pub trait Listener {
+    fn enter(&mut self, l: &Loop, row: usize);
+    fn turn(&mut self, l: &Loop);
+    fn leave(&mut self, l: &Loop);
+}
+
+/// Nobody.
+pub struct Deaf;
+
+impl Listener for Deaf {
+    #[inline]
+    fn enter(&mut self, _: &Loop, _: usize) {}
+    #[inline]
+    fn turn(&mut self, _: &Loop) {}
+    #[inline]
+    fn leave(&mut self, _: &Loop) {}
+}
+
+/// The list of entries, in the order of their beginnings.
+#[derive(Default)]
+pub struct List {
+    pub entries: Vec<Entry>,
+    /// For each loop the place of its latest entry in the list.
+    latest: [usize; 16],
+}
+
+impl Listener for List {
+    fn enter(&mut self, l: &Loop, row: usize) {
+        self.latest[l.index as usize] = self.entries.len();
+        self.entries.push(Entry { row, turns: 0, tested: false });
+    }
+    fn turn(&mut self, l: &Loop) {
+        self.entries[self.latest[l.index as usize]].turns += 1;
+    }
+    fn leave(&mut self, l: &Loop) {
+        self.entries[self.latest[l.index as usize]].tested = true;
+    }
+}
+
+/// Question 15.
+pub fn check_store(script: &Script, store: &[i32]) -> Result<(), Refusal> {
+    for i in 0..script.vars.max(store.len()) {
+        let good = i < script.vars
+            && i < store.len()
+            && script.ranges[i][0] <= store[i]
+            && store[i] <= script.ranges[i][1];
+        if !good {
+            return Err((15, i as u64));
+        }
+    }
+    Ok(())
+}
+
+/// The run of an accepted script from a store inside its ranges.
+pub fn run<E: Listener>(
+    script: &Script,
+    store: &mut [i32; 16],
+    picks: &[u8],
+    allowance: u64,
+    listener: &mut E,
+) -> Counts {
+    let rows = &script.rows[..];
+    let mut ticks = 0u64;
+    let mut used = 0usize;
+    let mut all = [0u64; 16];
+    let mut most = [0u64; 16];
+    // The turns of each loop's latest entry.
+    let mut now = [0u64; 16];
+    let mut r = 0usize;
+
+    macro_rules! end {
+        ($ending:expr, $row:expr) => {
+            break ($ending, $row)
+        };
+    }
+    macro_rules! tick {
+        ($row:expr) => {
+            if ticks == allowance {
+                end!(Ending::Spent, $row);
+            }
+            ticks += 1;
+        };
+    }
+    macro_rules! turn {
+        ($l:expr) => {
+            let k = $l.index as usize;
+            now[k] += 1;
+            all[k] += 1;
+            if now[k] > most[k] {
+                most[k] = now[k];
+            }
+            listener.turn(&$l);
+        };
+    }
+    macro_rules! change {
+        ($v:expr, $by:expr, $row:expr) => {
+            let value = $by.apply(store[$v as usize]);
+            if value < -L as i64 || value > L as i64 {
+                end!(Ending::Range, $row);
+            }
+            store[$v as usize] = value as i32;
+        };
+    }
+    macro_rules! test {
+        ($l:expr, $head:expr) => {
+            tick!($head);
+            if $l.compare.holds(store[$l.v as usize], value(store, $l.limit)) {
+                turn!($l);
+                r = $head + 1;
+            } else {
+                listener.leave(&$l);
+                r = $l.end as usize + 1;
+            }
+        };
+    }
+
+    let (ending, row) = loop {
+        let Some(row) = rows.get(r) else {
+            end!(Ending::Ended, r);
+        };
+        match row {
+            Row::Set { v, x } => {
+                tick!(r);
+                store[*v as usize] = value(store, *x);
+                r += 1;
+            }
+            Row::Change { v, by } => {
+                tick!(r);
+                change!(*v, by, r);
+                r += 1;
+            }
+            Row::Cue { .. } => {
+                tick!(r);
+                r += 1;
+            }
+            Row::Pick { middle, .. } => {
+                tick!(r);
+                let Some(&byte) = picks.get(used) else {
+                    end!(Ending::NoPick, r);
+                };
+                used += 1;
+                r = if byte != 0 { r + 1 } else { *middle as usize + 1 };
+            }
+            Row::Else { end } => r = *end as usize + 1,
+            Row::Loop(l) => {
+                now[l.index as usize] = 0;
+                listener.enter(l, r);
+                match l.kind {
+                    Kind::Do => {
+                        turn!(*l);
+                        r += 1;
+                        continue;
+                    }
+                    Kind::For { start, .. } => {
+                        tick!(r);
+                        store[l.v as usize] = value(store, start);
+                    }
+                    Kind::While => {}
+                }
+                test!(*l, r);
+            }
+            Row::End { head } => {
+                let head = *head as usize;
+                if let Row::Loop(l) = &rows[head] {
+                    if let Kind::For { step, .. } = l.kind {
+                        tick!(head);
+                        change!(l.v, step, head);
+                    }
+                    test!(*l, head);
+                } else {
+                    r += 1;
+                }
+            }
+        }
+    };
+    Counts { ending, row, ticks, used, all, most }
+}
+
+#[inline]
+fn value(store: &[i32; 16], x: Operand) -> i32 {
+    match x {
+        Operand::Constant(c) => c,
+        Operand::Variable(v) => store[v as usize],
+    }
+}

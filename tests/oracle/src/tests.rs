@@ -1,0 +1,394 @@
+use crate::*;
+
+/// A script file of these ranges and rows.
+fn file(ranges: &[(i64, i64)], rows: &[&str]) -> Vec<u8> {
+    let mut text = format!("script=1\nvars={}\n", ranges.len());
+    for (lo, hi) in ranges {
+        text += &format!("range={lo} {hi}\n");
+    }
+    text += &format!("rows={}\n", rows.len());
+    for row in rows {
+        text += &format!("row={row}\n");
+    }
+    text.into_bytes()
+}
+
+fn text(ranges: &[(i64, i64)], rows: &[&str]) -> Result<String, Refusal> {
+    report(&file(ranges, rows), SCRATCH, usize::MAX).map(|text| String::from_utf8(text).unwrap())
+}
+
+/// The turns of the one loop with this head and body, started from one number.
+fn turns(head: &str, start: i64, body: &[&str]) -> Result<u64, u32> {
+    let mut rows = vec![head];
+    rows.extend(body);
+    rows.push("end");
+    match plan(&file(&[(start, start)], &rows), SCRATCH) {
+        Ok(plan) => {
+            assert_eq!(plan.lines.len(), 1);
+            Ok(plan.lines[0].turns)
+        }
+        Err((number, 0)) => Err(number),
+        Err((13, place)) => {
+            assert_eq!(place, rows.len() as u64 - 1);
+            Err(13)
+        }
+        Err(refusal) => panic!("{refusal:?}"),
+    }
+}
+
+const LISTING: &[&str] = &["for v0 1 <= 9 add 5", "for v1 0 < v0 add 1", "cue 7", "end", "end", "cue 8"];
+const LISTING_RANGES: &[(i64, i64)] = &[(0, 0), (1, 4)];
+const LISTING_REPORT: &str =
+    "report=1\nrows=6\nloops=2\nloop=0 add 5 5 2 2 exact\nloop=1 add 1 1 9 18 most\nticks=65\n";
+
+#[test]
+fn checked_figures() {
+    assert_eq!(turns("while v0 <= 9", 1, &["add v0 5"]), Ok(2));
+    assert_eq!(turns("while v0 <= 9", 9, &["add v0 5"]), Ok(1));
+    assert_eq!(turns("while v0 <= 9", 10, &["add v0 5"]), Ok(0));
+    assert_eq!(turns("while v0 < 6", 1, &["add v0 5"]), Ok(1));
+    assert_eq!(turns("while v0 < 7", 1, &["add v0 5"]), Ok(2));
+    assert_eq!(turns("do v0 <= 9", 1, &["add v0 5"]), Ok(2));
+    assert_eq!(turns("do v0 <= 9", 10, &["add v0 5"]), Ok(1));
+    assert_eq!(turns("while v0 >= 1", 9, &["sub v0 5"]), Ok(2));
+    assert_eq!(turns("while v0 <= 8", 1, &["mul v0 2"]), Ok(4));
+    assert_eq!(turns("while v0 <= 7", 1, &["mul v0 2"]), Ok(3));
+    assert_eq!(turns("while v0 <= 8", 0, &["mul v0 2"]), Err(12));
+    assert_eq!(turns("while v0 >= 1", 8, &["div v0 2"]), Ok(4));
+    assert_eq!(turns("while v0 > 0", 8, &["div v0 2"]), Ok(4));
+    assert_eq!(turns("while v0 >= 0", 8, &["div v0 2"]), Err(12));
+    assert_eq!(turns("do v0 <= 8", 3, &["mul v0 2"]), Ok(2));
+    assert_eq!(turns("while v0 != 9", 0, &["add v0 3"]), Ok(3));
+    assert_eq!(turns("while v0 != 10", 0, &["add v0 3"]), Err(12));
+    assert_eq!(turns("do v0 != 5", 5, &["add v0 1"]), Err(12));
+    assert_eq!(turns("while v0 == 5", 5, &["add v0 1"]), Ok(1));
+    assert_eq!(turns("while v0 == 5", 4, &["add v0 1"]), Ok(0));
+    assert_eq!(turns("do v0 == 5", 4, &["add v0 1"]), Ok(2));
+    let rows = ["while v0 < 10", "pick", "add v0 2", "else", "add v0 3", "end", "add v0 1", "end"];
+    assert_eq!(
+        text(&[(0, 0)], &rows).unwrap(),
+        "report=1\nrows=8\nloops=1\nloop=0 add 3 4 4 4 most\nticks=17\n"
+    );
+    assert_eq!(
+        turns("while v0 < 10", 0, &["pick", "sub v0 3", "else", "sub v0 5", "end", "add v0 4"]),
+        Err(9)
+    );
+}
+
+#[test]
+fn the_listing() {
+    let listing = file(LISTING_RANGES, LISTING);
+    assert_eq!(text(LISTING_RANGES, LISTING).unwrap(), LISTING_REPORT);
+    let run = run(&listing, SCRATCH, &[0, 1], &[], 65).unwrap();
+    assert_eq!((run.ending, run.row, run.ticks, run.used), (Ending::Ended, 6, 32, 0));
+    assert_eq!(run.store, [11, 6]);
+    assert_eq!(run.loops, [(0, 2, 2), (1, 7, 6)]);
+    let entry = |row, turns| Entry { row, turns, tested: true };
+    assert_eq!(run.entries, [entry(0, 2), entry(1, 1), entry(1, 6)]);
+    let mut store = [0, 1];
+    let (counts, loops) = run_counts(&listing, SCRATCH, &mut store, &[], 32).unwrap();
+    assert_eq!((counts.ending, counts.row, counts.ticks, loops, store), (Ending::Ended, 6, 32, 2, [11, 6]));
+    let (counts, _) = run_counts(&listing, SCRATCH, &mut [0, 1], &[], 31).unwrap();
+    assert_eq!((counts.ending, counts.row, counts.ticks), (Ending::Spent, 5, 31));
+}
+
+#[test]
+fn questions_1_2_14_15() {
+    let listing = file(LISTING_RANGES, LISTING);
+    assert_eq!(report(b"", 8191, 0), Err((1, 8192)));
+    assert_eq!(run(b"", 8191, &[7], &[], 0).unwrap_err(), (1, 8192));
+    assert_eq!(report(&[b'x'; 16_384], SCRATCH, 0), Err((3, 1)));
+    assert_eq!(report(&[b'x'; 16_385], SCRATCH, 0), Err((2, 16_384)));
+    let length = LISTING_REPORT.len() as u64;
+    assert_eq!(report(&listing, SCRATCH, length as usize - 1), Err((14, length)));
+    assert!(report(&listing, SCRATCH, length as usize).is_ok());
+    let mut buffer = [7u8; 200];
+    assert_eq!(report_into(&listing, SCRATCH, &mut buffer[..10]), Err((14, length)));
+    assert_eq!(buffer, [7; 200]);
+    assert_eq!(report_into(&listing, SCRATCH, &mut buffer), Ok(length));
+    assert_eq!(&buffer[..length as usize], LISTING_REPORT.as_bytes());
+    assert!(buffer[length as usize..].iter().all(|&b| b == 7));
+    let place = |store: &[i32]| run(&listing, SCRATCH, store, &[], 99).err();
+    assert_eq!(place(&[]), Some((15, 0)));
+    assert_eq!(place(&[0]), Some((15, 1)));
+    assert_eq!(place(&[1]), Some((15, 0)));
+    assert_eq!(place(&[0, 0]), Some((15, 1)));
+    assert_eq!(place(&[0, 5]), Some((15, 1)));
+    assert_eq!(place(&[0, 1, 0]), Some((15, 2)));
+    assert_eq!(place(&[1, 1, 0]), Some((15, 0)));
+    assert_eq!(place(&[0, 4]), None);
+}
+
+#[test]
+fn question_3_lines() {
+    let refused = |text: &str| plan(text.as_bytes(), SCRATCH).err();
+    assert_eq!(refused(""), Some((3, 1)));
+    assert_eq!(refused("script=1"), Some((3, 1)));
+    assert_eq!(refused("script=1\n"), Some((3, 2)));
+    assert_eq!(refused("script=2\nvars=0\nrows=0\n"), Some((3, 1)));
+    assert_eq!(refused("script=01\n"), Some((3, 1)));
+    assert_eq!(refused("script=1 \n"), Some((3, 1)));
+    assert_eq!(refused("script=1\r\n"), Some((3, 1)));
+    assert_eq!(refused("script=1\nvars=0\nrows=0\n"), None);
+    assert_eq!(refused("script=1\nvars=0\nrows=0"), Some((3, 3)));
+    assert_eq!(refused("script=1\nvars=0\nrows=0\n\n"), Some((3, 4)));
+    assert_eq!(refused("script=1\nvars=0\nrows=0\nx"), Some((3, 4)));
+    assert_eq!(refused("script=1\nvars=-0\n"), Some((3, 2)));
+    assert_eq!(refused("script=1\nvars=00\n"), Some((3, 2)));
+    assert_eq!(refused("script=1\nvars=+1\n"), Some((3, 2)));
+    assert_eq!(refused("script=1\nvars=\n"), Some((3, 2)));
+    assert_eq!(refused("script=1\nvars=-1\n"), Some((4, 2)));
+    assert_eq!(refused("script=1\nvars=17\n"), Some((4, 2)));
+    assert_eq!(refused(&format!("script=1\nvars={}\n", "9".repeat(5_000))), Some((4, 2)));
+    assert_eq!(refused("script=1\nvars=1\n"), Some((3, 3)));
+    assert_eq!(refused("script=1\nvars=1\nrange=1\n"), Some((3, 3)));
+    assert_eq!(refused("script=1\nvars=1\nrange=1  2\n"), Some((3, 3)));
+    assert_eq!(refused("script=1\nvars=1\nrange=1 2 3\n"), Some((3, 3)));
+    assert_eq!(refused("script=1\nvars=1\nrange=2 1\n"), Some((4, 3)));
+    assert_eq!(refused("script=1\nvars=1\nrange=-1000000001 1\n"), Some((4, 3)));
+    assert_eq!(refused("script=1\nvars=1\nrange=-1000000000 1000000000\nrows=0\n"), None);
+    assert_eq!(refused("script=1\nvars=1\nrange=1 1000000001\n"), Some((4, 3)));
+    assert_eq!(refused("script=1\nvars=0\nrows=257\n"), Some((4, 3)));
+    assert_eq!(refused("script=1\nvars=0\nrows=256\n"), Some((3, 4)));
+    assert_eq!(refused("script=1\nvars=0\nrows=1\nrow=cue 1\nrow=cue 1\n"), Some((3, 5)));
+    assert_eq!(refused("script=1\nvars=0\nrows=2\nrow=cue 1\n"), Some((3, 5)));
+}
+
+/// The refusal of one row as the first of a file with two variables; the row has line 6.
+fn row_refused(row: &str) -> Option<u32> {
+    match plan(&file(&[(0, 0), (0, 0)], &[row]), SCRATCH) {
+        Ok(_) => None,
+        Err((number, 6)) => Some(number),
+        Err((6, 7)) => Some(67),
+        Err(refusal) => panic!("{refusal:?}"),
+    }
+}
+
+#[test]
+fn rows() {
+    for row in ["set v0 1", "set v1 v0", "set v0 -1000000000", "add v0 0", "sub v0 1000000000", "mul v0 1",
+        "div v0 1000000000", "cue 0", "cue 9999"] {
+        assert_eq!(row_refused(row), None, "{row}");
+    }
+    for row in ["pick", "while v0 <= 1", "while v0 == v1", "do v0 != -7", "for v0 1 <= v1 mul 3", "for v0 v1 > 0 div 1"] {
+        assert_eq!(row_refused(row), Some(67), "{row}");
+    }
+    for row in ["", " ", "set", "set v0", "set v0 ", "set v0  1", "set v0 1 ", " set v0 1", "set v0 01", "set v0 -0",
+        "set v0 +1", "set v-1 0", "set v01 0", "set v 0", "set 0 0", "set V0 0", "add v0 v1", "add v0 -", "cue v0",
+        "cue", "cue 1 1", "cue 1\r", "cue 1\0", "cue\t1", "pick 1", "end ", "else else", "while v0 = 1",
+        "while v0 <= 1 2", "while 1 <= v0", "while v0 <=1", "do v0 <=", "for v0 1 <= 2 add", "for v0 1 <= 2 add v1",
+        "for v0 1 <= 2 set 1", "for v0 1 <= 2 add 1 1", "for v0 1 2 <= add 1", "Set v0 1", "set v0 1.0", "set v0 1e1",
+        "add v99 v0", "cue -0", "set v0 --1", "set v0 v-0"] {
+        assert_eq!(row_refused(row), Some(3), "{row}");
+    }
+    for row in ["set v0 1000000001", "set v0 -1000000001", "add v0 -1", "sub v0 1000000001", "mul v0 0", "div v0 0",
+        "div v0 -1", "cue -1", "cue 10000", "while v0 <= 1000000001", "do v9 <= -1000000001",
+        "for v0 1000000001 <= 1 add 1", "for v0 1 <= 1000000001 add 1", "for v0 1 <= 1 mul 0", "add v99 -1",
+        "for v9 v9 <= v9 div 0"] {
+        assert_eq!(row_refused(row), Some(4), "{row}");
+    }
+    let long = "9".repeat(5_000);
+    assert_eq!(row_refused(&format!("add v0 {long}")), Some(4));
+    assert_eq!(row_refused(&format!("set v0 -{long}")), Some(4));
+    assert_eq!(row_refused(&format!("set v0 0{long}")), Some(3));
+    assert_eq!(row_refused(&format!("set v{long} 1")), Some(5));
+    for row in ["set v2 1", "set v0 v2", "add v2 0", "while v2 <= 1", "while v0 <= v2", "do v0 <= v255",
+        "do v0 <= v256", "for v2 1 <= 1 add 1", "for v0 v2 <= 1 add 1", "for v0 1 <= v2 add 1", "set v0 v99999999999"] {
+        assert_eq!(row_refused(row), Some(5), "{row}");
+    }
+    for row in ["else", "end"] {
+        assert_eq!(row_refused(row), Some(6), "{row}");
+    }
+}
+
+#[test]
+fn blocks() {
+    let refused = |rows: &[&str]| plan(&file(&[], rows), SCRATCH).err();
+    assert_eq!(refused(&["pick", "else", "end"]), None);
+    assert_eq!(refused(&["pick", "end"]), None);
+    assert_eq!(refused(&["pick", "else", "else", "end"]), Some((6, 6)));
+    assert_eq!(refused(&["pick", "end", "end"]), Some((6, 6)));
+    assert_eq!(refused(&["pick", "pick", "end"]), Some((6, 7)));
+    assert_eq!(refused(&["pick", "else"]), Some((6, 6)));
+    assert_eq!(refused(&["pick"; 8]), Some((6, 12)));
+    assert_eq!(refused(&["pick"; 9]), Some((7, 12)));
+    let loops = |count| plan(&file(&[(0, 0)], &["for v0 1 < 9 add 1", "end"].repeat(count)), SCRATCH).err();
+    assert_eq!(loops(16), None);
+    assert_eq!(loops(17), Some((7, 5 + 32)));
+    let inside = |row| plan(&file(&[(0, 0)], &["while v0 < 1", row, "end"]), SCRATCH).err();
+    assert_eq!(inside("else"), Some((6, 6)));
+    assert_eq!(inside("add v0 1"), None);
+    assert_eq!(inside("cue 1"), Some((9, 0)));
+    // An open block with bytes after the last row: question 3 comes first.
+    let mut open = file(&[], &["pick"]);
+    open.push(b'\n');
+    assert_eq!(plan(&open, SCRATCH).err(), Some((3, 5)));
+    // A pick counts for the depth and not for the loops; else opens no depth.
+    let mut rows = vec!["pick"; 8];
+    for _ in 0..8 {
+        rows.extend(["else", "end"]);
+    }
+    assert_eq!(refused(&rows), None);
+}
+
+#[test]
+fn questions_8_to_12() {
+    let refused = |ranges: &[(i64, i64)], rows: &[&str]| plan(&file(ranges, rows), SCRATCH).err();
+    assert_eq!(turns("while v0 < 5", 0, &["set v0 1"]), Err(8));
+    assert_eq!(turns("while v0 < 5", 0, &["add v0 1", "mul v0 2"]), Err(8));
+    assert_eq!(turns("while v0 < 5", 0, &["div v0 2", "mul v0 3"]), Err(8));
+    assert_eq!(turns("while v0 < 5", 1, &["add v0 5", "sub v0 5", "mul v0 2"]), Ok(3));
+    assert_eq!(turns("while v0 < 5", 1, &["pick", "mul v0 2", "end"]), Err(9));
+    assert_eq!(turns("while v0 < 5", 1, &["pick", "mul v0 2", "end", "mul v0 2"]), Ok(3));
+    assert_eq!(turns("while v0 < 5", 1, &["pick", "mul v0 2", "else", "add v0 1", "end"]), Err(8));
+    assert_eq!(turns("while v0 < 5", 1, &["pick", "add v0 1", "end"]), Err(9));
+    assert_eq!(turns("while v0 > 5", 1, &["add v0 1"]), Err(11));
+    assert_eq!(turns("while v0 < 5", 1, &["div v0 2"]), Err(11));
+    assert_eq!(turns("while v0 == 5", 1, &["div v0 2"]), Err(11));
+    assert_eq!(turns("while v0 < v0", 1, &["add v0 1"]), Err(10));
+    assert_eq!(turns("for v0 0 < v0 add 1", 1, &[]), Err(10));
+    assert_eq!(turns("for v0 0 < 5 add 1", 1, &["sub v0 1"]), Err(9));
+    assert_eq!(turns("while v0 != 5", 1, &["pick", "add v0 1", "else", "add v0 2", "end"]), Err(12));
+    // A standing row assigns.
+    assert_eq!(refused(&[(0, 0), (9, 9)], &["while v0 < v1", "add v1 0", "add v0 1", "end"]), Some((10, 0)));
+    assert_eq!(
+        refused(&[(0, 0), (9, 9)], &["cue 0", "while v0 < 9", "while v1 < 5", "mul v0 1", "add v1 1", "end", "add v0 1", "end"]),
+        Some((8, 1))
+    );
+    // The outer loop is asked first.
+    assert_eq!(
+        refused(&[(0, 0), (9, 9)], &["while v0 < 9", "while v1 < 5", "end", "end"]),
+        Some((9, 0))
+    );
+    assert_eq!(
+        refused(&[(0, 0), (9, 9)], &["while v0 < 9", "add v0 1", "while v1 < 5", "end", "end"]),
+        Some((9, 2))
+    );
+}
+
+#[test]
+fn question_13() {
+    let refused = |ranges: &[(i64, i64)], rows: &[&str]| plan(&file(ranges, rows), SCRATCH).err();
+    let nested = |inner: &str, outer: &str, cues: usize| {
+        let outer = format!("for v0 1 <= {outer} add 1");
+        let inner = format!("for v1 1 <= {inner} add 1");
+        let mut rows = vec![&outer[..], &inner, "end", "end"];
+        rows.extend(vec!["cue 1"; cues]);
+        refused(&[(0, 0), (0, 0)], &rows)
+    };
+    // The inner one 2·499999 + 2 = 10^6, the outer (10^6 + 2)·N + 2: 10^12 − 2 for 999998.
+    assert_eq!(nested("499999", "999998", 0), None);
+    assert_eq!(nested("499999", "999998", 2), None);
+    assert_eq!(nested("499999", "999998", 3), Some((13, 7)));
+    assert_eq!(nested("499999", "999999", 0), Some((13, 3)));
+    assert_eq!(nested("499999", "999999", 3), Some((13, 3)));
+    assert_eq!(nested("500000000", "1", 0), None);
+    assert_eq!(nested("500000000", "1000", 0), Some((13, 3)));
+    // 8 deep, far past 64 bits; the first end row over the limit is the second loop's from inside.
+    let heads: Vec<String> = (0..8).map(|v| format!("for v{v} -1000000000 <= 1000000000 add 1")).collect();
+    let mut rows: Vec<&str> = heads.iter().map(String::as_str).collect();
+    rows.extend(["end"; 8]);
+    assert_eq!(refused(&[(0, 0); 8], &rows), Some((13, 9)));
+    // Inside a loop of no turns the same, since the inner block is over the limit by itself.
+    rows.splice(0..1, ["for v0 1 <= 0 add 1"]);
+    assert_eq!(refused(&[(0, 0); 8], &rows), Some((13, 9)));
+    // No block over the limit but the file: place R.
+    let one = ["for v0 1 <= 600000 add 1", "for v1 1 <= 499999 add 1", "end", "end"];
+    assert_eq!(refused(&[(0, 0); 2], &one), None);
+    let mut two = one.repeat(2);
+    assert_eq!(refused(&[(0, 0); 2], &two), Some((13, 8)));
+    // In a body of a loop without turns their sum is no block of its own.
+    two.insert(0, "for v2 1 <= 0 add 1");
+    two.push("end");
+    assert_eq!(refused(&[(0, 0); 3], &two), None);
+    // A pick round them is.
+    let mut picked = one.repeat(2);
+    picked.insert(0, "pick");
+    picked.extend(["end", "cue 1"]);
+    assert_eq!(refused(&[(0, 0); 2], &picked), Some((13, 9)));
+    // Question 12 of a later loop comes before 13.
+    let mut late = one.repeat(2);
+    late.extend(["while v0 != 5", "end"]);
+    assert_eq!(refused(&[(0, 0); 2], &late), Some((9, 8)));
+}
+
+#[test]
+fn reports() {
+    assert_eq!(text(&[], &[]).unwrap(), "report=1\nrows=0\nloops=0\nticks=0\n");
+    assert_eq!(
+        text(&[(9, 9)], &["while v0 >= 1", "sub v0 5", "end"]).unwrap(),
+        "report=1\nrows=3\nloops=1\nloop=0 add -5 -5 2 2 exact\nticks=5\n"
+    );
+    assert_eq!(
+        text(&[(8, 9)], &["do v0 >= 1", "div v0 2", "div v0 3", "end"]).unwrap(),
+        "report=1\nrows=4\nloops=1\nloop=0 shrink 6 6 2 2 most\nticks=6\n"
+    );
+    assert_eq!(
+        text(&[(1, 1)], &["while v0 <= 100", "mul v0 1000000000", "mul v0 3", "mul v0 1", "end"]).unwrap(),
+        "report=1\nrows=5\nloops=1\nloop=0 grow 2000000001 2000000001 1 1 exact\nticks=5\n"
+    );
+    // After the outer's body the tested one is known from below only, the others not at all.
+    assert_eq!(
+        text(
+            &[(0, 3), (5, 5)],
+            &["while v0 < 10", "add v0 2", "set v1 v0", "end", "while v0 >= -5", "sub v0 1", "end", "for v0 v1 < 0 add 1", "end"]
+        )
+        .unwrap(),
+        "report=1\nrows=9\nloops=3\nloop=0 add 2 2 5 5 most\nloop=4 add -1 -1 1000000006 1000000006 most\n\
+         loop=7 add 1 1 1000000000 1000000000 most\nticks=4000000031\n"
+    );
+    // do and the body's ranges: v0 from 1 to 20 at the body's start, so 20 turns inside.
+    assert_eq!(
+        text(&[(1, 20), (0, 0)], &["do v0 <= 9", "for v1 1 <= v0 add 1", "end", "add v0 5", "end"]).unwrap(),
+        "report=1\nrows=5\nloops=2\nloop=0 add 5 5 2 2 most\nloop=1 add 1 1 20 40 most\nticks=88\n"
+    );
+    // A pick joins the ranges.
+    assert_eq!(
+        text(&[(0, 0)], &["pick", "set v0 3", "else", "sub v0 2", "end", "while v0 <= 3", "add v0 1", "end"]).unwrap(),
+        "report=1\nrows=8\nloops=1\nloop=5 add 1 1 6 6 most\nticks=15\n"
+    );
+}
+
+#[test]
+fn runs() {
+    let go = |ranges: &[(i64, i64)], rows: &[&str], store: &[i32], picks: &[u8], allowance| {
+        let run = run(&file(ranges, rows), SCRATCH, store, picks, allowance).unwrap();
+        (run.ending, run.row, run.ticks, run.used, run.store)
+    };
+    use Ending::*;
+    assert_eq!(go(&[], &[], &[], &[1], 0), (Ended, 0, 0, 0, vec![]));
+    assert_eq!(go(&[], &["cue 1"], &[], &[], 0), (Spent, 0, 0, 0, vec![]));
+    let rows = ["cue 1", "pick", "add v0 1", "else", "sub v0 1", "end", "mul v0 1000000000"];
+    assert_eq!(go(&[(0, 1)], &rows, &[0], &[], 9), (NoPick, 1, 2, 0, vec![0]));
+    assert_eq!(go(&[(0, 1)], &rows, &[0], &[], 1), (Spent, 1, 1, 0, vec![0]));
+    assert_eq!(go(&[(0, 1)], &rows, &[0], &[255, 1], 9), (Ended, 7, 4, 1, vec![1_000_000_000]));
+    assert_eq!(go(&[(0, 1)], &rows, &[1], &[1], 9), (Range, 6, 4, 1, vec![2]));
+    assert_eq!(go(&[(0, 1)], &rows, &[0], &[0, 1], 9), (Ended, 7, 4, 1, vec![-1_000_000_000]));
+    assert_eq!(go(&[(-7, 7)], &["div v0 2"], &[-7], &[], 9), (Ended, 1, 1, 0, vec![-3]));
+    // A do: no tick at its head, its test at the head's row; the turn counts though the tick lacks.
+    let rows = ["do v0 < 2", "add v0 1", "end"];
+    let run_of = |allowance| run(&file(&[(0, 0)], &rows), SCRATCH, &[0], &[], allowance).unwrap();
+    let first = run_of(0);
+    assert_eq!((first.ending, first.row, first.ticks), (Spent, 1, 0));
+    assert_eq!(first.loops, [(0, 1, 1)]);
+    assert_eq!(first.entries, [Entry { row: 0, turns: 1, tested: false }]);
+    let second = run_of(1);
+    assert_eq!((second.ending, second.row, second.ticks), (Spent, 0, 1));
+    let third = run_of(3);
+    assert_eq!((third.ending, third.row, third.ticks), (Spent, 0, 3));
+    assert_eq!(third.loops, [(0, 2, 2)]);
+    assert_eq!(run_of(4).entries, [Entry { row: 0, turns: 2, tested: true }]);
+    // A for: its start, test and step at the head's row; an entry without a turn.
+    let rows = ["cue 1", "for v0 999999999 <= 1000000000 add 1", "end", "cue 2"];
+    let run_of = |allowance| run(&file(&[(0, 0)], &rows), SCRATCH, &[0], &[], allowance).unwrap();
+    let start = run_of(1);
+    assert_eq!((start.ending, start.row, start.ticks, &start.store[..]), (Spent, 1, 1, &[0][..]));
+    assert_eq!(start.entries, [Entry { row: 1, turns: 0, tested: false }]);
+    let test = run_of(2);
+    assert_eq!((test.ending, test.row, &test.store[..], test.loops[0]), (Spent, 1, &[999_999_999][..], (1, 0, 0)));
+    let past = run_of(99);
+    assert_eq!((past.ending, past.row, past.ticks, past.loops[0]), (Range, 1, 6, (1, 2, 2)));
+    assert_eq!(past.store, [1_000_000_000]);
+    assert!(!past.entries[0].tested);
+    assert_eq!(breach(&plan(&file(&[(0, 0)], &rows), SCRATCH).unwrap(), &past), None);
+}

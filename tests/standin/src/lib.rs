@@ -1,0 +1,119 @@
+//! The oracle behind the library's C interface. With STANDIN_WRONG=N in the environment it makes the
+//! N-th of the mistakes below, so that the harness can be seen to find them.
+
+use oracle::{report_into, run_counts, Ending};
+use std::slice;
+use std::sync::OnceLock;
+
+fn wrong(mistake: u32) -> bool {
+    static WRONG: OnceLock<u32> = OnceLock::new();
+    *WRONG.get_or_init(|| std::env::var("STANDIN_WRONG").ok().and_then(|word| word.parse().ok()).unwrap_or(0)) == mistake
+}
+
+/// # Safety
+/// As the C interface says: every pointer is good for its length.
+#[no_mangle]
+pub unsafe extern "C" fn diftanew_report(
+    file: *const u8,
+    file_len: usize,
+    scratch: *mut u32,
+    scratch_len: usize,
+    buffer: *mut u8,
+    buffer_len: usize,
+    place: *mut u64,
+) -> u32 {
+    let file = slice::from_raw_parts(file, file_len);
+    let scratch = slice::from_raw_parts_mut(scratch, scratch_len);
+    let buffer = slice::from_raw_parts_mut(buffer, buffer_len);
+    let answer = report_into(file, scratch_len, buffer);
+    match answer {
+        // 1: a byte past the report is written.
+        Ok(length) if wrong(1) && (length as usize) < buffer_len => buffer[length as usize] = 0,
+        // 2: a refused report has begun to write.
+        Err((14, _)) if wrong(2) && buffer_len > 0 => buffer[0] = b'r',
+        // 3: the scratch is used before it is measured.
+        Err((1, _)) if wrong(3) && scratch_len > 0 => scratch[scratch_len - 1] = 0,
+        // 4: one number past the scratch.
+        _ if wrong(4) => *scratch.as_mut_ptr().add(scratch_len) = 0,
+        // 5: a wrong digit, if the report has 16 loops.
+        Ok(length) if wrong(5) && buffer.windows(10).any(|w| w == b"\nloops=16\n") => buffer[length as usize - 2] ^= 1,
+        _ => {}
+    }
+    let (number, at) = match answer {
+        Ok(length) => (0, length),
+        Err(refusal) => refusal,
+    };
+    // 6: the place of 13 is another block.  7: 5 before 4.
+    *place = at + (wrong(6) && number == 13) as u64;
+    if wrong(7) && number == 4 && file.windows(3).any(|w| w == b"v99") { 5 } else { number }
+}
+
+/// # Safety
+/// As the C interface says: every pointer is good for its length, the answer's for 53 numbers.
+#[no_mangle]
+pub unsafe extern "C" fn diftanew_run(
+    file: *const u8,
+    file_len: usize,
+    scratch: *mut u32,
+    scratch_len: usize,
+    store: *mut i32,
+    store_len: usize,
+    picks: *const u8,
+    picks_len: usize,
+    allowance: u64,
+    answer: *mut u64,
+) -> u32 {
+    let file = slice::from_raw_parts(file, file_len);
+    let _ = scratch;
+    let store = slice::from_raw_parts_mut(store, store_len);
+    let picks = slice::from_raw_parts(picks, picks_len);
+    let answer = slice::from_raw_parts_mut(answer, 53);
+    let before = store.to_vec();
+    // 8: an unused number of the answer keeps its value.
+    let last = answer[52];
+    answer.fill(0);
+    if wrong(8) {
+        answer[52] = last;
+    }
+    match run_counts(file, scratch_len, store, picks, allowance) {
+        Err((number, place)) => {
+            answer[0] = place;
+            // 9: a refused run has touched the store.
+            if wrong(9) && number == 15 && store_len > 0 {
+                store[0] = 0;
+            }
+            number
+        }
+        Ok((counts, loops)) => {
+            answer[0] = match counts.ending {
+                Ending::Ended => 0,
+                Ending::Spent => 1,
+                Ending::Range => 2,
+                Ending::NoPick => 3,
+            };
+            answer[1] = counts.row as u64;
+            answer[2] = counts.ticks;
+            answer[3] = counts.used as u64;
+            answer[4] = loops as u64;
+            let heads = oracle::plan(file, scratch_len).map(|plan| plan.lines).unwrap_or_default();
+            for (k, line) in heads.iter().enumerate() {
+                answer[5 + 3 * k] = line.row as u64;
+                answer[6 + 3 * k] = counts.all[k];
+                answer[7 + 3 * k] = counts.most[k];
+                // 10: the most are all of them.
+                if wrong(10) {
+                    answer[7 + 3 * k] = counts.all[k];
+                }
+            }
+            // 11: the store is left alone.
+            if wrong(11) {
+                store.copy_from_slice(&before);
+            }
+            // 12: a tick short with no allowance left.
+            if wrong(12) && counts.ending == Ending::Range && counts.ticks == allowance {
+                answer[2] -= 1;
+            }
+            0
+        }
+    }
+}
