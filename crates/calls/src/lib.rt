@@ -130,7 +130,7 @@ const NO_COUNT: LoopCount = LoopCount {
 };
 
 // A refusal.
-fn refusal(number: u32, place: usize) -> Outcome
+pub fn refusal(number: u32, place: usize) -> Outcome
     requires { ⌜ (number ≡ 0 → ⊥) ⌝ }
     ensures { λ r. ⌜ ToldNo r number place ⌝ }
 {
