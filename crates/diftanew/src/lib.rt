@@ -1,0 +1,112 @@
+// The two calls for C and Rust: numbers and slices only.
+use calls::Outcome;
+use rules::Ending;
+use rules::Reply;
+ghost use mathlib.Core.Path.{_≡_};
+ghost use Prim.Native.Nat.{min};
+ghost use lib.ListN.{length};
+ghost use Rattle.rules.specs.Figures.{ones};
+ghost use Rattle.rules.specs.Calls.{judged, replyOf, bufferOf, runReply, endingNumber};
+ghost use Rattle.diftanew.specs.Numbers.{numberOf, placeOf, firstOf, numbersOf, Told-in-numbers};
+
+// The report of a file. Answers 0 for an accepted file, with the report's length in place, or the refusal's number with its place.
+#[no_mangle]
+pub extern "C" fn diftanew_report(
+    file: &[u8],
+    scratch: &mut [u32],
+    buffer: &mut [u8],
+    place: &mut u64,
+) -> u32
+    ensures answer { λ r. ⌜ r ≡ numberOf (replyOf ones (judged ones (length (now (scratch .entry))) (now (file .entry))) (length (now (buffer .entry)))) ⌝ }
+    ensures place { λ _. ⌜ now (place .exit) ≡ placeOf (replyOf ones (judged ones (length (now (scratch .entry))) (now (file .entry))) (length (now (buffer .entry)))) ⌝ }
+    ensures buffer { λ _. ⌜ now (buffer .exit) ≡ bufferOf ones (judged ones (length (now (scratch .entry))) (now (file .entry))) (now (buffer .entry)) ⌝ }
+    ensures scratch { λ _. ⌜ now (scratch .exit) ≡ now (scratch .entry) ⌝ }
+{
+    let r = loader::report(file, scratch, buffer);
+    match r {
+        Reply::Accepted(n) => {
+            *place = n as u64;
+            0
+        }
+        Reply::Refused(q, p) => {
+            *place = p as u64;
+            q
+        }
+    }
+}
+
+// This paper's number of an ending.
+fn ending_number(ending: Ending) -> u64
+    ensures { λ r. ⌜ r ≡ endingNumber ending ⌝ }
+{
+    match ending {
+        Ending::Ended => 0,
+        Ending::Spent => 1,
+        Ending::Range => 2,
+        Ending::NoPick => 3,
+    }
+}
+
+// The first number of an answer: the ending, or a refusal's place.
+fn first_number(o: Outcome) -> u64
+    ensures { λ r. ⌜ r ≡ firstOf o ⌝ }
+{
+    let number = o.number;
+    let ending = o.ending;
+    let place = o.place;
+    if number == 0 {
+        ending_number(ending)
+    } else {
+        place as u64
+    }
+}
+
+// A file has no more loops.
+fn at_most_16(n: usize) -> usize
+    ensures { λ r. ⌜ r ≡ min n 16 ⌝ }
+{
+    if n < 16 { n } else { 16 }
+}
+
+// An outcome as numbers.
+fn numbers(o: Outcome) -> [u64; 53]
+    ensures { λ r. ⌜ r ≡ numbersOf o ⌝ }
+{
+    let loops = o.loops;
+    let counts = o.counts;
+    let n = at_most_16(loops);
+    let mut a = [0u64; 53];
+    a[0] = first_number(o);
+    a[1] = o.row as u64;
+    a[2] = o.ticks;
+    a[3] = o.used as u64;
+    a[4] = loops as u64;
+    let mut k: usize = 0;
+    while k < n {
+        let c = counts[k];
+        a[5 + 3 * k] = c.row as u64;
+        a[6 + 3 * k] = c.all;
+        a[7 + 3 * k] = c.most;
+        k += 1;
+    }
+    a
+}
+
+// The run of a file. Answers 0, with the answer's numbers as the header lays them out, or the refusal's number, with its place first.
+#[no_mangle]
+pub extern "C" fn diftanew_run(
+    file: &[u8],
+    scratch: &mut [u32],
+    store: &mut [i32],
+    picks: &[u8],
+    allowance: u64,
+    answer: &mut [u64; 53],
+) -> u32
+    ensures answer { λ r. ⌜ Told-in-numbers (judged ones (length (now (scratch .entry))) (now (file .entry))) (runReply ones (judged ones (length (now (scratch .entry))) (now (file .entry))) (now (store .entry)) (now (picks .entry)) allowance) (now (store .entry)) (now (store .exit)) (now (picks .entry)) allowance r (now (answer .exit)) ⌝ }
+    ensures scratch { λ _. ⌜ now (scratch .exit) ≡ now (scratch .entry) ⌝ }
+{
+    let o = loader::run(file, scratch, store, picks, allowance);
+    let n = numbers(o);
+    *answer = n;
+    o.number
+}
