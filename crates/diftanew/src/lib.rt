@@ -35,7 +35,7 @@ pub extern "C" fn diftanew_report(
     }
 }
 
-// This paper's number of an ending.
+// The number of an ending.
 fn ending_number(ending: Ending) -> u64
     ensures { λ r. ⌜ r ≡ endingNumber ending ⌝ }
 {

@@ -115,7 +115,7 @@ unfoldable pub storeAfter : RunReply → List ℤ → List ℤ
 storeAfter (ran a counts) old = storeList (length old) (a .store)
 storeAfter (refuses q p) old = old
 
--- this paper's number of an ending: ended, spent, range, no pick
+-- the number of an ending in an answer of numbers: ended, spent, range, no pick
 unfoldable pub endingNumber : Ending → ℕ
 endingNumber Ended = 0
 endingNumber Spent = 1
