@@ -1,0 +1,71 @@
+-- What the survey's figures say of the two calls. Assumes nothing.
+use mathlib.Core.Path.{_≡_, refl, sym, _∙_, ap}
+use mathlib.Core.List.{List}
+use Prim.Native.Nat.{ℕ, zero, suc, _≤_}
+use native.Mathlib.Omega.{arith}
+use lib.Dec.{leb, leb→le}
+use lib.ListN.{length, take}
+use Rattle.rules.specs.declared.Reply.{Reply}
+use Rattle.rules.specs.declared.Reply.the-variants.{Refused}
+use Rattle.rules.specs.Figures.{ones}
+use Rattle.rules.specs.Questions.{passed, tickLimit, verdict}
+use Rattle.rules.specs.Scripts.{Script, envOf, treeOf, reportTicks, Legal, Accepted}
+use Rattle.rules.specs.Report.{linesOf, reportText, scriptReport}
+use Rattle.rules.specs.Calls.{accepted, refuses, judgedBy, fitting, written, replyOf, bufferOf}
+use Rattle.rules.proofs.Accepted.{then-yes, asked-yes}
+use Rattle.turns.specs.Needs.{answer}
+use Rattle.survey.specs.declared.Figures.{Figures}
+use Rattle.calls.specs.Held.{judgedScript, Found}
+
+by-number : (script : Script) (n p : ℕ) → (n ≡ 0 → ⊥) → judgedBy script (answer n p) ≡ refuses n p
+unfolding answer judgedBy
+by-number script zero p h = absurd (h refl)
+by-number script (suc n) p h = refl
+
+module _ (script : Script) (count : ℕ) (s : Figures) (found : Found script count s) where
+  asked : verdict ones (length (script .rows)) (envOf (script .ranges)) (treeOf (script .rows)) ≡ answer (s .number) (s .place)
+  asked = ap (λ n. verdict ones n (envOf (script .ranges)) (treeOf (script .rows))) (found .long) ∙ found .figures .verdict
+
+  pub judged-no : (s .number ≡ 0 → ⊥) → judgedScript script ≡ refuses (s .number) (s .place)
+  judged-no h = ap (judgedBy script) asked ∙ by-number script (s .number) (s .place) h
+
+  module _ (z : s .number ≡ 0) where
+    passes : verdict ones (length (script .rows)) (envOf (script .ranges)) (treeOf (script .rows)) ≡ passed
+    unfolding answer
+    passes = asked ∙ ap (λ n. answer n (s .place)) z
+
+    pub judged-yes : judgedScript script ≡ accepted script
+    unfolding judgedBy
+    judged-yes = ap (judgedBy script) passes
+
+    pub is-accepted : Legal script → Accepted ones script
+    is-accepted legal = record { legal = legal; loops = passes }
+
+    -- question 13: the ticks are no more than the limit
+    pub ticks-few : s .ticks ≤ 1_000_000_000_000
+    unfolding verdict tickLimit
+    ticks-few =
+        let (_, a) = then-yes _ _ passes in
+        let (_, b) = then-yes _ _ a in
+        let (t, _) = asked-yes 13 _ (leb (reportTicks ones script) 1_000_000_000_000) _ b in
+        omega (arith, leb→le (reportTicks ones script) 1_000_000_000_000 t, found .figures .ticks z)
+
+    text-is : reportText count (linesOf (take (s .loops) (s .lines))) (s .ticks) ≡ scriptReport ones script
+    unfolding scriptReport
+    text-is = λ j. reportText (sym (found .long) j) (found .figures .lines z j) (found .figures .ticks z j)
+
+    -- the report written
+    pub reported : (r : Reply) (old new : List ℕ) (room : ℕ)
+        → (r ≡ fitting (reportText count (linesOf (take (s .loops) (s .lines))) (s .ticks)) room) × (new ≡ written (reportText count (linesOf (take (s .loops) (s .lines))) (s .ticks)) old)
+        → (r ≡ replyOf ones (judgedScript script) room) × (new ≡ bufferOf ones (judgedScript script) old)
+    unfolding replyOf bufferOf
+    reported r old new room (a, b) = (
+      a ∙ ap (λ t. fitting t room) text-is ∙ ap (λ j. replyOf ones j room) (sym judged-yes),
+      b ∙ ap (λ t. written t old) text-is ∙ ap (λ j. bufferOf ones j old) (sym judged-yes),
+    )
+
+  -- a refusal leaves the buffer
+  pub not-reported : (s .number ≡ 0 → ⊥) → (old : List ℕ) (room : ℕ)
+      → (Refused (s .number) (s .place) ≡ replyOf ones (judgedScript script) room) × (old ≡ bufferOf ones (judgedScript script) old)
+  unfolding replyOf bufferOf
+  not-reported h old room = (ap (λ j. replyOf ones j room) (sym (judged-no h)), ap (λ j. bufferOf ones j old) (sym (judged-no h)))

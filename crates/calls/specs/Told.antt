@@ -1,0 +1,65 @@
+-- What a run call answers, as code holds it.
+use mathlib.Core.Path.{_≡_}
+use mathlib.Core.List.{List, [], _∷_}
+use Prim.Native.Nat.{ℕ, _≤_}
+use lib.IntN.{ℤ}
+use lib.ListN.{length, take}
+use Rattle.rules.specs.declared.Row.{Row}
+use Rattle.rules.specs.declared.Ending.the-variants.{Ended}
+use Rattle.rules.specs.declared.LoopCount.{LoopCount}
+use Rattle.rules.specs.Blocks.{kindsOf}
+use Rattle.rules.specs.Answers.{Answer}
+use Rattle.rules.specs.Calls.{RunReply, ran, refuses, loopRows, countsAt, storeAfter}
+use Rattle.runner.specs.Runs.{Runnable}
+use Rattle.runner.specs.Answered.{runOf}
+use Rattle.calls.specs.declared.Outcome.{Outcome}
+
+-- a run: number 0, its figures, and the counts of its loops in row order
+pub record ToldRun (o : Outcome) (a : Answer) (cs : List LoopCount) : Type 0 where
+  pub number : o .number ≡ 0
+  pub place : o .place ≡ 0
+  pub ending : o .ending ≡ a .ending
+  pub row : o .row ≡ a .row
+  pub ticks : o .ticks ≡ a .ticks
+  pub used : o .used ≡ a .used
+  pub loops : o .loops ≡ length cs
+  pub counts : take (o .loops) (o .counts) ≡ cs
+
+-- a refusal: its number, never 0, and its place; all figures of a run are 0
+pub record ToldNo (o : Outcome) (q p : ℕ) : Type 0 where
+  pub some : q ≡ 0 → ⊥
+  pub number : o .number ≡ q
+  pub place : o .place ≡ p
+  pub ending : o .ending ≡ Ended
+  pub row : o .row ≡ 0
+  pub ticks : o .ticks ≡ 0
+  pub used : o .used ≡ 0
+  pub loops : o .loops ≡ 0
+
+abbrev pub Told : Outcome → RunReply → Type 0
+Told o (ran a counts) = ToldRun o a counts
+Told o (refuses q p) = ToldNo o q p
+
+-- the answer of a run call, and the store after it
+pub record Ran (reply : RunReply) (old new : List ℤ) (o : Outcome) : Type 0 where
+  pub told : Told o reply
+  pub store : new ≡ storeAfter reply old
+
+-- the rows of an accepted script, and an allowance that is no more than its ticks
+pub record Runs (rows : List Row) (count : ℕ) (store : List ℤ) (allowance : ℕ) : Type 0 where
+  pub size : count ≤ 256
+  pub runs : Runnable (length store) (take count (kindsOf rows))
+  pub ticks : allowance ≤ 1_000_000_000_000
+
+-- the run of rows, with its counts
+abbrev pub ranRows : List Row → ℕ → List ℤ → List ℕ → ℕ → RunReply
+ranRows rows count store picks allowance =
+    let a : Answer = runOf (take count (kindsOf rows)) store picks allowance in
+    ran a (countsAt (a .entries) (loopRows 0 (take count (kindsOf rows))))
+
+-- a count from each of three lists
+unfoldable pub zipped : List ℕ → List ℕ → List ℕ → List LoopCount
+zipped [] b c = []
+zipped (x ∷ a) [] c = []
+zipped (x ∷ a) (y ∷ b) [] = []
+zipped (x ∷ a) (y ∷ b) (z ∷ c) = record { row = x; all = y; most = z } ∷ zipped a b c

@@ -1,0 +1,2 @@
+-- Demand 3 as the run call's contract states it.
+pub mod Kept

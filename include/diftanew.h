@@ -1,0 +1,63 @@
+/* Diftanew: the report and the run of an effect script, for C.
+ *
+ * Every input is taken or refused by number. The caller guarantees valid pointers: each pointer is to at least as many elements as the length
+ * beside it says (a length of 0 may come with any non-null pointer), `place` to one number, `answer` to DIFTANEW_ANSWER numbers, and no two
+ * of the lent parts overlap. Nothing else is asked. The calls keep no state, use no heap, and need a stack of 512 KB. */
+#ifndef DIFTANEW_H
+#define DIFTANEW_H
+
+#include <stddef.h>
+#include <stdint.h>
+
+#ifdef __cplusplus
+extern "C" {
+#endif
+
+/* The 32-bit numbers of scratch that a call wants (question 1). */
+#define DIFTANEW_SCRATCH 8192
+/* The longest file that is taken (question 2). */
+#define DIFTANEW_FILE 16384
+/* The numbers of a run's answer. */
+#define DIFTANEW_ANSWER 53
+
+/* Refusal numbers, in the words of document 01's questions. */
+enum {
+    DIFTANEW_ACCEPTED = 0,
+    DIFTANEW_SCRATCH_SHORT = 1,   /* place: 8192 */
+    DIFTANEW_FILE_LONG = 2,       /* place: 16384 */
+    DIFTANEW_SHAPE = 3,           /* place: the line, from 1 */
+    DIFTANEW_NUMBER = 4,          /* place: the line */
+    DIFTANEW_VARIABLE = 5,        /* place: the line */
+    DIFTANEW_BLOCK = 6,           /* place: the line */
+    DIFTANEW_DEPTH = 7,           /* place: the line */
+    DIFTANEW_STEP_UNKNOWN = 8,    /* place: the loop's head row, from 0, as to 12 */
+    DIFTANEW_STEP_STANDS = 9,
+    DIFTANEW_LIMIT_CHANGES = 10,
+    DIFTANEW_COMPARISON = 11,
+    DIFTANEW_NO_FIGURE = 12,
+    DIFTANEW_TICKS = 13,          /* place: the first end row over the limit, or the number of rows */
+    DIFTANEW_BUFFER_SHORT = 14,   /* place: the report's length */
+    DIFTANEW_STORE = 15           /* place: the first index wrong, missing or extra */
+};
+
+/* How a run ends: answer[0]. */
+enum { DIFTANEW_ENDED = 0, DIFTANEW_SPENT = 1, DIFTANEW_RANGE = 2, DIFTANEW_NO_PICK = 3 };
+
+/* Writes the report of `file` to the front of `buffer`. Answers 0, with the report's length in *place; or a refusal's number, with its place in
+ * *place and the buffer untouched. The scratch is measured and never touched. */
+uint32_t diftanew_report(const uint8_t *file, size_t file_len, uint32_t *scratch, size_t scratch_len,
+                         uint8_t *buffer, size_t buffer_len, uint64_t *place);
+
+/* Runs `file` on `store`, with a byte for each pick (0 takes else) and an allowance of ticks. Answers 0, with the final store in `store` and
+ *   answer[0] the ending, answer[1] its row, answer[2] the ticks, answer[3] the bytes used, answer[4] the number of loops, and for loop k in row
+ *   order answer[5 + 3k] its head row, answer[6 + 3k] all its turns, answer[7 + 3k] the most in one entry;
+ * or a refusal's number, with its place in answer[0] and the store untouched. Numbers of the answer that are not named are 0. */
+uint32_t diftanew_run(const uint8_t *file, size_t file_len, uint32_t *scratch, size_t scratch_len,
+                      int32_t *store, size_t store_len, const uint8_t *picks, size_t picks_len,
+                      uint64_t allowance, uint64_t *answer);
+
+#ifdef __cplusplus
+}
+#endif
+
+#endif
