@@ -14,7 +14,7 @@ ghost use Rattle.pieces.specs.Pieces.{labelText, pieceText, pieceTexts, Wrote};
 ghost use Rattle.report.specs.Lines.{endOf, tableLines};
 
 // How far z is from 0.
-fn size(z: i64) -> u64
+pub fn size(z: i64) -> u64
     ensures { λ r. ⌜ r ≡ size z ⌝ }
 {
     if z < 0 {

@@ -1,0 +1,11 @@
+// What the programs share: the words of a person at the desk, files by name, and what is printed.
+mod print;
+mod script;
+mod words;
+
+pub use print::print_text;
+pub use script::rehearse_file;
+pub use script::report_file;
+pub use script::report_input;
+pub use words::Values;
+pub use words::keep_value;
