@@ -1,8 +1,6 @@
-use mathlib.Core.Path.{_≡_, refl, sym, ap, _∙_, subst}
-use mathlib.Core.List.{List, [], _∷_, _++_}
-use Prim.Native.Nat.{ℕ, zero, suc, _+_, _*_, _-_, _≤_, _<_, min, max}
-use native.Mathlib.Numerals.{add-one}
-use lib.ListN.{length, getD, take, drop, set}
+use mathlib.Core.Path.{_≡_, ap}
+use Prim.Native.Nat.{_+_, _≤_}
+use lib.ListN.{length, getD}
 use denote.Ref.{now}
 use Rattle.reader.proofs.Counts.{count-read, count-wrong, count-small, count-long}
 use mir.Facts.{toZ-ofZ}
@@ -12,21 +10,11 @@ use borrow.Author.Needs.{sfits-of, needs}
 use lib.IntN.{pos, natAbs}
 use lib.Signed.{_≤ℤ_}
 use Rattle.ints.proofs.Parts.{ints, abs-parts}
-use Rattle.rules.specs.File.{sooner, asksEnd, asksNumber, asksOne, asksOrder, asksRange, numberOf}
-use Rattle.rules.specs.Values.{lowest, highest}
+use Rattle.rules.specs.File.{sooner, asksEnd, asksNumber, numberOf}
 use Rattle.rules.specs.declared.Word.the-variants.{Missing}
 use Rattle.rules.specs.declared.Word.{Word}
-use native.Mathlib.Omega.{arith}
 use Rattle.reader.proofs.count_line.Statement.{statement}
 use Rattle.reader.proofs.count_line.Tie as tie
-use Rattle.reader.proofs.count_line.Reads as reads
-use Rattle.reader.proofs.count_line.Lts as lts
-use Rattle.reader.proofs.line_words.Reads as line-words-reads
-use Rattle.rows.proofs.asks_end.Reads as asks-end-reads
-use Rattle.rows.proofs.asks_number.Reads as asks-number-reads
-use Rattle.rows.proofs.number_of.Reads as number-of-reads
-use Rattle.rows.proofs.sooner.Reads as sooner-reads
-use Rattle.text.proofs.position.Reads as position-reads
 
 -- the first word that code holds, and the question of both
 abbrev word : tie.After-sooner → Word
@@ -51,39 +39,6 @@ long c z =
     let s = p .before .before .before .before in
     count-long _ _ _ _ _ _ (p .line-words .ensures) (p .before .position .ensures) (s .pre .0) (s .pre .1) (asked c) z
 
--- src/lib.rt:63:9
-position-requires : tie.Need-position-requires
-position-requires c κs = search needs
-
--- src/lib.rt:64:13
-line-words-requires : tie.Need-line-words-requires
-line-words-requires c κs = search needs
-
--- src/lib.rt:65:13
-array-copy-out-x : tie.Need-array-copy-out-x
-array-copy-out-x c = search needs
-
--- src/lib.rt:66:20
-asks-number-requires : tie.Need-asks-number-requires
-asks-number-requires c κs = search needs
-
--- src/lib.rt:66:54
-array-copy-out-asks-end : tie.Need-array-copy-out-asks-end
-array-copy-out-asks-end c = search needs
-
--- src/lib.rt:66:45
-asks-end-requires : tie.Need-asks-end-requires
-asks-end-requires c κs = search needs
-
--- src/lib.rt:66:9
-sooner-requires : tie.Need-sooner-requires
-sooner-requires c κs = search needs
-
--- src/lib.rt:68:24
-number-of-requires : tie.Need-number-of-requires
-number-of-requires c κs = search needs
-
--- src/lib.rt:68:24
 cast-t19 : tie.Need-cast-t19
 cast-t19 c = let r : SFits w32 (c .number-of .result) = sfits-of (c .number-of .ok) in
     let s = c .before .before in
@@ -91,18 +46,15 @@ cast-t19 c = let r : SFits w32 (c .number-of .result) = sfits-of (c .number-of .
     let e : c .number-of .result ≡ numberOf (word s) = c .number-of .ensures in
     rw (toZ-ofZ r) (omega (ints, e), record { fits = omega (ints, e, abs-parts (c .number-of .result)) })
 
--- src/lib.rt:68:47
 add-t20 : tie.Need-add-t20
 add-t20 c = let h = long (c .before .before) (c .before .if1 .taken) in search needs
 
--- src/lib.rt:59:1
 returns : tie.Need-returns
 returns c = let r : SFits w32 (c .number-of .result) = sfits-of (c .number-of .ok) in
     let s = c .before .before in
     let p = c .before .before .before .before .before .before .before in
     rw (toZ-ofZ r) (count-read _ _ _ _ _ _ (p .line-words .ensures) (p .before .position .ensures) (p .before .before .before .before .pre .0) (p .before .before .before .before .pre .1) (asked s) (c .before .if1 .taken) _ (ap natAbs (c .number-of .ensures)))
 
--- src/lib.rt:59:1
 returns-2 : tie.Need-returns-2
 returns-2 c = let s = c .before in
     let p = c .before .before .before .before .before .before in
@@ -112,14 +64,14 @@ pub count-line-spec : {M : Type 1} → statement M
 count-line-spec =
     tie.close
     (tie.spec
-    position-requires
-    line-words-requires
-    array-copy-out-x
-    asks-number-requires
-    array-copy-out-asks-end
-    asks-end-requires
-    sooner-requires
-    number-of-requires
+    (λ c κs. search needs)
+    (λ c κs. search needs)
+    (λ c. search needs)
+    (λ c κs. search needs)
+    (λ c. search needs)
+    (λ c κs. search needs)
+    (λ c κs. search needs)
+    (λ c κs. search needs)
     cast-t19
     add-t20
     returns

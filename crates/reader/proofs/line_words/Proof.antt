@@ -1,8 +1,4 @@
-use mathlib.Core.Path.{_≡_, refl, sym, ap, _∙_, subst}
-use mathlib.Core.List.{List, [], _∷_, _++_}
-use Prim.Native.Nat.{ℕ, zero, suc, _+_, _*_, _-_, _≤_, _<_, min, max}
-use native.Mathlib.Numerals.{add-one}
-use lib.ListN.{length, getD, take, drop, set}
+use mathlib.Core.Path.{refl, sym}
 use denote.Ref.{now}
 use Rattle.reader.proofs.Lines.{holds-missing, holds-line}
 use Rattle.text.proofs.Laws.{before-within}
@@ -11,25 +7,15 @@ use native.Mathlib.Omega.{arith}
 use borrow.Author.Needs.{needs}
 use Rattle.reader.proofs.line_words.Statement.{statement}
 use Rattle.reader.proofs.line_words.Tie as tie
-use Rattle.reader.proofs.line_words.Reads as reads
-use Rattle.reader.proofs.line_words.Lts as lts
-use Rattle.reader.proofs.keyed.Reads as keyed-reads
 
--- src/lib.rt:47:9
 returns : tie.Need-returns
 returns c = holds-missing _ _ _ (c .before .before .before .pre) (c .if1 .taken)
 
--- src/lib.rt:49:11
 slice-aggregate-keyed : tie.Need-slice-aggregate-keyed
 slice-aggregate-keyed c = let h = before-within 10 (now (c .before .before .before .before .args .rest)) in sym (length-take-le _ _ (omega (arith, h, c .before .before .before .before .pre)))
 
--- src/lib.rt:49:5
-keyed-requires : tie.Need-keyed-requires
-keyed-requires c κs = search needs
-
--- src/lib.rt:42:1
 returns-2 : tie.Need-returns-2
 returns-2 c = holds-line _ _ _ _ _ (c .before .before .before .before .before .pre) (c .before .before .if1 .left) refl (c .keyed .ensures)
 
 pub line-words-spec : {M : Type 1} → statement M
-line-words-spec = tie.close (tie.spec returns slice-aggregate-keyed keyed-requires returns-2)
+line-words-spec = tie.close (tie.spec returns slice-aggregate-keyed (λ c κs. search needs) returns-2)

@@ -1,23 +1,17 @@
-use mathlib.Core.Path.{_≡_, refl, sym, ap, _∙_, subst}
-use mathlib.Core.List.{List, [], _∷_, _++_}
-use Prim.Native.Nat.{ℕ, zero, suc, _+_, _*_, _-_, _≤_, _<_, min, max}
-use native.Mathlib.Numerals.{add-one}
-use lib.ListN.{length, getD, take, drop, set, length-drop}
+use mathlib.Core.Path.{_∙_, subst}
+use Prim.Native.Nat.{_-_}
+use lib.ListN.{drop, length-drop}
 use denote.Ref.{now}
 use Rattle.reader.proofs.Fill.{RangesUpto, ranges-none, ranges-more, ranges-wrong, ranges-all}
 use Rattle.text.proofs.Laws.{part-rest}
 use Rattle.reader.specs.Read.{rangesOf, RangeRead}
-use borrow.Author.Tests.{eq-eqb, ne-eqb}
+use borrow.Author.Tests.{ne-eqb}
 use mir.Facts.{toZ-ofZ}
 use mir.Syntax.{w32}
 use mir.Val.{SFits}
 use borrow.Author.Needs.{needs}
-use native.Mathlib.Omega.{arith}
 use Rattle.reader.proofs.read_ranges.Statement.{statement}
 use Rattle.reader.proofs.read_ranges.Tie as tie
-use Rattle.reader.proofs.read_ranges.Reads as reads
-use Rattle.reader.proofs.read_ranges.Lts as lts
-use Rattle.reader.proofs.range_line.Reads as range-line-reads
 
 abbrev Inv-loop : tie.InvT-loop
 Inv-loop file at n low₀ high₀ next₀ i₀ low high next i = RangesUpto file at n low high next i
@@ -29,79 +23,37 @@ abbrev μ-loop : tie.MeasureT-loop
 line-read : (c : tie.After-range-line Inv-loop μ-loop) → RangeRead (drop (c .before .before .before .loop .next) (now (c .before .before .before .before .before .args .file))) (c .range-line .result)
 line-read c = rw (part-rest (now (c .before .before .before .before .before .args .file)) (c .before .before .before .loop .next)) at (c .range-line .ensures)
 
--- src/lib.rt:130:5
 loop-holds : tie.Need-loop-holds Inv-loop μ-loop
 loop-holds c = ranges-none _ _ _ (c .before .pre .0)
 
--- src/lib.rt:131:28
 sub-range-line : tie.Need-sub-range-line Inv-loop μ-loop
 sub-range-line c = let h = c .before .loop .inv .within in search needs
 
--- src/lib.rt:131:28
 part-range-line-start : tie.Need-part-range-line-start Inv-loop μ-loop
 part-range-line-start c = let h = c .before .loop .inv .within in search needs
 
--- src/lib.rt:131:28
-part-range-line-end : tie.Need-part-range-line-end Inv-loop μ-loop
-part-range-line-end c = search needs
-
--- src/lib.rt:131:13
-range-line-requires : tie.Need-range-line-requires Inv-loop μ-loop
-range-line-requires c κs = search needs
-
--- src/lib.rt:133:27
-enum-known-r : tie.Need-enum-known-r Inv-loop μ-loop
-enum-known-r c = search needs
-
--- src/lib.rt:134:17
-mul-low : tie.Need-mul-low Inv-loop μ-loop
-mul-low c = search needs
-
--- src/lib.rt:134:17
 array-set-from-low : tie.Need-array-set-from-low Inv-loop μ-loop
 array-set-from-low c = let h = c .before .before .before .before .before .before .loop .inv .low-size in let k = c .before .before .before .before .before .before .before .before .pre .1 in search needs
 
--- src/lib.rt:135:17
-mul-high : tie.Need-mul-high Inv-loop μ-loop
-mul-high c = search needs
-
--- src/lib.rt:135:17
 array-set-from-high : tie.Need-array-set-from-high Inv-loop μ-loop
 array-set-from-high c = let h = c .before .before .before .before .before .before .loop .inv .high-size in let k = c .before .before .before .before .before .before .before .before .pre .1 in search needs
 
--- src/lib.rt:136:24
 add-next : tie.Need-add-next Inv-loop μ-loop
 add-next c = let f = subst (RangeRead _) (c .before .r .given .1) (line-read (c .before .before .before)) .within in let l = length-drop (c .before .before .before .before .before .before .loop .next) (now (c .before .before .before .before .before .before .before .before .args .file)) in let w = c .before .before .before .before .before .before .loop .inv .within in search needs
 
--- src/lib.rt:137:17
-add-i : tie.Need-add-i Inv-loop μ-loop
-add-i c = search needs
-
--- src/lib.rt:130:5
-loop-less : tie.Need-loop-less Inv-loop μ-loop
-loop-less c = search needs
-
--- src/lib.rt:130:5
 loop-again : tie.Need-loop-again Inv-loop μ-loop
 loop-again c = let f : SFits w32 (c .before .r .given .0 .0) = search needs in
     let g : SFits w32 (c .before .r .given .0 .1 .0) = search needs in
     simp (toZ-ofZ f, toZ-ofZ g) (ranges-more _ _ _ _ _ _ _ (c .before .before .before .before .before .before .loop .inv) (c .before .before .before .before .before .before .before .before .pre .1) (c .before .before .before .before .before .loop-test .taken) _ _ _ (subst (RangeRead _) (c .before .r .given .1) (line-read (c .before .before .before))))
 
--- src/lib.rt:139:27
-enum-known-r-2 : tie.Need-enum-known-r-2 Inv-loop μ-loop
-enum-known-r-2 c = search needs
-
--- src/lib.rt:142:28
 add-t23 : tie.Need-add-t23 Inv-loop μ-loop
 add-t23 c = let k = c .before .before .before .before .before .before .before .before .pre .1 in search needs
 
--- src/lib.rt:140:17
 returns : tie.Need-returns Inv-loop μ-loop
 unfolding rangesOf
 returns c = let h = subst (RangeRead _) (c .before .r2 .given .1) (line-read (c .before .before .before)) in
     record { all = ranges-wrong _ _ _ _ _ _ _ (c .before .before .before .before .before .before .loop .inv) (c .before .before .before .before .before .before .before .before .pre .1) (c .before .before .before .before .before .loop-test .taken) _ h ∙ rw (ne-eqb _ _ (h .within)); within = c .before .before .before .before .before .before .loop .inv .within }
 
--- src/lib.rt:122:1
 returns-2 : tie.Need-returns-2 Inv-loop μ-loop
 unfolding rangesOf
 returns-2 c = record { all = ranges-all _ _ _ _ _ _ _ (c .before .loop .inv) (c .loop-test .left); within = c .before .loop .inv .within }
@@ -115,18 +67,18 @@ read-ranges-spec =
     loop-holds
     sub-range-line
     part-range-line-start
-    part-range-line-end
-    range-line-requires
-    enum-known-r
-    mul-low
+    (λ c. search needs)
+    (λ c κs. search needs)
+    (λ c. search needs)
+    (λ c. search needs)
     array-set-from-low
-    mul-high
+    (λ c. search needs)
     array-set-from-high
     add-next
-    add-i
-    loop-less
+    (λ c. search needs)
+    (λ c. search needs)
     loop-again
-    enum-known-r-2
+    (λ c. search needs)
     add-t23
     returns
     returns-2)

@@ -1,36 +1,20 @@
-use mathlib.Core.Path.{_≡_, refl, sym, ap, _∙_, subst}
-use mathlib.Core.List.{List, [], _∷_, _++_}
-use Prim.Native.Nat.{ℕ, zero, suc, _+_, _*_, _-_, _≤_, _<_, min, max}
-use native.Mathlib.Numerals.{add-one}
-use lib.ListN.{length, getD, take, drop, set}
-use denote.Ref.{now}
-use mir.Syntax.{w32}
-use mir.Val.{SFits}
-use borrow.Author.Tests.{le-leb, lt-leb, le-ltb, lt-ltb, eq-eqb, ne-eqb}
-use Rattle.ints.proofs.Parts.{ints}
+use mathlib.Core.Path.{_≡_}
 use mir.Facts.{toZ-ofZ}
-use borrow.Author.Needs.{sfits-of, needs}
 use lib.Signed.{leZ}
 use mathlib.Core.Bool.{true, false}
-use native.Mathlib.Omega.{arith}
 use Rattle.rows.proofs.inside.Statement.{statement}
 use Rattle.rows.proofs.inside.Tie as tie
-use Rattle.rows.proofs.inside.Reads as reads
-use Rattle.rows.proofs.inside.Lts as lts
 
--- src/lib.rt:49:13
 returns : tie.Need-returns
 returns c = let e : leZ (c .before .before .args .lo) (c .before .before .args .z) ≡ true = simp (toZ-ofZ (c .before .before .fits .lo), toZ-ofZ (c .before .before .fits .z)) at (c .before .if1 .taken) in
     let f : leZ (c .before .before .args .z) (c .before .before .args .hi) ≡ true = simp (toZ-ofZ (c .before .before .fits .z), toZ-ofZ (c .before .before .fits .hi)) at (c .if2 .taken) in
     rw (e, f)
 
--- src/lib.rt:51:9
 returns-2 : tie.Need-returns-2
 returns-2 c = let e : leZ (c .before .before .args .lo) (c .before .before .args .z) ≡ true = simp (toZ-ofZ (c .before .before .fits .lo), toZ-ofZ (c .before .before .fits .z)) at (c .before .if1 .taken) in
     let f : leZ (c .before .before .args .z) (c .before .before .args .hi) ≡ false = simp (toZ-ofZ (c .before .before .fits .z), toZ-ofZ (c .before .before .fits .hi)) at (c .if2 .left) in
     rw (e, f)
 
--- src/lib.rt:44:1
 returns-3 : tie.Need-returns-3
 returns-3 c = let e : leZ (c .before .args .lo) (c .before .args .z) ≡ false = simp (toZ-ofZ (c .before .fits .lo), toZ-ofZ (c .before .fits .z)) at (c .if1 .left) in
     rw e

@@ -1,83 +1,27 @@
-use mathlib.Core.Path.{_≡_, refl, sym, ap, _∙_, subst}
-use mathlib.Core.List.{List, [], _∷_, _++_}
-use Prim.Native.Nat.{ℕ, zero, suc, _+_, _*_, _-_, _≤_, _<_, min, max}
-use native.Mathlib.Numerals.{add-one}
-use lib.ListN.{length, getD, take, drop, set}
-use denote.Ref.{now}
-use native.Mathlib.Omega.{arith}
 use borrow.Author.Needs.{needs}
 use Rattle.rows.proofs.step_of.Statement.{statement}
 use Rattle.rows.proofs.step_of.Tie as tie
-use Rattle.rows.proofs.step_of.Reads as reads
-use Rattle.rows.proofs.step_of.Lts as lts
-use Rattle.rows.proofs.change_of.Reads as change-of-reads
 
--- src/lib.rt:272:26
-enum-told : tie.Need-enum-told
-enum-told c = search needs
-
--- src/lib.rt:273:28
-enum-told-2 : tie.Need-enum-told-2
-enum-told-2 c = search needs
-
--- src/lib.rt:274:30
-enum-told-3 : tie.Need-enum-told-3
-enum-told-3 c = search needs
-
--- src/lib.rt:275:30
-enum-told-4 : tie.Need-enum-told-4
-enum-told-4 c = search needs
-
--- src/lib.rt:276:23
-enum-known-x : tie.Need-enum-known-x
-enum-known-x c = search needs
-
--- src/lib.rt:276:29
 change-of-requires : tie.Need-change-of-requires
 change-of-requires c κs = rw (c .before .x .given .1) at (c .before .before .before .pre)
 
--- src/lib.rt:277:24
-enum-told-5 : tie.Need-enum-told-5
-enum-told-5 c = search needs
-
--- src/lib.rt:267:1
-returns : tie.Need-returns
-returns c = search needs
-
--- src/lib.rt:267:1
-returns-2 : tie.Need-returns-2
-returns-2 c = search needs
-
--- src/lib.rt:267:1
-returns-3 : tie.Need-returns-3
-returns-3 c = search needs
-
--- src/lib.rt:267:1
-returns-4 : tie.Need-returns-4
-returns-4 c = search needs
-
--- src/lib.rt:267:1
 returns-5 : tie.Need-returns-5
 returns-5 c = rw (c .before .before .x .given .1) (c .change-of .ensures)
-
--- src/lib.rt:267:1
-returns-6 : tie.Need-returns-6
-returns-6 c = search needs
 
 pub step-of-spec : {M : Type 1} → statement M
 step-of-spec =
     tie.close
     (tie.spec
-    enum-told
-    enum-told-2
-    enum-told-3
-    enum-told-4
-    enum-known-x
+    (λ c. search needs)
+    (λ c. search needs)
+    (λ c. search needs)
+    (λ c. search needs)
+    (λ c. search needs)
     change-of-requires
-    enum-told-5
-    returns
-    returns-2
-    returns-3
-    returns-4
+    (λ c. search needs)
+    (λ c. search needs)
+    (λ c. search needs)
+    (λ c. search needs)
+    (λ c. search needs)
     returns-5
-    returns-6)
+    (λ c. search needs))

@@ -1,17 +1,11 @@
 use borrow.Author.Tests.{le-leb, lt-leb}
 use Rattle.rules.specs.Text.{isDigit}
-use borrow.Author.Needs.{needs}
-use native.Mathlib.Omega.{arith}
 use Rattle.text.proofs.is_digit.Statement.{statement}
 use Rattle.text.proofs.is_digit.Tie as tie
-use Rattle.text.proofs.is_digit.Reads as reads
-use Rattle.text.proofs.is_digit.Lts as lts
 
--- src/lib.rt:58:9
 returns : tie.Need-returns
 returns c = unfold isDigit in simp (lt-leb _ _ (c .if1 .taken))
 
--- src/lib.rt:54:1
 returns-2 : tie.Need-returns-2
 returns-2 c = unfold isDigit in simp (le-leb _ _ (c .if1 .left))
 

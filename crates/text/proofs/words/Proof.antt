@@ -1,10 +1,7 @@
-use mathlib.Core.Path.{_≡_, refl, sym, ap, _∙_, subst}
-use mathlib.Core.List.{List, [], _∷_, _++_}
-use Prim.Native.Nat.{ℕ, zero, suc, _+_, _*_, _-_, _≤_, _<_, min, max}
-use native.Mathlib.Numerals.{add-one}
-use lib.ListN.{length, getD, take, drop, set, length-drop}
+use mathlib.Core.Path.{_≡_, refl, ap, _∙_}
+use Prim.Native.Nat.{_+_, _-_, _≤_}
+use lib.ListN.{length, take, drop, length-drop}
 use denote.Ref.{now}
-use Rattle.rules.specs.declared.Word.{Word}
 use Rattle.text.proofs.Laws.{Filled, filled-none, filled-more, filled-last, filled-all, before-within, part-rest}
 use Rattle.text.specs.Words.{before, cut}
 use Rattle.rules.specs.Text.{wordOf}
@@ -12,10 +9,6 @@ use borrow.Author.Needs.{needs}
 use native.Mathlib.Omega.{arith}
 use Rattle.text.proofs.words.Statement.{statement}
 use Rattle.text.proofs.words.Tie as tie
-use Rattle.text.proofs.words.Reads as reads
-use Rattle.text.proofs.words.Lts as lts
-use Rattle.text.proofs.position.Reads as position-reads
-use Rattle.text.proofs.word_of.Reads as word-of-reads
 
 abbrev Inv-loop : tie.InvT-loop
 Inv-loop s w₀ at₀ i₀ w at i = Filled s w at i
@@ -44,63 +37,30 @@ word c =
     let n : p .before .before .before .loop .at + p .position .result - p .before .before .before .loop .at ≡ p .position .result = omega arith in
     c .word-of .ensures ∙ rw n refl
 
--- src/lib.rt:244:5
 loop-holds : tie.Need-loop-holds Inv-loop μ-loop
 loop-holds c = filled-none _
 
--- src/lib.rt:245:26
 sub-position : tie.Need-sub-position Inv-loop μ-loop
 sub-position c = omega (arith, c .before .loop .inv .within)
 
--- src/lib.rt:245:26
 part-position-start : tie.Need-part-position-start Inv-loop μ-loop
 part-position-start c = omega (arith, c .before .loop .inv .within)
 
--- src/lib.rt:245:26
-part-position-end : tie.Need-part-position-end Inv-loop μ-loop
-part-position-end c = search needs
-
--- src/lib.rt:245:13
-position-requires : tie.Need-position-requires Inv-loop μ-loop
-position-requires c κs = search needs
-
--- src/lib.rt:246:32
 add-word-of : tie.Need-add-word-of Inv-loop μ-loop
 add-word-of c = let h = within c in search needs
 
--- src/lib.rt:246:25
 sub-word-of : tie.Need-sub-word-of Inv-loop μ-loop
 sub-word-of c = let h = within c in search needs
 
--- src/lib.rt:246:25
-part-word-of-start : tie.Need-part-word-of-start Inv-loop μ-loop
-part-word-of-start c = search needs
-
--- src/lib.rt:246:25
 part-word-of-end : tie.Need-part-word-of-end Inv-loop μ-loop
 part-word-of-end c = let h = within c in search needs
 
--- src/lib.rt:246:13
-word-of-requires : tie.Need-word-of-requires Inv-loop μ-loop
-word-of-requires c κs = search needs
-
--- src/lib.rt:247:9
-mul-w : tie.Need-mul-w Inv-loop μ-loop
-mul-w c = search needs
-
--- src/lib.rt:247:9
 array-set-from-w : tie.Need-array-set-from-w Inv-loop μ-loop
 array-set-from-w c = let s = c .before .before .before .before .before .loop .inv .size in search needs
 
--- src/lib.rt:248:9
-add-i : tie.Need-add-i Inv-loop μ-loop
-add-i c = search needs
-
--- src/lib.rt:249:12
 add-if1 : tie.Need-add-if1 Inv-loop μ-loop
 add-if1 c = let h = within (c .before .before) in search needs
 
--- src/lib.rt:250:13
 returns : tie.Need-returns Inv-loop μ-loop
 returns c = let w = c .before in
     let p = w .before .before in
@@ -108,19 +68,15 @@ returns c = let w = c .before in
     let s = now (l .before .before .before .args .s) in
     filled-last _ _ _ _ _ _ (l .before .loop .inv) (l .loop-test .taken) (ends p) (word w) (omega (arith, ends p, c .if1 .taken, length-drop (l .before .loop .at) s))
 
--- src/lib.rt:252:14
 add-at : tie.Need-add-at Inv-loop μ-loop
 add-at c = let h = within (c .before .before .before) in search needs
 
--- src/lib.rt:252:14
 add-at-2 : tie.Need-add-at-2 Inv-loop μ-loop
 add-at-2 c = let h = within (c .before .before .before) in search needs
 
--- src/lib.rt:244:5
 loop-less : tie.Need-loop-less Inv-loop μ-loop
 loop-less c = let h = c .before .before .before .before .before .loop-test .taken in search needs
 
--- src/lib.rt:244:5
 loop-again : tie.Need-loop-again Inv-loop μ-loop
 loop-again c = let w = c .before in
     let p = w .before .before in
@@ -128,7 +84,6 @@ loop-again c = let w = c .before in
     let s = now (l .before .before .before .args .s) in
     filled-more _ _ _ _ _ _ (l .before .loop .inv) (l .loop-test .taken) (ends p) (word w) (omega (arith, ends p, c .if1 .left, within p, length-drop (l .before .loop .at) s))
 
--- src/lib.rt:238:1
 returns-2 : tie.Need-returns-2 Inv-loop μ-loop
 returns-2 c = filled-all _ _ _ _ (c .before .loop .inv) (c .loop-test .left)
 
@@ -141,16 +96,16 @@ words-spec =
     loop-holds
     sub-position
     part-position-start
-    part-position-end
-    position-requires
+    (λ c. search needs)
+    (λ c κs. search needs)
     add-word-of
     sub-word-of
-    part-word-of-start
+    (λ c. search needs)
     part-word-of-end
-    word-of-requires
-    mul-w
+    (λ c κs. search needs)
+    (λ c. search needs)
     array-set-from-w
-    add-i
+    (λ c. search needs)
     add-if1
     returns
     add-at
