@@ -8,7 +8,7 @@ use lib.Dec.{T, leb, ltb, ltb→lt}
 use lib.IntN.{ℤ, pos, natAbs}
 use lib.Signed.{leZ, leZ-yes, _≤ℤ_}
 use lib.ListN.{length, length-append}
-use Rattle.ints.proofs.Parts.{ints, abs-up, abs-parts}
+use Rattle.ints.proofs.Parts.{ints, abs-up}
 use Rattle.ints.proofs.Diffs.{both}
 use Rattle.rules.specs.declared.Kind.{Kind}
 use Rattle.rules.specs.declared.Name.{Name}
@@ -44,7 +44,6 @@ yes-of false q e = no-zero q e
 
 -- what a word that passes its question says
 pub number-yes : (lo hi : ℤ) (w : Word) → File.asksNumber lo hi w ≡ 0 → (lo ≤ℤ File.numberOf w) × (File.numberOf w ≤ℤ hi)
-unfolding File.asksNumber File.numberOf
 number-yes lo hi Missing e = no-zero _ e
 number-yes lo hi (Number z) e = let (a, b) = both (leZ lo z) (leZ z hi) (yes-of (leZ lo z && leZ z hi) 3 e) in (leZ-yes a, leZ-yes b)
 number-yes lo hi (Variable v) e = no-zero _ e
@@ -53,7 +52,6 @@ number-yes lo hi (Keyword n) e = no-zero _ e
 number-yes lo hi Other e = no-zero _ e
 
 pub variable-yes : (vars : ℕ) (w : Word) → File.asksVariable vars w ≡ 0 → File.variableOf w < vars
-unfolding File.asksVariable File.variableOf
 variable-yes vars Missing e = no-zero _ e
 variable-yes vars (Number z) e = no-zero _ e
 variable-yes vars (Variable v) e = ltb→lt v vars (yes-of (ltb v vars) 4 e)
@@ -62,7 +60,6 @@ variable-yes vars (Keyword n) e = no-zero _ e
 variable-yes vars Other e = no-zero _ e
 
 pub operand-yes : (vars : ℕ) (w : Word) → File.asksOperand vars w ≡ 0 → OperandLimits (File.operandOf w) × OperandBelow vars (File.operandOf w)
-unfolding File.asksOperand File.operandOf
 operand-yes vars Missing e = no-zero _ e
 operand-yes vars (Number z) e =
     let (a, b) = both (leZ lowest z) (leZ z highest) (yes-of (leZ lowest z && leZ z highest) 3 e) in ((leZ-yes a, leZ-yes b), tt)
@@ -76,7 +73,6 @@ pub amount-yes : (k : ℕ) (hi : ℤ) (w : Word) → File.asksNumber (pos k) hi 
 amount-yes k hi w e = let (a, b) = number-yes (pos k) hi w e in let f = abs-up a in (omega arith, omega ints)
 
 pub change-yes : (n : Name) (w : Word) → File.asksChange n w ≡ 0 → ChangeLimits (File.changeOf n w)
-unfolding File.asksChange File.changeOf
 change-yes Name.Set w e = no-zero _ e
 change-yes Name.Add w e = amount-yes 0 highest w e .1
 change-yes Name.Sub w e = amount-yes 0 highest w e .1
@@ -91,7 +87,6 @@ change-yes Name.Do w e = no-zero _ e
 change-yes Name.For w e = no-zero _ e
 
 pub step-yes : (x w : Word) → File.asksStep x w ≡ 0 → ChangeLimits (File.stepOf x w)
-unfolding File.asksStep File.stepOf
 step-yes Missing w e = no-zero _ e
 step-yes (Number z) w e = no-zero _ e
 step-yes (Variable v) w e = no-zero _ e
@@ -134,7 +129,7 @@ module _ (vars : ℕ) (w : ℕ → Word) where
   bare-fine r k f e = checked-yes (Fine vars) _ r k e (λ _. f)
 
   named-fine : (n : Name) (k : Kind) → File.namedRow vars w n ≡ Read k → Fine vars k
-  unfolding File.namedRow File.setRow File.cueRow File.whileRow File.doRow File.forRow File.asksFor
+  unfolding File.setRow File.cueRow File.whileRow File.doRow File.forRow File.asksFor
   named-fine Name.Set k e = checked-yes (Fine vars) _ _ k e λ h.
       let (a, b) = sooner-yes _ _ h in
       let (c, _) = sooner-yes _ _ b in
@@ -161,7 +156,6 @@ module _ (vars : ℕ) (w : ℕ → Word) where
       ((sl, xl, step-yes (w 5) (w 6) j), (variable-yes vars (w 1) a, sb, xb))
 
   first-fine : (x : Word) (k : Kind) → File.firstWord vars w x ≡ Read k → Fine vars k
-  unfolding File.firstWord
   first-fine Missing k e = wrong-not 3 k e
   first-fine (Number z) k e = wrong-not 3 k e
   first-fine (Variable v) k e = wrong-not 3 k e

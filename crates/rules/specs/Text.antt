@@ -4,7 +4,7 @@ use mathlib.Core.List.{List, [], _∷_}
 use Prim.Native.Nat.{ℕ, _+_, _*_, _-_}
 use lib.Dec.{leb, eqb}
 use lib.IntN.{pos, negℤ}
-use lib.ListN.{length, getD, drop}
+use lib.ListN.{length, drop}
 use Rattle.rules.specs.declared.Comparison.the-variants.{Less, AtMost, Greater, AtLeast, Equal, Different}
 use Rattle.rules.specs.declared.Name.{Name}
 use Rattle.rules.specs.declared.Word.{Word}
