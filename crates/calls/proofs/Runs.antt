@@ -12,7 +12,7 @@ use Rattle.rules.specs.Scripts.{Script, ends, Legal}
 use Rattle.rules.specs.Answers.{Answer}
 use Rattle.rules.specs.Calls.{RunReply, ran, refuses, storeVerdict, loopRows, countsAt, runScript, ranScript, stored, runReply, storeAfter}
 use Rattle.rules.proofs.FromBytes.{store-in}
-use Rattle.rules.proofs.Capped.{capped}
+use Rattle.rules.proofs.Capped.{run-capped}
 use Rattle.turns.specs.Needs.{answer}
 use Rattle.runner.specs.Runs.{Runnable}
 use Rattle.runner.proofs.Start.{runnable}
@@ -59,7 +59,7 @@ module _ (script : Script) (count : ℕ) (s : Figures) (found : Found script cou
       same-run : runScript ones script store picks allowance ≡ runScript ones script store picks (min allowance (s .ticks))
       unfolding runScript
       same-run =
-          capped ones (omega arith) script (is-accepted script count s found z legal) store (store-in script store passes) picks allowance
+          run-capped ones (omega arith) script (is-accepted script count s found z legal) store (store-in script store passes) picks allowance
           ∙ ap (λ t. runScript ones script store picks (min allowance t)) (sym (found .figures .ticks z))
 
       pub replied-run : runReply ones (judgedScript script) store picks allowance ≡ ranScript ones script store picks (min allowance (s .ticks))

@@ -4,17 +4,13 @@ use mathlib.Core.List.{List}
 use Prim.Native.Nat.{ℕ, _≤_}
 use lib.IntN.{ℤ}
 use lib.ListN.{length, take}
-use Rattle.rules.specs.declared.Row.{Row}
-use Rattle.rules.specs.Blocks.{kindsOf}
 use Rattle.rules.specs.Figures.{ones}
 use Rattle.rules.specs.Questions.{verdict}
 use Rattle.rules.specs.Scripts.{Script, pairRanges, ends, envOf, treeOf, Legal}
+pub use Rattle.rules.specs.Scripts.{held}
 use Rattle.rules.specs.Calls.{Judged, judgedBy}
 use Rattle.survey.specs.declared.Figures.{Figures}
 use Rattle.survey.specs.Whole.{BlankFrom, SurveyOf}
-
-abbrev pub held : List Row → ℕ → ℕ → List ℤ → List ℤ → Script
-held rows count vars low high = record { ranges = ends vars low high; rows = take count (kindsOf rows) }
 
 -- it has passed the questions 4 to 7
 pub record Given (script : Script) (count vars : ℕ) : Type 0 where

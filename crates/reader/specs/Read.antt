@@ -11,7 +11,7 @@ use Rattle.rules.specs.declared.Word.the-variants.{Missing}
 use Rattle.rules.specs.declared.Row.{Row}
 use Rattle.rules.specs.Blocks.{kindsOf}
 use Rattle.rules.specs.Ranges.{Range}
-use Rattle.rules.specs.Scripts.{Script, ends}
+use Rattle.rules.specs.Scripts.{Script, ends, held}
 use Rattle.rules.specs.Text.{split, nextWords, nextLines}
 use Rattle.rules.specs.File
 use Rattle.rules.specs.File.{Reading, read, refused, Rows, unless, countLine, asksRange, rangeKey, rangeLines, rowLines, noRows}
@@ -78,7 +78,7 @@ pub record RowsRead (file : List ℕ) (at vars n : ℕ) (r : Listed) : Type 0 wh
 
 -- the script of a loaded file: the first `vars` ranges and the first `count` rows
 unfoldable pub scriptOf : Loaded → Script
-scriptOf r = record { ranges = ends (r .vars) (r .low) (r .high); rows = take (r .count) (kindsOf (r .rows)) }
+scriptOf r = held (r .rows) (r .count) (r .vars) (r .low) (r .high)
 
 -- a loaded file, or its refusal
 unfoldable pub loadedOf : Loaded → Reading Script

@@ -14,11 +14,11 @@ use Rattle.rules.specs.Claim.{Demand3}
 use Rattle.rules.proofs.Demand.{demand3}
 use Rattle.rules.proofs.Resume.{run-grown}
 
-pub capped : (π : Prices) → 1 ≤ π .test → (script : Script) → Accepted π script → (store : List ℤ) → StoreIn script store → (picks : List ℕ) (allowance : ℕ)
+pub run-capped : (π : Prices) → 1 ≤ π .test → (script : Script) → Accepted π script → (store : List ℤ) → StoreIn script store → (picks : List ℕ) (allowance : ℕ)
     → runTree π (length (script .rows)) (treeOf (script .rows)) (storeOf store) picks allowance
     ≡ runTree π (length (script .rows)) (treeOf (script .rows)) (storeOf store) picks (min allowance (reportTicks π script))
 unfolding Demand3
-capped π one script ok store inside picks allowance =
+run-capped π one script ok store inside picks allowance =
     by (leb allowance (reportTicks π script)) (leb→le allowance (reportTicks π script)) (nleb→lt allowance (reportTicks π script))
   where
     with-ticks : ℕ → Answer

@@ -37,38 +37,40 @@ unfoldable pub judgedFile : Prices → Reading Script → Judged
 judgedFile π (read script ls) = judgedBy script (verdict π (length (script .rows)) (envOf (script .ranges)) (treeOf (script .rows)))
 judgedFile π (Reading.refused q p) = refuses q p
 
--- 1: a scratch of at least 8,192 numbers
+-- 1: "Is the lent scratch at least 8,192 32-bit numbers?"
 unfoldable pub judged : Prices → ℕ → List ℕ → Judged
 judged π scratch file = cond (leb 8_192 scratch) (judgedFile π (fileScript file)) (refuses 1 8_192)
 
--- 14: a buffer of at least the text's length
+-- 14: "is the buffer at least as long as the report?"
 unfoldable pub fitting : List ℕ → ℕ → Reply
 fitting text room = cond (leb (length text) room) (Accepted (length text)) (Refused 14 (length text))
 
--- the text at the front of the buffer, if it fits; bytes past it keep their values
+-- the text at the front of the buffer; "bytes past a report keep their values"
 unfoldable pub over : List ℕ → List ℕ → List ℕ
 over text old = text ++ drop (length text) old
 
+-- if it fits
 unfoldable pub written : List ℕ → List ℕ → List ℕ
 written text old = cond (leb (length text) (length old)) (over text old) old
 
--- the report call: its answer, and the buffer after it
+-- what the report call answers: "the report's length, which an accepted report call answers too", or number and place
 unfoldable pub replyOf : Prices → Judged → ℕ → Reply
 replyOf π (accepted script) room = fitting (scriptReport π script) room
 replyOf π (refuses q p) room = Refused q p
 
+-- the buffer after it
 unfoldable pub bufferOf : Prices → Judged → List ℕ → List ℕ
 bufferOf π (accepted script) old = written (scriptReport π script) old
 bufferOf π (refuses q p) old = old
 
--- 15: the first index that is wrong, missing or extra, from index i on
+-- 15: "has the store V numbers, each in its range? (15, first index wrong, missing or extra)"; from index i on
 unfoldable pub storeVerdict : ℕ → List Range → List ℤ → Verdict
 storeVerdict i [] [] = passed
 storeVerdict i [] (x ∷ xs) = refused 15 i
 storeVerdict i (r ∷ rs) [] = refused 15 i
 storeVerdict i (r ∷ rs) (x ∷ xs) = cond (leZ (r .lo) x && leZ x (r .hi)) (storeVerdict (suc i) rs xs) (refused 15 i)
 
--- the head rows of the loops, in row order, from row i on
+-- a loop's head row
 unfoldable pub isLoop : Kind → Bool
 isLoop End = false
 isLoop Else = false
@@ -80,11 +82,12 @@ isLoop (While v c x) = true
 isLoop (Do v c x) = true
 isLoop (For v s c x d) = true
 
+-- the head rows of the loops, in row order, from row i on
 unfoldable pub loopRows : ℕ → List Kind → List ℕ
 loopRows i [] = []
 loopRows i (k ∷ ks) = cond (isLoop k) (i ∷ loopRows (suc i) ks) (loopRows (suc i) ks)
 
--- their two counts: the sum and the greatest of the entries' turns
+-- "The two counts are, for each loop, the sum and the greatest of its entries' turns"
 unfoldable pub countsAt : List Entry → List ℕ → List LoopCount
 countsAt es [] = []
 countsAt es (p ∷ ps) = record { row = p; all = sumAt p es; most = mostAt p es } ∷ countsAt es ps
@@ -98,14 +101,17 @@ pub data RunReply : Type 0 where
   ran : Answer → List LoopCount → RunReply
   refuses : ℕ → ℕ → RunReply
 
+-- the run of a script with its counts
 unfoldable pub ranScript : Prices → Script → List ℤ → List ℕ → ℕ → RunReply
 ranScript π script store picks allowance =
     ran (runScript π script store picks allowance) (countsAt (runScript π script store picks allowance .entries) (loopRows 0 (script .rows)))
 
+-- the same after question 15
 unfoldable pub stored : Prices → Script → Verdict → List ℤ → List ℕ → ℕ → RunReply
 stored π script passed store picks allowance = ranScript π script store picks allowance
 stored π script (refused q p) store picks allowance = refuses q p
 
+-- what the run call answers
 unfoldable pub runReply : Prices → Judged → List ℤ → List ℕ → ℕ → RunReply
 runReply π (accepted script) store picks allowance = stored π script (storeVerdict 0 (script .ranges) store) store picks allowance
 runReply π (Judged.refuses q p) store picks allowance = refuses q p

@@ -75,7 +75,7 @@ asksComparison (Compares c) = 0
 asksComparison (Keyword n) = 3
 asksComparison Other = 3
 
--- what a word says, if it is such a word
+-- the number that a word says; of any other word a 0 that is not read
 abbrev pub numberOf : Word → ℤ
 numberOf Missing = pos 0
 numberOf (Number z) = z
@@ -84,6 +84,7 @@ numberOf (Compares c) = pos 0
 numberOf (Keyword n) = pos 0
 numberOf Other = pos 0
 
+-- likewise the variable
 abbrev pub variableOf : Word → ℕ
 variableOf Missing = 0
 variableOf (Number z) = 0
@@ -92,6 +93,7 @@ variableOf (Compares c) = 0
 variableOf (Keyword n) = 0
 variableOf Other = 0
 
+-- likewise the operand
 abbrev pub operandOf : Word → Operand
 operandOf Missing = Constant (pos 0)
 operandOf (Number z) = Constant z
@@ -100,6 +102,7 @@ operandOf (Compares c) = Constant (pos 0)
 operandOf (Keyword n) = Constant (pos 0)
 operandOf Other = Constant (pos 0)
 
+-- likewise the comparison
 abbrev pub comparisonOf : Word → Comparison
 comparisonOf Missing = Less
 comparisonOf (Number z) = Less
@@ -108,7 +111,7 @@ comparisonOf (Compares c) = c
 comparisonOf (Keyword n) = Less
 comparisonOf Other = Less
 
--- C is 0 to L in add and sub, 1 to L in mul and div
+-- "`add v0 C`, `sub v0 C` (C 0 to L); `mul v0 C`, `div v0 C` (C 1 to L)": the word C, by the row's name
 abbrev pub asksChange : Name → Word → ℕ
 asksChange Name.Set w = 3
 asksChange Name.Add w = asksNumber (pos 0) highest w
@@ -123,6 +126,7 @@ asksChange Name.While w = 3
 asksChange Name.Do w = 3
 asksChange Name.For w = 3
 
+-- the arithmetic row of that name and C
 abbrev pub changeOf : Name → Word → Change
 changeOf Name.Set w = Change.Add 0
 changeOf Name.Add w = Change.Add (natAbs (numberOf w))
@@ -137,7 +141,7 @@ changeOf Name.While w = Change.Add 0
 changeOf Name.Do w = Change.Add 0
 changeOf Name.For w = Change.Add 0
 
--- a for's step row: the word of an arithmetic row and its constant
+-- "the step row is any of the four arithmetic rows": its name and C
 abbrev pub asksStep : Word → Word → ℕ
 asksStep Missing w = 3
 asksStep (Number z) w = 3
@@ -146,6 +150,7 @@ asksStep (Compares c) w = 3
 asksStep (Keyword n) w = asksChange n w
 asksStep Other w = 3
 
+-- that row
 abbrev pub stepOf : Word → Word → Change
 stepOf Missing w = Change.Add 0
 stepOf (Number z) w = Change.Add 0
@@ -181,22 +186,25 @@ module _ (vars : ℕ) (w : ℕ → Word) where
   unfoldable pub asksTest : ℕ
   asksTest = sooner (asksVariable vars (w 1)) (sooner (asksComparison (w 2)) (sooner (asksOperand vars (w 3)) (asksEnd (w 4))))
 
+  -- `while v0 <= X`
   unfoldable pub whileRow : RowRead
   whileRow = checked asksTest (While (variableOf (w 1)) (comparisonOf (w 2)) (operandOf (w 3)))
 
+  -- `do v0 <= X`
   unfoldable pub doRow : RowRead
   doRow = checked asksTest (Do (variableOf (w 1)) (comparisonOf (w 2)) (operandOf (w 3)))
 
-  -- `for v0 X <= Y add C`
+  -- the words of `for v0 X <= Y add C`
   unfoldable pub asksFor : ℕ
   asksFor =
       sooner (asksVariable vars (w 1)) (sooner (asksOperand vars (w 2)) (sooner (asksComparison (w 3)) (sooner (asksOperand vars (w 4))
       (sooner (asksStep (w 5) (w 6)) (asksEnd (w 7))))))
 
+  -- "start X, limit Y"
   unfoldable pub forRow : RowRead
   forRow = checked asksFor (For (variableOf (w 1)) (operandOf (w 2)) (comparisonOf (w 3)) (operandOf (w 4)) (stepOf (w 5) (w 6)))
 
-  -- by the first word
+  -- "Every row is one of these kinds", by its name
   abbrev pub namedRow : Name → RowRead
   namedRow Name.Set = setRow
   namedRow Name.Add = moveRow Name.Add
@@ -211,6 +219,7 @@ module _ (vars : ℕ) (w : ℕ → Word) where
   namedRow Name.Do = doRow
   namedRow Name.For = forRow
 
+  -- the name is the first word
   abbrev pub firstWord : Word → RowRead
   firstWord Missing = Wrong 3
   firstWord (Number z) = Wrong 3
@@ -219,6 +228,7 @@ module _ (vars : ℕ) (w : ℕ → Word) where
   firstWord (Keyword n) = namedRow n
   firstWord Other = Wrong 3
 
+  -- the row of a line's words
   unfoldable pub rowOf : RowRead
   rowOf = firstWord (w 0)
 
@@ -237,23 +247,27 @@ unfoldable pub unless : {A : Type 0} → ℕ → ℕ → Reading A → Reading A
 unless zero p r = r
 unless (suc q) p r = refused (suc q) p
 
--- `script=`, `vars=`, `range=`, `rows=`, `row=`
+-- `script=`
 abbrev pub scriptKey : List ℕ
 scriptKey = 115 ∷ 99 ∷ 114 ∷ 105 ∷ 112 ∷ 116 ∷ 61 ∷ []
 
+-- `vars=`
 abbrev pub varsKey : List ℕ
 varsKey = 118 ∷ 97 ∷ 114 ∷ 115 ∷ 61 ∷ []
 
+-- `range=`
 abbrev pub rangeKey : List ℕ
 rangeKey = 114 ∷ 97 ∷ 110 ∷ 103 ∷ 101 ∷ 61 ∷ []
 
+-- `rows=`, of the script file and of the report
 abbrev pub rowsKey : List ℕ
 rowsKey = 114 ∷ 111 ∷ 119 ∷ 115 ∷ 61 ∷ []
 
+-- `row=`
 abbrev pub rowKey : List ℕ
 rowKey = 114 ∷ 111 ∷ 119 ∷ 61 ∷ []
 
--- `script=1`; another script number is of the wrong shape
+-- "another script number too": any number but 1 is of the wrong shape
 abbrev pub asksOne : Word → ℕ
 asksOne Missing = 3
 asksOne (Number z) = cond (leZ (pos 1) z && leZ z (pos 1)) 0 3
@@ -262,6 +276,7 @@ asksOne (Compares c) = 3
 asksOne (Keyword n) = 3
 asksOne Other = 3
 
+-- `script=1`
 unfoldable pub scriptLine : List (List ℕ) → Reading ℕ
 scriptLine ls = unless (sooner (asksOne (nextWords scriptKey ls 0)) (asksEnd (nextWords scriptKey ls 1))) 1 (read 1 (nextLines ls))
 
@@ -271,18 +286,20 @@ countLine key most p ls =
     unless (sooner (asksNumber (pos 0) (pos most) (nextWords key ls 0)) (asksEnd (nextWords key ls 1))) p
     (read (natAbs (numberOf (nextWords key ls 0))) (nextLines ls))
 
--- `range=LO HI`: −L to L, LO at most HI
+-- "LO at most HI"
 unfoldable pub asksOrder : Word → Word → ℕ
 asksOrder lo hi = cond (leZ (numberOf lo) (numberOf hi)) 0 4
 
+-- "`range=LO HI` (−L to L, LO at most HI)"
 unfoldable pub asksRange : (ℕ → Word) → ℕ
 asksRange w =
     sooner (asksNumber lowest highest (w 0)) (sooner (asksNumber lowest highest (w 1)) (sooner (asksEnd (w 2)) (asksOrder (w 0) (w 1))))
 
+-- the range of a line's words
 unfoldable pub rangeOf : (ℕ → Word) → Range
 rangeOf w = record { lo = numberOf (w 0); hi = numberOf (w 1) }
 
--- n lines from line p on, after those read
+-- "V lines `range=LO HI` (first for v0)": n lines from line p on, after those read
 unfoldable pub rangeLines : ℕ → ℕ → List (List ℕ) → List Range → Reading (List Range)
 rangeLines zero p ls done = read done ls
 rangeLines (suc n) p ls done =
@@ -303,23 +320,25 @@ unfoldable pub rowLine : ℕ → Rows → RowRead → (Rows → Reading Rows) �
 rowLine p done (Wrong q) next = refused q p
 rowLine p done (Read k) next = placed p (done .kinds) k (nestRow k (done .nest)) next
 
--- n rows from line p on, after those read
+-- "R lines `row=`": n lines from line p on, after those read
 unfoldable pub rowLines : ℕ → ℕ → ℕ → List (List ℕ) → Rows → Reading Rows
 rowLines vars zero p ls done = read done ls
 rowLines vars (suc n) p ls done =
     rowLine p done (rowOf vars (nextWords rowKey ls)) (λ rows. rowLines vars n (suc p) (nextLines ls) rows)
 
--- the line after the last: no bytes stand there, and no block is open
+-- 3 of the line after the last: "extra bytes"
 unfoldable pub asksRest : List (List ℕ) → ℕ
 asksRest [] = 0
 asksRest ([] ∷ []) = 0
 asksRest ([] ∷ (m ∷ more)) = 3
 asksRest ((b ∷ s) ∷ ls) = 3
 
+-- 6 of it: "a block left open: the line after the last"
 unfoldable pub asksClosed : List Open → ℕ
 asksClosed [] = 0
 asksClosed (o ∷ os) = 6
 
+-- both; then the script
 unfoldable pub lastLine : ℕ → List Range → Rows → List (List ℕ) → Reading Script
 lastLine p ranges rows ls =
     unless (sooner (asksRest ls) (asksClosed (rows .nest .open-blocks))) p (read (record { ranges = ranges; rows = rows .kinds }) ls)
@@ -328,13 +347,14 @@ lastLine p ranges rows ls =
 abbrev pub noRows : Rows
 noRows = record { kinds = []; nest = record { open-blocks = []; loops = 0 } }
 
--- from the rows on, and from the ranges on; V variables
+-- from `rows=R` on; V variables
 unfoldable pub rowPart : ℕ → List Range → List (List ℕ) → Reading Script
 rowPart vars ranges ls =
     andThen (countLine rowsKey 256 (3 + vars) ls) λ n more.
     andThen (rowLines vars n (4 + vars) more noRows) λ rows rest.
     lastLine (4 + vars + n) ranges rows rest
 
+-- from the ranges on
 unfoldable pub rangePart : ℕ → List (List ℕ) → Reading Script
 rangePart vars ls = andThen (rangeLines vars 3 ls []) λ ranges more. rowPart vars ranges more
 
@@ -342,6 +362,6 @@ rangePart vars ls = andThen (rangeLines vars 3 ls []) λ ranges more. rowPart va
 unfoldable pub linesScript : List (List ℕ) → Reading Script
 linesScript ls = andThen (scriptLine ls) λ _ more. andThen (countLine varsKey 16 2 more) λ vars rest. rangePart vars rest
 
--- 2: a file of at most 16,384 bytes
+-- 2: "Is the file at most 16,384 bytes?"
 unfoldable pub fileScript : List ℕ → Reading Script
 fileScript file = cond (leb (length file) 16_384) (linesScript (split lf file)) (refused 2 16_384)

@@ -11,11 +11,13 @@ use Rattle.rules.specs.declared.LoopLine.{LoopLine}
 use Rattle.rules.specs.Figures.{Prices, Line}
 use Rattle.rules.specs.Scripts.{Script, reportTicks, reportLines}
 use Rattle.rules.specs.Text.{lf, space, minus}
+pub use Rattle.rules.specs.File.{rowsKey}
 
 -- a line as code holds it
 abbrev pub lineOf : LoopLine → Line
 lineOf l = record { row = l .row; step = l .step; turns = l .turns; total = l .total; exact = l .exact }
 
+-- lines as code holds them
 unfoldable pub linesOf : List LoopLine → List Line
 linesOf [] = []
 linesOf (l ∷ ls) = lineOf l ∷ linesOf ls
@@ -34,6 +36,7 @@ unfoldable pub sign : ℤ → List ℕ
 sign (pos n) = []
 sign (negsuc n) = minus ∷ []
 
+-- the number after it
 unfoldable pub size : ℤ → ℕ
 size (pos n) = n
 size (negsuc n) = suc n
@@ -50,13 +53,14 @@ stepName (Grow f g) = 103 ∷ 114 ∷ 111 ∷ 119 ∷ []
 stepName (Shrink f g) = 115 ∷ 104 ∷ 114 ∷ 105 ∷ 110 ∷ 107 ∷ []
 stepName Unknown = []
 
--- both ends
+-- the first of "both ends"
 unfoldable pub firstEnd : Step → ℤ
 firstEnd (Add a b) = a
 firstEnd (Grow f g) = pos f
 firstEnd (Shrink f g) = pos f
 firstEnd Unknown = pos 0
 
+-- the second
 unfoldable pub secondEnd : Step → ℤ
 secondEnd (Add a b) = b
 secondEnd (Grow f g) = pos g
@@ -68,26 +72,27 @@ unfoldable pub exactName : Bool → List ℕ
 exactName true = 101 ∷ 120 ∷ 97 ∷ 99 ∷ 116 ∷ []
 exactName false = 109 ∷ 111 ∷ 115 ∷ 116 ∷ []
 
--- `report=1`, `rows=`, `loops=`, `loop=`, `ticks=`
+-- `report=`
 abbrev pub reportKey : List ℕ
 reportKey = 114 ∷ 101 ∷ 112 ∷ 111 ∷ 114 ∷ 116 ∷ 61 ∷ []
 
-abbrev pub rowsKey : List ℕ
-rowsKey = 114 ∷ 111 ∷ 119 ∷ 115 ∷ 61 ∷ []
-
+-- `loops=`
 abbrev pub loopsKey : List ℕ
 loopsKey = 108 ∷ 111 ∷ 111 ∷ 112 ∷ 115 ∷ 61 ∷ []
 
+-- `loop=`
 abbrev pub loopKey : List ℕ
 loopKey = 108 ∷ 111 ∷ 111 ∷ 112 ∷ 61 ∷ []
 
+-- `ticks=`
 abbrev pub ticksKey : List ℕ
 ticksKey = 116 ∷ 105 ∷ 99 ∷ 107 ∷ 115 ∷ 61 ∷ []
 
--- the byte LF, and a space
+-- "Each line, ended by LF"
 abbrev pub newline : List ℕ
 newline = lf ∷ []
 
+-- a space
 abbrev pub gap : List ℕ
 gap = space ∷ []
 
@@ -103,6 +108,7 @@ loopLine l =
     joined (loopKey ∷ decimal (l .row) ∷ gap ∷ stepName (l .step) ∷ gap ∷ sign a ∷ decimal (size a) ∷ gap ∷ sign b ∷ decimal (size b) ∷ gap
     ∷ decimal (l .turns) ∷ gap ∷ decimal (l .total) ∷ gap ∷ exactName (l .exact) ∷ newline ∷ [])
 
+-- "for each loop in row order"
 unfoldable pub loopLines : List Line → List (List ℕ)
 loopLines [] = []
 loopLines (l ∷ ls) = loopLine l ∷ loopLines ls

@@ -10,16 +10,19 @@ use Rattle.rules.specs.declared.Name.{Name}
 use Rattle.rules.specs.declared.Word.{Word}
 use Rattle.rules.specs.declared.Word.the-variants.{Missing, Number, Variable, Compares, Keyword, Other}
 
--- the bytes LF, space, - and v
+-- the byte LF
 abbrev pub lf : ℕ
 lf = 10
 
+-- a space
 abbrev pub space : ℕ
 space = 32
 
+-- `-`
 abbrev pub minus : ℕ
 minus = 45
 
+-- `v`
 abbrev pub letter-v : ℕ
 letter-v = 118
 
@@ -46,10 +49,11 @@ equals [] (b ∷ s) = false
 equals (k ∷ w) [] = false
 equals (k ∷ w) (b ∷ s) = cond (eqb b k) (equals w s) false
 
--- "A number is decimal"
+-- a decimal digit
 unfoldable pub isDigit : ℕ → Bool
 isDigit b = leb 48 b && leb b 57
 
+-- "A number is decimal"
 unfoldable pub allDigits : List ℕ → Bool
 allDigits [] = true
 allDigits (b ∷ s) = cond (isDigit b) (allDigits s) false
