@@ -1,11 +1,13 @@
 // What the programs share: the words of a person at the desk, files by name, and what is printed.
+mod lines;
 mod print;
 mod script;
 mod words;
 
+pub use lines::Line;
+pub use lines::answer_input;
 pub use print::print_text;
 pub use script::rehearse_file;
-pub use script::report_file;
 pub use script::report_input;
 pub use words::Values;
 pub use words::keep_value;

@@ -1,5 +1,4 @@
 // Numbers and picks as words. A number is written as in a script: no plus, no leading zeros, `-` only before a non-zero number.
-ghost use mathlib.Core.Path.{_≡_};
 ghost use Prim.Native.Nat.{_≤_};
 ghost use Rattle.io.specs.Counts.{Counts};
 
@@ -139,7 +138,7 @@ fn is_plan(word: &[u8]) -> bool {
 }
 
 // An allowance: a number, or `plan`. A plan's run is made with the largest allowance: an accepted file's run answers the same with
-// every allowance from its report's ticks on (the law `capped` of the rules), and a refusal reads no allowance.
+// every allowance from its report's ticks on (the law `run-capped` of the rules), and a refusal reads no allowance.
 pub fn allowance(word: &[u8]) -> Number {
     if is_plan(word) {
         Number::Is(u64::MAX)

@@ -1,65 +1,6 @@
 // Reads runs from standard input, one a line, `NAME ALLOWANCE PICKS VALUE ..`, and prints for each its line and what `rehearse` prints.
-use bytes::scan::find;
-use desk::Values;
-ghost use Prim.Native.Nat.{_≤_};
-ghost use lib.ListN.{length};
-
-// The place of the next word: past the space at `end`, or the line's end.
-fn next(line: &[u8], end: usize) -> usize
-    requires { ⌜ end ≤ length (now line) ⌝ }
-    ensures { λ r. ⌜ (end ≤ r) × (r ≤ length (now (line .entry))) ⌝ }
-{
-    if end < line.len() { end + 1 } else { end }
-}
-
-// Keeps the values of a line's last words.
-fn read_values(words: &[u8], store: &mut [i32]) -> Values {
-    let mut at = 0;
-    let mut count = 0;
-    while at < words.len() {
-        let end = find(words, at, words.len(), b' ');
-        if !desk::keep_value(&words[at..end], store, count) {
-            return Values::Wrong(count);
-        }
-        count += 1;
-        at = end + 1;
-    }
-    Values::Count(count)
-}
-
-// Makes the run of a line from its name, allowance, picks and values.
-fn run_words(name: &[u8], allowance: &[u8], picks: &[u8], words: &[u8]) {
-    let mut store = [0i32; 17];
-    let values = read_values(words, &mut store);
-    desk::rehearse_file(name, allowance, picks, values, &mut store);
-}
-
-// Takes a line apart at its first three spaces.
-fn run_line(line: &[u8]) {
-    let all = line.len();
-    let a = find(line, 0, all, b' ');
-    let b = next(line, a);
-    let c = find(line, b, all, b' ');
-    let d = next(line, c);
-    let e = find(line, d, all, b' ');
-    let f = next(line, e);
-    run_words(&line[0..a], &line[b..c], &line[d..e], &line[f..]);
-}
-
-// Prints each line and makes its run.
-fn run_each(list: &[u8]) {
-    let mut at = 0;
-    while at < list.len() {
-        let end = find(list, at, list.len(), b'\n');
-        desk::print_text(&list[at..end]);
-        desk::print_text(b"\n");
-        run_line(&list[at..end]);
-        at = end + 1;
-    }
-}
+use desk::Line;
 
 fn main() {
-    let mut list = io::large_buffer();
-    let n = io::read_full(libc::STDIN_FILENO, &mut list);
-    run_each(&list[..n]);
+    desk::answer_input(Line::Run);
 }

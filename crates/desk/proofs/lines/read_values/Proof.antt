@@ -1,10 +1,10 @@
--- `run_files::read_values` is safe and ends: there are no more values than bytes, and the measure is what is left of the words. Assumes nothing.
+-- `lines::read_values` is safe and ends: there are no more values than bytes, and the measure is what is left of the words. Assumes nothing.
 use borrow.Author.Needs.{needs}
 use Prim.Native.Nat.{_+_, _-_, _≤_}
 use lib.ListN.{length}
 use mathlib.Core.Path.{_≡_}
-use Rattle.run_files.proofs.read_values.Statement.{statement}
-use Rattle.run_files.proofs.read_values.Tie as tie
+use Rattle.desk.proofs.lines.read_values.Statement.{statement}
+use Rattle.desk.proofs.lines.read_values.Tie as tie
 
 abbrev Inv-loop : tie.InvT-loop
 Inv-loop words store₀ at₀ count₀ store at count = (count ≤ at) × (length store ≡ length store₀)
