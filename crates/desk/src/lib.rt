@@ -1,4 +1,4 @@
-// What the programs share: the words of a person at the desk, files by name, and what is printed.
+// What the programs share: the words of a person at the desk, files by name, lists of lines, and what is printed.
 mod lines;
 mod print;
 mod script;
