@@ -8,7 +8,7 @@ use native.Mathlib.Omega.{arith}
 use borrow.Author.Tests.{le-leb, lt-leb}
 use lib.Dec.{leb, eqb}
 use lib.ListN.{length, getD, set, drop, length-set, drop-of-length-le}
-use lib.Seq.{drop-cons}
+use lib.Seq.{drop-cons, getD-set-same, set-set}
 use lib.IntN.{ℤ, pos}
 use lib.Signed.{leZ}
 use mir.Syntax.{w32}
@@ -95,16 +95,16 @@ module _ (m : Machine) (store : List ℤ) (picks : List ℕ) (c : Tally) (i j : 
       let d : drop (m .used) picks ≡ [] = drop-of-length-le picks h in
       record { same = rw (a-tick (m .left) e, d); left = omega arith; used = λ k. k }
 
-  -- m after the byte, on at row n
-  abbrev pub pickedAt : ℕ → Machine
-  pickedAt n = record { row = n; testing = false; left = m .left - 1; used = m .used + 1; status = Going }
+  -- m after the byte, on at row n, with so many bytes used
+  abbrev pub pickedAt : ℕ → ℕ → Machine
+  pickedAt n used = record { row = n; testing = false; left = m .left - 1; used = used; status = Going }
 
-  pub pick-one : (n : ℕ) → (m .left ≡ 0 → ⊥) → m .used < length picks → n ≡ cond (eqb (getD picks (m .used) 0) 0) j (suc i)
-      → Steps m (pickedAt n) store store picks c c (pickTo i j)
+  pub pick-one : (n used : ℕ) → (m .left ≡ 0 → ⊥) → m .used < length picks → used ≡ m .used + 1 → n ≡ cond (eqb (getD picks (m .used) 0) 0) j (suc i)
+      → Steps m (pickedAt n used) store store picks c c (pickTo i j)
   unfolding paid chosen picked
-  pick-one n e h q =
+  pick-one n used e h one q =
       let d : drop (m .used) picks ≡ getD picks (m .used) 0 ∷ drop (suc (m .used)) picks = drop-cons picks (m .used) 0 h in
-      record { same = rw (a-tick (m .left) e, d, q, add-one) (by (eqb (getD picks (m .used) 0) 0)); left = omega arith; used = λ k. omega arith }
+      record { same = rw (a-tick (m .left) e, d, q, one, add-one) (by (eqb (getD picks (m .used) 0) 0)); left = omega arith; used = λ k. omega arith }
     where
       after : State
       after = record { store = storeOf store; left = m .left - 1; picks = drop (suc (m .used)) picks }
@@ -141,6 +141,13 @@ module _ (turns all most : List ℕ) (h : ℕ) where
   room-begun l r =
       let (a, b, c) = r .rows in
       record { rows = (simp length-set (omega arith), b, c); turn = λ p. let (x, y) = r .turn p in (omega (arith, fewer (omega arith) p), y) }
+
+-- a do's entry has its first turn at once
+pub entered-do : (turns all most : List ℕ) (h : ℕ) → h < length turns → h < length all → h < length most
+    → tallyOf (set turns h 1) (set all h (countOf all h + 1)) (set most h (max (countOf most h) 1)) ≡ turn h (begin h (tallyOf turns all most))
+entered-do turns all most h l k n =
+    let z : countOf (set turns h 0) h ≡ 0 = getD-set-same turns h 0 0 l in
+    (simp (z, set-set) at (turned (set turns h 0) all most h (simp length-set l) k n)) ∙ ap (turn h) (begun turns all most h l)
 
 -- ---- the test of a loop
 module _ (m : Machine) (store : List ℤ) (c : Tally) (h e : ℕ) (t : Test) where

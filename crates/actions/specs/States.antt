@@ -2,8 +2,8 @@
 use mathlib.Core.Path.{_≡_}
 use mathlib.Core.Bool.{Bool, true, false}
 use mathlib.Core.List.{List, []}
-use Prim.Native.Nat.{ℕ, _≤_, _<_, _^_}
-use lib.ListN.{length, getD, drop}
+use Prim.Native.Nat.{ℕ, _+_, _≤_, _<_, _^_, max}
+use lib.ListN.{length, getD, set, drop}
 use lib.IntN.{ℤ}
 use Rattle.rules.specs.declared.Kind.{Kind}
 use Rattle.rules.specs.declared.Kind.the-variants.{End}
@@ -18,6 +18,7 @@ use Rattle.rules.specs.Scripts.{storeOf, OperandBelow, RowLimits, RowBelow}
 use Rattle.actions.specs.declared.Status.{Status}
 use Rattle.actions.specs.declared.Status.the-variants.{Going, Over}
 use Rattle.actions.specs.declared.Machine.{Machine}
+use Rattle.actions.specs.declared.Counts.{Counts}
 
 -- a for's start or step is done
 abbrev pub phaseOf : Bool → Phase
@@ -49,8 +50,11 @@ isGoing Going = true
 isGoing (Over e i) = false
 
 -- m with the ticks `left`, over at row i, or on at row i
+abbrev pub stoppedAt : Machine → ℕ → ℕ → Ending → ℕ → Machine
+stoppedAt m left used e i = record { row = m .row; testing = m .testing; left = left; used = used; status = Over e i }
+
 abbrev pub overAt : Machine → ℕ → Ending → ℕ → Machine
-overAt m left e i = record { row = m .row; testing = m .testing; left = left; used = m .used; status = Over e i }
+overAt m left e i = stoppedAt m left (m .used) e i
 
 abbrev pub onAt : Machine → ℕ → ℕ → Bool → Machine
 onAt m left i b = record { row = i; testing = b; left = left; used = m .used; status = Going }
@@ -84,14 +88,29 @@ pub record Steps (m r : Machine) (store store′ : List ℤ) (picks : List ℕ) 
   pub left : r .left ≤ m .left
   pub used : m .used ≤ length picks → r .used ≤ length picks
 
+-- the bytes used after a pick: one more, where there is one
+pub record AfterByte (used : ℕ) (picks : List ℕ) (r : ℕ) : Type 0 where
+  pub taken : used < r → (used < length picks) × (r ≡ used + 1)
+  pub none : r ≤ used → (length picks ≤ used) × (r ≡ used)
+
 -- the counts have room for 256 rows and for one turn more
 pub record Room (turns all most : List ℕ) : Type 0 where
   pub rows : (256 ≤ length turns) × (256 ≤ length all) × (256 ≤ length most)
   pub turn : (p : ℕ) → (countOf turns p < 2 ^ 63) × (countOf all p < 2 ^ 63)
 
+-- one turn more of one loop
+pub record WithTurn (c r : Counts) : Type 0 where
+  pub turns : r .turns ≡ c .turns + 1
+  pub all : r .all ≡ c .all + 1
+  pub most : r .most ≡ max (c .most) (c .turns + 1)
+
 -- a turn of the loop at row h
 pub record Counted (h : ℕ) (turns all most turns′ all′ most′ : List ℕ) : Type 0 where
   pub same : tallyOf turns′ all′ most′ ≡ turn h (tallyOf turns all most)
+
+-- an entry of the loop at row h, with n turns at once
+pub record Entered (h n : ℕ) (turns all most turns′ all′ most′ : List ℕ) : Type 0 where
+  pub same : tallyOf turns′ all′ most′ ≡ tallyOf (set turns h n) (set all h (countOf all h + n)) (set most h (max (countOf most h) n))
 
 -- the loop at row h tests v against x
 pub record Testable (h e v : ℕ) (x : Operand) (store : List ℤ) (turns all most : List ℕ) : Type 0 where

@@ -101,8 +101,7 @@ pub fn step(
             actions::test_row(m, i, e, v, c, x, store, turns, all, most)
         }
         Kind::Do(_, _, _) => {
-            turns[i] = 0;
-            actions::count_turn(i, turns, all, most);
+            actions::enter(i, 1, turns, all, most);
             actions::on(m, m.left, i + 1, false)
         }
         Kind::For(v, y, c, x, _) => for_row(m, e, v, y, c, x, store, turns, all, most),

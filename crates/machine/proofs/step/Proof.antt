@@ -1,5 +1,5 @@
 -- `machine::step` meets its contract. Assumes nothing.
-use Rattle.actions.proofs.Laws.{begun, room-begun}
+use Rattle.actions.proofs.Laws.{begun, entered-do}
 use Rattle.machine.proofs.Laws.{passed, after, tests-while, tests-for, tests-begun, acts-row, steps-row, is-end, is-else, is-pick, is-set, is-move, is-cue, is-while, is-do, is-for}
 -- `machine::step` meets its contract. Assumes nothing.
 use lib.ListN.{set}
@@ -30,9 +30,6 @@ move-row-requires c κs = let q = known (c .before .before .before .before .befo
 
 test-row-requires : tie.Need-test-row-requires
 test-row-requires c κs = tests-begun (tests-while (known (c .before .before .before .before .before .before .before .before .before .before .before) _ (c .before .before .before .before .before .kind3 .given .1)))
-
-count-turn-requires : tie.Need-count-turn-requires
-count-turn-requires c κs = let s = c .before .before .before .before .before .before .before .before .before in (search needs, room-begun _ _ _ _ (s .pre .0 .rows .0) (s .pre .0 .room))
 
 for-row-requires : tie.Need-for-row-requires
 for-row-requires c κs = let q = known (c .before .before .before .before .before .before .before .before .before .before .before) _ (c .before .before .before .before .before .kind4 .given .1) in (tests-for q, q .below .1)
@@ -79,17 +76,17 @@ returns-7 c =
     rw (c .before .before .before .before .before .before .before .before .before .before .before .before .kind3 .given .1)
     (acts-row _ (after (tests ones (a .m .row) (a .e) (test _ _ _)) (begin (a .m .row)) (begins s) (c .before .before .before .before .before .before .test-row .ensures)) (λ t d. is-while rows shut opener (a .m .row) (a .e) (a .h) (a .head .kind) f t d _ _ _ (a .m .testing)))
 
-same-length-11 : tie.Need-same-length-11
-same-length-11 c = simp length-set at (c .before .before .before .before .before .before .before .count-turn .kept .1 .0)
-
 returns-8 : tie.Need-returns-8
 returns-8 c =
     let s = c .before .before .before .before .before .before .before .before .before .before .before .before .before .before .before .before .before in
     let a = s .args in
     let i = a .m .row in
+    let (x, y, z) = s .pre .0 .room .rows in
+    let (l, _) = s .pre .0 .rows in
+    let e = c .before .before .before .before .before .before .before .enter .ensures .same ∙ entered-do (a .turns .now) (a .all .now) (a .most .now) i (omega arith) (omega arith) (omega arith) in
     λ rows shut opener f.
     rw (c .before .before .before .before .before .before .before .before .before .before .before .enum-told5 .given .1, c .on2 .ensures)
-    (acts-row _ (passed _ _ _ _ _ (λ d. turn i (begin i d)) (c .before .before .before .before .before .before .before .count-turn .ensures .same ∙ ap (turn i) (begins s))) (λ t d. is-do rows shut opener i (a .e) (a .h) (a .head .kind) f t d _ _ _ (a .m .testing)))
+    (acts-row _ (passed _ _ _ _ _ (λ d. turn i (begin i d)) e) (λ t d. is-do rows shut opener i (a .e) (a .h) (a .head .kind) f t d _ _ _ (a .m .testing)))
 
 returns-9 : tie.Need-returns-9
 returns-9 c =
@@ -121,9 +118,7 @@ step-spec =
     (λ c. search needs)
     test-row-requires
     (λ c. search needs)
-    (λ c. search needs)
-    (λ c. search needs)
-    count-turn-requires
+    (λ c κs. search needs)
     (λ c. search needs)
     (λ c κs. search needs)
     (λ c. search needs)
@@ -145,7 +140,7 @@ step-spec =
     (λ c. search needs)
     (λ c. search needs)
     returns-7
-    same-length-11
+    (λ c. search needs)
     (λ c. search needs)
     (λ c. search needs)
     returns-8
