@@ -15,7 +15,7 @@ ghost use Rattle.rules.specs.Figures.{ones};
 ghost use Rattle.rules.specs.Run.{holds};
 ghost use Rattle.rules.specs.RowMachine.{Tally, tests, test};
 ghost use Rattle.rules.specs.Scripts.{storeOf, OperandBelow, ChangeLimits};
-ghost use Rattle.actions.specs.States.{stoppedAt, overAt, onAt, putTo, plainTo, pickTo, tallyOf, AfterByte, WithTurn, Acts, Steps, Testable, Counted, Entered, Room};
+ghost use Rattle.actions.specs.States.{waitsOf, stoppedAt, overAt, onAt, putTo, plainTo, pickTo, tallyOf, AfterByte, WithTurn, Acts, Steps, Testable, Counted, Entered, Room};
 
 // Going, or over: the ending and its row.
 pub enum Status {
@@ -62,6 +62,17 @@ pub fn on(m: Machine, left: u64, row: usize, testing: bool) -> Machine
         left: left,
         used: m.used,
         status: Status::Going,
+    }
+}
+
+// Does the test of a for come next?
+pub fn waits(m: Machine) -> bool
+    ensures { λ r. ⌜ r ≡ waitsOf m ⌝ }
+{
+    let status = m.status;
+    match status {
+        Status::Going => m.testing,
+        Status::Over(_, _) => false,
     }
 }
 
