@@ -1,7 +1,7 @@
 -- The answers of the calls as numbers, as the header lays them out.
 use mathlib.Core.Path.{_≡_}
 use mathlib.Core.Bool.{cond}
-use mathlib.Core.List.{List, []}
+use mathlib.Core.List.{List}
 use Prim.Native.Nat.{ℕ, zero, suc, _+_, _*_, min}
 use lib.Dec.{eqb}
 use lib.IntN.{ℤ}

@@ -7,7 +7,7 @@ use lib.IntN.{ℤ}
 use lib.ListN.{length, length-append}
 use borrow.Author.Tests.{eq-eqb, ne-eqb, le-leb, lt-leb}
 use Rattle.rules.specs.Figures.{ones}
-use Rattle.rules.specs.Scripts.{Script, ends, Legal}
+use Rattle.rules.specs.Scripts.{ends, Legal}
 use Rattle.rules.specs.File
 use Rattle.rules.specs.File.{fileScript}
 use Rattle.rules.specs.Calls.{Judged, refuses, judgedFile, judged, runReply, storeAfter}

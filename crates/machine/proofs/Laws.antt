@@ -2,7 +2,7 @@
 use mathlib.Core.Path.{_≡_, refl, sym, _∙_, ap, subst}
 use mathlib.Core.Bool.{Bool, true, false}
 use mathlib.Core.List.{List}
-use Prim.Native.Nat.{ℕ, suc, _+_}
+use Prim.Native.Nat.{ℕ, suc, _+_, _<_}
 use native.Mathlib.Numerals.{add-one}
 use native.Mathlib.Omega.{arith}
 use lib.ListN.{length, getD, set}
@@ -18,13 +18,17 @@ use Rattle.rules.specs.Figures.{ones}
 use Rattle.rules.specs.RowMachine.{Tally, Next, begin, turn, fresh, to, tests, test, onRow}
 use Rattle.rules.specs.Scripts.{OperandBelow}
 use Rattle.actions.specs.declared.Machine.{Machine}
-use Rattle.actions.specs.States.{phaseOf, stateOf, onAt, plainTo, pickTo, forTo, andTests, endTo, rowTo, Acts, Steps, Testable, Doable, Fitting}
-use Rattle.actions.proofs.Laws.{room-begun}
+use Rattle.actions.specs.States.{phaseOf, stateOf, onAt, plainTo, pickTo, forTo, andTests, endTo, rowTo, tallyOf, Acts, Steps, Room, Testable, Doable, Fitting}
+use Rattle.actions.proofs.Laws.{begun, room-begun}
 
 -- ---- rows
 -- on without a tick, the counts changed by g
 pub passed : (m : Machine) (store : List ℤ) (c c′ : Tally) (n : ℕ) (g : Tally → Tally) → c′ ≡ g c → Acts m (onAt m (m .left) (n + 1) false) store store c c′ (λ s d. to (suc n) fresh s (g d))
 passed m store c c′ n g e = record { same = λ picks. rw (e, add-one); left = omega arith; used = refl }
+
+-- an entry begins
+pub begins : (turns all most : List ℕ) (h : ℕ) → h < 256 → Room turns all most → tallyOf (set turns h 0) all most ≡ begin h (tallyOf turns all most)
+begins turns all most h l r = let (a, b, d) = r .rows in begun turns all most h (omega arith)
 
 -- the tests of the three loops
 module _ {e h : ℕ} {store : List ℤ} {turns all most : List ℕ} where

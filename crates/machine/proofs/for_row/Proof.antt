@@ -1,20 +1,15 @@
 -- `machine::for_row` meets its contract. Assumes nothing.
-use mathlib.Core.Path.{_≡_, sym, _∙_}
+use mathlib.Core.Path.{sym, _∙_}
 use mathlib.Core.Bool.{true, false}
-use native.Mathlib.Omega.{arith}
-use lib.ListN.{set, length-set}
+use lib.ListN.{length-set}
 use Rattle.rules.specs.Blocks.{from, assign}
 use Rattle.rules.specs.RowMachine.{begin, test}
-use Rattle.actions.specs.States.{plainTo, forTo, tallyOf}
-use Rattle.actions.proofs.Laws.{begun, then-tests, no-tests}
-use Rattle.machine.proofs.Laws.{after, by-flag, tests-begun, tests-stored}
+use Rattle.actions.specs.States.{plainTo, forTo}
+use Rattle.actions.proofs.Laws.{then-tests, no-tests}
+use Rattle.machine.proofs.Laws.{begins, after, by-flag, tests-begun, tests-stored}
 use borrow.Author.Needs.{needs}
 use Rattle.machine.proofs.for_row.Statement.{statement}
 use Rattle.machine.proofs.for_row.Tie as tie
-
--- an entry begins
-begins : (s : tie.Start) → tallyOf (set (s .args .turns .now) (s .args .m .row) 0) (s .args .all .now) (s .args .most .now) ≡ begin (s .args .m .row) (tallyOf (s .args .turns .now) (s .args .all .now) (s .args .most .now))
-begins s = let (a, b, d) = s .pre .0 .room .rows in let (i, j) = s .pre .0 .rows in begun (s .args .turns .now) (s .args .all .now) (s .args .most .now) (s .args .m .row) (omega arith)
 
 test-row-requires-2 : tie.Need-test-row-requires-2
 test-row-requires-2 c κs = tests-stored (search needs) (tests-begun (c .before .before .before .before .before .before .before .before .before .before .before .before .before .pre .0))
@@ -32,7 +27,7 @@ returns-2 c =
     let s = c .before .before .before .before .before .before .before .before .before .before .before .before .before .before .before .before .before .before .before .before in
     let a = s .args in
     by-flag (a .m .testing) (forTo (a .m .row) (a .e) (a .v) (a .y) (a .c) (a .x)) false (c .before .before .before .before .before .before .before .before .before .before .before .before .before .before .before .before .if1 .left)
-    (then-tests (a .m .row) (a .e) (test (a .v) (a .c) (a .x)) _ (after (plainTo (a .m .row) (assign (a .v) (from (a .y))) (a .m .row) true) (begin (a .m .row)) (begins s) (c .before .before .before .before .before .before .before .before .before .before .before .before .before .before .set-row .ensures _))
+    (then-tests (a .m .row) (a .e) (test (a .v) (a .c) (a .x)) _ (after (plainTo (a .m .row) (assign (a .v) (from (a .y))) (a .m .row) true) (begin (a .m .row)) (begins _ _ _ _ (s .pre .0 .rows .0) (s .pre .0 .room)) (c .before .before .before .before .before .before .before .before .before .before .before .before .before .before .set-row .ensures _))
     (sym (c .before .before .before .before .before .before .before .before .before .before .before .before .waits .ensures) ∙ c .before .before .before .before .before .before .before .before .before .before .before .if2 .taken) (c .before .before .before .before .before .before .test-row2 .ensures))
 
 returns-3 : tie.Need-returns-3
@@ -40,7 +35,7 @@ returns-3 c =
     let s = c .before .before .before .before .before .before .before .before .before in
     let a = s .args in
     by-flag (a .m .testing) (forTo (a .m .row) (a .e) (a .v) (a .y) (a .c) (a .x)) false (c .before .before .before .before .before .if1 .left)
-    (no-tests (a .m .row) (a .e) (test (a .v) (a .c) (a .x)) _ (after (plainTo (a .m .row) (assign (a .v) (from (a .y))) (a .m .row) true) (begin (a .m .row)) (begins s) (c .before .before .before .set-row .ensures _)) (sym (c .before .waits .ensures) ∙ c .if2 .left))
+    (no-tests (a .m .row) (a .e) (test (a .v) (a .c) (a .x)) _ (after (plainTo (a .m .row) (assign (a .v) (from (a .y))) (a .m .row) true) (begin (a .m .row)) (begins _ _ _ _ (s .pre .0 .rows .0) (s .pre .0 .room)) (c .before .before .before .set-row .ensures _)) (sym (c .before .waits .ensures) ∙ c .if2 .left))
 
 pub for-row-spec : {M : Type 1} → statement M
 for-row-spec =

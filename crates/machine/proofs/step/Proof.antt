@@ -1,14 +1,12 @@
 -- `machine::step` meets its contract. Assumes nothing.
-use Rattle.actions.proofs.Laws.{begun, entered-do}
-use Rattle.machine.proofs.Laws.{passed, after, tests-while, tests-for, tests-begun, acts-row, steps-row, is-end, is-else, is-pick, is-set, is-move, is-cue, is-while, is-do, is-for}
--- `machine::step` meets its contract. Assumes nothing.
-use lib.ListN.{set}
-use Rattle.actions.specs.States.{Doable, tallyOf}
+use Rattle.actions.proofs.Laws.{entered-do}
+use Rattle.machine.proofs.Laws.{passed, begins, after, tests-while, tests-for, tests-begun, acts-row, steps-row, is-end, is-else, is-pick, is-set, is-move, is-cue, is-while, is-do, is-for}
+use Rattle.actions.specs.States.{Doable}
 use Rattle.rules.specs.RowMachine.{begin, turn, test, tests}
 use Rattle.rules.specs.Figures.{ones}
 use Rattle.rules.specs.declared.Kind.{Kind}
 use lib.ListN.{length-set}
-use mathlib.Core.Path.{_≡_, refl, _∙_, ap, subst}
+use mathlib.Core.Path.{_≡_, refl, _∙_, subst}
 use native.Mathlib.Omega.{arith}
 use borrow.Author.Needs.{needs}
 use Rattle.machine.proofs.step.Statement.{statement}
@@ -17,10 +15,6 @@ use Rattle.machine.proofs.step.Tie as tie
 -- the row's kind, once it is known
 known : (s : tie.Start) (k : Kind) → s .args .row .kind ≡ k → Doable (s .args .e) (s .args .m .row) k (s .args .store .now) (s .args .turns .now) (s .args .all .now) (s .args .most .now)
 known s k e = subst (λ z. Doable (s .args .e) (s .args .m .row) z (s .args .store .now) (s .args .turns .now) (s .args .all .now) (s .args .most .now)) e (s .pre .0)
-
--- an entry begins
-begins : (s : tie.Start) → tallyOf (set (s .args .turns .now) (s .args .m .row) 0) (s .args .all .now) (s .args .most .now) ≡ begin (s .args .m .row) (tallyOf (s .args .turns .now) (s .args .all .now) (s .args .most .now))
-begins s = let (a, b, d) = s .pre .0 .room .rows in let (i, j) = s .pre .0 .rows in begun (s .args .turns .now) (s .args .all .now) (s .args .most .now) (s .args .m .row) (omega arith)
 
 set-row-requires : tie.Need-set-row-requires
 set-row-requires c κs = known (c .before .before .before .before .before .before .before .before) _ (c .before .before .kind .given .1) .below
@@ -74,7 +68,7 @@ returns-7 c =
     let a = s .args in
     λ rows shut opener f.
     rw (c .before .before .before .before .before .before .before .before .before .before .before .before .kind3 .given .1)
-    (acts-row _ (after (tests ones (a .m .row) (a .e) (test _ _ _)) (begin (a .m .row)) (begins s) (c .before .before .before .before .before .before .test-row .ensures)) (λ t d. is-while rows shut opener (a .m .row) (a .e) (a .h) (a .head .kind) f t d _ _ _ (a .m .testing)))
+    (acts-row _ (after (tests ones (a .m .row) (a .e) (test _ _ _)) (begin (a .m .row)) (begins _ _ _ _ (s .pre .0 .rows .0) (s .pre .0 .room)) (c .before .before .before .before .before .before .test-row .ensures)) (λ t d. is-while rows shut opener (a .m .row) (a .e) (a .h) (a .head .kind) f t d _ _ _ (a .m .testing)))
 
 returns-8 : tie.Need-returns-8
 returns-8 c =
