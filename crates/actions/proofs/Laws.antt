@@ -1,5 +1,5 @@
 -- What the machine's parts do in memory, as `rules` has it. Assumes nothing.
-use mathlib.Core.Path.{_≡_, refl, _∙_, ap}
+use mathlib.Core.Path.{_≡_, refl, sym, _∙_, ap}
 use mathlib.Core.Bool.{Bool, true, false, cond, _&&_}
 use mathlib.Core.List.{List, [], _∷_}
 use Prim.Native.Nat.{ℕ, suc, _+_, _-_, _≤_, _<_, max}
@@ -8,7 +8,7 @@ use native.Mathlib.Omega.{arith}
 use borrow.Author.Tests.{le-leb, lt-leb}
 use lib.Dec.{leb, eqb}
 use lib.ListN.{length, getD, set, drop, length-set, drop-of-length-le}
-use lib.Seq.{drop-cons}
+use lib.Seq.{drop-cons, getD-set-same, set-set}
 use lib.IntN.{ℤ, pos}
 use lib.Signed.{leZ}
 use mir.Syntax.{w32}
@@ -20,12 +20,13 @@ use Rattle.rules.specs.Values.{lowest, highest, inLimits}
 use Rattle.rules.specs.Blocks.{Source, assign, cue, Test}
 use Rattle.rules.specs.Run.{State, choose, charge, write, result, exec, holds}
 use Rattle.rules.specs.Figures.{ones}
-use Rattle.rules.specs.RowMachine.{Tally, begin, turn, fresh, to, chosen, outcome, paid, picked, tests}
+use Rattle.rules.specs.RowMachine.{Tally, Next, begin, turn, fresh, to, chosen, outcome, paid, picked, tests}
 use Rattle.rules.specs.Scripts.{storeOf}
 use Rattle.rules.proofs.Laws.{put-set}
 use Rattle.actions.specs.declared.Machine.{Machine}
-use Rattle.actions.specs.declared.Status.the-variants.{Going}
-use Rattle.actions.specs.States.{phaseOf, countOf, tallyOf, stateOf, overAt, onAt, plainTo, putTo, pickTo, Acts, Steps, Room}
+use Rattle.actions.specs.declared.Status.{Status}
+use Rattle.actions.specs.declared.Status.the-variants.{Going, Over}
+use Rattle.actions.specs.States.{phaseOf, countOf, tallyOf, stateOf, byStatus, waitsBy, waitsOf, andTests, overAt, onAt, plainTo, putTo, pickTo, Acts, Steps, Room}
 
 -- ---- a tick
 no-tick : (n : ℕ) → n ≡ 0 → leb 1 n ≡ false
@@ -95,16 +96,16 @@ module _ (m : Machine) (store : List ℤ) (picks : List ℕ) (c : Tally) (i j : 
       let d : drop (m .used) picks ≡ [] = drop-of-length-le picks h in
       record { same = rw (a-tick (m .left) e, d); left = omega arith; used = λ k. k }
 
-  -- m after the byte, on at row n
-  abbrev pub pickedAt : ℕ → Machine
-  pickedAt n = record { row = n; testing = false; left = m .left - 1; used = m .used + 1; status = Going }
+  -- m after the byte, on at row n, with so many bytes used
+  abbrev pub pickedAt : ℕ → ℕ → Machine
+  pickedAt n used = record { row = n; testing = false; left = m .left - 1; used = used; status = Going }
 
-  pub pick-one : (n : ℕ) → (m .left ≡ 0 → ⊥) → m .used < length picks → n ≡ cond (eqb (getD picks (m .used) 0) 0) j (suc i)
-      → Steps m (pickedAt n) store store picks c c (pickTo i j)
+  pub pick-one : (n used : ℕ) → (m .left ≡ 0 → ⊥) → m .used < length picks → used ≡ m .used + 1 → n ≡ cond (eqb (getD picks (m .used) 0) 0) j (suc i)
+      → Steps m (pickedAt n used) store store picks c c (pickTo i j)
   unfolding paid chosen picked
-  pick-one n e h q =
+  pick-one n used e h one q =
       let d : drop (m .used) picks ≡ getD picks (m .used) 0 ∷ drop (suc (m .used)) picks = drop-cons picks (m .used) 0 h in
-      record { same = rw (a-tick (m .left) e, d, q, add-one) (by (eqb (getD picks (m .used) 0) 0)); left = omega arith; used = λ k. omega arith }
+      record { same = rw (a-tick (m .left) e, d, q, one, add-one) (by (eqb (getD picks (m .used) 0) 0)); left = omega arith; used = λ k. omega arith }
     where
       after : State
       after = record { store = storeOf store; left = m .left - 1; picks = drop (suc (m .used)) picks }
@@ -142,6 +143,13 @@ module _ (turns all most : List ℕ) (h : ℕ) where
       let (a, b, c) = r .rows in
       record { rows = (simp length-set (omega arith), b, c); turn = λ p. let (x, y) = r .turn p in (omega (arith, fewer (omega arith) p), y) }
 
+-- a do's entry has its first turn at once
+pub entered-do : (turns all most : List ℕ) (h : ℕ) → h < length turns → h < length all → h < length most
+    → tallyOf (set turns h 1) (set all h (countOf all h + 1)) (set most h (max (countOf most h) 1)) ≡ turn h (begin h (tallyOf turns all most))
+entered-do turns all most h l k n =
+    let z : countOf (set turns h 0) h ≡ 0 = getD-set-same turns h 0 0 l in
+    (simp (z, set-set) at (turned (set turns h 0) all most h (simp length-set l) k n)) ∙ ap (turn h) (begun turns all most h l)
+
 -- ---- the test of a loop
 module _ (m : Machine) (store : List ℤ) (c : Tally) (h e : ℕ) (t : Test) where
   pub test-spent : m .left ≡ 0 → Acts m (overAt m (m .left) Spent h) store store c c (tests ones h e t)
@@ -155,3 +163,28 @@ module _ (m : Machine) (store : List ℤ) (c : Tally) (h e : ℕ) (t : Test) whe
   pub test-failed : (m .left ≡ 0 → ⊥) → holds t (storeOf store) ≡ false → Acts m (onAt m (m .left - 1) (e + 1) false) store store c c (tests ones h e t)
   unfolding tests paid chosen
   test-failed q n = record { same = λ picks. rw (a-tick (m .left) q, n, add-one); left = omega arith; used = refl }
+
+-- ---- a for's test after its start or step
+-- the test that follows, or nothing
+module _ (h e : ℕ) (t : Test) (n : Machine) (store : List ℤ) (picks : List ℕ) (c : Tally) where
+  by-waits : (s : Status) (b w : Bool) → waitsBy s b ≡ w → andTests h e t (byStatus s (record { row = n .row; testing = b; left = n .left; used = n .used; status = s }) store picks c)
+      ≡ cond w (tests ones h e t (stateOf n store picks) c) (byStatus s (record { row = n .row; testing = b; left = n .left; used = n .used; status = s }) store picks c)
+  by-waits Going true true q = refl
+  by-waits Going true false q = absurd (let z : _≡_ {A = ℕ} 0 1 = cc in omega arith)
+  by-waits Going false true q = absurd (let z : _≡_ {A = ℕ} 0 1 = cc in omega arith)
+  by-waits Going false false q = refl
+  by-waits (Over a i) b true q = absurd (let z : _≡_ {A = ℕ} 0 1 = cc in omega arith)
+  by-waits (Over a i) b false q = refl
+
+module _ {m n : Machine} {store store₁ : List ℤ} {c d : Tally} (h e : ℕ) (t : Test) (f : State → Tally → Next) (a : Acts m n store store₁ c d f) where
+  -- it follows
+  pub then-tests : {r : Machine} {d′ : Tally} → waitsOf n ≡ true → Acts n r store₁ store₁ d d′ (tests ones h e t) → Acts m r store store₁ c d′ (λ s k. andTests h e t (f s k))
+  then-tests w b = record {
+    same = λ picks. b .same picks ∙ sym (by-waits h e t n store₁ picks d (n .status) (n .testing) true w) ∙ ap (andTests h e t) (a .same picks);
+    left = omega (arith, a .left, b .left);
+    used = b .used ∙ a .used;
+  }
+
+  -- it does not
+  pub no-tests : waitsOf n ≡ false → Acts m n store store₁ c d (λ s k. andTests h e t (f s k))
+  no-tests w = record { same = λ picks. sym (by-waits h e t n store₁ picks d (n .status) (n .testing) false w) ∙ ap (andTests h e t) (a .same picks); left = a .left; used = a .used }

@@ -7,7 +7,7 @@ ghost use mathlib.Core.Path.{_≡_};
 ghost use mathlib.Core.Bool.{false, cond};
 ghost use lib.Dec.{eqb};
 ghost use mathlib.Core.List.{List};
-ghost use Prim.Native.Nat.{ℕ, _+_, _<_, max};
+ghost use Prim.Native.Nat.{ℕ, _+_, _≤_, _<_, _^_, max};
 ghost use lib.ListN.{length};
 ghost use lib.IntN.{ℤ};
 ghost use Rattle.rules.specs.Blocks.{from, changed, assign, cue};
@@ -15,7 +15,7 @@ ghost use Rattle.rules.specs.Figures.{ones};
 ghost use Rattle.rules.specs.Run.{holds};
 ghost use Rattle.rules.specs.RowMachine.{Tally, tests, test};
 ghost use Rattle.rules.specs.Scripts.{storeOf, OperandBelow, ChangeLimits};
-ghost use Rattle.actions.specs.States.{overAt, onAt, putTo, plainTo, pickTo, tallyOf, Acts, Steps, Testable, Counted, Room};
+ghost use Rattle.actions.specs.States.{waitsOf, stoppedAt, overAt, onAt, putTo, plainTo, pickTo, tallyOf, AfterByte, WithTurn, Acts, Steps, Testable, Counted, Entered, Room};
 
 // Going, or over: the ending and its row.
 pub enum Status {
@@ -32,17 +32,24 @@ pub struct Machine {
     pub status: Status,
 }
 
-// The run ends before or after a tick, at row `at`.
-pub fn ended(m: Machine, left: u64, ending: Ending, at: usize) -> Machine
-    ensures { λ r. ⌜ r ≡ overAt m left ending at ⌝ }
+// The run ends at row `at`, with so many ticks left and bytes used.
+fn stopped(m: Machine, left: u64, used: usize, ending: Ending, at: usize) -> Machine
+    ensures { λ r. ⌜ r ≡ stoppedAt m left used ending at ⌝ }
 {
     Machine {
         row: m.row,
         testing: m.testing,
         left: left,
-        used: m.used,
+        used: used,
         status: Status::Over(ending, at),
     }
+}
+
+// The run ends before or after a tick, at row `at`.
+pub fn ended(m: Machine, left: u64, ending: Ending, at: usize) -> Machine
+    ensures { λ r. ⌜ r ≡ overAt m left ending at ⌝ }
+{
+    stopped(m, left, m.used, ending, at)
 }
 
 // The run goes on at a row.
@@ -55,6 +62,17 @@ pub fn on(m: Machine, left: u64, row: usize, testing: bool) -> Machine
         left: left,
         used: m.used,
         status: Status::Going,
+    }
+}
+
+// Does the test of a for come next?
+pub fn waits(m: Machine) -> bool
+    ensures { λ r. ⌜ r ≡ waitsOf m ⌝ }
+{
+    let status = m.status;
+    match status {
+        Status::Going => m.testing,
+        Status::Over(_, _) => false,
     }
 }
 
@@ -138,27 +156,35 @@ fn branch(byte: u8, other: usize, next: usize) -> usize
     if byte == 0 { other } else { next }
 }
 
-// A pick takes its byte: 0 to row `other`, any other to the next row.
+// The bytes used once a pick has taken its own, if one is left.
+fn after_byte(used: usize, picks: &[u8]) -> usize
+    ensures { λ r. ⌜ AfterByte used (now (picks .entry)) r ⌝ }
+{
+    if used < picks.len() { used + 1 } else { used }
+}
+
+// A pick takes its tick, and then its byte: 0 to row `other`, any other to the next row.
 pub fn pick_row(m: Machine, other: usize, picks: &[u8]) -> Machine
     requires { ⌜ m .row < 256 ⌝ }
     ensures { λ r. ⌜ ((store : List ℤ) (c : Tally) → Steps m r store store (now (picks .entry)) c c (pickTo (m .row) other)) ⌝ }
 {
     let left = m.left;
     let at = m.row;
-    if left == 0 {
-        return ended(m, left, Ending::Spent, at);
-    }
     let used = m.used;
-    if used < picks.len() {
+    let after = after_byte(used, picks);
+    if left == 0 {
+        return stopped(m, left, used, Ending::Spent, at);
+    }
+    if used < after {
         Machine {
             row: branch(picks[used], other, at + 1),
             testing: false,
             left: left - 1,
-            used: used + 1,
+            used: after,
             status: Status::Going,
         }
     } else {
-        ended(m, left - 1, Ending::NoPick, at)
+        stopped(m, left - 1, used, Ending::NoPick, at)
     }
 }
 
@@ -169,15 +195,49 @@ fn larger(a: u64, b: u64) -> u64
     if a < b { b } else { a }
 }
 
+// The counts of one loop: the turns of its latest entry, all turns, the most in one entry.
+struct Counts {
+    turns: u64,
+    all: u64,
+    most: u64,
+}
+
+// One turn more.
+fn with_turn(c: Counts) -> Counts
+    requires { ⌜ (c .turns < 2 ^ 63) × (c .all < 2 ^ 63) ⌝ }
+    ensures { λ r. ⌜ WithTurn c r ⌝ }
+{
+    let t = c.turns + 1;
+    Counts {
+        turns: t,
+        all: c.all + 1,
+        most: larger(c.most, t),
+    }
+}
+
 // A turn of the loop at row h begins.
 pub fn count_turn(h: usize, turns: &mut [u64], all: &mut [u64], most: &mut [u64])
     requires { ⌜ (h < 256) × Room (now turns) (now all) (now most) ⌝ }
     ensures { λ _. ⌜ Counted h (now (turns .entry)) (now (all .entry)) (now (most .entry)) (now (turns .exit)) (now (all .exit)) (now (most .exit)) ⌝ }
 {
-    let t = turns[h] + 1;
-    turns[h] = t;
-    all[h] = all[h] + 1;
-    most[h] = larger(most[h], t);
+    let c = with_turn(Counts {
+        turns: turns[h],
+        all: all[h],
+        most: most[h],
+    });
+    turns[h] = c.turns;
+    all[h] = c.all;
+    most[h] = c.most;
+}
+
+// An entry of the loop at row h begins with n turns at once: 1 for a do, whose first turn no test comes before.
+pub fn enter(h: usize, n: u64, turns: &mut [u64], all: &mut [u64], most: &mut [u64])
+    requires { ⌜ (h < 256) × (n ≤ 1) × Room (now turns) (now all) (now most) ⌝ }
+    ensures { λ _. ⌜ Entered h n (now (turns .entry)) (now (all .entry)) (now (most .entry)) (now (turns .exit)) (now (all .exit)) (now (most .exit)) ⌝ }
+{
+    turns[h] = n;
+    all[h] = all[h] + n;
+    most[h] = larger(most[h], n);
 }
 
 // Does the test hold?

@@ -4,17 +4,28 @@ use mathlib.Core.List.{List, [], _∷_, _++_}
 use Prim.Native.Nat.{ℕ, zero, suc, _+_, _<_}
 use native.Mathlib.Numerals.{add-one}
 use native.Mathlib.Omega.{arith}
-use lib.ListN.{length, getD, set, take}
-use lib.Seq.{take-suc-set}
+use lib.ListN.{length, getD, set, take, replicate}
+use lib.Seq.{take-suc-set, getD-set-other}
 use Rattle.rules.specs.declared.Kind.{Kind}
-use Rattle.rules.specs.declared.Kind.the-variants.{Set, Move, Cue, Pick, Else, End, While, Do, For}
 use Rattle.rules.specs.declared.LoopCount.{LoopCount}
 use Rattle.rules.specs.Run.{Entry}
 use Rattle.rules.specs.Answers.{sumAt, mostAt}
-use Rattle.rules.specs.Calls.{isLoop, loopRows, countsAt}
+use Rattle.rules.specs.Calls.{loopRows, countsAt}
 use Rattle.loops.specs.declared.Loops.{Loops}
-use Rattle.loops.specs.Loops.{headsFrom, mapped, Listed}
-use Rattle.calls.specs.Told.{zipped}
+use Rattle.loops.specs.Loops.{mapped, Listed}
+use Rattle.calls.specs.Told.{noCount, NoneFrom, zipped}
+
+-- no counts at first, and past a loop that is counted
+pub none-first : NoneFrom 0 (replicate 16 noCount)
+none-first k l = by 16 k
+  where
+    by : (n k : ℕ) → getD (replicate n noCount) k noCount ≡ noCount
+    by zero k = refl
+    by (suc n) zero = refl
+    by (suc n) (suc k) = by n k
+
+pub none-next : (i : ℕ) (r : List LoopCount) (x : LoopCount) → NoneFrom i r → NoneFrom (i + 1) (set r i x)
+none-next i r x f k l = getD-set-other r i k x noCount (λ e. omega arith) ∙ f k (omega arith)
 
 -- one loop more
 zip-next : (i : ℕ) (a b c : List ℕ) → i < length a → i < length b → i < length c
@@ -33,20 +44,6 @@ counts-next i a b c r h k l m e =
     ap (λ n. take n (set r i x)) (add-one i) ∙ take-suc-set r i x m ∙ ap (λ t. t ++ (x ∷ [])) e ∙ sym (zip-next i a b c h k l)
     ∙ ap (λ n. zipped (take n a) (take n b) (take n c)) (sym (add-one i))
 
--- the heads of the loops
-heads-are : (i : ℕ) (ks : List Kind) → headsFrom i ks ≡ loopRows i ks
-unfolding headsFrom loopRows isLoop
-heads-are i [] = refl
-heads-are i (Set v x ∷ ks) = heads-are (suc i) ks
-heads-are i (Move v c ∷ ks) = heads-are (suc i) ks
-heads-are i (Cue n ∷ ks) = heads-are (suc i) ks
-heads-are i (Pick ∷ ks) = heads-are (suc i) ks
-heads-are i (Else ∷ ks) = heads-are (suc i) ks
-heads-are i (End ∷ ks) = heads-are (suc i) ks
-heads-are i (While v c x ∷ ks) = ap {B = List ℕ} (λ r. i ∷ r) (heads-are (suc i) ks)
-heads-are i (Do v c x ∷ ks) = ap {B = List ℕ} (λ r. i ∷ r) (heads-are (suc i) ks)
-heads-are i (For v s c x d ∷ ks) = ap {B = List ℕ} (λ r. i ∷ r) (heads-are (suc i) ks)
-
 counts-length : (es : List Entry) (ps : List ℕ) → length (countsAt es ps) ≡ length ps
 unfolding countsAt
 counts-length es [] = refl
@@ -60,7 +57,7 @@ module _ (es : List Entry) (all most : List ℕ) (sums : (p : ℕ) → getD all 
 
   module _ (ks : List Kind) (l : Loops) (listed : Listed ks all most l) where
     pub counts-are : zipped (take (l .count) (l .rows)) (take (l .count) (l .all)) (take (l .count) (l .most)) ≡ countsAt es (loopRows 0 ks)
-    counts-are = (λ j. zipped (listed .heads j) (listed .sums j) (listed .mosts j)) ∙ zip-counts (headsFrom 0 ks) ∙ ap (countsAt es) (heads-are 0 ks)
+    counts-are = (λ j. zipped (listed .heads j) (listed .sums j) (listed .mosts j)) ∙ zip-counts (loopRows 0 ks)
 
     pub counts-number : l .count ≡ length (countsAt es (loopRows 0 ks))
-    counts-number = listed .number ∙ ap length (heads-are 0 ks) ∙ sym (counts-length es (loopRows 0 ks))
+    counts-number = listed .number ∙ sym (counts-length es (loopRows 0 ks))

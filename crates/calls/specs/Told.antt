@@ -3,16 +3,24 @@ use mathlib.Core.Path.{_≡_}
 use mathlib.Core.List.{List, [], _∷_}
 use Prim.Native.Nat.{ℕ, _≤_}
 use lib.IntN.{ℤ}
-use lib.ListN.{length, take}
+use lib.ListN.{length, getD, take}
 use Rattle.rules.specs.declared.Row.{Row}
 use Rattle.rules.specs.declared.Ending.the-variants.{Ended}
 use Rattle.rules.specs.declared.LoopCount.{LoopCount}
 use Rattle.rules.specs.Blocks.{kindsOf}
 use Rattle.rules.specs.Answers.{Answer}
 use Rattle.rules.specs.Calls.{RunReply, ran, refuses, loopRows, countsAt, storeAfter}
+use Rattle.loops.specs.declared.Loops.{Loops}
 use Rattle.runner.specs.Runs.{Runnable}
 use Rattle.runner.specs.Answered.{runOf}
 use Rattle.calls.specs.declared.Outcome.{Outcome}
+
+-- what stands past the last loop
+abbrev pub noCount : LoopCount
+noCount = record { row = 0; all = 0; most = 0 }
+
+abbrev pub NoneFrom : ℕ → List LoopCount → Type 0
+NoneFrom n counts = (k : ℕ) → n ≤ k → getD counts k noCount ≡ noCount
 
 -- a run: number 0, its figures, and the counts of its loops in row order
 pub record ToldRun (o : Outcome) (a : Answer) (cs : List LoopCount) : Type 0 where
@@ -24,6 +32,7 @@ pub record ToldRun (o : Outcome) (a : Answer) (cs : List LoopCount) : Type 0 whe
   pub used : o .used ≡ a .used
   pub loops : o .loops ≡ length cs
   pub counts : take (o .loops) (o .counts) ≡ cs
+  pub rest : NoneFrom (o .loops) (o .counts)
 
 -- a refusal: its number, never 0, and its place; all figures of a run are 0
 pub record ToldNo (o : Outcome) (q p : ℕ) : Type 0 where
@@ -35,6 +44,7 @@ pub record ToldNo (o : Outcome) (q p : ℕ) : Type 0 where
   pub ticks : o .ticks ≡ 0
   pub used : o .used ≡ 0
   pub loops : o .loops ≡ 0
+  pub rest : NoneFrom 0 (o .counts)
 
 abbrev pub Told : Outcome → RunReply → Type 0
 Told o (ran a counts) = ToldRun o a counts
@@ -63,3 +73,8 @@ zipped [] b c = []
 zipped (x ∷ a) [] c = []
 zipped (x ∷ a) (y ∷ b) [] = []
 zipped (x ∷ a) (y ∷ b) (z ∷ c) = record { row = x; all = y; most = z } ∷ zipped a b c
+
+-- the counts of listed loops
+pub record CountsOf (l : Loops) (r : List LoopCount) : Type 0 where
+  pub counts : take (l .count) r ≡ zipped (take (l .count) (l .rows)) (take (l .count) (l .all)) (take (l .count) (l .most))
+  pub rest : NoneFrom (l .count) r

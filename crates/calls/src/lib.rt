@@ -9,14 +9,14 @@ ghost use mathlib.Core.Path.{_≡_};
 ghost use mathlib.Core.Bool.{_&&_};
 ghost use Prim.Native.Nat.{_≤_, min};
 ghost use lib.Signed.{leZ};
-ghost use lib.ListN.{length, take};
+ghost use lib.ListN.{length};
 ghost use Rattle.rules.specs.Figures.{ones};
 ghost use Rattle.rules.specs.Scripts.{ends};
 ghost use Rattle.rules.specs.Calls.{replyOf, bufferOf, storeVerdict, runReply};
 ghost use Rattle.rules.specs.Claim.{Demand3Of};
 ghost use Rattle.turns.specs.Needs.{answer};
 ghost use Rattle.calls.specs.Held.{held, Given, judgedScript, Found, PairsOf};
-ghost use Rattle.calls.specs.Told.{ToldNo, Ran, Runs, ranRows, zipped};
+ghost use Rattle.calls.specs.Told.{ToldNo, Ran, Runs, ranRows, CountsOf};
 
 // The ends side by side, for the survey.
 fn pairs_of(vars: usize, low: [i32; 16], high: [i32; 16]) -> [[i32; 2]; 16]
@@ -151,7 +151,7 @@ pub fn refusal(number: u32, place: usize) -> Outcome
 // The counts of each loop.
 fn counts_of(loops: Loops) -> [LoopCount; 16]
     requires { ⌜ loops .count ≤ 16 ⌝ }
-    ensures { λ r. ⌜ take (loops .count) r ≡ zipped (take (loops .count) (loops .rows)) (take (loops .count) (loops .all)) (take (loops .count) (loops .most)) ⌝ }
+    ensures { λ r. ⌜ CountsOf loops r ⌝ }
 {
     let mut counts = [NO_COUNT; 16];
     let rows = loops.rows;

@@ -1,7 +1,7 @@
 -- The answers of the calls as numbers, as the header lays them out.
 use mathlib.Core.Path.{_≡_}
 use mathlib.Core.Bool.{cond}
-use mathlib.Core.List.{List, []}
+use mathlib.Core.List.{List}
 use Prim.Native.Nat.{ℕ, zero, suc, _+_, _*_, min}
 use lib.Dec.{eqb}
 use lib.IntN.{ℤ}
@@ -11,7 +11,7 @@ use Rattle.rules.specs.declared.Reply.the-variants.{Accepted, Refused}
 use Rattle.rules.specs.declared.LoopCount.{LoopCount}
 use Rattle.rules.specs.Calls.{Judged, RunReply, endingNumber}
 use Rattle.calls.specs.declared.Outcome.{Outcome}
-use Rattle.calls.specs.Told.{Ran}
+use Rattle.calls.specs.Told.{noCount, Ran}
 use Rattle.loader.specs.Kept.{KeptCall}
 
 -- a report's answer: 0 and the length, or a refusal's number and place
@@ -32,9 +32,6 @@ unfoldable pub headOf : Outcome → List ℕ
 headOf o = set (set (set (set (set (replicate 53 0) 0 (firstOf o)) 1 (o .row)) 2 (o .ticks)) 3 (o .used)) 4 (o .loops)
 
 -- then for loop k its row, all turns and the most in one entry, at 5 + 3k, 6 + 3k and 7 + 3k
-abbrev pub noCount : LoopCount
-noCount = record { row = 0; all = 0; most = 0 }
-
 unfoldable pub upTo : ℕ → List LoopCount → List ℕ → List ℕ
 upTo zero counts head = head
 upTo (suc k) counts head =

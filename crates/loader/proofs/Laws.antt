@@ -1,28 +1,24 @@
 -- From a loaded file to the judgement of the call. Assumes nothing.
-use mathlib.Core.Path.{_≡_, refl, sym, ap, _∙_, subst}
-use mathlib.Core.Bool.{Bool, true, false, cond}
-use mathlib.Core.List.{List, [], _∷_, _++_}
-use Prim.Native.Nat.{ℕ, zero, suc, _+_, _≤_, _<_}
+use mathlib.Core.Path.{_≡_, refl, sym, _∙_}
+use mathlib.Core.List.{List, [], _∷_}
+use Prim.Native.Nat.{ℕ, zero, suc, _≤_, _<_}
 use native.Mathlib.Omega.{arith}
-use lib.IntN.{ℤ, pos}
-use lib.ListN.{length, getD, length-append}
+use lib.IntN.{ℤ}
+use lib.ListN.{length, length-append}
 use borrow.Author.Tests.{eq-eqb, ne-eqb, le-leb, lt-leb}
 use Rattle.rules.specs.Figures.{ones}
-use Rattle.rules.specs.Ranges.{Range}
-use Rattle.rules.specs.Scripts.{Script, ends, Legal}
+use Rattle.rules.specs.Scripts.{ends, Legal}
 use Rattle.rules.specs.File
 use Rattle.rules.specs.File.{fileScript}
-use Rattle.rules.specs.Calls.{Judged, accepted, refuses, judgedBy, judgedFile, judged, storeVerdict, RunReply, ran, runReply, stored, ranScript, storeAfter}
-use Rattle.rules.specs.Questions.{passed}
-use Rattle.rules.specs.Claim.{Demand3Of}
+use Rattle.rules.specs.Calls.{Judged, refuses, judgedFile, judged, runReply, storeAfter}
 use Rattle.rules.proofs.Reading.{read-legal}
 use Rattle.rules.proofs.FromBytes.{demand3-call}
 use Rattle.reader.specs.declared.Loaded.{Loaded}
 use Rattle.reader.specs.Read.{loadedOf, scriptOf}
 use Rattle.calls.specs.Held.{Given, judgedScript}
-use Rattle.calls.specs.Told.{Ran, Told, ToldNo}
+use Rattle.calls.specs.Told.{Ran, ToldNo}
 use Rattle.calls.specs.declared.Outcome.{Outcome}
-use Rattle.loader.specs.Kept.{KeptRun, KeptCall}
+use Rattle.loader.specs.Kept.{KeptCall}
 
 -- question 1
 pub scratch-short : (scratch : ℕ) (file : List ℕ) → scratch < 8_192 → judged ones scratch file ≡ refuses 1 8_192
@@ -56,19 +52,10 @@ module _ (scratch : ℕ) (file : List ℕ) (l : Loaded) (room : 8_192 ≤ scratc
         let legal : Legal (scriptOf l) = read-legal file (scriptOf l) ([] ∷ []) loaded in
         record { legal = legal; rows = h; ranges = omega (arith, legal .sizes .0, ends-length (l .vars) (l .low) (l .high)) }
 
-ran-when : (j : Judged) (script : Script) (store : List ℤ) (picks : List ℕ) (allowance : ℕ) → j ≡ accepted script → storeVerdict 0 (script .ranges) store ≡ passed
-    → runReply ones j store picks allowance ≡ ranScript ones script store picks allowance
-unfolding runReply stored
-ran-when j script store picks allowance e v = rw (e, v)
-
 -- demand 3 of this call: from its answer, and from demand 3 of the file
 pub kept-call : (scratch : ℕ) (file : List ℕ) (store : List ℤ) (picks : List ℕ) (allowance : ℕ) (new : List ℤ) (o : Outcome)
     → Ran (runReply ones (judged ones scratch file) store picks allowance) store new o → KeptCall (judged ones scratch file) store picks allowance o
-unfolding KeptCall Demand3Of ranScript
-kept-call scratch file store picks allowance new o r script e v t = record {
-  told = subst (Told o) (ran-when (judged ones scratch file) script store picks allowance e v) (r .told);
-  kept = demand3-call store picks allowance scratch file script e v t;
-}
+kept-call scratch file store picks allowance new o r = record { told = r .told; kept = demand3-call store picks allowance scratch file }
 
 -- a refusal
 pub ran-refused : (j : Judged) (q p : ℕ) (store : List ℤ) (picks : List ℕ) (allowance : ℕ) (o : Outcome) → j ≡ refuses q p → ToldNo o q p → Ran (runReply ones j store picks allowance) store store o

@@ -1,24 +1,15 @@
 -- Demand 3, of the answer of one run call.
-use mathlib.Core.Path.{_≡_}
 use mathlib.Core.List.{List}
-use Prim.Native.Nat.{ℕ, _≤_}
+use Prim.Native.Nat.{ℕ}
 use lib.IntN.{ℤ}
 use Rattle.rules.specs.Figures.{ones}
-use Rattle.rules.specs.Questions.{passed}
-use Rattle.rules.specs.Scripts.{Script, reportTicks, reportLines}
-use Rattle.rules.specs.Calls.{Judged, accepted, storeVerdict, runScript, loopRows, countsAt}
-use Rattle.rules.specs.Claim.{Kept-within}
+use Rattle.rules.specs.Calls.{Judged, runReply}
+use Rattle.rules.specs.Claim.{Demand3Of}
 use Rattle.calls.specs.declared.Outcome.{Outcome}
-use Rattle.calls.specs.Told.{ToldRun}
+use Rattle.calls.specs.Told.{Told}
 
--- the answer is that of document 01's run, and this run keeps within the report: not spent, its ticks at most T, every entry at most its
--- loop's turns, all entries at most the total, and entries of an exact loop that its test ended exactly its turns
-pub record KeptRun (script : Script) (store : List ℤ) (picks : List ℕ) (allowance : ℕ) (o : Outcome) : Type 0 where
-  pub told : ToldRun o (runScript ones script store picks allowance) (countsAt (runScript ones script store picks allowance .entries) (loopRows 0 (script .rows)))
-  pub kept : Kept-within (reportTicks ones script) (reportLines script) (runScript ones script store picks allowance)
-
--- for an accepted file, a store inside its ranges, any picks, and the ticks of the file's report (or more) as allowance
-unfoldable pub KeptCall : Judged → List ℤ → List ℕ → ℕ → Outcome → Type 0
-KeptCall judgement store picks allowance o =
-    (script : Script) → judgement ≡ accepted script → storeVerdict 0 (script .ranges) store ≡ passed → reportTicks ones script ≤ allowance
-    → KeptRun script store picks allowance o
+-- the answer tells document 01's run of this call; and for an accepted file, a store inside its ranges and an allowance of the report's ticks
+-- or more, this run keeps within the report: not spent, its ticks, turns and totals at most the report's, exact loops exactly
+pub record KeptCall (judgement : Judged) (store : List ℤ) (picks : List ℕ) (allowance : ℕ) (o : Outcome) : Type 0 where
+  pub told : Told o (runReply ones judgement store picks allowance)
+  pub kept : Demand3Of judgement store picks allowance

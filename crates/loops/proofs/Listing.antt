@@ -12,8 +12,9 @@ use lib.Seq.{drop-cons, take-suc-set, length-take-le}
 use Rattle.rules.specs.declared.Kind.{Kind}
 use Rattle.rules.specs.declared.Kind.the-variants.{Set, Move, Cue, Pick, Else, End, While, Do, For}
 use Rattle.rules.specs.Nesting.{Open, in-loop, in-pick, in-else, Nest, Nested, nested, wrong, nest, opens, elses, ends, nestRow, andRows, nestRows}
+use Rattle.rules.specs.Calls.{isLoop, loopRows}
 use Rattle.loops.specs.declared.Loops.{Loops}
-use Rattle.loops.specs.Loops.{isLoop, headsFrom, headsOf, mapped, withRow, Listed}
+use Rattle.loops.specs.Loops.{headsOf, mapped, withRow, Listed}
 
 -- ---- at most 16
 -- the loops so far and the rest
@@ -56,7 +57,7 @@ module _ (last : Nest) where
 
   few-row : (k : Kind) (s : Nest) (rest : Nest → Nested) (i : ℕ) (more : List ℕ) → andRows (nestRow k s) rest ≡ nested last
       → ((t : Nest) → t .loops ≤ 16 → rest t ≡ nested last → Few (t .loops) (length more)) → s .loops ≤ 16 → Few (s .loops) (length (cond (isLoop k) (i ∷ more) more))
-  unfolding nestRow andRows opens
+  unfolding nestRow andRows opens isLoop
   few-row (Set v x) s rest i more e ih l = ih s l e
   few-row (Move v c) s rest i more e ih l = ih s l e
   few-row (Cue n) s rest i more e ih l = ih s l e
@@ -67,10 +68,10 @@ module _ (last : Nest) where
   few-row (Do v c x) s rest i more e ih l = few-loop (s .open-blocks) (s .loops) rest (length more) e ih
   few-row (For v y c x d) s rest i more e ih l = few-loop (s .open-blocks) (s .loops) rest (length more) e ih
 
-  few-rows : (ks : List Kind) (i : ℕ) (s : Nest) → s .loops ≤ 16 → nestRows ks s ≡ nested last → Few (s .loops) (length (headsFrom i ks))
-  unfolding nestRows headsFrom
+  few-rows : (ks : List Kind) (i : ℕ) (s : Nest) → s .loops ≤ 16 → nestRows ks s ≡ nested last → Few (s .loops) (length (loopRows i ks))
+  unfolding nestRows loopRows
   few-rows [] i s l e = let q : s ≡ last = cc in let n : s .loops ≡ last .loops = ap (λ (t : Nest). t .loops) q in (omega arith, omega arith)
-  few-rows (k ∷ ks) i s l e = few-row k s (λ t. nestRows ks t) i (headsFrom (suc i) ks) e (λ t m f. few-rows ks (suc i) t m f) l
+  few-rows (k ∷ ks) i s l e = few-row k s (λ t. nestRows ks t) i (loopRows (suc i) ks) e (λ t m f. few-rows ks (suc i) t m f) l
 
 pub heads-few : (ks : List Kind) (n : ℕ) → nestRows ks (record { open-blocks = []; loops = 0 }) ≡ nest [] n → length (headsOf ks) ≤ 16
 heads-few ks n e = let (a, b) = few-rows _ ks 0 _ (omega arith) e in omega arith
@@ -85,30 +86,30 @@ mapped-snoc f (x ∷ l) p = ap {B = List ℕ} (λ r. f x ∷ r) (mapped-snoc f l
 pub record Listing (ks : List Kind) (all most : List ℕ) (j : ℕ) (l : Loops) : Type 0 where
   pub sizes : (length (l .rows) ≡ 16) × (length (l .all) ≡ 16) × (length (l .most) ≡ 16)
   pub few : l .count ≤ 16
-  pub heads : take (l .count) (l .rows) ++ headsFrom j (drop j ks) ≡ headsOf ks
+  pub heads : take (l .count) (l .rows) ++ loopRows j (drop j ks) ≡ headsOf ks
   pub sums : take (l .count) (l .all) ≡ mapped (λ p. getD all p 0) (take (l .count) (l .rows))
   pub mosts : take (l .count) (l .most) ≡ mapped (λ p. getD most p 0) (take (l .count) (l .rows))
 
 module _ (ks : List Kind) (all most : List ℕ) (small : length (headsOf ks) ≤ 16) (j : ℕ) (l : Loops) (now : Listing ks all most j l) (in-rows : j < length ks) where
   abbrev later : List ℕ
-  later = headsFrom (suc j) (drop (suc j) ks)
+  later = loopRows (suc j) (drop (suc j) ks)
 
-  here : headsFrom j (drop j ks) ≡ cond (isLoop (getD ks j End)) (j ∷ later) later
-  unfolding headsFrom
-  here = ap (headsFrom j) (drop-cons ks j End in-rows)
+  here : loopRows j (drop j ks) ≡ cond (isLoop (getD ks j End)) (j ∷ later) later
+  unfolding loopRows
+  here = ap (loopRows j) (drop-cons ks j End in-rows)
 
-  room : (b : Bool) → b ≡ true → headsFrom j (drop j ks) ≡ cond b (j ∷ later) later → l .count < 16
+  room : (b : Bool) → b ≡ true → loopRows j (drop j ks) ≡ cond b (j ∷ later) later → l .count < 16
   room false e q = absurd (let z : _≡_ {A = ℕ} 0 1 = cc in omega arith)
   room true e q =
       let (a, _, _) = now .sizes in
       let first : length (take (l .count) (l .rows)) ≡ l .count = length-take-le (l .count) (l .rows) (omega (arith, now .few)) in
-      let whole = length-append (take (l .count) (l .rows)) (headsFrom j (drop j ks)) in
+      let whole = length-append (take (l .count) (l .rows)) (loopRows j (drop j ks)) in
       omega (arith, first, whole, ap length (now .heads), ap length q)
 
   pub room-for : isLoop (getD ks j End) ≡ true → l .count < 16
   room-for e = room (isLoop (getD ks j End)) e here
 
-  listed : (b : Bool) → (b ≡ true → l .count < 16) → headsFrom j (drop j ks) ≡ cond b (j ∷ later) later → Listing ks all most (suc j) (withRow b j (getD all j 0) (getD most j 0) l)
+  listed : (b : Bool) → (b ≡ true → l .count < 16) → loopRows j (drop j ks) ≡ cond b (j ∷ later) later → Listing ks all most (suc j) (withRow b j (getD all j 0) (getD most j 0) l)
   listed false r q = record { sizes = now .sizes; few = now .few; heads = ap (λ h. take (l .count) (l .rows) ++ h) (sym q) ∙ now .heads; sums = now .sums; mosts = now .mosts }
   listed true r q =
       let (a, b, c) = now .sizes in
@@ -129,9 +130,9 @@ module _ (ks : List Kind) (all most : List ℕ) (small : length (headsOf ks) ≤
   listing-row = rw add-one (listed (isLoop (getD ks j End)) room-for here)
 
 pub listing-all : (ks : List Kind) (all most : List ℕ) (j : ℕ) (l : Loops) → length ks ≤ j → Listing ks all most j l → Listed ks all most l
-unfolding headsFrom
+unfolding loopRows
 listing-all ks all most j l h now =
-    let none : headsFrom j (drop j ks) ≡ [] = ap (headsFrom j) (drop-of-length-le ks h) in
+    let none : loopRows j (drop j ks) ≡ [] = ap (loopRows j) (drop-of-length-le ks h) in
     let heads : take (l .count) (l .rows) ≡ headsOf ks = sym (append-nil _) ∙ ap (λ z. take (l .count) (l .rows) ++ z) (sym none) ∙ now .heads in
     let (a, _, _) = now .sizes in
     record {

@@ -1,35 +1,20 @@
 -- The loops of the rows in row order, by their head rows.
 use mathlib.Core.Path.{_≡_}
-use mathlib.Core.Bool.{Bool, true, false, cond}
+use mathlib.Core.Bool.{Bool, true, false}
 use mathlib.Core.List.{List, [], _∷_}
-use Prim.Native.Nat.{ℕ, suc, _+_, _≤_}
+use Prim.Native.Nat.{ℕ, _+_, _≤_}
 use lib.ListN.{length, getD, set, take}
 use Rattle.rules.specs.declared.Kind.{Kind}
-use Rattle.rules.specs.declared.Kind.the-variants.{Set, Move, Cue, Pick, Else, End, While, Do, For}
 use Rattle.rules.specs.declared.Row.{Row}
 use Rattle.rules.specs.Blocks.{kindsOf}
 use Rattle.rules.specs.Figures.{Line}
 use Rattle.rules.specs.Nesting.{nest, nestRows}
+use Rattle.rules.specs.Calls.{loopRows}
 use Rattle.loops.specs.declared.Loops.{Loops}
 
-abbrev pub isLoop : Kind → Bool
-isLoop (Set v x) = false
-isLoop (Move v c) = false
-isLoop (Cue n) = false
-isLoop Pick = false
-isLoop Else = false
-isLoop End = false
-isLoop (While v c x) = true
-isLoop (Do v c x) = true
-isLoop (For v y c x d) = true
-
--- the head rows from row i on
-unfoldable pub headsFrom : ℕ → List Kind → List ℕ
-headsFrom i [] = []
-headsFrom i (k ∷ ks) = cond (isLoop k) (i ∷ headsFrom (suc i) ks) (headsFrom (suc i) ks)
-
+-- the head rows of the loops
 abbrev pub headsOf : List Kind → List ℕ
-headsOf rows = headsFrom 0 rows
+headsOf rows = loopRows 0 rows
 
 -- a number for each
 unfoldable pub mapped : (ℕ → ℕ) → List ℕ → List ℕ

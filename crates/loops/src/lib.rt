@@ -6,7 +6,8 @@ ghost use mathlib.Core.Bool.{true};
 ghost use Prim.Native.Nat.{_<_};
 ghost use lib.ListN.{take};
 ghost use Rattle.rules.specs.Blocks.{kindsOf};
-ghost use Rattle.loops.specs.Loops.{isLoop, withRow, Listable, Listed};
+ghost use Rattle.rules.specs.Calls.{isLoop};
+ghost use Rattle.loops.specs.Loops.{withRow, Listable, Listed};
 
 // At most 16 loops: their head rows, all turns, and the most in one entry.
 pub struct Loops {

@@ -1,4 +1,4 @@
-// The run of a script as a machine over its rows: one row a step, at most one tick a step.
+// The run of a script as a machine over its rows: one row a step. It stops before any tick that is not left, and goes on from there.
 use actions::Machine;
 use rules::Comparison;
 use rules::Kind;
@@ -8,12 +8,10 @@ ghost use mathlib.Core.List.{List};
 ghost use Prim.Native.Nat.{ℕ};
 ghost use lib.ListN.{length};
 ghost use Rattle.rules.specs.declared.Kind.{Kind};
-ghost use Rattle.rules.specs.Figures.{ones};
-ghost use Rattle.rules.specs.RowMachine.{onEnd, onRow};
 ghost use Rattle.rules.specs.Scripts.{OperandBelow};
-ghost use Rattle.actions.specs.States.{forTo, phaseOf, tallyOf, Acts, Steps, Testable, Doable, Fitting};
+ghost use Rattle.actions.specs.States.{endTo, forTo, rowTo, phaseOf, tallyOf, Acts, Steps, Testable, Doable, Fitting};
 
-// The `end` of the block that row h begins: a loop's step and test.
+// The `end` of the block that row h begins: a loop's step, if it is a for that has not stepped yet, and its test.
 fn end_row(
     m: Machine,
     head: Row,
@@ -24,7 +22,7 @@ fn end_row(
     most: &mut [u64],
 ) -> Machine
     requires { ⌜ Doable (m .row) h (head .kind) (now store) (now turns) (now all) (now most) ⌝ }
-    ensures { λ r. ⌜ ((rows : List Kind) (shut opener : ℕ → ℕ) → Acts m r (now (store .entry)) (now (store .exit)) (tallyOf (now (turns .entry)) (now (all .entry)) (now (most .entry))) (tallyOf (now (turns .exit)) (now (all .exit)) (now (most .exit))) (onEnd ones rows shut opener (head .kind) h (m .row) (phaseOf (m .testing)))) ⌝ }
+    ensures { λ r. ⌜ ((rows : List Kind) (shut opener : ℕ → ℕ) → Acts m r (now (store .entry)) (now (store .exit)) (tallyOf (now (turns .entry)) (now (all .entry)) (now (most .entry))) (tallyOf (now (turns .exit)) (now (all .exit)) (now (most .exit))) (endTo rows shut opener (head .kind) h (m .row) (phaseOf (m .testing)))) ⌝ }
 {
     let kind = head.kind;
     let e = m.row;
@@ -41,7 +39,12 @@ fn end_row(
             if m.testing {
                 actions::test_row(m, h, e, v, c, x, store, turns, all, most)
             } else {
-                actions::move_row(m, h, v, change, e, true, store)
+                let n = actions::move_row(m, h, v, change, e, true, store);
+                if actions::waits(n) {
+                    actions::test_row(n, h, e, v, c, x, store, turns, all, most)
+                } else {
+                    n
+                }
             }
         }
     }
@@ -68,7 +71,12 @@ fn for_row(
         return actions::test_row(m, h, e, v, c, x, store, turns, all, most);
     }
     turns[h] = 0;
-    actions::set_row(m, h, v, y, h, true, store)
+    let n = actions::set_row(m, h, v, y, h, true, store);
+    if actions::waits(n) {
+        actions::test_row(n, h, e, v, c, x, store, turns, all, most)
+    } else {
+        n
+    }
 }
 
 // One row: `e` closes the block that it begins, or it closes the block that row h, `head`, begins.
@@ -85,7 +93,7 @@ pub fn step(
     most: &mut [u64],
 ) -> Machine
     requires { ⌜ Doable e (m .row) (row .kind) (now store) (now turns) (now all) (now most) × Doable (m .row) h (head .kind) (now store) (now turns) (now all) (now most) ⌝ }
-    ensures { λ r. ⌜ ((rows : List Kind) (shut opener : ℕ → ℕ) → Fitting rows shut opener (m .row) e h (head .kind) → Steps m r (now (store .entry)) (now (store .exit)) (now (picks .entry)) (tallyOf (now (turns .entry)) (now (all .entry)) (now (most .entry))) (tallyOf (now (turns .exit)) (now (all .exit)) (now (most .exit))) (onRow ones rows shut opener (row .kind) (m .row) (phaseOf (m .testing)))) ⌝ }
+    ensures { λ r. ⌜ ((rows : List Kind) (shut opener : ℕ → ℕ) → Fitting rows shut opener (m .row) e h (head .kind) → Steps m r (now (store .entry)) (now (store .exit)) (now (picks .entry)) (tallyOf (now (turns .entry)) (now (all .entry)) (now (most .entry))) (tallyOf (now (turns .exit)) (now (all .exit)) (now (most .exit))) (rowTo rows shut opener (row .kind) (m .row) (phaseOf (m .testing)))) ⌝ }
 {
     let kind = row.kind;
     let i = m.row;
@@ -101,8 +109,7 @@ pub fn step(
             actions::test_row(m, i, e, v, c, x, store, turns, all, most)
         }
         Kind::Do(_, _, _) => {
-            turns[i] = 0;
-            actions::count_turn(i, turns, all, most);
+            actions::enter(i, 1, turns, all, most);
             actions::on(m, m.left, i + 1, false)
         }
         Kind::For(v, y, c, x, _) => for_row(m, e, v, y, c, x, store, turns, all, most),

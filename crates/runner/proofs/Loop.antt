@@ -16,7 +16,7 @@ use Rattle.rules.specs.Values.{put}
 use Rattle.rules.specs.Blocks.{Test, kindsOf}
 use Rattle.rules.specs.Figures.{Prices, ones}
 use Rattle.rules.specs.Run.{State, Out, go, halt, holds}
-use Rattle.rules.specs.RowMachine.{Tally, begin, turn, Phase, fresh, testing, Place, Next, more, over, to, chosen, outcome, paid, picked, tests, onEnd, onRow, next, steps, Partners, pairs, rank}
+use Rattle.rules.specs.RowMachine.{Tally, begin, turn, Phase, fresh, testing, Place, Next, more, over, to, chosen, outcome, paid, picked, tests, test, onEnd, onRow, next, steps, Partners, pairs, rank}
 use Rattle.rules.specs.Scripts.{All, some, RowLimits, RowBelow}
 use Rattle.rules.proofs.RowSimulation.{falls-more, next-row, next-past}
 use Rattle.rules.proofs.Pairing.{partners, pairs-in}
@@ -28,7 +28,7 @@ use Rattle.rules.specs.Nesting.{nest, nestRows}
 use Rattle.actions.specs.declared.Machine.{Machine}
 use Rattle.actions.specs.declared.Status.{Status}
 use Rattle.actions.specs.declared.Status.the-variants.{Going, Over}
-use Rattle.actions.specs.States.{phaseOf, stateOf, placeOf, tallyOf, byStatus, nextOf, isGoing, overAt, Room, Doable, Fitting, Steps}
+use Rattle.actions.specs.States.{phaseOf, stateOf, placeOf, tallyOf, byStatus, nextOf, andTests, endTo, rowTo, isGoing, overAt, Room, Doable, Fitting, Steps}
 use Rattle.runner.specs.Runs.{Roomy, roomy-over, roomy-more, Ready, Finished}
 
 -- every element by its index
@@ -143,6 +143,56 @@ module _ (rows : List Kind) (shut opener : ℕ → ℕ) where
   step-more (suc n) (more p) m e = step-more n (next ones rows shut opener p) m e
   step-more (suc n) (over f i s c) m e = absurd (let z : _≡_ {A = ℕ} 0 1 = cc in omega arith)
 
+  -- a step of the code: one step, or two
+  pub data Onto (m : Place) : Next → Type 0 where
+    one : {x : Next} → x ≡ next ones rows shut opener m → Onto m x
+    two : {x : Next} (p : Place) → next ones rows shut opener m ≡ more p → x ≡ next ones rows shut opener p → Onto m x
+
+  -- a for's start or step, and then its test
+  onto-tests : (m : Place) (h e i : ℕ) (t : Test) (c : Tally) (o : Out) → next ones rows shut opener m ≡ outcome o c (λ u. to i testing u c)
+      → ((u : State) → tests ones h e t u c ≡ next ones rows shut opener (record { row = i; phase = testing; now = u; tally = c }))
+      → Onto m (andTests h e t (outcome o c (λ u. to i testing u c)))
+  unfolding outcome
+  onto-tests m h e i t c (go u es) q f = two _ q (f u)
+  onto-tests m h e i t c (halt a j u es) q f = one (sym q)
+
+  module _ (i : ℕ) (l : i < length rows) where
+    -- row i, of kind k, and an `end` of a block that a row of kind k begins
+    at-row : (k : Kind) → getD rows i End ≡ k → (ph : Phase) (s : State) (c : Tally) → onRow ones rows shut opener k i ph s c ≡ next ones rows shut opener (record { row = i; phase = ph; now = s; tally = c })
+    at-row k e ph s c = sym (next-row ones rows shut opener i k ph s c l e)
+
+    at-end : (k : Kind) → getD rows i End ≡ End → getD rows (opener i) End ≡ k → (ph : Phase) (s : State) (c : Tally)
+        → onEnd ones rows shut opener k (opener i) i ph s c ≡ next ones rows shut opener (record { row = i; phase = ph; now = s; tally = c })
+    unfolding onRow
+    at-end k e q ph s c = ap (λ z. onEnd ones rows shut opener z (opener i) i ph s c) (sym q) ∙ at-row End e ph s c
+
+    onto-end : (k : Kind) → getD rows i End ≡ End → getD rows (opener i) End ≡ k → (ph : Phase) (s : State) (c : Tally)
+        → Onto (record { row = i; phase = ph; now = s; tally = c }) (endTo rows shut opener k (opener i) i ph s c)
+    unfolding onEnd
+    onto-end (For v y d x m) e q fresh s c = onto-tests _ (opener i) i i (test v d x) c _ (sym (at-end _ e q fresh s c)) (λ u. at-end _ e q testing u c)
+    onto-end (For v y d x m) e q testing s c = one (at-end _ e q testing s c)
+    onto-end (Set v x) e q ph s c = one (at-end _ e q ph s c)
+    onto-end (Move v d) e q ph s c = one (at-end _ e q ph s c)
+    onto-end (Cue n) e q ph s c = one (at-end _ e q ph s c)
+    onto-end Pick e q ph s c = one (at-end _ e q ph s c)
+    onto-end Else e q ph s c = one (at-end _ e q ph s c)
+    onto-end End e q ph s c = one (at-end _ e q ph s c)
+    onto-end (While v d x) e q ph s c = one (at-end _ e q ph s c)
+    onto-end (Do v d x) e q ph s c = one (at-end _ e q ph s c)
+
+    onto-row : (k : Kind) → getD rows i End ≡ k → (ph : Phase) (s : State) (c : Tally) → Onto (record { row = i; phase = ph; now = s; tally = c }) (rowTo rows shut opener k i ph s c)
+    unfolding onRow
+    onto-row (For v y d x m) e fresh s c = onto-tests _ i (shut i) i (test v d x) (begin i c) _ (sym (at-row _ e fresh s c)) (λ u. at-row _ e testing u (begin i c))
+    onto-row (For v y d x m) e testing s c = one (at-row _ e testing s c)
+    onto-row End e ph s c = onto-end _ e refl ph s c
+    onto-row (Set v x) e ph s c = one (at-row _ e ph s c)
+    onto-row (Move v d) e ph s c = one (at-row _ e ph s c)
+    onto-row (Cue n) e ph s c = one (at-row _ e ph s c)
+    onto-row Pick e ph s c = one (at-row _ e ph s c)
+    onto-row Else e ph s c = one (at-row _ e ph s c)
+    onto-row (While v d x) e ph s c = one (at-row _ e ph s c)
+    onto-row (Do v d x) e ph s c = one (at-row _ e ph s c)
+
   -- the state x is reached from the start, with room
   pub record Held (start x : Next) : Type 0 where
     pub n : ℕ
@@ -167,6 +217,14 @@ module _ (rows : List Kind) (shut opener : ℕ → ℕ) where
     held-next start m x h q =
         let (r, l) = roomy-next m x (h .room) q in
         (record { n = suc (h .n); same = step-more (h .n) start m (h .same) ∙ sym q; room = r }, l)
+
+    -- the same over a step of the code
+    held-onto : (start : Next) (m : Place) (x : Next) → Held start (more m) → Onto m x → Held start x × (weight R x < suc (rank R m))
+    held-onto start m x h (one q) = held-next start m x h q
+    held-onto start m x h (two p e q) =
+        let (h₁, l₁) = held-next start m (more p) h (sym e) in
+        let (h₂, l₂) = held-next start p x h₁ q in
+        (h₂, omega arith)
 
 -- the tables that one pass finds
 pub partners-of : (rows : List Kind) (n : ℕ) → nestRows rows (record { open-blocks = []; loops = 0 }) ≡ nest [] n → (t : Tables) → Found rows t → Partners rows (tableOf (t .shut)) (tableOf (t .opener))
@@ -252,12 +310,12 @@ module _ (rows : List Row) (count : ℕ) (t : Tables) (picks : List ℕ) (m₀ :
     pub head-in : m .row < count → opener (m .row) < count
     head-in l = opener-in (m .row) l
 
-    -- another state that is one step on
+    -- another state that is a step of the code on
     runs-on : (r : Machine) (store′ : List ℤ) (turns′ all′ most′ : List ℕ) → (length store′ ≡ length store) × (length turns′ ≡ length turns) × (length all′ ≡ length all) × (length most′ ≡ length most)
-        → nextOf r store′ picks (tallyOf turns′ all′ most′) ≡ next ones ks shut opener here → r .left ≤ m .left → r .used ≤ length picks
+        → Onto ks shut opener here (nextOf r store′ picks (tallyOf turns′ all′ most′)) → r .left ≤ m .left → r .used ≤ length picks
         → Runs rows count t picks m₀ store₀ turns₀ all₀ most₀ r store′ turns′ all′ most′ × (weight (length ks) (nextOf r store′ picks (tallyOf turns′ all′ most′)) < weight (length ks) (nextOf m store picks (tallyOf turns all most)))
     runs-on r store′ turns′ all′ most′ (a, b, c, d) q l u =
-        let (h, w) = held-next ks shut opener fit _ here _ held-here q in
+        let (h, w) = held-onto ks shut opener fit _ here _ held-here q in
         let (a′, b′, c′, d′) = now .lengths in (
           record { lengths = (a ∙ a′, b ∙ b′, c ∙ c′, d ∙ d′); held = h; left = omega (arith, now .left); used = u },
           subst (λ x. weight (length ks) (nextOf r store′ picks (tallyOf turns′ all′ most′)) < weight (length ks) x) (sym is-here) w,
@@ -266,11 +324,12 @@ module _ (rows : List Row) (count : ℕ) (t : Tables) (picks : List ℕ) (m₀ :
     -- a row
     pub runs-step : (r : Machine) (store′ : List ℤ) (turns′ all′ most′ : List ℕ) → (length store′ ≡ length store) × (length turns′ ≡ length turns) × (length all′ ≡ length all) × (length most′ ≡ length most)
         → m .row < count
-        → Steps m r store store′ picks (tallyOf turns all most) (tallyOf turns′ all′ most′) (onRow ones ks shut opener (getD rows (m .row) (record { kind = End }) .kind) (m .row) (phaseOf (m .testing)))
+        → Steps m r store store′ picks (tallyOf turns all most) (tallyOf turns′ all′ most′) (rowTo ks shut opener (getD rows (m .row) (record { kind = End }) .kind) (m .row) (phaseOf (m .testing)))
         → Runs rows count t picks m₀ store₀ turns₀ all₀ most₀ r store′ turns′ all′ most′ × (weight (length ks) (nextOf r store′ picks (tallyOf turns′ all′ most′)) < weight (length ks) (nextOf m store picks (tallyOf turns all most)))
     runs-step r store′ turns′ all′ most′ same l s =
         let n = size-is in
-        runs-on r store′ turns′ all′ most′ same (s .same ∙ sym (next-row ones ks shut opener (m .row) _ _ _ _ (omega arith) (kind-of count rows (m .row) l))) (s .left) (s .used (now .used))
+        runs-on r store′ turns′ all′ most′ same
+        (subst (Onto ks shut opener here) (sym (s .same)) (onto-row ks shut opener (m .row) (omega arith) _ (kind-of count rows (m .row) l) _ _ _)) (s .left) (s .used (now .used))
 
     -- past the last row
     pub runs-past : count ≤ m .row
@@ -279,7 +338,7 @@ module _ (rows : List Row) (count : ℕ) (t : Tables) (picks : List ℕ) (m₀ :
     runs-past l =
         let n = size-is in
         runs-on (overAt m (m .left) Ended count) store turns all most (refl, refl, refl, refl)
-        (sym (next-past ones ks shut opener (m .row) _ _ _ (omega arith) ∙ ap (λ k. over Ended k (stateOf m store picks) (tallyOf turns all most)) n)) (omega arith) (now .used)
+        (one (sym (next-past ones ks shut opener (m .row) _ _ _ (omega arith) ∙ ap (λ k. over Ended k (stateOf m store picks) (tallyOf turns all most)) n))) (omega arith) (now .used)
 
   -- it is over
   pub runs-over : (m : Machine) (store : List ℤ) (turns all most : List ℕ) → Runs rows count t picks m₀ store₀ turns₀ all₀ most₀ m store turns all most → isGoing (m .status) ≡ false

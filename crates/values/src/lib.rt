@@ -5,6 +5,9 @@ use rules::Operand;
 ghost use mathlib.Core.Path.{_≡_};
 ghost use Prim.Native.Nat.{_≤_};
 ghost use lib.ListN.{length};
+ghost use lib.IntN.{ℤ};
+ghost use lib.Signed.{ltZ};
+ghost use Rattle.ints.specs.Ints.{eqZ};
 ghost use Rattle.rules.specs.Values.{value, quotient, applied, compares, inLimits};
 ghost use Rattle.rules.specs.Scripts.{storeOf, OperandBelow, ChangeLimits};
 
@@ -43,18 +46,31 @@ pub fn changed(change: Change, x: i32) -> i64
     }
 }
 
-// Does a comparison hold?
+// Does a comparison hold of values of this order: the first is less, or equal?
+fn by_order(comparison: Comparison, less: bool, equal: bool) -> bool
+    ensures { λ r. ⌜ ((x y : ℤ) → ltZ x y ≡ less → eqZ x y ≡ equal → r ≡ compares comparison x y) ⌝ }
+{
+    match comparison {
+        Comparison::Less => less,
+        Comparison::AtMost => less || equal,
+        Comparison::Greater => !less && !equal,
+        Comparison::AtLeast => !less,
+        Comparison::Equal => equal,
+        Comparison::Different => !equal,
+    }
+}
+
+// Does a comparison hold? Each order has a call of its own, so that it is a table and no jump.
 pub fn holds(comparison: Comparison, x: i32, y: i32) -> bool
     ensures { λ r. ⌜ r ≡ compares comparison x y ⌝ }
 {
-    match comparison {
-        Comparison::Less => x < y,
-        Comparison::AtMost => x <= y,
-        Comparison::Greater => x > y,
-        Comparison::AtLeast => x >= y,
-        Comparison::Equal => x == y,
-        Comparison::Different => x != y,
+    if x < y {
+        return by_order(comparison, true, false);
     }
+    if x == y {
+        return by_order(comparison, false, true);
+    }
+    by_order(comparison, false, false)
 }
 
 // Is a result within −L and L?

@@ -1,5 +1,5 @@
-use mathlib.Core.Bool.{false}
 -- `actions::cue_row` meets its contract. Assumes nothing.
+use mathlib.Core.Bool.{false}
 use Rattle.actions.proofs.Laws.{cue-spent, cue-done}
 use borrow.Author.Needs.{needs}
 use Rattle.actions.proofs.cue_row.Statement.{statement}

@@ -1,3 +1,4 @@
+-- `actions::move_row` meets its contract. Assumes nothing.
 use Rattle.actions.proofs.Laws.{put-plain}
 use Rattle.rules.specs.Blocks.{changed}
 use Rattle.rules.specs.Run.{result}
@@ -6,8 +7,6 @@ use mir.Facts.{toZ-ofZ}
 use borrow.Author.Needs.{sfits-of}
 use mir.Val.{SFits}
 use mir.Syntax.{w32, w64}
--- `actions::move_row` meets its contract. Assumes nothing.
-use mir.Facts.{toZ-ofZ}
 use mathlib.Core.Path.{_∙_, ap}
 use borrow.Author.Needs.{needs}
 use Rattle.actions.proofs.move_row.Statement.{statement}

@@ -1,10 +1,9 @@
+-- `actions::put` meets its contract. Assumes nothing.
 use Rattle.actions.proofs.Laws.{limits-fit}
 use Rattle.rules.specs.Values.{inLimits}
 use mir.Facts.{toZ-ofZ}
 use mathlib.Core.Bool.{true, false}
--- `actions::put` meets its contract. Assumes nothing.
 use Rattle.actions.proofs.Laws.{put-spent, put-range, put-done}
-use mir.Facts.{toZ-ofZ}
 use mathlib.Core.Path.{_≡_, sym, _∙_}
 use borrow.Author.Needs.{needs}
 use Rattle.actions.proofs.put.Statement.{statement}

@@ -1,3 +1,4 @@
+-- `actions::set_row` meets its contract. Assumes nothing.
 use Rattle.actions.proofs.Laws.{put-plain}
 use Rattle.rules.specs.Blocks.{from}
 use Rattle.rules.specs.Run.{result}
@@ -5,8 +6,6 @@ use mir.Facts.{toZ-ofZ, sfits-widen}
 use borrow.Author.Needs.{sfits-of}
 use mir.Val.{SFits}
 use mir.Syntax.{w32, w64}
--- `actions::set_row` meets its contract. Assumes nothing.
-use mir.Facts.{toZ-ofZ}
 use borrow.Author.Needs.{needs}
 use Rattle.actions.proofs.set_row.Statement.{statement}
 use Rattle.actions.proofs.set_row.Tie as tie

@@ -28,7 +28,8 @@ returns c =
         ticks = r .ensures .ticks;
         used = r .ensures .used;
         loops = number;
-        counts = c .counts-of .ensures ∙ counts;
+        counts = c .counts-of .ensures .counts ∙ counts;
+        rest = c .counts-of .ensures .rest;
       };
       store = r .ensures .final;
     }

@@ -1,3 +1,4 @@
+-- `diftanew::diftanew_report` meets its contract. Assumes nothing.
 use mathlib.Core.Path.{sym, ap, _∙_}
 use Rattle.diftanew.specs.Numbers.{numberOf, placeOf}
 use borrow.Author.Needs.{needs}

@@ -1,3 +1,4 @@
+-- `diftanew::ending_number` meets its contract. Assumes nothing.
 use Rattle.rules.specs.Calls.{endingNumber}
 use borrow.Author.Needs.{needs}
 use Rattle.diftanew.proofs.ending_number.Statement.{statement}

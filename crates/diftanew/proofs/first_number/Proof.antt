@@ -1,3 +1,4 @@
+-- `diftanew::first_number` meets its contract. Assumes nothing.
 use Rattle.diftanew.specs.Numbers.{firstOf}
 use borrow.Author.Tests.{eq-eqb, ne-eqb}
 use borrow.Author.Needs.{needs}

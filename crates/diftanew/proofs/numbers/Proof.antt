@@ -1,3 +1,4 @@
+-- `diftanew::numbers` meets its contract. Assumes nothing.
 use mathlib.Core.Path.{_≡_, refl}
 use Prim.Native.Nat.{_-_, _≤_, min}
 use native.Mathlib.Numerals.{add-one}

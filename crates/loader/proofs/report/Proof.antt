@@ -1,3 +1,4 @@
+-- `loader::report` meets its contract. Assumes nothing.
 use mathlib.Core.Path.{refl}
 use denote.Ref.{now}
 use Rattle.loader.proofs.Laws.{scratch-short, file-refused, file-read, file-given}

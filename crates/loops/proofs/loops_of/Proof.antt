@@ -1,6 +1,7 @@
 -- `loops::loops_of` meets its contract. The invariant: the loops before row j are listed. Assumes nothing.
 use Rattle.loops.proofs.Listing.{Listing, heads-few, room-for, listing-row, listing-all}
-use Rattle.loops.specs.Loops.{isLoop, mapped, headsFrom, withRow}
+use Rattle.rules.specs.Calls.{isLoop, loopRows}
+use Rattle.loops.specs.Loops.{mapped, withRow}
 use Rattle.rules.proofs.Laws.{kinds-first, kind-of}
 use Rattle.rules.specs.Blocks.{kindsOf}
 use lib.ListN.{length, getD, take}
@@ -22,7 +23,7 @@ full : (s : tie.Start Inv-loop μ-loop) → length (s .args .t1) ≡ 256
 full s = search needs
 
 loop-holds : tie.Need-loop-holds Inv-loop μ-loop
-unfolding mapped headsFrom
+unfolding mapped loopRows
 loop-holds c = (omega arith, record { sizes = (refl, refl, refl); few = omega arith; heads = refl; sums = refl; mosts = refl })
 
 with-row-requires : tie.Need-with-row-requires Inv-loop μ-loop

@@ -10,27 +10,6 @@ use Rattle.loops.proofs.with_row.Tie as tie
 room : (c : tie.Then1) → c .before .before .args .loops .count < 16
 room c = c .before .before .pre (sym (c .before .is-loop .ensures) ∙ c .if1 .taken)
 
-mul-next : tie.Need-mul-next
-mul-next c = omega (arith, room c)
-
-element-write-next : tie.Need-element-write-next
-element-write-next c = omega (arith, room c)
-
-mul-next-2 : tie.Need-mul-next-2
-mul-next-2 c = omega (arith, room c)
-
-element-write-next-2 : tie.Need-element-write-next-2
-element-write-next-2 c = omega (arith, room c)
-
-mul-next-3 : tie.Need-mul-next-3
-mul-next-3 c = omega (arith, room c)
-
-element-write-next-3 : tie.Need-element-write-next-3
-element-write-next-3 c = omega (arith, room c)
-
-add-next : tie.Need-add-next
-add-next c = omega (arith, room c)
-
 returns : tie.Need-returns
 returns c = rw (sym (c .before .is-loop .ensures) ∙ c .if1 .taken)
 
@@ -42,12 +21,12 @@ with-row-spec =
     tie.close
     (tie.spec
     (λ c κs. search needs)
-    mul-next
-    element-write-next
-    mul-next-2
-    element-write-next-2
-    mul-next-3
-    element-write-next-3
-    add-next
+    (λ c. omega (arith, room c))
+    (λ c. omega (arith, room c))
+    (λ c. omega (arith, room c))
+    (λ c. omega (arith, room c))
+    (λ c. omega (arith, room c))
+    (λ c. omega (arith, room c))
+    (λ c. omega (arith, room c))
     returns
     returns-2)

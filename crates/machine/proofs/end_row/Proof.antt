@@ -1,14 +1,11 @@
 -- `machine::end_row` meets its contract. Assumes nothing.
-use Rattle.machine.proofs.Laws.{passed, by-flag, tests-while, tests-do, tests-for}
--- `machine::end_row` meets its contract. Assumes nothing.
-use Rattle.rules.specs.Figures.{ones}
-use Rattle.actions.specs.States.{Doable, phaseOf}
--- `machine::end_row` meets its contract. Assumes nothing.
-
-use Rattle.rules.specs.RowMachine.{onEnd}
-use Rattle.rules.specs.declared.Kind.{Kind}
+use mathlib.Core.Path.{_≡_, refl, sym, _∙_, subst}
 use mathlib.Core.Bool.{true, false}
-use mathlib.Core.Path.{_≡_, refl, subst}
+use Rattle.rules.specs.declared.Kind.{Kind}
+use Rattle.rules.specs.RowMachine.{onEnd, test}
+use Rattle.actions.specs.States.{Doable, phaseOf, endTo}
+use Rattle.actions.proofs.Laws.{then-tests, no-tests}
+use Rattle.machine.proofs.Laws.{passed, by-flag, tests-while, tests-do, tests-for, tests-stored}
 use borrow.Author.Needs.{needs}
 use Rattle.machine.proofs.end_row.Statement.{statement}
 use Rattle.machine.proofs.end_row.Tie as tie
@@ -28,6 +25,9 @@ test-row-requires-3 c κs = tests-for (known (c .before .before .before .before 
 
 move-row-requires : tie.Need-move-row-requires
 move-row-requires c κs = let q = known (c .before .before .before .before .before .before .before .before) _ (c .before .before .before .kind3 .given .1) in (q .below .0, q .limits .2)
+
+test-row-requires-4 : tie.Need-test-row-requires-4
+test-row-requires-4 c κs = tests-stored (search needs) (tests-for (known (c .before .before .before .before .before .before .before .before .before .before .before .before .before .before .before .before) _ (c .before .before .before .before .before .before .before .before .before .before .before .kind3 .given .1)))
 
 returns : tie.Need-returns
 unfolding onEnd
@@ -66,14 +66,23 @@ unfolding onEnd
 returns-9 c =
     let s = c .before .before .before .before .before .before .before .before .before .before .before .before .before .before .before .before .before .before .args in
     λ rows shut opener.
-    by-flag (s .m .testing) (λ z. onEnd ones rows shut opener (s .head .kind) (s .h) (s .m .row) (phaseOf z)) true (c .before .before .before .before .before .before .before .before .before .before .before .if1 .taken) (rw (c .before .before .before .before .before .before .before .before .before .before .before .before .before .kind3 .given .1) (c .before .before .before .before .before .before .test-row3 .ensures))
+    by-flag (s .m .testing) (λ z. endTo rows shut opener (s .head .kind) (s .h) (s .m .row) (phaseOf z)) true (c .before .before .before .before .before .before .before .before .before .before .before .if1 .taken) (rw (c .before .before .before .before .before .before .before .before .before .before .before .before .before .kind3 .given .1) (c .before .before .before .before .before .before .test-row3 .ensures))
 
 returns-10 : tie.Need-returns-10
 unfolding onEnd
 returns-10 c =
-    let s = c .before .before .before .before .before .before .before .before .before .before .args in
+    let s = c .before .before .before .before .before .before .before .before .before .before .before .before .before .before .before .before .before .before .before .before .before .before .before .args in
     λ rows shut opener.
-    by-flag (s .m .testing) (λ z. onEnd ones rows shut opener (s .head .kind) (s .h) (s .m .row) (phaseOf z)) false (c .before .before .before .if1 .left) (rw (c .before .before .before .before .before .kind3 .given .1) (c .before .move-row .ensures _))
+    by-flag (s .m .testing) (λ z. endTo rows shut opener (s .head .kind) (s .h) (s .m .row) (phaseOf z)) false (c .before .before .before .before .before .before .before .before .before .before .before .before .before .before .before .before .if1 .left) (rw (c .before .before .before .before .before .before .before .before .before .before .before .before .before .before .before .before .before .before .kind3 .given .1)
+    (then-tests (s .h) (s .m .row) (test _ _ _) _ (c .before .before .before .before .before .before .before .before .before .before .before .before .before .before .move-row .ensures _) (sym (c .before .before .before .before .before .before .before .before .before .before .before .before .waits .ensures) ∙ c .before .before .before .before .before .before .before .before .before .before .before .if2 .taken) (c .before .before .before .before .before .before .test-row4 .ensures)))
+
+returns-11 : tie.Need-returns-11
+unfolding onEnd
+returns-11 c =
+    let s = c .before .before .before .before .before .before .before .before .before .before .before .before .args in
+    λ rows shut opener.
+    by-flag (s .m .testing) (λ z. endTo rows shut opener (s .head .kind) (s .h) (s .m .row) (phaseOf z)) false (c .before .before .before .before .before .if1 .left) (rw (c .before .before .before .before .before .before .before .kind3 .given .1)
+    (no-tests (s .h) (s .m .row) (test _ _ _) _ (c .before .before .before .move-row .ensures _) (sym (c .before .waits .ensures) ∙ c .if2 .left)))
 
 pub end-row-spec : {M : Type 1} → statement M
 end-row-spec =
@@ -104,6 +113,8 @@ end-row-spec =
     (λ c. search needs)
     test-row-requires-3
     move-row-requires
+    (λ c κs. search needs)
+    test-row-requires-4
     returns
     returns-2
     returns-3
@@ -126,4 +137,9 @@ end-row-spec =
     (λ c. search needs)
     returns-9
     (λ c. search needs)
-    returns-10)
+    (λ c. search needs)
+    (λ c. search needs)
+    (λ c. search needs)
+    returns-10
+    (λ c. search needs)
+    returns-11)

@@ -1,14 +1,12 @@
 -- `machine::step` meets its contract. Assumes nothing.
-use Rattle.actions.proofs.Laws.{begun, room-begun}
-use Rattle.machine.proofs.Laws.{passed, after, tests-while, tests-for, tests-begun, acts-row, steps-row, is-end, is-else, is-pick, is-set, is-move, is-cue, is-while, is-do, is-for}
--- `machine::step` meets its contract. Assumes nothing.
-use lib.ListN.{set}
-use Rattle.actions.specs.States.{Doable, tallyOf}
+use Rattle.actions.proofs.Laws.{entered-do}
+use Rattle.machine.proofs.Laws.{passed, begins, after, tests-while, tests-for, tests-begun, acts-row, steps-row, is-end, is-else, is-pick, is-set, is-move, is-cue, is-while, is-do, is-for}
+use Rattle.actions.specs.States.{Doable}
 use Rattle.rules.specs.RowMachine.{begin, turn, test, tests}
 use Rattle.rules.specs.Figures.{ones}
 use Rattle.rules.specs.declared.Kind.{Kind}
 use lib.ListN.{length-set}
-use mathlib.Core.Path.{_≡_, refl, _∙_, ap, subst}
+use mathlib.Core.Path.{_≡_, refl, _∙_, subst}
 use native.Mathlib.Omega.{arith}
 use borrow.Author.Needs.{needs}
 use Rattle.machine.proofs.step.Statement.{statement}
@@ -18,10 +16,6 @@ use Rattle.machine.proofs.step.Tie as tie
 known : (s : tie.Start) (k : Kind) → s .args .row .kind ≡ k → Doable (s .args .e) (s .args .m .row) k (s .args .store .now) (s .args .turns .now) (s .args .all .now) (s .args .most .now)
 known s k e = subst (λ z. Doable (s .args .e) (s .args .m .row) z (s .args .store .now) (s .args .turns .now) (s .args .all .now) (s .args .most .now)) e (s .pre .0)
 
--- an entry begins
-begins : (s : tie.Start) → tallyOf (set (s .args .turns .now) (s .args .m .row) 0) (s .args .all .now) (s .args .most .now) ≡ begin (s .args .m .row) (tallyOf (s .args .turns .now) (s .args .all .now) (s .args .most .now))
-begins s = let (a, b, d) = s .pre .0 .room .rows in let (i, j) = s .pre .0 .rows in begun (s .args .turns .now) (s .args .all .now) (s .args .most .now) (s .args .m .row) (omega arith)
-
 set-row-requires : tie.Need-set-row-requires
 set-row-requires c κs = known (c .before .before .before .before .before .before .before .before) _ (c .before .before .kind .given .1) .below
 
@@ -30,9 +24,6 @@ move-row-requires c κs = let q = known (c .before .before .before .before .befo
 
 test-row-requires : tie.Need-test-row-requires
 test-row-requires c κs = tests-begun (tests-while (known (c .before .before .before .before .before .before .before .before .before .before .before) _ (c .before .before .before .before .before .kind3 .given .1)))
-
-count-turn-requires : tie.Need-count-turn-requires
-count-turn-requires c κs = let s = c .before .before .before .before .before .before .before .before .before in (search needs, room-begun _ _ _ _ (s .pre .0 .rows .0) (s .pre .0 .room))
 
 for-row-requires : tie.Need-for-row-requires
 for-row-requires c κs = let q = known (c .before .before .before .before .before .before .before .before .before .before .before) _ (c .before .before .before .before .before .kind4 .given .1) in (tests-for q, q .below .1)
@@ -77,19 +68,19 @@ returns-7 c =
     let a = s .args in
     λ rows shut opener f.
     rw (c .before .before .before .before .before .before .before .before .before .before .before .before .kind3 .given .1)
-    (acts-row _ (after (tests ones (a .m .row) (a .e) (test _ _ _)) (begin (a .m .row)) (begins s) (c .before .before .before .before .before .before .test-row .ensures)) (λ t d. is-while rows shut opener (a .m .row) (a .e) (a .h) (a .head .kind) f t d _ _ _ (a .m .testing)))
-
-same-length-11 : tie.Need-same-length-11
-same-length-11 c = simp length-set at (c .before .before .before .before .before .before .before .count-turn .kept .1 .0)
+    (acts-row _ (after (tests ones (a .m .row) (a .e) (test _ _ _)) (begin (a .m .row)) (begins _ _ _ _ (s .pre .0 .rows .0) (s .pre .0 .room)) (c .before .before .before .before .before .before .test-row .ensures)) (λ t d. is-while rows shut opener (a .m .row) (a .e) (a .h) (a .head .kind) f t d _ _ _ (a .m .testing)))
 
 returns-8 : tie.Need-returns-8
 returns-8 c =
     let s = c .before .before .before .before .before .before .before .before .before .before .before .before .before .before .before .before .before in
     let a = s .args in
     let i = a .m .row in
+    let (x, y, z) = s .pre .0 .room .rows in
+    let (l, _) = s .pre .0 .rows in
+    let e = c .before .before .before .before .before .before .before .enter .ensures .same ∙ entered-do (a .turns .now) (a .all .now) (a .most .now) i (omega arith) (omega arith) (omega arith) in
     λ rows shut opener f.
     rw (c .before .before .before .before .before .before .before .before .before .before .before .enum-told5 .given .1, c .on2 .ensures)
-    (acts-row _ (passed _ _ _ _ _ (λ d. turn i (begin i d)) (c .before .before .before .before .before .before .before .count-turn .ensures .same ∙ ap (turn i) (begins s))) (λ t d. is-do rows shut opener i (a .e) (a .h) (a .head .kind) f t d _ _ _ (a .m .testing)))
+    (acts-row _ (passed _ _ _ _ _ (λ d. turn i (begin i d)) e) (λ t d. is-do rows shut opener i (a .e) (a .h) (a .head .kind) f t d _ _ _ (a .m .testing)))
 
 returns-9 : tie.Need-returns-9
 returns-9 c =
@@ -121,9 +112,7 @@ step-spec =
     (λ c. search needs)
     test-row-requires
     (λ c. search needs)
-    (λ c. search needs)
-    (λ c. search needs)
-    count-turn-requires
+    (λ c κs. search needs)
     (λ c. search needs)
     (λ c κs. search needs)
     (λ c. search needs)
@@ -145,7 +134,7 @@ step-spec =
     (λ c. search needs)
     (λ c. search needs)
     returns-7
-    same-length-11
+    (λ c. search needs)
     (λ c. search needs)
     (λ c. search needs)
     returns-8

@@ -1,7 +1,6 @@
 -- `values::value_of` meets its contract. Assumes nothing.
 use borrow.Author.Needs.{needs}
 use mathlib.Core.Path.{subst}
-use Prim.Native.Nat.{_<_}
 use lib.ListN.{length}
 use Rattle.rules.specs.Values.{value}
 use Rattle.rules.specs.Scripts.{OperandBelow}

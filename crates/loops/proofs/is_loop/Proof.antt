@@ -1,0 +1,29 @@
+-- `loops::is_loop` meets its contract. Assumes nothing.
+use borrow.Author.Needs.{needs}
+use Rattle.rules.specs.Calls.{isLoop}
+use Rattle.loops.proofs.is_loop.Statement.{statement}
+use Rattle.loops.proofs.is_loop.Tie as tie
+
+pub is-loop-spec : {M : Type 1} → statement M
+unfolding isLoop
+is-loop-spec =
+    tie.close
+    (tie.spec
+    (λ c. search needs)
+    (λ c. search needs)
+    (λ c. search needs)
+    (λ c. search needs)
+    (λ c. search needs)
+    (λ c. search needs)
+    (λ c. search needs)
+    (λ c. search needs)
+    (λ c. search needs)
+    (λ c. search needs)
+    (λ c. search needs)
+    (λ c. search needs)
+    (λ c. search needs)
+    (λ c. search needs)
+    (λ c. search needs)
+    (λ c. search needs)
+    (λ c. search needs)
+    (λ c. search needs))
