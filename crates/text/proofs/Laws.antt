@@ -101,24 +101,6 @@ starts-length (k ∷ w) (b ∷ s) e = go (eqb b k) (λ h. starts-length w s h) e
     go true ih h = omega (arith, ih h)
     go false ih h = absurd (let z : _≡_ {A = ℕ} 0 1 = cc in omega arith)
 
-pub equals-long : (w s : List ℕ) → length s ≡ length w → equals w s ≡ startsWith w s
-unfolding equals startsWith
-equals-long [] [] h = refl
-equals-long [] (b ∷ s) h = absurd (omega arith)
-equals-long (k ∷ w) [] h = refl
-equals-long (k ∷ w) (b ∷ s) h = rw (equals-long w s (omega arith))
-
-pub equals-other : (w s : List ℕ) → (length s ≡ length w → ⊥) → equals w s ≡ false
-unfolding equals
-equals-other [] [] h = absurd (h refl)
-equals-other [] (b ∷ s) h = refl
-equals-other (k ∷ w) [] h = refl
-equals-other (k ∷ w) (b ∷ s) h = go (eqb b k) (equals-other w s (λ e. h (ap suc e)))
-  where
-    go : (t : Bool) → equals w s ≡ false → cond t (equals w s) false ≡ false
-    go true e = e
-    go false e = refl
-
 -- ---- digits
 pub digit-low : (b : ℕ) → isDigit b ≡ true → 48 ≤ b
 unfolding isDigit

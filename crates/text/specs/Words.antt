@@ -1,9 +1,12 @@
 -- Where a line or a word ends, and words whose numbers are cut off past every limit: code keeps 32 bits of a number of any length.
 use mathlib.Core.Bool.{cond}
 use mathlib.Core.List.{List, [], _∷_}
-use Prim.Native.Nat.{ℕ, zero, suc, min}
+use mathlib.Core.Path.{_≡_}
+use Prim.Native.Nat.{ℕ, zero, suc, min, _+_, _*_, _<_}
 use lib.Dec.{eqb}
 use lib.IntN.{ℤ, pos, negsuc, negℤ}
+use Rattle.rules.specs.declared.Comparison.the-variants.{Less, AtMost, Greater, AtLeast, Equal, Different}
+use Rattle.rules.specs.declared.Name.{Name}
 use Rattle.rules.specs.declared.Word.{Word}
 use Rattle.rules.specs.declared.Word.the-variants.{Missing, Number, Variable, Compares, Keyword, Other}
 use Rattle.rules.specs.Text.{allDigits, valueFrom, isNatural}
@@ -38,3 +41,44 @@ digitsOf s = cond (allDigits s) (Value.Of (min (valueFrom 0 s) ceiling)) Value.N
 -- a text as a number not below 0
 unfoldable pub naturalOf : List ℕ → Value
 naturalOf s = cond (isNatural s) (Value.Of (min (valueFrom 0 s) ceiling)) Value.None
+
+-- a text as one number: its first byte lowest, a 1 after the last
+unfoldable pub packed : List ℕ → ℕ
+packed [] = 1
+packed (b ∷ s) = packed s * 256 + b
+
+unfoldable pub Bytes : List ℕ → Type 0
+Bytes [] = Unit {0}
+Bytes (b ∷ s) = (b < 256) × Bytes s
+
+pub record Packs (s : List ℕ) (n : ℕ) : Type 0 where
+  pub same : n ≡ packed s
+  pub bytes : Bytes s
+
+-- every keyword and comparison: set, add, sub, mul, div, cue, for, while, do, end, else, pick, < <= > >= == !=
+unfoldable pub keywords : List (List ℕ × Word)
+keywords =
+    ((115 ∷ 101 ∷ 116 ∷ []), Keyword Name.Set) ∷
+    ((97 ∷ 100 ∷ 100 ∷ []), Keyword Name.Add) ∷
+    ((115 ∷ 117 ∷ 98 ∷ []), Keyword Name.Sub) ∷
+    ((109 ∷ 117 ∷ 108 ∷ []), Keyword Name.Mul) ∷
+    ((100 ∷ 105 ∷ 118 ∷ []), Keyword Name.Div) ∷
+    ((99 ∷ 117 ∷ 101 ∷ []), Keyword Name.Cue) ∷
+    ((102 ∷ 111 ∷ 114 ∷ []), Keyword Name.For) ∷
+    ((119 ∷ 104 ∷ 105 ∷ 108 ∷ 101 ∷ []), Keyword Name.While) ∷
+    ((100 ∷ 111 ∷ []), Keyword Name.Do) ∷
+    ((101 ∷ 110 ∷ 100 ∷ []), Keyword Name.End) ∷
+    ((101 ∷ 108 ∷ 115 ∷ 101 ∷ []), Keyword Name.Else) ∷
+    ((112 ∷ 105 ∷ 99 ∷ 107 ∷ []), Keyword Name.Pick) ∷
+    ((60 ∷ []), Compares Less) ∷
+    ((60 ∷ 61 ∷ []), Compares AtMost) ∷
+    ((62 ∷ []), Compares Greater) ∷
+    ((62 ∷ 61 ∷ []), Compares AtLeast) ∷
+    ((61 ∷ 61 ∷ []), Compares Equal) ∷
+    ((33 ∷ 61 ∷ []), Compares Different) ∷
+    []
+
+-- the word of a packed text
+unfoldable pub packedWord : List (List ℕ × Word) → ℕ → Word
+packedWord [] n = Other
+packedWord ((w, x) ∷ t) n = cond (eqb n (packed w)) x (packedWord t n)

@@ -7,8 +7,8 @@ ghost use mathlib.Core.Bool.{true, false, cond};
 ghost use lib.IntN.{pos, negℤ};
 ghost use Prim.Native.Nat.{ℕ, _+_, _*_, _-_, _≤_, _<_, min};
 ghost use lib.ListN.{length, getD, drop};
-ghost use Rattle.rules.specs.Text.{split, startsWith, equals, isDigit, isNatural, comparisonWord, blockWord, plainWord, wordOf, wordsOf};
-ghost use Rattle.text.specs.Words.{before, cut, digitsOf, naturalOf};
+ghost use Rattle.rules.specs.Text.{split, startsWith, isDigit, isNatural, plainWord, wordOf, wordsOf};
+ghost use Rattle.text.specs.Words.{before, cut, digitsOf, naturalOf, Packs, keywords, packedWord};
 
 // How many bytes stand before the first b, or all.
 pub fn position(s: &[u8], b: u8) -> usize
@@ -39,16 +39,6 @@ pub fn starts_with(s: &[u8], key: &[u8]) -> bool
         i += 1;
     }
     true
-}
-
-// Whether s is the word.
-fn equals(s: &[u8], word: &[u8]) -> bool
-    ensures { λ r. ⌜ r ≡ equals (now (word .entry)) (now (s .entry)) ⌝ }
-{
-    if s.len() == word.len() {
-        return starts_with(s, word);
-    }
-    false
 }
 
 // Whether b is a byte from '0' to '9'.
@@ -112,79 +102,55 @@ fn natural(s: &[u8]) -> Value
     digits(s)
 }
 
-// < <= > >= == !=
-fn comparison_word(s: &[u8]) -> Word
-    ensures { λ r. ⌜ r ≡ comparisonWord (now (s .entry)) ⌝ }
+// The bytes of a short text in one number: the first byte lowest, a 1 after the last.
+fn packed(s: &[u8]) -> u64
+    requires { ⌜ length (now s) ≤ 5 ⌝ }
+    ensures { λ r. ⌜ Packs (now (s .entry)) r ⌝ }
 {
-    if equals(s, b"<") {
-        return Word::Compares(Comparison::Less);
+    let mut n: u64 = 1;
+    let mut i = s.len();
+    while 0 < i {
+        i -= 1;
+        n = n * 256 + s[i] as u64;
     }
-    if equals(s, b"<=") {
-        return Word::Compares(Comparison::AtMost);
-    }
-    if equals(s, b">") {
-        return Word::Compares(Comparison::Greater);
-    }
-    if equals(s, b">=") {
-        return Word::Compares(Comparison::AtLeast);
-    }
-    if equals(s, b"==") {
-        return Word::Compares(Comparison::Equal);
-    }
-    if equals(s, b"!=") {
-        return Word::Compares(Comparison::Different);
-    }
-    Word::Other
+    n
 }
 
-// for, while, do, end, else, pick
-fn block_word(s: &[u8]) -> Word
-    ensures { λ r. ⌜ r ≡ blockWord (now (s .entry)) ⌝ }
+// The keyword or comparison of a packed text.
+fn keyword(n: u64) -> Word
+    ensures { λ r. ⌜ r ≡ packedWord keywords n ⌝ }
 {
-    if equals(s, b"for") {
-        return Word::Keyword(Name::For);
+    match n {
+        0x1746573 => Word::Keyword(Name::Set),
+        0x1646461 => Word::Keyword(Name::Add),
+        0x1627573 => Word::Keyword(Name::Sub),
+        0x16c756d => Word::Keyword(Name::Mul),
+        0x1766964 => Word::Keyword(Name::Div),
+        0x1657563 => Word::Keyword(Name::Cue),
+        0x1726f66 => Word::Keyword(Name::For),
+        0x1656c696877 => Word::Keyword(Name::While),
+        0x16f64 => Word::Keyword(Name::Do),
+        0x1646e65 => Word::Keyword(Name::End),
+        0x165736c65 => Word::Keyword(Name::Else),
+        0x16b636970 => Word::Keyword(Name::Pick),
+        0x13c => Word::Compares(Comparison::Less),
+        0x13d3c => Word::Compares(Comparison::AtMost),
+        0x13e => Word::Compares(Comparison::Greater),
+        0x13d3e => Word::Compares(Comparison::AtLeast),
+        0x13d3d => Word::Compares(Comparison::Equal),
+        0x13d21 => Word::Compares(Comparison::Different),
+        _ => Word::Other,
     }
-    if equals(s, b"while") {
-        return Word::Keyword(Name::While);
-    }
-    if equals(s, b"do") {
-        return Word::Keyword(Name::Do);
-    }
-    if equals(s, b"end") {
-        return Word::Keyword(Name::End);
-    }
-    if equals(s, b"else") {
-        return Word::Keyword(Name::Else);
-    }
-    if equals(s, b"pick") {
-        return Word::Keyword(Name::Pick);
-    }
-    comparison_word(s)
 }
 
-// set, add, sub, mul, div, cue
+// set, add, .. and < <= ..
 fn plain_word(s: &[u8]) -> Word
     ensures { λ r. ⌜ r ≡ plainWord (now (s .entry)) ⌝ }
 {
-    if equals(s, b"set") {
-        return Word::Keyword(Name::Set);
+    if 5 < s.len() {
+        return Word::Other;
     }
-    if equals(s, b"add") {
-        return Word::Keyword(Name::Add);
-    }
-    if equals(s, b"sub") {
-        return Word::Keyword(Name::Sub);
-    }
-    if equals(s, b"mul") {
-        return Word::Keyword(Name::Mul);
-    }
-    if equals(s, b"div") {
-        return Word::Keyword(Name::Div);
-    }
-    if equals(s, b"cue") {
-        return Word::Keyword(Name::Cue);
-    }
-    block_word(s)
+    keyword(packed(s))
 }
 
 // A number with its sign.
