@@ -2,3 +2,4 @@
 pub mod Cut
 pub mod Keywords
 pub mod Laws
+pub mod Line

@@ -5,10 +5,10 @@ use rules::Word;
 ghost use mathlib.Core.Path.{_≡_};
 ghost use mathlib.Core.Bool.{true, false, cond};
 ghost use lib.IntN.{pos, negℤ};
-ghost use Prim.Native.Nat.{ℕ, _+_, _*_, _-_, _≤_, _<_, min};
-ghost use lib.ListN.{length, getD, drop};
-ghost use Rattle.rules.specs.Text.{split, startsWith, isDigit, isNatural, plainWord, wordOf, wordsOf};
-ghost use Rattle.text.specs.Words.{before, cut, digitsOf, naturalOf, Packs, keywords, packedWord};
+ghost use Prim.Native.Nat.{_+_, _*_, _-_, _≤_, _<_, min};
+ghost use lib.ListN.{length, drop};
+ghost use Rattle.rules.specs.Text.{startsWith, isDigit, isNatural, plainWord, wordOf};
+ghost use Rattle.text.specs.Words.{before, stops, stop, front, cut, digitsOf, naturalOf, Packs, keywords, packedWord, Ends, Reads, Next};
 
 // How many bytes stand before the first b, or all.
 pub fn position(s: &[u8], b: u8) -> usize
@@ -62,15 +62,39 @@ fn more(value: u64, b: u8) -> u64
     if next < CEILING { next } else { CEILING }
 }
 
-// A number not below 0, or none.
-pub enum Value {
-    None,
-    Of(u32),
+// Whether a word ends before b: a space or LF.
+fn stops(b: u8) -> bool
+    ensures { λ r. ⌜ r ≡ stops b ⌝ }
+{
+    if b == b' ' {
+        return true;
+    }
+    b == b'\n'
 }
 
-// Digits only, of any number.
+// How many bytes the word at the front has.
+fn stop(s: &[u8]) -> usize
+    ensures { λ r. ⌜ r ≡ stop (now (s .entry)) ⌝ }
+{
+    let mut i: usize = 0;
+    while i < s.len() {
+        if stops(s[i]) {
+            return i;
+        }
+        i += 1;
+    }
+    i
+}
+
+// A number not below 0 and how many digits it has, or none.
+enum Value {
+    None,
+    Of(u32, usize),
+}
+
+// The word at the front, if it has digits only.
 fn digits(s: &[u8]) -> Value
-    ensures { λ r. ⌜ r ≡ digitsOf (now (s .entry)) ⌝ }
+    ensures { λ r. ⌜ r ≡ digitsOf (front (now (s .entry))) ⌝ }
 {
     let mut value: u64 = 0;
     let mut i: usize = 0;
@@ -80,26 +104,33 @@ fn digits(s: &[u8]) -> Value
             value = more(value, b);
             i += 1;
         } else {
+            if stops(b) {
+                return Value::Of(value as u32, i);
+            }
             return Value::None;
         }
     }
-    Value::Of(value as u32)
+    Value::Of(value as u32, i)
 }
 
-// A number not below 0: no leading zero.
+// The word at the front as a number not below 0: no leading zero.
 fn natural(s: &[u8]) -> Value
-    ensures { λ r. ⌜ r ≡ naturalOf (now (s .entry)) ⌝ }
+    ensures { λ r. ⌜ r ≡ naturalOf (front (now (s .entry))) ⌝ }
 {
-    if s.len() == 0 {
+    let d = digits(s);
+    let Value::Of(v, n) = d else {
+        return Value::None;
+    };
+    if n == 0 {
         return Value::None;
     }
-    if s.len() == 1 {
-        return digits(s);
+    if n == 1 {
+        return Value::Of(v, n);
     }
     if s[0] == 48 {
         return Value::None;
     }
-    digits(s)
+    Value::Of(v, n)
 }
 
 // The bytes of a short text in one number: the first byte lowest, a 1 after the last.
@@ -162,60 +193,100 @@ fn signed(negative: bool, v: u32) -> i32
     if negative { -z } else { z }
 }
 
-// A word that is no number without a sign.
-fn marked(s: &[u8]) -> Word
-    requires { ⌜ (0 < length (now s)) × (isNatural (now s) ≡ false) ⌝ }
-    ensures { λ r. ⌜ r ≡ cut (wordOf (now (s .entry))) ⌝ }
+// A word and how many bytes it has.
+struct Front {
+    word: Word,
+    len: usize,
+}
+
+// The keyword or comparison at the front.
+fn other_word(s: &[u8]) -> Front
+    requires { ⌜ plainWord (front (now s)) ≡ cut (wordOf (front (now s))) ⌝ }
+    ensures { λ r. ⌜ Reads (now (s .entry)) r ⌝ }
+{
+    let len = stop(s);
+    let word = plain_word(&s[..len]);
+    Front { word, len }
+}
+
+// The word at the front, which is no number without a sign.
+fn marked(s: &[u8]) -> Front
+    requires { ⌜ (0 < stop (now s)) × (isNatural (front (now s)) ≡ false) ⌝ }
+    ensures { λ r. ⌜ Reads (now (s .entry)) r ⌝ }
 {
     let first = s[0];
     let n = natural(&s[1..]);
-    let Value::Of(v) = n else {
-        return plain_word(s);
+    let Value::Of(v, k) = n else {
+        return other_word(s);
     };
     if first == b'v' {
-        return Word::Variable(v);
+        return Front {
+            word: Word::Variable(v),
+            len: k + 1,
+        };
     }
     if first != b'-' {
-        return plain_word(s);
+        return other_word(s);
     }
     if v == 0 {
-        return plain_word(s);
+        return other_word(s);
     }
-    Word::Number(signed(true, v))
+    Front {
+        word: Word::Number(signed(true, v)),
+        len: k + 1,
+    }
 }
 
-// A word.
-fn word_of(s: &[u8]) -> Word
-    ensures { λ r. ⌜ r ≡ cut (wordOf (now (s .entry))) ⌝ }
+// The word at the front.
+fn word_of(s: &[u8]) -> Front
+    ensures { λ r. ⌜ Reads (now (s .entry)) r ⌝ }
 {
     let n = natural(s);
     match n {
-        Value::Of(v) => Word::Number(signed(false, v)),
+        Value::Of(v, k) => Front {
+            word: Word::Number(signed(false, v)),
+            len: k,
+        },
         Value::None => {
             if s.len() == 0 {
-                return Word::Other;
+                return Front {
+                    word: Word::Other,
+                    len: 0,
+                };
+            }
+            if stops(s[0]) {
+                return Front {
+                    word: Word::Other,
+                    len: 0,
+                };
             }
             marked(s)
         }
     }
 }
 
-// The first eight words of a line; none past the last.
-pub fn words(s: &[u8]) -> [Word; 8]
-    ensures { λ r. ⌜ ((k : ℕ) → k < 8 → getD r k Word.Missing ≡ cut (wordsOf (split 32 (now (s .entry))) k)) ⌝ }
+// A word of a line, and the byte where it ends.
+pub struct Found {
+    pub word: Word,
+    pub end: usize,
+}
+
+// The next word of a line: it begins after the byte `at`, and there is none if that is the line's LF.
+pub fn next_word(s: &[u8], at: usize) -> Found
+    requires { ⌜ Ends (drop at (now s)) ⌝ }
+    ensures { λ r. ⌜ Next (now (s .entry)) at r ⌝ }
 {
-    let mut w = [Word::Missing; 8];
-    let mut at: usize = 0;
-    let mut i: usize = 0;
-    while i < 8 {
-        let n = position(&s[at..], b' ');
-        let x = word_of(&s[at..at + n]);
-        w[i] = x;
-        i += 1;
-        if at + n == s.len() {
-            return w;
-        }
-        at = at + n + 1;
+    if s[at] == b'\n' {
+        return Found {
+            word: Word::Missing,
+            end: at,
+        };
     }
-    w
+    let begin = at + 1;
+    let f = word_of(&s[begin..]);
+    let word = f.word;
+    Found {
+        word,
+        end: begin + f.len,
+    }
 }
