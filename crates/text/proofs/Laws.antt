@@ -16,7 +16,7 @@ use Rattle.rules.specs.declared.Word.{Word}
 use Rattle.rules.specs.declared.Word.the-variants.{Missing, Number, Variable, Compares, Keyword, Other}
 use Rattle.rules.specs.Text.{prefixed, split, startsWith, equals, isDigit, allDigits, valueFrom, isNatural, isNegative, isVariable, comparisonWord, blockWord, plainWord, wordOf, wordsOf}
 use Rattle.text.specs.declared.Value.{Value}
-use Rattle.text.specs.Words.{before, stops, stop, front, ceiling, cutZ, cut, digitsOf, naturalOf}
+use Rattle.text.specs.Words.{before, marks, stops, stop, front, ceiling, cutZ, cut, digitsOf, naturalOf}
 
 -- the part &s[a..]
 pub part-rest : (s : List ℕ) (a : ℕ) → take (length s - a) (drop a s) ≡ drop a s
@@ -322,6 +322,15 @@ module _ (s : List ℕ) (some : 0 < length s) (none : isNatural s ≡ false) whe
       go true false = sym (cut-plain s)
       go false true = sym (cut-plain s)
       go false false = sym (cut-plain s)
+
+  pub mark-plain : marks (getD s 0 0) ≡ false → plainWord s ≡ cut (wordOf s)
+  unfolding marks
+  mark-plain e = go (eqb (getD s 0 0) 118) (eqb (getD s 0 0) 45) refl refl e
+    where
+      go : (p q : Bool) → eqb (getD s 0 0) 118 ≡ p → eqb (getD s 0 0) 45 ≡ q → cond p true q ≡ false → plainWord s ≡ cut (wordOf s)
+      go true q f g h = absurd (let z : _≡_ {A = ℕ} 0 1 = cc in omega arith)
+      go false true f g h = absurd (let z : _≡_ {A = ℕ} 0 1 = cc in omega arith)
+      go false false f g h = rw (word-marked s some none, g, f) (sym (cut-plain s))
 
   module _ (v n : ℕ) (e : naturalOf (drop 1 s) ≡ Value.Of v n) where
     pub mark-variable : getD s 0 0 ≡ 118 → Variable v ≡ cut (wordOf s)

@@ -15,7 +15,6 @@ use Rattle.rules.specs.Text.{prefixed, split, comparisonWord, blockWord, plainW
 use Rattle.rules.specs.File.{asksEnd}
 use Rattle.text.proofs.Cut.{cut-end}
 use Rattle.text.specs.Words.{before, stops, stop, front, cut, Ends, parts, following, Next, Reads}
-use Rattle.text.specs.declared.Front.{Front}
 use Rattle.text.specs.declared.Found.{Found}
 
 -- a line's words: the word at the front, and those after the byte that ends it
@@ -80,12 +79,12 @@ module _ (b : ℕ) (t : List ℕ) (n : b ≡ 10 → ⊥) (h : Ends (b ∷ t)) wh
   more-words k = rw (after-words b t n, cuts t (after-some b t n h) .words)
 
 -- a word of n bytes after the byte `at`
-module _ (s : List ℕ) (at : ℕ) (w : Word) (n : ℕ) (h : Ends (drop at s)) (other : getD s at 0 ≡ 10 → ⊥) (r : Reads (drop (at + 1) s) (record { word = w; len = n })) where
+module _ (s : List ℕ) (at : ℕ) (w : Word) (n : ℕ) (h : Ends (drop at s)) (other : getD s at 0 ≡ 10 → ⊥) (r : Reads (drop (at + 1) s) (record { word = w; end = n })) where
   head : drop at s ≡ getD s at 0 ∷ drop (at + 1) s
   head = rw (add-one at) (drop-cons s at 0 (ends-within s at h))
 
   after : drop (at + 1 + n) s ≡ drop (stop (drop (at + 1) s)) (drop (at + 1) s)
-  after = sym (drop-drop n (at + 1) s) ∙ ap (λ m. drop m (drop (at + 1) s)) (r .len)
+  after = sym (drop-drop n (at + 1) s) ∙ ap (λ m. drop m (drop (at + 1) s)) (r .end)
 
   some : Ends (getD s at 0 ∷ drop (at + 1) s)
   some = rw head at h
@@ -98,7 +97,7 @@ module _ (s : List ℕ) (at : ℕ) (w : Word) (n : ℕ) (h : Ends (drop at s)) (
       record {
         word = r .word ∙ ap cut (sym (ap (λ (l : List ℕ). following l 0) head ∙ first-word _ _ other some));
         more = λ k. ap (λ (l : List ℕ). following l (suc k)) head ∙ more-words _ _ other some k ∙ ap (λ (l : List ℕ). following l k) (sym after);
-        line = omega (arith, e, f, c .line, r .len);
+        line = omega (arith, e, f, c .line, r .end);
         ends = rw after (c .ends);
       }
 

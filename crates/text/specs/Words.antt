@@ -12,13 +12,16 @@ use Rattle.rules.specs.declared.Word.{Word}
 use Rattle.rules.specs.declared.Word.the-variants.{Missing, Number, Variable, Compares, Keyword, Other}
 use Rattle.rules.specs.Text.{split, allDigits, valueFrom, isNatural, wordOf, wordsOf}
 use Rattle.text.specs.declared.Value.{Value}
-use Rattle.text.specs.declared.Front.{Front}
 use Rattle.text.specs.declared.Found.{Found}
 
 -- how many bytes stand before the first b, or all
 unfoldable pub before : ℕ → List ℕ → ℕ
 before b [] = 0
 before b (x ∷ s) = cond (eqb x b) 0 (suc (before b s))
+
+-- v and - stand before digits
+unfoldable pub marks : ℕ → Bool
+marks b = cond (eqb b 118) true (eqb b 45)
 
 -- a space or an LF ends a word
 unfoldable pub stops : ℕ → Bool
@@ -99,9 +102,9 @@ packedWord [] n = Other
 packedWord ((w, x) ∷ t) n = cond (eqb n (packed w)) x (packedWord t n)
 
 -- the word at the front of a text is read, its number cut off
-pub record Reads (s : List ℕ) (r : Front) : Type 0 where
+pub record Reads (s : List ℕ) (r : Found) : Type 0 where
   pub word : r .word ≡ cut (wordOf (front s))
-  pub len : r .len ≡ stop s
+  pub end : r .end ≡ stop s
 
 -- an LF stands in a text
 unfoldable pub Ends : List ℕ → Type 0

@@ -8,7 +8,7 @@ ghost use lib.IntN.{pos, negℤ};
 ghost use Prim.Native.Nat.{_+_, _*_, _-_, _≤_, _<_, min};
 ghost use lib.ListN.{length, drop};
 ghost use Rattle.rules.specs.Text.{startsWith, isDigit, isNatural, plainWord, wordOf};
-ghost use Rattle.text.specs.Words.{before, stops, stop, front, cut, digitsOf, naturalOf, Packs, keywords, packedWord, Ends, Reads, Next};
+ghost use Rattle.text.specs.Words.{before, marks, stops, stop, front, cut, digitsOf, naturalOf, Packs, keywords, packedWord, Ends, Reads, Next};
 
 // How many bytes stand before the first b, or all.
 pub fn position(s: &[u8], b: u8) -> usize
@@ -193,36 +193,49 @@ fn signed(negative: bool, v: u32) -> i32
     if negative { -z } else { z }
 }
 
-// A word and how many bytes it has.
-struct Front {
-    word: Word,
-    len: usize,
+// A word, and the byte where it ends.
+pub struct Found {
+    pub word: Word,
+    pub end: usize,
 }
 
 // The keyword or comparison at the front.
-fn other_word(s: &[u8]) -> Front
+fn other_word(s: &[u8]) -> Found
     requires { ⌜ plainWord (front (now s)) ≡ cut (wordOf (front (now s))) ⌝ }
     ensures { λ r. ⌜ Reads (now (s .entry)) r ⌝ }
 {
-    let len = stop(s);
-    let word = plain_word(&s[..len]);
-    Front { word, len }
+    let end = stop(s);
+    let word = plain_word(&s[..end]);
+    Found { word, end }
+}
+
+// Whether b stands before the digits of a variable or of a number below 0.
+fn marks(b: u8) -> bool
+    ensures { λ r. ⌜ r ≡ marks b ⌝ }
+{
+    if b == b'v' {
+        return true;
+    }
+    b == b'-'
 }
 
 // The word at the front, which is no number without a sign.
-fn marked(s: &[u8]) -> Front
+fn marked(s: &[u8]) -> Found
     requires { ⌜ (0 < stop (now s)) × (isNatural (front (now s)) ≡ false) ⌝ }
     ensures { λ r. ⌜ Reads (now (s .entry)) r ⌝ }
 {
     let first = s[0];
+    if !marks(first) {
+        return other_word(s);
+    }
     let n = natural(&s[1..]);
     let Value::Of(v, k) = n else {
         return other_word(s);
     };
     if first == b'v' {
-        return Front {
+        return Found {
             word: Word::Variable(v),
-            len: k + 1,
+            end: k + 1,
         };
     }
     if first != b'-' {
@@ -231,44 +244,38 @@ fn marked(s: &[u8]) -> Front
     if v == 0 {
         return other_word(s);
     }
-    Front {
+    Found {
         word: Word::Number(signed(true, v)),
-        len: k + 1,
+        end: k + 1,
     }
 }
 
 // The word at the front.
-fn word_of(s: &[u8]) -> Front
+fn word_of(s: &[u8]) -> Found
     ensures { λ r. ⌜ Reads (now (s .entry)) r ⌝ }
 {
     let n = natural(s);
     match n {
-        Value::Of(v, k) => Front {
+        Value::Of(v, k) => Found {
             word: Word::Number(signed(false, v)),
-            len: k,
+            end: k,
         },
         Value::None => {
             if s.len() == 0 {
-                return Front {
+                return Found {
                     word: Word::Other,
-                    len: 0,
+                    end: 0,
                 };
             }
             if stops(s[0]) {
-                return Front {
+                return Found {
                     word: Word::Other,
-                    len: 0,
+                    end: 0,
                 };
             }
             marked(s)
         }
     }
-}
-
-// A word of a line, and the byte where it ends.
-pub struct Found {
-    pub word: Word,
-    pub end: usize,
 }
 
 // The next word of a line: it begins after the byte `at`, and there is none if that is the line's LF.
@@ -283,10 +290,7 @@ pub fn next_word(s: &[u8], at: usize) -> Found
         };
     }
     let begin = at + 1;
-    let f = word_of(&s[begin..]);
-    let word = f.word;
-    Found {
-        word,
-        end: begin + f.len,
-    }
+    let mut f = word_of(&s[begin..]);
+    f.end = begin + f.end;
+    f
 }

@@ -23,13 +23,13 @@ returns : tie.Need-returns
 returns c = let s = c .before .before .before in
     next-none (now (s .args .s)) (s .args .at) (s .pre) (within s) (c .if1 .taken)
 
-add-t11 : tie.Need-add-t11
-add-t11 c = let s = c .before .before .before .before .before .before in
+add-f : tie.Need-add-f
+add-f c = let s = c .before .before .before .before .before .before in
     let r = reads (c .before) in
     let h = stop-within (drop (s .args .at + 1) (now (s .args .s))) in
     let l = length-drop (s .args .at + 1) (now (s .args .s)) in
     let w = within s in
-    let k : s .args .at + 1 + c .before .word-of .result .len ≤ length (now (s .args .s)) = omega (arith, r .len) in
+    let k : s .args .at + 1 + c .before .word-of .result .end ≤ length (now (s .args .s)) = omega (arith, r .end) in
     search needs
 
 returns-2 : tie.Need-returns-2
@@ -47,5 +47,5 @@ next-word-spec =
     (λ c. let h = within (c .before .before .before) in search needs)
     (λ c. search needs)
     (λ c κs. search needs)
-    add-t11
+    add-f
     returns-2)

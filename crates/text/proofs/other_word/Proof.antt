@@ -18,7 +18,7 @@ unfolding front
 returns c = let s = now (c .before .before .before .before .args .s) in
     record {
       word = c .plain-word .ensures ∙ ap (λ n. plainWord (take n s)) (c .before .before .stop .ensures) ∙ c .before .before .before .before .pre;
-      len = c .before .before .stop .ensures;
+      end = c .before .before .stop .ensures;
     }
 
 pub other-word-spec : {M : Type 1} → statement M

@@ -20,12 +20,12 @@ signed-requires c κs = natural-small _ _ _ (sym (c .before .before .before .nat
 returns : tie.Need-returns
 returns c = let s = text (c .before .before .before) in
     let e : stop s ≡ 0 = stop-end s 0 (omega (arith, c .if1 .taken)) in
-    record { word = word-none (front s) (front-length s ∙ e); len = sym e }
+    record { word = word-none (front s) (front-length s ∙ e); end = sym e }
 
 returns-2 : tie.Need-returns-2
 returns-2 c = let s = text (c .before .before .before .before .before .before) in
     let e : stop s ≡ 0 = stop-here s 0 (omega (arith, c .before .before .before .if1 .left)) (sym (c .before .stops .ensures) ∙ c .if2 .taken) in
-    record { word = word-none (front s) (front-length s ∙ e); len = sym e }
+    record { word = word-none (front s) (front-length s ∙ e); end = sym e }
 
 marked-requires : tie.Need-marked-requires
 marked-requires c κs = let call = c .before .before .before .before .before .before in
@@ -36,7 +36,7 @@ returns-3 : tie.Need-returns-3
 returns-3 c = let call = c .before .before .before .before in
     let e = sym (call .natural .ensures) ∙ c .before .before .n .given .1 in
     let (_, _, n) = is-natural _ _ _ e in
-    record { word = rw (toZ-ofZ (sfits-of (c .signed .ok)), c .signed .ensures) (word-number _ _ _ e); len = n ∙ front-length (text call) }
+    record { word = rw (toZ-ofZ (sfits-of (c .signed .ok)), c .signed .ensures) (word-number _ _ _ e); end = n ∙ front-length (text call) }
 
 pub word-of-spec : {M : Type 1} → statement M
 word-of-spec =
