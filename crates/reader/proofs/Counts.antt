@@ -16,14 +16,17 @@ use Rattle.rules.specs.Values.{lowest, highest}
 use Rattle.rules.specs.Ranges.{Range}
 use Rattle.rules.specs.Text.{nextWords, nextLines}
 use Rattle.rules.specs.File
-use Rattle.rules.specs.File.{Reading, read, refused, unless, sooner, asksEnd, asksNumber, asksOne, asksOrder, asksRange, numberOf, countLine, scriptLine, scriptKey, rangeKey}
+use Rattle.rules.specs.File.{Reading, read, refused, unless, sooner, asksEnd, asksNumber, asksOne, asksOrder, asksRange, numberOf, countLine, scriptLine, scriptKey, rangeKey, rowKey, rowOf}
 use Rattle.rules.proofs.Reading.{sooner-yes, number-yes, amount-yes}
 use Rattle.text.specs.Words.{before, cut}
 use Rattle.text.proofs.Cut.{cut-number, cut-number-of, cut-end, cut-one, range-cut, range-of-cut}
 use Rattle.reader.specs.declared.Counted.{Counted}
 use Rattle.reader.specs.declared.Ranged.{Ranged}
-use Rattle.reader.specs.Read.{Holds, lines, countOf, Within, CountRead, rangeOf, RangeWithin, RangeRead}
-use Rattle.reader.proofs.Lines.{next-none, lines-next}
+use Rattle.reader.specs.Read.{lines, keyed, clean, countOf, Within, CountRead, rangeOf, RangeWithin, RangeRead, LineRead}
+use Rattle.reader.proofs.Lines.{next-none, lines-next, last, Keyed, keyed-at, at-none}
+use Rattle.rows.specs.declared.Line.{Line}
+use Rattle.rows.specs.Words.{RowLine}
+use Rattle.rules.specs.declared.RowRead.{RowRead}
 
 -- a word that passes a question stands on a line
 line-there : (key s : List ℕ) (f : Word → ℕ) → f Missing ≡ 3 → f (nextWords key (lines s) 0) ≡ 0 → before 10 s < length s
@@ -46,20 +49,15 @@ unfolding unless
 unless-no zero p r h = absurd (h refl)
 unless-no (suc q) p r h = refl
 
-module _ (key s : List ℕ) (most : ℤ) (w : List Word) (n q : ℕ) (h : Holds w (nextWords key (lines s))) (at : n ≡ before 10 s) (low : pos 0 ≤ℤ most) (high : most ≤ℤ pos 1_000_000_000)
-    (asked : q ≡ sooner (asksNumber (pos 0) most (getD w 0 Missing)) (asksEnd (getD w 1 Missing))) where
-  W : ℕ → Word
-  W = nextWords key (lines s)
-
+-- a count line: its first word x, the question l of what stands after it, and the byte n where it ends. F are the words after the key
+module _ (key s : List ℕ) (F : ℕ → Word) (words : nextWords key (lines s) ≡ F) (most : ℤ) (x : Word) (n l q : ℕ) (first : x ≡ cut (F 0)) (second : l ≡ asksEnd (F 1))
+    (at : asksEnd (F 1) ≡ 0 → n ≡ before 10 s) (low : pos 0 ≤ℤ most) (high : most ≤ℤ pos 1_000_000_000) (asked : q ≡ sooner (asksNumber (pos 0) most x) l) where
   true-limit : pos (natAbs most) ≡ most
   true-limit = pos-natAbs most (yes-nonNeg low)
 
   -- the same question of the true words
   truly : q ≡ sooner (asksNumber (pos 0) (pos (natAbs most)) (nextWords key (lines s) 0)) (asksEnd (nextWords key (lines s) 1))
-  truly =
-      let e : getD w 0 Missing ≡ cut (nextWords key (lines s) 0) = h .each 0 (omega arith) in
-      let f : getD w 1 Missing ≡ cut (nextWords key (lines s) 1) = h .each 1 (omega arith) in
-      asked ∙ rw (e, f, cut-number (pos 0) most (nextWords key (lines s) 0) (record { low = omega ints; high = omega ints }), cut-end (nextWords key (lines s) 1), true-limit)
+  truly = asked ∙ rw (first, second, words, cut-number (pos 0) most (F 0) (record { low = omega ints; high = omega ints }), true-limit)
 
   pub count-wrong : (q ≡ 0 → ⊥) → CountRead key s (natAbs most) (Counted.Wrong q)
   unfolding countLine countOf
@@ -72,73 +70,115 @@ module _ (key s : List ℕ) (most : ℤ) (w : List Word) (n q : ℕ) (h : Holds 
     there : before 10 s < length s
     there = line-there key s (asksNumber (pos 0) (pos (natAbs most))) refl yes
 
-    value : numberOf (getD w 0 Missing) ≡ numberOf (nextWords key (lines s) 0)
+    ended : n ≡ before 10 s
+    ended = at (rw words at (sooner-yes _ _ (sym truly ∙ z) .1))
+
+    value : numberOf x ≡ numberOf (nextWords key (lines s) 0)
     value =
-        let e : getD w 0 Missing ≡ cut (nextWords key (lines s) 0) = h .each 0 (omega arith) in
         let y : asksNumber (pos 0) most (nextWords key (lines s) 0) ≡ 0 = rw true-limit at yes in
-        rw e (cut-number-of (pos 0) most (nextWords key (lines s) 0) (record { low = omega ints; high = omega ints }) y)
+        rw (first, ← words) (cut-number-of (pos 0) most (nextWords key (lines s) 0) (record { low = omega ints; high = omega ints }) y)
 
     -- the number that code has, and how long the line is
-    pub count-small : (pos 0 ≤ℤ numberOf (getD w 0 Missing)) × (numberOf (getD w 0 Missing) ≤ℤ pos 1_000_000_000)
+    pub count-small : (pos 0 ≤ℤ numberOf x) × (numberOf x ≤ℤ pos 1_000_000_000)
     count-small =
         let y : asksNumber (pos 0) most (nextWords key (lines s) 0) ≡ 0 = rw true-limit at yes in
         let (a, b) = number-yes (pos 0) most (nextWords key (lines s) 0) y in
         rw value (a, omega ints)
 
     pub count-long : n + 1 ≤ length s
-    count-long = omega (arith, there)
+    count-long = omega (arith, there, ended)
 
-    pub count-read : (v : ℕ) → v ≡ natAbs (numberOf (getD w 0 Missing)) → CountRead key s (natAbs most) (Counted.Count v (n + 1))
+    pub count-read : (v : ℕ) → v ≡ natAbs (numberOf x) → CountRead key s (natAbs most) (Counted.Count v (n + 1))
     unfolding countLine countOf
     count-read v e = record {
       line = λ p. rw (← truly) (unless-zero q p _ z ∙ (let e₁ : natAbs (numberOf (nextWords key (lines s) 0)) ≡ v = ap natAbs (sym value) ∙ sym e in
-          let e₂ : nextLines (lines s) ≡ lines (drop (n + 1) s) = lines-next s there ∙ ap (λ m. lines (drop (m + 1) s)) (sym at) in rw (e₁, e₂) refl));
+          let e₂ : nextLines (lines s) ≡ lines (drop (n + 1) s) = lines-next s there ∙ ap (λ m. lines (drop (m + 1) s)) (sym ended) in rw (e₁, e₂) refl));
       within = (rw e (rw value (omega (ints, amount-yes 0 (pos (natAbs most)) (nextWords key (lines s) 0) yes .1))), count-long);
     }
 
+-- no such line
+pub count-none : (key s : List ℕ) (most : ℕ) → nextWords key (lines s) ≡ (λ _. Missing) → CountRead key s most (Counted.Wrong 3)
+unfolding countLine countOf sooner unless
+count-none key s most e = record { line = λ p. rw e; within = λ (z : _≡_ {A = ℕ} 3 0). omega arith }
+
 -- `script=1`
-module _ (s : List ℕ) (w : List Word) (n q : ℕ) (h : Holds w (nextWords scriptKey (lines s))) (at : n ≡ before 10 s)
-    (asked : q ≡ sooner (asksOne (getD w 0 Missing)) (asksEnd (getD w 1 Missing))) where
+module _ (s : List ℕ) (F : ℕ → Word) (words : nextWords scriptKey (lines s) ≡ F) (x : Word) (n l q : ℕ) (first : x ≡ cut (F 0)) (second : l ≡ asksEnd (F 1))
+    (at : asksEnd (F 1) ≡ 0 → n ≡ before 10 s) (asked : q ≡ sooner (asksOne x) l) where
   one-truly : q ≡ sooner (asksOne (nextWords scriptKey (lines s) 0)) (asksEnd (nextWords scriptKey (lines s) 1))
-  one-truly =
-      let e : getD w 0 Missing ≡ cut (nextWords scriptKey (lines s) 0) = h .each 0 (omega arith) in
-      let f : getD w 1 Missing ≡ cut (nextWords scriptKey (lines s) 1) = h .each 1 (omega arith) in
-      asked ∙ rw (e, f, cut-one (nextWords scriptKey (lines s) 0), cut-end (nextWords scriptKey (lines s) 1))
+  one-truly = asked ∙ rw (first, second, words, cut-one (F 0))
 
   pub script-wrong : (q ≡ 0 → ⊥) → (scriptLine (lines s) ≡ countOf s 1 (Counted.Wrong q)) × Within s 1 (Counted.Wrong q)
   unfolding scriptLine countOf
   script-wrong z = (rw (← one-truly) (unless-no q 1 _ z), z)
 
-  pub script-long : q ≡ 0 → n + 1 ≤ length s
-  script-long z = omega (arith, line-there scriptKey s asksOne refl (sooner-yes _ _ (sym one-truly ∙ z) .0))
+  module _ (z : q ≡ 0) where
+    script-there : before 10 s < length s
+    script-there = line-there scriptKey s asksOne refl (sooner-yes _ _ (sym one-truly ∙ z) .0)
 
-  pub script-read : q ≡ 0 → (scriptLine (lines s) ≡ countOf s 1 (Counted.Count 1 (n + 1))) × Within s 1 (Counted.Count 1 (n + 1))
-  unfolding scriptLine countOf
-  script-read z =
-      let there = line-there scriptKey s asksOne refl (sooner-yes _ _ (sym one-truly ∙ z) .0) in
-      let e₂ : nextLines (lines s) ≡ lines (drop (n + 1) s) = lines-next s there ∙ ap (λ m. lines (drop (m + 1) s)) (sym at) in
-      (rw (← one-truly) (unless-zero q 1 _ z ∙ rw e₂ refl), (omega arith, script-long z))
+    script-ended : n ≡ before 10 s
+    script-ended = at (rw words at (sooner-yes _ _ (sym one-truly ∙ z) .1))
+
+    pub script-long : n + 1 ≤ length s
+    script-long = omega (arith, script-there, script-ended)
+
+    pub script-read : (scriptLine (lines s) ≡ countOf s 1 (Counted.Count 1 (n + 1))) × Within s 1 (Counted.Count 1 (n + 1))
+    unfolding scriptLine countOf
+    script-read =
+        let e₂ : nextLines (lines s) ≡ lines (drop (n + 1) s) = lines-next s script-there ∙ ap (λ m. lines (drop (m + 1) s)) (sym script-ended) in
+        (rw (← one-truly) (unless-zero q 1 _ z ∙ rw e₂ refl), (omega arith, script-long))
+
+pub script-none : (s : List ℕ) → nextWords scriptKey (lines s) ≡ (λ _. Missing) → (scriptLine (lines s) ≡ countOf s 1 (Counted.Wrong 3)) × Within s 1 (Counted.Wrong 3)
+unfolding scriptLine countOf sooner unless
+script-none s e = (rw e, λ (z : _≡_ {A = ℕ} 3 0). omega arith)
 
 -- `range=LO HI`
-module _ (s : List ℕ) (w : List Word) (n q : ℕ) (h : Holds w (nextWords rangeKey (lines s))) (at : n ≡ before 10 s) (asked : q ≡ asksRange (λ k. getD w k Missing)) where
+module _ (s : List ℕ) (F : ℕ → Word) (words : nextWords rangeKey (lines s) ≡ F) (n q : ℕ) (at : asksEnd (F 2) ≡ 0 → n ≡ before 10 s) (asked : q ≡ asksRange (λ k. cut (F k))) where
   range-truly : q ≡ asksRange (nextWords rangeKey (lines s))
-  range-truly = asked ∙ range-cut (λ k. getD w k Missing) (nextWords rangeKey (lines s)) (h .each)
+  range-truly = asked ∙ range-cut (λ k. cut (F k)) F (λ k h. refl) ∙ ap asksRange (sym words)
 
   pub range-wrong : (q ≡ 0 → ⊥) → RangeRead s (Ranged.Wrong q)
   unfolding rangeOf
   range-wrong z = record { line = λ p f. rw (← range-truly) (unless-no q p _ z); within = z }
 
-  range-there : q ≡ 0 → before 10 s < length s
-  unfolding asksRange
-  range-there z = line-there rangeKey s (asksNumber lowest highest) refl (sooner-yes _ _ (sym range-truly ∙ z) .0)
+  module _ (z : q ≡ 0) where
+    range-there : before 10 s < length s
+    unfolding asksRange
+    range-there = line-there rangeKey s (asksNumber lowest highest) refl (sooner-yes _ _ (sym range-truly ∙ z) .0)
 
-  pub range-long : q ≡ 0 → n + 1 ≤ length s
-  range-long z = omega (arith, range-there z)
+    range-ended : n ≡ before 10 s
+    unfolding asksRange
+    range-ended =
+        let (_, a) = sooner-yes _ _ (sym range-truly ∙ z) in
+        let (_, b) = sooner-yes _ _ a in
+        at (rw words at (sooner-yes _ _ b .0))
 
-  pub range-read : q ≡ 0 → (a b : ℤ) → a ≡ numberOf (getD w 0 Missing) → b ≡ numberOf (getD w 1 Missing) → RangeRead s (Ranged.Range a b (n + 1))
-  unfolding rangeOf
-  range-read z a b e f =
-      let same : File.rangeOf (λ k. getD w k Missing) ≡ File.rangeOf (nextWords rangeKey (lines s)) = range-of-cut (λ k. getD w k Missing) (nextWords rangeKey (lines s)) (h .each) (sym range-truly ∙ z) in
-      let mine : File.rangeOf (nextWords rangeKey (lines s)) ≡ record { lo = a; hi = b } = sym same ∙ (unfold File.rangeOf in (rw (e, f) refl)) in
-      let e₂ : nextLines (lines s) ≡ lines (drop (n + 1) s) = lines-next s (range-there z) ∙ ap (λ m. lines (drop (m + 1) s)) (sym at) in
-      record { line = λ p g. rw (← range-truly) (unless-zero q p _ z ∙ rw (mine, e₂) refl); within = range-long z }
+    pub range-long : n + 1 ≤ length s
+    range-long = omega (arith, range-there, range-ended)
+
+    pub range-read : (a b : ℤ) → a ≡ numberOf (cut (F 0)) → b ≡ numberOf (cut (F 1)) → RangeRead s (Ranged.Range a b (n + 1))
+    unfolding rangeOf
+    range-read a b e f =
+        let same : File.rangeOf (λ k. cut (F k)) ≡ File.rangeOf F = range-of-cut (λ k. cut (F k)) F (λ k h. refl) (rw words at (sym range-truly ∙ z)) in
+        let mine : File.rangeOf (nextWords rangeKey (lines s)) ≡ record { lo = a; hi = b } = ap File.rangeOf words ∙ sym same ∙ (unfold File.rangeOf in (rw (e, f) refl)) in
+        let e₂ : nextLines (lines s) ≡ lines (drop (n + 1) s) = lines-next s range-there ∙ ap (λ m. lines (drop (m + 1) s)) (sym range-ended) in
+        record { line = λ p g. rw (← range-truly) (unless-zero q p _ z ∙ rw (mine, e₂) refl); within = range-long }
+
+pub range-none : (s : List ℕ) → nextWords rangeKey (lines s) ≡ (λ _. Missing) → RangeRead s (Ranged.Wrong 3)
+unfolding rangeOf asksRange sooner unless asksOrder
+range-none s e = record { line = λ p f. rw e; within = λ (z : _≡_ {A = ℕ} 3 0). omega arith }
+
+-- a row line
+module _ (s : List ℕ) (vars : ℕ) where
+  pub row-there : keyed rowKey s ≡ true → Keyed rowKey s 3
+  unfolding clean last
+  row-there e = keyed-at rowKey s 3 refl refl e
+
+  pub row-yes : (r : Line) → keyed rowKey s ≡ true → RowLine s 3 vars r → LineRead s vars r
+  row-yes r e l = record { row = l .row ∙ ap (rowOf vars) (sym (row-there e .words)); end = λ k w. l .end k w ∙ row-there e .line }
+
+  pub row-no : (p : ℕ) → keyed rowKey s ≡ false → LineRead s vars (record { row = RowRead.Wrong 3; end = p })
+  unfolding clean rowOf
+  row-no p e = record {
+    row = ap (rowOf vars) (sym (at-none rowKey s refl e));
+    end = λ k w. absurd (let y : _≡_ {A = ℕ} 0 1 = cc in omega arith);
+  }

@@ -171,7 +171,7 @@ rows-none file at vars n rows kinds h l = record {
   same = rw (nest-none kinds) (ap (λ p. rowLines vars n p (lines (drop at file)) noRows) (omega arith) ∙ ap (λ m. rowLines vars m (4 + vars + 0) (lines (drop at file)) noRows) (omega arith));
 }
 
-module _ (file : List ℕ) (at vars n : ℕ) (rows : List Row) (blocks : Blocks) (next i len : ℕ) (u : RowsUpto file at vars n rows blocks next i) (h : i < n) (end : len ≡ before 10 (drop next file)) where
+module _ (file : List ℕ) (at vars n : ℕ) (rows : List Row) (blocks : Blocks) (next i len : ℕ) (u : RowsUpto file at vars n rows blocks next i) (h : i < n) where
   row-step : (r : RowRead) → r ≡ rowOf vars (nextWords rowKey (lines (drop next file)))
       → rowLines vars n (4 + vars) (lines (drop at file)) noRows ≡ rowLine (4 + vars + i) (record { kinds = take i (kindsOf rows); nest = nestOf blocks }) r (λ x. rowLines vars (n - (i + 1)) (suc (4 + vars + i)) (nextLines (lines (drop next file))) x)
   unfolding rowLines
@@ -181,7 +181,7 @@ module _ (file : List ℕ) (at vars n : ℕ) (rows : List Row) (blocks : Blocks)
   unfolding rowLine
   rows-wrong q e = row-step (Wrong q) e
 
-  module _ (k : Kind) (e : Read k ≡ rowOf vars (nextWords rowKey (lines (drop next file)))) (p : Placed) (f : nestedOf p ≡ nestRow k (nestOf blocks)) where
+  module _ (k : Kind) (e : Read k ≡ rowOf vars (nextWords rowKey (lines (drop next file)))) (end : len ≡ before 10 (drop next file)) (p : Placed) (f : nestedOf p ≡ nestRow k (nestOf blocks)) where
     pub rows-misplaced : (p .number ≡ 0 → ⊥) → rowLines vars n (4 + vars) (lines (drop at file)) noRows ≡ refused (p .number) (4 + vars + i)
     unfolding rowLine placed nestedOf
     rows-misplaced z = row-step (Read k) e ∙ rw (← f, ne-eqb (p .number) 0 z) refl

@@ -1,21 +1,22 @@
 -- What the reader's answers stand for in the rules' reading of a file.
 use mathlib.Core.Path.{_≡_}
-use mathlib.Core.Bool.{Bool, true, false, cond}
+use mathlib.Core.Bool.{Bool, true, false, not, cond}
 use mathlib.Core.List.{List, [], _∷_, _++_}
 use Prim.Native.Nat.{ℕ, zero, suc, _+_, _≤_, _<_}
-use lib.Dec.{eqb}
+use lib.Dec.{eqb, ltb}
 use lib.IntN.{ℤ, pos}
-use lib.ListN.{length, getD, take, drop}
-use Rattle.rules.specs.declared.Word.{Word}
-use Rattle.rules.specs.declared.Word.the-variants.{Missing}
+use lib.ListN.{length, take, drop}
+use Rattle.rules.specs.declared.Kind.{Kind}
+use Rattle.rules.specs.declared.RowRead.the-variants.{Read}
 use Rattle.rules.specs.declared.Row.{Row}
 use Rattle.rules.specs.Blocks.{kindsOf}
 use Rattle.rules.specs.Ranges.{Range}
 use Rattle.rules.specs.Scripts.{Script, ends, held}
-use Rattle.rules.specs.Text.{split, nextWords, nextLines}
+use Rattle.rules.specs.Text.{split, startsWith, nextWords, nextLines}
 use Rattle.rules.specs.File
-use Rattle.rules.specs.File.{Reading, read, refused, Rows, unless, countLine, asksRange, rangeKey, rangeLines, rowLines, noRows}
-use Rattle.text.specs.Words.{cut}
+use Rattle.rules.specs.File.{Reading, read, refused, Rows, unless, countLine, asksRange, rangeKey, rowKey, rowOf, rangeLines, rowLines, noRows}
+use Rattle.text.specs.Words.{before}
+use Rattle.rows.specs.declared.Line.{Line}
 use Rattle.reader.specs.declared.Counted.{Counted}
 use Rattle.reader.specs.declared.Ranged.{Ranged}
 use Rattle.reader.specs.declared.Ranges.{Ranges}
@@ -23,9 +24,15 @@ use Rattle.nesting.specs.Open.{nestOf}
 use Rattle.reader.specs.declared.Listed.{Listed}
 use Rattle.reader.specs.declared.Loaded.{Loaded}
 
--- an array holds the words w, their numbers cut off
-pub record Holds (r : List Word) (w : ℕ → Word) : Type 0 where
-  pub each : (k : ℕ) → k < 8 → getD r k Missing ≡ cut (w k)
+-- there is a next line, and it has the key
+unfoldable pub keyed : List ℕ → List ℕ → Bool
+keyed key s = cond (ltb (before 10 s) (length s)) (startsWith key s) false
+
+-- a key has bytes, and no LF among them
+unfoldable pub clean : List ℕ → Bool
+clean [] = false
+clean (k ∷ []) = not (eqb k 10)
+clean (k ∷ (l ∷ key)) = cond (eqb k 10) false (clean (l ∷ key))
 
 -- the lines of a text
 abbrev pub lines : List ℕ → List (List ℕ)
@@ -58,6 +65,11 @@ pub record RangeRead (rest : List ℕ) (r : Ranged) : Type 0 where
   pub line : (p : ℕ) (f : Range → List (List ℕ) → Reading (List Range))
       → unless (asksRange (nextWords rangeKey (lines rest))) p (f (File.rangeOf (nextWords rangeKey (lines rest))) (nextLines (lines rest))) ≡ rangeOf rest p f r
   pub within : RangeWithin rest r
+
+-- what a row line reads
+pub record LineRead (rest : List ℕ) (vars : ℕ) (r : Line) : Type 0 where
+  pub row : r .row ≡ rowOf vars (nextWords rowKey (lines rest))
+  pub end : (k : Kind) → r .row ≡ Read k → r .end ≡ before 10 rest
 
 -- all range lines of a file, n of them
 unfoldable pub rangesOf : List ℕ → ℕ → Ranges → Reading (List Range)

@@ -1,7 +1,8 @@
 // Reads a script file line by line: the questions 2 to 7. Each line's reader gets the unread rest of the file.
 use nesting::Blocks;
 use nesting::nest_row;
-use rows::asks_end;
+use rows::Line;
+use rows::asks_last;
 use rows::asks_number;
 use rows::asks_one;
 use rows::asks_order;
@@ -11,42 +12,43 @@ use rows::sooner;
 use rules::BLANK;
 use rules::Row;
 use rules::RowRead;
-use rules::Word;
+use text::next_word;
 use text::position;
 use text::starts_with;
-use text::words;
 ghost use mathlib.Core.Path.{_≡_};
-ghost use mathlib.Core.List.{List, [], _∷_};
+ghost use mathlib.Core.Bool.{true};
 ghost use Prim.Native.Nat.{ℕ, _+_, _≤_, _<_};
+ghost use lib.Dec.{ltb};
 ghost use lib.IntN.{pos, natAbs};
 ghost use lib.Signed.{_≤ℤ_};
 ghost use lib.ListN.{length, drop};
-ghost use Rattle.rules.specs.Text.{lineWords, nextWords};
 ghost use Rattle.rules.specs.Scripts.{ends};
-ghost use Rattle.rules.specs.File.{refused, andThen, rowOf, rowKey, varsKey, scriptLine, countLine, rowLines, noRows, lastLine, rowPart, rangePart, fileScript};
+ghost use Rattle.rules.specs.File.{refused, andThen, varsKey, scriptLine, countLine, rowLines, noRows, lastLine, rowPart, rangePart, fileScript};
 ghost use Rattle.text.specs.Words.{before};
-ghost use Rattle.reader.specs.Read.{Holds, lines, countOf, CountRead, Within, RangeRead, RangesRead, RowsRead, loadedOf};
+ghost use Rattle.reader.specs.Read.{keyed, clean, lines, countOf, CountRead, Within, RangeRead, LineRead, RangesRead, RowsRead, loadedOf};
 
-// The words of a line after its key; with another key there are none.
-fn keyed(line: &[u8], key: &[u8]) -> [Word; 8]
-    ensures { λ r. ⌜ Holds r (lineWords (now (key .entry)) (now (line .entry))) ⌝ }
+// Whether an LF ends the next line.
+fn has_line(rest: &[u8]) -> bool
+    ensures { λ r. ⌜ r ≡ ltb (before 10 (now (rest .entry))) (length (now (rest .entry))) ⌝ }
 {
-    if starts_with(line, key) {
-        let k = key.len();
-        return words(&line[k..]);
+    let n = rest.len();
+    if n == 0 {
+        return false;
     }
-    [Word::Missing; 8]
+    if rest[n - 1] == b'\n' {
+        return true;
+    }
+    position(rest, b'\n') < n
 }
 
-// The words of the next line, which is n bytes long.
-fn line_words(rest: &[u8], n: usize, key: &[u8]) -> [Word; 8]
-    requires { ⌜ n ≡ before 10 (now rest) ⌝ }
-    ensures { λ r. ⌜ Holds r (nextWords (now (key .entry)) (lines (now (rest .entry)))) ⌝ }
+// Whether there is a next line, and it has the key.
+fn keyed(rest: &[u8], key: &[u8]) -> bool
+    ensures { λ r. ⌜ r ≡ keyed (now (key .entry)) (now (rest .entry)) ⌝ }
 {
-    if n == rest.len() {
-        return [Word::Missing; 8];
+    if has_line(rest) {
+        return starts_with(rest, key);
     }
-    keyed(&rest[..n], key)
+    false
 }
 
 // What a count line says: the count, and the line's length with its LF.
@@ -57,32 +59,37 @@ pub enum Counted {
 
 // `vars=V` and `rows=R`
 fn count_line(rest: &[u8], key: &[u8], most: i32) -> Counted
-    requires { ⌜ (pos 0 ≤ℤ most) × (most ≤ℤ pos 1_000_000_000) ⌝ }
+    requires { ⌜ (pos 0 ≤ℤ most) × (most ≤ℤ pos 1_000_000_000) × (clean (now key) ≡ true) ⌝ }
     ensures { λ r. ⌜ CountRead (now (key .entry)) (now (rest .entry)) (natAbs most) r ⌝ }
 {
-    let n = position(rest, b'\n');
-    let w = line_words(rest, n, key);
-    let x = w[0];
-    let q = sooner(asks_number(0, most, x), asks_end(w[1]));
-    if q == 0 {
-        Counted::Count(number_of(x) as usize, n + 1)
-    } else {
-        Counted::Wrong(q)
+    if keyed(rest, key) {
+        let f = next_word(rest, key.len() - 1);
+        let x = f.word;
+        let end = f.end;
+        let q = sooner(asks_number(0, most, x), asks_last(rest, end));
+        if q == 0 {
+            return Counted::Count(number_of(x) as usize, end + 1);
+        }
+        return Counted::Wrong(q);
     }
+    Counted::Wrong(3)
 }
 
 // `script=1`
 fn script_line(rest: &[u8]) -> Counted
     ensures { λ r. ⌜ (scriptLine (lines (now (rest .entry))) ≡ countOf (now (rest .entry)) 1 r) × Within (now (rest .entry)) 1 r ⌝ }
 {
-    let n = position(rest, b'\n');
-    let w = line_words(rest, n, b"script=");
-    let q = sooner(asks_one(w[0]), asks_end(w[1]));
-    if q == 0 {
-        Counted::Count(1, n + 1)
-    } else {
-        Counted::Wrong(q)
+    if keyed(rest, b"script=") {
+        let f = next_word(rest, 6);
+        let x = f.word;
+        let end = f.end;
+        let q = sooner(asks_one(x), asks_last(rest, end));
+        if q == 0 {
+            return Counted::Count(1, end + 1);
+        }
+        return Counted::Wrong(q);
     }
+    Counted::Wrong(3)
 }
 
 // What a range line says: its ends, and its length with its LF.
@@ -95,18 +102,21 @@ pub enum Ranged {
 fn range_line(rest: &[u8]) -> Ranged
     ensures { λ r. ⌜ RangeRead (now (rest .entry)) r ⌝ }
 {
-    let n = position(rest, b'\n');
-    let w = line_words(rest, n, b"range=");
-    let lo = w[0];
-    let hi = w[1];
-    let ends = sooner(asks_end(w[2]), asks_order(lo, hi));
-    let high = sooner(asks_number(-1_000_000_000, 1_000_000_000, hi), ends);
-    let q = sooner(asks_number(-1_000_000_000, 1_000_000_000, lo), high);
-    if q == 0 {
-        Ranged::Range(number_of(lo), number_of(hi), n + 1)
-    } else {
-        Ranged::Wrong(q)
+    if keyed(rest, b"range=") {
+        let f = next_word(rest, 5);
+        let lo = f.word;
+        let g = next_word(rest, f.end);
+        let hi = g.word;
+        let end = g.end;
+        let ends = sooner(asks_last(rest, end), asks_order(lo, hi));
+        let high = sooner(asks_number(-1_000_000_000, 1_000_000_000, hi), ends);
+        let q = sooner(asks_number(-1_000_000_000, 1_000_000_000, lo), high);
+        if q == 0 {
+            return Ranged::Range(number_of(lo), number_of(hi), end + 1);
+        }
+        return Ranged::Wrong(q);
     }
+    Ranged::Wrong(3)
 }
 
 // The ranges: question 0 for none, or the first no with its line; the bytes read; the ends.
@@ -166,12 +176,17 @@ pub struct Listed {
 }
 
 // The next line's row.
-fn row_line(rest: &[u8], n: usize, vars: u32) -> RowRead
-    requires { ⌜ (n ≡ before 10 (now rest)) × (vars ≤ 16) ⌝ }
-    ensures { λ r. ⌜ r ≡ rowOf vars (nextWords rowKey (lines (now (rest .entry)))) ⌝ }
+fn row_line(rest: &[u8], vars: u32) -> Line
+    requires { ⌜ vars ≤ 16 ⌝ }
+    ensures { λ r. ⌜ LineRead (now (rest .entry)) vars r ⌝ }
 {
-    let w = line_words(rest, n, b"row=");
-    row_of(vars, w)
+    if keyed(rest, b"row=") {
+        return row_of(rest, 3, vars);
+    }
+    Line {
+        row: RowRead::Wrong(3),
+        end: 0,
+    }
 }
 
 // The n row lines from byte `at` on.
@@ -188,8 +203,9 @@ fn read_rows(file: &[u8], at: usize, vars: usize, n: usize) -> Listed
     let mut next = at;
     let mut i: usize = 0;
     while i < n {
-        let len = position(&file[next..], b'\n');
-        let r = row_line(&file[next..], len, vars as u32);
+        let l = row_line(&file[next..], vars as u32);
+        let r = l.row;
+        let len = l.end;
         match r {
             RowRead::Read(kind) => {
                 let p = nest_row(kind, blocks);

@@ -10,12 +10,24 @@ use borrow.Author.Tests.{le-leb, lt-leb}
 use Rattle.rules.specs.declared.Kind.{Kind}
 use Rattle.rules.specs.declared.Word.{Word}
 use Rattle.rules.specs.declared.Word.the-variants.{Number, Variable}
+use Rattle.rules.specs.declared.RowRead.{RowRead}
 use Rattle.rules.specs.declared.RowRead.the-variants.{Read, Wrong}
 use Rattle.rules.specs.Values.{highest}
-use Rattle.rules.specs.File.{sooner, asksNumber, asksVariable, asksOperand, asksStep, asksOne, asksTest, asksFor, checked}
+use Rattle.rules.specs.File.{sooner, asksEnd, asksNumber, asksVariable, asksOperand, asksStep, asksOne, asksTest, asksFor, checked, variableOf, comparisonOf, operandOf, setRow, moveRow, cueRow, bareRow, whileRow, doRow, forRow, namedRow, firstWord, rowOf}
 use lib.Signed.{_≤ℤ_}
 use Rattle.ints.proofs.Parts.{ints}
 use Rattle.rules.specs.declared.Word.the-variants.{Missing, Compares, Keyword, Other}
+use mathlib.Core.List.{List}
+use lib.ListN.{drop}
+use Rattle.text.specs.Words.{cut, following, Next}
+use Rattle.text.specs.declared.Found.{Found}
+use Rattle.text.proofs.Line.{Reached, reach-end}
+use Rattle.text.proofs.Cut.{row-cut}
+use Rattle.rows.specs.declared.Line.{Line}
+use Rattle.rules.specs.declared.Comparison.{Comparison}
+use Rattle.rules.specs.declared.Operand.{Operand}
+use Rattle.rules.specs.declared.Name.{Name}
+use Rattle.rows.specs.Words.{after, Lined, RowLine}
 use Rattle.rules.proofs.Reading.{variable-yes, number-yes, sooner-yes}
 
 -- the first of two questions
@@ -104,3 +116,74 @@ for-words vars w q e z =
     let (g, h) = sooner-yes _ _ f in
     let (i, _) = sooner-yes _ _ h in
     (a, c, g, i)
+
+-- ---- a row's line, whose words are read up to the byte p
+module _ (s : List ℕ) (at m p : ℕ) (f : (ℕ → Word) → RowRead) (h : Reached s at m p) where
+  pub lined-read : (k : Kind) → Read k ≡ f (after Missing (drop at s)) → asksEnd (after Missing (drop at s) (suc m)) ≡ 0 → Lined s at f (record { row = Read k; end = p })
+  lined-read k e z = record { row = e; end = λ _ _. reach-end s at m p h z }
+
+pub lined-wrong : (s : List ℕ) (at p : ℕ) (f : (ℕ → Word) → RowRead) (q : ℕ) → Wrong q ≡ f (after Missing (drop at s)) → Lined s at f (record { row = Wrong q; end = p })
+lined-wrong s at p f q e = record { row = e; end = λ k w. absurd (let y : _≡_ {A = ℕ} 0 1 = cc in omega arith) }
+
+pub for-last : (vars : ℕ) (w : ℕ → Word) (q : ℕ) → q ≡ asksFor vars w → q ≡ 0 → asksEnd (w 7) ≡ 0
+unfolding asksFor
+for-last vars w q e z = sooner-yes _ _ (sooner-yes _ _ (sooner-yes _ _ (sooner-yes _ _ (sooner-yes _ _ (sym e ∙ z) .1) .1) .1) .1) .1
+
+pub test-last : (vars : ℕ) (w : ℕ → Word) (q : ℕ) → q ≡ asksTest vars w → q ≡ 0 → asksEnd (w 4) ≡ 0
+unfolding asksTest
+test-last vars w q e z = sooner-yes _ _ (sooner-yes _ _ (sooner-yes _ _ (sym e ∙ z) .1) .1) .1
+
+-- a loop with a test
+module _ (after : Bool) (vars : ℕ) (w : ℕ → Word) (q : ℕ) where
+  pub test-read : (k : Kind) (v : ℕ) (c : Comparison) (x : Operand) → q ≡ asksTest vars w → q ≡ 0 → k ≡ cond after (Kind.Do v c x) (Kind.While v c x)
+      → v ≡ variableOf (w 1) → c ≡ comparisonOf (w 2) → x ≡ operandOf (w 3) → Read k ≡ cond after (doRow vars w) (whileRow vars w)
+  unfolding doRow whileRow
+  test-read k v c x e z f a b d = go after f
+    where
+      go : (t : Bool) → k ≡ cond t (Kind.Do v c x) (Kind.While v c x) → Read k ≡ cond t (doRow vars w) (whileRow vars w)
+      go true g = checked-read _ _ _ _ e z (g ∙ rw (a, b, d))
+      go false g = checked-read _ _ _ _ e z (g ∙ rw (a, b, d))
+
+  pub test-wrong : q ≡ asksTest vars w → (q ≡ 0 → ⊥) → Wrong q ≡ cond after (doRow vars w) (whileRow vars w)
+  unfolding doRow whileRow
+  test-wrong e n = go after
+    where
+      go : (t : Bool) → Wrong q ≡ cond t (doRow vars w) (whileRow vars w)
+      go true = checked-wrong _ _ _ e n
+      go false = checked-wrong _ _ _ e n
+
+-- the first word of a row is asked no more
+pub named-after : (vars : ℕ) (x : Word) (s : List ℕ) (n : Name) → namedRow vars (after Missing s) n ≡ namedRow vars (after x s) n
+unfolding setRow moveRow cueRow bareRow whileRow doRow forRow asksTest asksFor
+named-after vars x s Name.Set = refl
+named-after vars x s Name.Add = refl
+named-after vars x s Name.Sub = refl
+named-after vars x s Name.Mul = refl
+named-after vars x s Name.Div = refl
+named-after vars x s Name.Cue = refl
+named-after vars x s Name.Pick = refl
+named-after vars x s Name.Else = refl
+named-after vars x s Name.End = refl
+named-after vars x s Name.While = refl
+named-after vars x s Name.Do = refl
+named-after vars x s Name.For = refl
+
+-- the row of a line from its first word
+module _ (s : List ℕ) (at vars : ℕ) (f : Found) (n : Next s at f) (few : vars ≤ 16) where
+  whole : rowOf vars (after (f .word) (drop (f .end) s)) ≡ rowOf vars (following (drop at s))
+  whole = row-cut vars (after (f .word) (drop (f .end) s)) (following (drop at s)) few words
+    where
+      words : (k : ℕ) → k < 8 → after (f .word) (drop (f .end) s) k ≡ cut (following (drop at s) k)
+      words zero h = n .word
+      words (suc k) h = ap cut (sym (n .more k))
+
+  pub row-other : Wrong 3 ≡ firstWord vars (after (f .word) (drop (f .end) s)) (f .word) → (p : ℕ) → RowLine s at vars (record { row = Wrong 3; end = p })
+  unfolding rowOf
+  row-other e p = record { row = e ∙ whole; end = λ k w. absurd (let y : _≡_ {A = ℕ} 0 1 = cc in omega arith) }
+
+  pub row-named : (name : Name) (r : Line) → f .word ≡ Keyword name → Lined s (f .end) (λ w. namedRow vars w name) r → RowLine s at vars r
+  unfolding rowOf
+  row-named name r e l = record {
+    row = l .row ∙ named-after vars (f .word) (drop (f .end) s) name ∙ ap (firstWord vars (after (f .word) (drop (f .end) s))) (sym e) ∙ whole;
+    end = λ k w. l .end k w ∙ n .line;
+  }

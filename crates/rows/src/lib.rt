@@ -6,12 +6,16 @@ use rules::Name;
 use rules::Operand;
 use rules::RowRead;
 use rules::Word;
+use text::next_word;
 ghost use mathlib.Core.Path.{_≡_};
+ghost use mathlib.Core.Bool.{cond};
 ghost use Prim.Native.Nat.{_≤_, _<_};
+ghost use lib.ListN.{drop};
 ghost use lib.IntN.{ℤ, pos, natAbs};
 ghost use Rattle.rules.specs.Values.{highest};
-ghost use Rattle.rules.specs.File.{sooner, asksEnd, asksNumber, asksVariable, asksOperand, asksComparison, asksChange, asksStep, asksOne, asksOrder, numberOf, variableOf, operandOf, comparisonOf, changeOf, stepOf, bareRow, setRow, moveRow, cueRow, asksTest, whileRow, doRow, asksFor, forRow, namedRow, rowOf};
-ghost use Rattle.rows.specs.Words.{at};
+ghost use Rattle.rules.specs.File.{sooner, asksEnd, asksNumber, asksVariable, asksOperand, asksComparison, asksChange, asksStep, asksOne, asksOrder, numberOf, variableOf, operandOf, comparisonOf, changeOf, stepOf, bareRow, setRow, moveRow, cueRow, whileRow, doRow, forRow, namedRow};
+ghost use Rattle.text.specs.Words.{Ends, following};
+ghost use Rattle.rows.specs.Words.{Lined, RowLine};
 
 // The first question of two that has no; 0: both have yes.
 pub fn sooner(p: u32, q: u32) -> u32
@@ -278,166 +282,233 @@ pub fn step_of(x: Word, w: Word) -> Change
     }
 }
 
-// `pick`, `else`, `end`
-fn bare_row(vars: u32, w: [Word; 8], kind: Kind) -> RowRead
-    ensures { λ r. ⌜ r ≡ bareRow vars (at w) kind ⌝ }
+// A row's line: its row, or the question that has no; and the byte where reading ended, the line's LF if the row was read.
+pub struct Line {
+    pub row: RowRead,
+    pub end: usize,
+}
+
+// Whether the byte `at` is the line's LF: nothing stands after it.
+pub fn asks_last(s: &[u8], at: usize) -> u32
+    requires { ⌜ Ends (drop at (now s)) ⌝ }
+    ensures { λ r. ⌜ r ≡ asksEnd (following (drop at (now (s .entry))) 0) ⌝ }
 {
-    let q = asks_end(w[1]);
+    if s[at] == b'\n' { 0 } else { 3 }
+}
+
+// `pick`, `else`, `end`
+fn bare_row(s: &[u8], at: usize, vars: u32, kind: Kind) -> Line
+    requires { ⌜ Ends (drop at (now s)) ⌝ }
+    ensures { λ r. ⌜ Lined (now (s .entry)) at (λ w. bareRow vars w kind) r ⌝ }
+{
+    let q = asks_last(s, at);
     if q == 0 {
-        RowRead::Read(kind)
-    } else {
-        RowRead::Wrong(q)
+        return Line {
+            row: RowRead::Read(kind),
+            end: at,
+        };
+    }
+    Line {
+        row: RowRead::Wrong(q),
+        end: at,
     }
 }
 
 // `set v0 X`
-fn set_row(vars: u32, w: [Word; 8]) -> RowRead
-    requires { ⌜ vars ≤ 16 ⌝ }
-    ensures { λ r. ⌜ r ≡ setRow vars (at w) ⌝ }
+fn set_row(s: &[u8], at: usize, vars: u32) -> Line
+    requires { ⌜ Ends (drop at (now s)) × (vars ≤ 16) ⌝ }
+    ensures { λ r. ⌜ Lined (now (s .entry)) at (setRow vars) r ⌝ }
 {
-    let q = sooner(
-        asks_variable(vars, w[1]),
-        sooner(asks_operand(vars, w[2]), asks_end(w[3])),
-    );
+    let a = next_word(s, at);
+    let v = a.word;
+    let b = next_word(s, a.end);
+    let x = b.word;
+    let end = b.end;
+    let last = sooner(asks_operand(vars, x), asks_last(s, end));
+    let q = sooner(asks_variable(vars, v), last);
     if q == 0 {
-        RowRead::Read(Kind::Set(variable_of(vars, w[1]), operand_of(vars, w[2])))
-    } else {
-        RowRead::Wrong(q)
+        let kind = Kind::Set(variable_of(vars, v), operand_of(vars, x));
+        return Line {
+            row: RowRead::Read(kind),
+            end,
+        };
+    }
+    Line {
+        row: RowRead::Wrong(q),
+        end,
     }
 }
 
 // `add v0 C`, `sub v0 C`, `mul v0 C`, `div v0 C`
-fn move_row(vars: u32, w: [Word; 8], name: Name) -> RowRead
-    requires { ⌜ vars ≤ 16 ⌝ }
-    ensures { λ r. ⌜ r ≡ moveRow vars (at w) name ⌝ }
+fn move_row(s: &[u8], at: usize, vars: u32, name: Name) -> Line
+    requires { ⌜ Ends (drop at (now s)) × (vars ≤ 16) ⌝ }
+    ensures { λ r. ⌜ Lined (now (s .entry)) at (λ w. moveRow vars w name) r ⌝ }
 {
-    let q = sooner(
-        asks_variable(vars, w[1]),
-        sooner(asks_change(name, w[2]), asks_end(w[3])),
-    );
+    let a = next_word(s, at);
+    let v = a.word;
+    let b = next_word(s, a.end);
+    let x = b.word;
+    let end = b.end;
+    let last = sooner(asks_change(name, x), asks_last(s, end));
+    let q = sooner(asks_variable(vars, v), last);
     if q == 0 {
-        RowRead::Read(Kind::Move(variable_of(vars, w[1]), change_of(name, w[2])))
-    } else {
-        RowRead::Wrong(q)
+        let kind = Kind::Move(variable_of(vars, v), change_of(name, x));
+        return Line {
+            row: RowRead::Read(kind),
+            end,
+        };
+    }
+    Line {
+        row: RowRead::Wrong(q),
+        end,
     }
 }
 
 // `cue N`
-fn cue_row(vars: u32, w: [Word; 8]) -> RowRead
-    ensures { λ r. ⌜ r ≡ cueRow vars (at w) ⌝ }
+fn cue_row(s: &[u8], at: usize, vars: u32) -> Line
+    requires { ⌜ Ends (drop at (now s)) ⌝ }
+    ensures { λ r. ⌜ Lined (now (s .entry)) at (cueRow vars) r ⌝ }
 {
-    let q = sooner(asks_number(0, 9_999, w[1]), asks_end(w[2]));
+    let a = next_word(s, at);
+    let n = a.word;
+    let end = a.end;
+    let q = sooner(asks_number(0, 9_999, n), asks_last(s, end));
     if q == 0 {
-        RowRead::Read(Kind::Cue(amount(w[1])))
-    } else {
-        RowRead::Wrong(q)
+        let kind = Kind::Cue(amount(n));
+        return Line {
+            row: RowRead::Read(kind),
+            end,
+        };
+    }
+    Line {
+        row: RowRead::Wrong(q),
+        end,
     }
 }
 
-// The test of a `while` or a `do`.
-fn test_asks(vars: u32, w: [Word; 8]) -> u32
-    ensures { λ r. ⌜ r ≡ asksTest vars (at w) ⌝ }
+// A loop with a test, asked before each turn or after.
+fn test(after: bool, v: u8, c: Comparison, x: Operand) -> Kind
+    ensures { λ r. ⌜ r ≡ cond after (Kind.Do v c x) (Kind.While v c x) ⌝ }
 {
-    let limit = sooner(asks_operand(vars, w[3]), asks_end(w[4]));
-    sooner(
-        asks_variable(vars, w[1]),
-        sooner(asks_comparison(w[2]), limit),
-    )
-}
-
-// `while v0 <= X`
-fn while_row(vars: u32, w: [Word; 8]) -> RowRead
-    requires { ⌜ vars ≤ 16 ⌝ }
-    ensures { λ r. ⌜ r ≡ whileRow vars (at w) ⌝ }
-{
-    let q = test_asks(vars, w);
-    if q == 0 {
-        let v = variable_of(vars, w[1]);
-        RowRead::Read(Kind::While(v, comparison_of(w[2]), operand_of(vars, w[3])))
-    } else {
-        RowRead::Wrong(q)
+    if after {
+        return Kind::Do(v, c, x);
     }
+    Kind::While(v, c, x)
 }
 
-// `do v0 <= X`
-fn do_row(vars: u32, w: [Word; 8]) -> RowRead
-    requires { ⌜ vars ≤ 16 ⌝ }
-    ensures { λ r. ⌜ r ≡ doRow vars (at w) ⌝ }
+// `while v0 <= X`, `do v0 <= X`
+fn test_row(s: &[u8], at: usize, vars: u32, after: bool) -> Line
+    requires { ⌜ Ends (drop at (now s)) × (vars ≤ 16) ⌝ }
+    ensures { λ r. ⌜ Lined (now (s .entry)) at (λ w. cond after (doRow vars w) (whileRow vars w)) r ⌝ }
 {
-    let q = test_asks(vars, w);
+    let a = next_word(s, at);
+    let v = a.word;
+    let b = next_word(s, a.end);
+    let o = b.word;
+    let c = next_word(s, b.end);
+    let x = c.word;
+    let end = c.end;
+    let last = sooner(asks_operand(vars, x), asks_last(s, end));
+    let rest = sooner(asks_comparison(o), last);
+    let q = sooner(asks_variable(vars, v), rest);
     if q == 0 {
-        let v = variable_of(vars, w[1]);
-        RowRead::Read(Kind::Do(v, comparison_of(w[2]), operand_of(vars, w[3])))
-    } else {
-        RowRead::Wrong(q)
+        let limit = operand_of(vars, x);
+        let kind = test(after, variable_of(vars, v), comparison_of(o), limit);
+        return Line {
+            row: RowRead::Read(kind),
+            end,
+        };
     }
-}
-
-// The words of a `for`.
-fn for_asks(vars: u32, w: [Word; 8]) -> u32
-    ensures { λ r. ⌜ r ≡ asksFor vars (at w) ⌝ }
-{
-    let step = sooner(asks_step(w[5], w[6]), asks_end(w[7]));
-    let test = sooner(
-        asks_comparison(w[3]),
-        sooner(asks_operand(vars, w[4]), step),
-    );
-    sooner(
-        asks_variable(vars, w[1]),
-        sooner(asks_operand(vars, w[2]), test),
-    )
+    Line {
+        row: RowRead::Wrong(q),
+        end,
+    }
 }
 
 // `for v0 X <= Y add C`
-fn for_row(vars: u32, w: [Word; 8]) -> RowRead
-    requires { ⌜ vars ≤ 16 ⌝ }
-    ensures { λ r. ⌜ r ≡ forRow vars (at w) ⌝ }
+fn for_row(s: &[u8], at: usize, vars: u32) -> Line
+    requires { ⌜ Ends (drop at (now s)) × (vars ≤ 16) ⌝ }
+    ensures { λ r. ⌜ Lined (now (s .entry)) at (forRow vars) r ⌝ }
 {
-    let q = for_asks(vars, w);
+    let a = next_word(s, at);
+    let v = a.word;
+    let b = next_word(s, a.end);
+    let x = b.word;
+    let c = next_word(s, b.end);
+    let o = c.word;
+    let d = next_word(s, c.end);
+    let y = d.word;
+    let e = next_word(s, d.end);
+    let n = e.word;
+    let f = next_word(s, e.end);
+    let z = f.word;
+    let end = f.end;
+    let last = sooner(asks_step(n, z), asks_last(s, end));
+    let limit = sooner(asks_operand(vars, y), last);
+    let test = sooner(asks_comparison(o), limit);
+    let rest = sooner(asks_operand(vars, x), test);
+    let q = sooner(asks_variable(vars, v), rest);
     if q == 0 {
-        let v = variable_of(vars, w[1]);
-        let start = operand_of(vars, w[2]);
-        let limit = operand_of(vars, w[4]);
-        let step = step_of(w[5], w[6]);
-        RowRead::Read(Kind::For(v, start, comparison_of(w[3]), limit, step))
-    } else {
-        RowRead::Wrong(q)
+        let start = operand_of(vars, x);
+        let limit = operand_of(vars, y);
+        let step = step_of(n, z);
+        let kind = Kind::For(variable_of(vars, v), start, comparison_of(o), limit, step);
+        return Line {
+            row: RowRead::Read(kind),
+            end,
+        };
+    }
+    Line {
+        row: RowRead::Wrong(q),
+        end,
     }
 }
 
-// A row by its keyword.
-fn named_row(vars: u32, w: [Word; 8], name: Name) -> RowRead
-    requires { ⌜ vars ≤ 16 ⌝ }
-    ensures { λ r. ⌜ r ≡ namedRow vars (at w) name ⌝ }
+// By the first word, which ends at the byte `at`.
+fn named_row(s: &[u8], at: usize, vars: u32, name: Name) -> Line
+    requires { ⌜ Ends (drop at (now s)) × (vars ≤ 16) ⌝ }
+    ensures { λ r. ⌜ Lined (now (s .entry)) at (λ w. namedRow vars w name) r ⌝ }
 {
     match name {
-        Name::Set => set_row(vars, w),
-        Name::Add => move_row(vars, w, name),
-        Name::Sub => move_row(vars, w, name),
-        Name::Mul => move_row(vars, w, name),
-        Name::Div => move_row(vars, w, name),
-        Name::Cue => cue_row(vars, w),
-        Name::Pick => bare_row(vars, w, Kind::Pick),
-        Name::Else => bare_row(vars, w, Kind::Else),
-        Name::End => bare_row(vars, w, Kind::End),
-        Name::While => while_row(vars, w),
-        Name::Do => do_row(vars, w),
-        Name::For => for_row(vars, w),
+        Name::Set => set_row(s, at, vars),
+        Name::Add => move_row(s, at, vars, name),
+        Name::Sub => move_row(s, at, vars, name),
+        Name::Mul => move_row(s, at, vars, name),
+        Name::Div => move_row(s, at, vars, name),
+        Name::Cue => cue_row(s, at, vars),
+        Name::Pick => bare_row(s, at, vars, Kind::Pick),
+        Name::Else => bare_row(s, at, vars, Kind::Else),
+        Name::End => bare_row(s, at, vars, Kind::End),
+        Name::While => test_row(s, at, vars, false),
+        Name::Do => test_row(s, at, vars, true),
+        Name::For => for_row(s, at, vars),
     }
 }
 
-// A row, or its first question that has no.
-pub fn row_of(vars: u32, w: [Word; 8]) -> RowRead
-    requires { ⌜ vars ≤ 16 ⌝ }
-    ensures { λ r. ⌜ r ≡ rowOf vars (at w) ⌝ }
+// No row.
+fn shapeless(end: usize) -> Line
+    ensures { λ r. ⌜ r ≡ record { row = RowRead.Wrong 3; end = end } ⌝ }
 {
-    let first = w[0];
+    Line {
+        row: RowRead::Wrong(3),
+        end,
+    }
+}
+
+// The row whose first word begins after the byte `at`, or its first question that has no.
+pub fn row_of(s: &[u8], at: usize, vars: u32) -> Line
+    requires { ⌜ Ends (drop at (now s)) × (vars ≤ 16) ⌝ }
+    ensures { λ r. ⌜ RowLine (now (s .entry)) at vars r ⌝ }
+{
+    let f = next_word(s, at);
+    let first = f.word;
+    let end = f.end;
     match first {
-        Word::Missing => RowRead::Wrong(3),
-        Word::Number(_) => RowRead::Wrong(3),
-        Word::Variable(_) => RowRead::Wrong(3),
-        Word::Compares(_) => RowRead::Wrong(3),
-        Word::Keyword(n) => named_row(vars, w, n),
-        Word::Other => RowRead::Wrong(3),
+        Word::Missing => shapeless(end),
+        Word::Number(_) => shapeless(end),
+        Word::Variable(_) => shapeless(end),
+        Word::Compares(_) => shapeless(end),
+        Word::Keyword(n) => named_row(s, end, vars, n),
+        Word::Other => shapeless(end),
     }
 }

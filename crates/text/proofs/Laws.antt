@@ -4,8 +4,8 @@ use mathlib.Core.Bool.{Bool, true, false, not, cond, _&&_}
 use mathlib.Core.List.{List, [], _∷_}
 use Prim.Native.Nat.{ℕ, zero, suc, _+_, _*_, _-_, _≤_, _<_, min}
 use native.Mathlib.Omega.{arith}
-use lib.ListN.{length, getD, take, drop, set, replicate, drop-of-length-le, length-drop, length-set}
-use lib.Seq.{drop-cons, drop-drop, take-all, getD-set-same, getD-set-other}
+use lib.ListN.{length, getD, take, drop, drop-of-length-le, length-drop}
+use lib.Seq.{drop-cons, take-all, length-take-le, getD-take}
 use lib.Dec.{leb, ltb, eqb}
 use lib.IntN.{pos, negℤ, _-ℤ_, +ℤ-idl}
 use mir.Syntax.{w32}
@@ -16,7 +16,7 @@ use Rattle.rules.specs.declared.Word.{Word}
 use Rattle.rules.specs.declared.Word.the-variants.{Missing, Number, Variable, Compares, Keyword, Other}
 use Rattle.rules.specs.Text.{prefixed, split, startsWith, equals, isDigit, allDigits, valueFrom, isNatural, isNegative, isVariable, comparisonWord, blockWord, plainWord, wordOf, wordsOf}
 use Rattle.text.specs.declared.Value.{Value}
-use Rattle.text.specs.Words.{before, ceiling, cutZ, cut, digitsOf, naturalOf}
+use Rattle.text.specs.Words.{before, marks, stops, stop, front, ceiling, cutZ, cut, digitsOf, naturalOf}
 
 -- the part &s[a..]
 pub part-rest : (s : List ℕ) (a : ℕ) → take (length s - a) (drop a s) ≡ drop a s
@@ -43,6 +43,58 @@ before-within b (x ∷ s) = go (eqb x b) (before-within b s)
     go : (t : Bool) → before b s ≤ length s → cond t 0 (suc (before b s)) ≤ suc (length s)
     go true h = omega arith
     go false h = omega arith
+
+-- ---- where a word ends
+pub stop-here : (s : List ℕ) (i : ℕ) → i < length s → stops (getD s i 0) ≡ true → stop (drop i s) ≡ 0
+unfolding stop
+stop-here s i h e = rw (drop-cons s i 0 h, e)
+
+pub stop-on : (s : List ℕ) (i : ℕ) → i < length s → stops (getD s i 0) ≡ false → stop (drop i s) ≡ suc (stop (drop (suc i) s))
+unfolding stop
+stop-on s i h e = rw (drop-cons s i 0 h, e)
+
+pub stop-end : (s : List ℕ) (i : ℕ) → length s ≤ i → stop (drop i s) ≡ 0
+unfolding stop
+stop-end s i h = rw (drop-of-length-le s)
+
+pub stop-within : (s : List ℕ) → stop s ≤ length s
+unfolding stop
+stop-within [] = omega arith
+stop-within (x ∷ s) = go (stops x) (stop-within s)
+  where
+    go : (t : Bool) → stop s ≤ length s → cond t 0 (suc (stop s)) ≤ suc (length s)
+    go true h = omega arith
+    go false h = omega arith
+
+pub front-length : (s : List ℕ) → length (front s) ≡ stop s
+unfolding front
+front-length s = length-take-le _ _ (stop-within s)
+
+pub front-at : (s : List ℕ) (i : ℕ) → i < stop s → getD (front s) i 0 ≡ getD s i 0
+unfolding front
+front-at s i h = getD-take (stop s) s i 0 h
+
+-- a word without its first byte
+pub front-rest : (s : List ℕ) → 0 < stop s → front (drop 1 s) ≡ drop 1 (front s)
+unfolding front stop
+front-rest [] h = absurd (omega arith)
+front-rest (x ∷ s) h = go (stops x) h
+  where
+    go : (t : Bool) → 0 < cond t 0 (suc (stop s)) → take (stop s) s ≡ drop 1 (take (cond t 0 (suc (stop s))) (x ∷ s))
+    go true k = absurd (omega arith)
+    go false k = refl
+
+pub digit-low : (b : ℕ) → isDigit b ≡ true → 48 ≤ b
+unfolding isDigit
+digit-low b e = go (leb 48 b) refl e
+  where
+    go : (t : Bool) → leb 48 b ≡ t → t && leb b 57 ≡ true → 48 ≤ b
+    go true p q = leb-true 48 b p
+    go false p q = let z : _≡_ {A = ℕ} 0 1 = cc in omega arith
+
+pub digit-on : (b : ℕ) → isDigit b ≡ true → stops b ≡ false
+unfolding stops
+digit-on b e = let h = digit-low b e in rw (ne-eqb b 32 (λ (x : b ≡ 32). omega arith)) (ne-eqb b 10 (λ (x : b ≡ 10). omega arith))
 
 -- the first part, and the parts after it
 pub split-more : (b : ℕ) (s : List ℕ) → before b s < length s → split b s ≡ take (before b s) s ∷ split b (drop (suc (before b s)) s)
@@ -101,33 +153,7 @@ starts-length (k ∷ w) (b ∷ s) e = go (eqb b k) (λ h. starts-length w s h) e
     go true ih h = omega (arith, ih h)
     go false ih h = absurd (let z : _≡_ {A = ℕ} 0 1 = cc in omega arith)
 
-pub equals-long : (w s : List ℕ) → length s ≡ length w → equals w s ≡ startsWith w s
-unfolding equals startsWith
-equals-long [] [] h = refl
-equals-long [] (b ∷ s) h = absurd (omega arith)
-equals-long (k ∷ w) [] h = refl
-equals-long (k ∷ w) (b ∷ s) h = rw (equals-long w s (omega arith))
-
-pub equals-other : (w s : List ℕ) → (length s ≡ length w → ⊥) → equals w s ≡ false
-unfolding equals
-equals-other [] [] h = absurd (h refl)
-equals-other [] (b ∷ s) h = refl
-equals-other (k ∷ w) [] h = refl
-equals-other (k ∷ w) (b ∷ s) h = go (eqb b k) (equals-other w s (λ e. h (ap suc e)))
-  where
-    go : (t : Bool) → equals w s ≡ false → cond t (equals w s) false ≡ false
-    go true e = e
-    go false e = refl
-
 -- ---- digits
-pub digit-low : (b : ℕ) → isDigit b ≡ true → 48 ≤ b
-unfolding isDigit
-digit-low b e = go (leb 48 b) refl e
-  where
-    go : (t : Bool) → leb 48 b ≡ t → t && leb b 57 ≡ true → 48 ≤ b
-    go true p q = leb-true 48 b p
-    go false p q = let z : _≡_ {A = ℕ} 0 1 = cc in omega arith
-
 pub all-more : (s : List ℕ) (i : ℕ) → i < length s → isDigit (getD s i 0) ≡ true → allDigits (drop i s) ≡ allDigits (drop (suc i) s)
 unfolding allDigits
 all-more s i h d = rw (drop-cons s i 0, d)
@@ -173,10 +199,12 @@ upto-more s i v u h d r e = record {
   value = u .value ∙ ap (λ (n : ℕ). min n ceiling) (value-more s i v h) ∙ value-cut (drop (suc i) s) _ _ (omega arith);
 }
 
-pub upto-end : (s : List ℕ) (i v : ℕ) → Upto s v i → length s ≤ i → Value.Of v ≡ digitsOf s
+pub upto-end : (s : List ℕ) (i v : ℕ) → Upto s v i → length s ≤ i → Value.Of v i ≡ digitsOf s
 unfolding digitsOf ceiling
 upto-end s i v u h =
-    let e : v ≡ min (valueFrom 0 s) ceiling = omega (arith, u .value, u .small, value-end s i v h) in rw (u .all, all-end s i h, ← e)
+    let e : v ≡ min (valueFrom 0 s) ceiling = omega (arith, u .value, u .small, value-end s i v h) in
+    let l : i ≡ length s = omega (arith, u .within) in
+    rw (u .all, all-end s i h, ← e, ← l)
 
 pub upto-stop : (s : List ℕ) (i v : ℕ) → Upto s v i → i < length s → isDigit (getD s i 0) ≡ false → Value.None ≡ digitsOf s
 unfolding digitsOf
@@ -199,7 +227,7 @@ unfolding naturalOf isNatural digitsOf allDigits
 natural-long [] h k = absurd (k refl)
 natural-long (b ∷ []) h k = go (isDigit b)
   where
-    go : (t : Bool) → cond (cond t true false) (Value.Of (min (valueFrom 0 (b ∷ [])) ceiling)) Value.None ≡ cond t (Value.Of (min (valueFrom 0 (b ∷ [])) ceiling)) Value.None
+    go : (t : Bool) → cond (cond t true false) (Value.Of (min (valueFrom 0 (b ∷ [])) ceiling) 1) Value.None ≡ cond t (Value.Of (min (valueFrom 0 (b ∷ [])) ceiling) 1) Value.None
     go true = refl
     go false = refl
 natural-long (b ∷ (c ∷ s)) h k = rw (ne-eqb b 48 h)
@@ -209,27 +237,51 @@ unfolding naturalOf isNatural digitsOf allDigits
 natural-one [] h k = absurd (k refl)
 natural-one (b ∷ []) h k = go (isDigit b)
   where
-    go : (t : Bool) → cond (cond t true false) (Value.Of (min (valueFrom 0 (b ∷ [])) ceiling)) Value.None ≡ cond t (Value.Of (min (valueFrom 0 (b ∷ [])) ceiling)) Value.None
+    go : (t : Bool) → cond (cond t true false) (Value.Of (min (valueFrom 0 (b ∷ [])) ceiling) 1) Value.None ≡ cond t (Value.Of (min (valueFrom 0 (b ∷ [])) ceiling) 1) Value.None
     go true = refl
     go false = refl
 natural-one (b ∷ (c ∷ s)) h k = absurd (omega arith)
 
--- what `natural` found
-pub is-natural : (s : List ℕ) (v : ℕ) → naturalOf s ≡ Value.Of v → (isNatural s ≡ true) × (v ≡ min (valueFrom 0 s) ceiling)
+-- what `digits` and `natural` found
+found-yes : (s : List ℕ) (test : Bool) (v n : ℕ) → cond test (Value.Of (min (valueFrom 0 s) ceiling) (length s)) Value.None ≡ Value.Of v n
+    → (test ≡ true) × (v ≡ min (valueFrom 0 s) ceiling) × (n ≡ length s)
+found-yes s true v n e = (refl, cc, cc)
+found-yes s false v n e = let z : _≡_ {A = ℕ} 0 1 = cc in absurd (omega arith)
+
+found-no : (s : List ℕ) (test : Bool) → cond test (Value.Of (min (valueFrom 0 s) ceiling) (length s)) Value.None ≡ Value.None → test ≡ false
+found-no s true e = let z : _≡_ {A = ℕ} 0 1 = cc in absurd (omega arith)
+found-no s false e = refl
+
+pub is-natural : (s : List ℕ) (v n : ℕ) → naturalOf s ≡ Value.Of v n → (isNatural s ≡ true) × (v ≡ min (valueFrom 0 s) ceiling) × (n ≡ length s)
 unfolding naturalOf
-is-natural s v e = go (isNatural s) refl e
-  where
-    go : (t : Bool) → isNatural s ≡ t → cond t (Value.Of (min (valueFrom 0 s) ceiling)) Value.None ≡ Value.Of v → (isNatural s ≡ true) × (v ≡ min (valueFrom 0 s) ceiling)
-    go true p q = (p, cc)
-    go false p q = let z : _≡_ {A = ℕ} 0 1 = cc in absurd (omega arith)
+is-natural s v n e = found-yes s (isNatural s) v n e
 
 pub not-natural : (s : List ℕ) → naturalOf s ≡ Value.None → isNatural s ≡ false
 unfolding naturalOf
-not-natural s e = go (isNatural s) refl e
+not-natural s e = found-no s (isNatural s) e
+
+pub digits-many : (s : List ℕ) (v n : ℕ) → digitsOf s ≡ Value.Of v n → n ≡ length s
+unfolding digitsOf
+digits-many s v n e = found-yes s (allDigits s) v n e .2
+
+-- without digits only there is no number
+not-digits : (s : List ℕ) → allDigits s ≡ false → isNatural s ≡ false
+unfolding allDigits isNatural
+not-digits [] h = refl
+not-digits (b ∷ []) h = go (isDigit b) h
   where
-    go : (t : Bool) → isNatural s ≡ t → cond t (Value.Of (min (valueFrom 0 s) ceiling)) Value.None ≡ Value.None → isNatural s ≡ false
-    go true p q = let z : _≡_ {A = ℕ} 0 1 = cc in absurd (omega arith)
-    go false p q = p
+    go : (t : Bool) → cond t true false ≡ false → t ≡ false
+    go true k = k
+    go false k = refl
+not-digits (b ∷ (c ∷ s)) h = rw h (go (eqb b 48))
+  where
+    go : (t : Bool) → cond t false false ≡ false
+    go true = refl
+    go false = refl
+
+pub natural-other : (s : List ℕ) → digitsOf s ≡ Value.None → Value.None ≡ naturalOf s
+unfolding digitsOf naturalOf
+natural-other s e = rw (not-digits s (found-no s (allDigits s) e))
 
 -- ---- words
 cut-cond : (b : Bool) (x y : Word) → cut (cond b x y) ≡ cond b (cut x) (cut y)
@@ -241,9 +293,9 @@ pub cut-plain : (s : List ℕ) → cut (plainWord s) ≡ plainWord s
 unfolding plainWord blockWord comparisonWord
 cut-plain s = simp cut-cond (unfold cut in refl)
 
-pub word-number : (s : List ℕ) (v : ℕ) → naturalOf s ≡ Value.Of v → Number (pos v) ≡ cut (wordOf s)
+pub word-number : (s : List ℕ) (v n : ℕ) → naturalOf s ≡ Value.Of v n → Number (pos v) ≡ cut (wordOf s)
 unfolding wordOf cut cutZ
-word-number s v e = let (t, h) = is-natural s v e in rw (t, h)
+word-number s v n e = let (t, h, _) = is-natural s v n e in rw (t, h)
 
 pub word-none : (s : List ℕ) → length s ≡ 0 → Other ≡ cut (wordOf s)
 unfolding wordOf isNatural isNegative isVariable plainWord blockWord comparisonWord equals cut
@@ -271,17 +323,26 @@ module _ (s : List ℕ) (some : 0 < length s) (none : isNatural s ≡ false) whe
       go false true = sym (cut-plain s)
       go false false = sym (cut-plain s)
 
-  module _ (v : ℕ) (e : naturalOf (drop 1 s) ≡ Value.Of v) where
+  pub mark-plain : marks (getD s 0 0) ≡ false → plainWord s ≡ cut (wordOf s)
+  unfolding marks
+  mark-plain e = go (eqb (getD s 0 0) 118) (eqb (getD s 0 0) 45) refl refl e
+    where
+      go : (p q : Bool) → eqb (getD s 0 0) 118 ≡ p → eqb (getD s 0 0) 45 ≡ q → cond p true q ≡ false → plainWord s ≡ cut (wordOf s)
+      go true q f g h = absurd (let z : _≡_ {A = ℕ} 0 1 = cc in omega arith)
+      go false true f g h = absurd (let z : _≡_ {A = ℕ} 0 1 = cc in omega arith)
+      go false false f g h = rw (word-marked s some none, g, f) (sym (cut-plain s))
+
+  module _ (v n : ℕ) (e : naturalOf (drop 1 s) ≡ Value.Of v n) where
     pub mark-variable : getD s 0 0 ≡ 118 → Variable v ≡ cut (wordOf s)
     unfolding cut
     mark-variable h =
-        let (t, k) = is-natural (drop 1 s) v e in
+        let (t, k, _) = is-natural (drop 1 s) v n e in
         rw (word-marked s some none, h, t, k)
 
     pub mark-negative : getD s 0 0 ≡ 45 → (v ≡ 0 → ⊥) → Number (negℤ (pos v)) ≡ cut (wordOf s)
     unfolding cut cutZ ceiling
     mark-negative h z =
-        let (t, k) = is-natural (drop 1 s) v e in
+        let (t, k, _) = is-natural (drop 1 s) v n e in
         let y : eqb (valueFrom 0 (drop 1 s)) 0 ≡ false = ne-eqb (valueFrom 0 (drop 1 s)) 0 (λ (x : valueFrom 0 (drop 1 s) ≡ 0). z (omega arith)) in
         rw (word-marked s some none, h, t, y, k) (negative (valueFrom 0 (drop 1 s)) (λ (x : valueFrom 0 (drop 1 s) ≡ 0). z (omega arith)))
       where
@@ -292,109 +353,12 @@ module _ (s : List ℕ) (some : 0 < length s) (none : isNatural s ≡ false) whe
     pub mark-zero : getD s 0 0 ≡ 45 → v ≡ 0 → plainWord s ≡ cut (wordOf s)
     unfolding ceiling
     mark-zero h z =
-        let (t, k) = is-natural (drop 1 s) v e in
+        let (t, k, _) = is-natural (drop 1 s) v n e in
         let y : eqb (valueFrom 0 (drop 1 s)) 0 ≡ true = eq-eqb (valueFrom 0 (drop 1 s)) 0 (omega arith) in
         rw (word-marked s some none, h, t, y) (sym (cut-plain s))
 
     pub mark-other : (getD s 0 0 ≡ 45 → ⊥) → (getD s 0 0 ≡ 118 → ⊥) → plainWord s ≡ cut (wordOf s)
     mark-other h k = rw (word-marked s some none, ne-eqb _ _ h, ne-eqb _ _ k) (sym (cut-plain s))
-
--- the words of a line, one after the other
-words-first : (s : List ℕ) (r : List (List ℕ)) (w : List ℕ) → split 32 s ≡ w ∷ r → wordsOf (split 32 s) 0 ≡ wordOf w
-unfolding wordsOf
-words-first s r w e = rw e
-
-words-rest : (s : List ℕ) (r : List (List ℕ)) (w : List ℕ) (k : ℕ) → split 32 s ≡ w ∷ r → wordsOf (split 32 s) (suc k) ≡ wordsOf r k
-unfolding wordsOf
-words-rest s r w k e = rw e
-
-pub none-left : (k : ℕ) → wordsOf [] k ≡ Missing
-unfolding wordsOf
-none-left k = refl
-
-pub cut-missing : Missing ≡ cut Missing
-unfolding cut
-cut-missing = refl
-
--- the array of words, filled up to word i, which begins at byte `at`
-pub record Filled (s : List ℕ) (w : List Word) (at i : ℕ) : Type 0 where
-  pub within : at ≤ length s
-  pub few : i ≤ 8
-  pub size : length w ≡ 8
-  pub done : (k : ℕ) → k < i → getD w k Missing ≡ cut (wordsOf (split 32 s) k)
-  pub todo : (k : ℕ) → i ≤ k → getD w k Missing ≡ Missing
-  pub rest : (k : ℕ) → wordsOf (split 32 s) (i + k) ≡ wordsOf (split 32 (drop at s)) k
-
-pub filled-none : (s : List ℕ) → Filled s (replicate 8 Missing) 0 0
-filled-none s = record {
-  within = omega arith;
-  few = omega arith;
-  size = refl;
-  done = λ k h. absurd (omega arith);
-  todo = λ k h. none k;
-  rest = λ k. ap (wordsOf (split 32 s)) (let e : 0 + k ≡ k = omega arith in e);
-}
-  where
-    none : (k : ℕ) → getD (replicate 8 Missing) k Missing ≡ Missing
-    none zero = refl
-    none (suc zero) = refl
-    none (suc (suc zero)) = refl
-    none (suc (suc (suc zero))) = refl
-    none (suc (suc (suc (suc zero)))) = refl
-    none (suc (suc (suc (suc (suc zero))))) = refl
-    none (suc (suc (suc (suc (suc (suc zero)))))) = refl
-    none (suc (suc (suc (suc (suc (suc (suc zero))))))) = refl
-    none (suc (suc (suc (suc (suc (suc (suc (suc k)))))))) = refl
-
--- word i is x, of n bytes
-module _ (s : List ℕ) (w : List Word) (at i n : ℕ) (x : Word) (f : Filled s w at i) (room : i < 8) (size : n ≡ before 32 (drop at s)) (word : x ≡ cut (wordOf (take n (drop at s)))) where
-  here : wordsOf (split 32 s) (i + 0) ≡ wordOf (take n (drop at s)) → getD (set w i x) i Missing ≡ cut (wordsOf (split 32 s) i)
-  here e = getD-set-same w i x Missing (omega (arith, f .size)) ∙ word ∙ ap cut (sym e) ∙ ap (λ k. cut (wordsOf (split 32 s) k)) (omega arith)
-
-  -- the words up to i
-  upto : wordsOf (split 32 s) (i + 0) ≡ wordOf (take n (drop at s)) → (k : ℕ) → k < suc i → getD (set w i x) k Missing ≡ cut (wordsOf (split 32 s) k)
-  upto e k h = go (eqb k i) refl
-    where
-      go : (t : Bool) → eqb k i ≡ t → getD (set w i x) k Missing ≡ cut (wordsOf (split 32 s) k)
-      go true p = let q : k ≡ i = eqb-true k i p in rw q (here e)
-      go false p = getD-set-other w i k x Missing (eqb-false k i p) ∙ f .done k (let q = eqb-false k i p in omega (arith, q))
-
-  past : (k : ℕ) → suc i ≤ k → getD (set w i x) k Missing ≡ Missing
-  past k h = getD-set-other w i k x Missing (λ (q : k ≡ i). omega arith) ∙ f .todo k (omega arith)
-
-  module _ (more : before 32 (drop at s) < length (drop at s)) where
-    parts : split 32 (drop at s) ≡ take n (drop at s) ∷ split 32 (drop (suc n) (drop at s))
-    parts = split-more 32 (drop at s) more ∙ ap (λ m. take m (drop at s) ∷ split 32 (drop (suc m) (drop at s))) (sym size)
-
-    pub filled-more : Filled s (set w i x) (at + n + 1) (i + 1)
-    filled-more = record {
-      within = omega (arith, size, more, length-drop at s);
-      few = omega arith;
-      size = length-set w i x ∙ f .size;
-      done = λ k h. upto (f .rest 0 ∙ words-first (drop at s) _ _ parts) k (omega arith);
-      todo = λ k h. past k (omega arith);
-      rest = λ k.
-          let e : i + 1 + k ≡ i + suc k = omega arith in
-          let g : at + suc n ≡ at + n + 1 = omega arith in
-          ap (wordsOf (split 32 s)) e ∙ f .rest (suc k) ∙ words-rest (drop at s) _ _ k parts
-          ∙ ap (λ (l : List ℕ). wordsOf (split 32 l) k) (drop-drop (suc n) at s ∙ ap (λ m. drop m s) g);
-    }
-
-  module _ (last : length (drop at s) ≤ before 32 (drop at s)) where
-    alone : split 32 (drop at s) ≡ take n (drop at s) ∷ []
-    alone = split-last 32 (drop at s) last ∙ ap (λ (l : List ℕ). l ∷ []) (sym (take-all n (drop at s) (omega (arith, size, last))))
-
-    pub filled-last : (k : ℕ) → k < 8 → getD (set w i x) k Missing ≡ cut (wordsOf (split 32 s) k)
-    filled-last k h = go (ltb k (suc i)) refl
-      where
-        go : (t : Bool) → ltb k (suc i) ≡ t → getD (set w i x) k Missing ≡ cut (wordsOf (split 32 s) k)
-        go true p = upto (f .rest 0 ∙ words-first (drop at s) _ _ alone) k (ltb-true k (suc i) p)
-        go false p =
-            let m = k - suc i in
-            let q : suc i ≤ k = ltb-false k (suc i) p in
-            let e : i + suc m ≡ k = omega arith in
-            let none : wordsOf (split 32 s) k ≡ Missing = ap (wordsOf (split 32 s)) (sym e) ∙ f .rest (suc m) ∙ words-rest (drop at s) _ _ m alone ∙ none-left m in
-            past k q ∙ cut-missing ∙ ap cut (sym none)
 
 -- ---- signed numbers of the machine
 pub minus-fits : (v : ℕ) → v ≤ 2_000_000_001 → SFits w32 (negℤ (pos v))
@@ -405,10 +369,6 @@ pub minus-is : (v : ℕ) → v ≤ 2_000_000_001 → pos 0 -ℤ toZ w32 v ≡ ne
 minus-is v h = rw (toZ-pos w32 v (omega arith)) (+ℤ-idl (negℤ (pos v)))
 
 -- a number that `natural` found is cut off
-pub natural-small : (s : List ℕ) (v : ℕ) → naturalOf s ≡ Value.Of v → v ≤ 2_000_000_001
+pub natural-small : (s : List ℕ) (v n : ℕ) → naturalOf s ≡ Value.Of v n → v ≤ 2_000_000_001
 unfolding ceiling
-natural-small s v e = let (_, h) = is-natural s v e in omega arith
-
--- every word, once the array is full
-pub filled-all : (s : List ℕ) (w : List Word) (at i : ℕ) → Filled s w at i → 8 ≤ i → (k : ℕ) → k < 8 → getD w k Missing ≡ cut (wordsOf (split 32 s) k)
-filled-all s w at i f h k l = f .done k (omega arith)
+natural-small s v n e = let (_, h, _) = is-natural s v n e in omega arith

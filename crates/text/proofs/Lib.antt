@@ -1,3 +1,5 @@
 -- Laws of the words of a line.
-pub mod Laws
 pub mod Cut
+pub mod Keywords
+pub mod Laws
+pub mod Line

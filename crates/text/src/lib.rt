@@ -5,10 +5,10 @@ use rules::Word;
 ghost use mathlib.Core.Path.{_≡_};
 ghost use mathlib.Core.Bool.{true, false, cond};
 ghost use lib.IntN.{pos, negℤ};
-ghost use Prim.Native.Nat.{ℕ, _+_, _*_, _-_, _≤_, _<_, min};
-ghost use lib.ListN.{length, getD, drop};
-ghost use Rattle.rules.specs.Text.{split, startsWith, equals, isDigit, isNatural, comparisonWord, blockWord, plainWord, wordOf, wordsOf};
-ghost use Rattle.text.specs.Words.{before, cut, digitsOf, naturalOf};
+ghost use Prim.Native.Nat.{_+_, _*_, _-_, _≤_, _<_, min};
+ghost use lib.ListN.{length, drop};
+ghost use Rattle.rules.specs.Text.{startsWith, isDigit, isNatural, plainWord, wordOf};
+ghost use Rattle.text.specs.Words.{before, marks, stops, stop, front, cut, digitsOf, naturalOf, Packs, keywords, packedWord, Ends, Reads, Next};
 
 // How many bytes stand before the first b, or all.
 pub fn position(s: &[u8], b: u8) -> usize
@@ -41,16 +41,6 @@ pub fn starts_with(s: &[u8], key: &[u8]) -> bool
     true
 }
 
-// Whether s is the word.
-fn equals(s: &[u8], word: &[u8]) -> bool
-    ensures { λ r. ⌜ r ≡ equals (now (word .entry)) (now (s .entry)) ⌝ }
-{
-    if s.len() == word.len() {
-        return starts_with(s, word);
-    }
-    false
-}
-
 // Whether b is a byte from '0' to '9'.
 fn is_digit(b: u8) -> bool
     ensures { λ r. ⌜ r ≡ isDigit b ⌝ }
@@ -72,15 +62,39 @@ fn more(value: u64, b: u8) -> u64
     if next < CEILING { next } else { CEILING }
 }
 
-// A number not below 0, or none.
-pub enum Value {
-    None,
-    Of(u32),
+// Whether a word ends before b: a space or LF.
+fn stops(b: u8) -> bool
+    ensures { λ r. ⌜ r ≡ stops b ⌝ }
+{
+    if b == b' ' {
+        return true;
+    }
+    b == b'\n'
 }
 
-// Digits only, of any number.
+// How many bytes the word at the front has.
+fn stop(s: &[u8]) -> usize
+    ensures { λ r. ⌜ r ≡ stop (now (s .entry)) ⌝ }
+{
+    let mut i: usize = 0;
+    while i < s.len() {
+        if stops(s[i]) {
+            return i;
+        }
+        i += 1;
+    }
+    i
+}
+
+// A number not below 0 and how many digits it has, or none.
+enum Value {
+    None,
+    Of(u32, usize),
+}
+
+// The word at the front, if it has digits only.
 fn digits(s: &[u8]) -> Value
-    ensures { λ r. ⌜ r ≡ digitsOf (now (s .entry)) ⌝ }
+    ensures { λ r. ⌜ r ≡ digitsOf (front (now (s .entry))) ⌝ }
 {
     let mut value: u64 = 0;
     let mut i: usize = 0;
@@ -90,101 +104,84 @@ fn digits(s: &[u8]) -> Value
             value = more(value, b);
             i += 1;
         } else {
+            if stops(b) {
+                return Value::Of(value as u32, i);
+            }
             return Value::None;
         }
     }
-    Value::Of(value as u32)
+    Value::Of(value as u32, i)
 }
 
-// A number not below 0: no leading zero.
+// The word at the front as a number not below 0: no leading zero.
 fn natural(s: &[u8]) -> Value
-    ensures { λ r. ⌜ r ≡ naturalOf (now (s .entry)) ⌝ }
+    ensures { λ r. ⌜ r ≡ naturalOf (front (now (s .entry))) ⌝ }
 {
-    if s.len() == 0 {
+    let d = digits(s);
+    let Value::Of(v, n) = d else {
+        return Value::None;
+    };
+    if n == 0 {
         return Value::None;
     }
-    if s.len() == 1 {
-        return digits(s);
+    if n == 1 {
+        return Value::Of(v, n);
     }
     if s[0] == 48 {
         return Value::None;
     }
-    digits(s)
+    Value::Of(v, n)
 }
 
-// < <= > >= == !=
-fn comparison_word(s: &[u8]) -> Word
-    ensures { λ r. ⌜ r ≡ comparisonWord (now (s .entry)) ⌝ }
+// The bytes of a short text in one number: the first byte lowest, a 1 after the last.
+fn packed(s: &[u8]) -> u64
+    requires { ⌜ length (now s) ≤ 5 ⌝ }
+    ensures { λ r. ⌜ Packs (now (s .entry)) r ⌝ }
 {
-    if equals(s, b"<") {
-        return Word::Compares(Comparison::Less);
+    let mut n: u64 = 1;
+    let mut i = s.len();
+    while 0 < i {
+        i -= 1;
+        n = n * 256 + s[i] as u64;
     }
-    if equals(s, b"<=") {
-        return Word::Compares(Comparison::AtMost);
-    }
-    if equals(s, b">") {
-        return Word::Compares(Comparison::Greater);
-    }
-    if equals(s, b">=") {
-        return Word::Compares(Comparison::AtLeast);
-    }
-    if equals(s, b"==") {
-        return Word::Compares(Comparison::Equal);
-    }
-    if equals(s, b"!=") {
-        return Word::Compares(Comparison::Different);
-    }
-    Word::Other
+    n
 }
 
-// for, while, do, end, else, pick
-fn block_word(s: &[u8]) -> Word
-    ensures { λ r. ⌜ r ≡ blockWord (now (s .entry)) ⌝ }
+// The keyword or comparison of a packed text.
+fn keyword(n: u64) -> Word
+    ensures { λ r. ⌜ r ≡ packedWord keywords n ⌝ }
 {
-    if equals(s, b"for") {
-        return Word::Keyword(Name::For);
+    match n {
+        0x1746573 => Word::Keyword(Name::Set),
+        0x1646461 => Word::Keyword(Name::Add),
+        0x1627573 => Word::Keyword(Name::Sub),
+        0x16c756d => Word::Keyword(Name::Mul),
+        0x1766964 => Word::Keyword(Name::Div),
+        0x1657563 => Word::Keyword(Name::Cue),
+        0x1726f66 => Word::Keyword(Name::For),
+        0x1656c696877 => Word::Keyword(Name::While),
+        0x16f64 => Word::Keyword(Name::Do),
+        0x1646e65 => Word::Keyword(Name::End),
+        0x165736c65 => Word::Keyword(Name::Else),
+        0x16b636970 => Word::Keyword(Name::Pick),
+        0x13c => Word::Compares(Comparison::Less),
+        0x13d3c => Word::Compares(Comparison::AtMost),
+        0x13e => Word::Compares(Comparison::Greater),
+        0x13d3e => Word::Compares(Comparison::AtLeast),
+        0x13d3d => Word::Compares(Comparison::Equal),
+        0x13d21 => Word::Compares(Comparison::Different),
+        _ => Word::Other,
     }
-    if equals(s, b"while") {
-        return Word::Keyword(Name::While);
-    }
-    if equals(s, b"do") {
-        return Word::Keyword(Name::Do);
-    }
-    if equals(s, b"end") {
-        return Word::Keyword(Name::End);
-    }
-    if equals(s, b"else") {
-        return Word::Keyword(Name::Else);
-    }
-    if equals(s, b"pick") {
-        return Word::Keyword(Name::Pick);
-    }
-    comparison_word(s)
 }
 
-// set, add, sub, mul, div, cue
+// set, add, .. and < <= ..
 fn plain_word(s: &[u8]) -> Word
     ensures { λ r. ⌜ r ≡ plainWord (now (s .entry)) ⌝ }
 {
-    if equals(s, b"set") {
-        return Word::Keyword(Name::Set);
+    if 5 < s.len() {
+        return Word::Other;
     }
-    if equals(s, b"add") {
-        return Word::Keyword(Name::Add);
-    }
-    if equals(s, b"sub") {
-        return Word::Keyword(Name::Sub);
-    }
-    if equals(s, b"mul") {
-        return Word::Keyword(Name::Mul);
-    }
-    if equals(s, b"div") {
-        return Word::Keyword(Name::Div);
-    }
-    if equals(s, b"cue") {
-        return Word::Keyword(Name::Cue);
-    }
-    block_word(s)
+    keyword(packed(s))
 }
 
 // A number with its sign.
@@ -196,60 +193,104 @@ fn signed(negative: bool, v: u32) -> i32
     if negative { -z } else { z }
 }
 
-// A word that is no number without a sign.
-fn marked(s: &[u8]) -> Word
-    requires { ⌜ (0 < length (now s)) × (isNatural (now s) ≡ false) ⌝ }
-    ensures { λ r. ⌜ r ≡ cut (wordOf (now (s .entry))) ⌝ }
-{
-    let first = s[0];
-    let n = natural(&s[1..]);
-    let Value::Of(v) = n else {
-        return plain_word(s);
-    };
-    if first == b'v' {
-        return Word::Variable(v);
-    }
-    if first != b'-' {
-        return plain_word(s);
-    }
-    if v == 0 {
-        return plain_word(s);
-    }
-    Word::Number(signed(true, v))
+// A word, and the byte where it ends.
+pub struct Found {
+    pub word: Word,
+    pub end: usize,
 }
 
-// A word.
-fn word_of(s: &[u8]) -> Word
-    ensures { λ r. ⌜ r ≡ cut (wordOf (now (s .entry))) ⌝ }
+// The keyword or comparison at the front.
+fn other_word(s: &[u8]) -> Found
+    requires { ⌜ plainWord (front (now s)) ≡ cut (wordOf (front (now s))) ⌝ }
+    ensures { λ r. ⌜ Reads (now (s .entry)) r ⌝ }
+{
+    let end = stop(s);
+    let word = plain_word(&s[..end]);
+    Found { word, end }
+}
+
+// Whether b stands before the digits of a variable or of a number below 0.
+fn marks(b: u8) -> bool
+    ensures { λ r. ⌜ r ≡ marks b ⌝ }
+{
+    if b == b'v' {
+        return true;
+    }
+    b == b'-'
+}
+
+// The word at the front, which is no number without a sign.
+fn marked(s: &[u8]) -> Found
+    requires { ⌜ (0 < stop (now s)) × (isNatural (front (now s)) ≡ false) ⌝ }
+    ensures { λ r. ⌜ Reads (now (s .entry)) r ⌝ }
+{
+    let first = s[0];
+    if !marks(first) {
+        return other_word(s);
+    }
+    let n = natural(&s[1..]);
+    let Value::Of(v, k) = n else {
+        return other_word(s);
+    };
+    if first == b'v' {
+        return Found {
+            word: Word::Variable(v),
+            end: k + 1,
+        };
+    }
+    if first != b'-' {
+        return other_word(s);
+    }
+    if v == 0 {
+        return other_word(s);
+    }
+    Found {
+        word: Word::Number(signed(true, v)),
+        end: k + 1,
+    }
+}
+
+// The word at the front.
+fn word_of(s: &[u8]) -> Found
+    ensures { λ r. ⌜ Reads (now (s .entry)) r ⌝ }
 {
     let n = natural(s);
     match n {
-        Value::Of(v) => Word::Number(signed(false, v)),
+        Value::Of(v, k) => Found {
+            word: Word::Number(signed(false, v)),
+            end: k,
+        },
         Value::None => {
             if s.len() == 0 {
-                return Word::Other;
+                return Found {
+                    word: Word::Other,
+                    end: 0,
+                };
+            }
+            if stops(s[0]) {
+                return Found {
+                    word: Word::Other,
+                    end: 0,
+                };
             }
             marked(s)
         }
     }
 }
 
-// The first eight words of a line; none past the last.
-pub fn words(s: &[u8]) -> [Word; 8]
-    ensures { λ r. ⌜ ((k : ℕ) → k < 8 → getD r k Word.Missing ≡ cut (wordsOf (split 32 (now (s .entry))) k)) ⌝ }
+// The next word of a line: it begins after the byte `at`, and there is none if that is the line's LF.
+pub fn next_word(s: &[u8], at: usize) -> Found
+    requires { ⌜ Ends (drop at (now s)) ⌝ }
+    ensures { λ r. ⌜ Next (now (s .entry)) at r ⌝ }
 {
-    let mut w = [Word::Missing; 8];
-    let mut at: usize = 0;
-    let mut i: usize = 0;
-    while i < 8 {
-        let n = position(&s[at..], b' ');
-        let x = word_of(&s[at..at + n]);
-        w[i] = x;
-        i += 1;
-        if at + n == s.len() {
-            return w;
-        }
-        at = at + n + 1;
+    if s[at] == b'\n' {
+        return Found {
+            word: Word::Missing,
+            end: at,
+        };
     }
-    w
+    let begin = at + 1;
+    let mut f = word_of(&s[begin..]);
+    f.end = begin + f.end;
+    f
 }

@@ -1,78 +1,93 @@
-use mathlib.Core.Path.{_≡_, ap}
-use Prim.Native.Nat.{_+_, _≤_}
-use lib.ListN.{length, getD}
+use mathlib.Core.Path.{_≡_, sym, ap, _∙_}
+use Prim.Native.Nat.{_+_, _-_, _≤_}
+use lib.ListN.{length, drop}
 use denote.Ref.{now}
-use Rattle.reader.proofs.Counts.{count-read, count-wrong, count-small, count-long}
+use Rattle.reader.proofs.Counts.{count-read, count-wrong, count-small, count-long, count-none}
+use Rattle.reader.proofs.Lines.{Keyed, keyed-at, keyed-end, at-none, last, last-length}
+use Rattle.text.proofs.Line.{reach-none, reach-more}
+use Rattle.text.specs.Words.{before, following}
 use mir.Facts.{toZ-ofZ}
 use mir.Syntax.{w32}
 use mir.Val.{SFits}
 use borrow.Author.Needs.{sfits-of, needs}
+use native.Mathlib.Omega.{arith}
 use lib.IntN.{pos, natAbs}
 use lib.Signed.{_≤ℤ_}
 use Rattle.ints.proofs.Parts.{ints, abs-parts}
 use Rattle.rules.specs.File.{sooner, asksEnd, asksNumber, numberOf}
-use Rattle.rules.specs.declared.Word.the-variants.{Missing}
-use Rattle.rules.specs.declared.Word.{Word}
 use Rattle.reader.proofs.count_line.Statement.{statement}
 use Rattle.reader.proofs.count_line.Tie as tie
 
--- the first word that code holds, and the question of both
-abbrev word : tie.After-sooner → Word
-word c = getD (c .before .before .before .before .before .line-words .result) 0 Missing
+-- the line has the key
+key-at : (c : tie.Then1) → let a = c .before .before .before .before .args in Keyed (now (a .key)) (now (a .rest)) (length (now (a .key)) - 1)
+key-at c =
+    let s = c .before .before .before .before in
+    let l = last-length (now (s .args .key)) (s .pre .2) in
+    keyed-at _ _ _ (s .pre .2) (omega (arith, l)) (sym (c .before .keyed .ensures) ∙ c .if1 .taken)
 
-asked : (c : tie.After-sooner)
-    → c .sooner .result
-    ≡ sooner (asksNumber (pos 0) (c .before .before .before .before .before .before .before .before .before .args .most) (word c)) (asksEnd (getD (c .before .before .before .before .before .line-words .result) 1 Missing))
-asked c =
-    let f = c .before .before .before .before .before .before .before .before .before .fits .most in
-    rw (c .sooner .ensures, c .before .asks-end .ensures, simp (toZ-ofZ f) at (c .before .before .before .asks-number .ensures))
+-- the question after the first word, and where the line ends
+second : (c : tie.After-sooner) → let a = c .before .before .before .before .before .before .before .before .args in c .before .asks-last .result ≡ asksEnd (following (drop (length (now (a .key)) - 1) (now (a .rest))) 1)
+second c = c .before .asks-last .ensures ∙ ap asksEnd (sym (c .before .before .before .next-word .ensures .more 0))
 
-small : (c : tie.After-sooner) → c .sooner .result ≡ 0 → (pos 0 ≤ℤ numberOf (word c)) × (numberOf (word c) ≤ℤ pos 1_000_000_000)
-small c z =
-    let p = c .before .before .before .before .before in
-    let s = p .before .before .before .before in
-    count-small _ _ _ _ _ _ (p .line-words .ensures) (p .before .position .ensures) (s .pre .0) (s .pre .1) (asked c) z
+ended : (c : tie.After-sooner) → let a = c .before .before .before .before .before .before .before .before .args in asksEnd (following (drop (length (now (a .key)) - 1) (now (a .rest))) 1) ≡ 0 → c .before .before .before .next-word .result .end ≡ before 10 (now (a .rest))
+ended c z = let k = key-at (c .before .before .before .before) in
+    keyed-end _ _ _ 1 _ k (reach-more _ _ 0 _ (reach-none _ _ (k .ends)) _ (c .before .before .before .next-word .ensures)) z
 
-long : (c : tie.After-sooner) → c .sooner .result ≡ 0 → c .before .before .before .before .before .before .position .result + 1 ≤ length (now (c .before .before .before .before .before .before .before .before .before .args .rest))
-long c z =
-    let p = c .before .before .before .before .before in
-    let s = p .before .before .before .before in
-    count-long _ _ _ _ _ _ (p .line-words .ensures) (p .before .position .ensures) (s .pre .0) (s .pre .1) (asked c) z
+asked : (c : tie.After-sooner) → c .sooner .result ≡ sooner (asksNumber (pos 0) (c .before .before .before .before .before .before .before .before .args .most) (c .before .before .before .next-word .result .word)) (c .before .asks-last .result)
+asked c = rw (c .sooner .ensures, simp (toZ-ofZ (c .before .before .before .before .before .before .before .before .fits .most)) at (c .before .before .asks-number .ensures))
 
-cast-t19 : tie.Need-cast-t19
-cast-t19 c = let r : SFits w32 (c .number-of .result) = sfits-of (c .number-of .ok) in
+small : (c : tie.After-sooner) → c .sooner .result ≡ 0 → (pos 0 ≤ℤ numberOf (c .before .before .before .next-word .result .word)) × (numberOf (c .before .before .before .next-word .result .word) ≤ℤ pos 1_000_000_000)
+small c z = let s = c .before .before .before .before .before .before .before .before in
+    count-small _ _ _ (key-at (c .before .before .before .before) .words) _ _ _ _ _ (c .before .before .before .next-word .ensures .word) (second c) (ended c) (s .pre .0) (s .pre .1) (asked c) z
+
+long : (c : tie.After-sooner) → c .sooner .result ≡ 0 → c .before .before .before .next-word .result .end + 1 ≤ length (now (c .before .before .before .before .before .before .before .before .args .rest))
+long c z = let s = c .before .before .before .before .before .before .before .before in
+    count-long _ _ _ (key-at (c .before .before .before .before) .words) _ _ _ _ _ (c .before .before .before .next-word .ensures .word) (second c) (ended c) (s .pre .0) (s .pre .1) (asked c) z
+
+sub-next-word : tie.Need-sub-next-word
+sub-next-word c = let s = c .before .before .before .before in
+    let l = last-length (now (s .args .key)) (s .pre .2) in search needs
+
+next-word-requires : tie.Need-next-word-requires
+next-word-requires c κs = key-at c .ends
+
+cast-t15 : tie.Need-cast-t15
+cast-t15 c = let r : SFits w32 (c .number-of .result) = sfits-of (c .number-of .ok) in
     let s = c .before .before in
-    let (a, d) = small s (c .before .if1 .taken) in
-    let e : c .number-of .result ≡ numberOf (word s) = c .number-of .ensures in
+    let (a, d) = small s (c .before .if2 .taken) in
+    let e : c .number-of .result ≡ numberOf (c .before .before .before .before .before .next-word .result .word) = c .number-of .ensures in
     rw (toZ-ofZ r) (omega (ints, e), record { fits = omega (ints, e, abs-parts (c .number-of .result)) })
 
-add-t20 : tie.Need-add-t20
-add-t20 c = let h = long (c .before .before) (c .before .if1 .taken) in search needs
+add-t16 : tie.Need-add-t16
+add-t16 c = let h = long (c .before .before) (c .before .if2 .taken) in search needs
 
 returns : tie.Need-returns
 returns c = let r : SFits w32 (c .number-of .result) = sfits-of (c .number-of .ok) in
-    let s = c .before .before in
-    let p = c .before .before .before .before .before .before .before in
-    rw (toZ-ofZ r) (count-read _ _ _ _ _ _ (p .line-words .ensures) (p .before .position .ensures) (p .before .before .before .before .pre .0) (p .before .before .before .before .pre .1) (asked s) (c .before .if1 .taken) _ (ap natAbs (c .number-of .ensures)))
+    let q = c .before .before in
+    let s = c .before .before .before .before .before .before .before .before .before .before in
+    rw (toZ-ofZ r) (count-read _ _ _ (key-at (c .before .before .before .before .before .before) .words) _ _ _ _ _ (c .before .before .before .before .before .next-word .ensures .word) (second q) (ended q) (s .pre .0) (s .pre .1) (asked q) (c .before .if2 .taken) _ (ap natAbs (c .number-of .ensures)))
 
 returns-2 : tie.Need-returns-2
-returns-2 c = let s = c .before in
-    let p = c .before .before .before .before .before .before in
-    count-wrong _ _ _ _ _ _ (p .line-words .ensures) (p .before .position .ensures) (p .before .before .before .before .pre .0) (p .before .before .before .before .pre .1) (asked s) (c .if1 .left)
+returns-2 c = let q = c .before in
+    let s = c .before .before .before .before .before .before .before .before .before in
+    count-wrong _ _ _ (key-at (c .before .before .before .before .before) .words) _ _ _ _ _ (c .before .before .before .before .next-word .ensures .word) (second q) (ended q) (s .pre .0) (s .pre .1) (asked q) (c .if2 .left)
+
+returns-3 : tie.Need-returns-3
+returns-3 c = count-none _ _ _ (at-none _ _ (c .before .before .before .before .pre .2) (sym (c .before .keyed .ensures) ∙ c .if1 .left))
 
 pub count-line-spec : {M : Type 1} → statement M
 count-line-spec =
     tie.close
     (tie.spec
     (λ c κs. search needs)
-    (λ c κs. search needs)
-    (λ c. search needs)
-    (λ c κs. search needs)
-    (λ c. search needs)
+    sub-next-word
+    next-word-requires
     (λ c κs. search needs)
     (λ c κs. search needs)
     (λ c κs. search needs)
-    cast-t19
-    add-t20
+    (λ c κs. search needs)
+    cast-t15
+    add-t16
     returns
-    returns-2)
+    returns-2
+    returns-3)

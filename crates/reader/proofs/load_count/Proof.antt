@@ -1,16 +1,20 @@
-use mathlib.Core.Path.{sym, _∙_, subst}
+use mathlib.Core.Path.{refl, sym, _∙_, subst}
 use Prim.Native.Nat.{_+_}
 use lib.ListN.{drop, length-drop}
 use denote.Ref.{now}
 use Rattle.rules.specs.File.{andThen, rowLines, noRows, lastLine, rowPart, rowsKey}
 use Rattle.rules.specs.Scripts.{ends}
 use Rattle.reader.proofs.Loads.{after-count, after-wrong}
-use Rattle.reader.specs.Read.{CountRead}
+use Rattle.reader.specs.Read.{clean, CountRead}
 use Rattle.text.proofs.Laws.{part-rest}
 use native.Mathlib.Omega.{arith}
 use borrow.Author.Needs.{needs}
 use Rattle.reader.proofs.load_count.Statement.{statement}
 use Rattle.reader.proofs.load_count.Tie as tie
+
+count-line-requires : tie.Need-count-line-requires
+unfolding clean
+count-line-requires c κs = (search needs, search needs, refl)
 
 -- the line that was read
 line : (c : tie.After-count-line) → CountRead rowsKey (drop (c .before .before .before .before .args .at) (now (c .before .before .before .before .args .file))) 256 (c .count-line .result)
@@ -41,7 +45,7 @@ load-count-spec =
     (λ c. search needs)
     (λ c. search needs)
     (λ c. search needs)
-    (λ c κs. search needs)
+    count-line-requires
     (λ c. search needs)
     add-load-rows
     load-rows-requires

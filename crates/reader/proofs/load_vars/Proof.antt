@@ -1,14 +1,18 @@
-use mathlib.Core.Path.{sym, _∙_, subst}
+use mathlib.Core.Path.{refl, sym, _∙_, subst}
 use lib.ListN.{drop, length-drop}
 use denote.Ref.{now}
 use Rattle.reader.proofs.Loads.{after-count, after-wrong}
-use Rattle.reader.specs.Read.{CountRead}
+use Rattle.reader.specs.Read.{clean, CountRead}
 use Rattle.rules.specs.File.{rangePart, varsKey}
 use Rattle.text.proofs.Laws.{part-rest}
 use native.Mathlib.Omega.{arith}
 use borrow.Author.Needs.{needs}
 use Rattle.reader.proofs.load_vars.Statement.{statement}
 use Rattle.reader.proofs.load_vars.Tie as tie
+
+count-line-requires : tie.Need-count-line-requires
+unfolding clean
+count-line-requires c κs = (search needs, search needs, refl)
 
 -- the line that was read
 line : (c : tie.After-count-line) → CountRead varsKey (drop (c .before .before .before .before .args .at) (now (c .before .before .before .before .args .file))) 16 (c .count-line .result)
@@ -37,7 +41,7 @@ load-vars-spec =
     (λ c. search needs)
     (λ c. search needs)
     (λ c. search needs)
-    (λ c κs. search needs)
+    count-line-requires
     (λ c. search needs)
     add-load-ranges
     load-ranges-requires

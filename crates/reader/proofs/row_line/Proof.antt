@@ -1,18 +1,19 @@
-use mathlib.Core.Path.{_∙_}
-use Rattle.text.proofs.Cut.{row-cut}
+use mathlib.Core.Path.{sym, _∙_}
+use Rattle.reader.proofs.Counts.{row-there, row-yes, row-no}
 use borrow.Author.Needs.{needs}
 use Rattle.reader.proofs.row_line.Statement.{statement}
 use Rattle.reader.proofs.row_line.Tie as tie
 
-line-words-requires : tie.Need-line-words-requires
-line-words-requires c κs = c .before .before .pre .0
-
 row-of-requires : tie.Need-row-of-requires
-row-of-requires c κs = c .before .before .before .pre .1
+row-of-requires c κs = (row-there _ 0 (sym (c .before .keyed .ensures) ∙ c .if1 .taken) .ends, c .before .before .before .before .pre)
 
 returns : tie.Need-returns
-returns c = c .row-of .ensures ∙ row-cut _ _ _ (c .before .before .before .before .pre .1) (c .before .line-words .ensures .each)
+returns c = row-yes _ _ _ (sym (c .before .before .keyed .ensures) ∙ c .before .if1 .taken) (c .row-of .ensures)
+
+returns-2 : tie.Need-returns-2
+returns-2 c = row-no _ _ 0 (sym (c .before .keyed .ensures) ∙ c .if1 .left)
 
 pub row-line-spec : {M : Type 1} → statement M
 row-line-spec =
-    tie.close (tie.spec (λ c. search needs) line-words-requires row-of-requires returns)
+    tie.close
+    (tie.spec (λ c. search needs) (λ c κs. search needs) row-of-requires returns returns-2)

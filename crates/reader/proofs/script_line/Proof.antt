@@ -1,30 +1,62 @@
-use Rattle.reader.proofs.Counts.{script-read, script-wrong, script-long}
+use mathlib.Core.Path.{_≡_, refl, sym, ap, _∙_}
+use lib.ListN.{drop}
+use denote.Ref.{now}
+use Rattle.reader.proofs.Counts.{script-read, script-wrong, script-long, script-none}
+use Rattle.reader.proofs.Lines.{Keyed, keyed-at, keyed-end, at-none, last}
+use Rattle.reader.specs.Read.{clean}
+use Rattle.text.proofs.Line.{reach-none, reach-more}
+use Rattle.text.specs.Words.{before, following}
 use borrow.Author.Needs.{needs}
-use Rattle.rules.specs.File.{sooner}
+use Rattle.rules.specs.File.{sooner, asksEnd, asksOne, scriptKey}
 use Rattle.reader.proofs.script_line.Statement.{statement}
 use Rattle.reader.proofs.script_line.Tie as tie
 
-add-t19 : tie.Need-add-t19
-add-t19 c = let h = script-long _ _ _ _ (c .before .before .before .before .before .before .line-words .ensures) (c .before .before .before .before .before .before .before .before .position .ensures) (rw (c .before .sooner .ensures, c .before .before .asks-end .ensures, c .before .before .before .before .asks-one .ensures)) (c .if1 .taken) in search needs
+-- the line has the key
+key-at : (c : tie.Then1) → Keyed scriptKey (now (c .before .before .before .before .args .rest)) 6
+unfolding clean last
+key-at c = keyed-at _ _ _ refl refl (sym (c .before .keyed .ensures) ∙ c .if1 .taken)
+
+-- the question after the first word, and where the line ends
+second : (c : tie.After-sooner) → c .before .asks-last .result ≡ asksEnd (following (drop 6 (now (c .before .before .before .before .before .before .before .before .args .rest))) 1)
+second c = c .before .asks-last .ensures ∙ ap asksEnd (sym (c .before .before .before .next-word .ensures .more 0))
+
+ended : (c : tie.After-sooner) → asksEnd (following (drop 6 (now (c .before .before .before .before .before .before .before .before .args .rest))) 1) ≡ 0 → c .before .before .before .next-word .result .end ≡ before 10 (now (c .before .before .before .before .before .before .before .before .args .rest))
+ended c z = let k = key-at (c .before .before .before .before) in
+    keyed-end _ _ _ 1 _ k (reach-more _ _ 0 _ (reach-none _ _ (k .ends)) _ (c .before .before .before .next-word .ensures)) z
+
+asked : (c : tie.After-sooner) → c .sooner .result ≡ sooner (asksOne (c .before .before .before .next-word .result .word)) (c .before .asks-last .result)
+asked c = rw (c .sooner .ensures, c .before .before .asks-one .ensures)
+
+next-word-requires : tie.Need-next-word-requires
+next-word-requires c κs = key-at c .ends
+
+add-t13 : tie.Need-add-t13
+add-t13 c = let q = c .before in
+    let h = script-long _ _ (key-at (c .before .before .before .before .before) .words) _ _ _ _ (c .before .before .before .before .next-word .ensures .word) (second q) (ended q) (asked q) (c .if2 .taken) in search needs
 
 returns : tie.Need-returns
-returns c = script-read _ _ _ _ (c .before .before .before .before .before .before .line-words .ensures) (c .before .before .before .before .before .before .before .before .position .ensures) (rw (c .before .sooner .ensures, c .before .before .asks-end .ensures, c .before .before .before .before .asks-one .ensures)) (c .if1 .taken)
+returns c = let q = c .before in
+    script-read _ _ (key-at (c .before .before .before .before .before) .words) _ _ _ _ (c .before .before .before .before .next-word .ensures .word) (second q) (ended q) (asked q) (c .if2 .taken)
 
 returns-2 : tie.Need-returns-2
-returns-2 c = script-wrong _ _ _ _ (c .before .before .before .before .before .before .line-words .ensures) (c .before .before .before .before .before .before .before .before .position .ensures) (rw (c .before .sooner .ensures, c .before .before .asks-end .ensures, c .before .before .before .before .asks-one .ensures)) (c .if1 .left)
+returns-2 c = let q = c .before in
+    script-wrong _ _ (key-at (c .before .before .before .before .before) .words) _ _ _ _ (c .before .before .before .before .next-word .ensures .word) (second q) (ended q) (asked q) (c .if2 .left)
+
+returns-3 : tie.Need-returns-3
+unfolding clean
+returns-3 c = script-none _ (at-none scriptKey _ refl (sym (c .before .keyed .ensures) ∙ c .if1 .left))
 
 pub script-line-spec : {M : Type 1} → statement M
 script-line-spec =
     tie.close
     (tie.spec
-    (λ c κs. search needs)
     (λ c. search needs)
     (λ c κs. search needs)
-    (λ c. search needs)
-    (λ c κs. search needs)
-    (λ c. search needs)
+    next-word-requires
     (λ c κs. search needs)
     (λ c κs. search needs)
-    add-t19
+    (λ c κs. search needs)
+    add-t13
     returns
-    returns-2)
+    returns-2
+    returns-3)

@@ -1,5 +1,4 @@
 use Rattle.rows.proofs.Laws.{number-wider}
-use Rattle.rows.specs.Words.{at}
 use Rattle.rules.specs.Values.{highest}
 use lib.IntN.{pos}
 use Rattle.ints.proofs.Parts.{ints}

@@ -1,8 +1,12 @@
 use mathlib.Core.Path.{_≡_, sym, _∙_}
-use Rattle.rows.proofs.Laws.{checked-read, checked-wrong, number-wider}
+use denote.Ref.{now}
+use lib.ListN.{drop}
 use Rattle.rules.proofs.Reading.{sooner-yes}
 use Rattle.rules.specs.File.{sooner, asksEnd, asksNumber, cueRow}
-use Rattle.rows.specs.Words.{at}
+use Rattle.rules.specs.declared.Word.the-variants.{Missing}
+use Rattle.text.proofs.Line.{Reached, reach-none, reach-more, reach-word, reach-last}
+use Rattle.rows.specs.Words.{after}
+use Rattle.rows.proofs.Laws.{checked-read, checked-wrong, lined-read, lined-wrong, number-wider}
 use Rattle.rules.specs.Values.{highest}
 use lib.IntN.{pos}
 use Rattle.ints.proofs.Parts.{ints}
@@ -10,32 +14,39 @@ use borrow.Author.Needs.{needs}
 use Rattle.rows.proofs.cue_row.Statement.{statement}
 use Rattle.rows.proofs.cue_row.Tie as tie
 
+-- the words read, one after the other
+reach1 : (c : tie.After-sooner) → Reached (now (c .before .before .before .before .before .args .s)) (c .before .before .before .before .before .args .at) 1 (c .before .before .before .next-word .result .end)
+reach1 c = reach-more _ _ 0 _ (reach-none _ _ (c .before .before .before .before .before .pre)) _ (c .before .before .before .next-word .ensures)
+
+word1 : (c : tie.After-sooner) → c .before .before .before .next-word .result .word ≡ after Missing (drop (c .before .before .before .before .before .args .at) (now (c .before .before .before .before .before .args .s))) 1
+word1 c = reach-word _ _ 0 _ (reach-none _ _ (c .before .before .before .before .before .pre)) _ (c .before .before .before .next-word .ensures)
+
 -- the words' questions
-asked : (c : tie.After-sooner) → let w = at (c .before .before .before .before .before .args .t2) in c .sooner .result ≡ sooner (asksNumber (pos 0) (pos 9_999) (w 1)) (asksEnd (w 2))
-asked c = rw (c .sooner .ensures, c .before .asks-end .ensures, c .before .before .before .asks-number .ensures)
+asked : (c : tie.After-sooner) → let w = after Missing (drop (c .before .before .before .before .before .args .at) (now (c .before .before .before .before .before .args .s))) in c .sooner .result ≡ sooner (asksNumber (pos 0) (pos 9_999) (w 1)) (asksEnd (w 2))
+asked c = rw (c .sooner .ensures, c .before .before .asks-number .ensures, c .before .asks-last .ensures, word1 c, reach-last _ _ 1 _ (reach1 c))
 
 amount-requires : tie.Need-amount-requires
 unfolding highest
-amount-requires c κs = number-wider (pos 0) (pos 9_999) (pos 0) highest (at (c .before .before .before .before .before .before .before .args .t2) 1) (omega ints) (omega ints) (sooner-yes _ _ (sym (asked (c .before .before)) ∙ c .before .if1 .taken) .0)
+amount-requires c κs = number-wider (pos 0) (pos 9_999) (pos 0) highest (c .before .before .before .before .next-word .result .word) (omega ints) (omega ints) (rw (word1 (c .before)) (sooner-yes _ _ (sym (asked (c .before)) ∙ c .if1 .taken) .0))
 
 returns : tie.Need-returns
 unfolding cueRow
-returns c = checked-read _ _ _ _ (asked (c .before .before .before)) (c .before .before .if1 .taken) (rw (c .amount .ensures))
+returns c = let q = c .before .before in
+    let z = sym (asked q) ∙ c .before .if1 .taken in
+    lined-read _ _ 1 _ (cueRow ((c .before .before .before .before .before .before .before .args) .vars)) (reach1 q) _ (checked-read _ _ _ _ (asked q) (c .before .if1 .taken) (rw (c .amount .ensures, word1 q))) (sooner-yes _ _ z .1)
 
 returns-2 : tie.Need-returns-2
 unfolding cueRow
-returns-2 c = checked-wrong _ _ _ (asked (c .before)) (c .if1 .left)
+returns-2 c = lined-wrong _ _ _ (cueRow ((c .before .before .before .before .before .before .args) .vars)) _ (checked-wrong _ _ _ (asked (c .before)) (c .if1 .left))
 
 pub cue-row-spec : {M : Type 1} → statement M
 cue-row-spec =
     tie.close
     (tie.spec
-    (λ c. search needs)
-    (λ c κs. search needs)
-    (λ c. search needs)
     (λ c κs. search needs)
     (λ c κs. search needs)
-    (λ c. search needs)
+    (λ c κs. search needs)
+    (λ c κs. search needs)
     amount-requires
     returns
     returns-2)

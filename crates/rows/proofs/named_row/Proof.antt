@@ -30,10 +30,10 @@ returns-9 : tie.Need-returns-9
 returns-9 c = rw (c .before .enum-told9 .given .1) (c .bare-row3 .ensures)
 
 returns-10 : tie.Need-returns-10
-returns-10 c = rw (c .before .enum-told10 .given .1) (c .while-row .ensures)
+returns-10 c = rw (c .before .enum-told10 .given .1) (c .test-row .ensures)
 
 returns-11 : tie.Need-returns-11
-returns-11 c = rw (c .before .enum-told11 .given .1) (c .do-row .ensures)
+returns-11 c = rw (c .before .enum-told11 .given .1) (c .test-row2 .ensures)
 
 returns-12 : tie.Need-returns-12
 returns-12 c = rw (c .before .enum-told12 .given .1) (c .for-row .ensures)

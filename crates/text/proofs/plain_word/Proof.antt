@@ -1,57 +1,15 @@
-use Rattle.rules.specs.Text.{plainWord}
+use mathlib.Core.Path.{_∙_}
+use Rattle.text.proofs.Keywords.{plain-packed, plain-long}
 use borrow.Author.Needs.{needs}
 use Rattle.text.proofs.plain_word.Statement.{statement}
 use Rattle.text.proofs.plain_word.Tie as tie
 
 returns : tie.Need-returns
-unfolding plainWord
-returns c = rw (← c .before .equals .ensures, c .if1 .taken)
+returns c = plain-long _ (c .if1 .taken)
 
 returns-2 : tie.Need-returns-2
-unfolding plainWord
-returns-2 c = rw (← c .before .before .before .before .equals .ensures, c .before .before .before .if1 .left, ← c .before .equals2 .ensures, c .if2 .taken)
-
-returns-3 : tie.Need-returns-3
-unfolding plainWord
-returns-3 c = rw (← c .before .before .before .before .before .before .before .equals .ensures, c .before .before .before .before .before .before .if1 .left, ← c .before .before .before .before .equals2 .ensures, c .before .before .before .if2 .left, ← c .before .equals3 .ensures, c .if3 .taken)
-
-returns-4 : tie.Need-returns-4
-unfolding plainWord
-returns-4 c = rw (← c .before .before .before .before .before .before .before .before .before .before .equals .ensures, c .before .before .before .before .before .before .before .before .before .if1 .left, ← c .before .before .before .before .before .before .before .equals2 .ensures, c .before .before .before .before .before .before .if2 .left, ← c .before .before .before .before .equals3 .ensures, c .before .before .before .if3 .left, ← c .before .equals4 .ensures, c .if4 .taken)
-
-returns-5 : tie.Need-returns-5
-unfolding plainWord
-returns-5 c = rw (← c .before .before .before .before .before .before .before .before .before .before .before .before .before .equals .ensures, c .before .before .before .before .before .before .before .before .before .before .before .before .if1 .left, ← c .before .before .before .before .before .before .before .before .before .before .equals2 .ensures, c .before .before .before .before .before .before .before .before .before .if2 .left, ← c .before .before .before .before .before .before .before .equals3 .ensures, c .before .before .before .before .before .before .if3 .left, ← c .before .before .before .before .equals4 .ensures, c .before .before .before .if4 .left, ← c .before .equals5 .ensures, c .if5 .taken)
-
-returns-6 : tie.Need-returns-6
-unfolding plainWord
-returns-6 c = rw (← c .before .before .before .before .before .before .before .before .before .before .before .before .before .before .before .before .equals .ensures, c .before .before .before .before .before .before .before .before .before .before .before .before .before .before .before .if1 .left, ← c .before .before .before .before .before .before .before .before .before .before .before .before .before .equals2 .ensures, c .before .before .before .before .before .before .before .before .before .before .before .before .if2 .left, ← c .before .before .before .before .before .before .before .before .before .before .equals3 .ensures, c .before .before .before .before .before .before .before .before .before .if3 .left, ← c .before .before .before .before .before .before .before .equals4 .ensures, c .before .before .before .before .before .before .if4 .left, ← c .before .before .before .before .equals5 .ensures, c .before .before .before .if5 .left, ← c .before .equals6 .ensures, c .if6 .taken)
-
-returns-7 : tie.Need-returns-7
-unfolding plainWord
-returns-7 c = rw (← c .before .before .before .before .before .before .before .before .before .before .before .before .before .before .before .before .before .equals .ensures, c .before .before .before .before .before .before .before .before .before .before .before .before .before .before .before .before .if1 .left, ← c .before .before .before .before .before .before .before .before .before .before .before .before .before .before .equals2 .ensures, c .before .before .before .before .before .before .before .before .before .before .before .before .before .if2 .left, ← c .before .before .before .before .before .before .before .before .before .before .before .equals3 .ensures, c .before .before .before .before .before .before .before .before .before .before .if3 .left, ← c .before .before .before .before .before .before .before .before .equals4 .ensures, c .before .before .before .before .before .before .before .if4 .left, ← c .before .before .before .before .before .equals5 .ensures, c .before .before .before .before .if5 .left, ← c .before .before .equals6 .ensures, c .before .if6 .left) (c .block-word .ensures)
+returns-2 c = c .keyword .ensures ∙ plain-packed _ _ (c .before .packed .ensures)
 
 pub plain-word-spec : {M : Type 1} → statement M
 plain-word-spec =
-    tie.close
-    (tie.spec
-    (λ c. search needs)
-    (λ c κs. search needs)
-    returns
-    (λ c. search needs)
-    (λ c κs. search needs)
-    returns-2
-    (λ c. search needs)
-    (λ c κs. search needs)
-    returns-3
-    (λ c. search needs)
-    (λ c κs. search needs)
-    returns-4
-    (λ c. search needs)
-    (λ c κs. search needs)
-    returns-5
-    (λ c. search needs)
-    (λ c κs. search needs)
-    returns-6
-    (λ c κs. search needs)
-    returns-7)
+    tie.close (tie.spec returns (λ c κs. search needs) (λ c κs. search needs) returns-2)
