@@ -21,7 +21,7 @@ ask-requires : tie.Need-ask-requires
 ask-requires c κs = c .before .before .before .before .before .body-moves .ensures .near
 
 returns : tie.Need-returns
-returns c = 
+returns c =
     let a = c .before .before .before .before .before .before .before .before .before .before .args in
     let rows = rowsOf (now (a .rows)) in
     let k = kindAt rows (a .i) in
