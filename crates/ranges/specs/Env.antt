@@ -18,7 +18,8 @@ use Rattle.rules.specs.Steps.{assigns, step}
 use Rattle.rules.specs.Bounds.{FineOperand}
 use Rattle.rules.specs.Ranges.{Range, Env, full, atStart, inside, outside}
 use Rattle.steps.specs.Body.{bodyAt, EndsAt}
-use Rattle.steps.specs.Tree.{kindAt, formOf, testOf}
+use Rattle.table.specs.Code.{kindAt}
+use Rattle.steps.specs.Tree.{formOf, testOf}
 use Rattle.ranges.specs.declared.Head.{Head}
 use Rattle.ranges.specs.declared.Span.{Span}
 

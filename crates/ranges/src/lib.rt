@@ -3,14 +3,13 @@ use rules::Change;
 use rules::Comparison;
 use rules::Kind;
 use rules::Operand;
-use rules::Row;
 use rules::Step;
 use steps::Shape;
-use steps::body_sets;
-use steps::body_step;
+use steps::body_moves;
 use steps::has;
 use steps::past_else;
 use steps::shape_of;
+use table::kind_at;
 ghost use mathlib.Core.Path.{_≡_};
 ghost use mathlib.Core.Bool.{cond};
 ghost use lib.IntN.{ℤ, pos, _+ℤ_, _-ℤ_};
@@ -20,6 +19,7 @@ ghost use Rattle.rules.specs.Values.{lowest, highest, put, applied};
 ghost use Rattle.rules.specs.Blocks.{Form};
 ghost use Rattle.rules.specs.Ranges.{bounds, join, full, afterRow, atStart, edge, sort, isDo, insideRange, byStep, outsideRange, after};
 ghost use Rattle.rules.specs.Bounds.{Fine, FineOperand, FineChange};
+ghost use Rattle.table.specs.Code.{rowsOf};
 ghost use Rattle.steps.specs.Tree.{plainOf, formOf, testOf, Ready, Walked};
 ghost use Rattle.steps.specs.Sets.{setOf};
 ghost use Rattle.steps.specs.Body.{AtLoop};
@@ -93,8 +93,10 @@ pub fn joined(a: [[i32; 2]; 16], b: [[i32; 2]; 16]) -> [[i32; 2]; 16]
     let mut r = a;
     for i in 0..16 {
         let s = joined_span(span_at(a, i), span_at(b, i));
-        let next = put(r, i, s);
-        r = next;
+        let lo = s.lo;
+        let hi = s.hi;
+        let k = i as usize;
+        r[k] = [lo, hi];
     }
     r
 }
@@ -239,8 +241,10 @@ fn widened(set: [bool; 16], start: [[i32; 2]; 16], mine: Span, v: u8) -> [[i32; 
     let mut r = start;
     for w in 0..16 {
         let s = chosen(has(set, w), w == v, mine, span_at(start, w));
-        let next = put(r, w, s);
-        r = next;
+        let lo = s.lo;
+        let hi = s.hi;
+        let k = w as usize;
+        r[k] = [lo, hi];
     }
     r
 }
@@ -381,44 +385,41 @@ pub fn outside(kind: Kind, set: [bool; 16], step: Step, begun: [[i32; 2]; 16]) -
 
 // The ranges after the loop at row i; `next` gets its end.
 fn after_loop(
-    rows: [Row; 256],
+    rows: &[[u32; 9]; 256],
     count: usize,
     i: usize,
     r: [[i32; 2]; 16],
     next: &mut usize,
 ) -> [[i32; 2]; 16]
-    requires { ⌜ AtLoop rows count i ⌝ }
-    ensures { λ x. ⌜ AfterLoop rows count i (envOf r) (envOf x) (now (next .exit)) ⌝ }
+    requires { ⌜ AtLoop (rowsOf (now rows)) count i ⌝ }
+    ensures { λ x. ⌜ AfterLoop (rowsOf (now (rows .entry))) count i (envOf r) (envOf x) (now (next .exit)) ⌝ }
 {
-    let row = rows[i];
-    let kind = row.kind;
+    let kind = kind_at(rows, i);
     let head = head_of(kind);
     let v = head.tested;
     let begun = at_start(r, kind);
-    let body = body_sets(rows, count, i);
+    let body = body_moves(rows, count, i, v);
     let set = body.set;
-    let moves = body_step(rows, count, i, v);
-    let step = moves.step;
+    let step = body.step;
     *next = body.next;
     outside(kind, set, step, begun)
 }
 
 // The ranges after the block that starts at row `at`; `next` gets the row that closes the block.
 pub fn after(
-    rows: [Row; 256],
+    rows: &[[u32; 9]; 256],
     count: usize,
     at: usize,
     start: [[i32; 2]; 16],
     next: &mut usize,
 ) -> [[i32; 2]; 16]
-    requires { ⌜ Ready rows count at ⌝ }
-    ensures { λ r. ⌜ Walked rows count at (now (next .exit)) (envOf r) (after (envOf start)) ⌝ }
+    requires { ⌜ Ready (rowsOf (now rows)) count at ⌝ }
+    ensures { λ r. ⌜ Walked (rowsOf (now (rows .entry))) count at (now (next .exit)) (envOf r) (after (envOf start)) ⌝ }
 {
     let mut r = start;
     let mut i = at;
     while i < count {
-        let row = rows[i];
-        let kind = row.kind;
+        let kind = kind_at(rows, i);
         match shape_of(kind) {
             Shape::Plain => {
                 let x = after_row(r, kind);
@@ -428,8 +429,7 @@ pub fn after(
             Shape::Branch => {
                 let mut m: usize = 0;
                 let a = after(rows, count, i + 1, r, &mut m);
-                let closer = rows[m];
-                let closing = closer.kind;
+                let closing = kind_at(rows, m);
                 let mut e: usize = 0;
                 let b = after(rows, count, past_else(closing, m), r, &mut e);
                 let x = joined(a, b);

@@ -13,7 +13,8 @@ use Rattle.rules.specs.Blocks.{done, plain, pick, loop, kindsOf}
 use Rattle.rules.proofs.Laws.{kinds-at}
 use Rattle.rules.proofs.Rows.{rowAt, LoopAt, PickAt, alone, both, block-last, block-set, block-move, block-cue, block-while, block-do, block-for, block-pick, block-end, block-else}
 use Rattle.steps.specs.declared.Shape.{Shape}
-use Rattle.steps.specs.Tree.{nothing, kindAt, kinds, blockAt, endAt, Whole, shapeOf, plainOf, formOf, testOf, withLast, secondAt}
+use Rattle.table.specs.Code.{nothing, kindAt}
+use Rattle.steps.specs.Tree.{kinds, blockAt, endAt, Whole, shapeOf, plainOf, formOf, testOf, withLast, secondAt}
 
 module _ (rows : List Row) (count : ℕ) where
   -- the laws: what stands at row i, by its shape

@@ -3,3 +3,4 @@ pub mod Laws
 pub mod Walking
 pub mod Sets
 pub mod Stepping
+pub mod Moving

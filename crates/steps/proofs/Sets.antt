@@ -1,11 +1,13 @@
 -- The set of assigned variables as a fold from the first row.
 use mathlib.Core.Path.{_≡_, refl, sym, ap, _∙_}
-use mathlib.Core.Bool.{Bool, true, false, cond, _||_}
+use mathlib.Core.Bool.{Bool, true, false, cond, _||_, _&&_}
 use mathlib.Core.List.{List, [], _∷_}
-use Prim.Native.Nat.{ℕ, zero, suc, _<_}
+use Prim.Native.Nat.{ℕ, zero, suc, _+_, _≤_, _<_}
 use native.Mathlib.Omega.{arith}
-use lib.Dec.{eqb}
-use lib.ListN.{length, getD, set}
+use lib.Dec.{eqb, ltb}
+use lib.ListN.{length, getD, set, length-set, List·getD-eq-default}
+use lib.Seq.{getD-set-same, getD-set-other}
+use borrow.Author.Tests.{eqb-true, eqb-false, ltb-true, ltb-false, lt-ltb, le-ltb}
 use Rattle.rules.specs.declared.Kind.{Kind}
 use Rattle.rules.specs.declared.Kind.the-variants.{Set, Move, Cue, Pick, Else, End, While, Do, For}
 use Rattle.rules.specs.Blocks.{Plain, Block, done, plain, pick, loop, snoc}
@@ -13,7 +15,7 @@ use Rattle.rules.specs.Steps.{sets, starts, assigns}
 use Rattle.rules.proofs.Laws.{put-set}
 use Rattle.steps.specs.declared.Shape.{Shape}
 use Rattle.steps.specs.Tree.{shapeOf, plainOf, formOf, testOf, withLast}
-use Rattle.steps.specs.Sets.{setOf, withOne, withRow, assignsFrom}
+use Rattle.steps.specs.Sets.{setOf, none, withOne, withRow, bothOf, assignsFrom}
 
 pub no-shape : {A : Type 0} → Shape.Plain ≡ Shape.Loop → A
 no-shape e = absurd (let z : _≡_ {A = ℕ} 0 1 = cc in omega arith)
@@ -122,9 +124,55 @@ none-in (true ∷ l) e w = no-true e
 none-in (false ∷ l) e zero = refl
 none-in (false ∷ l) e (suc w) = none-in l e w
 
--- the set of a loop's body, from the empty set
-pub body-set : (v : ℕ) (l : List Bool) (k : Kind) → shapeOf k ≡ Shape.Loop → clear l ≡ true → (i : ℕ) (b : Block) (y z : ℕ → Bool)
-    → y ≡ withRow z (plainOf k) → z ≡ assignsFrom (setOf l) b → y v ≡ assigns v (withLast k i b)
-unfolding setOf withRow assignsFrom
-body-set v l k h e i b y z p q =
-    ap (λ f. f v) (p ∙ ap (λ f. withRow f (plainOf k)) q) ∙ ap (λ t. (t || assigns v b) || sets v (plainOf k)) (none-in l e v) ∙ sym (body-assigns v k h i b)
+pub no-set : (l : List Bool) → clear l ≡ true → setOf l ≡ none
+unfolding setOf none
+no-set l e = λ d w. none-in l e w d
+
+-- a block's set, and a loop's, joined to those before
+pub both-block : (x : ℕ → Bool) (b : Block) → bothOf x (assignsFrom none b) ≡ assignsFrom x b
+unfolding bothOf assignsFrom none
+both-block x b = refl
+
+pub both-loop : (x : ℕ → Bool) (b : Block) (p : Plain) → bothOf x (withRow (assignsFrom none b) p) ≡ withRow (assignsFrom x b) p
+unfolding bothOf assignsFrom none withRow
+both-loop x b p = λ d w. or-assoc (x w) (assigns w b) (sets w p) d
+
+-- the set of a loop's body
+pub body-set : (v : ℕ) (k : Kind) → shapeOf k ≡ Shape.Loop → (i : ℕ) (b : Block) → withRow (assignsFrom none b) (plainOf k) v ≡ assigns v (withLast k i b)
+unfolding none withRow assignsFrom
+body-set v k h i b = sym (body-assigns v k h i b)
+
+-- the union of two arrays, up to variable i
+module _ (a b : List Bool) where
+  pub record Joined (i : ℕ) (r : List Bool) : Type 0 where
+    pub some : i ≤ 16
+    pub long : length r ≡ 16
+    pub value : (w : ℕ) → setOf r w ≡ setOf a w || (ltb w i && setOf b w)
+
+  pub joined-none : length a ≡ 16 → Joined 0 a
+  joined-none l = record { some = omega arith; long = l; value = λ w. rw (le-ltb w 0 (omega arith)) (sym (or-false (setOf a w))) }
+
+  module _ (i : ℕ) (r : List Bool) (h : i < 16) (j : Joined i r) where
+    one-at : (w : ℕ) (same : Bool) → eqb w i ≡ same → setOf (set r i (setOf a i || setOf b i)) w ≡ setOf a w || (ltb w (i + 1) && setOf b w)
+    unfolding setOf
+    one-at w true e =
+        let q = eqb-true w i e in
+        rw (q, getD-set-same r i (getD a i false || getD b i false) false (omega (arith, j .long)), lt-ltb i (i + 1) (omega arith))
+    one-at w false e =
+        let q = eqb-false w i e in
+        rw (getD-set-other r i w (getD a i false || getD b i false) false q) (j .value w ∙ ap (λ t. getD a w false || (t && getD b w false)) (later w (ltb w i) refl q))
+      where
+        later : (w : ℕ) (t : Bool) → ltb w i ≡ t → (w ≡ i → ⊥) → ltb w i ≡ ltb w (i + 1)
+        later w true e q = let l = ltb-true w i e in e ∙ sym (lt-ltb w (i + 1) (omega arith))
+        later w false e q = let l = ltb-false w i e in e ∙ sym (le-ltb w (i + 1) (omega arith))
+
+    pub joined-next : Joined (i + 1) (set r i (setOf a i || setOf b i))
+    joined-next = record { some = omega arith; long = simp length-set (j .long); value = λ w. one-at w (eqb w i) refl }
+
+  pub joined-all : (r : List Bool) → length b ≡ 16 → Joined 16 r → setOf r ≡ bothOf (setOf a) (setOf b)
+  unfolding bothOf setOf
+  joined-all r l j = λ d w. (j .value w ∙ ap (λ t. setOf a w || t) (all w (ltb w 16) refl)) d
+    where
+      all : (w : ℕ) (t : Bool) → ltb w 16 ≡ t → ltb w 16 && setOf b w ≡ setOf b w
+      all w true e = rw e
+      all w false e = let h = ltb-false w 16 e in rw (e, List·getD-eq-default b false {n = w} (omega arith))

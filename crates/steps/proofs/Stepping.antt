@@ -17,7 +17,8 @@ use Rattle.rules.specs.Steps.{still, starts, assigns, sourceStep, changeStep, r
 use Rattle.rules.specs.Bounds.{Ends, Fine}
 use Rattle.rules.proofs.Ends.{ends-more, ends-only, still-ends, then-ends, either-ends, change-ends}
 use Rattle.steps.specs.declared.Shape.{Shape}
-use Rattle.steps.specs.Tree.{Ready, Walked, kindAt, blockAt, shapeOf, plainOf, withLast}
+use Rattle.table.specs.Code.{kindAt}
+use Rattle.steps.specs.Tree.{Ready, Walked, blockAt, shapeOf, plainOf, withLast}
 use Rattle.steps.specs.Body.{bodyAt}
 use Rattle.steps.proofs.Laws.{PickIs, LoopIs}
 use Rattle.steps.proofs.Walking.{Walking, begin, plain-row, pick-row, loop-row, at-close, at-last}
@@ -35,6 +36,10 @@ row-ends v End h = still-ends 1
 row-ends v (While w c x) h = still-ends 1
 row-ends v (Do w c x) h = still-ends 1
 row-ends v (For w s c x d) (l, p, q, h) = ends-only 1 (eqb v w) (changeStep d) (change-ends d h)
+
+-- what `then` asks of it
+pub row-room : (v : ℕ) (k : Kind) → Fine k → Ends 512 (rowStep v (plainOf k))
+row-room v k h = ends-more 1 512 (omega arith) (rowStep v (plainOf k)) (row-ends v k h)
 
 abbrev pub steps : ℕ → Step → Block → Step
 steps v x b = stepFrom x v b
@@ -63,9 +68,6 @@ module _ (rows : List Row) (count at v : ℕ) where
       ended l = (at-last rows count (steps v) at still refl (k .walk) (r .built) l, k .ends)
 
       module _ (l : i < count) where
-        pub row-room : Ends 512 (rowStep v (plainOf (kindAt rows i)))
-        row-room = ends-more 1 512 (omega arith) (rowStep v (plainOf (kindAt rows i))) (row-ends v (kindAt rows i) (r .fine i l))
-
         -- a step x of at most e − i rows after s
         next : (x : Step) (n e : ℕ) → n + i ≤ e → Ends n x → Walking rows count (steps v) at still e (then s x) → Stepping e (then s x)
         next x n e b h w = record { walk = w; ends = let z = k .walk in ends-more (i - at + n) (e - at) (omega arith) (then s x) (then-ends (i - at) n s x (k .ends) h) }

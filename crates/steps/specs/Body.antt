@@ -2,14 +2,17 @@
 use mathlib.Core.Path.{_≡_}
 use mathlib.Core.Bool.{Bool}
 use mathlib.Core.List.{List}
-use Prim.Native.Nat.{ℕ, _+_, _≤_, _<_}
+use Prim.Native.Nat.{ℕ, _+_, _-_, _≤_, _<_}
 use Rattle.rules.specs.declared.Row.{Row}
 use Rattle.rules.specs.declared.Step.{Step}
 use Rattle.rules.specs.Blocks.{Block}
 use Rattle.rules.specs.Steps.{assigns, step}
 use Rattle.rules.specs.Bounds.{Ends}
 use Rattle.steps.specs.declared.Shape.{Shape}
-use Rattle.steps.specs.Tree.{Ready, kindAt, blockAt, endAt, shapeOf, withLast}
+use Rattle.table.specs.Code.{kindAt}
+use Rattle.steps.specs.declared.Moves.{Moves}
+use Rattle.steps.specs.Sets.{setOf, none, assignsFrom}
+use Rattle.steps.specs.Tree.{Ready, Walked, blockAt, endAt, shapeOf, withLast}
 
 abbrev pub bodyAt : List Row → ℕ → ℕ → Block
 bodyAt rows count i = withLast (kindAt rows i) i (blockAt rows count (i + 1))
@@ -26,13 +29,21 @@ pub record EndsAt (rows : List Row) (count i next : ℕ) : Type 0 where
   pub low : i + 1 ≤ next
   pub high : next < count
 
--- the variables that the body of the loop at row i assigns
-pub record BodySets (rows : List Row) (count i : ℕ) (set : ℕ → Bool) (next : ℕ) : Type 0 where
-  pub value : (w : ℕ) → set w ≡ assigns w (bodyAt rows count i)
-  pub ends : EndsAt rows count i next
+-- a set of variables, a step and a row, as the code has them
+pub record MovesAre (r : Moves) (set : ℕ → Bool) (st : Step) (next : ℕ) : Type 0 where
+  pub sets : setOf (r .set) ≡ set
+  pub moves : r .step ≡ st
+  pub ends : r .next ≡ next
 
--- the step of v over the body of the loop at row i
-pub record BodyStep (rows : List Row) (count i v : ℕ) (st : Step) (next : ℕ) : Type 0 where
-  pub value : st ≡ step v (bodyAt rows count i)
-  pub near : Ends 256 st
-  pub ends : EndsAt rows count i next
+-- what the block from row `at` does: the variables that it assigns, the step of v, the row that closes it
+pub record MovesOf (rows : List Row) (count at v : ℕ) (r : Moves) : Type 0 where
+  pub sets : Walked rows count at (r .next) (setOf (r .set)) (assignsFrom none)
+  pub moves : Walked rows count at (r .next) (r .step) (step v)
+  pub near : Ends (r .next - at) (r .step)
+
+-- what the body of the loop at row i does
+pub record BodyMoves (rows : List Row) (count i v : ℕ) (r : Moves) : Type 0 where
+  pub sets : (w : ℕ) → setOf (r .set) w ≡ assigns w (bodyAt rows count i)
+  pub moves : r .step ≡ step v (bodyAt rows count i)
+  pub near : Ends 256 (r .step)
+  pub ends : EndsAt rows count i (r .next)

@@ -22,3 +22,11 @@ withRow x p w = x w || sets w p
 -- with the variables that a block assigns
 unfoldable pub assignsFrom : (ℕ → Bool) → Block → ℕ → Bool
 assignsFrom x b w = x w || assigns w b
+
+-- the variables of two sets
+unfoldable pub bothOf : (ℕ → Bool) → (ℕ → Bool) → ℕ → Bool
+bothOf x y w = x w || y w
+
+-- no variable
+unfoldable pub none : ℕ → Bool
+none w = false

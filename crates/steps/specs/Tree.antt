@@ -3,7 +3,7 @@ use mathlib.Core.Path.{_≡_}
 use mathlib.Core.List.{List, []}
 use Prim.Native.Nat.{ℕ, _+_, _≤_, _<_}
 use lib.IntN.{pos}
-use lib.ListN.{length, getD, take}
+use lib.ListN.{length, take}
 use Rattle.rules.specs.declared.Operand.the-variants.{Constant}
 use Rattle.rules.specs.declared.Comparison.the-variants.{Less}
 use Rattle.rules.specs.declared.Row.{Row}
@@ -12,14 +12,8 @@ use Rattle.rules.specs.declared.Kind.the-variants.{Set, Move, Cue, Pick, Else, 
 use Rattle.rules.specs.Bounds.{Fine}
 use Rattle.rules.specs.Blocks as blocks
 use Rattle.rules.specs.Blocks.{from, changed, Plain, assign, cue, Test, Form, while, do-while, for, Block, snoc, to-end, parts, build, kindsOf}
+use Rattle.table.specs.Code.{kindAt}
 use Rattle.steps.specs.declared.Shape.{Shape}
-
--- the row that a read past the end gives
-abbrev pub nothing : Row
-nothing = record { kind = End }
-
-abbrev pub kindAt : List Row → ℕ → Kind
-kindAt rows i = getD rows i nothing .kind
 
 -- the kinds of the first `count` rows
 abbrev pub kinds : List Row → ℕ → List Kind

@@ -1,16 +1,18 @@
 // How a variable moves in one turn: walks over the rows of a block, nested blocks first.
 use rules::Kind;
-use rules::Row;
 use rules::Step;
 use rules::change_step;
 use rules::only;
+use table::kind_at;
 ghost use mathlib.Core.Path.{_≡_};
-ghost use Prim.Native.Nat.{_-_, _<_};
-ghost use Rattle.rules.specs.Steps.{rowStep, step};
+ghost use mathlib.Core.Bool.{cond};
+ghost use Prim.Native.Nat.{_<_};
+ghost use Rattle.rules.specs.Steps.{still, then, either, rowStep};
 ghost use Rattle.rules.specs.Bounds.{Fine, Ends};
-ghost use Rattle.steps.specs.Tree.{shapeOf, plainOf, pastElse, Ready, Walked};
-ghost use Rattle.steps.specs.Sets.{setOf, withOne, withRow, assignsFrom};
-ghost use Rattle.steps.specs.Body.{AtLoop, BodySets, BodyStep};
+ghost use Rattle.table.specs.Code.{rowsOf};
+ghost use Rattle.steps.specs.Tree.{shapeOf, plainOf, pastElse, Ready};
+ghost use Rattle.steps.specs.Sets.{setOf, withOne, withRow, bothOf};
+ghost use Rattle.steps.specs.Body.{AtLoop, MovesAre, MovesOf, BodyMoves};
 
 // What a walk tells apart: a plain row, a pick, a loop's head, an else or end.
 pub enum Shape {
@@ -83,75 +85,15 @@ pub fn marked(set: [bool; 16], kind: Kind) -> [bool; 16]
     }
 }
 
-// A set of variables, and the row that closes a block.
-pub struct Found {
-    pub set: [bool; 16],
-    pub next: usize,
-}
-
-// The set with the variables assigned in the block that starts at row `at`, and the row that closes the block.
-pub fn assigned(rows: [Row; 256], count: usize, at: usize, set: [bool; 16]) -> Found
-    requires { ⌜ Ready rows count at ⌝ }
-    ensures { λ r. ⌜ Walked rows count at (r .next) (setOf (r .set)) (assignsFrom (setOf set)) ⌝ }
+// The variables of two sets.
+fn union(a: [bool; 16], b: [bool; 16]) -> [bool; 16]
+    ensures { λ r. ⌜ setOf r ≡ bothOf (setOf a) (setOf b) ⌝ }
 {
-    let mut found = set;
-    let mut i = at;
-    while i < count {
-        let row = rows[i];
-        let kind = row.kind;
-        match shape_of(kind) {
-            Shape::Plain => {
-                let x = marked(found, kind);
-                found = x;
-                i = i + 1;
-            }
-            Shape::Branch => {
-                let a = assigned(rows, count, i + 1, found);
-                let m = a.next;
-                let closer = rows[m];
-                let closing = closer.kind;
-                let first = a.set;
-                let b = assigned(rows, count, past_else(closing, m), first);
-                let x = b.set;
-                found = x;
-                i = b.next + 1;
-            }
-            Shape::Loop => {
-                let body = assigned(rows, count, i + 1, found);
-                let inner = body.set;
-                let x = marked(inner, kind);
-                found = x;
-                i = body.next + 1;
-            }
-            Shape::Close => {
-                return Found {
-                    set: found,
-                    next: i,
-                };
-            }
-        }
+    let mut r = a;
+    for i in 0..16 {
+        r[i] = a[i] | b[i];
     }
-    Found {
-        set: found,
-        next: i,
-    }
-}
-
-// The variables assigned in the body of the loop at row i, a for's own included, and the loop's end.
-pub fn body_sets(rows: [Row; 256], count: usize, i: usize) -> Found
-    requires { ⌜ AtLoop rows count i ⌝ }
-    ensures { λ r. ⌜ BodySets rows count i (setOf (r .set)) (r .next) ⌝ }
-{
-    let row = rows[i];
-    let kind = row.kind;
-    let none = [false; 16];
-    let body = assigned(rows, count, i + 1, none);
-    let set = body.set;
-    let next = body.next;
-    Found {
-        set: marked(set, kind),
-        next: next,
-    }
+    r
 }
 
 // Is v in the set?
@@ -181,70 +123,119 @@ pub fn row_step(kind: Kind, v: u8) -> Step
     }
 }
 
-// A step, and the row that closes its block.
-pub struct Stepped {
+// What rows do to the variables: those that they assign, the step of one variable, and the row after them.
+pub struct Moves {
+    pub set: [bool; 16],
     pub step: Step,
     pub next: usize,
 }
 
-// The step of v over the block that starts at row `at`, and the row that closes the block.
-pub fn step_of(rows: [Row; 256], count: usize, at: usize, v: u8) -> Stepped
-    requires { ⌜ Ready rows count at × (v < 16) ⌝ }
-    ensures { λ r. ⌜ Walked rows count at (r .next) (r .step) (step v) × Ends (r .next - at) (r .step) ⌝ }
+// With a plain row, or a for's step row.
+fn with_row(m: Moves, kind: Kind, v: u8) -> Moves
+    requires { ⌜ Fine kind × Ends 512 (m .step) ⌝ }
+    ensures { λ r. ⌜ MovesAre r (withRow (setOf (m .set)) (plainOf kind)) (then (m .step) (rowStep v (plainOf kind))) (m .next) ⌝ }
 {
-    let mut step = Step::STILL;
-    let mut i = at;
-    while i < count {
-        let row = rows[i];
-        let kind = row.kind;
-        match shape_of(kind) {
-            Shape::Plain => {
-                step = step.then(row_step(kind, v));
-                i = i + 1;
-            }
-            Shape::Branch => {
-                let a = step_of(rows, count, i + 1, v);
-                let m = a.next;
-                let closer = rows[m];
-                let closing = closer.kind;
-                let b = step_of(rows, count, past_else(closing, m), v);
-                let x = a.step;
-                let y = b.step;
-                step = step.then(x.either(y));
-                i = b.next + 1;
-            }
-            Shape::Loop => {
-                let body = body_sets(rows, count, i);
-                let set = body.set;
-                step = step.then(only(has(set, v), Step::Unknown));
-                i = body.next + 1;
-            }
-            Shape::Close => {
-                return Stepped {
-                    step: step,
-                    next: i,
-                };
-            }
-        }
+    let set = m.set;
+    let step = m.step;
+    Moves {
+        set: marked(set, kind),
+        step: step.then(row_step(kind, v)),
+        next: m.next,
     }
-    Stepped {
+}
+
+// With the two parts of a pick.
+fn with_pick(m: Moves, a: Moves, b: Moves) -> Moves
+    requires { ⌜ Ends 512 (m .step) × Ends 512 (either (a .step) (b .step)) ⌝ }
+    ensures { λ r. ⌜ MovesAre r (bothOf (bothOf (setOf (m .set)) (setOf (a .set))) (setOf (b .set))) (then (m .step) (either (a .step) (b .step))) (m .next) ⌝ }
+{
+    let set = m.set;
+    let step = m.step;
+    let first = a.set;
+    let second = b.set;
+    let x = a.step;
+    let y = b.step;
+    Moves {
+        set: union(union(set, first), second),
+        step: step.then(x.either(y)),
+        next: m.next,
+    }
+}
+
+// With a loop, from what its body does: its step is not known if the body assigns v.
+fn with_loop(m: Moves, body: Moves, kind: Kind, v: u8) -> Moves
+    requires { ⌜ Fine kind × Ends 512 (m .step) × (v < 16) ⌝ }
+    ensures { λ r. ⌜ MovesAre r (bothOf (setOf (m .set)) (withRow (setOf (body .set)) (plainOf kind))) (then (m .step) (cond (withRow (setOf (body .set)) (plainOf kind) v) Step.Unknown still)) (m .next) ⌝ }
+{
+    let set = m.set;
+    let step = m.step;
+    let own = body.set;
+    let inner = marked(own, kind);
+    Moves {
+        set: union(set, inner),
+        step: step.then(only(has(inner, v), Step::Unknown)),
+        next: m.next,
+    }
+}
+
+// The rows end at row i.
+fn until(m: Moves, i: usize) -> Moves
+    ensures { λ r. ⌜ MovesAre r (setOf (m .set)) (m .step) i ⌝ }
+{
+    let set = m.set;
+    let step = m.step;
+    Moves {
+        set: set,
         step: step,
         next: i,
     }
 }
 
-// The step of v over the body of the loop at row i, a for's step row included, and the loop's end.
-pub fn body_step(rows: [Row; 256], count: usize, i: usize, v: u8) -> Stepped
-    requires { ⌜ AtLoop rows count i × (v < 16) ⌝ }
-    ensures { λ r. ⌜ BodyStep rows count i v (r .step) (r .next) ⌝ }
+// What the block that starts at row `at` does to the variables, with the step of v, and the row that closes the block.
+pub fn moves_of(rows: &[[u32; 9]; 256], count: usize, at: usize, v: u8) -> Moves
+    requires { ⌜ Ready (rowsOf (now rows)) count at × (v < 16) ⌝ }
+    ensures { λ r. ⌜ MovesOf (rowsOf (now (rows .entry))) count at v r ⌝ }
 {
-    let row = rows[i];
-    let kind = row.kind;
-    let body = step_of(rows, count, i + 1, v);
-    let s = body.step;
-    let next = body.next;
-    Stepped {
-        step: s.then(row_step(kind, v)),
-        next: next,
+    let mut m = Moves {
+        set: [false; 16],
+        step: Step::STILL,
+        next: at,
+    };
+    let mut i = at;
+    while i < count {
+        let kind = kind_at(rows, i);
+        match shape_of(kind) {
+            Shape::Plain => {
+                m = with_row(m, kind, v);
+                i = i + 1;
+            }
+            Shape::Branch => {
+                let a = moves_of(rows, count, i + 1, v);
+                let e = a.next;
+                let closing = kind_at(rows, e);
+                let b = moves_of(rows, count, past_else(closing, e), v);
+                i = b.next + 1;
+                m = with_pick(m, a, b);
+            }
+            Shape::Loop => {
+                let body = moves_of(rows, count, i + 1, v);
+                i = body.next + 1;
+                m = with_loop(m, body, kind, v);
+            }
+            Shape::Close => {
+                return until(m, i);
+            }
+        }
     }
+    until(m, i)
+}
+
+// What the body of the loop at row i does, a for's step row included, with the step of v, and the loop's end.
+pub fn body_moves(rows: &[[u32; 9]; 256], count: usize, i: usize, v: u8) -> Moves
+    requires { ⌜ AtLoop (rowsOf (now rows)) count i × (v < 16) ⌝ }
+    ensures { λ r. ⌜ BodyMoves (rowsOf (now (rows .entry))) count i v r ⌝ }
+{
+    let kind = kind_at(rows, i);
+    let body = moves_of(rows, count, i + 1, v);
+    with_row(body, kind, v)
 }

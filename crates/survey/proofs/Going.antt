@@ -13,7 +13,8 @@ use Rattle.rules.specs.Turns.{turns}
 use Rattle.rules.specs.Figures.{ones, loopTicks, ticks, Line, line, lines}
 use Rattle.rules.specs.Questions.{Verdict, passed, refused, andThen, asked, tickLimit, ofLoop, loopsVerdict, blocksVerdict}
 use Rattle.steps.specs.declared.Shape.{Shape}
-use Rattle.steps.specs.Tree.{kindAt, blockAt, Whole, Ready, Walked, shapeOf, plainOf, formOf, testOf}
+use Rattle.table.specs.Code.{kindAt}
+use Rattle.steps.specs.Tree.{blockAt, Whole, Ready, Walked, shapeOf, plainOf, formOf, testOf}
 use Rattle.steps.specs.Body.{bodyAt}
 use Rattle.steps.proofs.Laws.{PickIs, LoopIs}
 use Rattle.steps.proofs.Walking.{Walking, plain-row, pick-row, loop-row}

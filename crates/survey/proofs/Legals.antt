@@ -22,10 +22,12 @@ use Rattle.rules.specs.Values.{lowest, highest}
 use Rattle.rules.specs.Blocks.{kindsOf}
 use Rattle.rules.specs.Bounds.{Near, FineOperand, FineChange, Fine}
 use Rattle.rules.specs.Scripts as scripts
-use Rattle.rules.specs.Scripts.{All, none, some, pairRange, pairRanges, scriptOf, ofBuilt, treeOf, OperandLimits, ChangeLimits, RowLimits, OperandBelow, RowBelow, Legal}
+use Rattle.rules.specs.Scripts.{Script, All, none, some, pairRange, pairRanges, scriptOf, ofBuilt, treeOf, OperandLimits, ChangeLimits, RowLimits, OperandBelow, RowBelow, Legal}
 use Rattle.rules.proofs.Laws.{kinds-length}
 use Rattle.rules.proofs.Nesting.{tree-of}
 use Rattle.rules.proofs.Rows.{rowAt, block-whole}
+use Rattle.table.specs.Code.{rowsOf, Packed}
+use Rattle.table.proofs.Laws.{packed-kinds}
 use Rattle.steps.specs.Tree.{kinds, blockAt, Whole, Ready}
 use Rattle.steps.proofs.Laws.{kind-is}
 use Rattle.ranges.specs.Env.{envOf}
@@ -121,3 +123,9 @@ module _ (ranges : List (List ℤ)) (vars : ℕ) (rows : List Row) (count : ℕ)
       let w = whole in
       let q : blockAt rows count 0 ≡ w .tree = file-is ∙ ap ofBuilt (w .builds) in
       subst (λ b. loopCount b ≤ 16) (sym q) (few-loops (kinds rows count) n (w .tree) e (w .builds))
+
+-- the table of a script's rows has its script
+pub same-script : (ranges : List (List ℤ)) (vars count : ℕ) (rows : List Row) (t : List (List ℕ)) → count ≤ length rows → count ≤ length t → Packed count rows t
+    → scriptOf ranges vars (rowsOf t) count ≡ scriptOf ranges vars rows count
+unfolding scriptOf
+same-script ranges vars count rows t h k p = ap {B = Script} (λ ks. record { ranges = take vars (pairRanges ranges); rows = ks }) (packed-kinds count rows t h k p)

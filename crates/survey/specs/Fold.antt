@@ -14,7 +14,8 @@ use Rattle.rules.specs.Turns.{turns}
 use Rattle.rules.specs.Figures.{ones, ticks, Line, isExact, lines}
 use Rattle.rules.specs.Questions.{Verdict, passed, refused, andThen, ofLoop, loopsVerdict, blocksVerdict}
 use Rattle.rules.specs.Report.{linesOf}
-use Rattle.steps.specs.Tree.{kindAt, blockAt, endAt, Ready, formOf, testOf}
+use Rattle.table.specs.Code.{kindAt}
+use Rattle.steps.specs.Tree.{blockAt, endAt, Ready, formOf, testOf}
 use Rattle.steps.specs.Sets.{setOf}
 use Rattle.steps.specs.Body.{bodyAt, EndsAt}
 use Rattle.ticks.specs.Capped.{capped, overOf, OverOf}

@@ -15,11 +15,12 @@ use rules::Operand;
 use rules::Row;
 use rules::Step;
 use steps::Shape;
-use steps::body_sets;
-use steps::body_step;
+use steps::body_moves;
 use steps::has;
 use steps::past_else;
 use steps::shape_of;
+use table::kind_at;
+use table::table_of;
 use ticks::LIMIT;
 use ticks::first_over;
 use ticks::loop_ticks;
@@ -37,6 +38,7 @@ ghost use Rattle.rules.specs.Ranges.{join, after};
 ghost use Rattle.rules.specs.Questions.{keeps};
 ghost use Rattle.rules.specs.Scripts.{scriptOf, Legal};
 ghost use Rattle.rules.specs.Report.{lineOf};
+ghost use Rattle.table.specs.Code.{rowsOf};
 ghost use Rattle.steps.specs.Tree.{blockAt, Ready};
 ghost use Rattle.steps.specs.Sets.{setOf};
 ghost use Rattle.steps.specs.Body.{AtLoop};
@@ -86,21 +88,19 @@ struct Turning {
 }
 
 // The loop at row i, from the ranges at its start.
-fn one_loop(rows: [Row; 256], count: usize, i: usize, begun: [[i32; 2]; 16]) -> Turning
-    requires { ⌜ AtLoop rows count i ⌝ }
-    ensures { λ r. ⌜ LoopOf rows count i (envOf begun) r ⌝ }
+fn one_loop(rows: &[[u32; 9]; 256], count: usize, i: usize, begun: [[i32; 2]; 16]) -> Turning
+    requires { ⌜ AtLoop (rowsOf (now rows)) count i ⌝ }
+    ensures { λ r. ⌜ LoopOf (rowsOf (now (rows .entry))) count i (envOf begun) r ⌝ }
 {
-    let row = rows[i];
-    let kind = row.kind;
+    let kind = kind_at(rows, i);
     let head = head_of(kind);
     let v = head.tested;
     let comparison = head.comparison;
     let limit = head.limit;
-    let body = body_sets(rows, count, i);
+    let body = body_moves(rows, count, i, v);
     let set = body.set;
     let next = body.next;
-    let moves = body_step(rows, count, i, v);
-    let step = moves.step;
+    let step = body.step;
     let s = span_at(begun, v);
     let n = bounds(begun, limit);
     let figure = ask(is_do(kind), step, keeps(limit, set), comparison, s, n);
@@ -116,14 +116,14 @@ fn one_loop(rows: [Row; 256], count: usize, i: usize, begun: [[i32; 2]; 16]) -> 
 
 // The ranges after a pick whose parts start at two rows.
 fn after_pick(
-    rows: [Row; 256],
+    rows: &[[u32; 9]; 256],
     count: usize,
     first: usize,
     second: usize,
     r: [[i32; 2]; 16],
 ) -> [[i32; 2]; 16]
-    requires { ⌜ Ready rows count first × Ready rows count second ⌝ }
-    ensures { λ x. ⌜ envOf x ≡ join (after (envOf r) (blockAt rows count first)) (after (envOf r) (blockAt rows count second)) ⌝ }
+    requires { ⌜ Ready (rowsOf (now rows)) count first × Ready (rowsOf (now rows)) count second ⌝ }
+    ensures { λ x. ⌜ envOf x ≡ join (after (envOf r) (blockAt (rowsOf (now (rows .entry))) count first)) (after (envOf r) (blockAt (rowsOf (now (rows .entry))) count second)) ⌝ }
 {
     let mut m: usize = 0;
     let a = after(rows, count, first, r, &mut m);
@@ -259,27 +259,26 @@ fn ended(t: Tally, i: usize) -> Tally
 
 // The block that starts at row `at`: its rows from the first, nested blocks by the same walk.
 fn walk(
-    rows: [Row; 256],
+    rows: &[[u32; 9]; 256],
     count: usize,
     at: usize,
     start: [[i32; 2]; 16],
     outer: u64,
     from: Tally,
 ) -> Tally
-    requires { ⌜ Walkable rows count at outer from ⌝ }
-    ensures { λ r. ⌜ Surveyed rows count at (envOf start) outer from r ⌝ }
+    requires { ⌜ Walkable (rowsOf (now rows)) count at outer from ⌝ }
+    ensures { λ r. ⌜ Surveyed (rowsOf (now (rows .entry))) count at (envOf start) outer from r ⌝ }
 {
     let mut r = start;
     let mut t = from;
     let mut i = at;
     while i < count {
-        let row = rows[i];
-        let kind = row.kind;
+        let kind = kind_at(rows, i);
         match shape_of(kind) {
             Shape::Plain => {
                 let x = after_row(r, kind);
                 r = x;
-                t = restarted(t, plus(t.spent, 1));
+                t.spent = plus(t.spent, 1);
                 i = i + 1;
             }
             Shape::Branch => {
@@ -288,8 +287,7 @@ fn walk(
                     return a;
                 }
                 let m = a.next;
-                let closer = rows[m];
-                let closing = closer.kind;
+                let closing = kind_at(rows, m);
                 let second = past_else(closing, m);
                 let b = walk(rows, count, second, r, outer, restarted(a, 0));
                 if b.number != 0 {
@@ -389,7 +387,8 @@ pub fn survey(rows: [Row; 256], count: usize, ranges: [[i32; 2]; 16], vars: usiz
         lines: none,
         next: 0,
     };
-    let t = walk(rows, count, 0, ranges, 1, empty);
+    let table = table_of(rows, count);
+    let t = walk(&table, count, 0, ranges, 1, empty);
     let no = first_no(t, count);
     let lines = t.lines;
     Figures {

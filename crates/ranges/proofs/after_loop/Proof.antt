@@ -1,35 +1,45 @@
 -- `ranges::after_loop` meets its contract.
-use borrow.Author.Needs.{needs}
+use denote.Ref.{now}
 use mathlib.Core.Path.{ap, _∙_}
 use Rattle.rules.specs.Steps.{step}
-use Rattle.rules.specs.Ranges.{outside}
-use Rattle.steps.specs.Tree.{kindAt, testOf}
+use Rattle.rules.specs.Ranges.{atStart, outside}
+use Rattle.table.specs.Code.{rowsOf}
+use Rattle.steps.specs.Tree.{formOf, testOf}
 use Rattle.steps.specs.Body.{bodyAt}
+use Rattle.ranges.specs.Env.{envOf}
+use borrow.Author.Needs.{needs}
 use Rattle.ranges.proofs.after_loop.Statement.{statement}
 use Rattle.ranges.proofs.after_loop.Tie as tie
 
 head-of-requires : tie.Need-head-of-requires
-head-of-requires c κs = c .before .pre .ready .fine _ (c .before .pre .inside)
+head-of-requires c κs = rw (c .kind-at .ensures) (c .before .pre .ready .fine _ (c .before .pre .inside))
 
 at-start-requires : tie.Need-at-start-requires
-at-start-requires c κs = c .before .before .pre .ready .fine _ (c .before .before .pre .inside)
+at-start-requires c κs = rw (c .before .kind-at .ensures) (c .before .before .pre .ready .fine _ (c .before .before .pre .inside))
 
 outside-requires : tie.Need-outside-requires
-outside-requires c κs = c .before .before .before .before .before .before .pre .ready .fine _ (c .before .before .before .before .before .before .pre .inside)
+outside-requires c κs = rw (c .before .before .before .before .kind-at .ensures) (c .before .before .before .before .before .pre .ready .fine _ (c .before .before .before .before .before .pre .inside))
 
 returns : tie.Need-returns
 returns c =
-    let h = c .before .before .before .before .before .head-of .ensures in
-    let b = c .before .before .before .body-sets .ensures in
-    let m = c .before .body-step .ensures in
-    let a = c .before .before .before .before .before .before .before .args in
-    let body = bodyAt (a .t1) (a .count) (a .i) in
+    let h = c .before .before .before .before .head-of .ensures in
+    let m = c .before .before .body-moves .ensures in
+    let a = c .before .before .before .before .before .before .args in
+    let k = c .before .before .before .before .before .kind-at .result in
+    let body = bodyAt (rowsOf (now (a .rows))) (a .count) (a .i) in
+    let begun = ap (λ ρ. outside ρ (testOf k) body) (c .before .before .before .at-start .ensures) in
     record {
-      value = c .outside .ensures .value body (b .value) (m .value ∙ ap (λ v. step v body) (h .tested)) ∙ ap (λ ρ. outside ρ (testOf (kindAt (a .t1) (a .i))) body) (c .before .before .before .before .at-start .ensures);
-      ends = b .ends;
+      value = c .outside .ensures .value body (m .sets) (m .moves ∙ ap (λ v. step v body) (h .tested)) ∙ begun ∙ ap (λ d. outside (atStart (formOf d) (testOf d) (envOf (a .r))) (testOf d) body) (c .before .before .before .before .before .kind-at .ensures);
+      ends = m .ends;
     }
 
 pub after-loop-spec : {M : Type 1} → statement M
 after-loop-spec =
     tie.close
-    (tie.spec (λ c. search needs) (λ c. search needs) head-of-requires at-start-requires (λ c κs. search needs) (λ c κs. search needs) outside-requires returns)
+    (tie.spec
+    (λ c κs. search needs)
+    head-of-requires
+    at-start-requires
+    (λ c κs. search needs)
+    outside-requires
+    returns)

@@ -3,25 +3,32 @@ use Prim.Native.Nat.{_≤_, _-_}
 use mathlib.Core.Path.{_≡_, sym, _∙_}
 use borrow.Author.Needs.{needs}
 use native.Mathlib.Omega.{arith}
-use lib.ListN.{length}
+use lib.ListN.{length, length-set}
+use mir.Syntax.{w32}
+use mir.Val.{SFits}
+use mir.Facts.{toZ-ofZ}
 use Rattle.rules.specs.Ranges.{join}
 use Rattle.ranges.specs.Env.{envOf, upTo}
-use Rattle.ranges.proofs.Envs.{up-none, up-put, up-all, join-at, join-far}
+use Rattle.ranges.proofs.Envs.{env-set, up-none, up-put, up-all, join-at, join-far}
 use Rattle.ranges.proofs.joined.Statement.{statement}
 use Rattle.ranges.proofs.joined.Tie as tie
 
 abbrev Inv-loop : tie.InvT-loop
-Inv-loop a b r₀ i₀ r i = (i ≤ 16) × (envOf r ≡ upTo i (join (envOf a) (envOf b)) (envOf a))
+Inv-loop a b r₀ i₀ r i = (i ≤ 16) × (length r ≡ 16) × (envOf r ≡ upTo i (join (envOf a) (envOf b)) (envOf a))
 
 abbrev μ-loop : tie.MeasureT-loop
 μ-loop a b r₀ i₀ r i = 16 - i
 
 loop-holds : tie.Need-loop-holds Inv-loop μ-loop
-loop-holds c = (search needs, sym (up-none _ _))
+loop-holds c = (search needs, search needs, sym (up-none _ _))
 
 loop-again : tie.Need-loop-again Inv-loop μ-loop
 loop-again c =
-    (search needs, c .put .ensures ∙ up-put _ _ _ _ _ (c .before .before .before .before .before .loop .inv .1) (join-at _ _ _ _ _ _ (c .before .joined-span .ensures) (c .before .before .before .span-at .ensures) (c .before .before .span-at2 .ensures)))
+    let l = c .before .before .before .before .before .before .loop in
+    let x = c .before .before .joined-span .result in
+    let f : SFits w32 (x .lo) = search needs in
+    let g : SFits w32 (x .hi) = search needs in
+    (search needs, simp length-set (l .inv .1), rw (toZ-ofZ f, toZ-ofZ g) (env-set (l .r) (l .i) (x .lo) (x .hi) (search needs)) ∙ up-put _ _ _ _ _ (l .inv .2) (join-at _ _ _ _ _ _ (c .before .before .joined-span .ensures) (c .before .before .before .before .span-at .ensures) (c .before .before .before .span-at2 .ensures)))
 
 returns : tie.Need-returns Inv-loop μ-loop
 returns c =
@@ -29,7 +36,7 @@ returns c =
     let e : c .before .loop .i ≡ 16 = omega arith in
     let la : length (s .a) ≡ 16 = search needs in
     let lb : length (s .b) ≡ 16 = search needs in
-    c .before .loop .inv .1 ∙ (rw e (up-all _ _ 16 (join-far (s .a) (s .b) la lb)))
+    c .before .loop .inv .2 ∙ (rw e (up-all _ _ 16 (join-far (s .a) (s .b) la lb)))
 
 pub joined-spec : {M : Type 1} → statement M
 joined-spec =
@@ -41,7 +48,9 @@ joined-spec =
     (λ c κs. search needs)
     (λ c κs. search needs)
     (λ c κs. search needs)
-    (λ c κs. search needs)
+    (λ c. search needs)
+    (λ c. search needs)
+    (λ c. search needs)
     (λ c. search needs)
     (λ c. search needs)
     loop-again

@@ -1,0 +1,11 @@
+use Rattle.table.specs.Code.{kindIn}
+use borrow.Author.Needs.{needs}
+use Rattle.table.proofs.bare_row.Statement.{statement}
+use Rattle.table.proofs.bare_row.Tie as tie
+
+returns : tie.Need-returns
+unfolding kindIn
+returns c = ((λ e. rw e), (λ e. rw e), (λ e. rw e))
+
+pub bare-row-spec : {M : Type 1} → statement M
+bare-row-spec = tie.close (tie.spec returns)

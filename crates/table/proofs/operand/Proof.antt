@@ -1,0 +1,14 @@
+use borrow.Author.Needs.{needs, sfits-of}
+use mir.Facts.{toZ-ofZ}
+use borrow.Author.Tests.{eq-eqb, ne-eqb}
+use Rattle.table.proofs.operand.Statement.{statement}
+use Rattle.table.proofs.operand.Tie as tie
+
+returns : tie.Need-returns
+returns c = rw (toZ-ofZ (sfits-of (c .constant .ok)), eq-eqb _ _ (c .before .if1 .taken), c .constant .ensures)
+
+returns-2 : tie.Need-returns-2
+returns-2 c = rw (ne-eqb _ _ (c .before .if1 .left), c .byte .ensures)
+
+pub operand-spec : {M : Type 1} → statement M
+operand-spec = tie.close (tie.spec (λ c κs. search needs) returns (λ c κs. search needs) returns-2)

@@ -1,0 +1,62 @@
+-- What a row of the table stands for: its numbers are the kind's tag; the variable; the first operand's tag and value; the comparison; the
+-- limit's tag and value; the change's tag and value.
+use mathlib.Core.Path.{_≡_}
+use mathlib.Core.Bool.{Bool, cond}
+use mathlib.Core.List.{List, [], map}
+use Prim.Native.Nat.{ℕ, _<_, min}
+use lib.Dec.{eqb}
+use lib.IntN.{ℤ, pos, _-ℤ_}
+use lib.ListN.{getD}
+use Rattle.rules.specs.declared.Row.{Row}
+use Rattle.rules.specs.declared.Kind.{Kind}
+use Rattle.rules.specs.declared.Kind.the-variants.{Set, Move, Cue, Pick, Else, End, While, Do, For}
+use Rattle.rules.specs.declared.Operand.{Operand}
+use Rattle.rules.specs.declared.Operand.the-variants.{Constant, Variable}
+use Rattle.rules.specs.declared.Comparison.{Comparison}
+use Rattle.rules.specs.declared.Comparison.the-variants.{Less, AtMost, Greater, AtLeast, Equal, Different}
+use Rattle.rules.specs.declared.Change.{Change}
+use Rattle.rules.specs.declared.Change.the-variants.{Add, Sub, Mul, Div}
+
+abbrev pub constantIn : ℕ → ℤ
+constantIn x = pos x -ℤ pos 2_147_483_648
+
+abbrev pub operandIn : ℕ → ℕ → Operand
+operandIn t x = cond (eqb t 0) (Constant (constantIn x)) (Variable (min x 255))
+
+abbrev pub comparisonIn : ℕ → Comparison
+comparisonIn t = cond (eqb t 0) Less (cond (eqb t 1) AtMost (cond (eqb t 2) Greater (cond (eqb t 3) AtLeast (cond (eqb t 4) Equal Different))))
+
+abbrev pub changeIn : ℕ → ℕ → Change
+changeIn t c = cond (eqb t 0) (Add c) (cond (eqb t 1) (Sub c) (cond (eqb t 2) (Mul c) (Div c)))
+
+abbrev pub number : List ℕ → ℕ → ℕ
+number e i = getD e i 0
+
+-- the kind by its tag
+unfoldable pub kindIn : List ℕ → Kind
+kindIn e =
+    let t = number e 0 in
+    let v = min (number e 1) 255 in
+    let start = operandIn (number e 2) (number e 3) in
+    let c = comparisonIn (number e 4) in
+    let limit = operandIn (number e 5) (number e 6) in
+    let d = changeIn (number e 7) (number e 8) in
+    cond (eqb t 0) End (cond (eqb t 1) Else (cond (eqb t 2) Pick (cond (eqb t 3) (Set v start) (cond (eqb t 4) (Move v d) (cond (eqb t 5) (Cue (number e 8)) (cond (eqb t 6) (While v c limit) (cond (eqb t 7) (Do v c limit) (For v start c limit d))))))))
+
+-- the rows that a table holds
+abbrev pub rowIn : List ℕ → Row
+rowIn e = record { kind = kindIn e }
+
+abbrev pub rowsOf : List (List ℕ) → List Row
+rowsOf t = map rowIn t
+
+-- the row that a read past the end gives
+abbrev pub nothing : Row
+nothing = record { kind = End }
+
+abbrev pub kindAt : List Row → ℕ → Kind
+kindAt rows i = getD rows i nothing .kind
+
+-- the table holds the first `count` rows
+abbrev pub Packed : ℕ → List Row → List (List ℕ) → Type 0
+Packed count rows t = (i : ℕ) → i < count → kindAt (rowsOf t) i ≡ kindAt rows i

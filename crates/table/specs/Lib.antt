@@ -1,0 +1,2 @@
+-- What the contracts of the table cite.
+pub mod Code
