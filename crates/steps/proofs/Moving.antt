@@ -1,9 +1,10 @@
 -- The walk that finds what a block does to the variables.
 use mathlib.Core.Path.{_≡_, ap, _∙_}
-use mathlib.Core.Bool.{cond}
+use mathlib.Core.Bool.{Bool, cond}
 use mathlib.Core.List.{List}
 use Prim.Native.Nat.{ℕ, _+_, _-_, _≤_, _<_}
 use native.Mathlib.Omega.{arith}
+use lib.ListN.{length}
 use Rattle.rules.specs.declared.Row.{Row}
 use Rattle.rules.specs.declared.Kind.{Kind}
 use Rattle.rules.specs.declared.Step.{Step}
@@ -13,78 +14,82 @@ use Rattle.rules.specs.Bounds.{Ends}
 use Rattle.rules.proofs.Ends.{ends-more, then-ends}
 use Rattle.table.specs.Code.{kindAt}
 use Rattle.steps.specs.declared.Shape.{Shape}
+use Rattle.steps.specs.declared.Stepped.{Stepped}
 use Rattle.steps.specs.declared.Moves.{Moves}
 use Rattle.steps.specs.Tree.{Ready, Walked, blockAt, shapeOf, plainOf}
-use Rattle.steps.specs.Sets.{setOf, none, withRow, bothOf, assignsFrom}
-use Rattle.steps.specs.Body.{AtLoop, MovesAre, MovesOf, BodyMoves}
+use Rattle.steps.specs.Sets.{setOf, none, withRow, bothOf, assignsFrom, SetIs}
+use Rattle.steps.specs.Body.{AtLoop, MovesOf, BodyMoves}
 use Rattle.steps.proofs.Laws.{PickIs, LoopIs}
 use Rattle.steps.proofs.Walking.{Walking, begin, loop-at, plain-row, pick-row, loop-row, at-close, at-last}
-use Rattle.steps.proofs.Sets.{from-none, from-plain, from-pick, from-loop, both-block, both-loop, body-set}
+use Rattle.steps.proofs.Sets.{from-none, from-plain, from-pick, from-loop, both-loop, body-set}
 use Rattle.steps.proofs.Stepping.{Stepping, starts-at, closed, ended, plain-step, pick-step, loop-step, row-ends, body-is}
 
-module _ (rows : List Row) (count at v : ℕ) where
-  -- at row i, m is what the rows from `at` do
-  pub record Moving (i : ℕ) (m : Moves) : Type 0 where
-    pub sets : Walking rows count assignsFrom at none i (setOf (m .set))
-    pub moves : Stepping rows count at v i (m .step)
+module _ (rows : List Row) (count at v : ℕ) (first : List Bool) where
+  -- at row i, the set has what the rows from `at` assign, and s is their step
+  pub record Moving (i : ℕ) (set : List Bool) (s : Step) : Type 0 where
+    pub long : length set ≡ 16
+    pub sets : Walking rows count assignsFrom at (setOf first) i (setOf set)
+    pub moves : Stepping rows count at v i s
 
   module _ (r : Ready rows count at) where
-    pub begins : (m : Moves) → setOf (m .set) ≡ none → m .step ≡ still → Moving at m
-    begins m p q = record { sets = rw p (begin rows count assignsFrom at none (r .within)); moves = rw q (starts-at rows count at v r) }
+    pub begins : length first ≡ 16 → Moving at first still
+    begins l = record { long = l; sets = begin rows count assignsFrom at (setOf first) (r .within); moves = starts-at rows count at v r }
 
-    module _ {i : ℕ} {m : Moves} (k : Moving i m) where
-      module _ {m' : Moves} {next : ℕ} where
-        pub with-plain : i < count → shapeOf (kindAt rows i) ≡ Shape.Plain → {d : Kind} → d ≡ kindAt rows i
-            → MovesAre m' (withRow (setOf (m .set)) (plainOf d)) (then (m .step) (rowStep v (plainOf d))) next → Moving (i + 1) m'
-        with-plain l h q a = record {
-          sets = rw (a .sets, q) (plain-row rows count assignsFrom at none (k .sets) l (r .built) h (from-plain _ _ _));
-          moves = rw (a .moves, q) (plain-step rows count at v r (k .moves) l h);
-        }
+    module _ {i : ℕ} {set : List Bool} {s : Step} (k : Moving i set s) where
+      pub with-plain : i < count → shapeOf (kindAt rows i) ≡ Shape.Plain → {d : Kind} → d ≡ kindAt rows i → {m : List Bool} → SetIs m (withRow (setOf set) (plainOf d))
+          → {t : Step} → t ≡ then s (rowStep v (plainOf d)) → Moving (i + 1) m t
+      with-plain l h q a b = record {
+        long = a .long;
+        sets = rw (a .value, q) (plain-row rows count assignsFrom at (setOf first) (k .sets) l (r .built) h (from-plain _ _ _));
+        moves = rw (b, q) (plain-step rows count at v r (k .moves) l h);
+      }
 
-        pub with-pick : i < count → {a b : Moves} {s : ℕ} → PickIs rows count i (a .next) s (b .next) → MovesOf rows count (i + 1) v a → MovesOf rows count s v b
-            → MovesAre m' (bothOf (bothOf (setOf (m .set)) (setOf (a .set))) (setOf (b .set))) (then (m .step) (either (a .step) (b .step))) next → Moving (b .next + 1) m'
-        with-pick l {a} {b} t f g h = record {
-          sets = rw (h .sets, f .sets .value, g .sets .value, both-block, both-block) (pick-row rows count assignsFrom at none (k .sets) l (r .built) t (from-pick _ _ _ _ _));
-          moves = rw (h .moves) (pick-step rows count at v r (k .moves) l t (f .moves, f .near) (g .moves, g .near));
-        }
+      pub with-pick : i < count → {a b : Stepped} {q : ℕ} {m n : List Bool} → PickIs rows count i (a .next) q (b .next) → MovesOf rows count (i + 1) v set m a → MovesOf rows count q v m n b
+          → {t : Step} → t ≡ then s (either (a .step) (b .step)) → Moving (b .next + 1) n t
+      with-pick l u f g h = record {
+        long = g .long;
+        sets = rw (g .sets .value, f .sets .value) (pick-row rows count assignsFrom at (setOf first) (k .sets) l (r .built) u (from-pick _ _ _ _ _));
+        moves = rw h (pick-step rows count at v r (k .moves) l u (f .moves, f .near) (g .moves, g .near));
+      }
 
-        pub with-loop : i < count → {b : Moves} → LoopIs rows count (kindAt rows i) i (b .next) → shapeOf (kindAt rows i) ≡ Shape.Loop → MovesOf rows count (i + 1) v b → {d : Kind} → d ≡ kindAt rows i
-            → MovesAre m' (bothOf (setOf (m .set)) (withRow (setOf (b .set)) (plainOf d))) (then (m .step) (cond (withRow (setOf (b .set)) (plainOf d) v) Unknown still)) next
-            → Moving (b .next + 1) m'
-        with-loop l {b} t h g q a =
-            let own = ap (λ f. withRow f (plainOf (kindAt rows i)) v) (g .sets .value) ∙ body-set v (kindAt rows i) h i (blockAt rows count (i + 1)) in
-            record {
-              sets = rw (a .sets, q, g .sets .value, both-loop) (loop-row rows count assignsFrom at none (k .sets) l (r .built) t (from-loop _ _ _ h _ _));
-              moves = rw (a .moves, q) (loop-step rows count at v r (k .moves) l t h own);
-            }
+      pub with-loop : i < count → {b : Stepped} → LoopIs rows count (kindAt rows i) i (b .next) → shapeOf (kindAt rows i) ≡ Shape.Loop
+          → {z n : List Bool} → setOf z ≡ none → MovesOf rows count (i + 1) v z n b → {d : Kind} → d ≡ kindAt rows i → {o : List Bool} → SetIs o (withRow (setOf n) (plainOf d))
+          → {m : List Bool} → SetIs m (bothOf (setOf set) (setOf o)) → {x : Bool} → x ≡ setOf o v → {t : Step} → t ≡ then s (cond x Unknown still) → Moving (b .next + 1) m t
+      with-loop l u h {z} {n} e g {d} q {o} a {m} c f p =
+          let own = a .value ∙ ap (λ d. withRow (setOf n) (plainOf d)) q ∙ ap (λ y. withRow y (plainOf (kindAt rows i))) (g .sets .value ∙ ap (λ y. assignsFrom y (blockAt rows count (i + 1))) e) in
+          record {
+            long = c .long;
+            sets = rw (c .value, own, both-loop) (loop-row rows count assignsFrom at (setOf first) (k .sets) l (r .built) u (from-loop _ _ _ h _ _));
+            moves = rw p (loop-step rows count at v r (k .moves) l u h (f ∙ ap (λ y. y v) own ∙ body-set v (kindAt rows i) h i (blockAt rows count (i + 1))));
+          }
 
       -- the walk is over
-      module _ {x : Moves} (a : MovesAre x (setOf (m .set)) (m .step) i) where
-        over : Walked rows count at i (setOf (m .set)) (assignsFrom none) → Walked rows count at i (m .step) (step v) × Ends (i - at) (m .step) → MovesOf rows count at v x
-        over s w = record { sets = rw (a .ends, a .sets) s; moves = rw (a .ends, a .moves) (w .0); near = rw (a .ends, a .moves) (w .1) }
+      over : Walked rows count at i (setOf set) (assignsFrom (setOf first)) → Walked rows count at i s (step v) × Ends (i - at) s → MovesOf rows count at v first set (record { step = s; next = i })
+      over x w = record { long = k .long; sets = x; moves = w .0; near = w .1 }
 
-        pub closes : i < count → shapeOf (kindAt rows i) ≡ Shape.Close → MovesOf rows count at v x
-        closes l h = over (at-close rows count assignsFrom at none (from-none _) (k .sets) l (r .built) h) (closed rows count at v r (k .moves) l h)
+      pub closes : i < count → shapeOf (kindAt rows i) ≡ Shape.Close → MovesOf rows count at v first set (record { step = s; next = i })
+      closes l h = over (at-close rows count assignsFrom at (setOf first) (from-none _) (k .sets) l (r .built) h) (closed rows count at v r (k .moves) l h)
 
-        pub ends : count ≤ i → MovesOf rows count at v x
-        ends l = over (at-last rows count assignsFrom at none (from-none _) (k .sets) (r .built) l) (ended rows count at v r (k .moves) l)
+      pub ends : count ≤ i → MovesOf rows count at v first set (record { step = s; next = i })
+      ends l = over (at-last rows count assignsFrom at (setOf first) (from-none _) (k .sets) (r .built) l) (ended rows count at v r (k .moves) l)
 
-module _ {rows : List Row} {count i v : ℕ} where
+module _ {rows : List Row} {count i v : ℕ} {a b : List Bool} where
   -- what `then` asks
-  pub near-room : count ≤ 256 → {m : Moves} → MovesOf rows count i v m → Ends 512 (m .step)
+  pub near-room : count ≤ 256 → {m : Stepped} → MovesOf rows count i v a b m → Ends 512 (m .step)
   near-room few {m} k = let w = k .moves in ends-more (m .next - i) 512 (omega arith) (m .step) (k .near)
 
 -- a loop's body: its rows, and a for's step row
-pub body-of : {rows : List Row} {count i v : ℕ} → AtLoop rows count i → {m : Moves} → MovesOf rows count (i + 1) v m → {d : Kind} → d ≡ kindAt rows i → {x : Moves}
-    → MovesAre x (withRow (setOf (m .set)) (plainOf d)) (then (m .step) (rowStep v (plainOf d))) (m .next) → BodyMoves rows count i v x
-body-of {rows} {count} {i} {v} s {m} k {d} q {x} a =
+pub body-of : {rows : List Row} {count i v : ℕ} → AtLoop rows count i → {m : Stepped} {z n : List Bool} → setOf z ≡ none → MovesOf rows count (i + 1) v z n m → {d : Kind} → d ≡ kindAt rows i
+    → {o : List Bool} → SetIs o (withRow (setOf n) (plainOf d)) → {t : Step} → t ≡ then (m .step) (rowStep v (plainOf d)) → BodyMoves rows count i v (record { set = o; step = t; next = m .next })
+body-of {rows} {count} {i} {v} s {m} {z} {n} e k {d} q {o} a {t} b =
     let w = k .sets in
     let l = loop-at _ _ _ (s .inside) (s .ready .built) (s .loops) (w .place) in
-    let n = m .next - (i + 1) in
+    let c = m .next - (i + 1) in
     let y = rowStep v (plainOf (kindAt rows i)) in
+    let own = a .value ∙ ap (λ d. withRow (setOf n) (plainOf d)) q ∙ ap (λ y. withRow y (plainOf (kindAt rows i))) (w .value ∙ ap (λ y. assignsFrom y (blockAt rows count (i + 1))) e) in
     record {
-      sets = λ u. ap (λ f. f u) (a .sets ∙ ap (λ p. withRow (setOf (m .set)) (plainOf p)) q ∙ ap (λ f. withRow f (plainOf (kindAt rows i))) (w .value)) ∙ body-set u (kindAt rows i) (s .loops) i (blockAt rows count (i + 1));
-      moves = rw (a .moves, q, k .moves .value) (body-is v (kindAt rows i) (s .loops) i (blockAt rows count (i + 1)));
-      near = rw (a .moves, q) (ends-more (n + 1) 256 (omega (arith, s .ready .few)) (then (m .step) y) (then-ends n 1 (m .step) y (k .near) (row-ends v (kindAt rows i) (s .ready .fine i (s .inside)))));
-      ends = rw (a .ends) (record { place = w .place; low = w .low; high = l .below });
+      sets = λ u. ap (λ f. f u) own ∙ body-set u (kindAt rows i) (s .loops) i (blockAt rows count (i + 1));
+      moves = rw (b, q, k .moves .value) (body-is v (kindAt rows i) (s .loops) i (blockAt rows count (i + 1)));
+      near = rw (b, q) (ends-more (c + 1) 256 (omega (arith, s .ready .few)) (then (m .step) y) (then-ends c 1 (m .step) y (k .near) (row-ends v (kindAt rows i) (s .ready .fine i (s .inside)))));
+      ends = record { place = w .place; low = w .low; high = l .below };
     }

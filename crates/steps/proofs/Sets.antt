@@ -128,11 +128,7 @@ pub no-set : (l : List Bool) → clear l ≡ true → setOf l ≡ none
 unfolding setOf none
 no-set l e = λ d w. none-in l e w d
 
--- a block's set, and a loop's, joined to those before
-pub both-block : (x : ℕ → Bool) (b : Block) → bothOf x (assignsFrom none b) ≡ assignsFrom x b
-unfolding bothOf assignsFrom none
-both-block x b = refl
-
+-- a loop's set, joined to those before
 pub both-loop : (x : ℕ → Bool) (b : Block) (p : Plain) → bothOf x (withRow (assignsFrom none b) p) ≡ withRow (assignsFrom x b) p
 unfolding bothOf assignsFrom none withRow
 both-loop x b p = λ d w. or-assoc (x w) (assigns w b) (sets w p) d
@@ -153,20 +149,24 @@ module _ (a b : List Bool) where
   joined-none l = record { some = omega arith; long = l; value = λ w. rw (le-ltb w 0 (omega arith)) (sym (or-false (setOf a w))) }
 
   module _ (i : ℕ) (r : List Bool) (h : i < 16) (j : Joined i r) where
-    one-at : (w : ℕ) (same : Bool) → eqb w i ≡ same → setOf (set r i (setOf a i || setOf b i)) w ≡ setOf a w || (ltb w (i + 1) && setOf b w)
+    -- variable i is as it was
+    as-before : setOf r i ≡ setOf a i
+    as-before = j .value i ∙ rw (le-ltb i i (omega arith)) (or-false (setOf a i))
+
+    one-at : (w : ℕ) (same : Bool) → eqb w i ≡ same → setOf (set r i (setOf r i || setOf b i)) w ≡ setOf a w || (ltb w (i + 1) && setOf b w)
     unfolding setOf
     one-at w true e =
         let q = eqb-true w i e in
-        rw (q, getD-set-same r i (getD a i false || getD b i false) false (omega (arith, j .long)), lt-ltb i (i + 1) (omega arith))
+        rw (q, getD-set-same r i (getD r i false || getD b i false) false (omega (arith, j .long)), lt-ltb i (i + 1) (omega arith), as-before)
     one-at w false e =
         let q = eqb-false w i e in
-        rw (getD-set-other r i w (getD a i false || getD b i false) false q) (j .value w ∙ ap (λ t. getD a w false || (t && getD b w false)) (later w (ltb w i) refl q))
+        rw (getD-set-other r i w (getD r i false || getD b i false) false q) (j .value w ∙ ap (λ t. getD a w false || (t && getD b w false)) (later w (ltb w i) refl q))
       where
         later : (w : ℕ) (t : Bool) → ltb w i ≡ t → (w ≡ i → ⊥) → ltb w i ≡ ltb w (i + 1)
         later w true e q = let l = ltb-true w i e in e ∙ sym (lt-ltb w (i + 1) (omega arith))
         later w false e q = let l = ltb-false w i e in e ∙ sym (le-ltb w (i + 1) (omega arith))
 
-    pub joined-next : Joined (i + 1) (set r i (setOf a i || setOf b i))
+    pub joined-next : Joined (i + 1) (set r i (setOf r i || setOf b i))
     joined-next = record { some = omega arith; long = simp length-set (j .long); value = λ w. one-at w (eqb w i) refl }
 
   pub joined-all : (r : List Bool) → length b ≡ 16 → Joined 16 r → setOf r ≡ bothOf (setOf a) (setOf b)

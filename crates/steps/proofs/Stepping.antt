@@ -1,6 +1,6 @@
 -- The walk that finds a variable's step: its loop, and how large the step's ends get.
 use mathlib.Core.Path.{_≡_, refl, sym}
-use mathlib.Core.Bool.{Bool, cond, _||_}
+use mathlib.Core.Bool.{Bool, false, cond, _||_}
 use mathlib.Core.List.{List}
 use Prim.Native.Nat.{ℕ, _+_, _-_, _≤_, _<_}
 use native.Mathlib.Omega.{arith}
@@ -13,7 +13,7 @@ use Rattle.rules.specs.declared.Kind.the-variants.{Set, Move, Cue, Pick, Else, 
 use Rattle.rules.specs.declared.Step.{Step}
 use Rattle.rules.specs.declared.Step.the-variants.{Add, Grow, Shrink, Unknown}
 use Rattle.rules.specs.Blocks.{changed, Plain, assign, Block, done, plain, pick, loop, snoc}
-use Rattle.rules.specs.Steps.{still, starts, assigns, sourceStep, changeStep, rowStep, then, either, stepFrom, step}
+use Rattle.rules.specs.Steps.{still, sets, starts, assigns, sourceStep, changeStep, rowStep, then, either, stepFrom, step}
 use Rattle.rules.specs.Bounds.{Ends, Fine}
 use Rattle.rules.proofs.Ends.{ends-more, ends-only, still-ends, then-ends, either-ends, change-ends}
 use Rattle.steps.specs.declared.Shape.{Shape}
@@ -130,3 +130,16 @@ body-is v End h i b = then-still (step v b)
 body-is v (While w c x) h i b = then-still (step v b)
 body-is v (Do w c x) h i b = then-still (step v b)
 body-is v (For w s c x d) h i b = sym (step-snoc still v b i (assign w (changed d)))
+
+-- a row that does not assign v leaves its step as it is
+pub step-stays : (s : Step) (v : ℕ) (k : Kind) → sets v (plainOf k) ≡ false → then s (rowStep v (plainOf k)) ≡ s
+unfolding rowStep sets
+step-stays s v (Set w x) h = rw h (then-still s)
+step-stays s v (Move w c) h = rw h (then-still s)
+step-stays s v (Cue n) h = then-still s
+step-stays s v Pick h = then-still s
+step-stays s v Else h = then-still s
+step-stays s v End h = then-still s
+step-stays s v (While w c x) h = then-still s
+step-stays s v (Do w c x) h = then-still s
+step-stays s v (For w y c x d) h = rw h (then-still s)

@@ -3,6 +3,7 @@ use mathlib.Core.Path.{_≡_}
 use mathlib.Core.Bool.{Bool}
 use mathlib.Core.List.{List}
 use Prim.Native.Nat.{ℕ, _+_, _-_, _≤_, _<_}
+use lib.ListN.{length}
 use Rattle.rules.specs.declared.Row.{Row}
 use Rattle.rules.specs.declared.Step.{Step}
 use Rattle.rules.specs.Blocks.{Block}
@@ -11,7 +12,8 @@ use Rattle.rules.specs.Bounds.{Ends}
 use Rattle.steps.specs.declared.Shape.{Shape}
 use Rattle.table.specs.Code.{kindAt}
 use Rattle.steps.specs.declared.Moves.{Moves}
-use Rattle.steps.specs.Sets.{setOf, none, assignsFrom}
+use Rattle.steps.specs.declared.Stepped.{Stepped}
+use Rattle.steps.specs.Sets.{setOf, assignsFrom}
 use Rattle.steps.specs.Tree.{Ready, Walked, blockAt, endAt, shapeOf, withLast}
 
 abbrev pub bodyAt : List Row → ℕ → ℕ → Block
@@ -29,15 +31,10 @@ pub record EndsAt (rows : List Row) (count i next : ℕ) : Type 0 where
   pub low : i + 1 ≤ next
   pub high : next < count
 
--- a set of variables, a step and a row, as the code has them
-pub record MovesAre (r : Moves) (set : ℕ → Bool) (st : Step) (next : ℕ) : Type 0 where
-  pub sets : setOf (r .set) ≡ set
-  pub moves : r .step ≡ st
-  pub ends : r .next ≡ next
-
--- what the block from row `at` does: the variables that it assigns, the step of v, the row that closes it
-pub record MovesOf (rows : List Row) (count at v : ℕ) (r : Moves) : Type 0 where
-  pub sets : Walked rows count at (r .next) (setOf (r .set)) (assignsFrom none)
+-- what the block from row `at` does: the variables that it assigns beside those before, the step of v, the row that closes it
+pub record MovesOf (rows : List Row) (count at v : ℕ) (before after : List Bool) (r : Stepped) : Type 0 where
+  pub long : length after ≡ 16
+  pub sets : Walked rows count at (r .next) (setOf after) (assignsFrom (setOf before))
   pub moves : Walked rows count at (r .next) (r .step) (step v)
   pub near : Ends (r .next - at) (r .step)
 

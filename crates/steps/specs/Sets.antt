@@ -1,9 +1,10 @@
 -- Sets of variables: an array of bools as the function of the variable's number.
+use mathlib.Core.Path.{_≡_}
 use mathlib.Core.Bool.{Bool, false, _||_}
 use mathlib.Core.List.{List}
 use Prim.Native.Nat.{ℕ}
 use lib.Dec.{eqb}
-use lib.ListN.{getD}
+use lib.ListN.{length, getD}
 use Rattle.rules.specs.Blocks.{Plain, Block}
 use Rattle.rules.specs.Steps.{sets, assigns}
 
@@ -30,3 +31,8 @@ bothOf x y w = x w || y w
 -- no variable
 unfoldable pub none : ℕ → Bool
 none w = false
+
+-- an array of 16 bools that holds the set x
+pub record SetIs (l : List Bool) (x : ℕ → Bool) : Type 0 where
+  pub long : length l ≡ 16
+  pub value : setOf l ≡ x

@@ -5,14 +5,14 @@ use rules::change_step;
 use rules::only;
 use table::kind_at;
 ghost use mathlib.Core.Path.{_≡_};
-ghost use mathlib.Core.Bool.{cond};
 ghost use Prim.Native.Nat.{_<_};
-ghost use Rattle.rules.specs.Steps.{still, then, either, rowStep};
-ghost use Rattle.rules.specs.Bounds.{Fine, Ends};
+ghost use lib.ListN.{length};
+ghost use Rattle.rules.specs.Steps.{sets, rowStep};
+ghost use Rattle.rules.specs.Bounds.{Fine};
 ghost use Rattle.table.specs.Code.{rowsOf};
 ghost use Rattle.steps.specs.Tree.{shapeOf, plainOf, pastElse, Ready};
-ghost use Rattle.steps.specs.Sets.{setOf, withOne, withRow, bothOf};
-ghost use Rattle.steps.specs.Body.{AtLoop, MovesAre, MovesOf, BodyMoves};
+ghost use Rattle.steps.specs.Sets.{setOf, withOne, withRow, bothOf, SetIs};
+ghost use Rattle.steps.specs.Body.{AtLoop, MovesOf, BodyMoves};
 
 // What a walk tells apart: a plain row, a pick, a loop's head, an else or end.
 pub enum Shape {
@@ -56,44 +56,41 @@ pub fn past_else(kind: Kind, at: usize) -> usize
     }
 }
 
-// The set with v.
-fn with(set: [bool; 16], v: u8) -> [bool; 16]
-    requires { ⌜ v < 16 ⌝ }
-    ensures { λ r. ⌜ setOf r ≡ withOne (setOf set) v ⌝ }
+// Adds v to the set.
+fn add(set: &mut [bool; 16], v: u8)
+    requires { ⌜ (v < 16) × (length (now set) ≡ 16) ⌝ }
+    ensures { λ _. ⌜ SetIs (now (set .exit)) (withOne (setOf (now (set .entry))) v) ⌝ }
 {
-    let mut next = set;
     let i = v as usize;
-    next[i] = true;
-    next
+    set[i] = true;
 }
 
-// The set with the variable that a plain row assigns, or a for's step row.
-pub fn marked(set: [bool; 16], kind: Kind) -> [bool; 16]
-    requires { ⌜ Fine kind ⌝ }
-    ensures { λ r. ⌜ setOf r ≡ withRow (setOf set) (plainOf kind) ⌝ }
+// Adds the variable that a plain row assigns, or a for's step row.
+fn add_row(set: &mut [bool; 16], kind: Kind)
+    requires { ⌜ Fine kind × (length (now set) ≡ 16) ⌝ }
+    ensures { λ _. ⌜ SetIs (now (set .exit)) (withRow (setOf (now (set .entry))) (plainOf kind)) ⌝ }
 {
     match kind {
-        Kind::Set(v, _) => with(set, v),
-        Kind::Move(v, _) => with(set, v),
-        Kind::Cue(_) => set,
-        Kind::Pick => set,
-        Kind::Else => set,
-        Kind::End => set,
-        Kind::While(_, _, _) => set,
-        Kind::Do(_, _, _) => set,
-        Kind::For(v, _, _, _, _) => with(set, v),
+        Kind::Set(v, _) => add(set, v),
+        Kind::Move(v, _) => add(set, v),
+        Kind::Cue(_) => {}
+        Kind::Pick => {}
+        Kind::Else => {}
+        Kind::End => {}
+        Kind::While(_, _, _) => {}
+        Kind::Do(_, _, _) => {}
+        Kind::For(v, _, _, _, _) => add(set, v),
     }
 }
 
-// The variables of two sets.
-fn union(a: [bool; 16], b: [bool; 16]) -> [bool; 16]
-    ensures { λ r. ⌜ setOf r ≡ bothOf (setOf a) (setOf b) ⌝ }
+// Adds a set.
+fn add_all(set: &mut [bool; 16], more: [bool; 16])
+    requires { ⌜ length (now set) ≡ 16 ⌝ }
+    ensures { λ _. ⌜ SetIs (now (set .exit)) (bothOf (setOf (now (set .entry))) (setOf more)) ⌝ }
 {
-    let mut r = a;
     for i in 0..16 {
-        r[i] = a[i] | b[i];
+        set[i] = set[i] | more[i];
     }
-    r
 }
 
 // Is v in the set?
@@ -123,119 +120,105 @@ pub fn row_step(kind: Kind, v: u8) -> Step
     }
 }
 
-// What rows do to the variables: those that they assign, the step of one variable, and the row after them.
+// Does a plain row assign v, or a for's step row?
+fn sets_it(kind: Kind, v: u8) -> bool
+    ensures { λ r. ⌜ r ≡ sets v (plainOf kind) ⌝ }
+{
+    match kind {
+        Kind::Set(w, _) => v == w,
+        Kind::Move(w, _) => v == w,
+        Kind::Cue(_) => false,
+        Kind::Pick => false,
+        Kind::Else => false,
+        Kind::End => false,
+        Kind::While(_, _, _) => false,
+        Kind::Do(_, _, _) => false,
+        Kind::For(w, _, _, _, _) => v == w,
+    }
+}
+
+// The step of one variable over some rows, and the row after them.
+pub struct Stepped {
+    pub step: Step,
+    pub next: usize,
+}
+
+// What the block that starts at row `at` does: its variables are added to the set; the step of v, and the row that closes the block.
+pub fn moves_of(
+    rows: &[[u32; 9]; 256],
+    count: usize,
+    at: usize,
+    v: u8,
+    set: &mut [bool; 16],
+) -> Stepped
+    requires { ⌜ Ready (rowsOf (now rows)) count at × (v < 16) × (length (now set) ≡ 16) ⌝ }
+    ensures { λ r. ⌜ MovesOf (rowsOf (now (rows .entry))) count at v (now (set .entry)) (now (set .exit)) r ⌝ }
+{
+    let mut step = Step::STILL;
+    let mut i = at;
+    while i < count {
+        let kind = kind_at(rows, i);
+        match shape_of(kind) {
+            Shape::Plain => {
+                add_row(set, kind);
+                if sets_it(kind, v) {
+                    step = step.then(row_step(kind, v));
+                }
+                i = i + 1;
+            }
+            Shape::Branch => {
+                let a = moves_of(rows, count, i + 1, v, set);
+                let e = a.next;
+                let closing = kind_at(rows, e);
+                let b = moves_of(rows, count, past_else(closing, e), v, set);
+                let x = a.step;
+                let y = b.step;
+                step = step.then(x.either(y));
+                i = b.next + 1;
+            }
+            Shape::Loop => {
+                let mut inner = [false; 16];
+                let body = moves_of(rows, count, i + 1, v, &mut inner);
+                add_row(&mut inner, kind);
+                step = step.then(only(has(inner, v), Step::Unknown));
+                add_all(set, inner);
+                i = body.next + 1;
+            }
+            Shape::Close => {
+                return Stepped {
+                    step: step,
+                    next: i,
+                };
+            }
+        }
+    }
+    Stepped {
+        step: step,
+        next: i,
+    }
+}
+
+// What a loop's body does: the variables that it assigns, the step of one variable, and the loop's end.
 pub struct Moves {
     pub set: [bool; 16],
     pub step: Step,
     pub next: usize,
 }
 
-// With a plain row, or a for's step row.
-fn with_row(m: Moves, kind: Kind, v: u8) -> Moves
-    requires { ⌜ Fine kind × Ends 512 (m .step) ⌝ }
-    ensures { λ r. ⌜ MovesAre r (withRow (setOf (m .set)) (plainOf kind)) (then (m .step) (rowStep v (plainOf kind))) (m .next) ⌝ }
-{
-    let set = m.set;
-    let step = m.step;
-    Moves {
-        set: marked(set, kind),
-        step: step.then(row_step(kind, v)),
-        next: m.next,
-    }
-}
-
-// With the two parts of a pick.
-fn with_pick(m: Moves, a: Moves, b: Moves) -> Moves
-    requires { ⌜ Ends 512 (m .step) × Ends 512 (either (a .step) (b .step)) ⌝ }
-    ensures { λ r. ⌜ MovesAre r (bothOf (bothOf (setOf (m .set)) (setOf (a .set))) (setOf (b .set))) (then (m .step) (either (a .step) (b .step))) (m .next) ⌝ }
-{
-    let set = m.set;
-    let step = m.step;
-    let first = a.set;
-    let second = b.set;
-    let x = a.step;
-    let y = b.step;
-    Moves {
-        set: union(union(set, first), second),
-        step: step.then(x.either(y)),
-        next: m.next,
-    }
-}
-
-// With a loop, from what its body does: its step is not known if the body assigns v.
-fn with_loop(m: Moves, body: Moves, kind: Kind, v: u8) -> Moves
-    requires { ⌜ Fine kind × Ends 512 (m .step) × (v < 16) ⌝ }
-    ensures { λ r. ⌜ MovesAre r (bothOf (setOf (m .set)) (withRow (setOf (body .set)) (plainOf kind))) (then (m .step) (cond (withRow (setOf (body .set)) (plainOf kind) v) Step.Unknown still)) (m .next) ⌝ }
-{
-    let set = m.set;
-    let step = m.step;
-    let own = body.set;
-    let inner = marked(own, kind);
-    Moves {
-        set: union(set, inner),
-        step: step.then(only(has(inner, v), Step::Unknown)),
-        next: m.next,
-    }
-}
-
-// The rows end at row i.
-fn until(m: Moves, i: usize) -> Moves
-    ensures { λ r. ⌜ MovesAre r (setOf (m .set)) (m .step) i ⌝ }
-{
-    let set = m.set;
-    let step = m.step;
-    Moves {
-        set: set,
-        step: step,
-        next: i,
-    }
-}
-
-// What the block that starts at row `at` does to the variables, with the step of v, and the row that closes the block.
-pub fn moves_of(rows: &[[u32; 9]; 256], count: usize, at: usize, v: u8) -> Moves
-    requires { ⌜ Ready (rowsOf (now rows)) count at × (v < 16) ⌝ }
-    ensures { λ r. ⌜ MovesOf (rowsOf (now (rows .entry))) count at v r ⌝ }
-{
-    let mut m = Moves {
-        set: [false; 16],
-        step: Step::STILL,
-        next: at,
-    };
-    let mut i = at;
-    while i < count {
-        let kind = kind_at(rows, i);
-        match shape_of(kind) {
-            Shape::Plain => {
-                m = with_row(m, kind, v);
-                i = i + 1;
-            }
-            Shape::Branch => {
-                let a = moves_of(rows, count, i + 1, v);
-                let e = a.next;
-                let closing = kind_at(rows, e);
-                let b = moves_of(rows, count, past_else(closing, e), v);
-                i = b.next + 1;
-                m = with_pick(m, a, b);
-            }
-            Shape::Loop => {
-                let body = moves_of(rows, count, i + 1, v);
-                i = body.next + 1;
-                m = with_loop(m, body, kind, v);
-            }
-            Shape::Close => {
-                return until(m, i);
-            }
-        }
-    }
-    until(m, i)
-}
-
-// What the body of the loop at row i does, a for's step row included, with the step of v, and the loop's end.
+// What the body of the loop at row i does, a for's step row included, with the step of v.
 pub fn body_moves(rows: &[[u32; 9]; 256], count: usize, i: usize, v: u8) -> Moves
     requires { ⌜ AtLoop (rowsOf (now rows)) count i × (v < 16) ⌝ }
     ensures { λ r. ⌜ BodyMoves (rowsOf (now (rows .entry))) count i v r ⌝ }
 {
     let kind = kind_at(rows, i);
-    let body = moves_of(rows, count, i + 1, v);
-    with_row(body, kind, v)
+    let mut set = [false; 16];
+    let body = moves_of(rows, count, i + 1, v, &mut set);
+    add_row(&mut set, kind);
+    let step = body.step;
+    let next = body.next;
+    Moves {
+        set: set,
+        step: step.then(row_step(kind, v)),
+        next: next,
+    }
 }

@@ -1,18 +1,29 @@
 -- `steps::body_moves` meets its contract.
+use mathlib.Core.Path.{refl, ap, _∙_}
+use Rattle.rules.specs.Steps.{then}
 use Rattle.steps.proofs.Walking.{ready}
+use Rattle.steps.proofs.Sets.{clear, no-set}
+use Rattle.steps.proofs.Stepping.{row-room}
 use Rattle.steps.proofs.Moving.{near-room, body-of}
 use borrow.Author.Needs.{needs}
 use Rattle.steps.proofs.body_moves.Statement.{statement}
 use Rattle.steps.proofs.body_moves.Tie as tie
 
 moves-of-requires : tie.Need-moves-of-requires
-moves-of-requires c κs = (ready (c .before .pre .0 .ready) (search needs), search needs)
+moves-of-requires c κs = (ready (c .before .before .pre .0 .ready) (search needs), search needs, search needs)
 
-with-row-requires : tie.Need-with-row-requires
-with-row-requires c κs = let s = c .before .before in let m = c .moves-of .ensures in (rw (c .before .kind-at .ensures) (s .pre .0 .ready .fine _ (s .pre .0 .inside)), near-room (s .pre .0 .ready .few) m)
+add-row-requires : tie.Need-add-row-requires
+add-row-requires c κs = (rw (c .before .before .before .kind-at .ensures) (c .before .before .before .before .pre .0 .ready .fine _ (c .before .before .before .before .pre .0 .inside)), c .before .moves-of .ensures .long)
+
+row-step-requires : tie.Need-row-step-requires
+row-step-requires c κs = rw (c .before .before .before .before .kind-at .ensures) (c .before .before .before .before .before .pre .0 .ready .fine _ (c .before .before .before .before .before .pre .0 .inside))
+
+then-requires : tie.Need-then-requires
+then-requires c κs = (near-room (c .before .before .before .before .before .before .pre .0 .ready .few) (c .before .before .before .moves-of .ensures), rw (c .row-step .ensures) (row-room (c .before .before .before .before .before .before .args .v) (c .before .before .before .before .before .kind-at .result) (rw (c .before .before .before .before .before .kind-at .ensures) (c .before .before .before .before .before .before .pre .0 .ready .fine _ (c .before .before .before .before .before .before .pre .0 .inside)))))
 
 returns : tie.Need-returns
-returns c = let s = c .before .before .before in body-of (s .pre .0) (c .before .moves-of .ensures) (c .before .before .kind-at .ensures) (c .with-row .ensures)
+unfolding clear
+returns c = body-of (c .before .before .before .before .before .before .before .pre .0) (no-set _ refl) (c .before .before .before .before .moves-of .ensures) (c .before .before .before .before .before .before .kind-at .ensures) (c .before .before .add-row .ensures) (c .then .ensures ∙ ap (then (c .before .before .before .before .moves-of .result .step)) (c .before .row-step .ensures))
 
 pub body-moves-spec : {M : Type 1} → statement M
 body-moves-spec =
@@ -21,5 +32,7 @@ body-moves-spec =
     (λ c κs. search needs)
     (λ c. search needs)
     moves-of-requires
-    with-row-requires
+    add-row-requires
+    row-step-requires
+    then-requires
     returns)
