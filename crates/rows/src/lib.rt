@@ -30,20 +30,6 @@ pub fn sooner(p: u32, q: u32) -> u32
     if p <= q { p } else { q }
 }
 
-// Nothing stands there.
-pub fn asks_end(w: Word) -> u32
-    ensures { λ r. ⌜ r ≡ asksEnd w ⌝ }
-{
-    match w {
-        Word::Missing => 0,
-        Word::Number(_) => 3,
-        Word::Variable(_) => 3,
-        Word::Compares(_) => 3,
-        Word::Keyword(_) => 3,
-        Word::Other => 3,
-    }
-}
-
 // Question 4 of a number.
 fn inside(lo: i32, hi: i32, z: i32) -> u32
     ensures { λ r. ⌜ r ≡ asksNumber lo hi (Word.Number z) ⌝ }
