@@ -203,18 +203,11 @@ pub fn asks_change(name: Name, w: Word) -> u32
     ensures { λ r. ⌜ r ≡ asksChange name w ⌝ }
 {
     match name {
-        Name::Set => 3,
         Name::Add => asks_number(0, 1_000_000_000, w),
         Name::Sub => asks_number(0, 1_000_000_000, w),
         Name::Mul => asks_number(1, 1_000_000_000, w),
         Name::Div => asks_number(1, 1_000_000_000, w),
-        Name::Cue => 3,
-        Name::Pick => 3,
-        Name::Else => 3,
-        Name::End => 3,
-        Name::While => 3,
-        Name::Do => 3,
-        Name::For => 3,
+        _ => 3,
     }
 }
 
@@ -224,18 +217,11 @@ pub fn change_of(name: Name, w: Word) -> Change
     ensures { λ r. ⌜ r ≡ changeOf name w ⌝ }
 {
     match name {
-        Name::Set => Change::Add(0),
         Name::Add => Change::Add(amount(w)),
         Name::Sub => Change::Sub(amount(w)),
         Name::Mul => Change::Mul(amount(w)),
         Name::Div => Change::Div(amount(w)),
-        Name::Cue => Change::Add(0),
-        Name::Pick => Change::Add(0),
-        Name::Else => Change::Add(0),
-        Name::End => Change::Add(0),
-        Name::While => Change::Add(0),
-        Name::Do => Change::Add(0),
-        Name::For => Change::Add(0),
+        _ => Change::Add(0),
     }
 }
 
