@@ -7,7 +7,6 @@ use lib.ListN.{length, getD, set, take}
 use Rattle.rules.specs.declared.Kind.{Kind}
 use Rattle.rules.specs.declared.Row.{Row}
 use Rattle.rules.specs.Blocks.{kindsOf}
-use Rattle.rules.specs.Figures.{Line}
 use Rattle.rules.specs.Nesting.{nest, nestRows}
 use Rattle.rules.specs.Calls.{loopRows}
 use Rattle.loops.specs.declared.Loops.{Loops}
@@ -39,8 +38,3 @@ pub record Listed (rows : List Kind) (all most : List ℕ) (l : Loops) : Type 0 
   pub heads : take (l .count) (l .rows) ≡ headsOf rows
   pub sums : take (l .count) (l .all) ≡ mapped (λ p. getD all p 0) (headsOf rows)
   pub mosts : take (l .count) (l .most) ≡ mapped (λ p. getD most p 0) (headsOf rows)
-
--- the head rows of the report's lines
-unfoldable pub lineRows : List Line → List ℕ
-lineRows [] = []
-lineRows (l ∷ ls) = l .row ∷ lineRows ls

@@ -25,7 +25,6 @@ use Rattle.rules.specs.File.{Reading, read, refused, Rows, unless, checked, bar
 use Rattle.rules.specs.File
 use Rattle.rules.proofs.Laws.{kinds-length}
 use Rattle.text.specs.Words.{before}
-use Rattle.text.proofs.Laws.{before-within}
 use Rattle.nesting.specs.declared.Blocks.{Blocks}
 use Rattle.nesting.specs.declared.Placed.{Placed}
 use Rattle.nesting.specs.Open.{nestOf, nestedOf, Shallow}

@@ -105,6 +105,7 @@ fn exact_name(exact: bool) -> Piece
     }
     Piece::Fixed(Label::Most)
 }
+
 // A line of a key and a number.
 fn key_line(key: Label, n: u64) -> [Piece; 17]
     ensures { λ r. ⌜ joined (pieceTexts r) ≡ keyLine (labelText key) n ⌝ }

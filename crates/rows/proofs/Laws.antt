@@ -13,11 +13,14 @@ use Rattle.rules.specs.declared.Word.the-variants.{Number, Variable}
 use Rattle.rules.specs.declared.RowRead.{RowRead}
 use Rattle.rules.specs.declared.RowRead.the-variants.{Read, Wrong}
 use Rattle.rules.specs.Values.{highest}
-use Rattle.rules.specs.File.{sooner, asksEnd, asksNumber, asksVariable, asksOperand, asksStep, asksOne, asksTest, asksFor, checked, variableOf, comparisonOf, operandOf, setRow, moveRow, cueRow, bareRow, whileRow, doRow, forRow, namedRow, firstWord, rowOf}
+use Rattle.rules.specs.File.{sooner, asksEnd, asksNumber, asksVariable, asksOperand, asksChange, asksStep, asksOne, asksTest, asksFor, checked, variableOf, comparisonOf, operandOf, changeOf, setRow, moveRow, cueRow, bareRow, whileRow, doRow, forRow, namedRow, firstWord, rowOf}
 use lib.Signed.{_≤ℤ_}
 use Rattle.ints.proofs.Parts.{ints}
 use Rattle.rules.specs.declared.Word.the-variants.{Missing, Compares, Keyword, Other}
-use mathlib.Core.List.{List}
+use mathlib.Core.List.{List, [], _∷_}
+use types.Run.{OneOf, miss}
+use denote.Enum.Declared.{tagOf}
+use Rattle.rules.proofs.Name.{the-type}
 use lib.ListN.{drop}
 use Rattle.text.specs.Words.{cut, following, Next}
 use Rattle.text.specs.declared.Found.{Found}
@@ -27,6 +30,7 @@ use Rattle.rows.specs.declared.Line.{Line}
 use Rattle.rules.specs.declared.Comparison.{Comparison}
 use Rattle.rules.specs.declared.Operand.{Operand}
 use Rattle.rules.specs.declared.Name.{Name}
+use Rattle.rules.specs.declared.Change.{Change}
 use Rattle.rows.specs.Words.{after, Lined, RowLine}
 use Rattle.rules.proofs.Reading.{variable-yes, number-yes, sooner-yes}
 
@@ -96,6 +100,24 @@ number-wider lo hi low high (Variable v) a b e = e
 number-wider lo hi low high (Compares c) a b e = e
 number-wider lo hi low high (Keyword n) a b e = e
 number-wider lo hi low high Other a b e = e
+
+-- the names that are no arithmetic row's, by their places in `Name`
+abbrev others : List ℕ
+others = 0 ∷ 5 ∷ 6 ∷ 7 ∷ 8 ∷ 9 ∷ 10 ∷ 11 ∷ []
+
+pub no-change : (n : Name) (w : Word) → OneOf others (tagOf the-type n) → (3 ≡ asksChange n w) × (Change.Add 0 ≡ changeOf n w)
+no-change Name.Set w o = (refl, refl)
+no-change Name.Add w o = absurd (miss others 1 tt o)
+no-change Name.Sub w o = absurd (miss others 2 tt o)
+no-change Name.Mul w o = absurd (miss others 3 tt o)
+no-change Name.Div w o = absurd (miss others 4 tt o)
+no-change Name.Cue w o = (refl, refl)
+no-change Name.Pick w o = (refl, refl)
+no-change Name.Else w o = (refl, refl)
+no-change Name.End w o = (refl, refl)
+no-change Name.While w o = (refl, refl)
+no-change Name.Do w o = (refl, refl)
+no-change Name.For w o = (refl, refl)
 
 -- the words of a test, and of a for, whose questions all have yes
 pub test-words : (vars : ℕ) (w : ℕ → Word) (q : ℕ) → q ≡ asksTest vars w → q ≡ 0 → (asksVariable vars (w 1) ≡ 0) × (asksOperand vars (w 3) ≡ 0)

@@ -30,20 +30,6 @@ pub fn sooner(p: u32, q: u32) -> u32
     if p <= q { p } else { q }
 }
 
-// Nothing stands there.
-pub fn asks_end(w: Word) -> u32
-    ensures { λ r. ⌜ r ≡ asksEnd w ⌝ }
-{
-    match w {
-        Word::Missing => 0,
-        Word::Number(_) => 3,
-        Word::Variable(_) => 3,
-        Word::Compares(_) => 3,
-        Word::Keyword(_) => 3,
-        Word::Other => 3,
-    }
-}
-
 // Question 4 of a number.
 fn inside(lo: i32, hi: i32, z: i32) -> u32
     ensures { λ r. ⌜ r ≡ asksNumber lo hi (Word.Number z) ⌝ }
@@ -217,18 +203,11 @@ pub fn asks_change(name: Name, w: Word) -> u32
     ensures { λ r. ⌜ r ≡ asksChange name w ⌝ }
 {
     match name {
-        Name::Set => 3,
         Name::Add => asks_number(0, 1_000_000_000, w),
         Name::Sub => asks_number(0, 1_000_000_000, w),
         Name::Mul => asks_number(1, 1_000_000_000, w),
         Name::Div => asks_number(1, 1_000_000_000, w),
-        Name::Cue => 3,
-        Name::Pick => 3,
-        Name::Else => 3,
-        Name::End => 3,
-        Name::While => 3,
-        Name::Do => 3,
-        Name::For => 3,
+        _ => 3,
     }
 }
 
@@ -238,18 +217,11 @@ pub fn change_of(name: Name, w: Word) -> Change
     ensures { λ r. ⌜ r ≡ changeOf name w ⌝ }
 {
     match name {
-        Name::Set => Change::Add(0),
         Name::Add => Change::Add(amount(w)),
         Name::Sub => Change::Sub(amount(w)),
         Name::Mul => Change::Mul(amount(w)),
         Name::Div => Change::Div(amount(w)),
-        Name::Cue => Change::Add(0),
-        Name::Pick => Change::Add(0),
-        Name::Else => Change::Add(0),
-        Name::End => Change::Add(0),
-        Name::While => Change::Add(0),
-        Name::Do => Change::Add(0),
-        Name::For => Change::Add(0),
+        _ => Change::Add(0),
     }
 }
 

@@ -35,15 +35,6 @@ pub before-end : (b : ℕ) (s : List ℕ) (i : ℕ) → length s ≤ i → befor
 unfolding before
 before-end b s i h = rw (drop-of-length-le s)
 
-pub before-within : (b : ℕ) (s : List ℕ) → before b s ≤ length s
-unfolding before
-before-within b [] = omega arith
-before-within b (x ∷ s) = go (eqb x b) (before-within b s)
-  where
-    go : (t : Bool) → before b s ≤ length s → cond t 0 (suc (before b s)) ≤ suc (length s)
-    go true h = omega arith
-    go false h = omega arith
-
 -- ---- where a word ends
 pub stop-here : (s : List ℕ) (i : ℕ) → i < length s → stops (getD s i 0) ≡ true → stop (drop i s) ≡ 0
 unfolding stop
@@ -141,17 +132,6 @@ starts-other w s i h k e = rw (drop-cons w i 0 h, drop-cons s i 0 k, ne-eqb _ _ 
 pub starts-end : (w s : List ℕ) (i : ℕ) → length w ≤ i → startsWith (drop i w) (drop i s) ≡ true
 unfolding startsWith
 starts-end w s i h = rw (drop-of-length-le w)
-
--- a text that starts with a key is as long at least
-pub starts-length : (w s : List ℕ) → startsWith w s ≡ true → length w ≤ length s
-unfolding startsWith
-starts-length [] s e = omega arith
-starts-length (k ∷ w) [] e = absurd (let z : _≡_ {A = ℕ} 0 1 = cc in omega arith)
-starts-length (k ∷ w) (b ∷ s) e = go (eqb b k) (λ h. starts-length w s h) e
-  where
-    go : (t : Bool) → (startsWith w s ≡ true → length w ≤ length s) → cond t (startsWith w s) false ≡ true → suc (length w) ≤ suc (length s)
-    go true ih h = omega (arith, ih h)
-    go false ih h = absurd (let z : _≡_ {A = ℕ} 0 1 = cc in omega arith)
 
 -- ---- digits
 pub all-more : (s : List ℕ) (i : ℕ) → i < length s → isDigit (getD s i 0) ≡ true → allDigits (drop i s) ≡ allDigits (drop (suc i) s)

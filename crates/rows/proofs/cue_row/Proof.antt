@@ -15,14 +15,14 @@ use Rattle.rows.proofs.cue_row.Statement.{statement}
 use Rattle.rows.proofs.cue_row.Tie as tie
 
 -- the words read, one after the other
-reach1 : (c : tie.After-sooner) → Reached (now (c .before .before .before .before .before .args .s)) (c .before .before .before .before .before .args .at) 1 (c .before .before .before .next-word .result .end)
+reach1 : (c : tie.After-sooner) → let a = c .before .before .before .before .before .args in Reached (now (a .s)) (a .at) 1 (c .before .before .before .next-word .result .end)
 reach1 c = reach-more _ _ 0 _ (reach-none _ _ (c .before .before .before .before .before .pre)) _ (c .before .before .before .next-word .ensures)
 
-word1 : (c : tie.After-sooner) → c .before .before .before .next-word .result .word ≡ after Missing (drop (c .before .before .before .before .before .args .at) (now (c .before .before .before .before .before .args .s))) 1
+word1 : (c : tie.After-sooner) → let a = c .before .before .before .before .before .args in c .before .before .before .next-word .result .word ≡ after Missing (drop (a .at) (now (a .s))) 1
 word1 c = reach-word _ _ 0 _ (reach-none _ _ (c .before .before .before .before .before .pre)) _ (c .before .before .before .next-word .ensures)
 
 -- the words' questions
-asked : (c : tie.After-sooner) → let w = after Missing (drop (c .before .before .before .before .before .args .at) (now (c .before .before .before .before .before .args .s))) in c .sooner .result ≡ sooner (asksNumber (pos 0) (pos 9_999) (w 1)) (asksEnd (w 2))
+asked : (c : tie.After-sooner) → let a = c .before .before .before .before .before .args in let w = after Missing (drop (a .at) (now (a .s))) in c .sooner .result ≡ sooner (asksNumber (pos 0) (pos 9_999) (w 1)) (asksEnd (w 2))
 asked c = rw (c .sooner .ensures, c .before .before .asks-number .ensures, c .before .asks-last .ensures, word1 c, reach-last _ _ 1 _ (reach1 c))
 
 amount-requires : tie.Need-amount-requires
@@ -33,11 +33,11 @@ returns : tie.Need-returns
 unfolding cueRow
 returns c = let q = c .before .before in
     let z = sym (asked q) ∙ c .before .if1 .taken in
-    lined-read _ _ 1 _ (cueRow ((c .before .before .before .before .before .before .before .args) .vars)) (reach1 q) _ (checked-read _ _ _ _ (asked q) (c .before .if1 .taken) (rw (c .amount .ensures, word1 q))) (sooner-yes _ _ z .1)
+    lined-read _ _ 1 _ (cueRow (c .before .before .before .before .before .before .before .args .vars)) (reach1 q) _ (checked-read _ _ _ _ (asked q) (c .before .if1 .taken) (rw (c .amount .ensures, word1 q))) (sooner-yes _ _ z .1)
 
 returns-2 : tie.Need-returns-2
 unfolding cueRow
-returns-2 c = lined-wrong _ _ _ (cueRow ((c .before .before .before .before .before .before .args) .vars)) _ (checked-wrong _ _ _ (asked (c .before)) (c .if1 .left))
+returns-2 c = lined-wrong _ _ _ (cueRow (c .before .before .before .before .before .before .args .vars)) _ (checked-wrong _ _ _ (asked (c .before)) (c .if1 .left))
 
 pub cue-row-spec : {M : Type 1} → statement M
 cue-row-spec =

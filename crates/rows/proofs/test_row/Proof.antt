@@ -12,26 +12,26 @@ use Rattle.rows.proofs.test_row.Statement.{statement}
 use Rattle.rows.proofs.test_row.Tie as tie
 
 -- the words read, one after the other
-reach1 : (c : tie.After-sooner3) → Reached (now (c .before .before .before .before .before .before .before .before .before .before .before .args .s)) (c .before .before .before .before .before .before .before .before .before .before .before .args .at) 1 (c .before .before .before .before .before .before .before .before .before .next-word .result .end)
+reach1 : (c : tie.After-sooner3) → let a = c .before .before .before .before .before .before .before .before .before .before .before .args in Reached (now (a .s)) (a .at) 1 (c .before .before .before .before .before .before .before .before .before .next-word .result .end)
 reach1 c = reach-more _ _ 0 _ (reach-none _ _ (c .before .before .before .before .before .before .before .before .before .before .before .pre .0)) _ (c .before .before .before .before .before .before .before .before .before .next-word .ensures)
 
-word1 : (c : tie.After-sooner3) → c .before .before .before .before .before .before .before .before .before .next-word .result .word ≡ after Missing (drop (c .before .before .before .before .before .before .before .before .before .before .before .args .at) (now (c .before .before .before .before .before .before .before .before .before .before .before .args .s))) 1
+word1 : (c : tie.After-sooner3) → let a = c .before .before .before .before .before .before .before .before .before .before .before .args in c .before .before .before .before .before .before .before .before .before .next-word .result .word ≡ after Missing (drop (a .at) (now (a .s))) 1
 word1 c = reach-word _ _ 0 _ (reach-none _ _ (c .before .before .before .before .before .before .before .before .before .before .before .pre .0)) _ (c .before .before .before .before .before .before .before .before .before .next-word .ensures)
 
-reach2 : (c : tie.After-sooner3) → Reached (now (c .before .before .before .before .before .before .before .before .before .before .before .args .s)) (c .before .before .before .before .before .before .before .before .before .before .before .args .at) 2 (c .before .before .before .before .before .before .before .before .next-word2 .result .end)
+reach2 : (c : tie.After-sooner3) → let a = c .before .before .before .before .before .before .before .before .before .before .before .args in Reached (now (a .s)) (a .at) 2 (c .before .before .before .before .before .before .before .before .next-word2 .result .end)
 reach2 c = reach-more _ _ 1 _ (reach1 c) _ (c .before .before .before .before .before .before .before .before .next-word2 .ensures)
 
-word2 : (c : tie.After-sooner3) → c .before .before .before .before .before .before .before .before .next-word2 .result .word ≡ after Missing (drop (c .before .before .before .before .before .before .before .before .before .before .before .args .at) (now (c .before .before .before .before .before .before .before .before .before .before .before .args .s))) 2
+word2 : (c : tie.After-sooner3) → let a = c .before .before .before .before .before .before .before .before .before .before .before .args in c .before .before .before .before .before .before .before .before .next-word2 .result .word ≡ after Missing (drop (a .at) (now (a .s))) 2
 word2 c = reach-word _ _ 1 _ (reach1 c) _ (c .before .before .before .before .before .before .before .before .next-word2 .ensures)
 
-reach3 : (c : tie.After-sooner3) → Reached (now (c .before .before .before .before .before .before .before .before .before .before .before .args .s)) (c .before .before .before .before .before .before .before .before .before .before .before .args .at) 3 (c .before .before .before .before .before .before .before .next-word3 .result .end)
+reach3 : (c : tie.After-sooner3) → let a = c .before .before .before .before .before .before .before .before .before .before .before .args in Reached (now (a .s)) (a .at) 3 (c .before .before .before .before .before .before .before .next-word3 .result .end)
 reach3 c = reach-more _ _ 2 _ (reach2 c) _ (c .before .before .before .before .before .before .before .next-word3 .ensures)
 
-word3 : (c : tie.After-sooner3) → c .before .before .before .before .before .before .before .next-word3 .result .word ≡ after Missing (drop (c .before .before .before .before .before .before .before .before .before .before .before .args .at) (now (c .before .before .before .before .before .before .before .before .before .before .before .args .s))) 3
+word3 : (c : tie.After-sooner3) → let a = c .before .before .before .before .before .before .before .before .before .before .before .args in c .before .before .before .before .before .before .before .next-word3 .result .word ≡ after Missing (drop (a .at) (now (a .s))) 3
 word3 c = reach-word _ _ 2 _ (reach2 c) _ (c .before .before .before .before .before .before .before .next-word3 .ensures)
 
 -- the words' questions
-asked : (c : tie.After-sooner3) → let w = after Missing (drop (c .before .before .before .before .before .before .before .before .before .before .before .args .at) (now (c .before .before .before .before .before .before .before .before .before .before .before .args .s))) in c .sooner3 .result ≡ asksTest (c .before .before .before .before .before .before .before .before .before .before .before .args .vars) w
+asked : (c : tie.After-sooner3) → let a = c .before .before .before .before .before .before .before .before .before .before .before .args in let w = after Missing (drop (a .at) (now (a .s))) in c .sooner3 .result ≡ asksTest (a .vars) w
 unfolding asksTest
 asked c = rw (c .sooner3 .ensures, c .before .asks-variable .ensures, c .before .before .sooner2 .ensures, c .before .before .before .asks-comparison .ensures, c .before .before .before .before .sooner .ensures, c .before .before .before .before .before .before .asks-operand .ensures, c .before .before .before .before .before .asks-last .ensures, word1 c, word2 c, word3 c, reach-last _ _ 3 _ (reach3 c))
 
@@ -43,10 +43,12 @@ variable-of-requires c κs = (c .before .before .before .before .before .before 
 
 returns : tie.Need-returns
 returns c = let q = c .before .before .before .before .before in
-    lined-read _ _ 3 _ (λ w. cond (c .before .before .before .before .before .before .before .before .before .before .before .before .before .before .before .before .args .after) (doRow (c .before .before .before .before .before .before .before .before .before .before .before .before .before .before .before .before .args .vars) w) (whileRow (c .before .before .before .before .before .before .before .before .before .before .before .before .before .before .before .before .args .vars) w)) (reach3 q) _ (test-read (c .before .before .before .before .before .before .before .before .before .before .before .before .before .before .before .before .args .after) (c .before .before .before .before .before .before .before .before .before .before .before .before .before .before .before .before .args .vars) (after Missing (drop (c .before .before .before .before .before .before .before .before .before .before .before .before .before .before .before .before .args .at) (now (c .before .before .before .before .before .before .before .before .before .before .before .before .before .before .before .before .args .s)))) _ _ _ _ _ (asked q) (c .before .before .before .before .if1 .taken) (c .test .ensures) (c .before .before .variable-of .ensures ∙ ap variableOf (word1 q)) (c .before .comparison-of .ensures ∙ ap comparisonOf (word2 q)) (c .before .before .before .operand-of .ensures ∙ ap operandOf (word3 q))) (test-last _ _ _ (asked q) (c .before .before .before .before .if1 .taken))
+    let a = c .before .before .before .before .before .before .before .before .before .before .before .before .before .before .before .before .args in
+    lined-read _ _ 3 _ (λ w. cond (a .after) (doRow (a .vars) w) (whileRow (a .vars) w)) (reach3 q) _ (test-read (a .after) (a .vars) (after Missing (drop (a .at) (now (a .s)))) _ _ _ _ _ (asked q) (c .before .before .before .before .if1 .taken) (c .test .ensures) (c .before .before .variable-of .ensures ∙ ap variableOf (word1 q)) (c .before .comparison-of .ensures ∙ ap comparisonOf (word2 q)) (c .before .before .before .operand-of .ensures ∙ ap operandOf (word3 q))) (test-last _ _ _ (asked q) (c .before .before .before .before .if1 .taken))
 
 returns-2 : tie.Need-returns-2
-returns-2 c = lined-wrong _ _ _ (λ w. cond (c .before .before .before .before .before .before .before .before .before .before .before .before .args .after) (doRow (c .before .before .before .before .before .before .before .before .before .before .before .before .args .vars) w) (whileRow (c .before .before .before .before .before .before .before .before .before .before .before .before .args .vars) w)) _ (test-wrong (c .before .before .before .before .before .before .before .before .before .before .before .before .args .after) (c .before .before .before .before .before .before .before .before .before .before .before .before .args .vars) (after Missing (drop (c .before .before .before .before .before .before .before .before .before .before .before .before .args .at) (now (c .before .before .before .before .before .before .before .before .before .before .before .before .args .s)))) _ (asked (c .before)) (c .if1 .left))
+returns-2 c = let a = c .before .before .before .before .before .before .before .before .before .before .before .before .args in
+    lined-wrong _ _ _ (λ w. cond (a .after) (doRow (a .vars) w) (whileRow (a .vars) w)) _ (test-wrong (a .after) (a .vars) (after Missing (drop (a .at) (now (a .s)))) _ (asked (c .before)) (c .if1 .left))
 
 pub test-row-spec : {M : Type 1} → statement M
 test-row-spec =

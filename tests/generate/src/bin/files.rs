@@ -1,12 +1,13 @@
-//! files DIRECTORY: writes the hand-made script files and their answers. Every answer in the table below was
-//! found by thought from document 01; the program stops if the oracle's differs.
+//! files SCRIPTS ANSWERS: writes the hand-made script files and their answers into these directories. Every answer in
+//! the table below was found by thought from document 01; the program stops if the oracle's differs.
 //!
 //! An answer is "refused NUMBER PLACE", or the loop lines and the ticks of the report, with commas between.
 
 use std::path::Path;
 
 struct Files<'d> {
-    directory: &'d Path,
+    scripts: &'d Path,
+    answers: &'d Path,
     count: usize,
     wrong: usize,
 }
@@ -43,10 +44,10 @@ impl Files<'_> {
             self.wrong += 1;
             println!("{name}: thought\n{expected}but the oracle says\n{answer}");
         }
-        let script = self.directory.join(format!("{name}.script"));
+        let script = self.scripts.join(format!("{name}.script"));
         assert!(!script.exists(), "{name} twice");
         std::fs::write(script, file).unwrap();
-        std::fs::write(self.directory.join(format!("{name}.expected")), answer).unwrap();
+        std::fs::write(self.answers.join(format!("{name}.expected")), answer).unwrap();
         self.count += 1;
     }
 
@@ -70,8 +71,9 @@ const L: i64 = 1_000_000_000;
 const ALL: (i64, i64) = (-L, L);
 
 fn main() {
-    let directory = std::env::args().nth(1).expect("use: files DIRECTORY");
-    let mut f = Files { directory: Path::new(&directory), count: 0, wrong: 0 };
+    let directory = |n| std::env::args().nth(n).expect("use: files SCRIPTS ANSWERS");
+    let (scripts, answers) = (directory(1), directory(2));
+    let mut f = Files { scripts: Path::new(&scripts), answers: Path::new(&answers), count: 0, wrong: 0 };
     checked_figures(&mut f);
     accepted(&mut f);
     questions_2_and_3(&mut f);
