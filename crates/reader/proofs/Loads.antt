@@ -4,11 +4,11 @@ use mathlib.Core.Bool.{Bool, true, false, cond}
 use mathlib.Core.List.{List, [], _∷_}
 use Prim.Native.Nat.{ℕ, zero, suc, _+_, _≤_, _<_}
 use native.Mathlib.Omega.{arith}
-use lib.Dec.{eqb}
+use lib.Dec.{eqb, ltb}
 use lib.ListN.{length, take, drop, length-drop}
 use lib.Seq.{drop-drop}
 use Rattle.rules.specs.Blocks.{kindsOf}
-use borrow.Author.Tests.{eq-eqb, ne-eqb, eqb-true, eqb-false, le-leb, lt-leb}
+use borrow.Author.Tests.{eq-eqb, ne-eqb, eqb-true, eqb-false, le-leb, lt-leb, ltb-true, ltb-false}
 use Rattle.rules.specs.Ranges.{Range}
 use Rattle.rules.specs.Scripts.{Script, ends}
 use Rattle.rules.specs.Text.{prefixed, split}
@@ -18,7 +18,8 @@ use Rattle.nesting.proofs.Laws.{closed-depth, open-depth}
 use Rattle.reader.specs.declared.Counted.{Counted}
 use Rattle.reader.specs.declared.Ranges.{Ranges}
 use Rattle.reader.specs.declared.Listed.{Listed}
-use Rattle.reader.specs.Read.{lines, countOf, CountRead, rangesOf, RangesRead, rowsOf, RowsRead}
+use Rattle.reader.specs.declared.Head.{Head}
+use Rattle.reader.specs.Read.{lines, countOf, CountRead, rangesOf, RangesRead, rowsOf, RowsRead, headOf, lastNo, scriptOf, loadedOf}
 use Rattle.reader.proofs.Lines.{split-some}
 
 -- bytes after the last line
@@ -104,3 +105,32 @@ script-refused file q h e = rw (le-leb (length file) 16_384 h, e) refl
 pub file-long : (file : List ℕ) → 16_384 < length file → refused 2 16_384 ≡ fileScript file
 unfolding fileScript
 file-long file h = rw (lt-leb (length file) 16_384 h)
+
+-- a head and what follows it: the first no of both, and the script
+module _ (file : List ℕ) (h : Head) (l : Listed) (f : RowsRead file (h .at) (h .vars) (h .count) l) (q p : ℕ)
+    (number : q ≡ lastNo (l .number) (l .number) (ltb (l .at) (length file)) (l .blocks .depth) 3 6)
+    (place : p ≡ lastNo (l .number) (l .place) (ltb (l .at) (length file)) (l .blocks .depth) (4 + h .vars + h .count) (4 + h .vars + h .count)) where
+  abbrev pub tail : Reading Script
+  tail = andThen (rowLines (h .vars) (h .count) (4 + h .vars) (lines (drop (h .at) file)) noRows) (lastLine (4 + h .vars + h .count) (ends (h .vars) (h .low) (h .high)))
+
+  abbrev pub given : Reading Script
+  given = cond (eqb q 0) (read (record { ranges = ends (h .vars) (h .low) (h .high); rows = take (h .count) (kindsOf (l .rows)) }) ([] ∷ [])) (refused q p)
+
+  pub tail-read : tail ≡ given
+  unfolding lastNo
+  tail-read = go (eqb (l .number) 0) (ltb (l .at) (length file)) (eqb (l .blocks .depth) 0) refl refl refl
+    where
+      go : (a b d : Bool) → eqb (l .number) 0 ≡ a → ltb (l .at) (length file) ≡ b → eqb (l .blocks .depth) 0 ≡ d → tail ≡ given
+      go false b d x y w = rows-refused file (h .at) (h .vars) (h .count) l f _ (eqb-false _ _ x) ∙ rw (number, place, x, x) refl
+      go true true d x y w = bytes-after file (h .at) (h .vars) (h .count) l f _ (eqb-true _ _ x) (ltb-true _ _ y) ∙ rw (number, place, x, y) refl
+      go true false false x y w = left-open file (h .at) (h .vars) (h .count) l f _ (eqb-true _ _ x) (ltb-false _ _ y) (eqb-false _ _ w) ∙ rw (number, place, x, y, w) refl
+      go true false true x y w = all-read file (h .at) (h .vars) (h .count) l f _ (eqb-true _ _ x) (ltb-false _ _ y) (eqb-true _ _ w) ∙ rw (number, x, y, w) refl
+
+  pub load-read : (a b : ℕ) → a ≡ cond (eqb (h .number) 0) q (h .number) → b ≡ cond (eqb (h .number) 0) p (h .place)
+      → loadedOf (record { number = a; place = b; vars = h .vars; count = h .count; low = h .low; high = h .high; rows = l .rows }) ≡ headOf file h
+  unfolding loadedOf scriptOf headOf
+  load-read a b x y = go (eqb (h .number) 0) refl
+    where
+      go : (t : Bool) → eqb (h .number) 0 ≡ t → loadedOf (record { number = a; place = b; vars = h .vars; count = h .count; low = h .low; high = h .high; rows = l .rows }) ≡ headOf file h
+      go true e = rw (x, y, e) (sym tail-read)
+      go false e = rw (x, y, e, e) refl

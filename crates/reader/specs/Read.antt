@@ -14,7 +14,7 @@ use Rattle.rules.specs.Ranges.{Range}
 use Rattle.rules.specs.Scripts.{Script, ends, held}
 use Rattle.rules.specs.Text.{split, startsWith, nextWords, nextLines}
 use Rattle.rules.specs.File
-use Rattle.rules.specs.File.{Reading, read, refused, Rows, unless, countLine, asksRange, rangeKey, rowKey, rowOf, rangeLines, rowLines, noRows}
+use Rattle.rules.specs.File.{Reading, read, refused, Rows, unless, countLine, asksRange, rangeKey, rowKey, rowOf, rangeLines, rowLines, noRows, andThen, lastLine}
 use Rattle.text.specs.Words.{before}
 use Rattle.rows.specs.declared.Line.{Line}
 use Rattle.reader.specs.declared.Counted.{Counted}
@@ -22,6 +22,7 @@ use Rattle.reader.specs.declared.Ranged.{Ranged}
 use Rattle.reader.specs.declared.Ranges.{Ranges}
 use Rattle.nesting.specs.Open.{nestOf}
 use Rattle.reader.specs.declared.Listed.{Listed}
+use Rattle.reader.specs.declared.Head.{Head}
 use Rattle.reader.specs.declared.Loaded.{Loaded}
 
 -- there is a next line, and it has the key
@@ -87,6 +88,22 @@ rowsOf file n r =
 pub record RowsRead (file : List ℕ) (at vars n : ℕ) (r : Listed) : Type 0 where
   pub all : rowLines vars n (4 + vars) (lines (drop at file)) noRows ≡ rowsOf file n r
   pub within : r .at ≤ length file
+
+-- what the rest of a file gives after its head
+unfoldable pub headOf : List ℕ → Head → Reading Script
+headOf file h =
+    cond (eqb (h .number) 0)
+    (andThen (rowLines (h .vars) (h .count) (4 + h .vars) (lines (drop (h .at) file)) noRows) (lastLine (4 + h .vars + h .count) (ends (h .vars) (h .low) (h .high))))
+    (refused (h .number) (h .place))
+
+pub record HeadWithin (file : List ℕ) (h : Head) : Type 0 where
+  pub start : h .at ≤ length file
+  pub vars : h .vars ≤ 16
+  pub count : h .count ≤ 256
+
+-- the rows' own, or a where bytes follow, or b where a block is open, or 0
+unfoldable pub lastNo : ℕ → ℕ → Bool → ℕ → ℕ → ℕ → ℕ
+lastNo number own more depth a b = cond (eqb number 0) (cond more a (cond (eqb depth 0) 0 b)) own
 
 -- the script of a loaded file: the first `vars` ranges and the first `count` rows
 unfoldable pub scriptOf : Loaded → Script

@@ -16,16 +16,17 @@ use text::next_word;
 use text::position;
 use text::starts_with;
 ghost use mathlib.Core.Path.{_≡_};
-ghost use mathlib.Core.Bool.{true};
+ghost use mathlib.Core.Bool.{true, cond};
 ghost use Prim.Native.Nat.{ℕ, _+_, _≤_, _<_};
-ghost use lib.Dec.{ltb};
+ghost use lib.Dec.{eqb, ltb};
+ghost use mathlib.Core.List.{List};
 ghost use lib.IntN.{pos, natAbs};
 ghost use lib.Signed.{_≤ℤ_};
 ghost use lib.ListN.{length, drop};
 ghost use Rattle.rules.specs.Scripts.{ends};
-ghost use Rattle.rules.specs.File.{refused, andThen, varsKey, scriptLine, countLine, rowLines, noRows, lastLine, rowPart, rangePart, fileScript};
+ghost use Rattle.rules.specs.File.{refused, andThen, varsKey, scriptLine, countLine, rowPart, rangePart, fileScript};
 ghost use Rattle.text.specs.Words.{before};
-ghost use Rattle.reader.specs.Read.{keyed, clean, lines, countOf, CountRead, Within, RangeRead, LineRead, RangesRead, RowsRead, loadedOf};
+ghost use Rattle.reader.specs.Read.{keyed, clean, lines, countOf, CountRead, Within, RangeRead, LineRead, RangesRead, RowsRead, headOf, HeadWithin, lastNo, loadedOf};
 
 // Whether an LF ends the next line.
 fn has_line(rest: &[u8]) -> bool
@@ -245,87 +246,56 @@ fn read_rows(file: &[u8], at: usize, vars: usize, n: usize) -> Listed
     }
 }
 
-// A loaded file: question 0 for none, or the first no with its place; the ranges' ends and the rows.
-pub struct Loaded {
+// The lines before the rows: question 0 for none, or the first no with its place; what they say, and the byte where the rows begin.
+pub struct Head {
     pub number: u32,
     pub place: usize,
     pub vars: usize,
     pub count: usize,
+    pub at: usize,
     pub low: [i32; 16],
     pub high: [i32; 16],
-    pub rows: [Row; 256],
 }
 
-fn refused(number: u32, place: usize) -> Loaded
+fn refused(number: u32, place: usize) -> Head
     requires { ⌜ (number ≡ 0 → ⊥) ⌝ }
-    ensures { λ r. ⌜ (loadedOf r ≡ refused number place) × (r .count ≤ 256) ⌝ }
+    ensures { λ r. ⌜ ((file : List ℕ) → headOf file r ≡ refused number place) × ((file : List ℕ) → HeadWithin file r) ⌝ }
 {
-    Loaded {
+    Head {
         number,
         place,
         vars: 0,
         count: 0,
+        at: 0,
         low: [0i32; 16],
         high: [0i32; 16],
-        rows: [BLANK; 256],
     }
 }
 
-// The rows, and the line after the last.
-fn load_rows(
-    file: &[u8],
-    at: usize,
-    vars: usize,
-    n: usize,
-    low: [i32; 16],
-    high: [i32; 16],
-) -> Loaded
-    requires { ⌜ (at ≤ length (now file)) × (vars ≤ 16) × (n ≤ 256) ⌝ }
-    ensures { λ r. ⌜ (loadedOf r ≡ andThen (rowLines vars n (4 + vars) (lines (drop at (now (file .entry)))) noRows) (lastLine (4 + vars + n) (ends vars low high))) × (r .count ≤ 256) ⌝ }
-{
-    let l = read_rows(file, at, vars, n);
-    let number = l.number;
-    let place = l.place;
-    if number != 0 {
-        return refused(number, place);
-    }
-    let end = l.at;
-    if end < file.len() {
-        return refused(3, 4 + vars + n);
-    }
-    let b = l.blocks;
-    let depth = b.depth;
-    if depth != 0 {
-        return refused(6, 4 + vars + n);
-    }
-    let rows = l.rows;
-    Loaded {
-        number: 0,
-        place: 0,
-        vars,
-        count: n,
-        low,
-        high,
-        rows,
-    }
-}
-
-// `rows=R` and on.
-fn load_count(file: &[u8], at: usize, vars: usize, low: [i32; 16], high: [i32; 16]) -> Loaded
+// `rows=R`
+fn load_count(file: &[u8], at: usize, vars: usize, low: [i32; 16], high: [i32; 16]) -> Head
     requires { ⌜ (at ≤ length (now file)) × (vars ≤ 16) ⌝ }
-    ensures { λ r. ⌜ (loadedOf r ≡ rowPart vars (ends vars low high) (lines (drop at (now (file .entry))))) × (r .count ≤ 256) ⌝ }
+    ensures { λ r. ⌜ (headOf (now (file .entry)) r ≡ rowPart vars (ends vars low high) (lines (drop at (now (file .entry))))) × HeadWithin (now (file .entry)) r ⌝ }
 {
     let c = count_line(&file[at..], b"rows=", 256);
     match c {
-        Counted::Count(n, k) => load_rows(file, at + k, vars, n, low, high),
+        Counted::Count(n, k) => Head {
+            number: 0,
+            place: 0,
+            vars,
+            count: n,
+            at: at + k,
+            low,
+            high,
+        },
         Counted::Wrong(q) => refused(q, 3 + vars),
     }
 }
 
 // The ranges and on.
-fn load_ranges(file: &[u8], at: usize, vars: usize) -> Loaded
+fn load_ranges(file: &[u8], at: usize, vars: usize) -> Head
     requires { ⌜ (at ≤ length (now file)) × (vars ≤ 16) ⌝ }
-    ensures { λ r. ⌜ (loadedOf r ≡ rangePart vars (lines (drop at (now (file .entry))))) × (r .count ≤ 256) ⌝ }
+    ensures { λ r. ⌜ (headOf (now (file .entry)) r ≡ rangePart vars (lines (drop at (now (file .entry))))) × HeadWithin (now (file .entry)) r ⌝ }
 {
     let r = read_ranges(file, at, vars);
     let number = r.number;
@@ -340,9 +310,9 @@ fn load_ranges(file: &[u8], at: usize, vars: usize) -> Loaded
 }
 
 // `vars=V` and on.
-fn load_vars(file: &[u8], at: usize) -> Loaded
+fn load_vars(file: &[u8], at: usize) -> Head
     requires { ⌜ at ≤ length (now file) ⌝ }
-    ensures { λ r. ⌜ (loadedOf r ≡ andThen (countLine varsKey 16 2 (lines (drop at (now (file .entry))))) rangePart) × (r .count ≤ 256) ⌝ }
+    ensures { λ r. ⌜ (headOf (now (file .entry)) r ≡ andThen (countLine varsKey 16 2 (lines (drop at (now (file .entry))))) rangePart) × HeadWithin (now (file .entry)) r ⌝ }
 {
     let c = count_line(&file[at..], b"vars=", 16);
     match c {
@@ -351,9 +321,9 @@ fn load_vars(file: &[u8], at: usize) -> Loaded
     }
 }
 
-// A file's script, or its first no.
-pub fn load(file: &[u8]) -> Loaded
-    ensures { λ r. ⌜ (loadedOf r ≡ fileScript (now (file .entry))) × (r .count ≤ 256) ⌝ }
+// The lines before the rows.
+fn load_head(file: &[u8]) -> Head
+    ensures { λ r. ⌜ (headOf (now (file .entry)) r ≡ fileScript (now (file .entry))) × HeadWithin (now (file .entry)) r ⌝ }
 {
     if 16_384 < file.len() {
         return refused(2, 16_384);
@@ -362,5 +332,83 @@ pub fn load(file: &[u8]) -> Loaded
     match c {
         Counted::Count(_, k) => load_vars(file, k),
         Counted::Wrong(q) => refused(q, 1),
+    }
+}
+
+// A question's number, 0 for none, and its place.
+struct No {
+    number: u32,
+    place: usize,
+}
+
+// The first no of the rows, and of the line after the last: its place is `end`.
+fn last_no(number: u32, place: usize, more: bool, depth: usize, end: usize) -> No
+    ensures { λ r. ⌜ (r .number ≡ lastNo number number more depth 3 6) × (r .place ≡ lastNo number place more depth end end) ⌝ }
+{
+    if number != 0 {
+        return No { number, place };
+    }
+    if more {
+        return No {
+            number: 3,
+            place: end,
+        };
+    }
+    if depth != 0 {
+        return No {
+            number: 6,
+            place: end,
+        };
+    }
+    No {
+        number: 0,
+        place: 0,
+    }
+}
+
+// The head's no, or else the rest's.
+fn first_no(number: u32, place: usize, rest: No) -> No
+    ensures { λ r. ⌜ (r .number ≡ cond (eqb number 0) (rest .number) number) × (r .place ≡ cond (eqb number 0) (rest .place) place) ⌝ }
+{
+    if number != 0 {
+        return No { number, place };
+    }
+    rest
+}
+
+// A loaded file: question 0 for none, or the first no with its place; the ranges' ends and the rows.
+pub struct Loaded {
+    pub number: u32,
+    pub place: usize,
+    pub vars: usize,
+    pub count: usize,
+    pub low: [i32; 16],
+    pub high: [i32; 16],
+    pub rows: [Row; 256],
+}
+
+// A file's script, or its first no. Each file has one array of rows, refused or not: no copy where ways meet.
+pub fn load(file: &[u8]) -> Loaded
+    ensures { λ r. ⌜ (loadedOf r ≡ fileScript (now (file .entry))) × (r .count ≤ 256) ⌝ }
+{
+    let h = load_head(file);
+    let vars = h.vars;
+    let count = h.count;
+    let low = h.low;
+    let high = h.high;
+    let l = read_rows(file, h.at, vars, count);
+    let b = l.blocks;
+    let more = l.at < file.len();
+    let rest = last_no(l.number, l.place, more, b.depth, 4 + vars + count);
+    let no = first_no(h.number, h.place, rest);
+    let rows = l.rows;
+    Loaded {
+        number: no.number,
+        place: no.place,
+        vars,
+        count,
+        low,
+        high,
+        rows,
     }
 }

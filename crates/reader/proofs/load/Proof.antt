@@ -1,35 +1,27 @@
-use mathlib.Core.Path.{ap, _∙_, subst}
-use Rattle.reader.proofs.Loads.{script-then, script-refused, file-long}
-use Rattle.reader.specs.Read.{Within, countOf}
+use mathlib.Core.Path.{_∙_}
+use denote.Ref.{now}
+use Rattle.reader.proofs.Loads.{load-read}
 use borrow.Author.Needs.{needs}
 use Rattle.reader.proofs.load.Statement.{statement}
 use Rattle.reader.proofs.load.Tie as tie
 
 returns : tie.Need-returns
-returns c = (c .refused .ensures .0 ∙ file-long _ (c .before .if1 .taken), c .refused .ensures .1)
-
-load-vars-requires : tie.Need-load-vars-requires
-load-vars-requires c κs = subst (Within _ 1) (c .before .c .given .1) (c .before .before .before .script-line .ensures .1) .1
-
-refused-requires-2 : tie.Need-refused-requires-2
-refused-requires-2 c κs = subst (Within _ 1) (c .before .c2 .given .1) (c .before .before .before .script-line .ensures .1)
-
-returns-2 : tie.Need-returns-2
-returns-2 c = (c .load-vars .ensures .0 ∙ script-then _ _ _ (c .before .before .before .before .before .if1 .left) (c .before .before .before .before .script-line .ensures .0 ∙ ap (countOf _ 1) (c .before .before .c .given .1)), c .load-vars .ensures .1)
-
-returns-3 : tie.Need-returns-3
-returns-3 c = (c .refused2 .ensures .0 ∙ script-refused _ _ (c .before .before .before .before .before .if1 .left) (c .before .before .before .before .script-line .ensures .0 ∙ ap (countOf _ 1) (c .before .before .c2 .given .1)), c .refused2 .ensures .1)
+returns c =
+    let s = c .before .before .before .before .before .before .before .before .before .before in
+    let h = c .before .before .before .before .before .before .before .before .load-head in
+    let l = c .before .before .before .before .before .read-rows in
+    let m = c .before .before .last-no in
+    let f = c .before .first-no in
+    (load-read (now (s .args .file)) (h .result) (l .result) (l .ensures) (m .result .number) (m .result .place) (m .ensures .0) (m .ensures .1) (f .result .number) (f .result .place) (f .ensures .0) (f .ensures .1) ∙ h .ensures .0, h .ensures .1 .count)
 
 pub load-spec : {M : Type 1} → statement M
 load-spec =
     tie.close
     (tie.spec
     (λ c κs. search needs)
-    returns
     (λ c κs. search needs)
     (λ c. search needs)
-    load-vars-requires
     (λ c. search needs)
-    refused-requires-2
-    returns-2
-    returns-3)
+    (λ c κs. search needs)
+    (λ c κs. search needs)
+    returns)

@@ -5,7 +5,7 @@ use denote.Ref.{now}
 use Rattle.rules.specs.File.{andThen, rowLines, noRows, lastLine, rowPart, rowsKey}
 use Rattle.rules.specs.Scripts.{ends}
 use Rattle.reader.proofs.Loads.{after-count, after-wrong}
-use Rattle.reader.specs.Read.{clean, CountRead}
+use Rattle.reader.specs.Read.{clean, CountRead, headOf}
 use Rattle.text.proofs.Laws.{part-rest}
 use native.Mathlib.Omega.{arith}
 use borrow.Author.Needs.{needs}
@@ -20,22 +20,22 @@ count-line-requires c κs = (search needs, search needs, refl)
 line : (c : tie.After-count-line) → CountRead rowsKey (drop (c .before .before .before .before .args .at) (now (c .before .before .before .before .args .file))) 256 (c .count-line .result)
 line c = rw (part-rest (now (c .before .before .before .before .args .file)) (c .before .before .before .before .args .at)) at (c .count-line .ensures)
 
-add-load-rows : tie.Need-add-load-rows
-add-load-rows c = let w = subst (CountRead _ _ _) (c .before .c .given .1) (line (c .before .before .before)) .within in let l = length-drop (c .before .before .before .before .before .before .before .args .at) (now (c .before .before .before .before .before .before .before .args .file)) in let h = c .before .before .before .before .before .before .before .pre in search needs
-
-load-rows-requires : tie.Need-load-rows-requires
-load-rows-requires c κs = let w = subst (CountRead _ _ _) (c .before .c .given .1) (line (c .before .before .before)) .within in (omega (arith, w .1, length-drop (c .before .before .before .before .before .before .before .args .at) (now (c .before .before .before .before .before .before .before .args .file)), c .before .before .before .before .before .before .before .pre .0), c .before .before .before .before .before .before .before .pre .1, w .0)
+add-t18 : tie.Need-add-t18
+add-t18 c = let w = subst (CountRead _ _ _) (c .before .c .given .1) (line (c .before .before .before)) .within in let l = length-drop (c .before .before .before .before .before .before .before .args .at) (now (c .before .before .before .before .before .before .before .args .file)) in let h = c .before .before .before .before .before .before .before .pre in search needs
 
 refused-requires : tie.Need-refused-requires
 refused-requires c κs = subst (CountRead _ _ _) (c .before .c2 .given .1) (line (c .before .before .before)) .within
 
 returns : tie.Need-returns
-unfolding rowPart
-returns c = (c .load-rows .ensures .0 ∙ sym (after-count _ (now (c .before .before .before .before .before .before .before .before .args .file)) (c .before .before .before .before .before .before .before .before .args .at) _ _ _ _ (λ n more. andThen (rowLines (c .before .before .before .before .before .before .before .before .args .vars) n (4 + c .before .before .before .before .before .before .before .before .args .vars) more noRows) (λ rows rest. lastLine (4 + c .before .before .before .before .before .before .before .before .args .vars + n) (ends (c .before .before .before .before .before .before .before .before .args .vars) (c .before .before .before .before .before .before .before .before .args .low) (c .before .before .before .before .before .before .before .before .args .high)) rows rest)) (subst (CountRead _ _ _) (c .before .before .c .given .1) (line (c .before .before .before .before)))), c .load-rows .ensures .1)
+unfolding rowPart headOf
+returns c =
+    let s = c .before .before .before .before .before .before .before in
+    let l = subst (CountRead _ _ _) (c .before .c .given .1) (line (c .before .before .before)) in
+    (sym (after-count _ (now (s .args .file)) (s .args .at) _ _ _ _ (λ n more. andThen (rowLines (s .args .vars) n (4 + s .args .vars) more noRows) (λ rows rest. lastLine (4 + s .args .vars + n) (ends (s .args .vars) (s .args .low) (s .args .high)) rows rest)) l), record { start = omega (arith, l .within .1, length-drop (s .args .at) (now (s .args .file)), s .pre .0); vars = s .pre .1; count = l .within .0 })
 
 returns-2 : tie.Need-returns-2
 unfolding rowPart
-returns-2 c = (c .refused .ensures .0 ∙ sym (after-wrong _ _ _ _ _ (λ n more. andThen (rowLines (c .before .before .before .before .before .before .before .before .args .vars) n (4 + c .before .before .before .before .before .before .before .before .args .vars) more noRows) (λ rows rest. lastLine (4 + c .before .before .before .before .before .before .before .before .args .vars + n) (ends (c .before .before .before .before .before .before .before .before .args .vars) (c .before .before .before .before .before .before .before .before .args .low) (c .before .before .before .before .before .before .before .before .args .high)) rows rest)) (subst (CountRead _ _ _) (c .before .before .c2 .given .1) (line (c .before .before .before .before)))), c .refused .ensures .1)
+returns-2 c = (c .refused .ensures .0 _ ∙ sym (after-wrong _ _ _ _ _ (λ n more. andThen (rowLines (c .before .before .before .before .before .before .before .before .args .vars) n (4 + c .before .before .before .before .before .before .before .before .args .vars) more noRows) (λ rows rest. lastLine (4 + c .before .before .before .before .before .before .before .before .args .vars + n) (ends (c .before .before .before .before .before .before .before .before .args .vars) (c .before .before .before .before .before .before .before .before .args .low) (c .before .before .before .before .before .before .before .before .args .high)) rows rest)) (subst (CountRead _ _ _) (c .before .before .c2 .given .1) (line (c .before .before .before .before)))), c .refused .ensures .1 _)
 
 pub load-count-spec : {M : Type 1} → statement M
 load-count-spec =
@@ -47,8 +47,7 @@ load-count-spec =
     (λ c. search needs)
     count-line-requires
     (λ c. search needs)
-    add-load-rows
-    load-rows-requires
+    add-t18
     (λ c. search needs)
     (λ c. search needs)
     refused-requires

@@ -7,7 +7,7 @@ use Rattle.reader.proofs.load_ranges.Tie as tie
 
 returns : tie.Need-returns
 unfolding rangePart
-returns c = (c .refused .ensures .0 ∙ sym (ranges-refused _ _ _ _ (c .before .before .read-ranges .ensures) (λ ranges more. rowPart _ ranges more) (c .before .if1 .taken)), c .refused .ensures .1)
+returns c = (c .refused .ensures .0 _ ∙ sym (ranges-refused _ _ _ _ (c .before .before .read-ranges .ensures) (λ ranges more. rowPart _ ranges more) (c .before .if1 .taken)), c .refused .ensures .1 _)
 
 returns-2 : tie.Need-returns-2
 unfolding rangePart

@@ -31,7 +31,7 @@ returns : tie.Need-returns
 returns c = (c .load-ranges .ensures .0 ∙ sym (after-count _ (now (c .before .before .before .before .before .before .before .before .args .file)) (c .before .before .before .before .before .before .before .before .args .at) _ _ _ _ rangePart (subst (CountRead _ _ _) (c .before .before .c .given .1) (line (c .before .before .before .before)))), c .load-ranges .ensures .1)
 
 returns-2 : tie.Need-returns-2
-returns-2 c = (c .refused .ensures .0 ∙ sym (after-wrong _ _ _ _ _ rangePart (subst (CountRead _ _ _) (c .before .before .c2 .given .1) (line (c .before .before .before .before)))), c .refused .ensures .1)
+returns-2 c = (c .refused .ensures .0 _ ∙ sym (after-wrong _ _ _ _ _ rangePart (subst (CountRead _ _ _) (c .before .before .c2 .given .1) (line (c .before .before .before .before)))), c .refused .ensures .1 _)
 
 pub load-vars-spec : {M : Type 1} → statement M
 load-vars-spec =
