@@ -23,15 +23,14 @@ fn every_refusal_occurs_and_enough_is_accepted() {
 
 #[test]
 fn files_have_their_answers() {
-    let directory = Path::new(env!("CARGO_MANIFEST_DIR")).join("../files");
+    let tests = Path::new(env!("CARGO_MANIFEST_DIR")).join("..");
+    let scripts = tests.join("../crates/report_files/data");
     let mut count = 0;
-    for entry in std::fs::read_dir(directory).unwrap() {
-        let script = entry.unwrap().path();
-        if script.extension().is_some_and(|word| word == "script") {
-            let expected = std::fs::read(script.with_extension("expected")).unwrap();
-            assert!(answer(&std::fs::read(&script).unwrap()) == expected, "{}", script.display());
-            count += 1;
-        }
+    for entry in std::fs::read_dir(tests.join("files")).unwrap() {
+        let expected = entry.unwrap().path();
+        let script = scripts.join(expected.with_extension("script").file_name().unwrap());
+        assert!(answer(&std::fs::read(&script).unwrap()) == std::fs::read(&expected).unwrap(), "{}", script.display());
+        count += 1;
     }
     assert!(count >= 70);
 }
