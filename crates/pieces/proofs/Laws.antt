@@ -10,10 +10,18 @@ use lib.Seq.{take-suc, take-all, take-append-seam, drop-append-seam, take-length
 use borrow.Rule.Slice.PartMut.{midOf, putMid}
 use borrow.Author.Tests.{lt-ltb, le-ltb}
 use Rattle.rules.specs.Calls.{over}
-use Rattle.rules.specs.Report.{decimalIn, joined}
+use Rattle.rules.specs.Report.{decimal, decimalIn, joined, keyLine, newline}
 use Rattle.pieces.specs.declared.Piece.{Piece}
 use Rattle.pieces.specs.declared.Piece.the-variants.{Nothing}
 use Rattle.pieces.specs.Pieces.{pieceText, pieceTexts, Wrote}
+
+-- a line of a key and a number
+pub key-parts : (key : List ℕ) (n : ℕ) → keyLine key n ≡ (key ++ decimalIn 20 n) ++ newline
+unfolding keyLine joined decimal
+key-parts key n = sym (append-assoc key (decimalIn 20 n) newline)
+
+pub key-length : (key : List ℕ) (n : ℕ) → length (keyLine key n) ≡ length key + length (decimalIn 20 n) + 1
+key-length key n = rw (key-parts key n, length-append, length-append)
 
 -- digits, by the tests of the code
 digits-none : (k n : ℕ) → k ≡ 0 → decimalIn k n ≡ []
@@ -46,12 +54,15 @@ over-length : (text old : List ℕ) → length text ≤ length old → length (o
 unfolding over
 over-length text old h = simp (length-append, length-drop) (omega arith)
 
+pub wrote-length : (text old new : List ℕ) (r : ℕ) → length text ≤ length old → Wrote text old new r → length new ≡ length old
+wrote-length text old new r h w = ap length (w .kept) ∙ over-length text old h
+
 -- nothing written, one byte more, a copied text
 pub wrote-nothing : (old : List ℕ) → Wrote [] old old 0
 unfolding over
 wrote-nothing old = record { count = refl; kept = refl }
 
-wrote-byte : (text old new : List ℕ) (b at : ℕ) → length text < length old → Wrote text old new at → Wrote (text ++ (b ∷ [])) old (set new at b) (at + 1)
+pub wrote-byte : (text old new : List ℕ) (b at : ℕ) → length text < length old → Wrote text old new at → Wrote (text ++ (b ∷ [])) old (set new at b) (at + 1)
 unfolding over
 wrote-byte text old new b at h w = record {
   count = simp length-append (omega (arith, w .count));
@@ -91,7 +102,7 @@ wrote-then a b old mid ys r q v w = record {
 }
 
 -- texts, one after the other
-joined-append : (a b : List (List ℕ)) → joined (a ++ b) ≡ joined a ++ joined b
+pub joined-append : (a b : List (List ℕ)) → joined (a ++ b) ≡ joined a ++ joined b
 unfolding joined
 joined-append [] b = refl
 joined-append (t ∷ a) b = rw (joined-append a b, append-assoc)
@@ -144,7 +155,7 @@ pub writing-more : (ts : List (List ℕ)) (old new ys : List ℕ) (at i q : ℕ)
     Wrote (getD ts i []) (midOf at (length new - at) new) ys q → Writing ts old (putMid at (length new - at) new ys) (at + q) (i + 1)
 writing-more ts old new ys at i q v h room w = rw add-one (record {
   within = h;
-  same = ap length (next .kept) ∙ over-length (joined (take (suc i) ts)) old (rw (joined-next ts i h, length-append) (omega (arith, joined-room ts i h)));
+  same = wrote-length _ _ _ _ (rw (joined-next ts i h, length-append) (omega (arith, joined-room ts i h))) next;
   wrote = next;
 })
   where
@@ -153,6 +164,32 @@ writing-more ts old new ys at i q v h room w = rw add-one (record {
 
 pub writing-all : (ts : List (List ℕ)) (old new : List ℕ) (at i : ℕ) → Writing ts old new at i → length ts ≤ i → Wrote (joined ts) old new at
 writing-all ts old new at i v h = rw (take-all i ts h) at (v .wrote)
+
+-- three texts, each written into the rest
+module _ (a b c old : List ℕ) (room : length (joined (a ∷ (b ∷ (c ∷ [])))) ≤ length old) where
+  abbrev three : List (List ℕ)
+  three = a ∷ (b ∷ (c ∷ []))
+
+  pub first-room : length a ≤ length old
+  first-room = omega (arith, joined-room three 0 (omega arith))
+
+  pub first-written : (new : List ℕ) (r : ℕ) → Wrote a old new r → Writing three old new r 1
+  unfolding joined
+  first-written new r w = record { within = omega arith; same = wrote-length _ _ _ _ first-room w; wrote = rw append-nil w }
+
+  pub second-room : (new : List ℕ) (r : ℕ) → Wrote a old new r → r + length b ≤ length new
+  second-room new r w = writing-room _ _ _ _ _ (first-written new r w) (omega arith) room
+
+  pub second-written : (new ys : List ℕ) (r q : ℕ) → Wrote a old new r → Wrote b (midOf r (length new - r) new) ys q → Writing three old (putMid r (length new - r) new ys) (r + q) 2
+  second-written new ys r q w = writing-more _ _ _ _ _ _ _ (first-written new r w) (omega arith) room
+
+  pub third-room : (new ys : List ℕ) (r q : ℕ) → Wrote a old new r → Wrote b (midOf r (length new - r) new) ys q → r + q + length c ≤ length (putMid r (length new - r) new ys)
+  third-room new ys r q w v = writing-room _ _ _ _ _ (second-written new ys r q w v) (omega arith) room
+
+  pub third-written : (new ys zs : List ℕ) (r q p : ℕ) → Wrote a old new r → Wrote b (midOf r (length new - r) new) ys q →
+      let next = putMid r (length new - r) new ys in
+      Wrote c (midOf (r + q) (length next - (r + q)) next) zs p → Writing three old (putMid (r + q) (length next - (r + q)) next zs) (r + q + p) 3
+  third-written new ys zs r q p w v = writing-more _ _ _ _ _ _ _ (second-written new ys r q w v) (omega arith) room
 
 -- a line's pieces
 pub pieces-count : (ps : List Piece) → length (pieceTexts ps) ≡ length ps

@@ -2,7 +2,7 @@
 ghost use mathlib.Core.Path.{_≡_};
 ghost use Prim.Native.Nat.{_+_, _≤_, _<_};
 ghost use lib.ListN.{length, take};
-ghost use Rattle.rules.specs.Report.{decimalIn, joined};
+ghost use Rattle.rules.specs.Report.{decimalIn, joined, keyLine};
 ghost use Rattle.pieces.specs.Pieces.{labelText, pieceText, pieceTexts, Wrote};
 
 // The fixed texts of a report.
@@ -84,6 +84,13 @@ fn digits_len(k: u32, n: u64) -> usize
     digits_len(k - 1, n / 10) + 1
 }
 
+// How many bytes a line of a key and a number has.
+pub fn key_len(key: Label, n: u64) -> usize
+    ensures { λ r. ⌜ (r ≡ length (keyLine (labelText key) n)) × (r ≤ 28) ⌝ }
+{
+    label_len(key) + digits_len(20, n) + 1
+}
+
 // How many bytes a piece has.
 fn piece_len(piece: Piece) -> usize
     ensures { λ r. ⌜ (r ≡ length (pieceText piece)) × (r ≤ 20) ⌝ }
@@ -134,6 +141,17 @@ fn put_label(label: Label, out: &mut [u8]) -> usize
     let text = letters(label);
     let len = label_len(label);
     bytes::copy(&text[..len], out)
+}
+
+// Writes a line of a key and a number.
+pub fn put_key(key: Label, n: u64, out: &mut [u8]) -> usize
+    requires { ⌜ length (keyLine (labelText key) n) ≤ length (now out) ⌝ }
+    ensures { λ r. ⌜ Wrote (keyLine (labelText key) n) (now (out .entry)) (now (out .exit)) r ⌝ }
+{
+    let a = put_label(key, out);
+    let at = a + put_digits(20, n, &mut out[a..]);
+    out[at] = b'\n';
+    at + 1
 }
 
 // Writes a piece.

@@ -1,13 +1,13 @@
 -- Laws of the report's lines. Assumes nothing.
 use mathlib.Core.Path.{_≡_, refl, sym, ap, _∙_}
 use mathlib.Core.Bool.{true, false}
-use mathlib.Core.List.{List, [], _∷_, _++_}
+use mathlib.Core.List.{List, [], _∷_, _++_, append-assoc, append-nil}
 use Prim.Native.Nat.{ℕ, zero, suc, _+_, _-_, _≤_, _<_, _^_}
 use native.Mathlib.Omega.{arith}
 use lib.IntN.{ℤ, pos, negsuc, natAbs, _+ℤ_, _-ℤ_}
 use lib.Signed.{ltZ, nonNeg}
-use lib.ListN.{length, getD, take, length-append, length-take, List·getD-append}
-use lib.Seq.{getD-take, getD-at}
+use lib.ListN.{length, getD, take, length-append, length-take}
+use lib.Seq.{getD-take}
 use lib.Dec.{T}
 use mir.Syntax.{w64}
 use mir.Val.{Fits, SFits}
@@ -17,12 +17,13 @@ use Rattle.rules.specs.declared.LoopLine.{LoopLine}
 use Rattle.rules.specs.declared.Reply.the-variants.{Accepted, Refused}
 use Rattle.rules.specs.Calls.{fitting, written}
 use Rattle.rules.specs.Figures.{Line}
-use Rattle.rules.specs.Report.{lineOf, linesOf, joined, sign, size, decimal, stepName, firstEnd, secondEnd, exactName, keyLine, loopLine, loopLines, reportText, reportKey, rowsKey, loopsKey, ticksKey}
+use Rattle.rules.specs.Report.{lineOf, linesOf, joined, sign, size, decimal, stepName, firstEnd, secondEnd, exactName, keyLine, loopLine, loopLines, reportText, ticksKey}
 use Rattle.pieces.specs.declared.Label.the-variants.{Loop, Space, Newline}
 use Rattle.pieces.specs.declared.Piece.{Piece}
 use Rattle.pieces.specs.declared.Piece.the-variants.{Nothing, Fixed, Number}
 use Rattle.pieces.specs.Pieces.{pieceText, pieceTexts, Wrote}
-use Rattle.report.specs.Lines.{textLines, tableLines}
+use Rattle.pieces.proofs.Laws.{joined-append}
+use Rattle.report.specs.Lines.{headText, loopsText}
 
 -- a number below 0: one more, and that turned round
 pub record Below (z : ℤ) : Type 0 where
@@ -85,62 +86,33 @@ unfolding linesOf
 lines-count [] = refl
 lines-count (x ∷ xs) = ap suc (lines-count xs)
 
--- a loop's line among them; what follows the first three
+-- a loop's line among them
 loop-at : (xs : List LoopLine) (i : ℕ) (d : LoopLine) → i < length xs → getD (loopLines (linesOf xs)) i [] ≡ loopLine (lineOf (getD xs i d))
 unfolding loopLines linesOf
 loop-at [] i d h = absurd (omega arith)
 loop-at (x ∷ xs) zero d h = refl
 loop-at (x ∷ xs) (suc i) d h = loop-at xs i d (omega arith)
 
-past : (a b c : List ℕ) (ts : List (List ℕ)) (k : ℕ) → 3 ≤ k → getD (a ∷ (b ∷ (c ∷ ts))) k [] ≡ getD ts (k - 3) []
-past a b c ts zero h = absurd (omega arith)
-past a b c ts (suc zero) h = absurd (omega arith)
-past a b c ts (suc (suc zero)) h = absurd (omega arith)
-past a b c ts (suc (suc (suc k))) h = let e : k ≡ suc (suc (suc k)) - 3 = omega arith in ap (λ (j : ℕ). getD ts j []) e
-
 module _ (lines : List LoopLine) (loops : ℕ) (room : loops ≤ length lines) where
   taken-count : length (linesOf (take loops lines)) ≡ loops
   taken-count = lines-count (take loops lines) ∙ length-take loops lines ∙ omega arith
 
-  taken-loops : length (loopLines (linesOf (take loops lines))) ≡ loops
+  pub taken-loops : length (loopLines (linesOf (take loops lines))) ≡ loops
   taken-loops = loops-count (linesOf (take loops lines)) ∙ taken-count
 
-  pub table-count : (rows ticks : ℕ) → length (tableLines rows lines loops ticks) ≡ loops + 4
-  unfolding textLines
-  table-count rows ticks = rw length-append (omega (arith, taken-loops))
+  -- line k of the loops'
+  pub loop-taken : (k : ℕ) (d : LoopLine) → k < loops → loopLine (lineOf (getD lines k d)) ≡ getD (loopLines (linesOf (take loops lines))) k []
+  loop-taken k d h = sym (loop-at (take loops lines) k d (rw length-take (omega arith)) ∙ ap (λ (x : LoopLine). loopLine (lineOf x)) (getD-take loops lines k d h))
 
-  -- line k, by the tests of the code
-  pub rows-line : (rows ticks k : ℕ) → k ≡ 1 → keyLine rowsKey rows ≡ getD (tableLines rows lines loops ticks) k []
-  unfolding textLines
-  rows-line rows ticks k e = rw e
+  -- the report: the lines before the loops', these, and the last
+  pub report-parts : (rows ticks : ℕ) → reportText rows (linesOf (take loops lines)) ticks ≡ joined (headText rows loops ∷ (loopsText lines loops ∷ (keyLine ticksKey ticks ∷ [])))
+  unfolding reportText headText loopsText joined
+  report-parts rows ticks = rw (taken-count, joined-append, append-nil, append-nil, append-assoc, append-assoc)
 
-  pub loops-line : (rows ticks k : ℕ) → k ≡ 2 → keyLine loopsKey loops ≡ getD (tableLines rows lines loops ticks) k []
-  unfolding textLines
-  loops-line rows ticks k e = rw (e, taken-count)
-
-  -- past the first three
-  rest-line : (rows ticks k : ℕ) → 3 ≤ k → getD (tableLines rows lines loops ticks) k [] ≡ getD (loopLines (linesOf (take loops lines)) ++ (keyLine ticksKey ticks ∷ [])) (k - 3) []
-  unfolding textLines
-  rest-line rows ticks k l = past (keyLine reportKey 1) (keyLine rowsKey rows) (keyLine loopsKey (length (linesOf (take loops lines)))) (loopLines (linesOf (take loops lines)) ++ (keyLine ticksKey ticks ∷ [])) k l
-
-  pub loop-line : (rows ticks k : ℕ) (d : LoopLine) → 3 ≤ k → k < loops + 3 → loopLine (lineOf (getD lines (k - 3) d)) ≡ getD (tableLines rows lines loops ticks) k []
-  loop-line rows ticks k d l h = sym (rest-line rows ticks k l
-      ∙ List·getD-append (loopLines (linesOf (take loops lines))) (keyLine ticksKey ticks ∷ []) [] (k - 3) (omega (arith, taken-loops))
-      ∙ loop-at (take loops lines) (k - 3) d (rw length-take (omega arith))
-      ∙ ap (λ (x : LoopLine). loopLine (lineOf x)) (getD-take loops lines (k - 3) d (omega arith)))
-
-  pub ticks-line : (rows ticks k : ℕ) → loops + 3 ≤ k → k < loops + 4 → keyLine ticksKey ticks ≡ getD (tableLines rows lines loops ticks) k []
-  ticks-line rows ticks k l h = sym (rest-line rows ticks k (omega arith)
-      ∙ getD-at (loopLines (linesOf (take loops lines))) (keyLine ticksKey ticks) [] [] (k - 3) (omega (arith, taken-loops)))
-
-pub report-line : (rows ticks loops k : ℕ) (lines : List LoopLine) → k ≡ 0 → keyLine reportKey 1 ≡ getD (tableLines rows lines loops ticks) k []
-unfolding textLines
-report-line rows ticks loops k lines e = rw e
-
--- the report is its lines
-pub table-text : (rows loops ticks : ℕ) (lines : List LoopLine) → reportText rows (linesOf (take loops lines)) ticks ≡ joined (tableLines rows lines loops ticks)
-unfolding reportText textLines
-table-text rows loops ticks lines = refl
+-- the length of three texts
+pub three-length : (a b c : List ℕ) → length (joined (a ∷ (b ∷ (c ∷ [])))) ≡ length a + length b + length c
+unfolding joined
+three-length a b c = simp (length-append, append-nil) (omega arith)
 
 -- the answer and the buffer, where the text does not fit and where it does
 pub refused-text : (text old : List ℕ) (n : ℕ) → n ≡ length text → length old < n → (Refused 14 n ≡ fitting text (length old)) × (old ≡ written text old)

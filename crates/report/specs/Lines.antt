@@ -1,24 +1,22 @@
 -- The report's lines, one after the other.
-use mathlib.Core.List.{List, [], _∷_, _++_}
+use mathlib.Core.List.{List, [], _∷_}
 use Prim.Native.Nat.{ℕ}
 use lib.IntN.{ℤ, pos}
-use lib.ListN.{length, take}
+use lib.ListN.{take}
 use Rattle.rules.specs.declared.LoopLine.{LoopLine}
 use Rattle.report.specs.declared.End.{End}
 use Rattle.report.specs.declared.End.the-variants.{Change, Factor}
-use Rattle.rules.specs.Figures.{Line}
-use Rattle.rules.specs.Report.{linesOf, keyLine, loopLines, reportKey, rowsKey, loopsKey, ticksKey}
+use Rattle.rules.specs.Report.{joined, linesOf, keyLine, loopLines, reportKey, rowsKey, loopsKey}
 
 -- an end's number
 abbrev pub endOf : End → ℤ
 endOf (Change z) = z
 endOf (Factor n) = pos n
 
--- the lines that reportText joins
-unfoldable pub textLines : ℕ → List Line → ℕ → List (List ℕ)
-textLines rows ls ticks =
-    keyLine reportKey 1 ∷ (keyLine rowsKey rows ∷ (keyLine loopsKey (length ls) ∷ (loopLines ls ++ (keyLine ticksKey ticks ∷ []))))
+-- `report=1`, `rows=R`, `loops=K`
+unfoldable pub headText : ℕ → ℕ → List ℕ
+headText rows loops = joined (keyLine reportKey 1 ∷ (keyLine rowsKey rows ∷ (keyLine loopsKey loops ∷ [])))
 
--- of the first loops of a table of lines
-abbrev pub tableLines : ℕ → List LoopLine → ℕ → ℕ → List (List ℕ)
-tableLines rows lines loops ticks = textLines rows (linesOf (take loops lines)) ticks
+-- the lines of the first loops of a table of lines
+unfoldable pub loopsText : List LoopLine → ℕ → List ℕ
+loopsText lines loops = joined (loopLines (linesOf (take loops lines)))

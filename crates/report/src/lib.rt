@@ -5,13 +5,12 @@ use rules::LoopLine;
 use rules::Reply;
 use rules::Step;
 ghost use mathlib.Core.Path.{_≡_};
-ghost use mathlib.Core.List.{[]};
-ghost use Prim.Native.Nat.{_+_, _≤_, _<_};
-ghost use lib.ListN.{length, getD, take};
+ghost use Prim.Native.Nat.{_≤_};
+ghost use lib.ListN.{length, take};
 ghost use Rattle.rules.specs.Calls.{fitting, written};
-ghost use Rattle.rules.specs.Report.{joined, decimal, sign, size, stepName, firstEnd, secondEnd, exactName, keyLine, loopLine, lineOf, linesOf, reportText};
-ghost use Rattle.pieces.specs.Pieces.{labelText, pieceText, pieceTexts, Wrote};
-ghost use Rattle.report.specs.Lines.{endOf, tableLines};
+ghost use Rattle.rules.specs.Report.{joined, decimal, sign, size, stepName, firstEnd, secondEnd, exactName, loopLine, lineOf, linesOf, reportText};
+ghost use Rattle.pieces.specs.Pieces.{pieceText, pieceTexts, Wrote};
+ghost use Rattle.report.specs.Lines.{endOf, headText, loopsText};
 
 // How far z is from 0.
 pub fn size(z: i64) -> u64
@@ -106,18 +105,6 @@ fn exact_name(exact: bool) -> Piece
     Piece::Fixed(Label::Most)
 }
 
-// A line of a key and a number.
-fn key_line(key: Label, n: u64) -> [Piece; 17]
-    ensures { λ r. ⌜ joined (pieceTexts r) ≡ keyLine (labelText key) n ⌝ }
-{
-    let none = Piece::Nothing;
-    let mut pieces = [none; 17];
-    pieces[0] = Piece::Fixed(key);
-    pieces[1] = Piece::Number(n);
-    pieces[2] = Piece::Fixed(Label::Newline);
-    pieces
-}
-
 // A loop's line.
 fn loop_line(line: LoopLine) -> [Piece; 17]
     ensures { λ r. ⌜ joined (pieceTexts r) ≡ loopLine (lineOf line) ⌝ }
@@ -148,32 +135,27 @@ fn loop_line(line: LoopLine) -> [Piece; 17]
     ]
 }
 
-// Line k of the report.
-fn report_line(
-    rows: usize,
-    lines: [LoopLine; 16],
-    loops: usize,
-    ticks: u64,
-    k: usize,
-) -> [Piece; 17]
-    requires { ⌜ (loops ≤ 16) × (k < loops + 4) ⌝ }
-    ensures { λ r. ⌜ joined (pieceTexts r) ≡ getD (tableLines rows lines loops ticks) k [] ⌝ }
+// The lines before the loops': how many bytes they have.
+fn head_len(rows: usize, loops: usize) -> usize
+    ensures { λ r. ⌜ (r ≡ length (headText rows loops)) × (r ≤ 84) ⌝ }
 {
-    if k == 0 {
-        return key_line(Label::Report, 1);
+    let first = pieces::key_len(Label::Report, 1) + pieces::key_len(Label::Rows, rows as u64);
+    first + pieces::key_len(Label::Loops, loops as u64)
+}
+
+// The loops' lines: how many bytes they have.
+fn loops_len(lines: [LoopLine; 16], loops: usize) -> usize
+    requires { ⌜ loops ≤ 16 ⌝ }
+    ensures { λ r. ⌜ (r ≡ length (loopsText lines loops)) × (r ≤ 5440) ⌝ }
+{
+    let mut len: usize = 0;
+    let mut k: usize = 0;
+    while k < loops {
+        let line = lines[k];
+        len += pieces::line_len(loop_line(line));
+        k += 1;
     }
-    if k == 1 {
-        return key_line(Label::Rows, rows as u64);
-    }
-    if k == 2 {
-        return key_line(Label::Loops, loops as u64);
-    }
-    if k < loops + 3 {
-        let i = k - 3;
-        let line = lines[i];
-        return loop_line(line);
-    }
-    key_line(Label::Ticks, ticks)
+    len
 }
 
 // The report's length.
@@ -181,15 +163,33 @@ pub fn report_len(rows: usize, lines: [LoopLine; 16], loops: usize, ticks: u64) 
     requires { ⌜ loops ≤ 16 ⌝ }
     ensures { λ r. ⌜ r ≡ length (reportText rows (linesOf (take loops lines)) ticks) ⌝ }
 {
-    let count = loops + 4;
-    let mut len: usize = 0;
+    let before = head_len(rows, loops) + loops_len(lines, loops);
+    before + pieces::key_len(Label::Ticks, ticks)
+}
+
+// Writes the lines before the loops'.
+fn put_head(rows: usize, loops: usize, buffer: &mut [u8]) -> usize
+    requires { ⌜ length (headText rows loops) ≤ length (now buffer) ⌝ }
+    ensures { λ r. ⌜ Wrote (headText rows loops) (now (buffer .entry)) (now (buffer .exit)) r ⌝ }
+{
+    let a = pieces::put_key(Label::Report, 1, buffer);
+    let b = a + pieces::put_key(Label::Rows, rows as u64, &mut buffer[a..]);
+    b + pieces::put_key(Label::Loops, loops as u64, &mut buffer[b..])
+}
+
+// Writes the loops' lines, each into the unused rest of the buffer.
+fn put_loops(lines: [LoopLine; 16], loops: usize, buffer: &mut [u8]) -> usize
+    requires { ⌜ (loops ≤ 16) × (length (loopsText lines loops) ≤ length (now buffer)) ⌝ }
+    ensures { λ r. ⌜ Wrote (loopsText lines loops) (now (buffer .entry)) (now (buffer .exit)) r ⌝ }
+{
+    let mut at: usize = 0;
     let mut k: usize = 0;
-    while k < count {
-        let line = report_line(rows, lines, loops, ticks, k);
-        len += pieces::line_len(line);
+    while k < loops {
+        let line = lines[k];
+        at += pieces::put_line(loop_line(line), &mut buffer[at..]);
         k += 1;
     }
-    len
+    at
 }
 
 // Writes the lines, each into the unused rest of the buffer.
@@ -203,15 +203,9 @@ fn put_lines(
     requires { ⌜ (loops ≤ 16) × (length (reportText rows (linesOf (take loops lines)) ticks) ≤ length (now buffer)) ⌝ }
     ensures { λ r. ⌜ Wrote (reportText rows (linesOf (take loops lines)) ticks) (now (buffer .entry)) (now (buffer .exit)) r ⌝ }
 {
-    let count = loops + 4;
-    let mut at: usize = 0;
-    let mut k: usize = 0;
-    while k < count {
-        let line = report_line(rows, lines, loops, ticks, k);
-        at += pieces::put_line(line, &mut buffer[at..]);
-        k += 1;
-    }
-    at
+    let a = put_head(rows, loops, buffer);
+    let b = a + put_loops(lines, loops, &mut buffer[a..]);
+    b + pieces::put_key(Label::Ticks, ticks, &mut buffer[b..])
 }
 
 // Writes the report, if the buffer is long enough (question 14).
