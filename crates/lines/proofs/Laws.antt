@@ -1,0 +1,12 @@
+-- A table's lines, one by one.
+use mathlib.Core.Path.{_≡_, refl, ap}
+use mathlib.Core.List.{List, [], _∷_, map}
+use Prim.Native.Nat.{ℕ, zero, suc}
+use lib.ListN.{set}
+use Rattle.lines.specs.Coded.{lineIn, linesIn}
+
+-- a line put into the table
+pub lines-set : (t : List (List ℕ)) (k : ℕ) (e : List ℕ) → linesIn (set t k e) ≡ set (linesIn t) k (lineIn e)
+lines-set [] k e = refl
+lines-set (x ∷ t) zero e = refl
+lines-set (x ∷ t) (suc k) e = ap (λ (l : List _). lineIn x ∷ l) (lines-set t k e)
