@@ -1,13 +1,16 @@
 -- What a line of the table stands for: its numbers are the row; the step's tag and its two ends; the turns; the total; 1 for exact.
+use mathlib.Core.Path.{_≡_}
 use mathlib.Core.Bool.{cond}
 use mathlib.Core.List.{List, map}
-use Prim.Native.Nat.{ℕ, min}
+use Prim.Native.Nat.{ℕ, _≤_, min}
 use lib.Dec.{eqb}
 use lib.IntN.{ℤ, pos, _-ℤ_}
-use lib.ListN.{getD}
+use lib.ListN.{length, getD, take}
 use Rattle.rules.specs.declared.Step.{Step}
 use Rattle.rules.specs.declared.Step.the-variants.{Add, Grow, Shrink, Unknown}
 use Rattle.rules.specs.declared.LoopLine.{LoopLine}
+use Rattle.rules.specs.Figures.{Line}
+use Rattle.rules.specs.Report.{linesOf}
 
 abbrev pub changeIn : ℕ → ℤ
 changeIn x = pos (min x 2_199_023_255_552) -ℤ pos 1_099_511_627_776
@@ -31,3 +34,12 @@ lineIn e = record {
 -- the lines that a table holds
 abbrev pub linesIn : List (List ℕ) → List LoopLine
 linesIn t = map lineIn t
+
+-- the first k of them
+abbrev pub firstLines : List (List ℕ) → ℕ → List Line
+firstLines t k = linesOf (take k (linesIn t))
+
+-- a table of 16 lines, of which the first `loops` are read
+pub record Lent (loops : ℕ) (t : List (List ℕ)) : Type 0 where
+  pub few : loops ≤ 16
+  pub long : length t ≡ 16

@@ -1,4 +1,5 @@
 // Writing the report, line by line, into the unused rest of the buffer.
+use lines::line_at;
 use pieces::Label;
 use pieces::Piece;
 use rules::LoopLine;
@@ -6,9 +7,10 @@ use rules::Reply;
 use rules::Step;
 ghost use mathlib.Core.Path.{_≡_};
 ghost use Prim.Native.Nat.{_≤_};
-ghost use lib.ListN.{length, take};
+ghost use lib.ListN.{length};
 ghost use Rattle.rules.specs.Calls.{fitting, written};
-ghost use Rattle.rules.specs.Report.{joined, decimal, sign, size, stepName, firstEnd, secondEnd, exactName, loopLine, lineOf, linesOf, reportText};
+ghost use Rattle.rules.specs.Report.{joined, decimal, sign, size, stepName, firstEnd, secondEnd, exactName, loopLine, lineOf, reportText};
+ghost use Rattle.lines.specs.Coded.{linesIn, firstLines, Lent};
 ghost use Rattle.pieces.specs.Pieces.{pieceText, pieceTexts, Wrote};
 ghost use Rattle.report.specs.Lines.{endOf, headText, loopsText};
 
@@ -144,14 +146,14 @@ fn head_len(rows: usize, loops: usize) -> usize
 }
 
 // The loops' lines: how many bytes they have.
-fn loops_len(lines: [LoopLine; 16], loops: usize) -> usize
-    requires { ⌜ loops ≤ 16 ⌝ }
-    ensures { λ r. ⌜ (r ≡ length (loopsText lines loops)) × (r ≤ 5440) ⌝ }
+fn loops_len(lines: &[[u64; 7]; 16], loops: usize) -> usize
+    requires { ⌜ Lent loops (now lines) ⌝ }
+    ensures { λ r. ⌜ (r ≡ length (loopsText (linesIn (now (lines .entry))) loops)) × (r ≤ 5440) ⌝ }
 {
     let mut len: usize = 0;
     let mut k: usize = 0;
     while k < loops {
-        let line = lines[k];
+        let line = line_at(lines, k);
         len += pieces::line_len(loop_line(line));
         k += 1;
     }
@@ -159,9 +161,9 @@ fn loops_len(lines: [LoopLine; 16], loops: usize) -> usize
 }
 
 // The report's length.
-pub fn report_len(rows: usize, lines: [LoopLine; 16], loops: usize, ticks: u64) -> usize
-    requires { ⌜ loops ≤ 16 ⌝ }
-    ensures { λ r. ⌜ r ≡ length (reportText rows (linesOf (take loops lines)) ticks) ⌝ }
+pub fn report_len(rows: usize, lines: &[[u64; 7]; 16], loops: usize, ticks: u64) -> usize
+    requires { ⌜ Lent loops (now lines) ⌝ }
+    ensures { λ r. ⌜ r ≡ length (reportText rows (firstLines (now (lines .entry)) loops) ticks) ⌝ }
 {
     let before = head_len(rows, loops) + loops_len(lines, loops);
     before + pieces::key_len(Label::Ticks, ticks)
@@ -178,14 +180,14 @@ fn put_head(rows: usize, loops: usize, buffer: &mut [u8]) -> usize
 }
 
 // Writes the loops' lines, each into the unused rest of the buffer.
-fn put_loops(lines: [LoopLine; 16], loops: usize, buffer: &mut [u8]) -> usize
-    requires { ⌜ (loops ≤ 16) × (length (loopsText lines loops) ≤ length (now buffer)) ⌝ }
-    ensures { λ r. ⌜ Wrote (loopsText lines loops) (now (buffer .entry)) (now (buffer .exit)) r ⌝ }
+fn put_loops(lines: &[[u64; 7]; 16], loops: usize, buffer: &mut [u8]) -> usize
+    requires { ⌜ Lent loops (now lines) × (length (loopsText (linesIn (now lines)) loops) ≤ length (now buffer)) ⌝ }
+    ensures { λ r. ⌜ Wrote (loopsText (linesIn (now (lines .entry))) loops) (now (buffer .entry)) (now (buffer .exit)) r ⌝ }
 {
     let mut at: usize = 0;
     let mut k: usize = 0;
     while k < loops {
-        let line = lines[k];
+        let line = line_at(lines, k);
         at += pieces::put_line(loop_line(line), &mut buffer[at..]);
         k += 1;
     }
@@ -195,13 +197,13 @@ fn put_loops(lines: [LoopLine; 16], loops: usize, buffer: &mut [u8]) -> usize
 // Writes the lines, each into the unused rest of the buffer.
 fn put_lines(
     rows: usize,
-    lines: [LoopLine; 16],
+    lines: &[[u64; 7]; 16],
     loops: usize,
     ticks: u64,
     buffer: &mut [u8],
 ) -> usize
-    requires { ⌜ (loops ≤ 16) × (length (reportText rows (linesOf (take loops lines)) ticks) ≤ length (now buffer)) ⌝ }
-    ensures { λ r. ⌜ Wrote (reportText rows (linesOf (take loops lines)) ticks) (now (buffer .entry)) (now (buffer .exit)) r ⌝ }
+    requires { ⌜ Lent loops (now lines) × (length (reportText rows (firstLines (now lines) loops) ticks) ≤ length (now buffer)) ⌝ }
+    ensures { λ r. ⌜ Wrote (reportText rows (firstLines (now (lines .entry)) loops) ticks) (now (buffer .entry)) (now (buffer .exit)) r ⌝ }
 {
     let a = put_head(rows, loops, buffer);
     let b = a + put_loops(lines, loops, &mut buffer[a..]);
@@ -211,13 +213,13 @@ fn put_lines(
 // Writes the report, if the buffer is long enough (question 14).
 pub fn write_report(
     rows: usize,
-    lines: [LoopLine; 16],
+    lines: &[[u64; 7]; 16],
     loops: usize,
     ticks: u64,
     buffer: &mut [u8],
 ) -> Reply
-    requires { ⌜ loops ≤ 16 ⌝ }
-    ensures { λ r. ⌜ (r ≡ fitting (reportText rows (linesOf (take loops lines)) ticks) (length (now (buffer .entry)))) × (now (buffer .exit) ≡ written (reportText rows (linesOf (take loops lines)) ticks) (now (buffer .entry))) ⌝ }
+    requires { ⌜ Lent loops (now lines) ⌝ }
+    ensures { λ r. ⌜ (r ≡ fitting (reportText rows (firstLines (now (lines .entry)) loops) ticks) (length (now (buffer .entry)))) × (now (buffer .exit) ≡ written (reportText rows (firstLines (now (lines .entry)) loops) ticks) (now (buffer .entry))) ⌝ }
 {
     let len = report_len(rows, lines, loops, ticks);
     if buffer.len() < len {

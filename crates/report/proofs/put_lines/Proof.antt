@@ -1,3 +1,4 @@
+use denote.Ref.{now}
 use borrow.Author.Needs.{needs}
 use native.Mathlib.Omega.{arith}
 use mathlib.Core.Path.{_≡_}
@@ -5,6 +6,8 @@ use mathlib.Core.List.{[], _∷_}
 use Prim.Native.Nat.{_≤_}
 use lib.ListN.{length, length-drop}
 use Rattle.rules.specs.Report.{joined, keyLine, ticksKey}
+use Rattle.lines.specs.Coded.{linesIn}
+use Rattle.lines.proofs.Laws.{lent-room}
 use Rattle.report.specs.Lines.{headText, loopsText}
 use Rattle.report.proofs.Laws.{report-parts}
 use Rattle.pieces.proofs.Laws.{first-room, second-room, second-written, third-room, third-written, writing-all, part-rest}
@@ -12,13 +15,13 @@ use Rattle.report.proofs.put_lines.Statement.{statement}
 use Rattle.report.proofs.put_lines.Tie as tie
 
 -- room for the three parts
-room : (c : tie.Start) → length (joined (headText (c .args .rows) (c .args .loops) ∷ (loopsText (c .args .lines) (c .args .loops) ∷ (keyLine ticksKey (c .args .ticks) ∷ [])))) ≤ length (c .args .buffer .now)
-room c = rw (report-parts (c .args .lines) (c .args .loops) (omega arith) (c .args .rows) (c .args .ticks)) at (c .pre .1)
+room : (c : tie.Start) → length (joined (headText (c .args .rows) (c .args .loops) ∷ (loopsText (linesIn (now (c .args .lines))) (c .args .loops) ∷ (keyLine ticksKey (c .args .ticks) ∷ [])))) ≤ length (c .args .buffer .now)
+room c = rw (report-parts _ _ (lent-room _ _ (c .pre .0)) (c .args .rows) (c .args .ticks)) at (c .pre .1)
 
 returns : tie.Need-returns
 returns c =
-    let a = c .before .before .before .before .before .before .before .before .before .before .before .before .before .args in
-    rw (report-parts (a .lines) (a .loops) (omega arith) (a .rows) (a .ticks)) (writing-all _ _ _ _ _ (third-written _ _ _ _ (room (c .before .before .before .before .before .before .before .before .before .before .before .before .before)) _ _ _ _ _ _ (c .before .before .before .before .before .before .before .before .before .before .put-head .ensures) (c .before .before .before .before .before .before .put-loops .ensures) (c .before .before .put-key .ensures)) (omega arith))
+    let s = c .before .before .before .before .before .before .before .before .before .before .before .before .before in
+    rw (report-parts _ _ (lent-room _ _ (s .pre .0)) (s .args .rows) (s .args .ticks)) (writing-all _ _ _ _ _ (third-written _ _ _ _ (room (c .before .before .before .before .before .before .before .before .before .before .before .before .before)) _ _ _ _ _ _ (c .before .before .before .before .before .before .before .before .before .before .put-head .ensures) (c .before .before .before .before .before .before .put-loops .ensures) (c .before .before .put-key .ensures)) (omega arith))
 
 pub put-lines-spec : {M : Type 1} → statement M
 put-lines-spec = tie.close (tie.spec

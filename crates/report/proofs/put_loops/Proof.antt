@@ -1,10 +1,13 @@
+use denote.Ref.{now}
 use borrow.Author.Needs.{needs}
 use native.Mathlib.Omega.{arith}
-use mathlib.Core.Path.{_≡_, _∙_}
+use mathlib.Core.Path.{_≡_, ap, _∙_}
 use mathlib.Core.List.{[]}
 use Prim.Native.Nat.{_+_, _-_, _≤_}
-use lib.ListN.{length, getD, take, length-drop}
-use Rattle.rules.specs.Report.{joined, linesOf, loopLines}
+use lib.ListN.{length, getD, length-drop}
+use Rattle.rules.specs.Report.{joined, lineOf, loopLine, loopLines}
+use Rattle.lines.specs.Coded.{firstLines}
+use Rattle.lines.proofs.Laws.{lent-room}
 use Rattle.pieces.specs.Pieces.{pieceTexts}
 use Rattle.pieces.proofs.Laws.{Writing, writing-none, writing-room, writing-more, writing-all, part-rest}
 use Rattle.report.specs.Lines.{loopsText}
@@ -13,26 +16,25 @@ use Rattle.report.proofs.put_loops.Statement.{statement}
 use Rattle.report.proofs.put_loops.Tie as tie
 
 abbrev Inv-loop : tie.InvT-loop
-Inv-loop loops buffer₀ lines at₀ k₀ buffer at k = Writing (loopLines (linesOf (take loops lines))) buffer₀ buffer at k
+Inv-loop lines loops buffer₀ at₀ k₀ buffer at k = Writing (loopLines (firstLines lines loops)) buffer₀ buffer at k
 
 abbrev μ-loop : tie.MeasureT-loop
-μ-loop loops buffer₀ lines at₀ k₀ buffer at k = loops - k
+μ-loop lines loops buffer₀ at₀ k₀ buffer at k = loops - k
 
 -- how many lines there are, and room for all
-count : (c : tie.Start Inv-loop μ-loop) → length (loopLines (linesOf (take (c .args .loops) (c .args .t1)))) ≡ c .args .loops
-count c = taken-loops (c .args .t1) (c .args .loops) (omega arith)
+count : (c : tie.Start Inv-loop μ-loop) → length (loopLines (firstLines (now (c .args .lines)) (c .args .loops))) ≡ c .args .loops
+count c = taken-loops _ _ (lent-room _ _ (c .pre .0))
 
-whole : (c : tie.Start Inv-loop μ-loop) → length (joined (loopLines (linesOf (take (c .args .loops) (c .args .t1))))) ≤ length (c .args .buffer .now)
+whole : (c : tie.Start Inv-loop μ-loop) → length (joined (loopLines (firstLines (now (c .args .lines)) (c .args .loops)))) ≤ length (c .args .buffer .now)
 unfolding loopsText
 whole c = c .pre .1
 
 -- the next line, and room for it
 line : (c : tie.After-loop-line Inv-loop μ-loop) →
     let a = c .before .before .before .before .before .args in
-    joined (pieceTexts (c .loop-line .result)) ≡ getD (loopLines (linesOf (take (a .loops) (a .t1)))) (c .before .before .before .loop .k) []
+    joined (pieceTexts (c .loop-line .result)) ≡ getD (loopLines (firstLines (now (a .lines)) (a .loops))) (c .before .before .before .loop .k) []
 line c =
-    let a = c .before .before .before .before .before .args in
-    c .loop-line .ensures ∙ loop-taken (a .t1) (a .loops) (omega arith) _ _ (c .before .before .loop-test .taken)
+    c .loop-line .ensures ∙ ap (λ l. loopLine (lineOf l)) (c .before .line-at .ensures) ∙ loop-taken _ _ (lent-room _ _ (c .before .before .before .before .before .pre .0)) _ _ (c .before .before .loop-test .taken)
 
 room : (c : tie.After-loop-line Inv-loop μ-loop) → c .before .before .before .loop .at + length (joined (pieceTexts (c .loop-line .result))) ≤ length (c .before .before .before .loop .buffer)
 room c =
@@ -54,8 +56,7 @@ put-loops-spec = tie.close (tie.spec
     Inv-loop
     μ-loop
     (λ c. writing-none _ _)
-    (λ c. search needs)
-    (λ c. search needs)
+    (λ c κs. search needs)
     (λ c κs. search needs)
     (λ c. omega (arith, room c))
     (λ c. omega (arith, room c))

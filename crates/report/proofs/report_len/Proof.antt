@@ -1,8 +1,11 @@
+use denote.Ref.{now}
 use borrow.Author.Needs.{needs}
 use native.Mathlib.Omega.{arith}
 use mathlib.Core.Path.{_≡_, ap, _∙_}
 use lib.ListN.{length}
 use Rattle.rules.specs.Report.{keyLine, ticksKey}
+use Rattle.lines.specs.Coded.{linesIn}
+use Rattle.lines.proofs.Laws.{lent-room}
 use Rattle.report.specs.Lines.{headText, loopsText}
 use Rattle.report.proofs.Laws.{report-parts, three-length}
 use Rattle.report.proofs.report_len.Statement.{statement}
@@ -10,8 +13,9 @@ use Rattle.report.proofs.report_len.Tie as tie
 
 returns : tie.Need-returns
 returns c =
-    let a = c .before .before .before .args in
-    let l = ap length (report-parts (a .lines) (a .loops) (omega arith) (a .rows) (a .ticks)) ∙ three-length (headText (a .rows) (a .loops)) (loopsText (a .lines) (a .loops)) (keyLine ticksKey (a .ticks)) in
+    let s = c .before .before .before in
+    let a = s .args in
+    let l = ap length (report-parts (linesIn (now (a .lines))) (a .loops) (lent-room _ _ (s .pre)) (a .rows) (a .ticks)) ∙ three-length (headText (a .rows) (a .loops)) (loopsText (linesIn (now (a .lines))) (a .loops)) (keyLine ticksKey (a .ticks)) in
     omega (arith, l, c .key-len .ensures .0, c .before .loops-len .ensures .0, c .before .before .head-len .ensures .0)
 
 pub report-len-spec : {M : Type 1} → statement M
