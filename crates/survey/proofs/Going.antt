@@ -13,6 +13,8 @@ use Rattle.rules.specs.Turns.{turns}
 use Rattle.rules.specs.Figures.{ones, loopTicks, ticks, Line, line, lines}
 use Rattle.rules.specs.Questions.{Verdict, passed, refused, andThen, asked, tickLimit, ofLoop, loopsVerdict, blocksVerdict}
 use Rattle.steps.specs.declared.Shape.{Shape}
+use lib.ListN.{length}
+use Rattle.lines.specs.Coded.{firstLines}
 use Rattle.table.specs.Code.{kindAt}
 use Rattle.steps.specs.Tree.{blockAt, Whole, Ready, Walked, shapeOf, plainOf, formOf, testOf}
 use Rattle.steps.specs.Body.{bodyAt}
@@ -20,23 +22,23 @@ use Rattle.steps.proofs.Laws.{PickIs, LoopIs}
 use Rattle.steps.proofs.Walking.{Walking, plain-row, pick-row, loop-row}
 use Rattle.ticks.specs.Capped.{capped, overOf}
 use Rattle.turns.specs.Needs.{answer}
-use Rattle.survey.specs.declared.Tally.{Tally}
 use Rattle.survey.specs.declared.Turning.{Turning}
-use Rattle.survey.specs.Fold.{loopCount, cut, cuts, firstLines, State, folded, tallied, lastTicks, LoopOf, Restarted, Lined, Closed, EndedAt, Walkable, Passed, Surveyed}
+use Rattle.survey.specs.Fold.{loopCount, cut, cuts, State, Found, folded, tallied, lastTicks, LoopOf, Restarted, Lined, Closed, EndedAt, Walkable, Passed, Surveyed}
 use Rattle.survey.proofs.Folding.{state-is, cap-lines, fold-plain, fold-pick, fold-loop, pastPlain, pastPick, pastLoop, SameBody, same-body}
 
 -- what a walk over a block found, part by part, from a tally with these parts
-pub record Part (outer : ℕ) (ρ : Env) (s : ℕ) (o : Verdict) (ls : List Line) (n : ℕ) (b : Block) (r : Tally) : Type 0 where
+pub record Part (outer : ℕ) (ρ : Env) (s : ℕ) (o : Verdict) (ls : List Line) (n : ℕ) (b : Block) (r : Found) : Type 0 where
   pub verdict : loopsVerdict ρ b ≡ passed
   pub spent : r .spent ≡ capped (s + ticks ones ρ b)
   pub over : overOf (r .over) ≡ andThen o (blocksVerdict ones ρ b)
   pub lined : firstLines (r .lines) (r .loops) ≡ ls ++ cuts (lines outer ρ b)
   pub count : r .loops ≡ n + loopCount b
+  pub long : length (r .lines) ≡ 16
 
 abbrev pub from-parts : Env → ℕ → Verdict → List Line → ℕ → State
 from-parts ρ s o ls n = record { env = ρ; verdict = passed; spent = s; over = o; lines = ls; loops = n }
 
-pub part-of : {rows : List Row} {count at outer : ℕ} {ρ : Env} {t r : Tally} (s : ℕ) (o : Verdict) (ls : List Line) (n : ℕ) → tallied t ρ ≡ from-parts ρ s o ls n
+pub part-of : {rows : List Row} {count at outer : ℕ} {ρ : Env} {t r : Found} (s : ℕ) (o : Verdict) (ls : List Line) (n : ℕ) → tallied t ρ ≡ from-parts ρ s o ls n
     → Passed rows count at ρ outer t r → Part outer ρ s o ls n (blockAt rows count at) r
 unfolding folded andThen
 part-of {rows} {count} {at} {outer} {ρ} {t} {r} s o ls n e p =
@@ -48,10 +50,11 @@ part-of {rows} {count} {at} {outer} {ρ} {t} {r} s o ls n e p =
       over = ap (λ (x : State). x .over) v;
       lined = ap (λ (x : State). x .lines) v;
       count = ap (λ (x : State). x .loops) v;
+      long = p .long;
     }
 
 -- or which loop it refused
-pub refused-in : {rows : List Row} {count at outer : ℕ} {ρ : Env} {t r : Tally} → Surveyed rows count at ρ outer t r → (r .number ≡ 0 → ⊥)
+pub refused-in : {rows : List Row} {count at outer : ℕ} {ρ : Env} {t r : Found} → Surveyed rows count at ρ outer t r → (r .number ≡ 0 → ⊥)
     → loopsVerdict ρ (blockAt rows count at) ≡ refused (r .number) (r .place)
 unfolding folded andThen
 refused-in s h = s .stopped h
@@ -68,57 +71,60 @@ last-small (Do v c x) = omega arith
 last-small (For v s c x d) = omega arith
 
 -- the walk is over
-pub closing : {rows : List Row} {count at outer i : ℕ} {ρ ρ₀ : Env} {t t₀ r : Tally} → Walked rows count at i (tallied t ρ) (folded outer (tallied t₀ ρ₀)) → t .spent ≤ 1_000_000_000_001 → EndedAt t i r
+pub closing : {rows : List Row} {count at outer i : ℕ} {ρ ρ₀ : Env} {t t₀ r : Found} → Walked rows count at i (tallied t ρ) (folded outer (tallied t₀ ρ₀)) → t .spent ≤ 1_000_000_000_001 → length (t .lines) ≡ 16 → EndedAt t i r
     → Passed rows count at ρ₀ outer t₀ r
 unfolding folded
-closing {rows} {count} {at} {outer} {i} {ρ} {ρ₀} {t} {t₀} {r} w s h =
+closing {rows} {count} {at} {outer} {i} {ρ} {ρ₀} {t} {t₀} {r} w s m h =
     let b = blockAt rows count at in
     let e : ρ ≡ after ρ₀ b = ap (λ (x : State). x .env) (w .value) in
-    let m : r .spent ≡ t .spent = ap (λ (x : State). x .spent) (h .value ρ) in
+    let q : r .spent ≡ t .spent = ap (λ (x : State). x .spent) (h .value ρ) in
     record {
       value = ap (tallied r) (sym e) ∙ h .value ρ ∙ w .value;
       place = h .next ∙ w .place;
       low = omega (arith, h .next, w .low);
       high = omega (arith, h .next, w .high);
       small = omega arith;
+      long = ap length (h .same) ∙ m;
     }
 
 nowhere : Env
 nowhere w = full
 
 -- a tally that a walk may start from
-pub restart-walkable : {rows : List Row} {count a outer s : ℕ} {t r : Tally} → Ready rows count a → Restarted t s r → s ≤ 1_000_000_000_001 → outer ≤ 1_000_000_000_001
+pub restart-walkable : {rows : List Row} {count a outer s : ℕ} {t r : Found} → Ready rows count a → Restarted t s r → length (t .lines) ≡ 16 → s ≤ 1_000_000_000_001 → outer ≤ 1_000_000_000_001
     → t .loops + loopCount (blockAt rows count a) ≤ 16 → Walkable rows count a outer r
-restart-walkable {t} {r} k h l o m =
+restart-walkable {t} {r} k h g l o m =
     let p = ap (λ (x : State). x .spent) (h .value nowhere) in
     let q = ap (λ (x : State). x .loops) (h .value nowhere) in
-    record { ready = k; small = omega arith; times = o; room = omega arith }
+    record { ready = k; small = omega arith; times = o; room = omega arith; long = ap length (h .same) ∙ g }
 
-pub lined-walkable : {rows : List Row} {count a outer i total s : ℕ} {one : Turning} {t r : Tally} → Ready rows count a → Lined t i one total s r → s ≤ 1_000_000_000_001 → outer ≤ 1_000_000_000_001
+pub lined-walkable : {rows : List Row} {count a outer i total s : ℕ} {one : Turning} {t r : Found} → Ready rows count a → Lined t i one total s r → s ≤ 1_000_000_000_001 → outer ≤ 1_000_000_000_001
     → t .loops + 1 + loopCount (blockAt rows count a) ≤ 16 → Walkable rows count a outer r
 lined-walkable {t} {r} k h l o m =
     let p = ap (λ (x : State). x .spent) (h .value nowhere) in
     let q = ap (λ (x : State). x .loops) (h .value nowhere) in
-    record { ready = k; small = omega arith; times = o; room = omega arith }
+    record { ready = k; small = omega arith; times = o; room = omega arith; long = h .long }
 
 module _ (rows : List Row) (count outer at : ℕ) (x₀ : State) where
-  pub record Going (i : ℕ) (ρ : Env) (t : Tally) : Type 0 where
+  pub record Going (i : ℕ) (ρ : Env) (t : Found) : Type 0 where
     pub walk : Walking rows count (folded outer) at x₀ i (tallied t ρ)
     pub small : t .spent ≤ 1_000_000_000_001
+    pub long : length (t .lines) ≡ 16
 
-  module _ {i : ℕ} {ρ : Env} {t : Tally} (k : Going i ρ t) where
+  module _ {i : ℕ} {ρ : Env} {t : Found} (k : Going i ρ t) where
     -- the loops that are left
     pub room : folded outer x₀ (blockAt rows count at) .loops ≡ t .loops + loopCount (blockAt rows count i)
     unfolding folded
     room = ap (λ (x : State). x .loops) (k .walk .value)
 
     module _ (l : i < count) (built : Whole rows count) where
-      pub go-plain : shapeOf (kindAt rows i) ≡ Shape.Plain → {σ : Env} {p : ℕ} {r : Tally} → σ ≡ afterRow ρ (plainOf (kindAt rows i)) → p ≡ capped (t .spent + 1) → Restarted t p r → Going (i + 1) σ r
+      pub go-plain : shapeOf (kindAt rows i) ≡ Shape.Plain → {σ : Env} {p : ℕ} {r : Found} → σ ≡ afterRow ρ (plainOf (kindAt rows i)) → p ≡ capped (t .spent + 1) → Restarted t p r → Going (i + 1) σ r
       go-plain h {σ} {p} {r} a b c =
           let e : tallied r σ ≡ pastPlain outer (tallied t ρ) (plainOf (kindAt rows i)) = c .value σ ∙ state-is a refl b refl refl refl in
           record {
             walk = plain-row rows count (folded outer) at x₀ (k .walk) l built h (λ rest. fold-plain outer (tallied t ρ) i (plainOf (kindAt rows i)) rest ∙ ap (λ y. folded outer y rest) (sym e));
             small = let z : r .spent ≡ p = ap (λ (x : State). x .spent) (c .value σ) in omega arith;
+            long = ap length (c .same) ∙ k .long;
           }
 
       -- ---- a pick
@@ -145,7 +151,7 @@ module _ (rows : List Row) (count outer at : ℕ) (x₀ : State) where
         unfolding andThen
         pick-second n p g h = verdict-pick ∙ ap₂ (λ v w. andThen (andThen v w) (loopsVerdict (join (after ρ A) (after ρ B)) (blockAt rows count (e + 1)))) g h
 
-        pub go-pick : {a b : Tally} {F : ℕ} {σ : Env} {r : Tally}
+        pub go-pick : {a b : Found} {F : ℕ} {σ : Env} {r : Found}
             → Part outer ρ 0 (overOf (t .over)) (firstLines (t .lines) (t .loops)) (t .loops) A a
             → Part outer ρ 0 (overOf (a .over)) (firstLines (a .lines) (a .loops)) (a .loops) B b
             → F ≡ capped (1 + max (a .spent) (b .spent)) → Closed t b e F r → σ ≡ join (after ρ A) (after ρ B) → Going (e + 1) σ r
@@ -157,11 +163,12 @@ module _ (rows : List Row) (count outer at : ℕ) (x₀ : State) where
             (sym (ap₂ (λ v w. andThen v w) (pa .verdict) (pb .verdict)))
             (omega (arith, c .spent))
             (c .over .value G fg ∙ ap (λ v. andThen v (asked 13 e (leb G tickLimit) passed)) (pb .over ∙ ap (λ v. andThen v (blocksVerdict ones ρ B)) (pa .over)))
-            (c .lines ∙ pb .lined ∙ ap (λ x. x ++ cuts (lines outer ρ B)) (pa .lined))
+            (ap₂ firstLines (c .same) (c .loops) ∙ pb .lined ∙ ap (λ x. x ++ cuts (lines outer ρ B)) (pa .lined))
             (c .loops ∙ pb .count ∙ ap (λ x. x + loopCount B) (pa .count)) in
             record {
               walk = pick-row rows count (folded outer) at x₀ (k .walk) l built u (λ rest. fold-pick outer (tallied t ρ) i e A B rest ∙ ap (λ y. folded outer y rest) (sym z));
               small = omega (arith, c .spent);
+              long = ap length (c .same) ∙ pb .long;
             }
 
       -- ---- a loop
@@ -201,7 +208,7 @@ module _ (rows : List Row) (count outer at : ℕ) (x₀ : State) where
         unfolding andThen
         body-refused n p g h = verdict-loop ∙ ap₂ (λ v w. andThen (andThen v w) (loopsVerdict (outside σ test body) (blockAt rows count (e + 1)))) g (same .loops β ∙ h)
 
-        pub go-loop : {one : Turning} {total F : ℕ} {α : Env} {b r : Tally}
+        pub go-loop : {one : Turning} {total F : ℕ} {α : Env} {b r : Found}
             → LoopOf rows count i σ one → one .number ≡ 0 → total ≡ capped (one .turns * outer)
             → Part total β (lastTicks (kindAt rows i)) (overOf (t .over)) (firstLines (t .lines) (t .loops) ++ (record { row = i; step = one .step; turns = one .turns; total = total; exact = one .exact } ∷ [])) (t .loops + 1) (blockAt rows count (i + 1)) b
             → ((G : ℕ) → b .spent ≡ capped G → F ≡ capped (loopTicks ones form (one .turns) G)) → Closed t b e F r → α ≡ outside σ test body → Going (e + 1) α r
@@ -221,9 +228,10 @@ module _ (rows : List Row) (count outer at : ℕ) (x₀ : State) where
             (sym (ap₂ (λ a w. andThen a w) v (same .loops β ∙ p .verdict)))
             (omega (arith, c .spent))
             (c .over .value (loopTicks ones form n G) fg ∙ ap (λ w. andThen w (asked 13 e (leb (loopTicks ones form n G) tickLimit) passed)) (p .over ∙ ap (andThen (overOf (t .over))) (sym (same .over β))))
-            (c .lines ∙ p .lined ∙ ap₂ (λ a w. (firstLines (t .lines) (t .loops) ++ (a ∷ [])) ++ w) L inner)
+            (ap₂ firstLines (c .same) (c .loops) ∙ p .lined ∙ ap₂ (λ a w. (firstLines (t .lines) (t .loops) ++ (a ∷ [])) ++ w) L inner)
             (c .loops ∙ p .count ∙ ap (λ m. t .loops + 1 + m) (sym (same .count))) in
             record {
               walk = loop-row rows count (folded outer) at x₀ (k .walk) l built u (λ rest. fold-loop outer (tallied t ρ) i e form test body rest ∙ ap (λ w. folded outer w rest) (sym y));
               small = omega (arith, c .spent);
+              long = ap length (c .same) ∙ p .long;
             }

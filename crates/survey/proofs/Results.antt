@@ -18,7 +18,7 @@ use Rattle.turns.specs.Needs.{answer}
 use Rattle.survey.specs.declared.Tally.{Tally}
 use Rattle.survey.specs.declared.Refusal.{Refusal}
 use Rattle.survey.specs.declared.Figures.{Figures}
-use Rattle.survey.specs.Fold.{tallied, Surveyed}
+use Rattle.survey.specs.Fold.{Found, found, tallied, Surveyed}
 use Rattle.survey.specs.Whole.{BlankFrom, FirstNo, of-loop, of-block, of-file, none, SurveyOf}
 use Rattle.survey.proofs.Going.{from-parts, part-of, refused-in}
 use Rattle.survey.proofs.Totals.{lines-true}
@@ -39,35 +39,35 @@ module _ (ranges : List (List ℤ)) (vars : ℕ) (rows : List Row) (count : ℕ)
   moved : {A : Type 0} (f : Env → Block → A) → f (scripts.envOf (take vars (pairRanges ranges))) (treeOf (kinds rows count)) ≡ f ρ b
   moved f = λ j. f (env-is ranges vars blank j) (sym (file-is ranges vars rows count legal few all) j)
 
-  abbrev figures : Tally → Refusal → Figures
-  figures t f = record { number = f .number; place = f .place; ticks = t .spent; loops = t .loops; lines = t .lines }
-
-  pub result : (t₀ t : Tally) → tallied t₀ ρ ≡ from-parts ρ 0 passed [] 0 → Surveyed rows count 0 ρ 1 t₀ t → (f : Refusal) → FirstNo t count f
-      → SurveyOf (scriptOf ranges vars rows count) count (record { number = f .number; place = f .place; ticks = t .spent; loops = t .loops; lines = t .lines })
+  pub result : (t₀ : Found) (t : Tally) (ls : List (List ℕ)) → tallied t₀ ρ ≡ from-parts ρ 0 passed [] 0 → Surveyed rows count 0 ρ 1 t₀ (found t ls) → (f : Refusal) → FirstNo t count f
+      → SurveyOf (scriptOf ranges vars rows count) count (record { number = f .number; place = f .place; ticks = t .spent; loops = t .loops }) ls
   unfolding scriptOf andThen
-  result t₀ t e s f (of-loop h p q) = record {
+  result t₀ t ls e s f (of-loop h p q) = record {
     verdict = moved (verdict ones count) ∙ verdict-loop count ρ b (t .number) (t .place) h (refused-in s h) ∙ (λ j. answer (sym p j) (sym q j));
     ticks = λ z. absurd (h (sym p ∙ z));
     loops = λ z. absurd (h (sym p ∙ z));
+    long = λ z. absurd (h (sym p ∙ z));
     lines = λ z. absurd (h (sym p ∙ z));
   }
-  result t₀ t e s f (of-block z l p q) =
+  result t₀ t ls e s f (of-block z l p q) =
       let part = part-of 0 passed [] 0 e (s .whole z) in
       record {
         verdict = moved (verdict ones count) ∙ verdict-block count ρ b (part .verdict) (t .over) (part .over) l ∙ (λ j. answer (sym p j) (sym q j));
         ticks = λ w. no-number p w;
         loops = λ w. no-number p w;
+        long = λ w. no-number p w;
         lines = λ w. no-number p w;
       }
-  result t₀ t e s f (of-file z l k p q) =
+  result t₀ t ls e s f (of-file z l k p q) =
       let part = part-of 0 passed [] 0 e (s .whole z) in
       record {
         verdict = moved (verdict ones count) ∙ verdict-file count ρ b (part .verdict) (t .over) (part .over) l (omega (arith, part .spent)) ∙ (λ j. answer (sym p j) (sym q j));
         ticks = λ w. no-number p w;
         loops = λ w. no-number p w;
+        long = λ w. no-number p w;
         lines = λ w. no-number p w;
       }
-  result t₀ t e s f (none z l k p) =
+  result t₀ t ls e s f (none z l k p) =
       let part = part-of 0 passed [] 0 e (s .whole z) in
       let m : ticks ones ρ b ≤ 1_000_000_000_000 = omega (arith, part .spent) in
       let n : t .spent ≡ ticks ones ρ b = omega (arith, part .spent) in
@@ -75,13 +75,14 @@ module _ (ranges : List (List ℤ)) (vars : ℕ) (rows : List Row) (count : ℕ)
         verdict = moved (verdict ones count) ∙ verdict-passed count ρ b (part .verdict) (t .over) (part .over) l (f .place) m ∙ (λ j. answer (sym p j) (f .place));
         ticks = λ w. n ∙ sym (moved (ticks ones));
         loops = λ w. omega (arith, part .count, few-in ranges vars rows count legal few all);
+        long = λ w. part .long;
         lines = λ w. part .lined ∙ lines-true b ρ m ∙ sym (moved (lines 1));
       }
 
   -- a file that passes here is accepted
-  pub accepted : (s : Figures) → SurveyOf (scriptOf ranges vars rows count) count s → s .number ≡ 0 → Accepted ones (scriptOf ranges vars rows count)
+  pub accepted : (s : Figures) (ls : List (List ℕ)) → SurveyOf (scriptOf ranges vars rows count) count s ls → s .number ≡ 0 → Accepted ones (scriptOf ranges vars rows count)
   unfolding scriptOf answer
-  accepted s h z = record {
+  accepted s ls h z = record {
     legal = legal;
     loops = ap (λ n. verdict ones n (scripts.envOf (take vars (pairRanges ranges))) (treeOf (kinds rows count))) (long ranges vars rows count legal few all) ∙ h .verdict ∙ ap (λ n. answer n (s .place)) z;
   }

@@ -2,9 +2,8 @@
 use mathlib.Core.Path.{_≡_}
 use mathlib.Core.List.{List, [], _∷_, _++_}
 use Prim.Native.Nat.{ℕ, _+_, _≤_}
-use lib.ListN.{take, set}
+use lib.ListN.{length}
 use Rattle.rules.specs.declared.Row.{Row}
-use Rattle.rules.specs.declared.LoopLine.{LoopLine}
 use Rattle.rules.specs.declared.Kind.{Kind}
 use Rattle.rules.specs.declared.Kind.the-variants.{Set, Move, Cue, Pick, Else, End, While, Do, For}
 use Rattle.rules.specs.Blocks.{Block, done, plain, pick, loop}
@@ -13,7 +12,8 @@ use Rattle.rules.specs.Ranges.{Env, after}
 use Rattle.rules.specs.Turns.{turns}
 use Rattle.rules.specs.Figures.{ones, ticks, Line, isExact, lines}
 use Rattle.rules.specs.Questions.{Verdict, passed, refused, andThen, ofLoop, loopsVerdict, blocksVerdict}
-use Rattle.rules.specs.Report.{linesOf}
+use Rattle.rules.specs.Bounds.{Ends}
+use Rattle.lines.specs.Coded.{firstLines}
 use Rattle.table.specs.Code.{kindAt}
 use Rattle.steps.specs.Tree.{blockAt, endAt, Ready, formOf, testOf}
 use Rattle.steps.specs.Sets.{setOf}
@@ -38,10 +38,6 @@ unfoldable pub cuts : List Line → List Line
 cuts [] = []
 cuts (l ∷ ls) = cut l ∷ cuts ls
 
--- the first k lines of an array
-abbrev pub firstLines : List LoopLine → ℕ → List Line
-firstLines ls k = linesOf (take k ls)
-
 -- what the fold carries
 pub record State : Type 0 where
   pub env : Env
@@ -61,8 +57,21 @@ folded outer x b = record {
   loops = x .loops + loopCount b;
 }
 
--- the code's tally, with the ranges beside it, where no loop was refused
-abbrev pub tallied : Tally → Env → State
+-- the code's tally, with the table of lines beside it
+pub record Found : Type 0 where
+  pub number : ℕ
+  pub place : ℕ
+  pub over : ℕ
+  pub spent : ℕ
+  pub loops : ℕ
+  pub next : ℕ
+  pub lines : List (List ℕ)
+
+abbrev pub found : Tally → List (List ℕ) → Found
+found t ls = record { number = t .number; place = t .place; over = t .over; spent = t .spent; loops = t .loops; next = t .next; lines = ls }
+
+-- with the ranges beside them, where no loop was refused
+abbrev pub tallied : Found → Env → State
 tallied t ρ = record { env = ρ; verdict = passed; spent = t .spent; over = overOf (t .over); lines = firstLines (t .lines) (t .loops); loops = t .loops }
 
 -- a for's step row is the last row of its body
@@ -84,12 +93,15 @@ pub record LoopOf (rows : List Row) (count i : ℕ) (ρ : Env) (r : Turning) : T
   pub exact : r .exact ≡ isExact ρ (testOf (kindAt rows i)) (bodyAt rows count i)
   pub moves : r .step ≡ step (testOf (kindAt rows i) .tested) (bodyAt rows count i)
   pub sets : (w : ℕ) → setOf (r .set) w ≡ assigns w (bodyAt rows count i)
+  pub near : Ends 256 (r .step)
   pub ends : EndsAt rows count i (r .next)
 
-pub record Restarted (t : Tally) (spent : ℕ) (r : Tally) : Type 0 where
+pub record Restarted (t : Found) (spent : ℕ) (r : Found) : Type 0 where
+  pub same : r .lines ≡ t .lines
   pub value : (ρ : Env) → tallied r ρ ≡ record { env = ρ; verdict = passed; spent = spent; over = overOf (t .over); lines = firstLines (t .lines) (t .loops); loops = t .loops }
 
-pub record Lined (t : Tally) (i : ℕ) (one : Turning) (total spent : ℕ) (r : Tally) : Type 0 where
+pub record Lined (t : Found) (i : ℕ) (one : Turning) (total spent : ℕ) (r : Found) : Type 0 where
+  pub long : length (r .lines) ≡ 16
   pub value : (ρ : Env) → tallied r ρ ≡ record {
     env = ρ;
     verdict = passed;
@@ -99,33 +111,36 @@ pub record Lined (t : Tally) (i : ℕ) (one : Turning) (total spent : ℕ) (r : 
     loops = t .loops + 1;
   }
 
-pub record Closed (t inner : Tally) (e ticks : ℕ) (r : Tally) : Type 0 where
+pub record Closed (t inner : Found) (e ticks : ℕ) (r : Found) : Type 0 where
   pub spent : r .spent ≡ capped (t .spent + ticks)
   pub over : OverOf (inner .over) e ticks (r .over)
-  pub lines : firstLines (r .lines) (r .loops) ≡ firstLines (inner .lines) (inner .loops)
+  pub same : r .lines ≡ inner .lines
   pub loops : r .loops ≡ inner .loops
 
-pub record EndedAt (t : Tally) (i : ℕ) (r : Tally) : Type 0 where
+pub record EndedAt (t : Found) (i : ℕ) (r : Found) : Type 0 where
+  pub same : r .lines ≡ t .lines
   pub value : (ρ : Env) → tallied r ρ ≡ tallied t ρ
   pub number : r .number ≡ 0
   pub next : r .next ≡ i
 
 -- what the walk asks
-pub record Walkable (rows : List Row) (count at outer : ℕ) (t : Tally) : Type 0 where
+pub record Walkable (rows : List Row) (count at outer : ℕ) (t : Found) : Type 0 where
   pub ready : Ready rows count at
   pub small : t .spent ≤ 1_000_000_000_001
   pub times : outer ≤ 1_000_000_000_001
   pub room : t .loops + loopCount (blockAt rows count at) ≤ 16
+  pub long : length (t .lines) ≡ 16
 
 -- what it gives: no loop refused
-pub record Passed (rows : List Row) (count at : ℕ) (ρ : Env) (outer : ℕ) (t r : Tally) : Type 0 where
+pub record Passed (rows : List Row) (count at : ℕ) (ρ : Env) (outer : ℕ) (t r : Found) : Type 0 where
   pub value : tallied r (after ρ (blockAt rows count at)) ≡ folded outer (tallied t ρ) (blockAt rows count at)
   pub place : r .next ≡ endAt rows count at
   pub low : at ≤ r .next
   pub high : r .next ≤ count
   pub small : r .spent ≤ 1_000_000_000_001
+  pub long : length (r .lines) ≡ 16
 
 -- or the first loop refused
-pub record Surveyed (rows : List Row) (count at : ℕ) (ρ : Env) (outer : ℕ) (t r : Tally) : Type 0 where
+pub record Surveyed (rows : List Row) (count at : ℕ) (ρ : Env) (outer : ℕ) (t r : Found) : Type 0 where
   pub stopped : (r .number ≡ 0 → ⊥) → folded outer (tallied t ρ) (blockAt rows count at) .verdict ≡ refused (r .number) (r .place)
   pub whole : r .number ≡ 0 → Passed rows count at ρ outer t r

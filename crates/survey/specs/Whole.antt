@@ -3,15 +3,15 @@ use mathlib.Core.Path.{_≡_}
 use mathlib.Core.List.{List, []}
 use Prim.Native.Nat.{ℕ, _≤_, _<_}
 use lib.IntN.{ℤ, pos}
-use lib.ListN.{getD}
+use lib.ListN.{length, getD}
 use Rattle.rules.specs.Figures.{ones}
 use Rattle.rules.specs.Questions.{verdict}
 use Rattle.rules.specs.Scripts.{Script, pairRange, envOf, treeOf, reportTicks, reportLines}
+use Rattle.lines.specs.Coded.{firstLines}
 use Rattle.turns.specs.Needs.{answer}
 use Rattle.survey.specs.declared.Tally.{Tally}
 use Rattle.survey.specs.declared.Refusal.{Refusal}
 use Rattle.survey.specs.declared.Figures.{Figures}
-use Rattle.survey.specs.Fold.{firstLines}
 
 -- the ranges from variable `vars` on are [0, 0]
 pub record BlankFrom (vars : ℕ) (ranges : List (List ℤ)) : Type 0 where
@@ -25,8 +25,9 @@ pub data FirstNo (t : Tally) (count : ℕ) (r : Refusal) : Type 0 where
   none : t .number ≡ 0 → 256 ≤ t .over → t .spent ≤ 1_000_000_000_000 → r .number ≡ 0 → FirstNo t count r
 
 -- number and place are the verdict; of an accepted file, the ticks and the lines are the report's
-pub record SurveyOf (script : Script) (rows : ℕ) (s : Figures) : Type 0 where
+pub record SurveyOf (script : Script) (rows : ℕ) (s : Figures) (table : List (List ℕ)) : Type 0 where
   pub verdict : verdict ones rows (envOf (script .ranges)) (treeOf (script .rows)) ≡ answer (s .number) (s .place)
   pub ticks : s .number ≡ 0 → s .ticks ≡ reportTicks ones script
   pub loops : s .number ≡ 0 → s .loops ≤ 16
-  pub lines : s .number ≡ 0 → firstLines (s .lines) (s .loops) ≡ reportLines script
+  pub long : s .number ≡ 0 → length table ≡ 16
+  pub lines : s .number ≡ 0 → firstLines table (s .loops) ≡ reportLines script

@@ -9,6 +9,7 @@ use ranges::is_do;
 use ranges::joined;
 use ranges::outside;
 use ranges::span_at;
+use lines::put_line;
 use rules::Kind;
 use rules::LoopLine;
 use rules::Operand;
@@ -29,30 +30,22 @@ use ticks::times;
 use turns::ask;
 use turns::exact;
 ghost use mathlib.Core.Path.{_≡_};
-ghost use mathlib.Core.List.{[], _∷_, _++_};
-ghost use Prim.Native.Nat.{ℕ, _+_, _≤_, _<_, max};
+ghost use mathlib.Core.List.{List};
+ghost use Prim.Native.Nat.{ℕ, _≤_, _<_, max};
+ghost use lib.ListN.{length};
 ghost use Rattle.rules.specs.Blocks.{Block};
 ghost use Rattle.rules.specs.Steps.{assigns};
-ghost use Rattle.rules.specs.Bounds.{FineOperand};
+ghost use Rattle.rules.specs.Bounds.{FineOperand, Ends};
 ghost use Rattle.rules.specs.Ranges.{join, after};
 ghost use Rattle.rules.specs.Questions.{keeps};
 ghost use Rattle.rules.specs.Scripts.{scriptOf, Legal};
-ghost use Rattle.rules.specs.Report.{lineOf};
 ghost use Rattle.table.specs.Code.{rowsOf};
 ghost use Rattle.steps.specs.Tree.{blockAt, Ready};
 ghost use Rattle.steps.specs.Sets.{setOf};
 ghost use Rattle.steps.specs.Body.{AtLoop};
 ghost use Rattle.ranges.specs.Env.{envOf};
-ghost use Rattle.survey.specs.Fold.{firstLines, lastTicks, LoopOf, Restarted, Lined, Closed, EndedAt, Walkable, Surveyed};
+ghost use Rattle.survey.specs.Fold.{found, lastTicks, LoopOf, Restarted, Lined, Closed, EndedAt, Walkable, Surveyed};
 ghost use Rattle.survey.specs.Whole.{FirstNo, BlankFrom, SurveyOf};
-
-const NO_LINE: LoopLine = LoopLine {
-    row: 0,
-    step: Step::Unknown,
-    turns: 0,
-    total: 0,
-    exact: false,
-};
 
 // What a walk has found: a refusal of 8 to 12 (number 0: none), the first block over the limit (256: none), the ticks of
 // one pass, the lines so far, and the row that closes the block.
@@ -62,7 +55,6 @@ struct Tally {
     over: usize,
     spent: u64,
     loops: usize,
-    lines: [LoopLine; 16],
     next: usize,
 }
 
@@ -157,36 +149,30 @@ fn last_ticks(kind: Kind) -> u64
 
 // The same lines, with a block's ticks from the start.
 fn restarted(t: Tally, spent: u64) -> Tally
-    ensures { λ r. ⌜ Restarted t spent r ⌝ }
+    ensures { λ r. ⌜ ((ls : List (List ℕ)) → Restarted (found t ls) spent (found r ls)) ⌝ }
 {
-    let lines = t.lines;
     Tally {
         number: 0,
         place: 0,
         over: t.over,
         spent: spent,
         loops: t.loops,
-        lines: lines,
         next: 0,
     }
 }
 
-// The lines with one more.
-fn with_line(lines: [LoopLine; 16], k: usize, line: LoopLine) -> [LoopLine; 16]
-    requires { ⌜ k < 16 ⌝ }
-    ensures { λ r. ⌜ firstLines r (k + 1) ≡ firstLines lines k ++ (lineOf line ∷ []) ⌝ }
-{
-    let mut next = lines;
-    next[k] = line;
-    next
-}
-
 // A loop's line, and its body's ticks from the start.
-fn lined(t: Tally, i: usize, one: Turning, total: u64, spent: u64) -> Tally
-    requires { ⌜ t .loops < 16 ⌝ }
-    ensures { λ r. ⌜ Lined t i one total spent r ⌝ }
+fn lined(
+    lines: &mut [[u64; 7]; 16],
+    t: Tally,
+    i: usize,
+    one: Turning,
+    total: u64,
+    spent: u64,
+) -> Tally
+    requires { ⌜ (t .loops < 16) × (length (now lines) ≡ 16) × Ends 256 (one .step) ⌝ }
+    ensures { λ r. ⌜ Lined (found t (now (lines .entry))) i one total spent (found r (now (lines .exit))) ⌝ }
 {
-    let lines = t.lines;
     let k = t.loops;
     let step = one.step;
     let line = LoopLine {
@@ -196,14 +182,13 @@ fn lined(t: Tally, i: usize, one: Turning, total: u64, spent: u64) -> Tally
         total: total,
         exact: one.exact,
     };
-    let next = with_line(lines, k, line);
+    put_line(lines, k, line);
     Tally {
         number: 0,
         place: 0,
         over: t.over,
         spent: spent,
         loops: k + 1,
-        lines: next,
         next: 0,
     }
 }
@@ -211,16 +196,14 @@ fn lined(t: Tally, i: usize, one: Turning, total: u64, spent: u64) -> Tally
 // After a block of these ticks that ends at row e.
 fn closed(t: Tally, inner: Tally, e: usize, ticks: u64) -> Tally
     requires { ⌜ (e < 256) × (t .spent ≤ 1_000_000_000_001) × (ticks ≤ 1_000_000_000_001) ⌝ }
-    ensures { λ r. ⌜ Closed t inner e ticks r ⌝ }
+    ensures { λ r. ⌜ ((ks ls : List (List ℕ)) → Closed (found t ks) (found inner ls) e ticks (found r ls)) ⌝ }
 {
-    let lines = inner.lines;
     Tally {
         number: 0,
         place: 0,
         over: first_over(inner.over, e, ticks),
         spent: plus(t.spent, ticks),
         loops: inner.loops,
-        lines: lines,
         next: 0,
     }
 }
@@ -229,30 +212,26 @@ fn closed(t: Tally, inner: Tally, e: usize, ticks: u64) -> Tally
 fn refused(t: Tally, number: u32, i: usize) -> Tally
     ensures { λ r. ⌜ (r .number ≡ number) × (r .place ≡ i) ⌝ }
 {
-    let lines = t.lines;
     Tally {
         number: number,
         place: i,
         over: t.over,
         spent: t.spent,
         loops: t.loops,
-        lines: lines,
         next: 0,
     }
 }
 
 // The walk ends at row i.
 fn ended(t: Tally, i: usize) -> Tally
-    ensures { λ r. ⌜ EndedAt t i r ⌝ }
+    ensures { λ r. ⌜ ((ls : List (List ℕ)) → EndedAt (found t ls) i (found r ls)) ⌝ }
 {
-    let lines = t.lines;
     Tally {
         number: 0,
         place: 0,
         over: t.over,
         spent: t.spent,
         loops: t.loops,
-        lines: lines,
         next: i,
     }
 }
@@ -264,10 +243,11 @@ fn walk(
     at: usize,
     start: [[i32; 2]; 16],
     outer: u64,
+    lines: &mut [[u64; 7]; 16],
     from: Tally,
 ) -> Tally
-    requires { ⌜ Walkable (rowsOf (now rows)) count at outer from ⌝ }
-    ensures { λ r. ⌜ Surveyed (rowsOf (now (rows .entry))) count at (envOf start) outer from r ⌝ }
+    requires { ⌜ Walkable (rowsOf (now rows)) count at outer (found from (now lines)) ⌝ }
+    ensures { λ r. ⌜ Surveyed (rowsOf (now (rows .entry))) count at (envOf start) outer (found from (now (lines .entry))) (found r (now (lines .exit))) ⌝ }
 {
     let mut r = start;
     let mut t = from;
@@ -282,14 +262,14 @@ fn walk(
                 i = i + 1;
             }
             Shape::Branch => {
-                let a = walk(rows, count, i + 1, r, outer, restarted(t, 0));
+                let a = walk(rows, count, i + 1, r, outer, lines, restarted(t, 0));
                 if a.number != 0 {
                     return a;
                 }
                 let m = a.next;
                 let closing = kind_at(rows, m);
                 let second = past_else(closing, m);
-                let b = walk(rows, count, second, r, outer, restarted(a, 0));
+                let b = walk(rows, count, second, r, outer, lines, restarted(a, 0));
                 if b.number != 0 {
                     return b;
                 }
@@ -309,8 +289,8 @@ fn walk(
                 let set = one.set;
                 let turns = one.turns;
                 let total = times(turns, outer);
-                let first = lined(t, i, one, total, last_ticks(kind));
-                let body = walk(rows, count, i + 1, inside(kind, set, begun), total, first);
+                let first = lined(lines, t, i, one, total, last_ticks(kind));
+                let body = walk(rows, count, i + 1, inside(kind, set, begun), total, lines, first);
                 if body.number != 0 {
                     return body;
                 }
@@ -369,33 +349,34 @@ pub struct Figures {
     pub place: usize,
     pub ticks: u64,
     pub loops: usize,
-    pub lines: [LoopLine; 16],
 }
 
 // The first `count` rows and the first `vars` ranges of a script that has passed the questions 4 to 7.
-pub fn survey(rows: [Row; 256], count: usize, ranges: [[i32; 2]; 16], vars: usize) -> Figures
-    requires { ⌜ Legal (scriptOf ranges vars rows count) × (count ≤ 256) × BlankFrom vars ranges ⌝ }
-    ensures { λ r. ⌜ SurveyOf (scriptOf ranges vars rows count) count r ⌝ }
+pub fn survey(
+    rows: [Row; 256],
+    count: usize,
+    ranges: [[i32; 2]; 16],
+    vars: usize,
+    lines: &mut [[u64; 7]; 16],
+) -> Figures
+    requires { ⌜ Legal (scriptOf ranges vars rows count) × (count ≤ 256) × BlankFrom vars ranges × (length (now lines) ≡ 16) ⌝ }
+    ensures { λ r. ⌜ SurveyOf (scriptOf ranges vars rows count) count r (now (lines .exit)) ⌝ }
 {
-    let none = [NO_LINE; 16];
     let empty = Tally {
         number: 0,
         place: 0,
         over: 256,
         spent: 0,
         loops: 0,
-        lines: none,
         next: 0,
     };
     let table = table_of(rows, count);
-    let t = walk(&table, count, 0, ranges, 1, empty);
+    let t = walk(&table, count, 0, ranges, 1, lines, empty);
     let no = first_no(t, count);
-    let lines = t.lines;
     Figures {
         number: no.number,
         place: no.place,
         ticks: t.spent,
         loops: t.loops,
-        lines: lines,
     }
 }

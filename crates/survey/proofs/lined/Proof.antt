@@ -1,12 +1,23 @@
 -- `survey::lined` meets its contract.
+use denote.Ref.{now}
 use borrow.Author.Needs.{needs}
-use mathlib.Core.Path.{refl}
+use native.Mathlib.Omega.{arith}
+use mathlib.Core.Path.{_≡_, refl, ap, _∙_}
+use Prim.Native.Nat.{_<_, _+_}
+use lib.ListN.{length, take, length-map}
+use Rattle.rules.specs.Report.{linesOf}
+use Rattle.lines.specs.Coded.{lineIn, linesIn}
 use Rattle.survey.proofs.Folding.{state-is}
+use Rattle.survey.proofs.Parts.{line-set}
 use Rattle.survey.proofs.lined.Statement.{statement}
 use Rattle.survey.proofs.lined.Tie as tie
 
 returns : tie.Need-returns
-returns c = record { value = λ ρ. state-is refl refl refl refl (c .with-line .ensures) refl }
+returns c =
+    let a = c .before .before .args in
+    let p = c .put-line .ensures in
+    let h : a .t .loops < length (linesIn (now (a .lines))) = rw (length-map (now (a .lines)) lineIn) (search needs) in
+    record { long = p .1; value = λ ρ. state-is refl refl refl refl (ap (λ l. linesOf (take (a .t .loops + 1) l)) (p .0) ∙ line-set _ _ _ h) refl }
 
 pub lined-spec : {M : Type 1} → statement M
 lined-spec = tie.close (tie.spec (λ c κs. search needs) (λ c. search needs) returns)

@@ -41,6 +41,7 @@ returns c =
       exact = c .exact .ensures ∙ loop-exact (formOf k) ρ (testOf k) body _ _ _ _ _ st keep (h .comparison) s n;
       moves = st;
       sets = b .sets;
+      near = b .near;
       ends = b .ends;
     }
 
