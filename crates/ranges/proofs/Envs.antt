@@ -11,9 +11,15 @@ use lib.ListN.{length, set, List·getD-eq-default}
 use lib.Seq.{getD-set-same, getD-set-other}
 use Rattle.rules.specs.Values.{put}
 use Rattle.ints.specs.Ints.{minZ, maxZ}
-use Rattle.rules.specs.Ranges.{Range, Env, join, afterRow, sourceRange}
+use Rattle.rules.specs.Ranges.{Range, Env, bounds, join, afterRow, sourceRange}
 use Rattle.rules.specs.declared.Change.{Change}
-use Rattle.rules.specs.Blocks.{assign, changed}
+use Rattle.rules.specs.declared.Operand.{Operand}
+use Rattle.rules.specs.declared.Kind.{Kind}
+use Rattle.rules.specs.declared.Kind.the-variants.{Set, Move}
+use Rattle.table.specs.Code.{number, numbersAt, kindAt, rowsOf}
+use Rattle.table.proofs.Laws.{kind-in, by-tag}
+use Rattle.steps.specs.declared.Shape.{Shape}
+use Rattle.steps.specs.Tree.{shapeOf, plainOf}
 use Rattle.ranges.specs.Env.{envOf, upTo, joinRange, changedRange}
 
 abbrev two : ℤ → ℤ → List ℤ
@@ -74,7 +80,19 @@ module _ (a b : List (List ℤ)) where
   unfolding join minZ maxZ
   join-far p q w h = rw (env-far a w (omega arith), env-far b w (omega arith))
 
--- an arithmetic row
-pub after-move : (ρ : Env) (v : ℕ) (c : Change) (x y : Range) → x ≡ changedRange c y → y ≡ ρ v → put ρ v x ≡ afterRow ρ (assign v (changed c))
-unfolding afterRow sourceRange changedRange
-after-move ρ v c x y p q = rw (p, q)
+-- a plain row: a set, a change, any other
+module _ (ρ : Env) {k : Kind} where
+  pub after-set : {v w : ℕ} {x y : Operand} {s : Range} → k ≡ Set w y → v ≡ w → x ≡ y → s ≡ bounds ρ x → put ρ v s ≡ afterRow ρ (plainOf k)
+  unfolding afterRow sourceRange
+  after-set e p q r = rw (e, r, p, q)
+
+  pub after-move : {v w : ℕ} {c d : Change} {s x : Range} → k ≡ Move w d → v ≡ w → c ≡ d → s ≡ ρ v → x ≡ changedRange c s → put ρ v x ≡ afterRow ρ (plainOf k)
+  unfolding afterRow sourceRange changedRange
+  after-move e p q r u = rw (e, u, r, p, q)
+
+pub after-other : (ρ : Env) (t : List (List ℕ)) (i : ℕ) → (number (numbersAt t i) 0 ≡ 3 → ⊥) → (number (numbersAt t i) 0 ≡ 4 → ⊥) → shapeOf (kindAt (rowsOf t) i) ≡ Shape.Plain → ρ ≡ afterRow ρ (plainOf (kindAt (rowsOf t) i))
+unfolding afterRow
+after-other ρ t i =
+    rw (kind-in t i)
+    (by-tag (numbersAt t i) (λ n k. (n ≡ 3 → ⊥) → (n ≡ 4 → ⊥) → shapeOf k ≡ Shape.Plain → ρ ≡ afterRow ρ (plainOf k)) (λ a b h. refl) (λ a b h. refl) (λ a b h. refl) (λ a b h. absurd (a refl)) (λ a b h. absurd (b refl)) (λ a b h. refl) (λ a b h. refl) (λ a b h. refl)
+    (λ n l a b h. let z : _≡_ {A = ℕ} 0 1 = cc in absurd (omega arith)))

@@ -5,7 +5,7 @@ use mathlib.Core.List.{List, []}
 use Prim.Native.Nat.{ℕ, _<_}
 use lib.Dec.{ltb, eqb}
 use lib.IntN.{ℤ, pos}
-use lib.ListN.{getD}
+use lib.ListN.{length, getD}
 use Rattle.ints.specs.Ints.{minZ, maxZ, drawn}
 use Rattle.rules.specs.declared.Row.{Row}
 use Rattle.rules.specs.declared.Kind.{Kind}
@@ -32,6 +32,11 @@ highOf r v = getD (getD r v []) 1 (pos 0)
 -- the ranges that an array holds
 unfoldable pub envOf : List (List ℤ) → Env
 envOf r w = record { lo = lowOf r w; hi = highOf r w }
+
+-- an array of 16 ranges that holds ρ
+pub record EnvIs (r : List (List ℤ)) (ρ : Env) : Type 0 where
+  pub long : length r ≡ 16
+  pub value : envOf r ≡ ρ
 
 abbrev pub rangeOf : Span → Range
 rangeOf s = record { lo = s .lo; hi = s .hi }

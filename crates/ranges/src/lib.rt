@@ -8,22 +8,27 @@ use steps::Shape;
 use steps::body_moves;
 use steps::has;
 use steps::past_else;
-use steps::shape_of;
+use steps::shape_at;
+use table::change_at;
 use table::kind_at;
+use table::operand_at;
+use table::tag_at;
+use table::variable_at;
 ghost use mathlib.Core.Path.{_≡_};
 ghost use mathlib.Core.Bool.{cond};
 ghost use lib.IntN.{ℤ, pos, _+ℤ_, _-ℤ_};
 ghost use Prim.Native.Nat.{_+_, _<_};
+ghost use lib.ListN.{length};
 ghost use Rattle.ints.specs.Ints.{minZ, maxZ, drawn};
 ghost use Rattle.rules.specs.Values.{lowest, highest, put, applied};
 ghost use Rattle.rules.specs.Blocks.{Form};
 ghost use Rattle.rules.specs.Ranges.{bounds, join, full, afterRow, atStart, edge, sort, isDo, insideRange, byStep, outsideRange, after};
 ghost use Rattle.rules.specs.Bounds.{Fine, FineOperand, FineChange};
-ghost use Rattle.table.specs.Code.{rowsOf};
-ghost use Rattle.steps.specs.Tree.{plainOf, formOf, testOf, Ready, Walked};
+ghost use Rattle.table.specs.Code.{kindAt, rowsOf};
+ghost use Rattle.steps.specs.Tree.{shapeOf, plainOf, formOf, testOf, Ready, Walked};
 ghost use Rattle.steps.specs.Sets.{setOf};
 ghost use Rattle.steps.specs.Body.{AtLoop};
-ghost use Rattle.ranges.specs.Env.{envOf, rangeOf, joinRange, changedRange, widenedEnv, late, HeadOf, InsideOf, OutsideOf, AfterLoop};
+ghost use Rattle.ranges.specs.Env.{EnvIs, envOf, rangeOf, joinRange, changedRange, widenedEnv, late, HeadOf, InsideOf, OutsideOf, AfterLoop};
 
 // A pair of ends.
 pub struct Span {
@@ -32,37 +37,60 @@ pub struct Span {
 }
 
 // The range of v.
+fn span_in(r: &[[i32; 2]; 16], v: u8) -> Span
+    requires { ⌜ v < 16 ⌝ }
+    ensures { λ s. ⌜ rangeOf s ≡ envOf (now (r .entry)) v ⌝ }
+{
+    let i = v as usize;
+    Span {
+        lo: r[i][0],
+        hi: r[i][1],
+    }
+}
+
 pub fn span_at(r: [[i32; 2]; 16], v: u8) -> Span
     requires { ⌜ v < 16 ⌝ }
     ensures { λ s. ⌜ rangeOf s ≡ envOf r v ⌝ }
 {
-    let i = v as usize;
-    let e = r[i];
-    Span { lo: e[0], hi: e[1] }
+    span_in(&r, v)
 }
 
-// The ranges, but s for v.
+// s for v; the other ranges stay.
+fn put_in(r: &mut [[i32; 2]; 16], v: u8, s: Span)
+    requires { ⌜ (v < 16) × (length (now r) ≡ 16) ⌝ }
+    ensures { λ _. ⌜ EnvIs (now (r .exit)) (put (envOf (now (r .entry))) v (rangeOf s)) ⌝ }
+{
+    let lo = s.lo;
+    let hi = s.hi;
+    let i = v as usize;
+    r[i] = [lo, hi];
+}
+
 pub fn put(r: [[i32; 2]; 16], v: u8, s: Span) -> [[i32; 2]; 16]
     requires { ⌜ v < 16 ⌝ }
     ensures { λ x. ⌜ envOf x ≡ put (envOf r) v (rangeOf s) ⌝ }
 {
     let mut next = r;
-    let lo = s.lo;
-    let hi = s.hi;
-    let i = v as usize;
-    next[i] = [lo, hi];
+    put_in(&mut next, v, s);
     next
 }
 
 // An operand's range.
+fn bounds_in(r: &[[i32; 2]; 16], x: Operand) -> Span
+    requires { ⌜ FineOperand x ⌝ }
+    ensures { λ s. ⌜ rangeOf s ≡ bounds (envOf (now (r .entry))) x ⌝ }
+{
+    match x {
+        Operand::Constant(k) => Span { lo: k, hi: k },
+        Operand::Variable(w) => span_in(r, w),
+    }
+}
+
 pub fn bounds(r: [[i32; 2]; 16], x: Operand) -> Span
     requires { ⌜ FineOperand x ⌝ }
     ensures { λ s. ⌜ rangeOf s ≡ bounds (envOf r) x ⌝ }
 {
-    match x {
-        Operand::Constant(k) => Span { lo: k, hi: k },
-        Operand::Variable(w) => span_at(r, w),
-    }
+    bounds_in(&r, x)
 }
 
 fn lower(a: i32, b: i32) -> i32
@@ -139,21 +167,19 @@ fn changed(s: Span, change: Change) -> Span
     }
 }
 
-// The ranges after a plain row; of a for, after its step row.
-pub fn after_row(r: [[i32; 2]; 16], kind: Kind) -> [[i32; 2]; 16]
-    requires { ⌜ Fine kind ⌝ }
-    ensures { λ x. ⌜ envOf x ≡ afterRow (envOf r) (plainOf kind) ⌝ }
+// The ranges after the plain row i: a set has the tag 3, a change 4.
+pub fn step_row(r: &mut [[i32; 2]; 16], rows: &[[u32; 9]; 256], i: usize)
+    requires { ⌜ (i < 256) × Fine (kindAt (rowsOf (now rows)) i) × (shapeOf (kindAt (rowsOf (now rows)) i) ≡ Shape.Plain) × (length (now r) ≡ 16) ⌝ }
+    ensures { λ _. ⌜ EnvIs (now (r .exit)) (afterRow (envOf (now (r .entry))) (plainOf (kindAt (rowsOf (now (rows .entry))) i))) ⌝ }
 {
-    match kind {
-        Kind::Set(v, x) => put(r, v, bounds(r, x)),
-        Kind::Move(v, c) => put(r, v, changed(span_at(r, v), c)),
-        Kind::Cue(_) => r,
-        Kind::Pick => r,
-        Kind::Else => r,
-        Kind::End => r,
-        Kind::While(_, _, _) => r,
-        Kind::Do(_, _, _) => r,
-        Kind::For(v, _, _, _, c) => put(r, v, changed(span_at(r, v), c)),
+    let t = tag_at(rows, i);
+    let v = variable_at(rows, i);
+    if t == 3 {
+        let s = bounds_in(r, operand_at(rows, i));
+        put_in(r, v, s);
+    } else if t == 4 {
+        let s = changed(span_in(r, v), change_at(rows, i));
+        put_in(r, v, s);
     }
 }
 
@@ -419,19 +445,16 @@ pub fn after(
     let mut r = start;
     let mut i = at;
     while i < count {
-        let kind = kind_at(rows, i);
-        match shape_of(kind) {
+        match shape_at(rows, i) {
             Shape::Plain => {
-                let x = after_row(r, kind);
-                r = x;
+                step_row(&mut r, rows, i);
                 i = i + 1;
             }
             Shape::Branch => {
                 let mut m: usize = 0;
                 let a = after(rows, count, i + 1, r, &mut m);
-                let closing = kind_at(rows, m);
                 let mut e: usize = 0;
-                let b = after(rows, count, past_else(closing, m), r, &mut e);
+                let b = after(rows, count, past_else(rows, m), r, &mut e);
                 let x = joined(a, b);
                 r = x;
                 i = e + 1;

@@ -14,6 +14,7 @@ use rules::Row;
 use rules::RowRead;
 use text::next_word;
 use text::position;
+use text::said;
 use text::starts_with;
 ghost use mathlib.Core.Path.{_≡_};
 ghost use mathlib.Core.Bool.{true, cond};
@@ -65,7 +66,7 @@ fn count_line(rest: &[u8], key: &[u8], most: i32) -> Counted
 {
     if keyed(rest, key) {
         let f = next_word(rest, key.len() - 1);
-        let x = f.word;
+        let x = said(f.tag, f.value);
         let end = f.end;
         let q = sooner(asks_number(0, most, x), asks_last(rest, end));
         if q == 0 {
@@ -82,7 +83,7 @@ fn script_line(rest: &[u8]) -> Counted
 {
     if keyed(rest, b"script=") {
         let f = next_word(rest, 6);
-        let x = f.word;
+        let x = said(f.tag, f.value);
         let end = f.end;
         let q = sooner(asks_one(x), asks_last(rest, end));
         if q == 0 {
@@ -105,9 +106,9 @@ fn range_line(rest: &[u8]) -> Ranged
 {
     if keyed(rest, b"range=") {
         let f = next_word(rest, 5);
-        let lo = f.word;
+        let lo = said(f.tag, f.value);
         let g = next_word(rest, f.end);
-        let hi = g.word;
+        let hi = said(g.tag, g.value);
         let end = g.end;
         let ends = sooner(asks_last(rest, end), asks_order(lo, hi));
         let high = sooner(asks_number(-1_000_000_000, 1_000_000_000, hi), ends);

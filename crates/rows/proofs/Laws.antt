@@ -15,6 +15,9 @@ use Rattle.rules.specs.declared.RowRead.the-variants.{Read, Wrong}
 use Rattle.rules.specs.Values.{highest}
 use Rattle.rules.specs.File.{sooner, asksEnd, asksNumber, asksVariable, asksOperand, asksChange, asksStep, asksOne, asksTest, asksFor, checked, variableOf, comparisonOf, operandOf, changeOf, setRow, moveRow, cueRow, bareRow, whileRow, doRow, forRow, namedRow, firstWord, rowOf}
 use lib.Signed.{_≤ℤ_}
+use mir.Syntax.{w32}
+use mir.Val.{SFits, toZ, ofZ}
+use mir.Facts.{toZ-ofZ}
 use Rattle.ints.proofs.Parts.{ints}
 use Rattle.rules.specs.declared.Word.the-variants.{Missing, Compares, Keyword, Other}
 use mathlib.Core.List.{List, [], _∷_}
@@ -22,7 +25,7 @@ use types.Run.{OneOf, miss}
 use denote.Enum.Declared.{tagOf}
 use Rattle.rules.proofs.Name.{the-type}
 use lib.ListN.{drop}
-use Rattle.text.specs.Words.{cut, following, Next}
+use Rattle.text.specs.Words.{cut, following, wordIn, Next}
 use Rattle.text.specs.declared.Found.{Found}
 use Rattle.text.proofs.Line.{Reached, reach-end}
 use Rattle.text.proofs.Cut.{row-cut}
@@ -190,22 +193,22 @@ named-after vars x s Name.While = refl
 named-after vars x s Name.Do = refl
 named-after vars x s Name.For = refl
 
--- the row of a line from its first word
-module _ (s : List ℕ) (at vars : ℕ) (f : Found) (n : Next s at f) (few : vars ≤ 16) where
-  whole : rowOf vars (after (f .word) (drop (f .end) s)) ≡ rowOf vars (following (drop at s))
-  whole = row-cut vars (after (f .word) (drop (f .end) s)) (following (drop at s)) few words
+-- the row of a line from its first word x
+module _ (s : List ℕ) (at vars : ℕ) (f : Found) (n : Next s at f) (few : vars ≤ 16) (fit : SFits w32 (f .value)) (x : Word) (said : x ≡ wordIn (f .tag) (toZ w32 (ofZ w32 (f .value)))) where
+  whole : rowOf vars (after x (drop (f .end) s)) ≡ rowOf vars (following (drop at s))
+  whole = row-cut vars (after x (drop (f .end) s)) (following (drop at s)) few words
     where
-      words : (k : ℕ) → k < 8 → after (f .word) (drop (f .end) s) k ≡ cut (following (drop at s) k)
-      words zero h = n .word
+      words : (k : ℕ) → k < 8 → after x (drop (f .end) s) k ≡ cut (following (drop at s) k)
+      words zero h = (rw (toZ-ofZ fit) at said) ∙ n .word
       words (suc k) h = ap cut (sym (n .more k))
 
-  pub row-other : Wrong 3 ≡ firstWord vars (after (f .word) (drop (f .end) s)) (f .word) → (p : ℕ) → RowLine s at vars (record { row = Wrong 3; end = p })
+  pub row-other : Wrong 3 ≡ firstWord vars (after x (drop (f .end) s)) x → (p : ℕ) → RowLine s at vars (record { row = Wrong 3; end = p })
   unfolding rowOf
   row-other e p = record { row = e ∙ whole; end = λ k w. absurd (let y : _≡_ {A = ℕ} 0 1 = cc in omega arith) }
 
-  pub row-named : (name : Name) (r : Line) → f .word ≡ Keyword name → Lined s (f .end) (λ w. namedRow vars w name) r → RowLine s at vars r
+  pub row-named : (name : Name) (r : Line) → x ≡ Keyword name → Lined s (f .end) (λ w. namedRow vars w name) r → RowLine s at vars r
   unfolding rowOf
   row-named name r e l = record {
-    row = l .row ∙ named-after vars (f .word) (drop (f .end) s) name ∙ ap (firstWord vars (after (f .word) (drop (f .end) s))) (sym e) ∙ whole;
+    row = l .row ∙ named-after vars x (drop (f .end) s) name ∙ ap (firstWord vars (after x (drop (f .end) s))) (sym e) ∙ whole;
     end = λ k w. l .end k w ∙ n .line;
   }

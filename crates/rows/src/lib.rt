@@ -7,6 +7,7 @@ use rules::Operand;
 use rules::RowRead;
 use rules::Word;
 use text::next_word;
+use text::said;
 ghost use mathlib.Core.Path.{_≡_};
 ghost use mathlib.Core.Bool.{cond};
 ghost use Prim.Native.Nat.{_≤_, _<_};
@@ -292,9 +293,9 @@ fn set_row(s: &[u8], at: usize, vars: u32) -> Line
     ensures { λ r. ⌜ Lined (now (s .entry)) at (setRow vars) r ⌝ }
 {
     let a = next_word(s, at);
-    let v = a.word;
+    let v = said(a.tag, a.value);
     let b = next_word(s, a.end);
-    let x = b.word;
+    let x = said(b.tag, b.value);
     let end = b.end;
     let last = sooner(asks_operand(vars, x), asks_last(s, end));
     let q = sooner(asks_variable(vars, v), last);
@@ -317,9 +318,9 @@ fn move_row(s: &[u8], at: usize, vars: u32, name: Name) -> Line
     ensures { λ r. ⌜ Lined (now (s .entry)) at (λ w. moveRow vars w name) r ⌝ }
 {
     let a = next_word(s, at);
-    let v = a.word;
+    let v = said(a.tag, a.value);
     let b = next_word(s, a.end);
-    let x = b.word;
+    let x = said(b.tag, b.value);
     let end = b.end;
     let last = sooner(asks_change(name, x), asks_last(s, end));
     let q = sooner(asks_variable(vars, v), last);
@@ -342,7 +343,7 @@ fn cue_row(s: &[u8], at: usize, vars: u32) -> Line
     ensures { λ r. ⌜ Lined (now (s .entry)) at (cueRow vars) r ⌝ }
 {
     let a = next_word(s, at);
-    let n = a.word;
+    let n = said(a.tag, a.value);
     let end = a.end;
     let q = sooner(asks_number(0, 9_999, n), asks_last(s, end));
     if q == 0 {
@@ -374,11 +375,11 @@ fn test_row(s: &[u8], at: usize, vars: u32, after: bool) -> Line
     ensures { λ r. ⌜ Lined (now (s .entry)) at (λ w. cond after (doRow vars w) (whileRow vars w)) r ⌝ }
 {
     let a = next_word(s, at);
-    let v = a.word;
+    let v = said(a.tag, a.value);
     let b = next_word(s, a.end);
-    let o = b.word;
+    let o = said(b.tag, b.value);
     let c = next_word(s, b.end);
-    let x = c.word;
+    let x = said(c.tag, c.value);
     let end = c.end;
     let last = sooner(asks_operand(vars, x), asks_last(s, end));
     let rest = sooner(asks_comparison(o), last);
@@ -403,17 +404,17 @@ fn for_row(s: &[u8], at: usize, vars: u32) -> Line
     ensures { λ r. ⌜ Lined (now (s .entry)) at (forRow vars) r ⌝ }
 {
     let a = next_word(s, at);
-    let v = a.word;
+    let v = said(a.tag, a.value);
     let b = next_word(s, a.end);
-    let x = b.word;
+    let x = said(b.tag, b.value);
     let c = next_word(s, b.end);
-    let o = c.word;
+    let o = said(c.tag, c.value);
     let d = next_word(s, c.end);
-    let y = d.word;
+    let y = said(d.tag, d.value);
     let e = next_word(s, d.end);
-    let n = e.word;
+    let n = said(e.tag, e.value);
     let f = next_word(s, e.end);
-    let z = f.word;
+    let z = said(f.tag, f.value);
     let end = f.end;
     let last = sooner(asks_step(n, z), asks_last(s, end));
     let limit = sooner(asks_operand(vars, y), last);
@@ -473,7 +474,7 @@ pub fn row_of(s: &[u8], at: usize, vars: u32) -> Line
     ensures { λ r. ⌜ RowLine (now (s .entry)) at vars r ⌝ }
 {
     let f = next_word(s, at);
-    let first = f.word;
+    let first = said(f.tag, f.value);
     let end = f.end;
     match first {
         Word::Missing => shapeless(end),

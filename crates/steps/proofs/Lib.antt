@@ -4,3 +4,4 @@ pub mod Walking
 pub mod Sets
 pub mod Stepping
 pub mod Moving
+pub mod Tags

@@ -6,7 +6,6 @@ use Prim.Native.Nat.{ℕ, _+_, _-_, _≤_, _<_}
 use native.Mathlib.Omega.{arith}
 use lib.ListN.{length}
 use Rattle.rules.specs.declared.Row.{Row}
-use Rattle.rules.specs.declared.Kind.{Kind}
 use Rattle.rules.specs.declared.Step.{Step}
 use Rattle.rules.specs.declared.Step.the-variants.{Unknown}
 use Rattle.rules.specs.Steps.{still, rowStep, then, either, step}
@@ -36,12 +35,12 @@ module _ (rows : List Row) (count at v : ℕ) (first : List Bool) where
     begins l = record { long = l; sets = begin rows count assignsFrom at (setOf first) (r .within); moves = starts-at rows count at v r }
 
     module _ {i : ℕ} {set : List Bool} {s : Step} (k : Moving i set s) where
-      pub with-plain : i < count → shapeOf (kindAt rows i) ≡ Shape.Plain → {d : Kind} → d ≡ kindAt rows i → {m : List Bool} → SetIs m (withRow (setOf set) (plainOf d))
-          → {t : Step} → t ≡ then s (rowStep v (plainOf d)) → Moving (i + 1) m t
-      with-plain l h q a b = record {
+      pub with-plain : i < count → shapeOf (kindAt rows i) ≡ Shape.Plain → {m : List Bool} → SetIs m (withRow (setOf set) (plainOf (kindAt rows i)))
+          → {t : Step} → t ≡ then s (rowStep v (plainOf (kindAt rows i))) → Moving (i + 1) m t
+      with-plain l h a b = record {
         long = a .long;
-        sets = rw (a .value, q) (plain-row rows count assignsFrom at (setOf first) (k .sets) l (r .built) h (from-plain _ _ _));
-        moves = rw (b, q) (plain-step rows count at v r (k .moves) l h);
+        sets = rw (a .value) (plain-row rows count assignsFrom at (setOf first) (k .sets) l (r .built) h (from-plain _ _ _));
+        moves = rw b (plain-step rows count at v r (k .moves) l h);
       }
 
       pub with-pick : i < count → {a b : Stepped} {q : ℕ} {m n : List Bool} → PickIs rows count i (a .next) q (b .next) → MovesOf rows count (i + 1) v set m a → MovesOf rows count q v m n b
@@ -53,10 +52,10 @@ module _ (rows : List Row) (count at v : ℕ) (first : List Bool) where
       }
 
       pub with-loop : i < count → {b : Stepped} → LoopIs rows count (kindAt rows i) i (b .next) → shapeOf (kindAt rows i) ≡ Shape.Loop
-          → {z n : List Bool} → setOf z ≡ none → MovesOf rows count (i + 1) v z n b → {d : Kind} → d ≡ kindAt rows i → {o : List Bool} → SetIs o (withRow (setOf n) (plainOf d))
+          → {z n : List Bool} → setOf z ≡ none → MovesOf rows count (i + 1) v z n b → {o : List Bool} → SetIs o (withRow (setOf n) (plainOf (kindAt rows i)))
           → {m : List Bool} → SetIs m (bothOf (setOf set) (setOf o)) → {x : Bool} → x ≡ setOf o v → {t : Step} → t ≡ then s (cond x Unknown still) → Moving (b .next + 1) m t
-      with-loop l u h {z} {n} e g {d} q {o} a {m} c f p =
-          let own = a .value ∙ ap (λ d. withRow (setOf n) (plainOf d)) q ∙ ap (λ y. withRow y (plainOf (kindAt rows i))) (g .sets .value ∙ ap (λ y. assignsFrom y (blockAt rows count (i + 1))) e) in
+      with-loop l u h {z} {n} e g {o} a {m} c f p =
+          let own = a .value ∙ ap (λ y. withRow y (plainOf (kindAt rows i))) (g .sets .value ∙ ap (λ y. assignsFrom y (blockAt rows count (i + 1))) e) in
           record {
             long = c .long;
             sets = rw (c .value, own, both-loop) (loop-row rows count assignsFrom at (setOf first) (k .sets) l (r .built) u (from-loop _ _ _ h _ _));
@@ -79,17 +78,17 @@ module _ {rows : List Row} {count i v : ℕ} {a b : List Bool} where
   near-room few {m} k = let w = k .moves in ends-more (m .next - i) 512 (omega arith) (m .step) (k .near)
 
 -- a loop's body: its rows, and a for's step row
-pub body-of : {rows : List Row} {count i v : ℕ} → AtLoop rows count i → {m : Stepped} {z n : List Bool} → setOf z ≡ none → MovesOf rows count (i + 1) v z n m → {d : Kind} → d ≡ kindAt rows i
-    → {o : List Bool} → SetIs o (withRow (setOf n) (plainOf d)) → {t : Step} → t ≡ then (m .step) (rowStep v (plainOf d)) → BodyMoves rows count i v (record { set = o; step = t; next = m .next })
-body-of {rows} {count} {i} {v} s {m} {z} {n} e k {d} q {o} a {t} b =
+pub body-of : {rows : List Row} {count i v : ℕ} → AtLoop rows count i → {m : Stepped} {z n : List Bool} → setOf z ≡ none → MovesOf rows count (i + 1) v z n m
+    → {o : List Bool} → SetIs o (withRow (setOf n) (plainOf (kindAt rows i))) → {t : Step} → t ≡ then (m .step) (rowStep v (plainOf (kindAt rows i))) → BodyMoves rows count i v (record { set = o; step = t; next = m .next })
+body-of {rows} {count} {i} {v} s {m} {z} {n} e k {o} a {t} b =
     let w = k .sets in
     let l = loop-at _ _ _ (s .inside) (s .ready .built) (s .loops) (w .place) in
     let c = m .next - (i + 1) in
     let y = rowStep v (plainOf (kindAt rows i)) in
-    let own = a .value ∙ ap (λ d. withRow (setOf n) (plainOf d)) q ∙ ap (λ y. withRow y (plainOf (kindAt rows i))) (w .value ∙ ap (λ y. assignsFrom y (blockAt rows count (i + 1))) e) in
+    let own = a .value ∙ ap (λ y. withRow y (plainOf (kindAt rows i))) (w .value ∙ ap (λ y. assignsFrom y (blockAt rows count (i + 1))) e) in
     record {
       sets = λ u. ap (λ f. f u) own ∙ body-set u (kindAt rows i) (s .loops) i (blockAt rows count (i + 1));
-      moves = rw (b, q, k .moves .value) (body-is v (kindAt rows i) (s .loops) i (blockAt rows count (i + 1)));
-      near = rw (b, q) (ends-more (c + 1) 256 (omega (arith, s .ready .few)) (then (m .step) y) (then-ends c 1 (m .step) y (k .near) (row-ends v (kindAt rows i) (s .ready .fine i (s .inside)))));
+      moves = rw (b, k .moves .value) (body-is v (kindAt rows i) (s .loops) i (blockAt rows count (i + 1)));
+      near = rw b (ends-more (c + 1) 256 (omega (arith, s .ready .few)) (then (m .step) y) (then-ends c 1 (m .step) y (k .near) (row-ends v (kindAt rows i) (s .ready .fine i (s .inside)))));
       ends = record { place = w .place; low = w .low; high = l .below };
     }

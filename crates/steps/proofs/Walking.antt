@@ -4,7 +4,6 @@ use mathlib.Core.List.{List}
 use Prim.Native.Nat.{ℕ, _+_, _≤_, _<_}
 use native.Mathlib.Omega.{arith}
 use Rattle.rules.specs.declared.Row.{Row}
-use Rattle.rules.specs.declared.Kind.{Kind}
 use Rattle.rules.specs.Blocks.{Block, done, plain, pick, loop}
 use Rattle.steps.specs.declared.Shape.{Shape}
 use Rattle.table.specs.Code.{kindAt}
@@ -14,10 +13,6 @@ use Rattle.steps.proofs.Laws.{RowLaw, PickIs, LoopIs, ClosedAt, row-law
 -- the rows build from any row on
 pub ready : {rows : List Row} {count i j : ℕ} → Ready rows count i → j ≤ count → Ready rows count j
 ready r h = record { few = r .few; within = h; built = r .built; fine = r .fine }
-
--- the shape of the row that a walk has read
-pub told : {k r : Kind} {s x : Shape} → k ≡ r → s ≡ shapeOf k → s ≡ x → shapeOf r ≡ x
-told q p e = ap shapeOf (sym q) ∙ sym p ∙ e
 
 module _ (rows : List Row) (count : ℕ) where
   module _ (i : ℕ) (l : i < count) (built : Whole rows count) where

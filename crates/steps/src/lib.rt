@@ -4,12 +4,16 @@ use rules::Step;
 use rules::change_step;
 use rules::only;
 use table::kind_at;
+use table::tag_at;
+use table::variable_at;
 ghost use mathlib.Core.Path.{_≡_};
-ghost use Prim.Native.Nat.{_<_};
+ghost use mathlib.Core.Bool.{_&&_};
+ghost use Prim.Native.Nat.{ℕ, _<_};
+ghost use lib.Dec.{eqb};
 ghost use lib.ListN.{length};
 ghost use Rattle.rules.specs.Steps.{sets, rowStep};
 ghost use Rattle.rules.specs.Bounds.{Fine};
-ghost use Rattle.table.specs.Code.{rowsOf};
+ghost use Rattle.table.specs.Code.{kindAt, rowsOf, numbersAt, variableIn};
 ghost use Rattle.steps.specs.Tree.{shapeOf, plainOf, pastElse, Ready};
 ghost use Rattle.steps.specs.Sets.{setOf, withOne, withRow, bothOf, SetIs};
 ghost use Rattle.steps.specs.Body.{AtLoop, MovesOf, BodyMoves};
@@ -22,38 +26,33 @@ pub enum Shape {
     Close,
 }
 
-pub fn shape_of(kind: Kind) -> Shape
-    ensures { λ r. ⌜ r ≡ shapeOf kind ⌝ }
+// The shape of row i by its tag: end and else have 0 and 1, pick 2, plain rows 3 to 5, loops more.
+pub fn shape_at(rows: &[[u32; 9]; 256], i: usize) -> Shape
+    requires { ⌜ i < 256 ⌝ }
+    ensures { λ r. ⌜ r ≡ shapeOf (kindAt (rowsOf (now (rows .entry))) i) ⌝ }
 {
-    match kind {
-        Kind::Set(_, _) => Shape::Plain,
-        Kind::Move(_, _) => Shape::Plain,
-        Kind::Cue(_) => Shape::Plain,
-        Kind::Pick => Shape::Branch,
-        Kind::Else => Shape::Close,
-        Kind::End => Shape::Close,
-        Kind::While(_, _, _) => Shape::Loop,
-        Kind::Do(_, _, _) => Shape::Loop,
-        Kind::For(_, _, _, _, _) => Shape::Loop,
+    let t = tag_at(rows, i);
+    if t < 2 {
+        return Shape::Close;
     }
+    if t == 2 {
+        return Shape::Branch;
+    }
+    if t < 6 {
+        return Shape::Plain;
+    }
+    Shape::Loop
 }
 
-// The row after an else; any other row stays.
-pub fn past_else(kind: Kind, at: usize) -> usize
+// The row after an else (tag 1); any other row stays.
+pub fn past_else(rows: &[[u32; 9]; 256], at: usize) -> usize
     requires { ⌜ at < 256 ⌝ }
-    ensures { λ r. ⌜ r ≡ pastElse kind at ⌝ }
+    ensures { λ r. ⌜ r ≡ pastElse (kindAt (rowsOf (now (rows .entry))) at) at ⌝ }
 {
-    match kind {
-        Kind::Set(_, _) => at,
-        Kind::Move(_, _) => at,
-        Kind::Cue(_) => at,
-        Kind::Pick => at,
-        Kind::Else => at + 1,
-        Kind::End => at,
-        Kind::While(_, _, _) => at,
-        Kind::Do(_, _, _) => at,
-        Kind::For(_, _, _, _, _) => at,
+    if tag_at(rows, at) == 1 {
+        return at + 1;
     }
+    at
 }
 
 // Adds v to the set.
@@ -65,21 +64,25 @@ fn add(set: &mut [bool; 16], v: u8)
     set[i] = true;
 }
 
-// Adds the variable that a plain row assigns, or a for's step row.
-fn add_row(set: &mut [bool; 16], kind: Kind)
-    requires { ⌜ Fine kind × (length (now set) ≡ 16) ⌝ }
-    ensures { λ _. ⌜ SetIs (now (set .exit)) (withRow (setOf (now (set .entry))) (plainOf kind)) ⌝ }
+// Does row i assign its variable: a set, a change or a for's step row (tags 3, 4 and 8)?
+fn assigns(rows: &[[u32; 9]; 256], i: usize) -> bool
+    requires { ⌜ i < 256 ⌝ }
+    ensures { λ r. ⌜ ((w : ℕ) → sets w (plainOf (kindAt (rowsOf (now (rows .entry))) i)) ≡ (r && eqb w (variableIn (numbersAt (now (rows .entry)) i)))) ⌝ }
 {
-    match kind {
-        Kind::Set(v, _) => add(set, v),
-        Kind::Move(v, _) => add(set, v),
-        Kind::Cue(_) => {}
-        Kind::Pick => {}
-        Kind::Else => {}
-        Kind::End => {}
-        Kind::While(_, _, _) => {}
-        Kind::Do(_, _, _) => {}
-        Kind::For(v, _, _, _, _) => add(set, v),
+    let t = tag_at(rows, i);
+    if t < 5 {
+        return 2 < t;
+    }
+    7 < t
+}
+
+// Adds the variable that a plain row assigns, or a for's step row.
+fn add_row(set: &mut [bool; 16], rows: &[[u32; 9]; 256], i: usize)
+    requires { ⌜ (i < 256) × Fine (kindAt (rowsOf (now rows)) i) × (length (now set) ≡ 16) ⌝ }
+    ensures { λ _. ⌜ SetIs (now (set .exit)) (withRow (setOf (now (set .entry))) (plainOf (kindAt (rowsOf (now (rows .entry))) i))) ⌝ }
+{
+    if assigns(rows, i) {
+        add(set, variable_at(rows, i));
     }
 }
 
@@ -121,20 +124,11 @@ pub fn row_step(kind: Kind, v: u8) -> Step
 }
 
 // Does a plain row assign v, or a for's step row?
-fn sets_it(kind: Kind, v: u8) -> bool
-    ensures { λ r. ⌜ r ≡ sets v (plainOf kind) ⌝ }
+fn sets_it(rows: &[[u32; 9]; 256], i: usize, v: u8) -> bool
+    requires { ⌜ i < 256 ⌝ }
+    ensures { λ r. ⌜ r ≡ sets v (plainOf (kindAt (rowsOf (now (rows .entry))) i)) ⌝ }
 {
-    match kind {
-        Kind::Set(w, _) => v == w,
-        Kind::Move(w, _) => v == w,
-        Kind::Cue(_) => false,
-        Kind::Pick => false,
-        Kind::Else => false,
-        Kind::End => false,
-        Kind::While(_, _, _) => false,
-        Kind::Do(_, _, _) => false,
-        Kind::For(w, _, _, _, _) => v == w,
-    }
+    assigns(rows, i) && v == variable_at(rows, i)
 }
 
 // The step of one variable over some rows, and the row after them.
@@ -157,11 +151,11 @@ pub fn moves_of(
     let mut step = Step::STILL;
     let mut i = at;
     while i < count {
-        let kind = kind_at(rows, i);
-        match shape_of(kind) {
+        match shape_at(rows, i) {
             Shape::Plain => {
-                add_row(set, kind);
-                if sets_it(kind, v) {
+                add_row(set, rows, i);
+                if sets_it(rows, i, v) {
+                    let kind = kind_at(rows, i);
                     step = step.then(row_step(kind, v));
                 }
                 i = i + 1;
@@ -169,8 +163,7 @@ pub fn moves_of(
             Shape::Branch => {
                 let a = moves_of(rows, count, i + 1, v, set);
                 let e = a.next;
-                let closing = kind_at(rows, e);
-                let b = moves_of(rows, count, past_else(closing, e), v, set);
+                let b = moves_of(rows, count, past_else(rows, e), v, set);
                 let x = a.step;
                 let y = b.step;
                 step = step.then(x.either(y));
@@ -179,7 +172,7 @@ pub fn moves_of(
             Shape::Loop => {
                 let mut inner = [false; 16];
                 let body = moves_of(rows, count, i + 1, v, &mut inner);
-                add_row(&mut inner, kind);
+                add_row(&mut inner, rows, i);
                 step = step.then(only(has(inner, v), Step::Unknown));
                 add_all(set, inner);
                 i = body.next + 1;
@@ -213,7 +206,7 @@ pub fn body_moves(rows: &[[u32; 9]; 256], count: usize, i: usize, v: u8) -> Move
     let kind = kind_at(rows, i);
     let mut set = [false; 16];
     let body = moves_of(rows, count, i + 1, v, &mut set);
-    add_row(&mut set, kind);
+    add_row(&mut set, rows, i);
     let step = body.step;
     let next = body.next;
     Moves {

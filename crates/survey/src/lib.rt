@@ -1,6 +1,6 @@
 // The whole file: the questions 8 to 13, ticks, and the report's lines.
+use lines::put_line;
 use ranges::after;
-use ranges::after_row;
 use ranges::at_start;
 use ranges::bounds;
 use ranges::head_of;
@@ -9,7 +9,7 @@ use ranges::is_do;
 use ranges::joined;
 use ranges::outside;
 use ranges::span_at;
-use lines::put_line;
+use ranges::step_row;
 use rules::Kind;
 use rules::LoopLine;
 use rules::Operand;
@@ -19,7 +19,7 @@ use steps::Shape;
 use steps::body_moves;
 use steps::has;
 use steps::past_else;
-use steps::shape_of;
+use steps::shape_at;
 use table::kind_at;
 use table::table_of;
 use ticks::LIMIT;
@@ -253,11 +253,9 @@ fn walk(
     let mut t = from;
     let mut i = at;
     while i < count {
-        let kind = kind_at(rows, i);
-        match shape_of(kind) {
+        match shape_at(rows, i) {
             Shape::Plain => {
-                let x = after_row(r, kind);
-                r = x;
+                step_row(&mut r, rows, i);
                 t.spent = plus(t.spent, 1);
                 i = i + 1;
             }
@@ -266,9 +264,7 @@ fn walk(
                 if a.number != 0 {
                     return a;
                 }
-                let m = a.next;
-                let closing = kind_at(rows, m);
-                let second = past_else(closing, m);
+                let second = past_else(rows, a.next);
                 let b = walk(rows, count, second, r, outer, lines, restarted(a, 0));
                 if b.number != 0 {
                     return b;
@@ -281,6 +277,7 @@ fn walk(
                 i = e + 1;
             }
             Shape::Loop => {
+                let kind = kind_at(rows, i);
                 let begun = at_start(r, kind);
                 let one = one_loop(rows, count, i, begun);
                 if one.number != 0 {

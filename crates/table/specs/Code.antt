@@ -32,16 +32,33 @@ changeIn t c = cond (eqb t 0) (Add c) (cond (eqb t 1) (Sub c) (cond (eqb t 2) (M
 abbrev pub number : List ℕ → ℕ → ℕ
 number e i = getD e i 0
 
+-- the variable, the first operand, the limit, the change
+abbrev pub variableIn : List ℕ → ℕ
+variableIn e = min (number e 1) 255
+
+abbrev pub startIn : List ℕ → Operand
+startIn e = operandIn (number e 2) (number e 3)
+
+abbrev pub limitIn : List ℕ → Operand
+limitIn e = operandIn (number e 5) (number e 6)
+
+abbrev pub stepIn : List ℕ → Change
+stepIn e = changeIn (number e 7) (number e 8)
+
 -- the kind by its tag
 unfoldable pub kindIn : List ℕ → Kind
 kindIn e =
     let t = number e 0 in
-    let v = min (number e 1) 255 in
-    let start = operandIn (number e 2) (number e 3) in
+    let v = variableIn e in
+    let start = startIn e in
     let c = comparisonIn (number e 4) in
-    let limit = operandIn (number e 5) (number e 6) in
-    let d = changeIn (number e 7) (number e 8) in
+    let limit = limitIn e in
+    let d = stepIn e in
     cond (eqb t 0) End (cond (eqb t 1) Else (cond (eqb t 2) Pick (cond (eqb t 3) (Set v start) (cond (eqb t 4) (Move v d) (cond (eqb t 5) (Cue (number e 8)) (cond (eqb t 6) (While v c limit) (cond (eqb t 7) (Do v c limit) (For v start c limit d))))))))
+
+-- the numbers of row i
+abbrev pub numbersAt : List (List ℕ) → ℕ → List ℕ
+numbersAt t i = getD t i []
 
 -- the rows that a table holds
 abbrev pub rowIn : List ℕ → Row

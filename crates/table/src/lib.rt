@@ -8,7 +8,7 @@ ghost use mathlib.Core.Path.{_≡_};
 ghost use Prim.Native.Nat.{ℕ, _≤_, _<_, min};
 ghost use Rattle.rules.specs.Bounds.{Near, Fine, FineOperand};
 ghost use Rattle.rules.specs.declared.Kind.{Kind};
-ghost use Rattle.table.specs.Code.{constantIn, operandIn, comparisonIn, changeIn, kindIn, kindAt, rowsOf, Packed};
+ghost use Rattle.table.specs.Code.{constantIn, operandIn, comparisonIn, changeIn, number, variableIn, startIn, stepIn, kindIn, numbersAt, kindAt, rowsOf, Packed};
 
 // A byte of the table.
 fn byte(x: u32) -> u8
@@ -118,6 +118,38 @@ pub fn kind_at(table: &[[u32; 9]; 256], i: usize) -> Kind
 {
     let e = table[i];
     kind_of(e)
+}
+
+// The tag of row i.
+pub fn tag_at(table: &[[u32; 9]; 256], i: usize) -> u32
+    requires { ⌜ i < 256 ⌝ }
+    ensures { λ r. ⌜ r ≡ number (numbersAt (now (table .entry)) i) 0 ⌝ }
+{
+    table[i][0]
+}
+
+// The variable of row i.
+pub fn variable_at(table: &[[u32; 9]; 256], i: usize) -> u8
+    requires { ⌜ i < 256 ⌝ }
+    ensures { λ r. ⌜ r ≡ variableIn (numbersAt (now (table .entry)) i) ⌝ }
+{
+    byte(table[i][1])
+}
+
+// The first operand of row i.
+pub fn operand_at(table: &[[u32; 9]; 256], i: usize) -> Operand
+    requires { ⌜ i < 256 ⌝ }
+    ensures { λ r. ⌜ r ≡ startIn (numbersAt (now (table .entry)) i) ⌝ }
+{
+    operand(table[i][2], table[i][3])
+}
+
+// The change of row i.
+pub fn change_at(table: &[[u32; 9]; 256], i: usize) -> Change
+    requires { ⌜ i < 256 ⌝ }
+    ensures { λ r. ⌜ r ≡ stepIn (numbersAt (now (table .entry)) i) ⌝ }
+{
+    change(table[i][7], table[i][8])
 }
 
 // A tag and its value.

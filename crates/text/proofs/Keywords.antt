@@ -8,11 +8,13 @@ use native.Mathlib.Numerals.{add-one}
 use lib.ListN.{length, getD, drop, drop-of-length-le, length-drop}
 use lib.Seq.{drop-cons}
 use lib.Dec.{leb, ltb, eqb}
+use lib.IntN.{ℤ, pos, negsuc, natAbs}
+use lib.Signed.{ltZ}
 use borrow.Author.Tests.{leb-true, ltb-true, eq-eqb, ne-eqb, eqb-true, eqb-false}
 use Rattle.rules.specs.declared.Word.{Word}
-use Rattle.rules.specs.declared.Word.the-variants.{Other}
+use Rattle.rules.specs.declared.Word.the-variants.{Variable, Other}
 use Rattle.rules.specs.Text.{equals, comparisonWord, blockWord, plainWord}
-use Rattle.text.specs.Words.{packed, Bytes, Packs, keywords, packedWord}
+use Rattle.text.specs.Words.{packed, Bytes, Packs, keywords, packedWord, wordAt, variableIn}
 
 -- ---- a text of a few bytes has a small number
 unfoldable room : ℕ → ℕ
@@ -127,3 +129,20 @@ plain-packed s n p = ap (packedWord keywords) (p .same) ∙ chain-packed keyword
 
 pub plain-long : (s : List ℕ) → 5 < length s → Other ≡ plainWord s
 plain-long s h = sym (chain-long keywords keywords-fine s h) ∙ plain-chain s
+
+-- ---- the words by their tags
+pub word-past : (t : List (List ℕ × Word)) (i : ℕ) → length t ≤ i → wordAt t i ≡ Other
+unfolding wordAt
+word-past [] i h = refl
+word-past ((w, x) ∷ t) zero h = absurd (omega arith)
+word-past ((w, x) ∷ t) (suc i) h = word-past t i (omega arith)
+
+pub is-variable : (z : ℤ) → ltZ z (pos 0) ≡ false → Variable (natAbs z) ≡ variableIn z
+unfolding variableIn
+is-variable (pos v) e = refl
+is-variable (negsuc v) e = absurd (let z : _≡_ {A = ℕ} 0 1 = cc in omega arith)
+
+pub no-variable : (z : ℤ) → ltZ z (pos 0) ≡ true → Other ≡ variableIn z
+unfolding variableIn
+no-variable (pos v) e = absurd (omega (arith, ltb-true v 0 e))
+no-variable (negsuc v) e = refl

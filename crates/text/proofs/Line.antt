@@ -8,13 +8,17 @@ use native.Mathlib.Numerals.{add-one}
 use lib.ListN.{length, getD, take, drop, length-drop}
 use lib.Seq.{drop-cons, drop-drop}
 use lib.Dec.{eqb}
+use lib.IntN.{ℤ, pos}
+use mir.Syntax.{w32}
+use mir.Val.{SFits, toZ, ofZ}
+use mir.Facts.{toZ-ofZ}
 use borrow.Author.Tests.{eq-eqb, ne-eqb, eqb-true, eqb-false}
 use Rattle.rules.specs.declared.Word.{Word}
 use Rattle.rules.specs.declared.Word.the-variants.{Missing}
 use Rattle.rules.specs.Text.{prefixed, split, comparisonWord, blockWord, plainWord, wordOf, wordsOf}
 use Rattle.rules.specs.File.{asksEnd}
 use Rattle.text.proofs.Cut.{cut-end}
-use Rattle.text.specs.Words.{before, stops, stop, front, cut, Ends, parts, following, Next, Reads}
+use Rattle.text.specs.Words.{before, stops, stop, front, cut, Ends, parts, following, wordIn, Next, Reads}
 use Rattle.text.specs.declared.Found.{Found}
 
 -- a line's words: the word at the front, and those after the byte that ends it
@@ -54,8 +58,8 @@ no-more : (b : ℕ) (s : List ℕ) → b ≡ 10 → (k : ℕ) → following (b �
 unfolding following parts wordsOf
 no-more b s e k = rw (eq-eqb b 10 e)
 
-pub next-none : (s : List ℕ) (at : ℕ) → Ends (drop at s) → at < length s → getD s at 0 ≡ 10 → Next s at (record { word = Missing; end = at })
-unfolding cut
+pub next-none : (s : List ℕ) (at : ℕ) → Ends (drop at s) → at < length s → getD s at 0 ≡ 10 → Next s at (record { tag = 19; value = pos 0; end = at })
+unfolding cut wordIn
 next-none s at h l e = record {
   word = rw (drop-cons s at 0 l, no-more (getD s at 0) (drop (suc at) s) e 0);
   more = λ k. rw (drop-cons s at 0 l, no-more (getD s at 0) (drop (suc at) s) e (suc k), no-more (getD s at 0) (drop (suc at) s) e k);
@@ -79,7 +83,7 @@ module _ (b : ℕ) (t : List ℕ) (n : b ≡ 10 → ⊥) (h : Ends (b ∷ t)) wh
   more-words k = rw (after-words b t n, cuts t (after-some b t n h) .words)
 
 -- a word of n bytes after the byte `at`
-module _ (s : List ℕ) (at : ℕ) (w : Word) (n : ℕ) (h : Ends (drop at s)) (other : getD s at 0 ≡ 10 → ⊥) (r : Reads (drop (at + 1) s) (record { word = w; end = n })) where
+module _ (s : List ℕ) (at : ℕ) (t : ℕ) (z : ℤ) (n : ℕ) (h : Ends (drop at s)) (other : getD s at 0 ≡ 10 → ⊥) (r : Reads (drop (at + 1) s) (record { tag = t; value = z; end = n })) where
   head : drop at s ≡ getD s at 0 ∷ drop (at + 1) s
   head = rw (add-one at) (drop-cons s at 0 (ends-within s at h))
 
@@ -89,7 +93,7 @@ module _ (s : List ℕ) (at : ℕ) (w : Word) (n : ℕ) (h : Ends (drop at s)) (
   some : Ends (getD s at 0 ∷ drop (at + 1) s)
   some = rw head at h
 
-  pub next-some : Next s at (record { word = w; end = at + 1 + n })
+  pub next-some : Next s at (record { tag = t; value = z; end = at + 1 + n })
   next-some =
       let c = cuts (drop (at + 1) s) (after-some _ _ other some) in
       let e : before 10 (drop at s) ≡ suc (before 10 (drop (at + 1) s)) = ap (before 10) head ∙ after-line _ _ other in
@@ -152,11 +156,22 @@ module _ (s : List ℕ) (at m p : ℕ) (h : Reached s at m p) where
     ends = n .ends;
   }
 
-  pub reach-word : (r : Found) → Next s p r → r .word ≡ cut (following (drop at s) m)
-  reach-word r n = n .word ∙ ap cut (sym here)
+  -- the next word, as a call of `said` with the fields of a call of `next_word` gives it
+  pub reach-word : (r : Found) → Next s p r → SFits w32 (r .value) → (w : Word) → w ≡ wordIn (r .tag) (toZ w32 (ofZ w32 (r .value)))
+      → (w ≡ cut (following (drop at s) m)) × Reached s at (suc m) (r .end)
+  reach-word r n f w e = ((rw (toZ-ofZ f) at e) ∙ n .word ∙ ap cut (sym here), reach-more r n)
 
   pub reach-last : asksEnd (following (drop p s) 0) ≡ asksEnd (cut (following (drop at s) m))
   reach-last = ap asksEnd (sym here) ∙ sym (cut-end (following (drop at s) m))
 
   pub reach-end : asksEnd (cut (following (drop at s) m)) ≡ 0 → p ≡ at + before 10 (drop at s)
   reach-end z = omega (arith, last-end s p (h .ends) (reach-last ∙ z), h .line)
+
+-- the first two words
+pub reach-two : (s : List ℕ) (at : ℕ) → Ends (drop at s) → (f : Found) → Next s at f → SFits w32 (f .value) → (v : Word) → v ≡ wordIn (f .tag) (toZ w32 (ofZ w32 (f .value)))
+    → (g : Found) → Next s (f .end) g → SFits w32 (g .value) → (x : Word) → x ≡ wordIn (g .tag) (toZ w32 (ofZ w32 (g .value)))
+    → (v ≡ cut (following (drop at s) 0)) × (x ≡ cut (following (drop at s) 1)) × Reached s at 2 (g .end)
+reach-two s at h f n i v e g o j x d =
+    let (a, r) = reach-word s at 0 at (reach-none s at h) f n i v e in
+    let (b, t) = reach-word s at 1 (f .end) r g o j x d in
+    (a, b, t)

@@ -101,9 +101,24 @@ unfoldable pub packedWord : List (List ℕ × Word) → ℕ → Word
 packedWord [] n = Other
 packedWord ((w, x) ∷ t) n = cond (eqb n (packed w)) x (packedWord t n)
 
+-- the word at a place of the table
+unfoldable pub wordAt : List (List ℕ × Word) → ℕ → Word
+wordAt [] i = Other
+wordAt ((w, x) ∷ t) zero = x
+wordAt ((w, x) ∷ t) (suc i) = wordAt t i
+
+-- a variable is never below 0
+unfoldable pub variableIn : ℤ → Word
+variableIn (pos v) = Variable v
+variableIn (negsuc v) = Other
+
+-- the word that a tag and a value say: 19 none, 20 a number, 21 a variable; below that the place of a keyword or comparison, and 18 any other word
+unfoldable pub wordIn : ℕ → ℤ → Word
+wordIn t z = cond (eqb t 19) Missing (cond (eqb t 20) (Number z) (cond (eqb t 21) (variableIn z) (wordAt keywords t)))
+
 -- the word at the front of a text is read, its number cut off
 pub record Reads (s : List ℕ) (r : Found) : Type 0 where
-  pub word : r .word ≡ cut (wordOf (front s))
+  pub word : wordIn (r .tag) (r .value) ≡ cut (wordOf (front s))
   pub end : r .end ≡ stop s
 
 -- an LF stands in a text
@@ -120,7 +135,7 @@ following s = wordsOf (parts s)
 
 -- one word of a line is read, and the others begin after the byte `end`
 pub record Next (s : List ℕ) (at : ℕ) (r : Found) : Type 0 where
-  pub word : r .word ≡ cut (following (drop at s) 0)
+  pub word : wordIn (r .tag) (r .value) ≡ cut (following (drop at s) 0)
   pub more : (k : ℕ) → following (drop at s) (suc k) ≡ following (drop (r .end) s) k
   pub line : r .end + before 10 (drop (r .end) s) ≡ at + before 10 (drop at s)
   pub ends : Ends (drop (r .end) s)

@@ -8,7 +8,7 @@ ghost use lib.IntN.{pos, negℤ};
 ghost use Prim.Native.Nat.{_+_, _*_, _-_, _≤_, _<_, min};
 ghost use lib.ListN.{length, drop};
 ghost use Rattle.rules.specs.Text.{startsWith, isDigit, isNatural, plainWord, wordOf};
-ghost use Rattle.text.specs.Words.{before, marks, stops, stop, front, cut, digitsOf, naturalOf, Packs, keywords, packedWord, Ends, Reads, Next};
+ghost use Rattle.text.specs.Words.{before, marks, stops, stop, front, cut, digitsOf, naturalOf, Packs, keywords, packedWord, wordIn, Ends, Reads, Next};
 
 // How many bytes stand before the first b, or all.
 pub fn position(s: &[u8], b: u8) -> usize
@@ -147,39 +147,83 @@ fn packed(s: &[u8]) -> u64
     n
 }
 
-// The keyword or comparison of a packed text.
-fn keyword(n: u64) -> Word
-    ensures { λ r. ⌜ r ≡ packedWord keywords n ⌝ }
+// The tags of the words that are no keywords or comparisons; those have the tags below.
+const OTHER: u32 = 18;
+
+const MISSING: u32 = 19;
+
+const NUMBER: u32 = 20;
+
+const VARIABLE: u32 = 21;
+
+// The word of a tag and a value.
+pub fn said(tag: u32, value: i32) -> Word
+    ensures { λ r. ⌜ r ≡ wordIn tag value ⌝ }
 {
-    match n {
-        0x1746573 => Word::Keyword(Name::Set),
-        0x1646461 => Word::Keyword(Name::Add),
-        0x1627573 => Word::Keyword(Name::Sub),
-        0x16c756d => Word::Keyword(Name::Mul),
-        0x1766964 => Word::Keyword(Name::Div),
-        0x1657563 => Word::Keyword(Name::Cue),
-        0x1726f66 => Word::Keyword(Name::For),
-        0x1656c696877 => Word::Keyword(Name::While),
-        0x16f64 => Word::Keyword(Name::Do),
-        0x1646e65 => Word::Keyword(Name::End),
-        0x165736c65 => Word::Keyword(Name::Else),
-        0x16b636970 => Word::Keyword(Name::Pick),
-        0x13c => Word::Compares(Comparison::Less),
-        0x13d3c => Word::Compares(Comparison::AtMost),
-        0x13e => Word::Compares(Comparison::Greater),
-        0x13d3e => Word::Compares(Comparison::AtLeast),
-        0x13d3d => Word::Compares(Comparison::Equal),
-        0x13d21 => Word::Compares(Comparison::Different),
+    match tag {
+        0 => Word::Keyword(Name::Set),
+        1 => Word::Keyword(Name::Add),
+        2 => Word::Keyword(Name::Sub),
+        3 => Word::Keyword(Name::Mul),
+        4 => Word::Keyword(Name::Div),
+        5 => Word::Keyword(Name::Cue),
+        6 => Word::Keyword(Name::For),
+        7 => Word::Keyword(Name::While),
+        8 => Word::Keyword(Name::Do),
+        9 => Word::Keyword(Name::End),
+        10 => Word::Keyword(Name::Else),
+        11 => Word::Keyword(Name::Pick),
+        12 => Word::Compares(Comparison::Less),
+        13 => Word::Compares(Comparison::AtMost),
+        14 => Word::Compares(Comparison::Greater),
+        15 => Word::Compares(Comparison::AtLeast),
+        16 => Word::Compares(Comparison::Equal),
+        17 => Word::Compares(Comparison::Different),
+        19 => Word::Missing,
+        20 => Word::Number(value),
+        21 => {
+            if value < 0 {
+                return Word::Other;
+            }
+            Word::Variable(value as u32)
+        }
         _ => Word::Other,
     }
 }
 
+// The tag of the keyword or comparison of a packed text.
+fn keyword(n: u64) -> u32
+    ensures { λ r. ⌜ wordIn r (pos 0) ≡ packedWord keywords n ⌝ }
+{
+    match n {
+        0x1746573 => 0,
+        0x1646461 => 1,
+        0x1627573 => 2,
+        0x16c756d => 3,
+        0x1766964 => 4,
+        0x1657563 => 5,
+        0x1726f66 => 6,
+        0x1656c696877 => 7,
+        0x16f64 => 8,
+        0x1646e65 => 9,
+        0x165736c65 => 10,
+        0x16b636970 => 11,
+        0x13c => 12,
+        0x13d3c => 13,
+        0x13e => 14,
+        0x13d3e => 15,
+        0x13d3d => 16,
+        0x13d21 => 17,
+        _ => OTHER,
+    }
+}
+
 // set, add, .. and < <= ..
-fn plain_word(s: &[u8]) -> Word
-    ensures { λ r. ⌜ r ≡ plainWord (now (s .entry)) ⌝ }
+fn plain_word(s: &[u8]) -> u32
+    ensures { λ r. ⌜ wordIn r (pos 0) ≡ plainWord (now (s .entry)) ⌝ }
 {
     if 5 < s.len() {
-        return Word::Other;
+        return OTHER;
     }
     keyword(packed(s))
 }
@@ -193,9 +237,10 @@ fn signed(negative: bool, v: u32) -> i32
     if negative { -z } else { z }
 }
 
-// A word, and the byte where it ends.
+// A word by its tag and value, and the byte where it ends. Numbers, not the enum: they are given in registers.
 pub struct Found {
-    pub word: Word,
+    pub tag: u32,
+    pub value: i32,
     pub end: usize,
 }
 
@@ -205,8 +250,8 @@ fn other_word(s: &[u8]) -> Found
     ensures { λ r. ⌜ Reads (now (s .entry)) r ⌝ }
 {
     let end = stop(s);
-    let word = plain_word(&s[..end]);
-    Found { word, end }
+    let tag = plain_word(&s[..end]);
+    Found { tag, value: 0, end }
 }
 
 // Whether b stands before the digits of a variable or of a number below 0.
@@ -234,7 +279,8 @@ fn marked(s: &[u8]) -> Found
     };
     if first == b'v' {
         return Found {
-            word: Word::Variable(v),
+            tag: VARIABLE,
+            value: signed(false, v),
             end: k + 1,
         };
     }
@@ -245,7 +291,8 @@ fn marked(s: &[u8]) -> Found
         return other_word(s);
     }
     Found {
-        word: Word::Number(signed(true, v)),
+        tag: NUMBER,
+        value: signed(true, v),
         end: k + 1,
     }
 }
@@ -257,19 +304,22 @@ fn word_of(s: &[u8]) -> Found
     let n = natural(s);
     match n {
         Value::Of(v, k) => Found {
-            word: Word::Number(signed(false, v)),
+            tag: NUMBER,
+            value: signed(false, v),
             end: k,
         },
         Value::None => {
             if s.len() == 0 {
                 return Found {
-                    word: Word::Other,
+                    tag: OTHER,
+                    value: 0,
                     end: 0,
                 };
             }
             if stops(s[0]) {
                 return Found {
-                    word: Word::Other,
+                    tag: OTHER,
+                    value: 0,
                     end: 0,
                 };
             }
@@ -285,7 +335,8 @@ pub fn next_word(s: &[u8], at: usize) -> Found
 {
     if s[at] == b'\n' {
         return Found {
-            word: Word::Missing,
+            tag: MISSING,
+            value: 0,
             end: at,
         };
     }

@@ -4,7 +4,7 @@ use lib.ListN.{drop}
 use Rattle.rules.proofs.Reading.{sooner-yes}
 use Rattle.rules.specs.File.{sooner, asksEnd, asksNumber, cueRow}
 use Rattle.rules.specs.declared.Word.the-variants.{Missing}
-use Rattle.text.proofs.Line.{Reached, reach-none, reach-more, reach-word, reach-last}
+use Rattle.text.proofs.Line.{Reached, reach-none, reach-word, reach-last}
 use Rattle.rows.specs.Words.{after}
 use Rattle.rows.proofs.Laws.{checked-read, checked-wrong, lined-read, lined-wrong, number-wider}
 use Rattle.rules.specs.Values.{highest}
@@ -14,35 +14,36 @@ use borrow.Author.Needs.{needs}
 use Rattle.rows.proofs.cue_row.Statement.{statement}
 use Rattle.rows.proofs.cue_row.Tie as tie
 
--- the words read, one after the other
-reach1 : (c : tie.After-sooner) → let a = c .before .before .before .before .before .args in Reached (now (a .s)) (a .at) 1 (c .before .before .before .next-word .result .end)
-reach1 c = reach-more _ _ 0 _ (reach-none _ _ (c .before .before .before .before .before .pre)) _ (c .before .before .before .next-word .ensures)
-
-word1 : (c : tie.After-sooner) → let a = c .before .before .before .before .before .args in c .before .before .before .next-word .result .word ≡ after Missing (drop (a .at) (now (a .s))) 1
-word1 c = reach-word _ _ 0 _ (reach-none _ _ (c .before .before .before .before .before .pre)) _ (c .before .before .before .next-word .ensures)
+-- the word read
+words : (c : tie.After-said) → let a = c .before .before .before .before .args in let w = after Missing (drop (a .at) (now (a .s))) in
+    (c .said .result ≡ w 1) × Reached (now (a .s)) (a .at) 1 (c .before .before .next-word .result .end)
+words c = reach-word _ _ 0 _ (reach-none _ _ (c .before .before .before .before .pre)) _ (c .before .before .next-word .ensures) (search needs) _ (c .said .ensures)
 
 -- the words' questions
-asked : (c : tie.After-sooner) → let a = c .before .before .before .before .before .args in let w = after Missing (drop (a .at) (now (a .s))) in c .sooner .result ≡ sooner (asksNumber (pos 0) (pos 9_999) (w 1)) (asksEnd (w 2))
-asked c = rw (c .sooner .ensures, c .before .before .asks-number .ensures, c .before .asks-last .ensures, word1 c, reach-last _ _ 1 _ (reach1 c))
+asked : (c : tie.After-sooner) → let a = c .before .before .before .before .before .before .before .args in let w = after Missing (drop (a .at) (now (a .s))) in
+    c .sooner .result ≡ sooner (asksNumber (pos 0) (pos 9_999) (w 1)) (asksEnd (w 2))
+asked c = let (n, r) = words (c .before .before .before) in
+    rw (c .sooner .ensures, c .before .before .asks-number .ensures, c .before .asks-last .ensures, n, reach-last _ _ 1 _ r)
 
 amount-requires : tie.Need-amount-requires
 unfolding highest
-amount-requires c κs = number-wider (pos 0) (pos 9_999) (pos 0) highest (c .before .before .before .before .next-word .result .word) (omega ints) (omega ints) (rw (word1 (c .before)) (sooner-yes _ _ (sym (asked (c .before)) ∙ c .if1 .taken) .0))
+amount-requires c κs = number-wider (pos 0) (pos 9_999) (pos 0) highest (c .before .before .before .before .said .result) (omega ints) (omega ints) (rw (words (c .before .before .before .before) .0) (sooner-yes _ _ (sym (asked (c .before)) ∙ c .if1 .taken) .0))
 
 returns : tie.Need-returns
 unfolding cueRow
-returns c = let q = c .before .before in
-    let z = sym (asked q) ∙ c .before .if1 .taken in
-    lined-read _ _ 1 _ (cueRow (c .before .before .before .before .before .before .before .args .vars)) (reach1 q) _ (checked-read _ _ _ _ (asked q) (c .before .if1 .taken) (rw (c .amount .ensures, word1 q))) (sooner-yes _ _ z .1)
+returns c = let (n, r) = words (c .before .before .before .before .before) in
+    let e = asked (c .before .before) in
+    lined-read _ _ 1 _ (cueRow (c .before .before .before .before .before .before .before .before .before .args .vars)) r _ (checked-read _ _ _ _ e (c .before .if1 .taken) (rw (c .amount .ensures, n))) (sooner-yes _ _ (sym e ∙ c .before .if1 .taken) .1)
 
 returns-2 : tie.Need-returns-2
 unfolding cueRow
-returns-2 c = lined-wrong _ _ _ (cueRow (c .before .before .before .before .before .before .args .vars)) _ (checked-wrong _ _ _ (asked (c .before)) (c .if1 .left))
+returns-2 c = lined-wrong _ _ _ (cueRow (c .before .before .before .before .before .before .before .before .args .vars)) _ (checked-wrong _ _ _ (asked (c .before)) (c .if1 .left))
 
 pub cue-row-spec : {M : Type 1} → statement M
 cue-row-spec =
     tie.close
     (tie.spec
+    (λ c κs. search needs)
     (λ c κs. search needs)
     (λ c κs. search needs)
     (λ c κs. search needs)

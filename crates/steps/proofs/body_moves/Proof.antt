@@ -1,6 +1,7 @@
 -- `steps::body_moves` meets its contract.
 use mathlib.Core.Path.{refl, ap, _∙_}
-use Rattle.rules.specs.Steps.{then}
+use Rattle.rules.specs.Steps.{then, rowStep}
+use Rattle.steps.specs.Tree.{plainOf}
 use Rattle.steps.proofs.Walking.{ready}
 use Rattle.steps.proofs.Sets.{clear, no-set}
 use Rattle.steps.proofs.Stepping.{row-room}
@@ -13,7 +14,7 @@ moves-of-requires : tie.Need-moves-of-requires
 moves-of-requires c κs = (ready (c .before .before .pre .0 .ready) (search needs), search needs, search needs)
 
 add-row-requires : tie.Need-add-row-requires
-add-row-requires c κs = (rw (c .before .before .before .kind-at .ensures) (c .before .before .before .before .pre .0 .ready .fine _ (c .before .before .before .before .pre .0 .inside)), c .before .moves-of .ensures .long)
+add-row-requires c κs = (search needs, c .before .before .before .before .pre .0 .ready .fine _ (c .before .before .before .before .pre .0 .inside), c .before .moves-of .ensures .long)
 
 row-step-requires : tie.Need-row-step-requires
 row-step-requires c κs = rw (c .before .before .before .before .kind-at .ensures) (c .before .before .before .before .before .pre .0 .ready .fine _ (c .before .before .before .before .before .pre .0 .inside))
@@ -23,7 +24,7 @@ then-requires c κs = (near-room (c .before .before .before .before .before .bef
 
 returns : tie.Need-returns
 unfolding clear
-returns c = body-of (c .before .before .before .before .before .before .before .pre .0) (no-set _ refl) (c .before .before .before .before .moves-of .ensures) (c .before .before .before .before .before .before .kind-at .ensures) (c .before .before .add-row .ensures) (c .then .ensures ∙ ap (then (c .before .before .before .before .moves-of .result .step)) (c .before .row-step .ensures))
+returns c = body-of (c .before .before .before .before .before .before .before .pre .0) (no-set _ refl) (c .before .before .before .before .moves-of .ensures) (c .before .before .add-row .ensures) (c .then .ensures ∙ ap (then (c .before .before .before .before .moves-of .result .step)) (c .before .row-step .ensures ∙ ap (λ k. rowStep (c .before .before .before .before .before .before .before .args .v) (plainOf k)) (c .before .before .before .before .before .before .kind-at .ensures)))
 
 pub body-moves-spec : {M : Type 1} → statement M
 body-moves-spec =

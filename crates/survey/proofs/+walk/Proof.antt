@@ -5,14 +5,15 @@ use native.Mathlib.Omega.{arith}
 use Prim.Native.Nat.{ℕ, _<_, _-_, _+_, _≤_}
 use mathlib.Core.Path.{_≡_, refl, sym, ap, ap₂, subst, _∙_}
 use mathlib.Core.List.{[], _∷_, _++_}
+use lib.ListN.{length}
 use Rattle.rules.specs.Steps.{step}
-use Rattle.rules.specs.Ranges.{afterRow, atStart, inside, outside}
+use Rattle.rules.specs.Ranges.{atStart, inside, outside}
 use Rattle.rules.specs.Questions.{refused, loopsVerdict}
 use Rattle.table.specs.Code.{kindAt, rowsOf}
-use Rattle.steps.specs.Tree.{blockAt, endAt, pastElse, plainOf, formOf, testOf}
+use Rattle.steps.specs.Tree.{blockAt, endAt, pastElse, formOf, testOf}
 use Rattle.steps.specs.Body.{bodyAt}
 use Rattle.steps.proofs.Laws.{PickIs, LoopIs}
-use Rattle.steps.proofs.Walking.{ready, told, begin, pick-at, loop-at, at-close, at-last}
+use Rattle.steps.proofs.Walking.{ready, begin, pick-at, loop-at, at-close, at-last}
 use Rattle.ranges.specs.Env.{envOf}
 use Rattle.ticks.specs.Capped.{capped, overOf}
 use Rattle.turns.specs.Needs.{answer}
@@ -25,12 +26,12 @@ use borrow.Fn.PlainCycle.{Measures, is, falls, and}
 use Rattle.survey.proofs.walk.Reads as walk
 use Rattle.survey.proofs.walk.Kinds as walk-kinds
 use Rattle.survey.proofs.+walk.Lts-walk as lts
-use Rattle.ranges.proofs.after_row.Reads as after-row-reads
 use Rattle.ranges.proofs.at_start.Reads as at-start-reads
 use Rattle.ranges.proofs.inside.Reads as inside-reads
 use Rattle.ranges.proofs.outside.Reads as outside-reads
+use Rattle.ranges.proofs.step_row.Reads as step-row-reads
 use Rattle.steps.proofs.past_else.Reads as past-else-reads
-use Rattle.steps.proofs.shape_of.Reads as shape-of-reads
+use Rattle.steps.proofs.shape_at.Reads as shape-at-reads
 use Rattle.survey.proofs.after_pick.Reads as after-pick-reads
 use Rattle.survey.proofs.closed.Reads as closed-reads
 use Rattle.survey.proofs.ended.Reads as ended-reads
@@ -58,53 +59,53 @@ abbrev below : ℕ → In 2 walk-kinds.ps
 below t = and 2 walk-kinds.ps (falls 2 walk-kinds.ps _<_ μ-walk t) walk.Pre
 
 abbrev Inv : lts.InvT-loop
-Inv rows count at outer lines₀ r₀ t₀ i₀ lines r t i = Going (rowsOf rows) count outer at (tallied (found t₀ lines₀) (envOf r₀)) i (envOf r) (found t lines)
+Inv rows count at outer lines₀ r₀ t₀ i₀ lines r t i = (length r ≡ 16) × Going (rowsOf rows) count outer at (tallied (found t₀ lines₀) (envOf r₀)) i (envOf r) (found t lines)
 
 abbrev μ : lts.MeasureT-loop
 μ rows count at outer lines₀ r₀ t₀ i₀ lines r t i = count - i
 
 abbrev given : ℕ → lts.Claims
-given t = (kind-at-reads.Asked, kind-at-reads.Learnt, shape-of-reads.Asked, shape-of-reads.Learnt, after-row-reads.Asked, after-row-reads.Learnt, plus-reads.Asked, plus-reads.Learnt, restarted-reads.Asked, restarted-reads.Learnt, below t, walk.Post, past-else-reads.Asked, past-else-reads.Learnt, after-pick-reads.Asked, after-pick-reads.Learnt, larger-reads.Asked, larger-reads.Learnt, closed-reads.Asked, closed-reads.Learnt, at-start-reads.Asked, at-start-reads.Learnt, one-loop-reads.Asked, one-loop-reads.Learnt, refused-reads.Asked, refused-reads.Learnt, times-reads.Asked, times-reads.Learnt, last-ticks-reads.Asked, last-ticks-reads.Learnt, lined-reads.Asked, lined-reads.Learnt, inside-reads.Asked, inside-reads.Learnt, outside-reads.Asked, outside-reads.Learnt, loop-ticks-reads.Asked, loop-ticks-reads.Learnt, ended-reads.Asked, ended-reads.Learnt)
+given t = (shape-at-reads.Asked, shape-at-reads.Learnt, step-row-reads.Asked, step-row-reads.Learnt, plus-reads.Asked, plus-reads.Learnt, restarted-reads.Asked, restarted-reads.Learnt, below t, walk.Post, past-else-reads.Asked, past-else-reads.Learnt, after-pick-reads.Asked, after-pick-reads.Learnt, larger-reads.Asked, larger-reads.Learnt, closed-reads.Asked, closed-reads.Learnt, kind-at-reads.Asked, kind-at-reads.Learnt, at-start-reads.Asked, at-start-reads.Learnt, one-loop-reads.Asked, one-loop-reads.Learnt, refused-reads.Asked, refused-reads.Learnt, times-reads.Asked, times-reads.Learnt, last-ticks-reads.Asked, last-ticks-reads.Learnt, lined-reads.Asked, lined-reads.Learnt, inside-reads.Asked, inside-reads.Learnt, outside-reads.Asked, outside-reads.Learnt, loop-ticks-reads.Asked, loop-ticks-reads.Learnt, ended-reads.Asked, ended-reads.Learnt)
 
 -- ---- a pick: before its first part, after it, after both
-pick-0 : (t : ℕ) (c : lts.After-enum-told2 (given t) (here t) walk.Post Inv μ) → let s = c .before .before .before .before .before .before .args in let m = endAt (rowsOf (now (s .rows))) (s .count) (c .before .before .before .before .before .loop .i + 1) in
-    PickIs (rowsOf (now (s .rows))) (s .count) (c .before .before .before .before .before .loop .i) m (pastElse (kindAt (rowsOf (now (s .rows))) m) m) (endAt (rowsOf (now (s .rows))) (s .count) (pastElse (kindAt (rowsOf (now (s .rows))) m) m))
-pick-0 t c = pick-at _ _ _ (c .before .before .before .before .loop-test .taken) (c .before .before .before .before .before .before .pre .1 .ready .built) (told (c .before .before .before .kind-at .ensures) (c .before .before .shape-of .ensures) (c .enum-told2 .given .1)) refl refl refl
+pick-0 : (t : ℕ) (c : lts.After-enum-told2 (given t) (here t) walk.Post Inv μ) → let s = c .before .before .before .before .before .args in let m = endAt (rowsOf (now (s .rows))) (s .count) (c .before .before .before .before .loop .i + 1) in
+    PickIs (rowsOf (now (s .rows))) (s .count) (c .before .before .before .before .loop .i) m (pastElse (kindAt (rowsOf (now (s .rows))) m) m) (endAt (rowsOf (now (s .rows))) (s .count) (pastElse (kindAt (rowsOf (now (s .rows))) m) m))
+pick-0 t c = pick-at _ _ _ (c .before .before .before .loop-test .taken) (c .before .before .before .before .before .pre .1 .ready .built) (sym (c .before .before .shape-at .ensures) ∙ c .enum-told2 .given .1) refl refl refl
 
-passed-1 : (t : ℕ) (c : lts.Else1 (given t) (here t) walk.Post Inv μ) → let s = c .before .before .before .before .before .before .before .before .before .before .before .args in Passed (rowsOf (now (s .rows))) (s .count) (c .before .before .before .before .before .before .before .before .before .before .loop .i + 1) (envOf (c .before .before .before .before .before .before .before .before .before .before .loop .r)) (s .outer) (found (c .before .before .before .restarted .result) (c .before .before .before .before .before .before .before .before .before .before .loop .lines)) (found (c .before .before .walk .result) (c .before .before .walk .last .1 .1 .1 .1 .1 .0))
+passed-1 : (t : ℕ) (c : lts.Else1 (given t) (here t) walk.Post Inv μ) → let s = c .before .before .before .before .before .before .before .before .before .before .args in Passed (rowsOf (now (s .rows))) (s .count) (c .before .before .before .before .before .before .before .before .before .loop .i + 1) (envOf (c .before .before .before .before .before .before .before .before .before .loop .r)) (s .outer) (found (c .before .before .before .restarted .result) (c .before .before .before .before .before .before .before .before .before .loop .lines)) (found (c .before .before .walk .result) (c .before .before .walk .last .1 .1 .1 .1 .1 .0))
 passed-1 t c = c .before .before .walk .ensures .whole (c .if1 .left)
 
-part-1 : (t : ℕ) (c : lts.Else1 (given t) (here t) walk.Post Inv μ) → let s = c .before .before .before .before .before .before .before .before .before .before .before .args in let y = found (c .before .before .before .before .before .before .before .before .before .before .loop .t) (c .before .before .before .before .before .before .before .before .before .before .loop .lines) in
-    Part (s .outer) (envOf (c .before .before .before .before .before .before .before .before .before .before .loop .r)) 0 (overOf (y .over)) (firstLines (y .lines) (y .loops)) (y .loops) (blockAt (rowsOf (now (s .rows))) (s .count) (c .before .before .before .before .before .before .before .before .before .before .loop .i + 1)) (found (c .before .before .walk .result) (c .before .before .walk .last .1 .1 .1 .1 .1 .0))
-part-1 t c = let y = found (c .before .before .before .before .before .before .before .before .before .before .loop .t) (c .before .before .before .before .before .before .before .before .before .before .loop .lines) in part-of 0 (overOf (y .over)) (firstLines (y .lines) (y .loops)) (y .loops) (c .before .before .before .restarted .ensures (c .before .before .before .before .before .before .before .before .before .before .loop .lines) .value _) (passed-1 t c)
+part-1 : (t : ℕ) (c : lts.Else1 (given t) (here t) walk.Post Inv μ) → let s = c .before .before .before .before .before .before .before .before .before .before .args in let y = found (c .before .before .before .before .before .before .before .before .before .loop .t) (c .before .before .before .before .before .before .before .before .before .loop .lines) in
+    Part (s .outer) (envOf (c .before .before .before .before .before .before .before .before .before .loop .r)) 0 (overOf (y .over)) (firstLines (y .lines) (y .loops)) (y .loops) (blockAt (rowsOf (now (s .rows))) (s .count) (c .before .before .before .before .before .before .before .before .before .loop .i + 1)) (found (c .before .before .walk .result) (c .before .before .walk .last .1 .1 .1 .1 .1 .0))
+part-1 t c = let y = found (c .before .before .before .before .before .before .before .before .before .loop .t) (c .before .before .before .before .before .before .before .before .before .loop .lines) in part-of 0 (overOf (y .over)) (firstLines (y .lines) (y .loops)) (y .loops) (c .before .before .before .restarted .ensures (c .before .before .before .before .before .before .before .before .before .loop .lines) .value _) (passed-1 t c)
 
-pick-1 : (t : ℕ) (c : lts.Else1 (given t) (here t) walk.Post Inv μ) → let s = c .before .before .before .before .before .before .before .before .before .before .before .args in let m = c .before .before .walk .result .next in
-    PickIs (rowsOf (now (s .rows))) (s .count) (c .before .before .before .before .before .before .before .before .before .before .loop .i) m (pastElse (kindAt (rowsOf (now (s .rows))) m) m) (endAt (rowsOf (now (s .rows))) (s .count) (pastElse (kindAt (rowsOf (now (s .rows))) m) m))
-pick-1 t c = pick-at _ _ _ (c .before .before .before .before .before .before .before .before .before .loop-test .taken) (c .before .before .before .before .before .before .before .before .before .before .before .pre .1 .ready .built) (told (c .before .before .before .before .before .before .before .before .kind-at .ensures) (c .before .before .before .before .before .before .before .shape-of .ensures) (c .before .before .before .before .before .enum-told2 .given .1)) (passed-1 t c .place) refl refl
+pick-1 : (t : ℕ) (c : lts.Else1 (given t) (here t) walk.Post Inv μ) → let s = c .before .before .before .before .before .before .before .before .before .before .args in let m = c .before .before .walk .result .next in
+    PickIs (rowsOf (now (s .rows))) (s .count) (c .before .before .before .before .before .before .before .before .before .loop .i) m (pastElse (kindAt (rowsOf (now (s .rows))) m) m) (endAt (rowsOf (now (s .rows))) (s .count) (pastElse (kindAt (rowsOf (now (s .rows))) m) m))
+pick-1 t c = pick-at _ _ _ (c .before .before .before .before .before .before .before .before .loop-test .taken) (c .before .before .before .before .before .before .before .before .before .before .pre .1 .ready .built) (sym (c .before .before .before .before .before .before .before .shape-at .ensures) ∙ c .before .before .before .before .before .enum-told2 .given .1) (passed-1 t c .place) refl refl
 
-pick-q : (t : ℕ) (c : lts.After-past-else (given t) (here t) walk.Post Inv μ) → let s = c .before .before .before .before .before .before .before .before .before .before .before .before .before .args in
-    PickIs (rowsOf (now (s .rows))) (s .count) (c .before .before .before .before .before .before .before .before .before .before .before .before .loop .i) (c .before .before .before .before .walk .result .next) (c .past-else .result) (endAt (rowsOf (now (s .rows))) (s .count) (c .past-else .result))
-pick-q t c = pick-at _ _ _ (c .before .before .before .before .before .before .before .before .before .before .before .loop-test .taken) (c .before .before .before .before .before .before .before .before .before .before .before .before .before .pre .1 .ready .built) (told (c .before .before .before .before .before .before .before .before .before .before .kind-at .ensures) (c .before .before .before .before .before .before .before .before .before .shape-of .ensures) (c .before .before .before .before .before .before .before .enum-told2 .given .1)) (passed-1 t (c .before .before) .place) (c .past-else .ensures ∙ ap (λ k. pastElse k (c .before .before .before .before .walk .result .next)) (c .before .kind-at2 .ensures)) refl
+pick-q : (t : ℕ) (c : lts.After-past-else (given t) (here t) walk.Post Inv μ) → let s = c .before .before .before .before .before .before .before .before .before .before .before .args in
+    PickIs (rowsOf (now (s .rows))) (s .count) (c .before .before .before .before .before .before .before .before .before .before .loop .i) (c .before .before .before .walk .result .next) (c .past-else .result) (endAt (rowsOf (now (s .rows))) (s .count) (c .past-else .result))
+pick-q t c = pick-at _ _ _ (c .before .before .before .before .before .before .before .before .before .loop-test .taken) (c .before .before .before .before .before .before .before .before .before .before .before .pre .1 .ready .built) (sym (c .before .before .before .before .before .before .before .before .shape-at .ensures) ∙ c .before .before .before .before .before .before .enum-told2 .given .1) (passed-1 t (c .before) .place) (c .past-else .ensures) refl
 
-passed-2 : (t : ℕ) (c : lts.Else2 (given t) (here t) walk.Post Inv μ) → let s = c .before .before .before .before .before .before .before .before .before .before .before .before .before .before .before .before .before .before .args in Passed (rowsOf (now (s .rows))) (s .count) (c .before .before .before .before .before .past-else .result) (envOf (c .before .before .before .before .before .before .before .before .before .before .before .before .before .before .before .before .before .loop .r)) (s .outer) (found (c .before .before .before .restarted2 .result) (c .before .before .before .before .before .before .before .before .before .walk .last .1 .1 .1 .1 .1 .0)) (found (c .before .before .walk2 .result) (c .before .before .walk2 .last .1 .1 .1 .1 .1 .0))
+passed-2 : (t : ℕ) (c : lts.Else2 (given t) (here t) walk.Post Inv μ) → let s = c .before .before .before .before .before .before .before .before .before .before .before .before .before .before .before .before .args in Passed (rowsOf (now (s .rows))) (s .count) (c .before .before .before .before .before .past-else .result) (envOf (c .before .before .before .before .before .before .before .before .before .before .before .before .before .before .before .loop .r)) (s .outer) (found (c .before .before .before .restarted2 .result) (c .before .before .before .before .before .before .before .before .walk .last .1 .1 .1 .1 .1 .0)) (found (c .before .before .walk2 .result) (c .before .before .walk2 .last .1 .1 .1 .1 .1 .0))
 passed-2 t c = c .before .before .walk2 .ensures .whole (c .if2 .left)
 
-pick-2 : (t : ℕ) (c : lts.Else2 (given t) (here t) walk.Post Inv μ) → let s = c .before .before .before .before .before .before .before .before .before .before .before .before .before .before .before .before .before .before .args in
-    PickIs (rowsOf (now (s .rows))) (s .count) (c .before .before .before .before .before .before .before .before .before .before .before .before .before .before .before .before .before .loop .i) (c .before .before .before .before .before .before .before .before .before .walk .result .next) (c .before .before .before .before .before .past-else .result) (c .before .before .walk2 .result .next)
-pick-2 t c = pick-at _ _ _ (c .before .before .before .before .before .before .before .before .before .before .before .before .before .before .before .before .loop-test .taken) (c .before .before .before .before .before .before .before .before .before .before .before .before .before .before .before .before .before .before .pre .1 .ready .built) (told (c .before .before .before .before .before .before .before .before .before .before .before .before .before .before .before .kind-at .ensures) (c .before .before .before .before .before .before .before .before .before .before .before .before .before .before .shape-of .ensures) (c .before .before .before .before .before .before .before .before .before .before .before .before .enum-told2 .given .1)) (passed-1 t (c .before .before .before .before .before .before .before) .place) (c .before .before .before .before .before .past-else .ensures ∙ ap (λ k. pastElse k (c .before .before .before .before .before .before .before .before .before .walk .result .next)) (c .before .before .before .before .before .before .kind-at2 .ensures)) (passed-2 t c .place)
+pick-2 : (t : ℕ) (c : lts.Else2 (given t) (here t) walk.Post Inv μ) → let s = c .before .before .before .before .before .before .before .before .before .before .before .before .before .before .before .before .args in
+    PickIs (rowsOf (now (s .rows))) (s .count) (c .before .before .before .before .before .before .before .before .before .before .before .before .before .before .before .loop .i) (c .before .before .before .before .before .before .before .before .walk .result .next) (c .before .before .before .before .before .past-else .result) (c .before .before .walk2 .result .next)
+pick-2 t c = pick-at _ _ _ (c .before .before .before .before .before .before .before .before .before .before .before .before .before .before .loop-test .taken) (c .before .before .before .before .before .before .before .before .before .before .before .before .before .before .before .before .pre .1 .ready .built) (sym (c .before .before .before .before .before .before .before .before .before .before .before .before .before .shape-at .ensures) ∙ c .before .before .before .before .before .before .before .before .before .before .before .enum-told2 .given .1) (passed-1 t (c .before .before .before .before .before .before) .place) (c .before .before .before .before .before .past-else .ensures) (passed-2 t c .place)
 
-part-2 : (t : ℕ) (c : lts.Else2 (given t) (here t) walk.Post Inv μ) → let s = c .before .before .before .before .before .before .before .before .before .before .before .before .before .before .before .before .before .before .args in let y = (found (c .before .before .before .before .before .before .before .before .before .walk .result) (c .before .before .before .before .before .before .before .before .before .walk .last .1 .1 .1 .1 .1 .0)) in
-    Part (s .outer) (envOf (c .before .before .before .before .before .before .before .before .before .before .before .before .before .before .before .before .before .loop .r)) 0 (overOf (y .over)) (firstLines (y .lines) (y .loops)) (y .loops) (blockAt (rowsOf (now (s .rows))) (s .count) (c .before .before .before .before .before .past-else .result)) (found (c .before .before .walk2 .result) (c .before .before .walk2 .last .1 .1 .1 .1 .1 .0))
-part-2 t c = let y = (found (c .before .before .before .before .before .before .before .before .before .walk .result) (c .before .before .before .before .before .before .before .before .before .walk .last .1 .1 .1 .1 .1 .0)) in part-of 0 (overOf (y .over)) (firstLines (y .lines) (y .loops)) (y .loops) (c .before .before .before .restarted2 .ensures (c .before .before .before .before .before .before .before .before .before .walk .last .1 .1 .1 .1 .1 .0) .value _) (passed-2 t c)
+part-2 : (t : ℕ) (c : lts.Else2 (given t) (here t) walk.Post Inv μ) → let s = c .before .before .before .before .before .before .before .before .before .before .before .before .before .before .before .before .args in let y = (found (c .before .before .before .before .before .before .before .before .walk .result) (c .before .before .before .before .before .before .before .before .walk .last .1 .1 .1 .1 .1 .0)) in
+    Part (s .outer) (envOf (c .before .before .before .before .before .before .before .before .before .before .before .before .before .before .before .loop .r)) 0 (overOf (y .over)) (firstLines (y .lines) (y .loops)) (y .loops) (blockAt (rowsOf (now (s .rows))) (s .count) (c .before .before .before .before .before .past-else .result)) (found (c .before .before .walk2 .result) (c .before .before .walk2 .last .1 .1 .1 .1 .1 .0))
+part-2 t c = let y = (found (c .before .before .before .before .before .before .before .before .walk .result) (c .before .before .before .before .before .before .before .before .walk .last .1 .1 .1 .1 .1 .0)) in part-of 0 (overOf (y .over)) (firstLines (y .lines) (y .loops)) (y .loops) (c .before .before .before .restarted2 .ensures (c .before .before .before .before .before .before .before .before .walk .last .1 .1 .1 .1 .1 .0) .value _) (passed-2 t c)
 
 -- ---- a loop: at its head, after its body
 one-1 : (t : ℕ) (c : lts.After-one-loop (given t) (here t) walk.Post Inv μ) → let s = c .before .before .before .before .before .before .before .before .args in let i = c .before .before .before .before .before .before .before .loop .i in let k = kindAt (rowsOf (now (s .rows))) i in
     LoopOf (rowsOf (now (s .rows))) (s .count) i (atStart (formOf k) (testOf k) (envOf (c .before .before .before .before .before .before .before .loop .r))) (c .one-loop .result)
-one-1 t c = let s = c .before .before .before .before .before .before .before .before .args in subst (λ ρ. LoopOf (rowsOf (now (s .rows))) (s .count) (c .before .before .before .before .before .before .before .loop .i) ρ (c .one-loop .result)) (c .before .at-start .ensures ∙ ap (λ d. atStart (formOf d) (testOf d) (envOf (c .before .before .before .before .before .before .before .loop .r))) (c .before .before .before .before .before .kind-at .ensures)) (c .one-loop .ensures)
+one-1 t c = let s = c .before .before .before .before .before .before .before .before .args in subst (λ ρ. LoopOf (rowsOf (now (s .rows))) (s .count) (c .before .before .before .before .before .before .before .loop .i) ρ (c .one-loop .result)) (c .before .at-start .ensures ∙ ap (λ d. atStart (formOf d) (testOf d) (envOf (c .before .before .before .before .before .before .before .loop .r))) (c .before .before .kind-at .ensures)) (c .one-loop .ensures)
 
 loop-1 : (t : ℕ) (c : lts.After-one-loop (given t) (here t) walk.Post Inv μ) → let s = c .before .before .before .before .before .before .before .before .args in
     LoopIs (rowsOf (now (s .rows))) (s .count) (kindAt (rowsOf (now (s .rows))) (c .before .before .before .before .before .before .before .loop .i)) (c .before .before .before .before .before .before .before .loop .i) (c .one-loop .result .next)
-loop-1 t c = loop-at _ _ _ (c .before .before .before .before .before .before .loop-test .taken) (c .before .before .before .before .before .before .before .before .pre .1 .ready .built) (told (c .before .before .before .before .before .kind-at .ensures) (c .before .before .before .before .shape-of .ensures) (c .before .before .enum-told3 .given .1)) (c .one-loop .ensures .ends .place)
+loop-1 t c = loop-at _ _ _ (c .before .before .before .before .before .before .loop-test .taken) (c .before .before .before .before .before .before .before .before .pre .1 .ready .built) (sym (c .before .before .before .before .before .shape-at .ensures) ∙ c .before .before .before .enum-told3 .given .1) (c .one-loop .ensures .ends .place)
 
 inside-1 : (t : ℕ) (c : lts.After-inside (given t) (here t) walk.Post Inv μ) → let s = c .before .before .before .before .before .before .before .before .before .before .before .before .before .before .before .before .args in let i = c .before .before .before .before .before .before .before .before .before .before .before .before .before .before .before .loop .i in let k = kindAt (rowsOf (now (s .rows))) i in let b = bodyAt (rowsOf (now (s .rows))) (s .count) i in
     envOf (c .inside .result) ≡ inside (formOf k) (atStart (formOf k) (testOf k) (envOf (c .before .before .before .before .before .before .before .before .before .before .before .before .before .before .before .loop .r))) (testOf k) b
@@ -112,101 +113,100 @@ inside-1 t c =
     let s = c .before .before .before .before .before .before .before .before .before .before .before .before .before .before .before .before .args in
     let i = c .before .before .before .before .before .before .before .before .before .before .before .before .before .before .before .loop .i in
     let ρ = envOf (c .before .before .before .before .before .before .before .before .before .before .before .before .before .before .before .loop .r) in
-    let k = c .before .before .before .before .before .before .before .before .before .before .before .before .before .kind-at .result in
+    let k = c .before .before .before .before .before .before .before .before .before .before .kind-at .result in
     let b = bodyAt (rowsOf (now (s .rows))) (s .count) i in
-    c .inside .ensures .value b (c .before .before .before .before .before .before .before .before .one-loop .ensures .sets) ∙ ap (λ ρ. inside (formOf k) ρ (testOf k) b) (c .before .before .before .before .before .before .before .before .before .at-start .ensures) ∙ ap (λ d. inside (formOf d) (atStart (formOf d) (testOf d) ρ) (testOf d) b) (c .before .before .before .before .before .before .before .before .before .before .before .before .before .kind-at .ensures)
+    c .inside .ensures .value b (c .before .before .before .before .before .before .before .before .one-loop .ensures .sets) ∙ ap (λ ρ. inside (formOf k) ρ (testOf k) b) (c .before .before .before .before .before .before .before .before .before .at-start .ensures) ∙ ap (λ d. inside (formOf d) (atStart (formOf d) (testOf d) ρ) (testOf d) b) (c .before .before .before .before .before .before .before .before .before .before .kind-at .ensures)
 
 passed-3 : (t : ℕ) (c : lts.Else4 (given t) (here t) walk.Post Inv μ) → let s = c .before .before .before .before .before .before .before .before .before .before .before .before .before .before .before .before .before .before .before .before .args in Passed (rowsOf (now (s .rows))) (s .count) (c .before .before .before .before .before .before .before .before .before .before .before .before .before .before .before .before .before .before .before .loop .i + 1) (envOf (c .before .before .before .before .inside .result)) (c .before .before .before .before .before .before .before .before .times .result) (found (c .before .before .before .before .before .lined .result) (c .before .before .before .before .before .lined .last .0)) (found (c .before .before .walk3 .result) (c .before .before .walk3 .last .1 .1 .1 .1 .1 .0))
 passed-3 t c = c .before .before .walk3 .ensures .whole (c .if4 .left)
 
 -- ---- the needs
 loop-holds : (t : ℕ) → lts.Need-loop-holds (given t) (here t) walk.Post Inv μ
-loop-holds t c = record { walk = begin _ _ _ _ _ (c .pre .1 .ready .within); small = c .pre .1 .small; long = c .pre .1 .long }
+loop-holds t c = (search needs, record { walk = begin _ _ _ _ _ (c .pre .1 .ready .within); small = c .pre .1 .small; long = c .pre .1 .long })
 
-after-row-requires : (t : ℕ) → lts.Need-after-row-requires (given t) (here t) walk.Post Inv μ
-after-row-requires t c κs = rw (c .before .before .before .kind-at .ensures) (c .before .before .before .before .before .before .pre .1 .ready .fine _ (c .before .before .before .before .loop-test .taken))
+step-row-requires : (t : ℕ) → lts.Need-step-row-requires (given t) (here t) walk.Post Inv μ
+step-row-requires t c κs = (search needs, c .before .before .before .before .before .before .pre .1 .ready .fine _ (c .before .before .before .before .loop-test .taken), sym (c .before .before .before .shape-at .ensures) ∙ c .before .enum-told .given .1, c .before .before .before .before .before .loop .inv .0)
 
 plus-requires : (t : ℕ) → lts.Need-plus-requires (given t) (here t) walk.Post Inv μ
-plus-requires t c κs = (c .before .before .before .before .before .before .loop .inv .small, omega arith)
+plus-requires t c κs = (c .before .before .before .before .before .before .loop .inv .1 .small, omega arith)
 
 add-i : (t : ℕ) → lts.Need-add-i (given t) (here t) walk.Post Inv μ
 add-i t c = search needs
 
 loop-again : (t : ℕ) → lts.Need-loop-again (given t) (here t) walk.Post Inv μ
-loop-again t c = go-plain _ _ _ _ _ (c .before .before .before .before .before .before .before .loop .inv) (c .before .before .before .before .before .before .loop-test .taken) (c .before .before .before .before .before .before .before .before .pre .1 .ready .built) (told (c .before .before .before .before .before .kind-at .ensures) (c .before .before .before .before .shape-of .ensures) (c .before .before .enum-told .given .1)) (c .before .after-row .ensures ∙ ap (λ d. afterRow (envOf (c .before .before .before .before .before .before .before .loop .r)) (plainOf d)) (c .before .before .before .before .before .kind-at .ensures)) (c .plus .ensures) (record { same = refl; value = λ ρ. refl })
+loop-again t c = (c .before .step-row .ensures .long, go-plain _ _ _ _ _ (c .before .before .before .before .before .before .before .loop .inv .1) (c .before .before .before .before .before .before .loop-test .taken) (c .before .before .before .before .before .before .before .before .pre .1 .ready .built) (sym (c .before .before .before .before .before .shape-at .ensures) ∙ c .before .before .before .enum-told .given .1) (c .before .step-row .ensures .value) (c .plus .ensures) (record { same = refl; value = λ ρ. refl }))
 
 walk-requires : (t : ℕ) → lts.Need-walk-requires (given t) (here t) walk.Post Inv μ
 walk-requires t c κs =
-    let p = pick-room _ _ _ _ _ (c .before .before .before .before .before .before .before .loop .inv) (c .before .before .before .before .before .before .loop-test .taken) (c .before .before .before .before .before .before .before .before .pre .1 .ready .built) (pick-0 t (c .before .before)) (c .before .before .before .before .before .before .before .before .pre .1 .room) in
-    (search needs, restart-walkable (ready (c .before .before .before .before .before .before .before .before .pre .1 .ready) (search needs)) (c .restarted .ensures _) (c .before .before .before .before .before .before .before .loop .inv .long) (omega arith) (c .before .before .before .before .before .before .before .before .pre .1 .times) (omega arith))
+    let p = pick-room _ _ _ _ _ (c .before .before .before .before .before .before .loop .inv .1) (c .before .before .before .before .before .loop-test .taken) (c .before .before .before .before .before .before .before .pre .1 .ready .built) (pick-0 t (c .before .before)) (c .before .before .before .before .before .before .before .pre .1 .room) in
+    (search needs, restart-walkable (ready (c .before .before .before .before .before .before .before .pre .1 .ready) (search needs)) (c .restarted .ensures _) (c .before .before .before .before .before .before .loop .inv .1 .long) (omega arith) (c .before .before .before .before .before .before .before .pre .1 .times) (omega arith))
 
 returns : (t : ℕ) → lts.Need-returns (given t) (here t) walk.Post Inv μ
 returns t c = record {
-  stopped = λ h. pick-first _ _ _ _ _ (c .before .before .before .before .before .before .before .before .before .before .loop .inv) (c .before .before .before .before .before .before .before .before .before .loop-test .taken) (c .before .before .before .before .before .before .before .before .before .before .before .pre .1 .ready .built) (pick-0 t (c .before .before .before .before .before)) _ _ (refused-in (c .before .before .walk .ensures) h);
+  stopped = λ h. pick-first _ _ _ _ _ (c .before .before .before .before .before .before .before .before .before .loop .inv .1) (c .before .before .before .before .before .before .before .before .loop-test .taken) (c .before .before .before .before .before .before .before .before .before .before .pre .1 .ready .built) (pick-0 t (c .before .before .before .before .before)) _ _ (refused-in (c .before .before .walk .ensures) h);
   whole = λ z. absurd (c .if1 .taken z);
 }
 
-kind-at-requires-2 : (t : ℕ) → lts.Need-kind-at-requires-2 (given t) (here t) walk.Post Inv μ
-kind-at-requires-2 t c κs = let k = pick-1 t c in let f = c .before .before .before .before .before .before .before .before .before .before .before .pre .1 .ready .few in search needs
-
 past-else-requires : (t : ℕ) → lts.Need-past-else-requires (given t) (here t) walk.Post Inv μ
-past-else-requires t c κs = let k = pick-1 t (c .before) in let f = c .before .before .before .before .before .before .before .before .before .before .before .before .pre .1 .ready .few in search needs
+past-else-requires t c κs = let k = pick-1 t (c) in let f = c .before .before .before .before .before .before .before .before .before .before .pre .1 .ready .few in search needs
 
 walk-requires-2 : (t : ℕ) → lts.Need-walk-requires-2 (given t) (here t) walk.Post Inv μ
 walk-requires-2 t c κs =
     let u = pick-q t (c .before .before) in
-    let p = pick-room _ _ _ _ _ (c .before .before .before .before .before .before .before .before .before .before .before .before .before .before .loop .inv) (c .before .before .before .before .before .before .before .before .before .before .before .before .before .loop-test .taken) (c .before .before .before .before .before .before .before .before .before .before .before .before .before .before .before .pre .1 .ready .built) u (c .before .before .before .before .before .before .before .before .before .before .before .before .before .before .before .pre .1 .room) in
-    let n = part-1 t (c .before .before .before .before) .count in
-    let w = c .before .before .before .before .before .before .before .before .before .before .before .before .before .before .loop .inv .walk in
-    let z = c .before .before .before .before .before .before .before .before .before .before .before .before .before .before .before .pre .0 in
-    let l = c .before .before .before .before .before .before .before .before .before .before .before .before .before .loop-test .taken in
-    let q = c .before .before .past-else .ensures ∙ ap (λ k. pastElse k (c .before .before .before .before .before .before .walk .result .next)) (c .before .before .before .kind-at2 .ensures) in
-    (search needs, restart-walkable (ready (c .before .before .before .before .before .before .before .before .before .before .before .before .before .before .before .pre .1 .ready) (u .some)) (c .restarted2 .ensures _) (part-1 t (c .before .before .before .before) .long) (omega arith) (c .before .before .before .before .before .before .before .before .before .before .before .before .before .before .before .pre .1 .times) (omega arith))
+    let p = pick-room _ _ _ _ _ (c .before .before .before .before .before .before .before .before .before .before .before .before .loop .inv .1) (c .before .before .before .before .before .before .before .before .before .before .before .loop-test .taken) (c .before .before .before .before .before .before .before .before .before .before .before .before .before .pre .1 .ready .built) u (c .before .before .before .before .before .before .before .before .before .before .before .before .before .pre .1 .room) in
+    let n = part-1 t (c .before .before .before) .count in
+    let w = c .before .before .before .before .before .before .before .before .before .before .before .before .loop .inv .1 .walk in
+    let z = c .before .before .before .before .before .before .before .before .before .before .before .before .before .pre .0 in
+    let l = c .before .before .before .before .before .before .before .before .before .before .before .loop-test .taken in
+    let q = c .before .before .past-else .ensures in
+    (search needs, restart-walkable (ready (c .before .before .before .before .before .before .before .before .before .before .before .before .before .pre .1 .ready) (u .some)) (c .restarted2 .ensures _) (part-1 t (c .before .before .before) .long) (omega arith) (c .before .before .before .before .before .before .before .before .before .before .before .before .before .pre .1 .times) (omega arith))
 
 returns-2 : (t : ℕ) → lts.Need-returns-2 (given t) (here t) walk.Post Inv μ
 returns-2 t c = record {
-  stopped = λ h. pick-second _ _ _ _ _ (c .before .before .before .before .before .before .before .before .before .before .before .before .before .before .before .before .before .loop .inv) (c .before .before .before .before .before .before .before .before .before .before .before .before .before .before .before .before .loop-test .taken) (c .before .before .before .before .before .before .before .before .before .before .before .before .before .before .before .before .before .before .pre .1 .ready .built) (pick-q t (c .before .before .before .before .before)) _ _ (part-1 t (c .before .before .before .before .before .before .before) .verdict) (refused-in (c .before .before .walk2 .ensures) h);
+  stopped = λ h. pick-second _ _ _ _ _ (c .before .before .before .before .before .before .before .before .before .before .before .before .before .before .before .loop .inv .1) (c .before .before .before .before .before .before .before .before .before .before .before .before .before .before .loop-test .taken) (c .before .before .before .before .before .before .before .before .before .before .before .before .before .before .before .before .pre .1 .ready .built) (pick-q t (c .before .before .before .before .before)) _ _ (part-1 t (c .before .before .before .before .before .before) .verdict) (refused-in (c .before .before .walk2 .ensures) h);
   whole = λ z. absurd (c .if2 .taken z);
 }
 
 add-after-pick : (t : ℕ) → lts.Need-add-after-pick (given t) (here t) walk.Post Inv μ
-add-after-pick t c = let f = c .before .before .before .before .before .before .before .before .before .before .before .before .before .before .before .before .before .before .pre .1 .ready .few in let l = c .before .before .before .before .before .before .before .before .before .before .before .before .before .before .before .before .loop-test .taken in search needs
+add-after-pick t c = let f = c .before .before .before .before .before .before .before .before .before .before .before .before .before .before .before .before .pre .1 .ready .few in let l = c .before .before .before .before .before .before .before .before .before .before .before .before .before .before .loop-test .taken in search needs
 
 after-pick-requires : (t : ℕ) → lts.Need-after-pick-requires (given t) (here t) walk.Post Inv μ
-after-pick-requires t c κs = let r = c .before .before .before .before .before .before .before .before .before .before .before .before .before .before .before .before .before .before .pre .1 .ready in let u = pick-2 t c in (ready r (search needs), ready r (u .some))
+after-pick-requires t c κs = let r = c .before .before .before .before .before .before .before .before .before .before .before .before .before .before .before .before .pre .1 .ready in let u = pick-2 t c in (ready r (search needs), ready r (u .some))
 
 plus-requires-2 : (t : ℕ) → lts.Need-plus-requires-2 (given t) (here t) walk.Post Inv μ
-plus-requires-2 t c κs = (omega arith, omega (arith, c .larger .ensures, passed-1 t (c .before .before .before .before .before .before .before .before .before) .small, passed-2 t (c .before .before) .small))
+plus-requires-2 t c κs = (omega arith, omega (arith, c .larger .ensures, passed-1 t (c .before .before .before .before .before .before .before .before) .small, passed-2 t (c .before .before) .small))
 
 closed-requires : (t : ℕ) → lts.Need-closed-requires (given t) (here t) walk.Post Inv μ
-closed-requires t c κs = let u = pick-2 t (c .before .before .before) in let f = c .before .before .before .before .before .before .before .before .before .before .before .before .before .before .before .before .before .before .before .before .before .pre .1 .ready .few in (omega arith, c .before .before .before .before .before .before .before .before .before .before .before .before .before .before .before .before .before .before .before .before .loop .inv .small, omega (arith, c .plus2 .ensures))
+closed-requires t c κs = let u = pick-2 t (c .before .before .before) in let f = c .before .before .before .before .before .before .before .before .before .before .before .before .before .before .before .before .before .before .before .pre .1 .ready .few in (omega arith, c .before .before .before .before .before .before .before .before .before .before .before .before .before .before .before .before .before .before .loop .inv .1 .small, omega (arith, c .plus2 .ensures))
 
 add-i-2 : (t : ℕ) → lts.Need-add-i-2 (given t) (here t) walk.Post Inv μ
-add-i-2 t c = let k = pick-2 t (c .before .before .before .before) in let f = c .before .before .before .before .before .before .before .before .before .before .before .before .before .before .before .before .before .before .before .before .before .before .pre .1 .ready .few in search needs
+add-i-2 t c = let k = pick-2 t (c .before .before .before .before) in let f = c .before .before .before .before .before .before .before .before .before .before .before .before .before .before .before .before .before .before .before .before .pre .1 .ready .few in search needs
 
 loop-less-2 : (t : ℕ) → lts.Need-loop-less-2 (given t) (here t) walk.Post Inv μ
 loop-less-2 t c = let k = pick-2 t (c .before .before .before .before) in search needs
 
 loop-again-2 : (t : ℕ) → lts.Need-loop-again-2 (given t) (here t) walk.Post Inv μ
-loop-again-2 t c =
-    go-pick _ _ _ _ _ (c .before .before .before .before .before .before .before .before .before .before .before .before .before .before .before .before .before .before .before .before .before .loop .inv) (c .before .before .before .before .before .before .before .before .before .before .before .before .before .before .before .before .before .before .before .before .loop-test .taken) (c .before .before .before .before .before .before .before .before .before .before .before .before .before .before .before .before .before .before .before .before .before .before .pre .1 .ready .built) (pick-2 t (c .before .before .before .before)) (part-1 t (c .before .before .before .before .before .before .before .before .before .before .before)) (part-2 t (c .before .before .before .before))
-    (c .before .plus2 .ensures ∙ ap (λ m. capped (1 + m)) (c .before .before .larger .ensures)) (c .closed .ensures _ _) (c .before .before .before .after-pick .ensures)
+loop-again-2 t c = (
+  search needs,
+  go-pick _ _ _ _ _ (c .before .before .before .before .before .before .before .before .before .before .before .before .before .before .before .before .before .before .before .loop .inv .1) (c .before .before .before .before .before .before .before .before .before .before .before .before .before .before .before .before .before .before .loop-test .taken) (c .before .before .before .before .before .before .before .before .before .before .before .before .before .before .before .before .before .before .before .before .pre .1 .ready .built) (pick-2 t (c .before .before .before .before)) (part-1 t (c .before .before .before .before .before .before .before .before .before .before)) (part-2 t (c .before .before .before .before))
+      (c .before .plus2 .ensures ∙ ap (λ m. capped (1 + m)) (c .before .before .larger .ensures)) (c .closed .ensures _ _) (c .before .before .before .after-pick .ensures),
+)
 
 at-start-requires : (t : ℕ) → lts.Need-at-start-requires (given t) (here t) walk.Post Inv μ
-at-start-requires t c κs = rw (c .before .before .before .kind-at .ensures) (c .before .before .before .before .before .before .pre .1 .ready .fine _ (c .before .before .before .before .loop-test .taken))
+at-start-requires t c κs = rw (c .kind-at .ensures) (c .before .before .before .before .before .before .pre .1 .ready .fine _ (c .before .before .before .before .loop-test .taken))
 
 one-loop-requires : (t : ℕ) → lts.Need-one-loop-requires (given t) (here t) walk.Post Inv μ
 one-loop-requires t c κs = record {
   ready = ready (c .before .before .before .before .before .before .before .pre .1 .ready) (search needs);
   inside = c .before .before .before .before .before .loop-test .taken;
-  loops = told (c .before .before .before .before .kind-at .ensures) (c .before .before .before .shape-of .ensures) (c .before .enum-told3 .given .1);
+  loops = sym (c .before .before .before .before .shape-at .ensures) ∙ c .before .before .enum-told3 .given .1;
 }
 
 returns-3 : (t : ℕ) → lts.Need-returns-3 (given t) (here t) walk.Post Inv μ
 returns-3 t c =
     let e = c .refused .ensures in
     record {
-      stopped = λ h. loop-refused _ _ _ _ _ (c .before .before .before .before .before .before .before .before .before .before .loop .inv) (c .before .before .before .before .before .before .before .before .before .loop-test .taken) (c .before .before .before .before .before .before .before .before .before .before .before .pre .1 .ready .built) (loop-1 t (c .before .before .before)) _ (c .before .if3 .taken) (one-1 t (c .before .before .before) .verdict) ∙ ap₂ refused (sym (e .0)) (sym (e .1));
+      stopped = λ h. loop-refused _ _ _ _ _ (c .before .before .before .before .before .before .before .before .before .before .loop .inv .1) (c .before .before .before .before .before .before .before .before .before .loop-test .taken) (c .before .before .before .before .before .before .before .before .before .before .before .pre .1 .ready .built) (loop-1 t (c .before .before .before)) _ (c .before .if3 .taken) (one-1 t (c .before .before .before) .verdict) ∙ ap₂ refused (sym (e .0)) (sym (e .1));
       whole = λ z. absurd (c .before .if3 .taken (sym (e .0) ∙ z));
     }
 
@@ -215,21 +215,21 @@ times-requires t c κs = c .before .before .before .before .before .before .befo
 
 room-1 : (t : ℕ) (c : lts.After-one-loop (given t) (here t) walk.Post Inv μ) → let s = c .before .before .before .before .before .before .before .before .args in
     c .before .before .before .before .before .before .before .loop .t .loops + 1 + loopCount (blockAt (rowsOf (now (s .rows))) (s .count) (c .before .before .before .before .before .before .before .loop .i + 1)) ≤ 16
-room-1 t c = loop-room _ _ _ _ _ (c .before .before .before .before .before .before .before .loop .inv) (c .before .before .before .before .before .before .loop-test .taken) (c .before .before .before .before .before .before .before .before .pre .1 .ready .built) (loop-1 t c) (c .before .before .before .before .before .before .before .before .pre .1 .room)
+room-1 t c = loop-room _ _ _ _ _ (c .before .before .before .before .before .before .before .loop .inv .1) (c .before .before .before .before .before .before .loop-test .taken) (c .before .before .before .before .before .before .before .before .pre .1 .ready .built) (loop-1 t c) (c .before .before .before .before .before .before .before .before .pre .1 .room)
 
 lined-requires : (t : ℕ) → lts.Need-lined-requires (given t) (here t) walk.Post Inv μ
-lined-requires t c κs = (omega (arith, room-1 t (c .before .before .before .before .before .before)), c .before .before .before .before .before .before .before .before .before .before .before .before .before .loop .inv .long, one-1 t (c .before .before .before .before .before .before) .near)
+lined-requires t c κs = (omega (arith, room-1 t (c .before .before .before .before .before .before)), c .before .before .before .before .before .before .before .before .before .before .before .before .before .loop .inv .1 .long, one-1 t (c .before .before .before .before .before .before) .near)
 
 add-walk-2 : (t : ℕ) → lts.Need-add-walk-2 (given t) (here t) walk.Post Inv μ
 add-walk-2 t c = let f = c .before .before .before .before .before .before .before .before .before .before .before .before .before .before .before .pre .1 .ready .few in let l = c .before .before .before .before .before .before .before .before .before .before .before .before .before .loop-test .taken in search needs
 
 inside-requires : (t : ℕ) → lts.Need-inside-requires (given t) (here t) walk.Post Inv μ
-inside-requires t c κs = rw (c .before .before .before .before .before .before .before .before .before .before .before .before .kind-at .ensures) (c .before .before .before .before .before .before .before .before .before .before .before .before .before .before .before .pre .1 .ready .fine _ (c .before .before .before .before .before .before .before .before .before .before .before .before .before .loop-test .taken))
+inside-requires t c κs = rw (c .before .before .before .before .before .before .before .before .before .kind-at .ensures) (c .before .before .before .before .before .before .before .before .before .before .before .before .before .before .before .pre .1 .ready .fine _ (c .before .before .before .before .before .before .before .before .before .before .before .before .before .loop-test .taken))
 
 walk-requires-3 : (t : ℕ) → lts.Need-walk-requires-3 (given t) (here t) walk.Post Inv μ
 walk-requires-3 t c κs =
-    let k = c .before .before .before .before .before .before .before .before .before .before .before .before .before .before .kind-at .result in
-    let w = c .before .before .before .before .before .before .before .before .before .before .before .before .before .before .before .before .loop .inv .walk in
+    let k = c .before .before .before .before .before .before .before .before .before .before .before .kind-at .result in
+    let w = c .before .before .before .before .before .before .before .before .before .before .before .before .before .before .before .before .loop .inv .1 .walk in
     let z = c .before .before .before .before .before .before .before .before .before .before .before .before .before .before .before .before .before .pre .0 in
     let l = c .before .before .before .before .before .before .before .before .before .before .before .before .before .before .before .loop-test .taken in
     (search needs, lined-walkable (ready (c .before .before .before .before .before .before .before .before .before .before .before .before .before .before .before .before .before .pre .1 .ready) (search needs)) (c .before .before .lined .ensures) (omega (arith, c .before .before .before .last-ticks .ensures, last-small k)) (omega (arith, c .before .before .before .before .before .times .ensures)) (room-1 t (c .before .before .before .before .before .before .before .before .before)))
@@ -240,14 +240,14 @@ returns-4 t c =
     let s = c .before .before .before .before .before .before .before .before .before .before .before .before .before .before .before .before .before .before .before .before .args in
     let i = c .before .before .before .before .before .before .before .before .before .before .before .before .before .before .before .before .before .before .before .loop .i in
     record {
-      stopped = λ h. body-refused _ _ _ _ _ (c .before .before .before .before .before .before .before .before .before .before .before .before .before .before .before .before .before .before .before .loop .inv) (c .before .before .before .before .before .before .before .before .before .before .before .before .before .before .before .before .before .before .loop-test .taken) (c .before .before .before .before .before .before .before .before .before .before .before .before .before .before .before .before .before .before .before .before .pre .1 .ready .built) (loop-1 t (c .before .before .before .before .before .before .before .before .before .before .before .before)) _ _
+      stopped = λ h. body-refused _ _ _ _ _ (c .before .before .before .before .before .before .before .before .before .before .before .before .before .before .before .before .before .before .before .loop .inv .1) (c .before .before .before .before .before .before .before .before .before .before .before .before .before .before .before .before .before .before .loop-test .taken) (c .before .before .before .before .before .before .before .before .before .before .before .before .before .before .before .before .before .before .before .before .pre .1 .ready .built) (loop-1 t (c .before .before .before .before .before .before .before .before .before .before .before .before)) _ _
           (one-1 t (c .before .before .before .before .before .before .before .before .before .before .before .before) .verdict ∙ ap (λ n. answer n i) (c .before .before .before .before .before .before .before .before .before .before .if3 .left))
           (sym (ap (λ ρ. loopsVerdict ρ (blockAt (rowsOf (now (s .rows))) (s .count) (i + 1))) (inside-1 t (c .before .before .before .before))) ∙ refused-in (c .before .before .walk3 .ensures) h);
       whole = λ z. absurd (c .if4 .taken z);
     }
 
 outside-requires : (t : ℕ) → lts.Need-outside-requires (given t) (here t) walk.Post Inv μ
-outside-requires t c κs = rw (c .before .before .before .before .before .before .before .before .before .before .before .before .before .before .before .before .before .kind-at .ensures) (c .before .before .before .before .before .before .before .before .before .before .before .before .before .before .before .before .before .before .before .before .pre .1 .ready .fine _ (c .before .before .before .before .before .before .before .before .before .before .before .before .before .before .before .before .before .before .loop-test .taken))
+outside-requires t c κs = rw (c .before .before .before .before .before .before .before .before .before .before .before .before .before .before .kind-at .ensures) (c .before .before .before .before .before .before .before .before .before .before .before .before .before .before .before .before .before .before .before .before .pre .1 .ready .fine _ (c .before .before .before .before .before .before .before .before .before .before .before .before .before .before .before .before .before .before .loop-test .taken))
 
 loop-ticks-requires : (t : ℕ) → lts.Need-loop-ticks-requires (given t) (here t) walk.Post Inv μ
 loop-ticks-requires t c κs = passed-3 t (c .before) .small
@@ -258,7 +258,7 @@ closed-requires-2 t c κs =
     let f = c .before .before .before .before .before .before .before .before .before .before .before .before .before .before .before .before .before .before .before .before .before .before .pre .1 .ready .few in
     let m = passed-3 t (c .before .before) .small in
     let b = c .before .before .before .before .walk3 .result .spent in
-    (omega arith, c .before .before .before .before .before .before .before .before .before .before .before .before .before .before .before .before .before .before .before .before .before .loop .inv .small, omega (arith, c .loop-ticks .ensures b (omega arith)))
+    (omega arith, c .before .before .before .before .before .before .before .before .before .before .before .before .before .before .before .before .before .before .before .before .before .loop .inv .1 .small, omega (arith, c .loop-ticks .ensures b (omega arith)))
 
 add-i-3 : (t : ℕ) → lts.Need-add-i-3 (given t) (here t) walk.Post Inv μ
 add-i-3 t c = let k = loop-1 t (c .before .before .before .before .before .before .before .before .before .before .before .before .before .before .before) in let f = c .before .before .before .before .before .before .before .before .before .before .before .before .before .before .before .before .before .before .before .before .before .before .before .pre .1 .ready .few in search needs
@@ -278,25 +278,27 @@ loop-again-3 t c =
     let o = c .before .before .before .before .before .before .before .before .before .before .before .before .before .before .before .one-loop .ensures in
     let ls = firstLines (y .lines) (y .loops) ++ (record { row = i; step = one .step; turns = one .turns; total = total; exact = one .exact } ∷ []) in
     let α : envOf (c .before .before .outside .result) ≡ outside (atStart (formOf k) (testOf k) (envOf (c .before .before .before .before .before .before .before .before .before .before .before .before .before .before .before .before .before .before .before .before .before .before .loop .r))) (testOf k) body =
-    c .before .before .outside .ensures .value body (o .sets) (o .moves ∙ ap (λ d. step (testOf d .tested) body) (sym (c .before .before .before .before .before .before .before .before .before .before .before .before .before .before .before .before .before .before .before .before .kind-at .ensures))) ∙ ap (λ ρ. outside ρ (testOf (c .before .before .before .before .before .before .before .before .before .before .before .before .before .before .before .before .before .before .before .before .kind-at .result)) body) (c .before .before .before .before .before .before .before .before .before .before .before .before .before .before .before .before .at-start .ensures) ∙ ap (λ d. outside (atStart (formOf d) (testOf d) (envOf (c .before .before .before .before .before .before .before .before .before .before .before .before .before .before .before .before .before .before .before .before .before .before .loop .r))) (testOf d) body) (c .before .before .before .before .before .before .before .before .before .before .before .before .before .before .before .before .before .before .before .before .kind-at .ensures) in
+    c .before .before .outside .ensures .value body (o .sets) (o .moves ∙ ap (λ d. step (testOf d .tested) body) (sym (c .before .before .before .before .before .before .before .before .before .before .before .before .before .before .before .before .before .kind-at .ensures))) ∙ ap (λ ρ. outside ρ (testOf (c .before .before .before .before .before .before .before .before .before .before .before .before .before .before .before .before .before .kind-at .result)) body) (c .before .before .before .before .before .before .before .before .before .before .before .before .before .before .before .before .at-start .ensures) ∙ ap (λ d. outside (atStart (formOf d) (testOf d) (envOf (c .before .before .before .before .before .before .before .before .before .before .before .before .before .before .before .before .before .before .before .before .before .before .loop .r))) (testOf d) body) (c .before .before .before .before .before .before .before .before .before .before .before .before .before .before .before .before .before .kind-at .ensures) in
     let part : Part total (envOf (c .before .before .before .before .before .before .before .inside .result)) (lastTicks k) (overOf (y .over)) ls (y .loops + 1) (blockAt (rowsOf (now (s .rows))) (s .count) (i + 1)) (found (c .before .before .before .before .before .walk3 .result) (c .before .before .before .before .before .walk3 .last .1 .1 .1 .1 .1 .0)) =
-    part-of (lastTicks k) (overOf (y .over)) ls (y .loops + 1) (c .before .before .before .before .before .before .before .before .lined .ensures .value _ ∙ ap (λ n. from-parts (envOf (c .before .before .before .before .before .before .before .inside .result)) n (overOf (y .over)) ls (y .loops + 1)) (c .before .before .before .before .before .before .before .before .before .last-ticks .ensures ∙ ap lastTicks (c .before .before .before .before .before .before .before .before .before .before .before .before .before .before .before .before .before .before .before .before .kind-at .ensures))) (passed-3 t (c .before .before .before)) in
-    go-loop _ _ _ _ _ (c .before .before .before .before .before .before .before .before .before .before .before .before .before .before .before .before .before .before .before .before .before .before .loop .inv) (c .before .before .before .before .before .before .before .before .before .before .before .before .before .before .before .before .before .before .before .before .before .loop-test .taken) (c .before .before .before .before .before .before .before .before .before .before .before .before .before .before .before .before .before .before .before .before .before .before .before .pre .1 .ready .built) (loop-1 t (c .before .before .before .before .before .before .before .before .before .before .before .before .before .before .before)) (one-1 t (c .before .before .before .before .before .before .before .before .before .before .before .before .before .before .before)) (c .before .before .before .before .before .before .before .before .before .before .before .before .before .if3 .left) (c .before .before .before .before .before .before .before .before .before .before .before .times .ensures)
-    (subst (λ ρ. Part total ρ (lastTicks k) (overOf (y .over)) ls (y .loops + 1) (blockAt (rowsOf (now (s .rows))) (s .count) (i + 1)) (found (c .before .before .before .before .before .walk3 .result) (c .before .before .before .before .before .walk3 .last .1 .1 .1 .1 .1 .0))) (inside-1 t (c .before .before .before .before .before .before .before)) part)
-    (rw (c .before .before .before .before .before .before .before .before .before .before .before .before .before .before .before .before .before .before .before .before .kind-at .ensures) at (c .before .loop-ticks .ensures)) (c .closed2 .ensures _ _) α
+    part-of (lastTicks k) (overOf (y .over)) ls (y .loops + 1) (c .before .before .before .before .before .before .before .before .lined .ensures .value _ ∙ ap (λ n. from-parts (envOf (c .before .before .before .before .before .before .before .inside .result)) n (overOf (y .over)) ls (y .loops + 1)) (c .before .before .before .before .before .before .before .before .before .last-ticks .ensures ∙ ap lastTicks (c .before .before .before .before .before .before .before .before .before .before .before .before .before .before .before .before .before .kind-at .ensures))) (passed-3 t (c .before .before .before)) in (
+      search needs,
+      go-loop _ _ _ _ _ (c .before .before .before .before .before .before .before .before .before .before .before .before .before .before .before .before .before .before .before .before .before .before .loop .inv .1) (c .before .before .before .before .before .before .before .before .before .before .before .before .before .before .before .before .before .before .before .before .before .loop-test .taken) (c .before .before .before .before .before .before .before .before .before .before .before .before .before .before .before .before .before .before .before .before .before .before .before .pre .1 .ready .built) (loop-1 t (c .before .before .before .before .before .before .before .before .before .before .before .before .before .before .before)) (one-1 t (c .before .before .before .before .before .before .before .before .before .before .before .before .before .before .before)) (c .before .before .before .before .before .before .before .before .before .before .before .before .before .if3 .left) (c .before .before .before .before .before .before .before .before .before .before .before .times .ensures)
+          (subst (λ ρ. Part total ρ (lastTicks k) (overOf (y .over)) ls (y .loops + 1) (blockAt (rowsOf (now (s .rows))) (s .count) (i + 1)) (found (c .before .before .before .before .before .walk3 .result) (c .before .before .before .before .before .walk3 .last .1 .1 .1 .1 .1 .0))) (inside-1 t (c .before .before .before .before .before .before .before)) part)
+          (rw (c .before .before .before .before .before .before .before .before .before .before .before .before .before .before .before .before .before .kind-at .ensures) at (c .before .loop-ticks .ensures)) (c .closed2 .ensures _ _) α,
+    )
 
 returns-5 : (t : ℕ) → lts.Need-returns-5 (given t) (here t) walk.Post Inv μ
 returns-5 t c =
-    let k = c .before .before .before .before .before .before .loop .inv in
-    let e = c .ended .ensures (c .before .before .before .before .before .before .loop .lines) in
+    let k = c .before .before .before .before .before .loop .inv .1 in
+    let e = c .ended .ensures (c .before .before .before .before .before .loop .lines) in
     record {
       stopped = λ h. absurd (h (e .number));
-      whole = λ z. closing (at-close _ _ _ _ _ (fold-none _ _ (k .small)) (k .walk) (c .before .before .before .before .before .loop-test .taken) (c .before .before .before .before .before .before .before .pre .1 .ready .built) (told (c .before .before .before .before .kind-at .ensures) (c .before .before .before .shape-of .ensures) (c .before .enum-told4 .given .1))) (k .small) (k .long) e;
+      whole = λ z. closing (at-close _ _ _ _ _ (fold-none _ _ (k .small)) (k .walk) (c .before .before .before .before .loop-test .taken) (c .before .before .before .before .before .before .pre .1 .ready .built) (sym (c .before .before .before .shape-at .ensures) ∙ c .before .enum-told4 .given .1)) (k .small) (k .long) e;
     }
 
 returns-6 : (t : ℕ) → lts.Need-returns-6 (given t) (here t) walk.Post Inv μ
 returns-6 t c =
-    let k = c .before .before .loop .inv in
+    let k = c .before .before .loop .inv .1 in
     let e = c .ended2 .ensures (c .before .before .loop .lines) in
     record {
       stopped = λ h. absurd (h (e .number));
@@ -311,9 +313,8 @@ pub +walk-spec : {M : Type 1} → statement M
     μ
     (loop-holds t)
     (λ c κs. search needs)
-    (λ c κs. search needs)
     (λ c. search needs)
-    (after-row-requires t)
+    (step-row-requires t)
     (plus-requires t)
     (add-i t)
     (λ c. search needs)
@@ -323,7 +324,6 @@ pub +walk-spec : {M : Type 1} → statement M
     (λ c κs. search needs)
     (walk-requires t)
     (returns t)
-    (kind-at-requires-2 t)
     (past-else-requires t)
     (λ c κs. search needs)
     (walk-requires-2 t)
@@ -337,6 +337,7 @@ pub +walk-spec : {M : Type 1} → statement M
     (loop-less-2 t)
     (loop-again-2 t)
     (λ c. search needs)
+    (λ c κs. search needs)
     (at-start-requires t)
     (one-loop-requires t)
     (λ c κs. search needs)

@@ -4,7 +4,7 @@ use Prim.Native.Nat.{ℕ, _+_, _<_, _≤_}
 use lib.ListN.{length, getD, drop, length-drop}
 use denote.Ref.{now}
 use Rattle.text.proofs.Laws.{mark-plain, mark-none, mark-variable, mark-other, mark-zero, mark-negative, natural-small, is-natural, part-rest, front-length, front-at, front-rest, stop-within}
-use Rattle.text.specs.Words.{marks, stop, front, naturalOf}
+use Rattle.text.specs.Words.{marks, stop, front, naturalOf, variableIn, wordIn}
 use Rattle.text.specs.declared.Value.{Value}
 use Rattle.rules.specs.Text.{isNatural}
 use mathlib.Core.Bool.{Bool, true, false, not}
@@ -59,13 +59,20 @@ other-word-requires-2 : tie.Need-other-word-requires-2
 other-word-requires-2 c κs = let call = c .before .before in
     mark-none _ (some call) (none call) (found call ∙ c .enum-told .given .1)
 
+signed-requires : tie.Need-signed-requires
+signed-requires c κs = natural-small _ _ _ (found (c .before .before .before .before) ∙ c .before .before .n .given .1)
+
 add-t15 : tie.Need-add-t15
-add-t15 c = let h = fits (c .before .before .before .before) _ _ (c .before .before .n .given .1) in search needs
+add-t15 c = let h = fits (c .before .before .before .before .before) _ _ (c .before .before .before .n .given .1) in search needs
 
 returns-3 : tie.Need-returns-3
-returns-3 c = let call = c .before .before .before .before in
-    let e = c .before .before .n .given .1 in
-    record { word = mark-variable _ (some call) (none call) _ _ (found call ∙ e) (first call ∙ c .if2 .taken); end = size call _ _ e }
+unfolding variableIn wordIn
+returns-3 c = let call = c .before .before .before .before .before in
+    let e = c .before .before .before .n .given .1 in
+    record {
+      word = rw (toZ-ofZ (sfits-of (c .signed .ok)), c .signed .ensures) (mark-variable _ (some call) (none call) _ _ (found call ∙ e) (first call ∙ c .before .if2 .taken));
+      end = size call _ _ e;
+    }
 
 other-word-requires-3 : tie.Need-other-word-requires-3
 other-word-requires-3 c κs = let call = c .before .before .before .before .before in
@@ -75,18 +82,19 @@ other-word-requires-4 : tie.Need-other-word-requires-4
 other-word-requires-4 c κs = let call = c .before .before .before .before .before .before in
     mark-zero _ (some call) (none call) _ _ (found call ∙ c .before .before .before .before .n .given .1) (first call ∙ c .before .if3 .left) (c .if4 .taken)
 
-signed-requires : tie.Need-signed-requires
-signed-requires c κs = let call = c .before .before .before .before .before .before in
+signed-requires-2 : tie.Need-signed-requires-2
+signed-requires-2 c κs = let call = c .before .before .before .before .before .before in
     natural-small _ _ _ (found call ∙ c .before .before .before .before .n .given .1)
 
 add-t11 : tie.Need-add-t11
 add-t11 c = let h = fits (c .before .before .before .before .before .before .before) _ _ (c .before .before .before .before .before .n .given .1) in search needs
 
 returns-6 : tie.Need-returns-6
+unfolding wordIn
 returns-6 c = let call = c .before .before .before .before .before .before .before in
     let e = c .before .before .before .before .before .n .given .1 in
     record {
-      word = rw (toZ-ofZ (sfits-of (c .signed .ok)), c .signed .ensures) (mark-negative _ (some call) (none call) _ _ (found call ∙ e) (first call ∙ c .before .before .if3 .left) (c .before .if4 .left));
+      word = rw (toZ-ofZ (sfits-of (c .signed2 .ok)), c .signed2 .ensures) (mark-negative _ (some call) (none call) _ _ (found call ∙ e) (first call ∙ c .before .before .if3 .left) (c .before .if4 .left));
       end = size call _ _ e;
     }
 
@@ -106,12 +114,13 @@ marked-spec =
     (λ c. search needs)
     other-word-requires-2
     (λ c. search needs)
+    signed-requires
     add-t15
     returns-3
     other-word-requires-3
     (λ c. search needs)
     other-word-requires-4
     (λ c. search needs)
-    signed-requires
+    signed-requires-2
     add-t11
     returns-6)

@@ -34,7 +34,7 @@ add-f c = let s = c .before .before .before .before .before .before in
 
 returns-2 : tie.Need-returns-2
 returns-2 c = let s = c .before .before .before .before .before .before in
-    next-some (now (s .args .s)) (s .args .at) _ _ (s .pre) (c .before .before .before .if1 .left) (reads (c .before))
+    next-some (now (s .args .s)) (s .args .at) _ _ _ (s .pre) (c .before .before .before .if1 .left) (reads (c .before))
 
 pub next-word-spec : {M : Type 1} → statement M
 next-word-spec =

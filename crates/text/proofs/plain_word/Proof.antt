@@ -1,10 +1,12 @@
 use mathlib.Core.Path.{_∙_}
 use Rattle.text.proofs.Keywords.{plain-packed, plain-long}
+use Rattle.text.specs.Words.{keywords, wordAt, wordIn}
 use borrow.Author.Needs.{needs}
 use Rattle.text.proofs.plain_word.Statement.{statement}
 use Rattle.text.proofs.plain_word.Tie as tie
 
 returns : tie.Need-returns
+unfolding keywords wordAt wordIn
 returns c = plain-long _ (c .if1 .taken)
 
 returns-2 : tie.Need-returns-2

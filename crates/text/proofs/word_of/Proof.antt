@@ -3,7 +3,7 @@ use mathlib.Core.List.{List}
 use Prim.Native.Nat.{ℕ}
 use denote.Ref.{now}
 use Rattle.text.proofs.Laws.{natural-small, not-natural, is-natural, word-none, word-number, front-length, stop-end, stop-here, stop-on}
-use Rattle.text.specs.Words.{stop, front}
+use Rattle.text.specs.Words.{stop, front, keywords, wordAt, wordIn}
 use Rattle.text.specs.declared.Value.{Value}
 use mir.Facts.{toZ-ofZ}
 use borrow.Author.Needs.{sfits-of, needs}
@@ -18,11 +18,13 @@ signed-requires : tie.Need-signed-requires
 signed-requires c κs = natural-small _ _ _ (sym (c .before .before .before .natural .ensures) ∙ c .before .n .given .1)
 
 returns : tie.Need-returns
+unfolding keywords wordAt wordIn
 returns c = let s = text (c .before .before .before) in
     let e : stop s ≡ 0 = stop-end s 0 (omega (arith, c .if1 .taken)) in
     record { word = word-none (front s) (front-length s ∙ e); end = sym e }
 
 returns-2 : tie.Need-returns-2
+unfolding keywords wordAt wordIn
 returns-2 c = let s = text (c .before .before .before .before .before .before) in
     let e : stop s ≡ 0 = stop-here s 0 (omega (arith, c .before .before .before .if1 .left)) (sym (c .before .stops .ensures) ∙ c .if2 .taken) in
     record { word = word-none (front s) (front-length s ∙ e); end = sym e }
@@ -33,6 +35,7 @@ marked-requires c κs = let call = c .before .before .before .before .before .be
     (omega (arith, stop-on s 0 (omega (arith, c .before .before .before .if1 .left)) (sym (c .before .stops .ensures) ∙ c .if2 .left)), not-natural _ (sym (call .natural .ensures) ∙ c .before .before .before .before .enum-told .given .1))
 
 returns-3 : tie.Need-returns-3
+unfolding wordIn
 returns-3 c = let call = c .before .before .before .before in
     let e = sym (call .natural .ensures) ∙ c .before .before .n .given .1 in
     let (_, _, n) = is-natural _ _ _ e in

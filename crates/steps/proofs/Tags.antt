@@ -1,0 +1,57 @@
+-- What the tag of a row tells of it.
+use mathlib.Core.Path.{_≡_, refl}
+use mathlib.Core.Bool.{Bool, true, cond, _&&_, false≢true}
+use mathlib.Core.List.{List}
+use Prim.Native.Nat.{ℕ, _+_, _<_}
+use native.Mathlib.Omega.{arith}
+use borrow.Author.Tests.{eqb-true, ne-eqb, lt-ltb, le-ltb}
+use lib.Dec.{eqb, ltb}
+use Rattle.rules.specs.declared.Kind.{Kind}
+use Rattle.rules.specs.declared.Kind.the-variants.{Set, Move, Cue, Pick, Else, End, While, Do, For}
+use Rattle.rules.specs.Steps.{sets}
+use Rattle.rules.specs.Bounds.{Fine}
+use Rattle.table.specs.Code.{number, numbersAt, variableIn, kindAt, rowsOf}
+use Rattle.table.proofs.Laws.{kind-in, by-tag}
+use Rattle.steps.specs.declared.Shape.{Shape}
+use Rattle.steps.specs.Tree.{shapeOf, plainOf, pastElse}
+
+-- the shape by the tag
+abbrev pub shapeBy : ℕ → Shape
+shapeBy t = cond (ltb t 2) Shape.Close (cond (eqb t 2) Shape.Branch (cond (ltb t 6) Shape.Plain Shape.Loop))
+
+-- a set, a change or a for
+abbrev pub assignsBy : ℕ → Bool
+assignsBy t = cond (ltb t 5) (ltb 2 t) (ltb 7 t)
+
+module _ (rows : List (List ℕ)) (i : ℕ) where
+  pub shape-is : shapeOf (kindAt (rowsOf rows) i) ≡ shapeBy (number (numbersAt rows i) 0)
+  shape-is =
+      rw (kind-in rows i)
+      (by-tag (numbersAt rows i) (λ t k. shapeOf k ≡ shapeBy t) refl refl refl refl refl refl refl refl
+      (λ t h. rw (le-ltb t 2 (omega arith), ne-eqb t 2 (λ z. omega arith), le-ltb t 6 (omega arith))))
+
+  pub past-is : pastElse (kindAt (rowsOf rows) i) i ≡ cond (eqb (number (numbersAt rows i) 0) 1) (i + 1) i
+  past-is =
+      rw (kind-in rows i)
+      (by-tag (numbersAt rows i) (λ t k. pastElse k i ≡ cond (eqb t 1) (i + 1) i) refl refl refl refl refl refl refl refl
+      (λ t h. rw (ne-eqb t 1 (λ z. omega arith))))
+
+  pub sets-is : (w : ℕ) → sets w (plainOf (kindAt (rowsOf rows) i)) ≡ (assignsBy (number (numbersAt rows i) 0) && eqb w (variableIn (numbersAt rows i)))
+  unfolding sets
+  sets-is w =
+      rw (kind-in rows i)
+      (by-tag (numbersAt rows i) (λ t k. sets w (plainOf k) ≡ (assignsBy t && eqb w (variableIn (numbersAt rows i)))) refl refl refl refl refl refl refl refl
+      (λ t h. rw (le-ltb t 5 (omega arith), lt-ltb 7 t h)))
+
+-- a row assigns one of the 16 variables
+pub sets-small : (k : Kind) (w : ℕ) → Fine k → sets w (plainOf k) ≡ true → w < 16
+unfolding sets
+sets-small (Set v x) w f h = let e = eqb-true w v h in omega (arith, f .0)
+sets-small (Move v c) w f h = let e = eqb-true w v h in omega (arith, f .0)
+sets-small (Cue n) w f h = absurd (false≢true h)
+sets-small Pick w f h = absurd (false≢true h)
+sets-small Else w f h = absurd (false≢true h)
+sets-small End w f h = absurd (false≢true h)
+sets-small (While v c x) w f h = absurd (false≢true h)
+sets-small (Do v c x) w f h = absurd (false≢true h)
+sets-small (For v s c x d) w f h = let e = eqb-true w v h in omega (arith, f .0)
