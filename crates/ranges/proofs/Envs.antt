@@ -49,6 +49,11 @@ module _ (σ ρ : Env) where
       go w true e = absurd (let z : w < 0 = ltb-true w 0 e in omega arith)
       go w false e = refl
 
+  -- the next is still the old one
+  pub up-here : (i : ℕ) → upTo i σ ρ i ≡ ρ i
+  unfolding upTo
+  up-here i = rw (le-ltb i i (omega arith))
+
   next-at : (i w : ℕ) (t u : Bool) → eqb w i ≡ t → ltb w i ≡ u → cond t (σ i) (cond u (σ w) (ρ w)) ≡ upTo (i + 1) σ ρ w
   unfolding upTo
   next-at i w true u e f = let q : w ≡ i = eqb-true w i e in rw (q, lt-ltb i (i + 1) (omega arith))

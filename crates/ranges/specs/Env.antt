@@ -65,17 +65,17 @@ pub record HeadOf (k : Kind) (h : Head) : Type 0 where
   pub small : h .tested < 16
   pub fine : FineOperand (h .limit)
 
--- σ are the ranges at the start of any body that assigns the set; ρ: at the loop's start
-pub record InsideOf (k : Kind) (set : ℕ → Bool) (ρ σ : Env) : Type 0 where
-  pub value : (body : Block) → ((w : ℕ) → set w ≡ assigns w body) → σ ≡ inside (formOf k) ρ (testOf k) body
+-- r holds the ranges at the start of any body that assigns the set; ρ: at the loop's start
+pub record InsideOf (k : Kind) (set : ℕ → Bool) (ρ : Env) (r : List (List ℤ)) : Type 0 where
+  pub value : (body : Block) → ((w : ℕ) → set w ≡ assigns w body) → EnvIs r (inside (formOf k) ρ (testOf k) body)
 
--- σ are the ranges after a loop of any body that assigns the set with the step st
-pub record OutsideOf (k : Kind) (set : ℕ → Bool) (st : Step) (ρ σ : Env) : Type 0 where
-  pub value : (body : Block) → ((w : ℕ) → set w ≡ assigns w body) → st ≡ step (testOf k .tested) body → σ ≡ outside ρ (testOf k) body
+-- r holds the ranges after a loop of any body that assigns the set with the step st
+pub record OutsideOf (k : Kind) (set : ℕ → Bool) (st : Step) (ρ : Env) (r : List (List ℤ)) : Type 0 where
+  pub value : (body : Block) → ((w : ℕ) → set w ≡ assigns w body) → st ≡ step (testOf k .tested) body → EnvIs r (outside ρ (testOf k) body)
 
--- the ranges ρ before the loop at row i and σ after it, and its end
-pub record AfterLoop (rows : List Row) (count i : ℕ) (ρ σ : Env) (next : ℕ) : Type 0 where
-  pub value : σ ≡ outside (atStart (formOf (kindAt rows i)) (testOf (kindAt rows i)) ρ) (testOf (kindAt rows i)) (bodyAt rows count i)
+-- the ranges ρ before the loop at row i, those after it in r, and its end
+pub record AfterLoop (rows : List Row) (count i : ℕ) (ρ : Env) (r : List (List ℤ)) (next : ℕ) : Type 0 where
+  pub value : EnvIs r (outside (atStart (formOf (kindAt rows i)) (testOf (kindAt rows i)) ρ) (testOf (kindAt rows i)) (bodyAt rows count i))
   pub ends : EndsAt rows count i next
 
 -- a do is tested late

@@ -37,7 +37,7 @@ pub struct Span {
 }
 
 // The range of v.
-fn span_in(r: &[[i32; 2]; 16], v: u8) -> Span
+pub fn span_in(r: &[[i32; 2]; 16], v: u8) -> Span
     requires { ⌜ v < 16 ⌝ }
     ensures { λ s. ⌜ rangeOf s ≡ envOf (now (r .entry)) v ⌝ }
 {
@@ -46,13 +46,6 @@ fn span_in(r: &[[i32; 2]; 16], v: u8) -> Span
         lo: r[i][0],
         hi: r[i][1],
     }
-}
-
-pub fn span_at(r: [[i32; 2]; 16], v: u8) -> Span
-    requires { ⌜ v < 16 ⌝ }
-    ensures { λ s. ⌜ rangeOf s ≡ envOf r v ⌝ }
-{
-    span_in(&r, v)
 }
 
 // s for v; the other ranges stay.
@@ -66,17 +59,8 @@ fn put_in(r: &mut [[i32; 2]; 16], v: u8, s: Span)
     r[i] = [lo, hi];
 }
 
-pub fn put(r: [[i32; 2]; 16], v: u8, s: Span) -> [[i32; 2]; 16]
-    requires { ⌜ v < 16 ⌝ }
-    ensures { λ x. ⌜ envOf x ≡ put (envOf r) v (rangeOf s) ⌝ }
-{
-    let mut next = r;
-    put_in(&mut next, v, s);
-    next
-}
-
 // An operand's range.
-fn bounds_in(r: &[[i32; 2]; 16], x: Operand) -> Span
+pub fn bounds_in(r: &[[i32; 2]; 16], x: Operand) -> Span
     requires { ⌜ FineOperand x ⌝ }
     ensures { λ s. ⌜ rangeOf s ≡ bounds (envOf (now (r .entry))) x ⌝ }
 {
@@ -84,13 +68,6 @@ fn bounds_in(r: &[[i32; 2]; 16], x: Operand) -> Span
         Operand::Constant(k) => Span { lo: k, hi: k },
         Operand::Variable(w) => span_in(r, w),
     }
-}
-
-pub fn bounds(r: [[i32; 2]; 16], x: Operand) -> Span
-    requires { ⌜ FineOperand x ⌝ }
-    ensures { λ s. ⌜ rangeOf s ≡ bounds (envOf r) x ⌝ }
-{
-    bounds_in(&r, x)
 }
 
 fn lower(a: i32, b: i32) -> i32
@@ -120,11 +97,8 @@ pub fn joined(a: [[i32; 2]; 16], b: [[i32; 2]; 16]) -> [[i32; 2]; 16]
 {
     let mut r = a;
     for i in 0..16 {
-        let s = joined_span(span_at(a, i), span_at(b, i));
-        let lo = s.lo;
-        let hi = s.hi;
-        let k = i as usize;
-        r[k] = [lo, hi];
+        let s = joined_span(span_in(&a, i), span_in(&b, i));
+        put_in(&mut r, i, s);
     }
     r
 }
@@ -183,21 +157,17 @@ pub fn step_row(r: &mut [[i32; 2]; 16], rows: &[[u32; 9]; 256], i: usize)
     }
 }
 
-// The ranges at a loop's start: after a for's start assignment.
-pub fn at_start(r: [[i32; 2]; 16], kind: Kind) -> [[i32; 2]; 16]
-    requires { ⌜ Fine kind ⌝ }
-    ensures { λ x. ⌜ envOf x ≡ atStart (formOf kind) (testOf kind) (envOf r) ⌝ }
+// From the ranges before a loop to those at its start: a for's start assignment.
+pub fn at_start(r: &mut [[i32; 2]; 16], kind: Kind)
+    requires { ⌜ Fine kind × (length (now r) ≡ 16) ⌝ }
+    ensures { λ _. ⌜ EnvIs (now (r .exit)) (atStart (formOf kind) (testOf kind) (envOf (now (r .entry)))) ⌝ }
 {
     match kind {
-        Kind::Set(_, _) => r,
-        Kind::Move(_, _) => r,
-        Kind::Cue(_) => r,
-        Kind::Pick => r,
-        Kind::Else => r,
-        Kind::End => r,
-        Kind::While(_, _, _) => r,
-        Kind::Do(_, _, _) => r,
-        Kind::For(v, x, _, _, _) => put(r, v, bounds(r, x)),
+        Kind::For(v, x, _, _, _) => {
+            let s = bounds_in(r, x);
+            put_in(r, v, s);
+        }
+        _ => {}
     }
 }
 
@@ -260,19 +230,16 @@ fn chosen(changes: bool, own: bool, mine: Span, old: Span) -> Span
     }
 }
 
-// The ranges over a loop whose body assigns a set of variables, with its tested variable's range.
-fn widened(set: [bool; 16], start: [[i32; 2]; 16], mine: Span, v: u8) -> [[i32; 2]; 16]
-    ensures { λ r. ⌜ envOf r ≡ widenedEnv (setOf set) (rangeOf mine) v (envOf start) ⌝ }
+// Over a loop whose body assigns a set of variables, with its tested variable's range.
+fn widen(r: &mut [[i32; 2]; 16], set: [bool; 16], mine: Span, v: u8)
+    requires { ⌜ length (now r) ≡ 16 ⌝ }
+    ensures { λ _. ⌜ EnvIs (now (r .exit)) (widenedEnv (setOf set) (rangeOf mine) v (envOf (now (r .entry)))) ⌝ }
 {
-    let mut r = start;
     for w in 0..16 {
-        let s = chosen(has(set, w), w == v, mine, span_at(start, w));
-        let lo = s.lo;
-        let hi = s.hi;
-        let k = w as usize;
-        r[k] = [lo, hi];
+        let old = span_in(r, w);
+        let s = chosen(has(set, w), w == v, mine, old);
+        put_in(r, w, s);
     }
-    r
 }
 
 // A do is tested after its body.
@@ -338,19 +305,19 @@ fn inside_span(late: bool, comparison: Comparison, s: Span, n: Span) -> Span
     }
 }
 
-// The ranges at the body's start, from those at the loop's start and the variables that the body assigns.
-pub fn inside(kind: Kind, set: [bool; 16], begun: [[i32; 2]; 16]) -> [[i32; 2]; 16]
-    requires { ⌜ Fine kind ⌝ }
-    ensures { λ r. ⌜ InsideOf kind (setOf set) (envOf begun) (envOf r) ⌝ }
+// From the ranges at a loop's start to those at its body's start, by the variables that the body assigns.
+pub fn inside(r: &mut [[i32; 2]; 16], kind: Kind, set: [bool; 16])
+    requires { ⌜ Fine kind × (length (now r) ≡ 16) ⌝ }
+    ensures { λ _. ⌜ InsideOf kind (setOf set) (envOf (now (r .entry))) (now (r .exit)) ⌝ }
 {
     let head = head_of(kind);
     let v = head.tested;
     let comparison = head.comparison;
     let limit = head.limit;
-    let s = span_at(begun, v);
-    let n = bounds(begun, limit);
+    let s = span_in(r, v);
+    let n = bounds_in(r, limit);
     let mine = inside_span(is_do(kind), comparison, s, n);
-    widened(set, begun, mine, v)
+    widen(r, set, mine, v);
 }
 
 // The tested variable after the loop, by its step.
@@ -397,38 +364,38 @@ fn outside_span(step: Step, comparison: Comparison, s: Span) -> Span
     }
 }
 
-// The ranges after a loop, from those at its start, the variables that its body assigns and the tested variable's step.
-pub fn outside(kind: Kind, set: [bool; 16], step: Step, begun: [[i32; 2]; 16]) -> [[i32; 2]; 16]
-    requires { ⌜ Fine kind ⌝ }
-    ensures { λ r. ⌜ OutsideOf kind (setOf set) step (envOf begun) (envOf r) ⌝ }
+// From the ranges at a loop's start to those after it, by the variables that its body assigns and the tested variable's step.
+pub fn outside(r: &mut [[i32; 2]; 16], kind: Kind, set: [bool; 16], step: Step)
+    requires { ⌜ Fine kind × (length (now r) ≡ 16) ⌝ }
+    ensures { λ _. ⌜ OutsideOf kind (setOf set) step (envOf (now (r .entry))) (now (r .exit)) ⌝ }
 {
     let head = head_of(kind);
     let v = head.tested;
     let comparison = head.comparison;
-    let mine = outside_span(step, comparison, span_at(begun, v));
-    widened(set, begun, mine, v)
+    let mine = outside_span(step, comparison, span_in(r, v));
+    widen(r, set, mine, v);
 }
 
-// The ranges after the loop at row i; `next` gets its end.
+// From the ranges before the loop at row i to those after it; its end.
 fn after_loop(
     rows: &[[u32; 9]; 256],
     count: usize,
     i: usize,
-    r: [[i32; 2]; 16],
-    next: &mut usize,
-) -> [[i32; 2]; 16]
-    requires { ⌜ AtLoop (rowsOf (now rows)) count i ⌝ }
-    ensures { λ x. ⌜ AfterLoop (rowsOf (now (rows .entry))) count i (envOf r) (envOf x) (now (next .exit)) ⌝ }
+    r: &mut [[i32; 2]; 16],
+) -> usize
+    requires { ⌜ AtLoop (rowsOf (now rows)) count i × (length (now r) ≡ 16) ⌝ }
+    ensures { λ e. ⌜ AfterLoop (rowsOf (now (rows .entry))) count i (envOf (now (r .entry))) (now (r .exit)) e ⌝ }
 {
     let kind = kind_at(rows, i);
     let head = head_of(kind);
     let v = head.tested;
-    let begun = at_start(r, kind);
+    at_start(r, kind);
     let body = body_moves(rows, count, i, v);
     let set = body.set;
     let step = body.step;
-    *next = body.next;
-    outside(kind, set, step, begun)
+    let next = body.next;
+    outside(r, kind, set, step);
+    next
 }
 
 // The ranges after the block that starts at row `at`; `next` gets the row that closes the block.
@@ -460,9 +427,7 @@ pub fn after(
                 i = e + 1;
             }
             Shape::Loop => {
-                let mut e: usize = 0;
-                let x = after_loop(rows, count, i, r, &mut e);
-                r = x;
+                let e = after_loop(rows, count, i, &mut r);
                 i = e + 1;
             }
             Shape::Close => {

@@ -7,9 +7,13 @@ use Rattle.ranges.proofs.inside.Tie as tie
 
 returns : tie.Need-returns
 returns c =
-    let h = c .before .before .before .before .before .head-of .ensures in
+    let h = c .before .before .before .before .before .before .before .before .head-of .ensures in
+    let x = c .widen .ensures in
     record {
-      value = λ body e. inside-is _ body _ e _ _ _ _ _ _ (c .widened .ensures) (h .tested) (h .comparison) (c .before .before .before .before .span-at .ensures) _ _ _ (c .before .inside-span .ensures _ (c .before .before .is-do .ensures ∙ late-is _)) (c .before .before .before .bounds .ensures) (h .limit);
+      value = λ body e. record {
+        long = x .long;
+        value = inside-is _ body _ e _ _ _ _ _ _ (x .value) (h .tested) (h .comparison) (c .before .before .before .before .before .before .span-in .ensures) _ _ _ (c .before .before .inside-span .ensures _ (c .before .before .before .is-do .ensures ∙ late-is _)) (c .before .before .before .before .bounds-in .ensures) (h .limit);
+      };
     }
 
 pub inside-spec : {M : Type 1} → statement M
