@@ -12,7 +12,6 @@ use ranges::step_row;
 use rules::Kind;
 use rules::LoopLine;
 use rules::Operand;
-use rules::Row;
 use rules::Step;
 use steps::Shape;
 use steps::body_moves;
@@ -20,7 +19,6 @@ use steps::has;
 use steps::past_else;
 use steps::shape_at;
 use table::kind_at;
-use table::table_of;
 use ticks::LIMIT;
 use ticks::first_over;
 use ticks::loop_ticks;
@@ -31,6 +29,7 @@ use turns::exact;
 ghost use mathlib.Core.Path.{_≡_};
 ghost use mathlib.Core.List.{[], _∷_, _++_};
 ghost use Prim.Native.Nat.{ℕ, _+_, _≤_, _<_, max};
+ghost use lib.ListN.{length};
 ghost use Rattle.rules.specs.Blocks.{Block};
 ghost use Rattle.rules.specs.Steps.{assigns};
 ghost use Rattle.rules.specs.Bounds.{FineOperand};
@@ -370,9 +369,9 @@ pub struct Figures {
 }
 
 // The first `count` rows and the first `vars` ranges of a script that has passed the questions 4 to 7.
-pub fn survey(rows: [Row; 256], count: usize, ranges: [[i32; 2]; 16], vars: usize) -> Figures
-    requires { ⌜ Legal (scriptOf ranges vars rows count) × (count ≤ 256) × BlankFrom vars ranges ⌝ }
-    ensures { λ r. ⌜ SurveyOf (scriptOf ranges vars rows count) count r ⌝ }
+pub fn survey(rows: &[[u32; 9]; 256], count: usize, ranges: [[i32; 2]; 16], vars: usize) -> Figures
+    requires { ⌜ Legal (scriptOf ranges vars (rowsOf (now rows)) count) × (count ≤ 256) × (count ≤ length (now rows)) × BlankFrom vars ranges ⌝ }
+    ensures { λ r. ⌜ SurveyOf (scriptOf ranges vars (rowsOf (now (rows .entry))) count) count r ⌝ }
 {
     let none = [NO_LINE; 16];
     let empty = Tally {
@@ -384,8 +383,7 @@ pub fn survey(rows: [Row; 256], count: usize, ranges: [[i32; 2]; 16], vars: usiz
         lines: none,
         next: 0,
     };
-    let table = table_of(rows, count);
-    let t = walk(&table, count, 0, ranges, 1, empty);
+    let t = walk(rows, count, 0, ranges, 1, empty);
     let no = first_no(t, count);
     let lines = t.lines;
     Figures {
