@@ -14,6 +14,7 @@ use table::kind_at;
 use table::operand_at;
 use table::tag_at;
 use table::variable_at;
+use values::changed;
 ghost use mathlib.Core.Path.{_≡_};
 ghost use mathlib.Core.Bool.{cond};
 ghost use lib.IntN.{ℤ, pos, _+ℤ_, _-ℤ_};
@@ -66,7 +67,7 @@ fn put_in(r: &mut [[i32; 2]; 16], v: u8, s: Span)
     r[i] = [lo, hi];
 }
 
-pub fn put(r: [[i32; 2]; 16], v: u8, s: Span) -> [[i32; 2]; 16]
+fn put(r: [[i32; 2]; 16], v: u8, s: Span) -> [[i32; 2]; 16]
     requires { ⌜ v < 16 ⌝ }
     ensures { λ x. ⌜ envOf x ≡ put (envOf r) v (rangeOf s) ⌝ }
 {
@@ -149,15 +150,10 @@ fn moved(x: i32, change: Change) -> i32
     requires { ⌜ FineChange change ⌝ }
     ensures { λ r. ⌜ r ≡ drawn lowest highest (applied change x) ⌝ }
 {
-    match change {
-        Change::Add(c) => drawn(x as i64 + c as i64),
-        Change::Sub(c) => drawn(x as i64 - c as i64),
-        Change::Mul(c) => drawn(x as i64 * c as i64),
-        Change::Div(c) => drawn(x as i64 / c as i64),
-    }
+    drawn(changed(change, x))
 }
 
-fn changed(s: Span, change: Change) -> Span
+fn changed_span(s: Span, change: Change) -> Span
     requires { ⌜ FineChange change ⌝ }
     ensures { λ r. ⌜ rangeOf r ≡ changedRange change (rangeOf s) ⌝ }
 {
@@ -178,7 +174,7 @@ pub fn step_row(r: &mut [[i32; 2]; 16], rows: &[[u32; 9]; 256], i: usize)
         let s = bounds_in(r, operand_at(rows, i));
         put_in(r, v, s);
     } else if t == 4 {
-        let s = changed(span_in(r, v), change_at(rows, i));
+        let s = changed_span(span_in(r, v), change_at(rows, i));
         put_in(r, v, s);
     }
 }
@@ -189,15 +185,8 @@ pub fn at_start(r: [[i32; 2]; 16], kind: Kind) -> [[i32; 2]; 16]
     ensures { λ x. ⌜ envOf x ≡ atStart (formOf kind) (testOf kind) (envOf r) ⌝ }
 {
     match kind {
-        Kind::Set(_, _) => r,
-        Kind::Move(_, _) => r,
-        Kind::Cue(_) => r,
-        Kind::Pick => r,
-        Kind::Else => r,
-        Kind::End => r,
-        Kind::While(_, _, _) => r,
-        Kind::Do(_, _, _) => r,
         Kind::For(v, x, _, _, _) => put(r, v, bounds(r, x)),
+        _ => r,
     }
 }
 
@@ -214,12 +203,6 @@ pub fn head_of(kind: Kind) -> Head
     ensures { λ r. ⌜ HeadOf kind r ⌝ }
 {
     match kind {
-        Kind::Set(_, _) => NO_HEAD,
-        Kind::Move(_, _) => NO_HEAD,
-        Kind::Cue(_) => NO_HEAD,
-        Kind::Pick => NO_HEAD,
-        Kind::Else => NO_HEAD,
-        Kind::End => NO_HEAD,
         Kind::While(v, c, x) => Head {
             tested: v,
             comparison: c,
@@ -235,6 +218,7 @@ pub fn head_of(kind: Kind) -> Head
             comparison: c,
             limit: x,
         },
+        _ => NO_HEAD,
     }
 }
 
