@@ -11,6 +11,7 @@ use Rattle.rules.specs.declared.Row.{Row}
 use Rattle.rules.specs.Blocks.{kindsOf}
 use Rattle.rules.specs.Ranges.{Range}
 use Rattle.rules.specs.Scripts.{Script, pairRange, pairRanges, ends, scriptOf}
+use Rattle.table.specs.Code.{rowsOf, Packed}
 use Rattle.calls.specs.Held.{held, PairsOf}
 
 pairs-length : (r : List (List ℤ)) → length (pairRanges r) ≡ length r
@@ -51,3 +52,7 @@ pairs-next low high v r h o =
 pub script-is : (rows : List Row) (count vars : ℕ) (low high : List ℤ) (r : List (List ℤ)) → PairsOf vars low high r → scriptOf r vars rows count ≡ held rows count vars low high
 unfolding scriptOf
 script-is rows count vars low high r o = ap {B = Script} (λ rs. record { ranges = rs; rows = take count (kindsOf rows) }) (o .first)
+
+-- the table of a script's rows has its script
+pub packed-held : (rows : List Row) (t : List (List ℕ)) (count vars : ℕ) (low high : List ℤ) → Packed count rows t → held (rowsOf t) count vars low high ≡ held rows count vars low high
+packed-held rows t count vars low high p = ap {B = Script} (λ ks. record { ranges = ends vars low high; rows = ks }) p

@@ -12,10 +12,10 @@ use Rattle.rules.specs.Calls.{Judged, judgedBy}
 use Rattle.survey.specs.declared.Figures.{Figures}
 use Rattle.survey.specs.Whole.{BlankFrom, SurveyOf}
 
--- it has passed the questions 4 to 7
+-- it has passed the questions 4 to 7, and has `count` rows
 pub record Given (script : Script) (count vars : ℕ) : Type 0 where
   pub legal : Legal script
-  pub rows : count ≤ 256
+  pub rows : length (script .rows) ≡ count
   pub ranges : vars ≤ 16
 
 -- the questions 8 to 13 of a script

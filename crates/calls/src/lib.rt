@@ -14,6 +14,7 @@ ghost use Rattle.rules.specs.Figures.{ones};
 ghost use Rattle.rules.specs.Scripts.{ends};
 ghost use Rattle.rules.specs.Calls.{replyOf, bufferOf, storeVerdict, runReply};
 ghost use Rattle.rules.specs.Claim.{Demand3Of};
+ghost use Rattle.table.specs.Code.{rowsOf, Packed};
 ghost use Rattle.turns.specs.Needs.{answer};
 ghost use Rattle.calls.specs.Held.{held, Given, judgedScript, Found, PairsOf};
 ghost use Rattle.calls.specs.Told.{ToldNo, Ran, Runs, ranRows, CountsOf};
@@ -36,9 +37,15 @@ fn pairs_of(vars: usize, low: [i32; 16], high: [i32; 16]) -> [[i32; 2]; 16]
 }
 
 // The questions 8 to 13, ticks and lines.
-fn surveyed(rows: [Row; 256], count: usize, vars: usize, low: [i32; 16], high: [i32; 16]) -> Figures
-    requires { ⌜ Given (held rows count vars low high) count vars ⌝ }
-    ensures { λ r. ⌜ Found (held rows count vars low high) count r ⌝ }
+fn surveyed(
+    rows: &[[u32; 9]; 256],
+    count: usize,
+    vars: usize,
+    low: [i32; 16],
+    high: [i32; 16],
+) -> Figures
+    requires { ⌜ Given (held (rowsOf (now rows)) count vars low high) count vars ⌝ }
+    ensures { λ r. ⌜ Found (held (rowsOf (now (rows .entry))) count vars low high) count r ⌝ }
 {
     let pairs = pairs_of(vars, low, high);
     survey::survey(rows, count, pairs, vars)
@@ -46,15 +53,15 @@ fn surveyed(rows: [Row; 256], count: usize, vars: usize, low: [i32; 16], high: [
 
 // The report call: the questions 8 to 14, and the report in the buffer.
 pub fn report_script(
-    rows: [Row; 256],
+    rows: &[[u32; 9]; 256],
     count: usize,
     vars: usize,
     low: [i32; 16],
     high: [i32; 16],
     buffer: &mut [u8],
 ) -> Reply
-    requires { ⌜ Given (held rows count vars low high) count vars ⌝ }
-    ensures { λ r. ⌜ (r ≡ replyOf ones (judgedScript (held rows count vars low high)) (length (now (buffer .entry)))) × (now (buffer .exit) ≡ bufferOf ones (judgedScript (held rows count vars low high)) (now (buffer .entry))) ⌝ }
+    requires { ⌜ Given (held (rowsOf (now rows)) count vars low high) count vars ⌝ }
+    ensures { λ r. ⌜ (r ≡ replyOf ones (judgedScript (held (rowsOf (now (rows .entry))) count vars low high)) (length (now (buffer .entry)))) × (now (buffer .exit) ≡ bufferOf ones (judgedScript (held (rowsOf (now (rows .entry))) count vars low high)) (now (buffer .entry))) ⌝ }
 {
     let figures = surveyed(rows, count, vars, low, high);
     if figures.number != 0 {
@@ -216,8 +223,9 @@ fn smaller(x: u64, y: u64) -> u64
     if x <= y { x } else { y }
 }
 
-// The run call: the questions 8 to 13 and 15, and the run. A refusal leaves the store as it was.
+// The run call: the questions 8 to 13 and 15, and the run. The table holds the rows. A refusal leaves the store as it was.
 pub fn run_script(
+    table: &[[u32; 9]; 256],
     rows: [Row; 256],
     count: usize,
     vars: usize,
@@ -227,11 +235,11 @@ pub fn run_script(
     picks: &[u8],
     allowance: u64,
 ) -> Outcome
-    requires { ⌜ Given (held rows count vars low high) count vars ⌝ }
+    requires { ⌜ Given (held rows count vars low high) count vars × Packed count rows (now table) ⌝ }
     ensures run { λ r. ⌜ Ran (runReply ones (judgedScript (held rows count vars low high)) (now (store .entry)) (now (picks .entry)) allowance) (now (store .entry)) (now (store .exit)) r ⌝ }
     ensures demand3 { λ _. ⌜ Demand3Of (judgedScript (held rows count vars low high)) (now (store .entry)) (now (picks .entry)) allowance ⌝ }
 {
-    let figures = surveyed(rows, count, vars, low, high);
+    let figures = surveyed(table, count, vars, low, high);
     if figures.number != 0 {
         return refusal(figures.number, figures.place);
     }

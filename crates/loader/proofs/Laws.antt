@@ -1,5 +1,5 @@
 -- From a loaded file to the judgement of the call. Assumes nothing.
-use mathlib.Core.Path.{_≡_, refl, sym, _∙_}
+use mathlib.Core.Path.{_≡_, refl, sym, _∙_, ap, subst}
 use mathlib.Core.List.{List, [], _∷_}
 use Prim.Native.Nat.{ℕ, zero, suc, _≤_, _<_}
 use native.Mathlib.Omega.{arith}
@@ -14,8 +14,10 @@ use Rattle.rules.specs.Calls.{Judged, refuses, judgedFile, judged, runReply, st
 use Rattle.rules.proofs.Reading.{read-legal}
 use Rattle.rules.proofs.FromBytes.{demand3-call}
 use Rattle.reader.specs.declared.Loaded.{Loaded}
-use Rattle.reader.specs.Read.{loadedOf, scriptOf}
-use Rattle.calls.specs.Held.{Given, judgedScript}
+use Rattle.table.specs.Code.{rowsOf}
+use Rattle.reader.specs.Read.{loadedOf, scriptOf, Tabled}
+use Rattle.calls.specs.Held.{held, Given, judgedScript}
+use Rattle.calls.proofs.Pairs.{packed-held}
 use Rattle.calls.specs.Told.{Ran, ToldNo}
 use Rattle.calls.specs.declared.Outcome.{Outcome}
 use Rattle.loader.specs.Kept.{KeptCall}
@@ -46,11 +48,23 @@ module _ (scratch : ℕ) (file : List ℕ) (l : Loaded) (room : 8_192 ≤ scratc
     unfolding judged judgedFile
     file-read = rw (le-leb 8_192 scratch room, loaded)
 
-    pub file-given : l .count ≤ 256 → Given (scriptOf l) (l .count) (l .vars)
-    unfolding scriptOf
-    file-given h =
-        let legal : Legal (scriptOf l) = read-legal file (scriptOf l) ([] ∷ []) loaded in
-        record { legal = legal; rows = h; ranges = omega (arith, legal .sizes .0, ends-length (l .vars) (l .low) (l .high)) }
+    module _ (t : List (List ℕ)) (k : Tabled l t) where
+      pub file-given : Given (scriptOf l) (l .head .count) (l .head .vars)
+      unfolding scriptOf
+      file-given =
+          let legal : Legal (scriptOf l) = read-legal file (scriptOf l) ([] ∷ []) loaded in
+          record { legal = legal; rows = k .long; ranges = omega (arith, legal .sizes .0, ends-length (l .head .vars) (l .head .low) (l .head .high)) }
+
+      -- the table has its script
+      table-script : held (rowsOf t) (l .head .count) (l .head .vars) (l .head .low) (l .head .high) ≡ scriptOf l
+      unfolding scriptOf
+      table-script = packed-held (l .rows) t (l .head .count) (l .head .vars) (l .head .low) (l .head .high) (k .packed z)
+
+      pub table-read : judged ones scratch file ≡ judgedScript (held (rowsOf t) (l .head .count) (l .head .vars) (l .head .low) (l .head .high))
+      table-read = file-read ∙ ap judgedScript (sym table-script)
+
+      pub table-given : Given (held (rowsOf t) (l .head .count) (l .head .vars) (l .head .low) (l .head .high)) (l .head .count) (l .head .vars)
+      table-given = subst (λ s. Given s (l .head .count) (l .head .vars)) (sym table-script) file-given
 
 -- demand 3 of this call: from its answer, and from demand 3 of the file
 pub kept-call : (scratch : ℕ) (file : List ℕ) (store : List ℤ) (picks : List ℕ) (allowance : ℕ) (new : List ℤ) (o : Outcome)

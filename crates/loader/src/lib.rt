@@ -19,18 +19,18 @@ pub fn report(file: &[u8], scratch: &mut [u32], buffer: &mut [u8]) -> Reply
     if scratch.len() < 8_192 {
         return Reply::Refused(1, 8_192);
     }
-    let l = load(file);
+    let none: [u32; 9] = [0; 9];
+    let mut table = [none; 256];
+    let l = load(file, &mut table);
     let number = l.number;
     let place = l.place;
     if number != 0 {
         return Reply::Refused(number, place);
     }
-    let rows = l.rows;
-    let low = l.low;
-    let high = l.high;
-    let count = l.count;
-    let vars = l.vars;
-    calls::report_script(rows, count, vars, low, high, buffer)
+    let h = l.head;
+    let low = h.low;
+    let high = h.high;
+    calls::report_script(&table, h.count, h.vars, low, high, buffer)
 }
 
 // The run of a file: the questions 1 to 13 and 15. The store is overwritten with the final one; refused, it is untouched. With the ticks of
@@ -49,16 +49,29 @@ pub fn run(
     if scratch.len() < 8_192 {
         return calls::refusal(1, 8_192);
     }
-    let l = load(file);
+    let none: [u32; 9] = [0; 9];
+    let mut table = [none; 256];
+    let l = load(file, &mut table);
     let number = l.number;
     let place = l.place;
     if number != 0 {
         return calls::refusal(number, place);
     }
     let rows = l.rows;
-    let low = l.low;
-    let high = l.high;
-    let count = l.count;
-    let vars = l.vars;
-    calls::run_script(rows, count, vars, low, high, store, picks, allowance)
+    let h = l.head;
+    let low = h.low;
+    let high = h.high;
+    let count = h.count;
+    let vars = h.vars;
+    calls::run_script(
+        &table,
+        rows,
+        count,
+        vars,
+        low,
+        high,
+        store,
+        picks,
+        allowance,
+    )
 }

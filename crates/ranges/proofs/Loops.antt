@@ -1,20 +1,26 @@
 -- The ranges at a body's start and after a loop, from what the code finds one by one.
 use mathlib.Core.Path.{_≡_, refl, ap, _∙_}
 use mathlib.Core.Bool.{Bool, false, cond}
-use mathlib.Core.List.{List}
+use mathlib.Core.List.{List, [], _∷_}
 use Prim.Native.Nat.{ℕ, _≤_}
 use native.Mathlib.Omega.{arith}
 use lib.Dec.{eqb}
 use lib.ListN.{length, List·getD-eq-default}
+use types.Run.{OneOf, miss}
+use denote.Enum.Declared.{tagOf}
+use Rattle.rules.proofs.Kind.{the-type}
 use Rattle.rules.specs.declared.Kind.{Kind}
 use Rattle.rules.specs.declared.Kind.the-variants.{Set, Move, Cue, Pick, Else, End, While, Do, For}
 use Rattle.rules.specs.declared.Comparison.{Comparison}
 use Rattle.rules.specs.declared.Operand.{Operand}
 use Rattle.rules.specs.declared.Step.{Step}
+use lib.IntN.{pos}
+use Rattle.ints.proofs.Parts.{ints, neg-parts}
+use Rattle.rules.specs.Bounds.{Near}
 use Rattle.rules.specs.Blocks.{Test, Form, Block}
 use Rattle.rules.specs.Steps.{assigns, step}
-use Rattle.rules.specs.Ranges.{Range, Env, full, bounds, edge, sort, insideRange, outsideRange, loopEnv, inside, outside, isDo}
-use Rattle.steps.specs.Tree.{formOf}
+use Rattle.rules.specs.Ranges.{Range, Env, full, atStart, bounds, edge, sort, insideRange, outsideRange, loopEnv, inside, outside, isDo}
+use Rattle.steps.specs.Tree.{formOf, testOf, noTest}
 use Rattle.steps.specs.Sets.{setOf}
 use Rattle.ranges.specs.Env.{widenedEnv, late}
 
@@ -61,3 +67,38 @@ late-is End = refl
 late-is (While v c x) = refl
 late-is (Do v c x) = refl
 late-is (For v s c x d) = refl
+
+-- what is not read of a row that is no loop
+pub zero-near : Near 1 (pos 0)
+zero-near = omega (ints, neg-parts (pos 1_000_000_000))
+
+abbrev unlooped : List ℕ
+unlooped = 0 ∷ 1 ∷ 2 ∷ 3 ∷ 4 ∷ 5 ∷ []
+
+-- any row but a for
+abbrev no-for : List ℕ
+no-for = 0 ∷ 1 ∷ 2 ∷ 3 ∷ 4 ∷ 5 ∷ 6 ∷ 7 ∷ []
+
+pub no-test : (k : Kind) → OneOf unlooped (tagOf the-type k) → testOf k ≡ noTest
+unfolding testOf
+no-test End o = refl
+no-test Else o = refl
+no-test Pick o = refl
+no-test (Set v x) o = refl
+no-test (Move v c) o = refl
+no-test (Cue n) o = refl
+no-test (While v c x) o = absurd (miss unlooped 6 tt o)
+no-test (Do v c x) o = absurd (miss unlooped 7 tt o)
+no-test (For v s c x d) o = absurd (miss unlooped 8 tt o)
+
+pub no-start : (ρ : Env) (k : Kind) → OneOf no-for (tagOf the-type k) → ρ ≡ atStart (formOf k) (testOf k) ρ
+unfolding atStart formOf testOf
+no-start ρ End o = refl
+no-start ρ Else o = refl
+no-start ρ Pick o = refl
+no-start ρ (Set v x) o = refl
+no-start ρ (Move v c) o = refl
+no-start ρ (Cue n) o = refl
+no-start ρ (While v c x) o = refl
+no-start ρ (Do v c x) o = refl
+no-start ρ (For v s c x d) o = absurd (miss no-for 8 tt o)

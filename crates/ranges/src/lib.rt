@@ -14,6 +14,7 @@ use table::kind_at;
 use table::operand_at;
 use table::tag_at;
 use table::variable_at;
+use values::changed;
 ghost use mathlib.Core.Path.{_≡_};
 ghost use mathlib.Core.Bool.{cond};
 ghost use lib.IntN.{ℤ, pos, _+ℤ_, _-ℤ_};
@@ -123,15 +124,10 @@ fn moved(x: i32, change: Change) -> i32
     requires { ⌜ FineChange change ⌝ }
     ensures { λ r. ⌜ r ≡ drawn lowest highest (applied change x) ⌝ }
 {
-    match change {
-        Change::Add(c) => drawn(x as i64 + c as i64),
-        Change::Sub(c) => drawn(x as i64 - c as i64),
-        Change::Mul(c) => drawn(x as i64 * c as i64),
-        Change::Div(c) => drawn(x as i64 / c as i64),
-    }
+    drawn(changed(change, x))
 }
 
-fn changed(s: Span, change: Change) -> Span
+fn changed_span(s: Span, change: Change) -> Span
     requires { ⌜ FineChange change ⌝ }
     ensures { λ r. ⌜ rangeOf r ≡ changedRange change (rangeOf s) ⌝ }
 {
@@ -152,7 +148,7 @@ pub fn step_row(r: &mut [[i32; 2]; 16], rows: &[[u32; 9]; 256], i: usize)
         let s = bounds_in(r, operand_at(rows, i));
         put_in(r, v, s);
     } else if t == 4 {
-        let s = changed(span_in(r, v), change_at(rows, i));
+        let s = changed_span(span_in(r, v), change_at(rows, i));
         put_in(r, v, s);
     }
 }
@@ -184,12 +180,6 @@ pub fn head_of(kind: Kind) -> Head
     ensures { λ r. ⌜ HeadOf kind r ⌝ }
 {
     match kind {
-        Kind::Set(_, _) => NO_HEAD,
-        Kind::Move(_, _) => NO_HEAD,
-        Kind::Cue(_) => NO_HEAD,
-        Kind::Pick => NO_HEAD,
-        Kind::Else => NO_HEAD,
-        Kind::End => NO_HEAD,
         Kind::While(v, c, x) => Head {
             tested: v,
             comparison: c,
@@ -205,6 +195,7 @@ pub fn head_of(kind: Kind) -> Head
             comparison: c,
             limit: x,
         },
+        _ => NO_HEAD,
     }
 }
 

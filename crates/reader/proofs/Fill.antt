@@ -32,6 +32,12 @@ use Rattle.nesting.proofs.Laws.{nest-none}
 use Rattle.reader.specs.declared.Ranged.{Ranged}
 use Rattle.reader.specs.Read.{lines, rangeOf, RangeWithin, RangeRead}
 use Rattle.rules.specs.Scripts.{ends}
+use Rattle.rules.specs.Bounds.{Fine}
+use Rattle.rules.proofs.Reading
+use Rattle.table.specs.Code as table
+use Rattle.table.specs.Code.{Packed}
+use Rattle.table.proofs.Laws.{rows-length}
+use Rattle.table.proofs.Limits.{row-fine}
 use Rattle.reader.proofs.Lines.{next-none, lines-next}
 
 -- ---- ranges
@@ -132,7 +138,7 @@ first-wrong vars w (Compares c) q e = three q e
 first-wrong vars w (Keyword n) q e = named-wrong vars w n q e
 first-wrong vars w Other q e = three q e
 
-pub row-wrong : (vars : ℕ) (w : ℕ → Word) (q : ℕ) → rowOf vars w ≡ Wrong q → q ≡ 0 → ⊥
+row-wrong : (vars : ℕ) (w : ℕ → Word) (q : ℕ) → rowOf vars w ≡ Wrong q → q ≡ 0 → ⊥
 unfolding rowOf
 row-wrong vars w q e = first-wrong vars w (w 0) q e
 
@@ -152,38 +158,79 @@ pub ranges-none : (file : List ℕ) (at n : ℕ) → at ≤ length file → Rang
 unfolding ends
 ranges-none file at n h = record { few = omega arith; within = h; low-size = refl; high-size = refl; same = ap (λ m. rangeLines m 3 (lines (drop at file)) []) (omega arith) }
 
--- i of n row lines are read, and the next begins at byte `next`
-pub record RowsUpto (file : List ℕ) (at vars n : ℕ) (rows : List Row) (blocks : Blocks) (next i : ℕ) : Type 0 where
+-- a row that is put in a table: its length, and its rows beside an array's
+pub put-length : (t u : List (List ℕ)) (i : ℕ) (r : Row) → table.rowsOf u ≡ set (table.rowsOf t) i r → length u ≡ length t
+put-length t u i r e = sym (rows-length u) ∙ ap length e ∙ length-set (table.rowsOf t) i r ∙ rows-length t
+
+packed-more : (rows : List Row) (t u : List (List ℕ)) (i : ℕ) (r : Row) → i < length rows → i < length t → table.rowsOf u ≡ set (table.rowsOf t) i r → Packed i rows t
+    → Packed (i + 1) (set rows i r) u
+packed-more rows t u i r h k e p = rw (add-one i, e, kinds-more (table.rowsOf t) i r (omega (arith, rows-length t)), kinds-more rows i r h, p)
+
+-- i of n row lines are read, the next begins at byte `next`, and the table t holds the rows
+pub record RowsUpto (file : List ℕ) (at vars n : ℕ) (t : List (List ℕ)) (rows : List Row) (blocks : Blocks) (next i : ℕ) : Type 0 where
   pub few : i ≤ n
   pub within : next ≤ length file
   pub size : length rows ≡ 256
+  pub table-size : length t ≡ 256
+  pub packed : Packed i rows t
   pub shallow : Shallow blocks
   pub same : rowLines vars n (4 + vars) (lines (drop at file)) noRows
       ≡ rowLines vars (n - i) (4 + vars + i) (lines (drop next file)) (record { kinds = take i (kindsOf rows); nest = nestOf blocks })
 
-pub rows-none : (file : List ℕ) (at vars n : ℕ) (rows : List Row) (kinds : List ℕ) → at ≤ length file → length rows ≡ 256 → RowsUpto file at vars n rows (record { kinds = kinds; depth = 0; loops = 0 }) at 0
-rows-none file at vars n rows kinds h l = record {
+-- where the row lines stop: question 0 for none, or the first no with its line; the next byte; the open blocks; the rows
+pub record Stop : Type 0 where
+  pub number : ℕ
+  pub place : ℕ
+  pub at : ℕ
+  pub blocks : Blocks
+  pub rows : List Row
+
+-- what they give then, n lines in all
+unfoldable pub given : List ℕ → ℕ → Stop → Reading Rows
+given file n r =
+    cond (eqb (r .number) 0) (read (record { kinds = take n (kindsOf (r .rows)); nest = nestOf (r .blocks) }) (lines (drop (r .at) file))) (refused (r .number) (r .place))
+
+pub record RowsRead (file : List ℕ) (at vars n : ℕ) (t : List (List ℕ)) (r : Stop) : Type 0 where
+  pub all : rowLines vars n (4 + vars) (lines (drop at file)) noRows ≡ given file n r
+  pub packed : r .number ≡ 0 → Packed n (r .rows) t
+
+pub rows-none : (file : List ℕ) (at vars n : ℕ) (t : List (List ℕ)) (rows : List Row) (kinds : List ℕ) → at ≤ length file → length rows ≡ 256 → length t ≡ 256
+    → RowsUpto file at vars n t rows (record { kinds = kinds; depth = 0; loops = 0 }) at 0
+rows-none file at vars n t rows kinds h l m = record {
   few = omega arith;
   within = h;
   size = l;
+  table-size = m;
+  packed = refl;
   shallow = record { deep = omega arith; many = omega arith };
   same = rw (nest-none kinds) (ap (λ p. rowLines vars n p (lines (drop at file)) noRows) (omega arith) ∙ ap (λ m. rowLines vars m (4 + vars + 0) (lines (drop at file)) noRows) (omega arith));
 }
 
-module _ (file : List ℕ) (at vars n : ℕ) (rows : List Row) (blocks : Blocks) (next i len : ℕ) (u : RowsUpto file at vars n rows blocks next i) (h : i < n) where
+module _ (file : List ℕ) (at vars n : ℕ) (t : List (List ℕ)) (rows : List Row) (blocks : Blocks) (next i len : ℕ) (u : RowsUpto file at vars n t rows blocks next i) (h : i < n) where
   row-step : (r : RowRead) → r ≡ rowOf vars (nextWords rowKey (lines (drop next file)))
       → rowLines vars n (4 + vars) (lines (drop at file)) noRows ≡ rowLine (4 + vars + i) (record { kinds = take i (kindsOf rows); nest = nestOf blocks }) r (λ x. rowLines vars (n - (i + 1)) (suc (4 + vars + i)) (nextLines (lines (drop next file))) x)
   unfolding rowLines
   row-step r e = u .same ∙ ap (λ m. rowLines vars m (4 + vars + i) (lines (drop next file)) (record { kinds = take i (kindsOf rows); nest = nestOf blocks })) (less-one n i h) ∙ rw (sym e) refl
 
-  pub rows-wrong : (q : ℕ) → Wrong q ≡ rowOf vars (nextWords rowKey (lines (drop next file))) → rowLines vars n (4 + vars) (lines (drop at file)) noRows ≡ refused q (4 + vars + i)
+  -- a no in this line
+  stops : (q : ℕ) → (q ≡ 0 → ⊥) → rowLines vars n (4 + vars) (lines (drop at file)) noRows ≡ refused q (4 + vars + i)
+      → RowsRead file at vars n t (record { number = q; place = 4 + vars + i; at = next; blocks = blocks; rows = rows })
+  unfolding given
+  stops q z e = record { all = e ∙ rw (ne-eqb q 0 z); packed = λ y. absurd (z y) }
+
+  pub rows-wrong : (q : ℕ) → Wrong q ≡ rowOf vars (nextWords rowKey (lines (drop next file)))
+      → RowsRead file at vars n t (record { number = q; place = 4 + vars + i; at = next; blocks = blocks; rows = rows })
   unfolding rowLine
-  rows-wrong q e = row-step (Wrong q) e
+  rows-wrong q e = stops q (row-wrong vars _ q (sym e)) (row-step (Wrong q) e)
 
   module _ (k : Kind) (e : Read k ≡ rowOf vars (nextWords rowKey (lines (drop next file)))) (end : len ≡ before 10 (drop next file)) (p : Placed) (f : nestedOf p ≡ nestRow k (nestOf blocks)) where
-    pub rows-misplaced : (p .number ≡ 0 → ⊥) → rowLines vars n (4 + vars) (lines (drop at file)) noRows ≡ refused (p .number) (4 + vars + i)
+    pub rows-misplaced : (p .number ≡ 0 → ⊥) → RowsRead file at vars n t (record { number = p .number; place = 4 + vars + i; at = next; blocks = blocks; rows = rows })
     unfolding rowLine placed nestedOf
-    rows-misplaced z = row-step (Read k) e ∙ rw (← f, ne-eqb (p .number) 0 z) refl
+    rows-misplaced z = stops (p .number) z (row-step (Read k) e ∙ rw (← f, ne-eqb (p .number) 0 z) refl)
+
+    -- the row can stand in the table
+    pub rows-fine : vars ≤ 16 → Fine k
+    rows-fine v = let (a, b) = Reading.row-fine vars (nextWords rowKey (lines (drop next file))) k (sym e) in row-fine vars v k a b
 
     there : before 10 (drop next file) < length (drop next file)
     there = row-line vars (drop next file) k (sym e)
@@ -191,12 +238,15 @@ module _ (file : List ℕ) (at vars n : ℕ) (rows : List Row) (blocks : Blocks)
     pub rows-long : next + len + 1 ≤ length file
     rows-long = omega (arith, there, length-drop next file, u .within)
 
-    pub rows-more : n ≤ 256 → p .number ≡ 0 → Shallow (p .blocks) → RowsUpto file at vars n (set rows i (record { kind = k })) (p .blocks) (next + len + 1) (i + 1)
+    pub rows-more : (new : List (List ℕ)) → table.rowsOf new ≡ set (table.rowsOf t) i (record { kind = k }) → n ≤ 256 → p .number ≡ 0 → Shallow (p .blocks)
+        → RowsUpto file at vars n new (set rows i (record { kind = k })) (p .blocks) (next + len + 1) (i + 1)
     unfolding rowLine placed nestedOf
-    rows-more small z s = record {
+    rows-more new put small z s = record {
       few = omega arith;
       within = rows-long;
       size = length-set rows i (record { kind = k }) ∙ u .size;
+      table-size = put-length t new i (record { kind = k }) put ∙ u .table-size;
+      packed = packed-more rows t new i (record { kind = k }) (omega (arith, u .size)) (omega (arith, u .table-size)) put (u .packed);
       shallow = s;
       same = row-step (Read k) e ∙ rw (← f, eq-eqb (p .number) 0 z) (
           ap (λ (ls : List (List ℕ)). rowLines vars (n - (i + 1)) (suc (4 + vars + i)) ls (record { kinds = take i (kindsOf rows) ++ (k ∷ []); nest = nestOf (p .blocks) })) onward
@@ -209,10 +259,10 @@ module _ (file : List ℕ) (at vars n : ℕ) (rows : List Row) (blocks : Blocks)
             let g : next + (before 10 (drop next file) + 1) ≡ next + len + 1 = omega arith in
             lines-next (drop next file) there ∙ ap lines (drop-drop (before 10 (drop next file) + 1) next file) ∙ ap (λ m. lines (drop m file)) g
 
-pub rows-all : (file : List ℕ) (at vars n : ℕ) (rows : List Row) (blocks : Blocks) (next i : ℕ) → RowsUpto file at vars n rows blocks next i → n ≤ i
-    → rowLines vars n (4 + vars) (lines (drop at file)) noRows ≡ read (record { kinds = take n (kindsOf rows); nest = nestOf blocks }) (lines (drop next file))
-unfolding rowLines
-rows-all file at vars n rows blocks next i u h =
+pub rows-all : (file : List ℕ) (at vars n : ℕ) (t : List (List ℕ)) (rows : List Row) (blocks : Blocks) (next i : ℕ) → RowsUpto file at vars n t rows blocks next i → n ≤ i
+    → RowsRead file at vars n t (record { number = 0; place = 4 + vars + i; at = next; blocks = blocks; rows = rows })
+unfolding rowLines given
+rows-all file at vars n t rows blocks next i u h =
     let e : i ≡ n = omega (arith, u .few) in
     let z : n - i ≡ 0 = omega arith in
-    u .same ∙ rw (z, e)
+    record { all = u .same ∙ rw (z, e); packed = λ _. subst (λ m. Packed m rows t) e (u .packed) }

@@ -12,15 +12,16 @@ use borrow.Author.Tests.{eq-eqb, ne-eqb, eqb-true, eqb-false, le-leb, lt-leb, lt
 use Rattle.rules.specs.Ranges.{Range}
 use Rattle.rules.specs.Scripts.{Script, ends}
 use Rattle.rules.specs.Text.{prefixed, split}
-use Rattle.rules.specs.File.{Reading, read, refused, Rows, andThen, unless, sooner, asksRest, asksClosed, lastLine, rangeLines, rowLines, noRows, countLine, varsKey, scriptLine, rangePart, linesScript, fileScript}
+use Rattle.rules.specs.File.{Reading, read, refused, andThen, unless, sooner, asksRest, asksClosed, lastLine, rangeLines, rowLines, noRows, countLine, varsKey, scriptLine, rangePart, linesScript, fileScript}
 use Rattle.nesting.specs.Open.{nestOf}
 use Rattle.nesting.proofs.Laws.{closed-depth, open-depth}
 use Rattle.reader.specs.declared.Counted.{Counted}
 use Rattle.reader.specs.declared.Ranges.{Ranges}
-use Rattle.reader.specs.declared.Listed.{Listed}
 use Rattle.reader.specs.declared.Head.{Head}
-use Rattle.reader.specs.Read.{lines, countOf, CountRead, rangesOf, RangesRead, rowsOf, RowsRead, headOf, lastNo, scriptOf, loadedOf}
+use Rattle.reader.specs.Read.{lines, countOf, CountRead, rangesOf, RangesRead, headOf, lastNo, scriptOf, loadedOf}
+use Rattle.table.specs.Code.{Packed}
 use Rattle.reader.proofs.Lines.{split-some}
+use Rattle.reader.proofs.Fill.{Stop, given, RowsRead}
 
 -- bytes after the last line
 rest-some : (s : List ℕ) → 0 < length s → asksRest (lines s) ≡ 3
@@ -37,16 +38,16 @@ unfolding split
 rest-none [] h = refl
 rest-none (x ∷ t) h = absurd (omega arith)
 
-module _ (file : List ℕ) (at vars n : ℕ) (l : Listed) (f : RowsRead file at vars n l) (ranges : List Range) where
+module _ (file : List ℕ) (at vars n : ℕ) (t : List (List ℕ)) (l : Stop) (f : RowsRead file at vars n t l) (ranges : List Range) where
   pub rows-refused : (l .number ≡ 0 → ⊥) → andThen (rowLines vars n (4 + vars) (lines (drop at file)) noRows) (lastLine (4 + vars + n) ranges) ≡ refused (l .number) (l .place)
-  unfolding andThen rowsOf
+  unfolding andThen given
   rows-refused z = rw (f .all, ne-eqb (l .number) 0 z) refl
 
   module _ (z : l .number ≡ 0) where
     -- the rows are read: the line after the last
     last : andThen (rowLines vars n (4 + vars) (lines (drop at file)) noRows) (lastLine (4 + vars + n) ranges)
         ≡ lastLine (4 + vars + n) ranges (record { kinds = take n (kindsOf (l .rows)); nest = nestOf (l .blocks) }) (lines (drop (l .at) file))
-    unfolding andThen rowsOf
+    unfolding andThen given
     last = rw (f .all, eq-eqb (l .number) 0 z) refl
 
     ends-at : length file ≤ l .at → lines (drop (l .at) file) ≡ [] ∷ []
@@ -107,30 +108,40 @@ unfolding fileScript
 file-long file h = rw (lt-leb (length file) 16_384 h)
 
 -- a head and what follows it: the first no of both, and the script
-module _ (file : List ℕ) (h : Head) (l : Listed) (f : RowsRead file (h .at) (h .vars) (h .count) l) (q p : ℕ)
+module _ (file : List ℕ) (h : Head) (t : List (List ℕ)) (l : Stop) (f : RowsRead file (h .at) (h .vars) (h .count) t l) (q p : ℕ)
     (number : q ≡ lastNo (l .number) (l .number) (ltb (l .at) (length file)) (l .blocks .depth) 3 6)
     (place : p ≡ lastNo (l .number) (l .place) (ltb (l .at) (length file)) (l .blocks .depth) (4 + h .vars + h .count) (4 + h .vars + h .count)) where
   abbrev pub tail : Reading Script
   tail = andThen (rowLines (h .vars) (h .count) (4 + h .vars) (lines (drop (h .at) file)) noRows) (lastLine (4 + h .vars + h .count) (ends (h .vars) (h .low) (h .high)))
 
-  abbrev pub given : Reading Script
-  given = cond (eqb q 0) (read (record { ranges = ends (h .vars) (h .low) (h .high); rows = take (h .count) (kindsOf (l .rows)) }) ([] ∷ [])) (refused q p)
+  abbrev pub whole : Reading Script
+  whole = cond (eqb q 0) (read (record { ranges = ends (h .vars) (h .low) (h .high); rows = take (h .count) (kindsOf (l .rows)) }) ([] ∷ [])) (refused q p)
 
-  pub tail-read : tail ≡ given
+  pub tail-read : tail ≡ whole
   unfolding lastNo
   tail-read = go (eqb (l .number) 0) (ltb (l .at) (length file)) (eqb (l .blocks .depth) 0) refl refl refl
     where
-      go : (a b d : Bool) → eqb (l .number) 0 ≡ a → ltb (l .at) (length file) ≡ b → eqb (l .blocks .depth) 0 ≡ d → tail ≡ given
-      go false b d x y w = rows-refused file (h .at) (h .vars) (h .count) l f _ (eqb-false _ _ x) ∙ rw (number, place, x, x) refl
-      go true true d x y w = bytes-after file (h .at) (h .vars) (h .count) l f _ (eqb-true _ _ x) (ltb-true _ _ y) ∙ rw (number, place, x, y) refl
-      go true false false x y w = left-open file (h .at) (h .vars) (h .count) l f _ (eqb-true _ _ x) (ltb-false _ _ y) (eqb-false _ _ w) ∙ rw (number, place, x, y, w) refl
-      go true false true x y w = all-read file (h .at) (h .vars) (h .count) l f _ (eqb-true _ _ x) (ltb-false _ _ y) (eqb-true _ _ w) ∙ rw (number, x, y, w) refl
+      go : (a b d : Bool) → eqb (l .number) 0 ≡ a → ltb (l .at) (length file) ≡ b → eqb (l .blocks .depth) 0 ≡ d → tail ≡ whole
+      go false b d x y w = rows-refused file (h .at) (h .vars) (h .count) t l f _ (eqb-false _ _ x) ∙ rw (number, place, x, x) refl
+      go true true d x y w = bytes-after file (h .at) (h .vars) (h .count) t l f _ (eqb-true _ _ x) (ltb-true _ _ y) ∙ rw (number, place, x, y) refl
+      go true false false x y w = left-open file (h .at) (h .vars) (h .count) t l f _ (eqb-true _ _ x) (ltb-false _ _ y) (eqb-false _ _ w) ∙ rw (number, place, x, y, w) refl
+      go true false true x y w = all-read file (h .at) (h .vars) (h .count) t l f _ (eqb-true _ _ x) (ltb-false _ _ y) (eqb-true _ _ w) ∙ rw (number, x, y, w) refl
 
   pub load-read : (a b : ℕ) → a ≡ cond (eqb (h .number) 0) q (h .number) → b ≡ cond (eqb (h .number) 0) p (h .place)
-      → loadedOf (record { number = a; place = b; vars = h .vars; count = h .count; low = h .low; high = h .high; rows = l .rows }) ≡ headOf file h
+      → loadedOf (record { number = a; place = b; head = h; rows = l .rows }) ≡ headOf file h
   unfolding loadedOf scriptOf headOf
   load-read a b x y = go (eqb (h .number) 0) refl
     where
-      go : (t : Bool) → eqb (h .number) 0 ≡ t → loadedOf (record { number = a; place = b; vars = h .vars; count = h .count; low = h .low; high = h .high; rows = l .rows }) ≡ headOf file h
+      go : (t : Bool) → eqb (h .number) 0 ≡ t → loadedOf (record { number = a; place = b; head = h; rows = l .rows }) ≡ headOf file h
       go true e = rw (x, y, e) (sym tail-read)
       go false e = rw (x, y, e, e) refl
+
+  -- no question has no: the rows are in the table
+  pub load-packed : (a : ℕ) → a ≡ cond (eqb (h .number) 0) q (h .number) → a ≡ 0 → Packed (h .count) (l .rows) t
+  unfolding lastNo
+  load-packed a x z = go (eqb (h .number) 0) (eqb (l .number) 0) refl refl
+    where
+      go : (b d : Bool) → eqb (h .number) 0 ≡ b → eqb (l .number) 0 ≡ d → Packed (h .count) (l .rows) t
+      go b true y w = f .packed (eqb-true _ _ w)
+      go false false y w = absurd (eqb-false _ _ y (rw y at (sym x ∙ z)))
+      go true false y w = absurd (eqb-false _ _ w (sym (rw w at number) ∙ sym (rw y at x) ∙ z))

@@ -5,23 +5,20 @@ use mathlib.Core.List.{List, [], _∷_, _++_}
 use Prim.Native.Nat.{ℕ, zero, suc, _+_, _≤_, _<_}
 use lib.Dec.{eqb, ltb}
 use lib.IntN.{ℤ, pos}
-use lib.ListN.{length, take, drop}
+use lib.ListN.{length, drop}
 use Rattle.rules.specs.declared.Kind.{Kind}
 use Rattle.rules.specs.declared.RowRead.the-variants.{Read}
-use Rattle.rules.specs.declared.Row.{Row}
-use Rattle.rules.specs.Blocks.{kindsOf}
 use Rattle.rules.specs.Ranges.{Range}
 use Rattle.rules.specs.Scripts.{Script, ends, held}
 use Rattle.rules.specs.Text.{split, startsWith, nextWords, nextLines}
 use Rattle.rules.specs.File
-use Rattle.rules.specs.File.{Reading, read, refused, Rows, unless, countLine, asksRange, rangeKey, rowKey, rowOf, rangeLines, rowLines, noRows, andThen, lastLine}
+use Rattle.rules.specs.File.{Reading, read, refused, unless, countLine, asksRange, rangeKey, rowKey, rowOf, rangeLines, rowLines, noRows, andThen, lastLine}
 use Rattle.text.specs.Words.{before}
+use Rattle.table.specs.Code.{Packed}
 use Rattle.rows.specs.declared.Line.{Line}
 use Rattle.reader.specs.declared.Counted.{Counted}
 use Rattle.reader.specs.declared.Ranged.{Ranged}
 use Rattle.reader.specs.declared.Ranges.{Ranges}
-use Rattle.nesting.specs.Open.{nestOf}
-use Rattle.reader.specs.declared.Listed.{Listed}
 use Rattle.reader.specs.declared.Head.{Head}
 use Rattle.reader.specs.declared.Loaded.{Loaded}
 
@@ -80,15 +77,6 @@ pub record RangesRead (file : List ℕ) (at n : ℕ) (r : Ranges) : Type 0 where
   pub all : rangeLines n 3 (lines (drop at file)) [] ≡ rangesOf file n r
   pub within : r .at ≤ length file
 
--- all row lines of a file, n of them
-unfoldable pub rowsOf : List ℕ → ℕ → Listed → Reading Rows
-rowsOf file n r =
-    cond (eqb (r .number) 0) (read (record { kinds = take n (kindsOf (r .rows)); nest = nestOf (r .blocks) }) (lines (drop (r .at) file))) (refused (r .number) (r .place))
-
-pub record RowsRead (file : List ℕ) (at vars n : ℕ) (r : Listed) : Type 0 where
-  pub all : rowLines vars n (4 + vars) (lines (drop at file)) noRows ≡ rowsOf file n r
-  pub within : r .at ≤ length file
-
 -- what the rest of a file gives after its head
 unfoldable pub headOf : List ℕ → Head → Reading Script
 headOf file h =
@@ -107,8 +95,13 @@ lastNo number own more depth a b = cond (eqb number 0) (cond more a (cond (eqb d
 
 -- the script of a loaded file: the first `vars` ranges and the first `count` rows
 unfoldable pub scriptOf : Loaded → Script
-scriptOf r = held (r .rows) (r .count) (r .vars) (r .low) (r .high)
+scriptOf r = held (r .rows) (r .head .count) (r .head .vars) (r .head .low) (r .head .high)
 
 -- a loaded file, or its refusal
 unfoldable pub loadedOf : Loaded → Reading Script
 loadedOf r = cond (eqb (r .number) 0) (read (scriptOf r) ([] ∷ [])) (refused (r .number) (r .place))
+
+-- it has `count` rows; where it is not refused, the table holds them
+pub record Tabled (r : Loaded) (t : List (List ℕ)) : Type 0 where
+  pub long : length (scriptOf r .rows) ≡ r .head .count
+  pub packed : r .number ≡ 0 → Packed (r .head .count) (r .rows) t

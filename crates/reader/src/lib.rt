@@ -12,6 +12,7 @@ use rows::sooner;
 use rules::BLANK;
 use rules::Row;
 use rules::RowRead;
+use table::put_row;
 use text::next_word;
 use text::position;
 use text::said;
@@ -27,7 +28,7 @@ ghost use lib.ListN.{length, drop};
 ghost use Rattle.rules.specs.Scripts.{ends};
 ghost use Rattle.rules.specs.File.{refused, andThen, varsKey, scriptLine, countLine, rowPart, rangePart, fileScript};
 ghost use Rattle.text.specs.Words.{before};
-ghost use Rattle.reader.specs.Read.{keyed, clean, lines, countOf, CountRead, Within, RangeRead, LineRead, RangesRead, RowsRead, headOf, HeadWithin, lastNo, loadedOf};
+ghost use Rattle.reader.specs.Read.{keyed, clean, lines, countOf, CountRead, Within, RangeRead, LineRead, RangesRead, headOf, HeadWithin, lastNo, loadedOf, Tabled};
 
 // Whether an LF ends the next line.
 fn has_line(rest: &[u8]) -> bool
@@ -168,15 +169,6 @@ fn read_ranges(file: &[u8], at: usize, n: usize) -> Ranges
     }
 }
 
-// The rows: question 0 for none, or the first no with its line; the bytes read; the open blocks; the rows.
-pub struct Listed {
-    pub number: u32,
-    pub place: usize,
-    pub at: usize,
-    pub blocks: Blocks,
-    pub rows: [Row; 256],
-}
-
 // The next line's row.
 fn row_line(rest: &[u8], vars: u32) -> Line
     requires { ⌜ vars ≤ 16 ⌝ }
@@ -188,62 +180,6 @@ fn row_line(rest: &[u8], vars: u32) -> Line
     Line {
         row: RowRead::Wrong(3),
         end: 0,
-    }
-}
-
-// The n row lines from byte `at` on.
-fn read_rows(file: &[u8], at: usize, vars: usize, n: usize) -> Listed
-    requires { ⌜ (at ≤ length (now file)) × (vars ≤ 16) × (n ≤ 256) ⌝ }
-    ensures { λ r. ⌜ RowsRead (now (file .entry)) at vars n r ⌝ }
-{
-    let mut rows = [BLANK; 256];
-    let mut blocks = Blocks {
-        kinds: [0u8; 8],
-        depth: 0,
-        loops: 0,
-    };
-    let mut next = at;
-    let mut i: usize = 0;
-    while i < n {
-        let l = row_line(&file[next..], vars as u32);
-        let r = l.row;
-        let len = l.end;
-        match r {
-            RowRead::Read(kind) => {
-                let p = nest_row(kind, blocks);
-                let number = p.number;
-                if number != 0 {
-                    return Listed {
-                        number,
-                        place: 4 + vars + i,
-                        at: next,
-                        blocks,
-                        rows,
-                    };
-                }
-                let after = p.blocks;
-                blocks = after;
-                rows[i] = Row { kind };
-                next = next + len + 1;
-                i += 1;
-            }
-            RowRead::Wrong(q) => {
-                return Listed {
-                    number: q,
-                    place: 4 + vars + i,
-                    at: next,
-                    blocks,
-                    rows,
-                };
-            }
-        }
-    }
-    Listed {
-        number: 0,
-        place: 0,
-        at: next,
-        blocks,
-        rows,
     }
 }
 
@@ -377,39 +313,72 @@ fn first_no(number: u32, place: usize, rest: No) -> No
     rest
 }
 
-// A loaded file: question 0 for none, or the first no with its place; the ranges' ends and the rows.
+// A loaded file: question 0 for none, or the first no with its place; what its head says, and its rows.
 pub struct Loaded {
     pub number: u32,
     pub place: usize,
-    pub vars: usize,
-    pub count: usize,
-    pub low: [i32; 16],
-    pub high: [i32; 16],
+    pub head: Head,
     pub rows: [Row; 256],
 }
 
-// A file's script, or its first no. Each file has one array of rows, refused or not: no copy where ways meet.
-pub fn load(file: &[u8]) -> Loaded
-    ensures { λ r. ⌜ (loadedOf r ≡ fileScript (now (file .entry))) × (r .count ≤ 256) ⌝ }
+// No block is open.
+const NONE_OPEN: Blocks = Blocks {
+    kinds: [0; 8],
+    depth: 0,
+    loops: 0,
+};
+
+// The row lines after a head, and the line after the last. Each file has one array of rows, refused or not: no copy where ways meet.
+fn read_rows(file: &[u8], h: Head, table: &mut [[u32; 9]; 256]) -> Loaded
+    requires { ⌜ HeadWithin (now file) h × (length (now table) ≡ 256) ⌝ }
+    ensures { λ r. ⌜ (loadedOf r ≡ headOf (now (file .entry)) h) × Tabled r (now (table .exit)) ⌝ }
 {
-    let h = load_head(file);
     let vars = h.vars;
     let count = h.count;
-    let low = h.low;
-    let high = h.high;
-    let l = read_rows(file, h.at, vars, count);
-    let b = l.blocks;
-    let more = l.at < file.len();
-    let rest = last_no(l.number, l.place, more, b.depth, 4 + vars + count);
+    let mut rows = [BLANK; 256];
+    let mut blocks = NONE_OPEN;
+    let mut next = h.at;
+    let mut stopped: u32 = 0;
+    let mut i: usize = 0;
+    while i < count {
+        let l = row_line(&file[next..], vars as u32);
+        let r = l.row;
+        match r {
+            RowRead::Read(kind) => {
+                let p = nest_row(kind, blocks);
+                stopped = p.number;
+                if stopped != 0 {
+                    break;
+                }
+                let after = p.blocks;
+                blocks = after;
+                rows[i] = Row { kind };
+                put_row(table, i, kind);
+                next = next + l.end + 1;
+                i += 1;
+            }
+            RowRead::Wrong(q) => {
+                stopped = q;
+                break;
+            }
+        }
+    }
+    let more = next < file.len();
+    let rest = last_no(stopped, 4 + vars + i, more, blocks.depth, 4 + vars + count);
     let no = first_no(h.number, h.place, rest);
-    let rows = l.rows;
     Loaded {
         number: no.number,
         place: no.place,
-        vars,
-        count,
-        low,
-        high,
+        head: h,
         rows,
     }
+}
+
+// A file's script, or its first no. Its rows are in the table too.
+pub fn load(file: &[u8], table: &mut [[u32; 9]; 256]) -> Loaded
+    requires { ⌜ length (now table) ≡ 256 ⌝ }
+    ensures { λ r. ⌜ (loadedOf r ≡ fileScript (now (file .entry))) × Tabled r (now (table .exit)) ⌝ }
+{
+    let h = load_head(file);
+    read_rows(file, h, table)
 }

@@ -12,7 +12,7 @@ use Rattle.rules.specs.declared.Kind.{Kind}
 use Rattle.rules.specs.declared.Kind.the-variants.{Set, Move, Cue, Pick, Else, End, While, Do, For}
 use Rattle.rules.specs.declared.Step.{Step}
 use Rattle.rules.specs.declared.Step.the-variants.{Add, Grow, Shrink, Unknown}
-use Rattle.rules.specs.Blocks.{changed, Plain, assign, Block, done, plain, pick, loop, snoc}
+use Rattle.rules.specs.Blocks.{changed, Plain, assign, cue, Block, done, plain, pick, loop, snoc}
 use Rattle.rules.specs.Steps.{still, sets, starts, assigns, sourceStep, changeStep, rowStep, then, either, stepFrom, step}
 use Rattle.rules.specs.Bounds.{Ends, Fine}
 use Rattle.rules.proofs.Ends.{ends-more, ends-only, still-ends, then-ends, either-ends, change-ends}
@@ -132,14 +132,10 @@ body-is v (Do w c x) h i b = then-still (step v b)
 body-is v (For w s c x d) h i b = sym (step-snoc still v b i (assign w (changed d)))
 
 -- a row that does not assign v leaves its step as it is
-pub step-stays : (s : Step) (v : ℕ) (k : Kind) → sets v (plainOf k) ≡ false → then s (rowStep v (plainOf k)) ≡ s
+pub row-still : (v : ℕ) (p : Plain) → sets v p ≡ false → rowStep v p ≡ still
 unfolding rowStep sets
-step-stays s v (Set w x) h = rw h (then-still s)
-step-stays s v (Move w c) h = rw h (then-still s)
-step-stays s v (Cue n) h = then-still s
-step-stays s v Pick h = then-still s
-step-stays s v Else h = then-still s
-step-stays s v End h = then-still s
-step-stays s v (While w c x) h = then-still s
-step-stays s v (Do w c x) h = then-still s
-step-stays s v (For w y c x d) h = rw h (then-still s)
+row-still v (assign w x) h = rw h
+row-still v (cue n) h = refl
+
+pub step-stays : (s : Step) (v : ℕ) (p : Plain) → sets v p ≡ false → then s (rowStep v p) ≡ s
+step-stays s v p h = rw (row-still v p h) (then-still s)

@@ -1,6 +1,6 @@
 -- What the tag of a row tells of it.
 use mathlib.Core.Path.{_≡_, refl}
-use mathlib.Core.Bool.{Bool, true, cond, _&&_, false≢true}
+use mathlib.Core.Bool.{Bool, true, false, cond, _&&_, false≢true}
 use mathlib.Core.List.{List}
 use Prim.Native.Nat.{ℕ, _+_, _<_}
 use native.Mathlib.Omega.{arith}
@@ -8,10 +8,11 @@ use borrow.Author.Tests.{eqb-true, ne-eqb, lt-ltb, le-ltb}
 use lib.Dec.{eqb, ltb}
 use Rattle.rules.specs.declared.Kind.{Kind}
 use Rattle.rules.specs.declared.Kind.the-variants.{Set, Move, Cue, Pick, Else, End, While, Do, For}
-use Rattle.rules.specs.Steps.{sets}
-use Rattle.rules.specs.Bounds.{Fine}
-use Rattle.table.specs.Code.{number, numbersAt, variableIn, kindAt, rowsOf}
-use Rattle.table.proofs.Laws.{kind-in, by-tag}
+use Rattle.rules.specs.declared.Step.the-variants.{Unknown}
+use Rattle.rules.specs.Steps.{sets, rowStep, sourceStep, changeStep}
+use Rattle.rules.specs.Bounds.{Fine, FineChange}
+use Rattle.table.specs.Code.{number, numbersAt, variableIn, stepIn, kindAt, rowsOf}
+use Rattle.table.proofs.Laws.{kind-in, by-tag, set-at}
 use Rattle.steps.specs.declared.Shape.{Shape}
 use Rattle.steps.specs.Tree.{shapeOf, plainOf, pastElse}
 
@@ -42,6 +43,22 @@ module _ (rows : List (List ℕ)) (i : ℕ) where
       rw (kind-in rows i)
       (by-tag (numbersAt rows i) (λ t k. sets w (plainOf k) ≡ (assignsBy t && eqb w (variableIn (numbersAt rows i)))) refl refl refl refl refl refl refl refl
       (λ t h. rw (le-ltb t 5 (omega arith), lt-ltb 7 t h)))
+
+  -- a row that assigns v: a set, or a change
+  pub step-set : (v : ℕ) → number (numbersAt rows i) 0 ≡ 3 → sets v (plainOf (kindAt (rowsOf rows) i)) ≡ true → rowStep v (plainOf (kindAt (rowsOf rows) i)) ≡ Unknown
+  unfolding rowStep sourceStep sets
+  step-set v q h = let a = set-at rows i q in rw (a, rw a at h)
+
+  pub step-change : (v : ℕ) → (number (numbersAt rows i) 0 ≡ 3 → ⊥) → Fine (kindAt (rowsOf rows) i) → sets v (plainOf (kindAt (rowsOf rows) i)) ≡ true
+      → FineChange (stepIn (numbersAt rows i)) × (rowStep v (plainOf (kindAt (rowsOf rows) i)) ≡ changeStep (stepIn (numbersAt rows i)))
+  unfolding rowStep sourceStep sets
+  step-change v =
+      rw (kind-in rows i)
+      (by-tag (numbersAt rows i) (λ t k. (t ≡ 3 → ⊥) → Fine k → sets v (plainOf k) ≡ true → FineChange (stepIn (numbersAt rows i)) × (rowStep v (plainOf k) ≡ changeStep (stepIn (numbersAt rows i))))
+      none none none (λ n f h. absurd (n refl)) (λ n f h. (f .1, rw h)) none none none (λ t l n f h. (f .3, rw h)))
+    where
+      none : {A B C : Type 0} → A → B → false ≡ true → C
+      none n f h = absurd (false≢true h)
 
 -- a row assigns one of the 16 variables
 pub sets-small : (k : Kind) (w : ℕ) → Fine k → sets w (plainOf k) ≡ true → w < 16

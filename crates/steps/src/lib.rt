@@ -1,9 +1,8 @@
 // How a variable moves in one turn: walks over the rows of a block, nested blocks first.
-use rules::Kind;
 use rules::Step;
 use rules::change_step;
 use rules::only;
-use table::kind_at;
+use table::change_at;
 use table::tag_at;
 use table::variable_at;
 ghost use mathlib.Core.Path.{_≡_};
@@ -105,30 +104,26 @@ pub fn has(set: [bool; 16], v: u8) -> bool
     set[i]
 }
 
-// The step of a row; of a for, the step of its step row.
-pub fn row_step(kind: Kind, v: u8) -> Step
-    requires { ⌜ Fine kind ⌝ }
-    ensures { λ r. ⌜ r ≡ rowStep v (plainOf kind) ⌝ }
-{
-    match kind {
-        Kind::Set(w, _) => only(v == w, Step::Unknown),
-        Kind::Move(w, c) => only(v == w, change_step(c)),
-        Kind::Cue(_) => Step::STILL,
-        Kind::Pick => Step::STILL,
-        Kind::Else => Step::STILL,
-        Kind::End => Step::STILL,
-        Kind::While(_, _, _) => Step::STILL,
-        Kind::Do(_, _, _) => Step::STILL,
-        Kind::For(w, _, _, _, c) => only(v == w, change_step(c)),
-    }
-}
-
 // Does a plain row assign v, or a for's step row?
 fn sets_it(rows: &[[u32; 9]; 256], i: usize, v: u8) -> bool
     requires { ⌜ i < 256 ⌝ }
     ensures { λ r. ⌜ r ≡ sets v (plainOf (kindAt (rowsOf (now (rows .entry))) i)) ⌝ }
 {
     assigns(rows, i) && v == variable_at(rows, i)
+}
+
+// The step of a row; of a for, the step of its step row.
+fn row_step(rows: &[[u32; 9]; 256], i: usize, v: u8) -> Step
+    requires { ⌜ (i < 256) × Fine (kindAt (rowsOf (now rows)) i) ⌝ }
+    ensures { λ r. ⌜ r ≡ rowStep v (plainOf (kindAt (rowsOf (now (rows .entry))) i)) ⌝ }
+{
+    if !sets_it(rows, i, v) {
+        return Step::STILL;
+    }
+    if tag_at(rows, i) == 3 {
+        return Step::Unknown;
+    }
+    change_step(change_at(rows, i))
 }
 
 // The step of one variable over some rows, and the row after them.
@@ -155,8 +150,7 @@ pub fn moves_of(
             Shape::Plain => {
                 add_row(set, rows, i);
                 if sets_it(rows, i, v) {
-                    let kind = kind_at(rows, i);
-                    step = step.then(row_step(kind, v));
+                    step = step.then(row_step(rows, i, v));
                 }
                 i = i + 1;
             }
@@ -203,7 +197,6 @@ pub fn body_moves(rows: &[[u32; 9]; 256], count: usize, i: usize, v: u8) -> Move
     requires { ⌜ AtLoop (rowsOf (now rows)) count i × (v < 16) ⌝ }
     ensures { λ r. ⌜ BodyMoves (rowsOf (now (rows .entry))) count i v r ⌝ }
 {
-    let kind = kind_at(rows, i);
     let mut set = [false; 16];
     let body = moves_of(rows, count, i + 1, v, &mut set);
     add_row(&mut set, rows, i);
@@ -211,7 +204,7 @@ pub fn body_moves(rows: &[[u32; 9]; 256], count: usize, i: usize, v: u8) -> Move
     let next = body.next;
     Moves {
         set: set,
-        step: step.then(row_step(kind, v)),
+        step: step.then(row_step(rows, i, v)),
         next: next,
     }
 }

@@ -2,18 +2,17 @@
 use lines::put_line;
 use ranges::after;
 use ranges::at_start;
-use ranges::bounds;
+use ranges::bounds_in;
 use ranges::head_of;
 use ranges::inside;
 use ranges::is_do;
 use ranges::joined;
 use ranges::outside;
-use ranges::span_at;
+use ranges::span_in;
 use ranges::step_row;
 use rules::Kind;
 use rules::LoopLine;
 use rules::Operand;
-use rules::Row;
 use rules::Step;
 use steps::Shape;
 use steps::body_moves;
@@ -21,7 +20,6 @@ use steps::has;
 use steps::past_else;
 use steps::shape_at;
 use table::kind_at;
-use table::table_of;
 use ticks::LIMIT;
 use ticks::first_over;
 use ticks::loop_ticks;
@@ -80,9 +78,9 @@ struct Turning {
 }
 
 // The loop at row i, from the ranges at its start.
-fn one_loop(rows: &[[u32; 9]; 256], count: usize, i: usize, begun: [[i32; 2]; 16]) -> Turning
+fn one_loop(rows: &[[u32; 9]; 256], count: usize, i: usize, begun: &[[i32; 2]; 16]) -> Turning
     requires { ⌜ AtLoop (rowsOf (now rows)) count i ⌝ }
-    ensures { λ r. ⌜ LoopOf (rowsOf (now (rows .entry))) count i (envOf begun) r ⌝ }
+    ensures { λ r. ⌜ LoopOf (rowsOf (now (rows .entry))) count i (envOf (now (begun .entry))) r ⌝ }
 {
     let kind = kind_at(rows, i);
     let head = head_of(kind);
@@ -93,8 +91,8 @@ fn one_loop(rows: &[[u32; 9]; 256], count: usize, i: usize, begun: [[i32; 2]; 16
     let set = body.set;
     let next = body.next;
     let step = body.step;
-    let s = span_at(begun, v);
-    let n = bounds(begun, limit);
+    let s = span_in(begun, v);
+    let n = bounds_in(begun, limit);
     let figure = ask(is_do(kind), step, keeps(limit, set), comparison, s, n);
     Turning {
         number: figure.number,
@@ -278,8 +276,8 @@ fn walk(
             }
             Shape::Loop => {
                 let kind = kind_at(rows, i);
-                let begun = at_start(r, kind);
-                let one = one_loop(rows, count, i, begun);
+                at_start(&mut r, kind);
+                let one = one_loop(rows, count, i, &r);
                 if one.number != 0 {
                     return refused(t, one.number, i);
                 }
@@ -287,14 +285,15 @@ fn walk(
                 let turns = one.turns;
                 let total = times(turns, outer);
                 let first = lined(lines, t, i, one, total, last_ticks(kind));
-                let body = walk(rows, count, i + 1, inside(kind, set, begun), total, lines, first);
+                let mut begun = r;
+                inside(&mut begun, kind, set);
+                let body = walk(rows, count, i + 1, begun, total, lines, first);
                 if body.number != 0 {
                     return body;
                 }
                 let step = one.step;
                 let e = one.next;
-                let x = outside(kind, set, step, begun);
-                r = x;
+                outside(&mut r, kind, set, step);
                 t = closed(t, body, e, loop_ticks(kind, turns, body.spent));
                 i = e + 1;
             }
@@ -350,14 +349,14 @@ pub struct Figures {
 
 // The first `count` rows and the first `vars` ranges of a script that has passed the questions 4 to 7.
 pub fn survey(
-    rows: [Row; 256],
+    rows: &[[u32; 9]; 256],
     count: usize,
     ranges: [[i32; 2]; 16],
     vars: usize,
     lines: &mut [[u64; 7]; 16],
 ) -> Figures
-    requires { ⌜ Legal (scriptOf ranges vars rows count) × (count ≤ 256) × BlankFrom vars ranges × (length (now lines) ≡ 16) ⌝ }
-    ensures { λ r. ⌜ SurveyOf (scriptOf ranges vars rows count) count r (now (lines .exit)) ⌝ }
+    requires { ⌜ Legal (scriptOf ranges vars (rowsOf (now rows)) count) × (count ≤ 256) × (count ≤ length (now rows)) × BlankFrom vars ranges × (length (now lines) ≡ 16) ⌝ }
+    ensures { λ r. ⌜ SurveyOf (scriptOf ranges vars (rowsOf (now (rows .entry))) count) count r (now (lines .exit)) ⌝ }
 {
     let empty = Tally {
         number: 0,
@@ -367,8 +366,7 @@ pub fn survey(
         loops: 0,
         next: 0,
     };
-    let table = table_of(rows, count);
-    let t = walk(&table, count, 0, ranges, 1, lines, empty);
+    let t = walk(rows, count, 0, ranges, 1, lines, empty);
     let no = first_no(t, count);
     Figures {
         number: no.number,

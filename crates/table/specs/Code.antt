@@ -3,10 +3,10 @@
 use mathlib.Core.Path.{_≡_}
 use mathlib.Core.Bool.{Bool, cond}
 use mathlib.Core.List.{List, [], map}
-use Prim.Native.Nat.{ℕ, _<_, min}
+use Prim.Native.Nat.{ℕ, min}
 use lib.Dec.{eqb}
 use lib.IntN.{ℤ, pos, _-ℤ_}
-use lib.ListN.{getD}
+use lib.ListN.{getD, take}
 use Rattle.rules.specs.declared.Row.{Row}
 use Rattle.rules.specs.declared.Kind.{Kind}
 use Rattle.rules.specs.declared.Kind.the-variants.{Set, Move, Cue, Pick, Else, End, While, Do, For}
@@ -16,6 +16,7 @@ use Rattle.rules.specs.declared.Comparison.{Comparison}
 use Rattle.rules.specs.declared.Comparison.the-variants.{Less, AtMost, Greater, AtLeast, Equal, Different}
 use Rattle.rules.specs.declared.Change.{Change}
 use Rattle.rules.specs.declared.Change.the-variants.{Add, Sub, Mul, Div}
+use Rattle.rules.specs.Blocks.{kindsOf}
 
 abbrev pub constantIn : ℕ → ℤ
 constantIn x = pos x -ℤ pos 2_147_483_648
@@ -76,4 +77,4 @@ kindAt rows i = getD rows i nothing .kind
 
 -- the table holds the first `count` rows
 abbrev pub Packed : ℕ → List Row → List (List ℕ) → Type 0
-Packed count rows t = (i : ℕ) → i < count → kindAt (rowsOf t) i ≡ kindAt rows i
+Packed count rows t = take count (kindsOf (rowsOf t)) ≡ take count (kindsOf rows)

@@ -3,12 +3,12 @@ use rules::Change;
 use rules::Comparison;
 use rules::Kind;
 use rules::Operand;
-use rules::Row;
 ghost use mathlib.Core.Path.{_≡_};
-ghost use Prim.Native.Nat.{ℕ, _≤_, _<_, min};
+ghost use Prim.Native.Nat.{_<_, min};
+ghost use lib.ListN.{set};
 ghost use Rattle.rules.specs.Bounds.{Near, Fine, FineOperand};
 ghost use Rattle.rules.specs.declared.Kind.{Kind};
-ghost use Rattle.table.specs.Code.{constantIn, operandIn, comparisonIn, changeIn, number, variableIn, startIn, stepIn, kindIn, numbersAt, kindAt, rowsOf, Packed};
+ghost use Rattle.table.specs.Code.{constantIn, operandIn, comparisonIn, changeIn, number, variableIn, startIn, stepIn, kindIn, numbersAt, kindAt, rowsOf};
 
 // A byte of the table.
 fn byte(x: u32) -> u8
@@ -292,20 +292,11 @@ fn row_code(kind: Kind) -> [u32; 9]
     }
 }
 
-// The table of the first `count` rows.
-pub fn table_of(rows: [Row; 256], count: usize) -> [[u32; 9]; 256]
-    requires { ⌜ (count ≤ 256) × ((i : ℕ) → i < count → Fine (kindAt rows i)) ⌝ }
-    ensures { λ r. ⌜ Packed count rows r ⌝ }
+// Row i becomes `kind`.
+pub fn put_row(table: &mut [[u32; 9]; 256], i: usize, kind: Kind)
+    requires { ⌜ (i < 256) × Fine kind ⌝ }
+    ensures { λ _. ⌜ rowsOf (now (table .exit)) ≡ set (rowsOf (now (table .entry))) i (record { kind = kind }) ⌝ }
 {
-    let none: [u32; 9] = [0; 9];
-    let mut table = [none; 256];
-    let mut i: usize = 0;
-    while i < count {
-        let row = rows[i];
-        let kind = row.kind;
-        let e = row_code(kind);
-        table[i] = e;
-        i += 1;
-    }
-    table
+    let e = row_code(kind);
+    table[i] = e;
 }

@@ -147,7 +147,7 @@ fn packed(s: &[u8]) -> u64
     n
 }
 
-// The tags of the words that are no keywords or comparisons; those have the tags below.
+// The tags of the words that are no keyword or comparison.
 const OTHER: u32 = 18;
 
 const MISSING: u32 = 19;
@@ -156,7 +156,7 @@ const NUMBER: u32 = 20;
 
 const VARIABLE: u32 = 21;
 
-// The word of a tag and a value.
+// The word that a tag and a value say.
 pub fn said(tag: u32, value: i32) -> Word
     ensures { λ r. ⌜ r ≡ wordIn tag value ⌝ }
 {
@@ -179,9 +179,9 @@ pub fn said(tag: u32, value: i32) -> Word
         15 => Word::Compares(Comparison::AtLeast),
         16 => Word::Compares(Comparison::Equal),
         17 => Word::Compares(Comparison::Different),
-        19 => Word::Missing,
-        20 => Word::Number(value),
-        21 => {
+        MISSING => Word::Missing,
+        NUMBER => Word::Number(value),
+        VARIABLE => {
             if value < 0 {
                 return Word::Other;
             }
@@ -237,7 +237,7 @@ fn signed(negative: bool, v: u32) -> i32
     if negative { -z } else { z }
 }
 
-// A word by its tag and value, and the byte where it ends. Numbers, not the enum: they are given in registers.
+// A word by its tag and value, and the byte where it ends. No enum: that would be stored in pieces and then copied whole, which is slow.
 pub struct Found {
     pub tag: u32,
     pub value: i32,

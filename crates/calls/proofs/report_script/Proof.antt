@@ -1,6 +1,8 @@
 -- `calls::report_script` meets its contract. Assumes nothing.
 use mathlib.Core.Path.{_≡_}
+use denote.Ref.{now}
 use Rattle.rules.specs.Scripts.{Script}
+use Rattle.table.specs.Code.{rowsOf}
 use Rattle.calls.specs.Held.{held}
 use Rattle.calls.proofs.Judging.{reported, not-reported}
 use borrow.Author.Needs.{needs}
@@ -9,7 +11,7 @@ use Rattle.calls.proofs.report_script.Tie as tie
 
 -- the script that is held
 abbrev script : tie.Start → Script
-script s = held (s .args .rows) (s .args .count) (s .args .vars) (s .args .low) (s .args .high)
+script s = held (rowsOf (now (s .args .rows))) (s .args .count) (s .args .vars) (s .args .low) (s .args .high)
 
 returns : tie.Need-returns
 returns c =

@@ -1,9 +1,8 @@
 -- `loader::report` meets its contract. Assumes nothing.
 use mathlib.Core.Path.{refl}
 use denote.Ref.{now}
-use Rattle.loader.proofs.Laws.{scratch-short, file-refused, file-read, file-given}
+use Rattle.loader.proofs.Laws.{scratch-short, file-refused, table-read, table-given}
 use Rattle.rules.specs.Calls.{replyOf, bufferOf}
-use Rattle.reader.specs.Read.{scriptOf}
 use borrow.Author.Needs.{needs}
 use Rattle.loader.proofs.report.Statement.{statement}
 use Rattle.loader.proofs.report.Tie as tie
@@ -14,15 +13,15 @@ returns c = let e = scratch-short _ (now (c .before .before .before .before .arg
 
 returns-2 : tie.Need-returns-2
 unfolding replyOf bufferOf
-returns-2 c = let e = file-refused _ _ _ (c .before .before .if1 .left) (c .before .load .ensures .0) (c .if2 .taken) in (rw e refl, (rw e refl, refl))
+returns-2 c = let e = file-refused _ _ _ (c .before .before .before .if1 .left) (c .before .load .ensures .0) (c .if2 .taken) in (rw e refl, (rw e refl, refl))
 
 report-script-requires : tie.Need-report-script-requires
-unfolding scriptOf
-report-script-requires c κs = file-given _ _ _ (c .before .before .before .before .before .before .if1 .left) (c .before .before .before .before .before .load .ensures .0) (c .before .before .before .before .if2 .left) (c .before .before .before .before .before .load .ensures .1)
+report-script-requires c κs = table-given _ _ _ (c .before .before .before .before .before .before .before .before .if1 .left) (c .before .before .before .before .before .before .load .ensures .0) (c .before .before .before .before .before .if2 .left) _ (c .before .before .before .before .before .before .load .ensures .1)
 
 returns-3 : tie.Need-returns-3
-unfolding scriptOf
-returns-3 c = let e = file-read _ _ _ (c .before .before .before .before .before .before .before .before .before .if1 .left) (c .before .before .before .before .before .before .before .before .load .ensures .0) (c .before .before .before .before .before .before .before .if2 .left) in (rw e (c .before .before .report-script .ensures .0), (rw e (c .before .before .report-script .ensures .1), refl))
+returns-3 c =
+    let e = table-read _ _ _ (c .before .before .before .before .before .before .before .before .before .before .before .if1 .left) (c .before .before .before .before .before .before .before .before .before .load .ensures .0) (c .before .before .before .before .before .before .before .before .if2 .left) _ (c .before .before .before .before .before .before .before .before .before .load .ensures .1) in
+    (rw e (c .before .before .report-script .ensures .0), (rw e (c .before .before .report-script .ensures .1), refl))
 
 pub report-spec : {M : Type 1} → statement M
 report-spec =

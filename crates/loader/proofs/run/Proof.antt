@@ -14,18 +14,18 @@ returns c = let e = scratch-short _ (now (c .before .before .before .before .bef
     (r, (kept-call _ _ _ _ _ _ _ r, refl))
 
 returns-2 : tie.Need-returns-2
-returns-2 c = let e = file-refused _ _ _ (c .before .before .before .if1 .left) (c .before .before .load .ensures .0) (c .before .if2 .taken) in
+returns-2 c = let e = file-refused _ _ _ (c .before .before .before .before .if1 .left) (c .before .before .load .ensures .0) (c .before .if2 .taken) in
     let r = ran-refused _ _ _ _ _ _ _ e (c .refusal2 .ensures) in
     (r, (kept-call _ _ _ _ _ _ _ r, refl))
 
 run-script-requires : tie.Need-run-script-requires
 unfolding scriptOf
-run-script-requires c κs = file-given _ _ _ (c .before .before .before .before .before .before .if1 .left) (c .before .before .before .before .before .load .ensures .0) (c .before .before .before .before .if2 .left) (c .before .before .before .before .before .load .ensures .1)
+run-script-requires c κs = (file-given _ _ _ (c .before .before .before .before .before .before .before .before .before .if1 .left) (c .before .before .before .before .before .before .before .load .ensures .0) (c .before .before .before .before .before .before .if2 .left) _ (c .before .before .before .before .before .before .before .load .ensures .1), c .before .before .before .before .before .before .before .load .ensures .1 .packed (c .before .before .before .before .before .before .if2 .left))
 
 returns-3 : tie.Need-returns-3
 unfolding scriptOf
-returns-3 c = let s = c .before .before .before .before .before .before .before .before .before .before .before .before in
-    let e = file-read (length (now (s .args .scratch))) (now (s .args .file)) _ (c .before .before .before .before .before .before .before .before .if1 .left) (c .before .before .before .before .before .before .before .load .ensures .0) (c .before .before .before .before .before .before .if2 .left) in
+returns-3 c = let s = c .before .before .before .before .before .before .before .before .before .before .before .before .before .before .before in
+    let e = file-read (length (now (s .args .scratch))) (now (s .args .file)) _ (c .before .before .before .before .before .before .before .before .before .before .before .if1 .left) (c .before .before .before .before .before .before .before .before .before .load .ensures .0) (c .before .before .before .before .before .before .before .before .if2 .left) in
     let r = ran-same _ _ _ _ _ _ _ e (c .before .run-script .ensures .0) in
     (r, (kept-call _ _ _ _ _ _ _ r, refl))
 

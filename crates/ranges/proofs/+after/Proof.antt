@@ -50,7 +50,7 @@ pick-2 : (t : ℕ) (c : lts.After-after2 (given t) (here t) after.Post Inv μ) �
 pick-2 t c = pick-at _ _ _ (c .before .before .before .before .before .before .before .before .loop-test .taken) (c .before .before .before .before .before .before .before .before .before .before .pre .1 .built) (sym (c .before .before .before .before .before .before .before .shape-at .ensures) ∙ c .before .before .before .before .before .enum-told2 .given .1) (c .before .before .before .after .ensures .place) (c .before .before .past-else .ensures) (c .after2 .ensures .place)
 
 loop-1 : (t : ℕ) (c : lts.After-after-loop (given t) (here t) after.Post Inv μ) → let s = c .before .before .before .before .before .before .before .args in
-    LoopIs (rowsOf (now (s .rows))) (s .count) (kindAt (rowsOf (now (s .rows))) (c .before .before .before .before .before .before .loop .i)) (c .before .before .before .before .before .before .loop .i) (c .after-loop .last .1 .1 .1 .1 .0)
+    LoopIs (rowsOf (now (s .rows))) (s .count) (kindAt (rowsOf (now (s .rows))) (c .before .before .before .before .before .before .loop .i)) (c .before .before .before .before .before .before .loop .i) (c .after-loop .result)
 loop-1 t c = loop-at _ _ _ (c .before .before .before .before .before .loop-test .taken) (c .before .before .before .before .before .before .before .pre .1 .built) (sym (c .before .before .before .before .shape-at .ensures) ∙ c .before .before .enum-told3 .given .1) (c .after-loop .ensures .ends .place)
 
 loop-holds : (t : ℕ) → lts.Need-loop-holds (given t) (here t) after.Post Inv μ
@@ -87,7 +87,7 @@ loop-again-2 t c = (
 )
 
 after-loop-requires : (t : ℕ) → lts.Need-after-loop-requires (given t) (here t) after.Post Inv μ
-after-loop-requires t c κs = record { ready = ready (c .before .before .before .before .before .before .pre .1) (search needs); inside = c .before .before .before .before .loop-test .taken; loops = (sym (c .before .before .before .shape-at .ensures) ∙ c .before .enum-told3 .given .1) }
+after-loop-requires t c κs = (record { ready = ready (c .before .before .before .before .before .before .pre .1) (search needs); inside = c .before .before .before .before .loop-test .taken; loops = (sym (c .before .before .before .shape-at .ensures) ∙ c .before .enum-told3 .given .1) }, c .before .before .before .before .before .loop .inv .0)
 
 add-i-3 : (t : ℕ) → lts.Need-add-i-3 (given t) (here t) after.Post Inv μ
 add-i-3 t c = let k = loop-1 t (c) in search needs
@@ -98,8 +98,8 @@ loop-less-3 t c = let k = loop-1 t (c) in search needs
 loop-again-3 : (t : ℕ) → lts.Need-loop-again-3 (given t) (here t) after.Post Inv μ
 unfolding model.after
 loop-again-3 t c = (
-  search needs,
-  rw (c .after-loop .ensures .value)
+  c .after-loop .ensures .value .long,
+  rw (c .after-loop .ensures .value .value)
       (loop-row _ _ _ _ _ (c .before .before .before .before .before .before .loop .inv .1) (c .before .before .before .before .before .loop-test .taken) (c .before .before .before .before .before .before .before .pre .1 .built) (loop-1 t c) (λ rest. refl)),
 )
 

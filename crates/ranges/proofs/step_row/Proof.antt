@@ -24,8 +24,8 @@ put-in-requires c κs = let h = rw (is-set (c .before .before .before .before)) 
 span-in-requires : tie.Need-span-in-requires
 span-in-requires c κs = let h = rw (is-move (c .before)) at (c .before .before .before .before .before .pre .1) in rw (c .before .before .before .variable-at .ensures) (h .0)
 
-changed-requires : tie.Need-changed-requires
-changed-requires c κs = let h = rw (is-move (c .before .before .before)) at (c .before .before .before .before .before .before .before .pre .1) in rw (c .change-at .ensures) (h .1)
+changed-span-requires : tie.Need-changed-span-requires
+changed-span-requires c κs = let h = rw (is-move (c .before .before .before)) at (c .before .before .before .before .before .before .before .pre .1) in rw (c .change-at .ensures) (h .1)
 
 put-in-requires-2 : tie.Need-put-in-requires-2
 put-in-requires-2 c κs = let h = rw (is-move (c .before .before .before .before .before)) at (c .before .before .before .before .before .before .before .before .before .pre .1) in (rw (c .before .before .before .before .before .before .before .variable-at .ensures) (h .0), c .before .before .before .before .before .before .before .before .before .pre .3)
@@ -34,7 +34,7 @@ returns : tie.Need-returns
 returns c = let p = c .put-in .ensures in record { long = p .long; value = p .value ∙ after-set _ (is-set (c .before .before .before .before .before)) (c .before .before .before .before .before .before .variable-at .ensures) (c .before .before .before .operand-at .ensures) (c .before .before .bounds-in .ensures) }
 
 returns-2 : tie.Need-returns-2
-returns-2 c = let p = c .put-in2 .ensures in record { long = p .long; value = p .value ∙ after-move _ (is-move (c .before .before .before .before .before .before)) (c .before .before .before .before .before .before .before .before .variable-at .ensures) (c .before .before .before .change-at .ensures) (c .before .before .before .before .span-in .ensures) (c .before .before .changed .ensures) }
+returns-2 c = let p = c .put-in2 .ensures in record { long = p .long; value = p .value ∙ after-move _ (is-move (c .before .before .before .before .before .before)) (c .before .before .before .before .before .before .before .before .variable-at .ensures) (c .before .before .before .change-at .ensures) (c .before .before .before .before .span-in .ensures) (c .before .before .changed-span .ensures) }
 
 returns-3 : tie.Need-returns-3
 returns-3 c = record { long = c .before .before .before .before .pre .3; value = after-other _ (now (c .before .before .before .before .args .rows)) (c .before .before .before .before .args .i) (λ z. c .before .if1 .left (c .before .before .before .tag-at .ensures ∙ z)) (λ z. c .if2 .left (c .before .before .before .tag-at .ensures ∙ z)) (c .before .before .before .before .pre .2) }
@@ -50,7 +50,7 @@ step-row-spec =
     put-in-requires
     span-in-requires
     (λ c κs. search needs)
-    changed-requires
+    changed-span-requires
     put-in-requires-2
     returns
     returns-2

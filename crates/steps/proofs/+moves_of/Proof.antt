@@ -4,8 +4,6 @@ use borrow.Author.Needs.{needs}
 use Prim.Native.Nat.{ℕ, _<_, _-_, _+_}
 use mathlib.Core.Path.{_≡_, refl, sym, ap, _∙_}
 use mathlib.Core.Logic.{⊎-elim}
-use Rattle.rules.specs.declared.Kind.{Kind}
-use Rattle.rules.specs.declared.Step.{Step}
 use Rattle.rules.specs.declared.Step.the-variants.{Unknown}
 use Rattle.rules.specs.Steps.{then, rowStep}
 use Rattle.rules.proofs.Ends.{ends-only}
@@ -31,7 +29,6 @@ use Rattle.steps.proofs.past_else.Reads as past-else-reads
 use Rattle.steps.proofs.row_step.Reads as row-step-reads
 use Rattle.steps.proofs.sets_it.Reads as sets-it-reads
 use Rattle.steps.proofs.shape_at.Reads as shape-at-reads
-use Rattle.table.proofs.kind_at.Reads as kind-at-reads
 use Rattle.steps.proofs.+moves_of.{statement}
 use Rattle.steps.proofs.+moves_of.Tie.{close}
 
@@ -52,7 +49,7 @@ abbrev μ : lts.MeasureT-loop
 μ rows count at v set₀ step₀ i₀ set step i = count - i
 
 abbrev given : ℕ → lts.Claims
-given t = (shape-at-reads.Asked, shape-at-reads.Learnt, add-row-reads.Asked, add-row-reads.Learnt, sets-it-reads.Asked, sets-it-reads.Learnt, kind-at-reads.Asked, kind-at-reads.Learnt, row-step-reads.Asked, row-step-reads.Learnt, then-reads.Asked, then-reads.Learnt, below t, moves-of.Post, past-else-reads.Asked, past-else-reads.Learnt, either-reads.Asked, either-reads.Learnt, has-reads.Asked, has-reads.Learnt, only-reads.Asked, only-reads.Learnt, add-all-reads.Asked, add-all-reads.Learnt)
+given t = (shape-at-reads.Asked, shape-at-reads.Learnt, add-row-reads.Asked, add-row-reads.Learnt, sets-it-reads.Asked, sets-it-reads.Learnt, row-step-reads.Asked, row-step-reads.Learnt, then-reads.Asked, then-reads.Learnt, below t, moves-of.Post, past-else-reads.Asked, past-else-reads.Learnt, either-reads.Asked, either-reads.Learnt, has-reads.Asked, has-reads.Learnt, only-reads.Asked, only-reads.Learnt, add-all-reads.Asked, add-all-reads.Learnt)
 
 pick-1 : (t : ℕ) (c : lts.After-moves-of (given t) (here t) moves-of.Post Inv μ) → let s = c .before .before .before .before .before .before .before .args in let m = c .moves-of .result .next in
     PickIs (rowsOf (now (s .rows))) (s .count) (c .before .before .before .before .before .before .loop .i) m (pastElse (kindAt (rowsOf (now (s .rows))) m) m) (endAt (rowsOf (now (s .rows))) (s .count) (pastElse (kindAt (rowsOf (now (s .rows))) m) m))
@@ -73,18 +70,17 @@ add-row-requires : (t : ℕ) → lts.Need-add-row-requires (given t) (here t) mo
 add-row-requires t c κs = (search needs, c .before .before .before .before .before .before .pre .1 .0 .fine _ (c .before .before .before .before .loop-test .taken), c .before .before .before .before .before .loop .inv .long)
 
 row-step-requires : (t : ℕ) → lts.Need-row-step-requires (given t) (here t) moves-of.Post Inv μ
-row-step-requires t c κs = rw (c .kind-at .ensures) (c .before .before .before .before .before .before .before .before .before .before .pre .1 .0 .fine _ (c .before .before .before .before .before .before .before .before .loop-test .taken))
+row-step-requires t c κs = (search needs, c .before .before .before .before .before .before .before .before .before .pre .1 .0 .fine _ (c .before .before .before .before .before .before .before .loop-test .taken))
 
 then-requires : (t : ℕ) → lts.Need-then-requires (given t) (here t) moves-of.Post Inv μ
-then-requires t c κs = (room _ _ _ _ (c .before .before .before .before .before .before .before .before .before .before .before .pre .1 .0) (c .before .before .before .before .before .before .before .before .before .before .loop .inv .moves), rw (c .row-step .ensures) (row-room (c .before .before .before .before .before .before .before .before .before .before .before .args .v) (c .before .kind-at .result) (rw (c .before .kind-at .ensures) (c .before .before .before .before .before .before .before .before .before .before .before .pre .1 .0 .fine _ (c .before .before .before .before .before .before .before .before .before .loop-test .taken)))))
+then-requires t c κs = (room _ _ _ _ (c .before .before .before .before .before .before .before .before .before .before .pre .1 .0) (c .before .before .before .before .before .before .before .before .before .loop .inv .moves), rw (c .row-step .ensures) (row-room (c .before .before .before .before .before .before .before .before .before .before .args .v) (kindAt (rowsOf (now (c .before .before .before .before .before .before .before .before .before .before .args .rows))) (c .before .before .before .before .before .before .before .before .before .loop .i)) (c .before .before .before .before .before .before .before .before .before .before .pre .1 .0 .fine _ (c .before .before .before .before .before .before .before .before .loop-test .taken))))
 
 loop-again : (t : ℕ) → lts.Need-loop-again (given t) (here t) moves-of.Post Inv μ
 loop-again t c =
     let s = c .before .before .before .before .before .before .before .before .loop .step in
     let v = c .before .before .before .before .before .before .before .before .before .args .v in
-    let k = kindAt (rowsOf (now (c .before .before .before .before .before .before .before .before .before .args .rows))) (c .before .before .before .before .before .before .before .before .loop .i) in
-    let row : Kind → Step = λ k. rowStep v (plainOf k) in
-    let e = ⊎-elim {C = c .if1 .step ≡ then s (row k)} (λ w. w .4 ∙ w .3 .ensures ∙ ap (then s) (w .2 .ensures ∙ ap row (w .1 .ensures))) (λ w. w .1 ∙ sym (step-stays s v k (sym (c .before .sets-it .ensures) ∙ w .0 .left))) (c .if1 .came) in
+    let p = plainOf (kindAt (rowsOf (now (c .before .before .before .before .before .before .before .before .before .args .rows))) (c .before .before .before .before .before .before .before .before .loop .i)) in
+    let e = ⊎-elim {C = c .if1 .step ≡ then s (rowStep v p)} (λ w. w .3 ∙ w .2 .ensures ∙ ap (then s) (w .1 .ensures)) (λ w. w .1 ∙ sym (step-stays s v p (sym (c .before .sets-it .ensures) ∙ w .0 .left))) (c .if1 .came) in
     with-plain _ _ _ _ _ (c .before .before .before .before .before .before .before .before .before .pre .1 .0) (c .before .before .before .before .before .before .before .before .loop .inv) (c .before .before .before .before .before .before .before .loop-test .taken) (sym (c .before .before .before .before .before .before .shape-at .ensures) ∙ c .before .before .before .before .enum-told .given .1) (c .before .before .add-row .ensures) e
 
 moves-of-requires : (t : ℕ) → lts.Need-moves-of-requires (given t) (here t) moves-of.Post Inv μ
@@ -146,7 +142,6 @@ pub +moves-of-spec : {M : Type 1} → statement M
     (λ c κs. search needs)
     (λ c. search needs)
     (add-row-requires t)
-    (λ c κs. search needs)
     (λ c κs. search needs)
     (row-step-requires t)
     (then-requires t)

@@ -99,25 +99,25 @@ part-2 : (t : ℕ) (c : lts.Else2 (given t) (here t) walk.Post Inv μ) → let s
 part-2 t c = let y = (found (c .before .before .before .before .before .before .before .before .walk .result) (c .before .before .before .before .before .before .before .before .walk .last .1 .1 .1 .1 .1 .0)) in part-of 0 (overOf (y .over)) (firstLines (y .lines) (y .loops)) (y .loops) (c .before .before .before .restarted2 .ensures (c .before .before .before .before .before .before .before .before .walk .last .1 .1 .1 .1 .1 .0) .value _) (passed-2 t c)
 
 -- ---- a loop: at its head, after its body
-one-1 : (t : ℕ) (c : lts.After-one-loop (given t) (here t) walk.Post Inv μ) → let s = c .before .before .before .before .before .before .before .before .args in let i = c .before .before .before .before .before .before .before .loop .i in let k = kindAt (rowsOf (now (s .rows))) i in
-    LoopOf (rowsOf (now (s .rows))) (s .count) i (atStart (formOf k) (testOf k) (envOf (c .before .before .before .before .before .before .before .loop .r))) (c .one-loop .result)
-one-1 t c = let s = c .before .before .before .before .before .before .before .before .args in subst (λ ρ. LoopOf (rowsOf (now (s .rows))) (s .count) (c .before .before .before .before .before .before .before .loop .i) ρ (c .one-loop .result)) (c .before .at-start .ensures ∙ ap (λ d. atStart (formOf d) (testOf d) (envOf (c .before .before .before .before .before .before .before .loop .r))) (c .before .before .kind-at .ensures)) (c .one-loop .ensures)
+one-1 : (t : ℕ) (c : lts.After-one-loop (given t) (here t) walk.Post Inv μ) → let s = c .before .before .before .before .before .before .before .before .before .before .args in let i = c .before .before .before .before .before .before .before .before .before .loop .i in let k = kindAt (rowsOf (now (s .rows))) i in
+    LoopOf (rowsOf (now (s .rows))) (s .count) i (atStart (formOf k) (testOf k) (envOf (c .before .before .before .before .before .before .before .before .before .loop .r))) (c .one-loop .result)
+one-1 t c = let s = c .before .before .before .before .before .before .before .before .before .before .args in subst (λ ρ. LoopOf (rowsOf (now (s .rows))) (s .count) (c .before .before .before .before .before .before .before .before .before .loop .i) ρ (c .one-loop .result)) (c .before .before .at-start .ensures .value ∙ ap (λ d. atStart (formOf d) (testOf d) (envOf (c .before .before .before .before .before .before .before .before .before .loop .r))) (c .before .before .before .before .kind-at .ensures)) (c .one-loop .ensures)
 
-loop-1 : (t : ℕ) (c : lts.After-one-loop (given t) (here t) walk.Post Inv μ) → let s = c .before .before .before .before .before .before .before .before .args in
-    LoopIs (rowsOf (now (s .rows))) (s .count) (kindAt (rowsOf (now (s .rows))) (c .before .before .before .before .before .before .before .loop .i)) (c .before .before .before .before .before .before .before .loop .i) (c .one-loop .result .next)
-loop-1 t c = loop-at _ _ _ (c .before .before .before .before .before .before .loop-test .taken) (c .before .before .before .before .before .before .before .before .pre .1 .ready .built) (sym (c .before .before .before .before .before .shape-at .ensures) ∙ c .before .before .before .enum-told3 .given .1) (c .one-loop .ensures .ends .place)
+loop-1 : (t : ℕ) (c : lts.After-one-loop (given t) (here t) walk.Post Inv μ) → let s = c .before .before .before .before .before .before .before .before .before .before .args in
+    LoopIs (rowsOf (now (s .rows))) (s .count) (kindAt (rowsOf (now (s .rows))) (c .before .before .before .before .before .before .before .before .before .loop .i)) (c .before .before .before .before .before .before .before .before .before .loop .i) (c .one-loop .result .next)
+loop-1 t c = loop-at _ _ _ (c .before .before .before .before .before .before .before .before .loop-test .taken) (c .before .before .before .before .before .before .before .before .before .before .pre .1 .ready .built) (sym (c .before .before .before .before .before .before .before .shape-at .ensures) ∙ c .before .before .before .before .before .enum-told3 .given .1) (c .one-loop .ensures .ends .place)
 
-inside-1 : (t : ℕ) (c : lts.After-inside (given t) (here t) walk.Post Inv μ) → let s = c .before .before .before .before .before .before .before .before .before .before .before .before .before .before .before .before .args in let i = c .before .before .before .before .before .before .before .before .before .before .before .before .before .before .before .loop .i in let k = kindAt (rowsOf (now (s .rows))) i in let b = bodyAt (rowsOf (now (s .rows))) (s .count) i in
-    envOf (c .inside .result) ≡ inside (formOf k) (atStart (formOf k) (testOf k) (envOf (c .before .before .before .before .before .before .before .before .before .before .before .before .before .before .before .loop .r))) (testOf k) b
+inside-1 : (t : ℕ) (c : lts.After-inside (given t) (here t) walk.Post Inv μ) → let s = c .before .before .before .before .before .before .before .before .before .before .before .before .before .before .before .before .before .before .before .args in let i = c .before .before .before .before .before .before .before .before .before .before .before .before .before .before .before .before .before .before .loop .i in let k = kindAt (rowsOf (now (s .rows))) i in let b = bodyAt (rowsOf (now (s .rows))) (s .count) i in
+    envOf (c .inside .last .0) ≡ inside (formOf k) (atStart (formOf k) (testOf k) (envOf (c .before .before .before .before .before .before .before .before .before .before .before .before .before .before .before .before .before .before .loop .r))) (testOf k) b
 inside-1 t c =
-    let s = c .before .before .before .before .before .before .before .before .before .before .before .before .before .before .before .before .args in
-    let i = c .before .before .before .before .before .before .before .before .before .before .before .before .before .before .before .loop .i in
-    let ρ = envOf (c .before .before .before .before .before .before .before .before .before .before .before .before .before .before .before .loop .r) in
-    let k = c .before .before .before .before .before .before .before .before .before .before .kind-at .result in
+    let s = c .before .before .before .before .before .before .before .before .before .before .before .before .before .before .before .before .before .before .before .args in
+    let i = c .before .before .before .before .before .before .before .before .before .before .before .before .before .before .before .before .before .before .loop .i in
+    let ρ = envOf (c .before .before .before .before .before .before .before .before .before .before .before .before .before .before .before .before .before .before .loop .r) in
+    let k = c .before .before .before .before .before .before .before .before .before .before .before .before .before .kind-at .result in
     let b = bodyAt (rowsOf (now (s .rows))) (s .count) i in
-    c .inside .ensures .value b (c .before .before .before .before .before .before .before .before .one-loop .ensures .sets) ∙ ap (λ ρ. inside (formOf k) ρ (testOf k) b) (c .before .before .before .before .before .before .before .before .before .at-start .ensures) ∙ ap (λ d. inside (formOf d) (atStart (formOf d) (testOf d) ρ) (testOf d) b) (c .before .before .before .before .before .before .before .before .before .before .kind-at .ensures)
+    c .inside .ensures .value b (c .before .before .before .before .before .before .before .before .before .one-loop .ensures .sets) .value ∙ ap (λ ρ. inside (formOf k) ρ (testOf k) b) (c .before .before .before .before .before .before .before .before .before .before .before .at-start .ensures .value) ∙ ap (λ d. inside (formOf d) (atStart (formOf d) (testOf d) ρ) (testOf d) b) (c .before .before .before .before .before .before .before .before .before .before .before .before .before .kind-at .ensures)
 
-passed-3 : (t : ℕ) (c : lts.Else4 (given t) (here t) walk.Post Inv μ) → let s = c .before .before .before .before .before .before .before .before .before .before .before .before .before .before .before .before .before .before .before .before .args in Passed (rowsOf (now (s .rows))) (s .count) (c .before .before .before .before .before .before .before .before .before .before .before .before .before .before .before .before .before .before .before .loop .i + 1) (envOf (c .before .before .before .before .inside .result)) (c .before .before .before .before .before .before .before .before .times .result) (found (c .before .before .before .before .before .lined .result) (c .before .before .before .before .before .lined .last .0)) (found (c .before .before .walk3 .result) (c .before .before .walk3 .last .1 .1 .1 .1 .1 .0))
+passed-3 : (t : ℕ) (c : lts.Else4 (given t) (here t) walk.Post Inv μ) → let s = c .before .before .before .before .before .before .before .before .before .before .before .before .before .before .before .before .before .before .before .before .before .before .before .args in Passed (rowsOf (now (s .rows))) (s .count) (c .before .before .before .before .before .before .before .before .before .before .before .before .before .before .before .before .before .before .before .before .before .before .loop .i + 1) (envOf (c .before .before .before .before .inside .last .0)) (c .before .before .before .before .before .before .before .before .before .times .result) (found (c .before .before .before .before .before .before .lined .result) (c .before .before .before .before .before .before .lined .last .0)) (found (c .before .before .walk3 .result) (c .before .before .walk3 .last .1 .1 .1 .1 .1 .0))
 passed-3 t c = c .before .before .walk3 .ensures .whole (c .if4 .left)
 
 -- ---- the needs
@@ -193,98 +193,99 @@ loop-again-2 t c = (
 )
 
 at-start-requires : (t : ℕ) → lts.Need-at-start-requires (given t) (here t) walk.Post Inv μ
-at-start-requires t c κs = rw (c .kind-at .ensures) (c .before .before .before .before .before .before .pre .1 .ready .fine _ (c .before .before .before .before .loop-test .taken))
+at-start-requires t c κs = (rw (c .before .kind-at .ensures) (c .before .before .before .before .before .before .before .pre .1 .ready .fine _ (c .before .before .before .before .before .loop-test .taken)), c .before .before .before .before .before .before .loop .inv .0)
 
 one-loop-requires : (t : ℕ) → lts.Need-one-loop-requires (given t) (here t) walk.Post Inv μ
 one-loop-requires t c κs = record {
-  ready = ready (c .before .before .before .before .before .before .before .pre .1 .ready) (search needs);
-  inside = c .before .before .before .before .before .loop-test .taken;
-  loops = sym (c .before .before .before .before .shape-at .ensures) ∙ c .before .before .enum-told3 .given .1;
+  ready = ready (c .before .before .before .before .before .before .before .before .before .pre .1 .ready) (search needs);
+  inside = c .before .before .before .before .before .before .before .loop-test .taken;
+  loops = sym (c .before .before .before .before .before .before .shape-at .ensures) ∙ c .before .before .before .before .enum-told3 .given .1;
 }
 
 returns-3 : (t : ℕ) → lts.Need-returns-3 (given t) (here t) walk.Post Inv μ
 returns-3 t c =
     let e = c .refused .ensures in
     record {
-      stopped = λ h. loop-refused _ _ _ _ _ (c .before .before .before .before .before .before .before .before .before .before .loop .inv .1) (c .before .before .before .before .before .before .before .before .before .loop-test .taken) (c .before .before .before .before .before .before .before .before .before .before .before .pre .1 .ready .built) (loop-1 t (c .before .before .before)) _ (c .before .if3 .taken) (one-1 t (c .before .before .before) .verdict) ∙ ap₂ refused (sym (e .0)) (sym (e .1));
+      stopped = λ h. loop-refused _ _ _ _ _ (c .before .before .before .before .before .before .before .before .before .before .before .before .loop .inv .1) (c .before .before .before .before .before .before .before .before .before .before .before .loop-test .taken) (c .before .before .before .before .before .before .before .before .before .before .before .before .before .pre .1 .ready .built) (loop-1 t (c .before .before .before)) _ (c .before .if3 .taken) (one-1 t (c .before .before .before) .verdict) ∙ ap₂ refused (sym (e .0)) (sym (e .1));
       whole = λ z. absurd (c .before .if3 .taken (sym (e .0) ∙ z));
     }
 
 times-requires : (t : ℕ) → lts.Need-times-requires (given t) (here t) walk.Post Inv μ
-times-requires t c κs = c .before .before .before .before .before .before .before .before .before .before .before .pre .1 .times
+times-requires t c κs = c .before .before .before .before .before .before .before .before .before .before .before .before .before .pre .1 .times
 
-room-1 : (t : ℕ) (c : lts.After-one-loop (given t) (here t) walk.Post Inv μ) → let s = c .before .before .before .before .before .before .before .before .args in
-    c .before .before .before .before .before .before .before .loop .t .loops + 1 + loopCount (blockAt (rowsOf (now (s .rows))) (s .count) (c .before .before .before .before .before .before .before .loop .i + 1)) ≤ 16
-room-1 t c = loop-room _ _ _ _ _ (c .before .before .before .before .before .before .before .loop .inv .1) (c .before .before .before .before .before .before .loop-test .taken) (c .before .before .before .before .before .before .before .before .pre .1 .ready .built) (loop-1 t c) (c .before .before .before .before .before .before .before .before .pre .1 .room)
+room-1 : (t : ℕ) (c : lts.After-one-loop (given t) (here t) walk.Post Inv μ) → let s = c .before .before .before .before .before .before .before .before .before .before .args in
+    c .before .before .before .before .before .before .before .before .before .loop .t .loops + 1 + loopCount (blockAt (rowsOf (now (s .rows))) (s .count) (c .before .before .before .before .before .before .before .before .before .loop .i + 1)) ≤ 16
+room-1 t c = loop-room _ _ _ _ _ (c .before .before .before .before .before .before .before .before .before .loop .inv .1) (c .before .before .before .before .before .before .before .before .loop-test .taken) (c .before .before .before .before .before .before .before .before .before .before .pre .1 .ready .built) (loop-1 t c) (c .before .before .before .before .before .before .before .before .before .before .pre .1 .room)
 
 lined-requires : (t : ℕ) → lts.Need-lined-requires (given t) (here t) walk.Post Inv μ
-lined-requires t c κs = (omega (arith, room-1 t (c .before .before .before .before .before .before)), c .before .before .before .before .before .before .before .before .before .before .before .before .before .loop .inv .1 .long, one-1 t (c .before .before .before .before .before .before) .near)
+lined-requires t c κs = (omega (arith, room-1 t (c .before .before .before .before .before .before)), c .before .before .before .before .before .before .before .before .before .before .before .before .before .before .before .loop .inv .1 .long, one-1 t (c .before .before .before .before .before .before) .near)
 
 add-walk-2 : (t : ℕ) → lts.Need-add-walk-2 (given t) (here t) walk.Post Inv μ
-add-walk-2 t c = let f = c .before .before .before .before .before .before .before .before .before .before .before .before .before .before .before .pre .1 .ready .few in let l = c .before .before .before .before .before .before .before .before .before .before .before .before .before .loop-test .taken in search needs
+add-walk-2 t c = let f = c .before .before .before .before .before .before .before .before .before .before .before .before .before .before .before .before .before .before .before .pre .1 .ready .few in let l = c .before .before .before .before .before .before .before .before .before .before .before .before .before .before .before .before .before .loop-test .taken in search needs
 
 inside-requires : (t : ℕ) → lts.Need-inside-requires (given t) (here t) walk.Post Inv μ
-inside-requires t c κs = rw (c .before .before .before .before .before .before .before .before .before .kind-at .ensures) (c .before .before .before .before .before .before .before .before .before .before .before .before .before .before .before .pre .1 .ready .fine _ (c .before .before .before .before .before .before .before .before .before .before .before .before .before .loop-test .taken))
+inside-requires t c κs = (rw (c .before .before .before .before .before .before .before .before .before .before .before .before .kind-at .ensures) (c .before .before .before .before .before .before .before .before .before .before .before .before .before .before .before .before .before .before .pre .1 .ready .fine _ (c .before .before .before .before .before .before .before .before .before .before .before .before .before .before .before .before .loop-test .taken)), c .before .before .before .before .before .before .before .before .before .before .at-start .ensures .long)
 
 walk-requires-3 : (t : ℕ) → lts.Need-walk-requires-3 (given t) (here t) walk.Post Inv μ
 walk-requires-3 t c κs =
-    let k = c .before .before .before .before .before .before .before .before .before .before .before .kind-at .result in
-    let w = c .before .before .before .before .before .before .before .before .before .before .before .before .before .before .before .before .loop .inv .1 .walk in
-    let z = c .before .before .before .before .before .before .before .before .before .before .before .before .before .before .before .before .before .pre .0 in
-    let l = c .before .before .before .before .before .before .before .before .before .before .before .before .before .before .before .loop-test .taken in
-    (search needs, lined-walkable (ready (c .before .before .before .before .before .before .before .before .before .before .before .before .before .before .before .before .before .pre .1 .ready) (search needs)) (c .before .before .lined .ensures) (omega (arith, c .before .before .before .last-ticks .ensures, last-small k)) (omega (arith, c .before .before .before .before .before .times .ensures)) (room-1 t (c .before .before .before .before .before .before .before .before .before)))
+    let k = c .before .before .before .before .before .before .before .before .before .before .before .before .before .before .kind-at .result in
+    let w = c .before .before .before .before .before .before .before .before .before .before .before .before .before .before .before .before .before .before .before .loop .inv .1 .walk in
+    let z = c .before .before .before .before .before .before .before .before .before .before .before .before .before .before .before .before .before .before .before .before .pre .0 in
+    let l = c .before .before .before .before .before .before .before .before .before .before .before .before .before .before .before .before .before .before .loop-test .taken in
+    (search needs, lined-walkable (ready (c .before .before .before .before .before .before .before .before .before .before .before .before .before .before .before .before .before .before .before .before .pre .1 .ready) (search needs)) (c .before .before .before .lined .ensures) (omega (arith, c .before .before .before .before .last-ticks .ensures, last-small k)) (omega (arith, c .before .before .before .before .before .before .times .ensures)) (room-1 t (c .before .before .before .before .before .before .before .before .before .before)))
 
 returns-4 : (t : ℕ) → lts.Need-returns-4 (given t) (here t) walk.Post Inv μ
 unfolding answer
 returns-4 t c =
-    let s = c .before .before .before .before .before .before .before .before .before .before .before .before .before .before .before .before .before .before .before .before .args in
-    let i = c .before .before .before .before .before .before .before .before .before .before .before .before .before .before .before .before .before .before .before .loop .i in
+    let s = c .before .before .before .before .before .before .before .before .before .before .before .before .before .before .before .before .before .before .before .before .before .before .before .args in
+    let i = c .before .before .before .before .before .before .before .before .before .before .before .before .before .before .before .before .before .before .before .before .before .before .loop .i in
     record {
-      stopped = λ h. body-refused _ _ _ _ _ (c .before .before .before .before .before .before .before .before .before .before .before .before .before .before .before .before .before .before .before .loop .inv .1) (c .before .before .before .before .before .before .before .before .before .before .before .before .before .before .before .before .before .before .loop-test .taken) (c .before .before .before .before .before .before .before .before .before .before .before .before .before .before .before .before .before .before .before .before .pre .1 .ready .built) (loop-1 t (c .before .before .before .before .before .before .before .before .before .before .before .before)) _ _
-          (one-1 t (c .before .before .before .before .before .before .before .before .before .before .before .before) .verdict ∙ ap (λ n. answer n i) (c .before .before .before .before .before .before .before .before .before .before .if3 .left))
+      stopped = λ h. body-refused _ _ _ _ _ (c .before .before .before .before .before .before .before .before .before .before .before .before .before .before .before .before .before .before .before .before .before .before .loop .inv .1) (c .before .before .before .before .before .before .before .before .before .before .before .before .before .before .before .before .before .before .before .before .before .loop-test .taken) (c .before .before .before .before .before .before .before .before .before .before .before .before .before .before .before .before .before .before .before .before .before .before .before .pre .1 .ready .built) (loop-1 t (c .before .before .before .before .before .before .before .before .before .before .before .before .before)) _ _
+          (one-1 t (c .before .before .before .before .before .before .before .before .before .before .before .before .before) .verdict ∙ ap (λ n. answer n i) (c .before .before .before .before .before .before .before .before .before .before .before .if3 .left))
           (sym (ap (λ ρ. loopsVerdict ρ (blockAt (rowsOf (now (s .rows))) (s .count) (i + 1))) (inside-1 t (c .before .before .before .before))) ∙ refused-in (c .before .before .walk3 .ensures) h);
       whole = λ z. absurd (c .if4 .taken z);
     }
 
 outside-requires : (t : ℕ) → lts.Need-outside-requires (given t) (here t) walk.Post Inv μ
-outside-requires t c κs = rw (c .before .before .before .before .before .before .before .before .before .before .before .before .before .before .kind-at .ensures) (c .before .before .before .before .before .before .before .before .before .before .before .before .before .before .before .before .before .before .before .before .pre .1 .ready .fine _ (c .before .before .before .before .before .before .before .before .before .before .before .before .before .before .before .before .before .before .loop-test .taken))
+outside-requires t c κs = (rw (c .before .before .before .before .before .before .before .before .before .before .before .before .before .before .before .before .before .before .kind-at .ensures) (c .before .before .before .before .before .before .before .before .before .before .before .before .before .before .before .before .before .before .before .before .before .before .before .before .pre .1 .ready .fine _ (c .before .before .before .before .before .before .before .before .before .before .before .before .before .before .before .before .before .before .before .before .before .before .loop-test .taken)), c .before .before .before .before .before .before .before .before .before .before .before .before .before .before .before .before .at-start .ensures .long)
 
 loop-ticks-requires : (t : ℕ) → lts.Need-loop-ticks-requires (given t) (here t) walk.Post Inv μ
-loop-ticks-requires t c κs = passed-3 t (c .before) .small
+loop-ticks-requires t c κs = passed-3 t (c .before .before) .small
 
 closed-requires-2 : (t : ℕ) → lts.Need-closed-requires-2 (given t) (here t) walk.Post Inv μ
 closed-requires-2 t c κs =
-    let u = loop-1 t (c .before .before .before .before .before .before .before .before .before .before .before .before .before .before) in
-    let f = c .before .before .before .before .before .before .before .before .before .before .before .before .before .before .before .before .before .before .before .before .before .before .pre .1 .ready .few in
-    let m = passed-3 t (c .before .before) .small in
-    let b = c .before .before .before .before .walk3 .result .spent in
-    (omega arith, c .before .before .before .before .before .before .before .before .before .before .before .before .before .before .before .before .before .before .before .before .before .loop .inv .1 .small, omega (arith, c .loop-ticks .ensures b (omega arith)))
+    let u = loop-1 t (c .before .before .before .before .before .before .before .before .before .before .before .before .before .before .before .before) in
+    let f = c .before .before .before .before .before .before .before .before .before .before .before .before .before .before .before .before .before .before .before .before .before .before .before .before .before .before .pre .1 .ready .few in
+    let m = passed-3 t (c .before .before .before) .small in
+    let b = c .before .before .before .before .before .walk3 .result .spent in
+    (omega arith, c .before .before .before .before .before .before .before .before .before .before .before .before .before .before .before .before .before .before .before .before .before .before .before .before .before .loop .inv .1 .small, omega (arith, c .loop-ticks .ensures b (omega arith)))
 
 add-i-3 : (t : ℕ) → lts.Need-add-i-3 (given t) (here t) walk.Post Inv μ
-add-i-3 t c = let k = loop-1 t (c .before .before .before .before .before .before .before .before .before .before .before .before .before .before .before) in let f = c .before .before .before .before .before .before .before .before .before .before .before .before .before .before .before .before .before .before .before .before .before .before .before .pre .1 .ready .few in search needs
+add-i-3 t c = let k = loop-1 t (c .before .before .before .before .before .before .before .before .before .before .before .before .before .before .before .before .before) in let f = c .before .before .before .before .before .before .before .before .before .before .before .before .before .before .before .before .before .before .before .before .before .before .before .before .before .before .before .pre .1 .ready .few in search needs
 
 loop-less-3 : (t : ℕ) → lts.Need-loop-less-3 (given t) (here t) walk.Post Inv μ
-loop-less-3 t c = let k = loop-1 t (c .before .before .before .before .before .before .before .before .before .before .before .before .before .before .before) in search needs
+loop-less-3 t c = let k = loop-1 t (c .before .before .before .before .before .before .before .before .before .before .before .before .before .before .before .before .before) in search needs
 
 loop-again-3 : (t : ℕ) → lts.Need-loop-again-3 (given t) (here t) walk.Post Inv μ
 loop-again-3 t c =
-    let s = c .before .before .before .before .before .before .before .before .before .before .before .before .before .before .before .before .before .before .before .before .before .before .before .args in
-    let i = c .before .before .before .before .before .before .before .before .before .before .before .before .before .before .before .before .before .before .before .before .before .before .loop .i in
-    let y = found (c .before .before .before .before .before .before .before .before .before .before .before .before .before .before .before .before .before .before .before .before .before .before .loop .t) (c .before .before .before .before .before .before .before .before .before .before .before .before .before .before .before .before .before .before .before .before .before .before .loop .lines) in
+    let s = c .before .before .before .before .before .before .before .before .before .before .before .before .before .before .before .before .before .before .before .before .before .before .before .before .before .before .before .args in
+    let i = c .before .before .before .before .before .before .before .before .before .before .before .before .before .before .before .before .before .before .before .before .before .before .before .before .before .before .loop .i in
+    let y = found (c .before .before .before .before .before .before .before .before .before .before .before .before .before .before .before .before .before .before .before .before .before .before .before .before .before .before .loop .t) (c .before .before .before .before .before .before .before .before .before .before .before .before .before .before .before .before .before .before .before .before .before .before .before .before .before .before .loop .lines) in
     let k = kindAt (rowsOf (now (s .rows))) i in
     let body = bodyAt (rowsOf (now (s .rows))) (s .count) i in
-    let one = c .before .before .before .before .before .before .before .before .before .before .before .before .before .before .before .one-loop .result in
-    let total = c .before .before .before .before .before .before .before .before .before .before .before .times .result in
-    let o = c .before .before .before .before .before .before .before .before .before .before .before .before .before .before .before .one-loop .ensures in
+    let one = c .before .before .before .before .before .before .before .before .before .before .before .before .before .before .before .before .before .one-loop .result in
+    let total = c .before .before .before .before .before .before .before .before .before .before .before .before .before .times .result in
+    let o = c .before .before .before .before .before .before .before .before .before .before .before .before .before .before .before .before .before .one-loop .ensures in
     let ls = firstLines (y .lines) (y .loops) ++ (record { row = i; step = one .step; turns = one .turns; total = total; exact = one .exact } ∷ []) in
-    let α : envOf (c .before .before .outside .result) ≡ outside (atStart (formOf k) (testOf k) (envOf (c .before .before .before .before .before .before .before .before .before .before .before .before .before .before .before .before .before .before .before .before .before .before .loop .r))) (testOf k) body =
-    c .before .before .outside .ensures .value body (o .sets) (o .moves ∙ ap (λ d. step (testOf d .tested) body) (sym (c .before .before .before .before .before .before .before .before .before .before .before .before .before .before .before .before .before .kind-at .ensures))) ∙ ap (λ ρ. outside ρ (testOf (c .before .before .before .before .before .before .before .before .before .before .before .before .before .before .before .before .before .kind-at .result)) body) (c .before .before .before .before .before .before .before .before .before .before .before .before .before .before .before .before .at-start .ensures) ∙ ap (λ d. outside (atStart (formOf d) (testOf d) (envOf (c .before .before .before .before .before .before .before .before .before .before .before .before .before .before .before .before .before .before .before .before .before .before .loop .r))) (testOf d) body) (c .before .before .before .before .before .before .before .before .before .before .before .before .before .before .before .before .before .kind-at .ensures) in
-    let part : Part total (envOf (c .before .before .before .before .before .before .before .inside .result)) (lastTicks k) (overOf (y .over)) ls (y .loops + 1) (blockAt (rowsOf (now (s .rows))) (s .count) (i + 1)) (found (c .before .before .before .before .before .walk3 .result) (c .before .before .before .before .before .walk3 .last .1 .1 .1 .1 .1 .0)) =
-    part-of (lastTicks k) (overOf (y .over)) ls (y .loops + 1) (c .before .before .before .before .before .before .before .before .lined .ensures .value _ ∙ ap (λ n. from-parts (envOf (c .before .before .before .before .before .before .before .inside .result)) n (overOf (y .over)) ls (y .loops + 1)) (c .before .before .before .before .before .before .before .before .before .last-ticks .ensures ∙ ap lastTicks (c .before .before .before .before .before .before .before .before .before .before .before .before .before .before .before .before .before .kind-at .ensures))) (passed-3 t (c .before .before .before)) in (
-      search needs,
-      go-loop _ _ _ _ _ (c .before .before .before .before .before .before .before .before .before .before .before .before .before .before .before .before .before .before .before .before .before .before .loop .inv .1) (c .before .before .before .before .before .before .before .before .before .before .before .before .before .before .before .before .before .before .before .before .before .loop-test .taken) (c .before .before .before .before .before .before .before .before .before .before .before .before .before .before .before .before .before .before .before .before .before .before .before .pre .1 .ready .built) (loop-1 t (c .before .before .before .before .before .before .before .before .before .before .before .before .before .before .before)) (one-1 t (c .before .before .before .before .before .before .before .before .before .before .before .before .before .before .before)) (c .before .before .before .before .before .before .before .before .before .before .before .before .before .if3 .left) (c .before .before .before .before .before .before .before .before .before .before .before .times .ensures)
-          (subst (λ ρ. Part total ρ (lastTicks k) (overOf (y .over)) ls (y .loops + 1) (blockAt (rowsOf (now (s .rows))) (s .count) (i + 1)) (found (c .before .before .before .before .before .walk3 .result) (c .before .before .before .before .before .walk3 .last .1 .1 .1 .1 .1 .0))) (inside-1 t (c .before .before .before .before .before .before .before)) part)
-          (rw (c .before .before .before .before .before .before .before .before .before .before .before .before .before .before .before .before .before .kind-at .ensures) at (c .before .loop-ticks .ensures)) (c .closed2 .ensures _ _) α,
+    let x = c .before .before .outside .ensures .value body (o .sets) (o .moves ∙ ap (λ d. step (testOf d .tested) body) (sym (c .before .before .before .before .before .before .before .before .before .before .before .before .before .before .before .before .before .before .before .before .before .kind-at .ensures))) in
+    let α : envOf (c .before .before .outside .last .0) ≡ outside (atStart (formOf k) (testOf k) (envOf (c .before .before .before .before .before .before .before .before .before .before .before .before .before .before .before .before .before .before .before .before .before .before .before .before .before .before .loop .r))) (testOf k) body =
+    x .value ∙ ap (λ ρ. outside ρ (testOf (c .before .before .before .before .before .before .before .before .before .before .before .before .before .before .before .before .before .before .before .before .before .kind-at .result)) body) (c .before .before .before .before .before .before .before .before .before .before .before .before .before .before .before .before .before .before .before .at-start .ensures .value) ∙ ap (λ d. outside (atStart (formOf d) (testOf d) (envOf (c .before .before .before .before .before .before .before .before .before .before .before .before .before .before .before .before .before .before .before .before .before .before .before .before .before .before .loop .r))) (testOf d) body) (c .before .before .before .before .before .before .before .before .before .before .before .before .before .before .before .before .before .before .before .before .before .kind-at .ensures) in
+    let part : Part total (envOf (c .before .before .before .before .before .before .before .before .inside .last .0)) (lastTicks k) (overOf (y .over)) ls (y .loops + 1) (blockAt (rowsOf (now (s .rows))) (s .count) (i + 1)) (found (c .before .before .before .before .before .before .walk3 .result) (c .before .before .before .before .before .before .walk3 .last .1 .1 .1 .1 .1 .0)) =
+    part-of (lastTicks k) (overOf (y .over)) ls (y .loops + 1) (c .before .before .before .before .before .before .before .before .before .before .lined .ensures .value _ ∙ ap (λ n. from-parts (envOf (c .before .before .before .before .before .before .before .before .inside .last .0)) n (overOf (y .over)) ls (y .loops + 1)) (c .before .before .before .before .before .before .before .before .before .before .before .last-ticks .ensures ∙ ap lastTicks (c .before .before .before .before .before .before .before .before .before .before .before .before .before .before .before .before .before .before .before .before .before .kind-at .ensures))) (passed-3 t (c .before .before .before .before)) in (
+      x .long,
+      go-loop _ _ _ _ _ (c .before .before .before .before .before .before .before .before .before .before .before .before .before .before .before .before .before .before .before .before .before .before .before .before .before .before .loop .inv .1) (c .before .before .before .before .before .before .before .before .before .before .before .before .before .before .before .before .before .before .before .before .before .before .before .before .before .loop-test .taken) (c .before .before .before .before .before .before .before .before .before .before .before .before .before .before .before .before .before .before .before .before .before .before .before .before .before .before .before .pre .1 .ready .built) (loop-1 t (c .before .before .before .before .before .before .before .before .before .before .before .before .before .before .before .before .before)) (one-1 t (c .before .before .before .before .before .before .before .before .before .before .before .before .before .before .before .before .before)) (c .before .before .before .before .before .before .before .before .before .before .before .before .before .before .before .if3 .left) (c .before .before .before .before .before .before .before .before .before .before .before .before .before .times .ensures)
+          (subst (λ ρ. Part total ρ (lastTicks k) (overOf (y .over)) ls (y .loops + 1) (blockAt (rowsOf (now (s .rows))) (s .count) (i + 1)) (found (c .before .before .before .before .before .before .walk3 .result) (c .before .before .before .before .before .before .walk3 .last .1 .1 .1 .1 .1 .0))) (inside-1 t (c .before .before .before .before .before .before .before .before)) part)
+          (rw (c .before .before .before .before .before .before .before .before .before .before .before .before .before .before .before .before .before .before .before .before .before .kind-at .ensures) at (c .before .loop-ticks .ensures)) (c .closed2 .ensures _ _) α,
     )
 
 returns-5 : (t : ℕ) → lts.Need-returns-5 (given t) (here t) walk.Post Inv μ
@@ -345,8 +346,8 @@ pub +walk-spec : {M : Type 1} → statement M
     (times-requires t)
     (λ c κs. search needs)
     (lined-requires t)
-    (add-walk-2 t)
     (inside-requires t)
+    (add-walk-2 t)
     (walk-requires-3 t)
     (returns-4 t)
     (outside-requires t)

@@ -26,13 +26,13 @@ returns c =
     let rows = rowsOf (now (a .rows)) in
     let k = kindAt rows (a .i) in
     let body = bodyAt rows (a .count) (a .i) in
-    let ρ = envOf (a .begun) in
+    let ρ = envOf (now (a .begun)) in
     let h = rw (c .before .before .before .before .before .before .before .before .before .kind-at .ensures) at (c .before .before .before .before .before .before .before .before .head-of .ensures) in
     let b = c .before .before .before .before .before .before .before .body-moves .ensures in
     let st = b .moves ∙ ap (λ v. step v body) (h .tested) in
     let keep = c .before .before .keeps .ensures body (b .sets) ∙ ap (λ x. keeps x body) (h .limit) in
-    let s = c .before .before .before .before .before .span-at .ensures ∙ ap ρ (h .tested) in
-    let n = c .before .before .before .before .bounds .ensures ∙ ap (bounds ρ) (h .limit) in
+    let s = c .before .before .before .before .before .span-in .ensures ∙ ap ρ (h .tested) in
+    let n = c .before .before .before .before .bounds-in .ensures ∙ ap (bounds ρ) (h .limit) in
     let f = c .before .ask .ensures in
     let late = c .before .before .before .is-do .ensures ∙ ap late (c .before .before .before .before .before .before .before .before .before .kind-at .ensures) ∙ late-is k in
     record {

@@ -1,12 +1,12 @@
--- `ranges::changed` meets its contract.
+-- `ranges::changed_span` meets its contract.
 use Rattle.ranges.specs.Env.{changedRange}
 use borrow.Author.Needs.{sfits-of}
 use mir.Syntax.{w32}
 use mir.Val.{SFits}
 use mir.Facts.{toZ-ofZ}
 use borrow.Author.Needs.{needs}
-use Rattle.ranges.proofs.changed.Statement.{statement}
-use Rattle.ranges.proofs.changed.Tie as tie
+use Rattle.ranges.proofs.changed_span.Statement.{statement}
+use Rattle.ranges.proofs.changed_span.Tie as tie
 
 moved-requires : tie.Need-moved-requires
 moved-requires c κs = search needs
@@ -24,5 +24,5 @@ returns c =
     let g1 : SFits w32 (c .moved2 .result) = sfits-of (c .moved2 .ok) in
     rw (toZ-ofZ g0, toZ-ofZ g1, c .before .before .moved .ensures, c .moved2 .ensures) (simp (toZ-ofZ f0, toZ-ofZ f1))
 
-pub changed-spec : {M : Type 1} → statement M
-changed-spec = tie.close (tie.spec moved-requires moved-requires-2 returns)
+pub changed-span-spec : {M : Type 1} → statement M
+changed-span-spec = tie.close (tie.spec moved-requires moved-requires-2 returns)
