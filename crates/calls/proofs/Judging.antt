@@ -10,7 +10,8 @@ use Rattle.rules.specs.declared.Reply.the-variants.{Refused}
 use Rattle.rules.specs.Figures.{ones}
 use Rattle.rules.specs.Questions.{passed, tickLimit, verdict}
 use Rattle.rules.specs.Scripts.{Script, envOf, treeOf, reportTicks, Legal, Accepted}
-use Rattle.rules.specs.Report.{linesOf, reportText, scriptReport}
+use Rattle.rules.specs.Report.{reportText, scriptReport}
+use Rattle.lines.specs.Coded.{firstLines}
 use Rattle.rules.specs.Calls.{accepted, refuses, judgedBy, fitting, written, replyOf, bufferOf}
 use Rattle.rules.proofs.Accepted.{then-yes, asked-yes}
 use Rattle.turns.specs.Needs.{answer}
@@ -22,7 +23,7 @@ unfolding answer judgedBy
 by-number script zero p h = absurd (h refl)
 by-number script (suc n) p h = refl
 
-module _ (script : Script) (count : ℕ) (s : Figures) (found : Found script count s) where
+module _ (script : Script) (count : ℕ) (s : Figures) (ls : List (List ℕ)) (found : Found script count s ls) where
   asked : verdict ones (length (script .rows)) (envOf (script .ranges)) (treeOf (script .rows)) ≡ answer (s .number) (s .place)
   asked = ap (λ n. verdict ones n (envOf (script .ranges)) (treeOf (script .rows))) (found .long) ∙ found .figures .verdict
 
@@ -50,13 +51,13 @@ module _ (script : Script) (count : ℕ) (s : Figures) (found : Found script cou
         let (t, _) = asked-yes 13 _ (leb (reportTicks ones script) 1_000_000_000_000) _ b in
         omega (arith, leb→le (reportTicks ones script) 1_000_000_000_000 t, found .figures .ticks z)
 
-    text-is : reportText count (linesOf (take (s .loops) (s .lines))) (s .ticks) ≡ scriptReport ones script
+    text-is : reportText count (firstLines ls (s .loops)) (s .ticks) ≡ scriptReport ones script
     unfolding scriptReport
     text-is = λ j. reportText (sym (found .long) j) (found .figures .lines z j) (found .figures .ticks z j)
 
     -- the report written
     pub reported : (r : Reply) (old new : List ℕ) (room : ℕ)
-        → (r ≡ fitting (reportText count (linesOf (take (s .loops) (s .lines))) (s .ticks)) room) × (new ≡ written (reportText count (linesOf (take (s .loops) (s .lines))) (s .ticks)) old)
+        → (r ≡ fitting (reportText count (firstLines ls (s .loops)) (s .ticks)) room) × (new ≡ written (reportText count (firstLines ls (s .loops)) (s .ticks)) old)
         → (r ≡ replyOf ones (judgedScript script) room) × (new ≡ bufferOf ones (judgedScript script) old)
     unfolding replyOf bufferOf
     reported r old new room (a, b) = (

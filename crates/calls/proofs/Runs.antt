@@ -32,16 +32,16 @@ unfolding stored answer
 by-number script zero p store picks allowance h = absurd (h refl)
 by-number script (suc n) p store picks allowance h = refl
 
-module _ (script : Script) (count : ℕ) (s : Figures) (found : Found script count s) (store : List ℤ) (picks : List ℕ) (allowance : ℕ) where
+module _ (script : Script) (count : ℕ) (s : Figures) (ls : List (List ℕ)) (found : Found script count s ls) (store : List ℤ) (picks : List ℕ) (allowance : ℕ) where
   -- refused by 8 to 13
   pub ran-no : (s .number ≡ 0 → ⊥) → (o : Outcome) → ToldNo o (s .number) (s .place) → Ran (runReply ones (judgedScript script) store picks allowance) store store o
   unfolding runReply
-  ran-no h o t = refused-as (ap (λ j. runReply ones j store picks allowance) (judged-no script count s found h)) t
+  ran-no h o t = refused-as (ap (λ j. runReply ones j store picks allowance) (judged-no script count s ls found h)) t
 
   module _ (z : s .number ≡ 0) (n p : ℕ) (asked : storeVerdict 0 (script .ranges) store ≡ answer n p) where
     replied : runReply ones (judgedScript script) store picks allowance ≡ stored ones script (answer n p) store picks allowance
     unfolding runReply
-    replied = ap (λ j. runReply ones j store picks allowance) (judged-yes script count s found z) ∙ ap (λ v. stored ones script v store picks allowance) asked
+    replied = ap (λ j. runReply ones j store picks allowance) (judged-yes script count s ls found z) ∙ ap (λ v. stored ones script v store picks allowance) asked
 
     -- refused by 15
     pub ran-out : (n ≡ 0 → ⊥) → (o : Outcome) → ToldNo o n p → Ran (runReply ones (judgedScript script) store picks allowance) store store o
@@ -59,7 +59,7 @@ module _ (script : Script) (count : ℕ) (s : Figures) (found : Found script cou
       same-run : runScript ones script store picks allowance ≡ runScript ones script store picks (min allowance (s .ticks))
       unfolding runScript
       same-run =
-          run-capped ones (omega arith) script (is-accepted script count s found z legal) store (store-in script store passes) picks allowance
+          run-capped ones (omega arith) script (is-accepted script count s ls found z legal) store (store-in script store passes) picks allowance
           ∙ ap (λ t. runScript ones script store picks (min allowance t)) (sym (found .figures .ticks z))
 
       pub replied-run : runReply ones (judgedScript script) store picks allowance ≡ ranScript ones script store picks (min allowance (s .ticks))
@@ -69,11 +69,11 @@ module _ (script : Script) (count : ℕ) (s : Figures) (found : Found script cou
           ∙ ap (λ (a : Answer). ran a (countsAt (a .entries) (loopRows 0 (script .rows)))) same-run
 
 -- the run of the rows is the answer
-pub ran-all : (rows : List Row) (count vars : ℕ) (low high : List ℤ) (s : Figures) → Found (held rows count vars low high) count s
+pub ran-all : (rows : List Row) (count vars : ℕ) (low high : List ℤ) (s : Figures) (ls : List (List ℕ)) → Found (held rows count vars low high) count s ls
     → (store : List ℤ) (picks : List ℕ) (allowance : ℕ) → s .number ≡ 0 → (n p : ℕ) → storeVerdict 0 (ends vars low high) store ≡ answer n p → n ≡ 0 → Legal (held rows count vars low high)
     → (least : ℕ) → least ≡ min allowance (s .ticks) → (new : List ℤ) (o : Outcome)
     → Ran (ranRows rows count store picks least) store new o → Ran (runReply ones (judgedScript (held rows count vars low high)) store picks allowance) store new o
 unfolding ranScript runScript
-ran-all rows count vars low high s found store picks allowance z n p asked y legal least e new o =
+ran-all rows count vars low high s ls found store picks allowance z n p asked y legal least e new o =
     subst (λ r. Ran r store new o)
-    (ap (λ t. ranRows rows count store picks t) e ∙ sym (replied-run (held rows count vars low high) count s found store picks allowance z n p asked y legal))
+    (ap (λ t. ranRows rows count store picks t) e ∙ sym (replied-run (held rows count vars low high) count s ls found store picks allowance z n p asked y legal))

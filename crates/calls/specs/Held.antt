@@ -23,9 +23,9 @@ abbrev pub judgedScript : Script → Judged
 judgedScript script = judgedBy script (verdict ones (length (script .rows)) (envOf (script .ranges)) (treeOf (script .rows)))
 
 -- what the survey found of a script of `count` rows
-pub record Found (script : Script) (count : ℕ) (s : Figures) : Type 0 where
+pub record Found (script : Script) (count : ℕ) (s : Figures) (lines : List (List ℕ)) : Type 0 where
   pub long : length (script .rows) ≡ count
-  pub figures : SurveyOf script count s
+  pub figures : SurveyOf script count s lines
 
 -- the ends side by side, and [0, 0] from variable `vars` on
 pub record PairsOf (vars : ℕ) (low high : List ℤ) (r : List (List ℤ)) : Type 0 where

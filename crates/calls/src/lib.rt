@@ -43,12 +43,13 @@ fn surveyed(
     vars: usize,
     low: [i32; 16],
     high: [i32; 16],
+    lines: &mut [[u64; 7]; 16],
 ) -> Figures
-    requires { ⌜ Given (held (rowsOf (now rows)) count vars low high) count vars ⌝ }
-    ensures { λ r. ⌜ Found (held (rowsOf (now (rows .entry))) count vars low high) count r ⌝ }
+    requires { ⌜ Given (held (rowsOf (now rows)) count vars low high) count vars × (length (now lines) ≡ 16) ⌝ }
+    ensures { λ r. ⌜ Found (held (rowsOf (now (rows .entry))) count vars low high) count r (now (lines .exit)) ⌝ }
 {
     let pairs = pairs_of(vars, low, high);
-    survey::survey(rows, count, pairs, vars)
+    survey::survey(rows, count, pairs, vars, lines)
 }
 
 // The report call: the questions 8 to 14, and the report in the buffer.
@@ -63,12 +64,13 @@ pub fn report_script(
     requires { ⌜ Given (held (rowsOf (now rows)) count vars low high) count vars ⌝ }
     ensures { λ r. ⌜ (r ≡ replyOf ones (judgedScript (held (rowsOf (now (rows .entry))) count vars low high)) (length (now (buffer .entry)))) × (now (buffer .exit) ≡ bufferOf ones (judgedScript (held (rowsOf (now (rows .entry))) count vars low high)) (now (buffer .entry))) ⌝ }
 {
-    let figures = surveyed(rows, count, vars, low, high);
+    let none: [u64; 7] = [0; 7];
+    let mut lines = [none; 16];
+    let figures = surveyed(rows, count, vars, low, high, &mut lines);
     if figures.number != 0 {
         return Reply::Refused(figures.number, figures.place);
     }
-    let lines = figures.lines;
-    report::write_report(count, lines, figures.loops, figures.ticks, buffer)
+    report::write_report(count, &lines, figures.loops, figures.ticks, buffer)
 }
 
 // Is x between lo and hi?
@@ -239,7 +241,9 @@ pub fn run_script(
     ensures run { λ r. ⌜ Ran (runReply ones (judgedScript (held rows count vars low high)) (now (store .entry)) (now (picks .entry)) allowance) (now (store .entry)) (now (store .exit)) r ⌝ }
     ensures demand3 { λ _. ⌜ Demand3Of (judgedScript (held rows count vars low high)) (now (store .entry)) (now (picks .entry)) allowance ⌝ }
 {
-    let figures = surveyed(table, count, vars, low, high);
+    let none: [u64; 7] = [0; 7];
+    let mut lines = [none; 16];
+    let figures = surveyed(table, count, vars, low, high, &mut lines);
     if figures.number != 0 {
         return refusal(figures.number, figures.place);
     }

@@ -368,12 +368,7 @@ pub fn outside(r: &mut [[i32; 2]; 16], kind: Kind, set: [bool; 16], step: Step)
 }
 
 // From the ranges before the loop at row i to those after it; its end.
-fn after_loop(
-    rows: &[[u32; 9]; 256],
-    count: usize,
-    i: usize,
-    r: &mut [[i32; 2]; 16],
-) -> usize
+fn after_loop(rows: &[[u32; 9]; 256], count: usize, i: usize, r: &mut [[i32; 2]; 16]) -> usize
     requires { ⌜ AtLoop (rowsOf (now rows)) count i × (length (now r) ≡ 16) ⌝ }
     ensures { λ e. ⌜ AfterLoop (rowsOf (now (rows .entry))) count i (envOf (now (r .entry))) (now (r .exit)) e ⌝ }
 {

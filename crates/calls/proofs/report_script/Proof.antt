@@ -15,23 +15,23 @@ script s = held (rowsOf (now (s .args .rows))) (s .args .count) (s .args .vars) 
 
 returns : tie.Need-returns
 returns c =
-    let s = c .before .before .before .before in
+    let s = c .before .before .before .before .before in
     let f = c .before .before .surveyed in
     let h : f .result .number ≡ 0 → ⊥ = search needs in
-    not-reported (script s) (s .args .count) (f .result) (f .ensures) h _ _
+    not-reported (script s) (s .args .count) (f .result) _ (f .ensures) h _ _
 
 write-report-requires : tie.Need-write-report-requires
 write-report-requires c κs =
     let f = c .before .before .before .before .surveyed in
     let z : f .result .number ≡ 0 = search needs in
-    f .ensures .figures .loops z
+    record { few = f .ensures .figures .loops z; long = f .ensures .figures .long z }
 
 returns-2 : tie.Need-returns-2
 returns-2 c =
-    let s = c .before .before .before .before .before .before .before .before .before in
+    let s = c .before .before .before .before .before .before .before .before .before .before in
     let f = c .before .before .before .before .before .before .before .surveyed in
     let z : f .result .number ≡ 0 = search needs in
-    reported (script s) (s .args .count) (f .result) (f .ensures) z _ _ _ _ (c .before .before .write-report .ensures)
+    reported (script s) (s .args .count) (f .result) _ (f .ensures) z _ _ _ _ (c .before .before .write-report .ensures)
 
 pub report-script-spec : {M : Type 1} → statement M
 report-script-spec =

@@ -27,50 +27,50 @@ same : (s : tie.Start) → held (rowsOf (now (s .args .table))) (s .args .count)
 same s = packed-held (s .args .rows) (now (s .args .table)) (s .args .count) (s .args .vars) (s .args .low) (s .args .high) (s .pre .1)
 
 -- what the survey found of it
-found : (c : tie.After-surveyed) → Found (script (c .before .before)) (c .before .before .args .count) (c .surveyed .result)
-found c = subst (λ k. Found k (c .before .before .args .count) (c .surveyed .result)) (same (c .before .before)) (c .surveyed .ensures)
+found : (c : tie.After-surveyed) → Found (script (c .before .before .before)) (c .before .before .before .args .count) (c .surveyed .result) (c .surveyed .last .1 .1 .1 .1 .1 .0)
+found c = subst (λ k. Found k (c .before .before .before .args .count) (c .surveyed .result) (c .surveyed .last .1 .1 .1 .1 .1 .0)) (same (c .before .before .before)) (c .surveyed .ensures)
 
 surveyed-requires : tie.Need-surveyed-requires
-surveyed-requires c κs = let s = c .before in subst (λ k. Given k (s .args .count) (s .args .vars)) (sym (same s)) (s .pre .0)
+surveyed-requires c κs = let s = c .before .before in (subst (λ k. Given k (s .args .count) (s .args .vars)) (sym (same s)) (s .pre .0), search needs)
 
 returns : tie.Need-returns
 returns c =
-    let s = c .before .before .before .before .before in
+    let s = c .before .before .before .before .before .before in
     let f = c .before .before .before .surveyed in
     let h : f .result .number ≡ 0 → ⊥ = search needs in
-    (ran-no (script s) (s .args .count) (f .result) (found (c .before .before .before)) (s .args .store .now) (s .args .picks .now) (s .args .allowance) h _ (c .refusal .ensures), kept s)
+    (ran-no (script s) (s .args .count) (f .result) _ (found (c .before .before .before)) (s .args .store .now) (s .args .picks .now) (s .args .allowance) h _ (c .refusal .ensures), kept s)
 
 returns-2 : tie.Need-returns-2
 returns-2 c =
-    let s = c .before .before .before .before .before .before .before .before .before in
+    let s = c .before .before .before .before .before .before .before .before .before .before in
     let f = c .before .before .before .before .before .before .before .surveyed in
     let q = c .before .before .before .ask-store in
     let z : f .result .number ≡ 0 = search needs in
     let h : q .result .number ≡ 0 → ⊥ = search needs in
-    (ran-out (script s) (s .args .count) (f .result) (found (c .before .before .before .before .before .before .before)) (s .args .store .now) (s .args .picks .now) (s .args .allowance) z (q .result .number) (q .result .place) (q .ensures) h _ (c .refusal2 .ensures), kept s)
+    (ran-out (script s) (s .args .count) (f .result) _ (found (c .before .before .before .before .before .before .before)) (s .args .store .now) (s .args .picks .now) (s .args .allowance) z (q .result .number) (q .result .place) (q .ensures) h _ (c .refusal2 .ensures), kept s)
 
 run-accepted-requires : tie.Need-run-accepted-requires
 run-accepted-requires c κs =
-    let s = c .before .before .before .before .before .before .before .before .before .before in
+    let s = c .before .before .before .before .before .before .before .before .before .before .before in
     let f = c .before .before .before .before .before .before .before .before .surveyed in
     let q = c .before .before .before .before .ask-store in
     let z : f .result .number ≡ 0 = search needs in
     let y : q .result .number ≡ 0 = search needs in
-    let few = ticks-few (script s) (s .args .count) (f .result) (found (c .before .before .before .before .before .before .before .before)) z in
+    let few = ticks-few (script s) (s .args .count) (f .result) _ (found (c .before .before .before .before .before .before .before .before)) z in
     record {
       size = omega (arith, s .pre .0 .legal .sizes .1, s .pre .0 .rows);
-      runs = may-run (script s) (s .args .count) (f .result) (found (c .before .before .before .before .before .before .before .before)) (s .args .store .now) (s .args .picks .now) (s .args .allowance) z (q .result .number) (q .result .place) (q .ensures) y (s .pre .0 .legal);
+      runs = may-run (script s) (s .args .count) (f .result) _ (found (c .before .before .before .before .before .before .before .before)) (s .args .store .now) (s .args .picks .now) (s .args .allowance) z (q .result .number) (q .result .place) (q .ensures) y (s .pre .0 .legal);
       ticks = omega (arith, c .smaller .ensures);
     }
 
 returns-3 : tie.Need-returns-3
 returns-3 c =
-    let s = c .before .before .before .before .before .before .before .before .before .before .before .before in
+    let s = c .before .before .before .before .before .before .before .before .before .before .before .before .before in
     let f = c .before .before .before .before .before .before .before .before .before .before .surveyed in
     let q = c .before .before .before .before .before .before .ask-store in
     let z : f .result .number ≡ 0 = omega (arith, c .before .before .before .before .before .before .before .before .if1 .left) in
     let y : q .result .number ≡ 0 = omega (arith, c .before .before .before .before .if2 .left) in
-    (ran-all (s .args .rows) (s .args .count) (s .args .vars) (s .args .low) (s .args .high) (f .result) (found (c .before .before .before .before .before .before .before .before .before .before)) (s .args .store .now) (s .args .picks .now) (s .args .allowance) z (q .result .number) (q .result .place) (q .ensures) y (s .pre .0 .legal) _ (c .before .before .smaller .ensures) _ _ (c .before .run-accepted .ensures), kept s)
+    (ran-all (s .args .rows) (s .args .count) (s .args .vars) (s .args .low) (s .args .high) (f .result) _ (found (c .before .before .before .before .before .before .before .before .before .before)) (s .args .store .now) (s .args .picks .now) (s .args .allowance) z (q .result .number) (q .result .place) (q .ensures) y (s .pre .0 .legal) _ (c .before .before .smaller .ensures) _ _ (c .before .run-accepted .ensures), kept s)
 
 pub run-script-spec : {M : Type 1} → statement M
 run-script-spec =
