@@ -14,11 +14,11 @@ use Rattle.rows.proofs.for_row.Tie as tie
 words : (c : tie.After-said6) → let a = c .before .before .before .before .before .before .before .before .before .before .before .before .before .before .before .before .before .before .before .args in let w = after Missing (drop (a .at) (now (a .s))) in
     (c .before .before .before .before .before .before .before .before .before .before .before .before .before .before .before .said .result ≡ w 1) × (c .before .before .before .before .before .before .before .before .before .before .before .before .said2 .result ≡ w 2) × (c .before .before .before .before .before .before .before .before .before .said3 .result ≡ w 3) × (c .before .before .before .before .before .before .said4 .result ≡ w 4) × (c .before .before .before .said5 .result ≡ w 5) × (c .said6 .result ≡ w 6) × Reached (now (a .s)) (a .at) 6 (c .before .before .next-word6 .result .end)
 words c =
-    let (v, x, p) = reach-two _ _ (c .before .before .before .before .before .before .before .before .before .before .before .before .before .before .before .before .before .before .before .pre .0) _ (c .before .before .before .before .before .before .before .before .before .before .before .before .before .before .before .before .before .next-word .ensures) (sfits-of (c .before .before .before .before .before .before .before .before .before .before .before .before .before .before .before .before .struct-told .given .1 .0 .1)) _ (c .before .before .before .before .before .before .before .before .before .before .before .before .before .before .before .said .ensures) _ (c .before .before .before .before .before .before .before .before .before .before .before .before .before .before .next-word2 .ensures) (sfits-of (c .before .before .before .before .before .before .before .before .before .before .before .before .before .struct-told2 .given .1 .0 .1)) _ (c .before .before .before .before .before .before .before .before .before .before .before .before .said2 .ensures) in
-    let (o, q) = reach-word _ _ 2 _ p _ (c .before .before .before .before .before .before .before .before .before .before .before .next-word3 .ensures) (sfits-of (c .before .before .before .before .before .before .before .before .before .before .struct-told3 .given .1 .0 .1)) _ (c .before .before .before .before .before .before .before .before .before .said3 .ensures) in
-    let (y, r) = reach-word _ _ 3 _ q _ (c .before .before .before .before .before .before .before .before .next-word4 .ensures) (sfits-of (c .before .before .before .before .before .before .before .struct-told4 .given .1 .0 .1)) _ (c .before .before .before .before .before .before .said4 .ensures) in
-    let (n, s) = reach-word _ _ 4 _ r _ (c .before .before .before .before .before .next-word5 .ensures) (sfits-of (c .before .before .before .before .struct-told5 .given .1 .0 .1)) _ (c .before .before .before .said5 .ensures) in
-    let (z, t) = reach-word _ _ 5 _ s _ (c .before .before .next-word6 .ensures) (sfits-of (c .before .struct-told6 .given .1 .0 .1)) _ (c .said6 .ensures) in
+    let (v, x, p) = reach-two _ _ (c .before .before .before .before .before .before .before .before .before .before .before .before .before .before .before .before .before .before .before .pre .0) _ (c .before .before .before .before .before .before .before .before .before .before .before .before .before .before .before .before .before .next-word .ensures) _ (sfits-of (c .before .before .before .before .before .before .before .before .before .before .before .before .before .before .before .before .struct-told .given .1 .0 .1), c .before .before .before .before .before .before .before .before .before .before .before .before .before .before .before .said .ensures) _ (c .before .before .before .before .before .before .before .before .before .before .before .before .before .before .next-word2 .ensures) _ (sfits-of (c .before .before .before .before .before .before .before .before .before .before .before .before .before .struct-told2 .given .1 .0 .1), c .before .before .before .before .before .before .before .before .before .before .before .before .said2 .ensures) in
+    let (o, q) = reach-word _ _ 2 _ p _ (c .before .before .before .before .before .before .before .before .before .before .before .next-word3 .ensures) _ (sfits-of (c .before .before .before .before .before .before .before .before .before .before .struct-told3 .given .1 .0 .1), c .before .before .before .before .before .before .before .before .before .said3 .ensures) in
+    let (y, r) = reach-word _ _ 3 _ q _ (c .before .before .before .before .before .before .before .before .next-word4 .ensures) _ (sfits-of (c .before .before .before .before .before .before .before .struct-told4 .given .1 .0 .1), c .before .before .before .before .before .before .said4 .ensures) in
+    let (n, s) = reach-word _ _ 4 _ r _ (c .before .before .before .before .before .next-word5 .ensures) _ (sfits-of (c .before .before .before .before .struct-told5 .given .1 .0 .1), c .before .before .before .said5 .ensures) in
+    let (z, t) = reach-word _ _ 5 _ s _ (c .before .before .next-word6 .ensures) _ (sfits-of (c .before .struct-told6 .given .1 .0 .1), c .said6 .ensures) in
     (v, x, o, y, n, z, t)
 
 -- the words' questions

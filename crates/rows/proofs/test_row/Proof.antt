@@ -15,8 +15,8 @@ use Rattle.rows.proofs.test_row.Tie as tie
 words : (c : tie.After-said3) → let a = c .before .before .before .before .before .before .before .before .before .before .args in let w = after Missing (drop (a .at) (now (a .s))) in
     (c .before .before .before .before .before .before .said .result ≡ w 1) × (c .before .before .before .said2 .result ≡ w 2) × (c .said3 .result ≡ w 3) × Reached (now (a .s)) (a .at) 3 (c .before .before .next-word3 .result .end)
 words c =
-    let (v, o, p) = reach-two _ _ (c .before .before .before .before .before .before .before .before .before .before .pre .0) _ (c .before .before .before .before .before .before .before .before .next-word .ensures) (search needs) _ (c .before .before .before .before .before .before .said .ensures) _ (c .before .before .before .before .before .next-word2 .ensures) (search needs) _ (c .before .before .before .said2 .ensures) in
-    let (x, q) = reach-word _ _ 2 _ p _ (c .before .before .next-word3 .ensures) (search needs) _ (c .said3 .ensures) in
+    let (v, o, p) = reach-two _ _ (c .before .before .before .before .before .before .before .before .before .before .pre .0) _ (c .before .before .before .before .before .before .before .before .next-word .ensures) _ (search needs, c .before .before .before .before .before .before .said .ensures) _ (c .before .before .before .before .before .next-word2 .ensures) _ (search needs, c .before .before .before .said2 .ensures) in
+    let (x, q) = reach-word _ _ 2 _ p _ (c .before .before .next-word3 .ensures) _ (search needs, c .said3 .ensures) in
     (v, o, x, q)
 
 -- the words' questions
