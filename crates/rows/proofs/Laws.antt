@@ -3,8 +3,7 @@ use mathlib.Core.Path.{_≡_, refl, sym, ap, _∙_}
 use mathlib.Core.Bool.{Bool, true, false, cond, _&&_}
 use Prim.Native.Nat.{ℕ, zero, suc, _≤_, _<_}
 use native.Mathlib.Omega.{arith}
-use lib.Dec.{leb, ltb}
-use lib.IntN.{ℤ, pos, natAbs}
+use lib.IntN.{ℤ, pos}
 use lib.Signed.{leZ}
 use borrow.Author.Tests.{le-leb, lt-leb}
 use Rattle.rules.specs.declared.Kind.{Kind}
@@ -12,7 +11,6 @@ use Rattle.rules.specs.declared.Word.{Word}
 use Rattle.rules.specs.declared.Word.the-variants.{Number, Variable}
 use Rattle.rules.specs.declared.RowRead.{RowRead}
 use Rattle.rules.specs.declared.RowRead.the-variants.{Read, Wrong}
-use Rattle.rules.specs.Values.{highest}
 use Rattle.rules.specs.File.{sooner, asksEnd, asksNumber, asksVariable, asksOperand, asksChange, asksStep, asksOne, asksTest, asksFor, checked, variableOf, comparisonOf, operandOf, numberOf, changeOf, stepOf, setRow, moveRow, cueRow, bareRow, whileRow, doRow, forRow, namedRow, firstWord, rowOf}
 use lib.Signed.{_≤ℤ_}
 use Rattle.ints.proofs.Parts.{ints}
@@ -165,25 +163,29 @@ no-keyword (Compares c) o = (λ _. (refl, refl), λ _ _. refl)
 no-keyword (Keyword n) o = absurd (miss no-keywords 4 tt o)
 no-keyword Other o = (λ _. (refl, refl), λ _ _. refl)
 
--- the words of a test, and of a for, whose questions all have yes
-pub test-words : (vars : ℕ) (w : ℕ → Word) (q : ℕ) → q ≡ asksTest vars w → q ≡ 0 → (asksVariable vars (w 1) ≡ 0) × (asksOperand vars (w 3) ≡ 0)
-unfolding asksTest
-test-words vars w q e z =
-    let (a, b) = sooner-yes _ _ (sym e ∙ z) in
-    let (_, c) = sooner-yes _ _ b in
-    let (d, _) = sooner-yes _ _ c in
-    (a, d)
+-- a row's words, whose questions all have yes: of two words, of a test, of a for
+pub two-yes : (a b c q : ℕ) → q ≡ sooner a (sooner b c) → q ≡ 0 → (a ≡ 0) × (b ≡ 0) × (c ≡ 0)
+two-yes a b c q e z =
+    let (f, g) = sooner-yes _ _ (sym e ∙ z) in
+    let (h, i) = sooner-yes _ _ g in
+    (f, h, i)
 
-pub for-words : (vars : ℕ) (w : ℕ → Word) (q : ℕ) → q ≡ asksFor vars w → q ≡ 0
-    → (asksVariable vars (w 1) ≡ 0) × (asksOperand vars (w 2) ≡ 0) × (asksOperand vars (w 4) ≡ 0) × (asksStep (w 5) (w 6) ≡ 0)
-unfolding asksFor
-for-words vars w q e z =
-    let (a, b) = sooner-yes _ _ (sym e ∙ z) in
+pub test-yes : (vars : ℕ) (w : ℕ → Word) (q : ℕ) → q ≡ asksTest vars w → q ≡ 0 → (asksVariable vars (w 1) ≡ 0) × (asksOperand vars (w 3) ≡ 0) × (asksEnd (w 4) ≡ 0)
+unfolding asksTest
+test-yes vars w q e z =
+    let (a, _, b) = two-yes _ _ _ q e z in
     let (c, d) = sooner-yes _ _ b in
-    let (_, f) = sooner-yes _ _ d in
-    let (g, h) = sooner-yes _ _ f in
-    let (i, _) = sooner-yes _ _ h in
-    (a, c, g, i)
+    (a, c, d)
+
+pub for-yes : (vars : ℕ) (w : ℕ → Word) (q : ℕ) → q ≡ asksFor vars w → q ≡ 0
+    → (asksVariable vars (w 1) ≡ 0) × (asksOperand vars (w 2) ≡ 0) × (asksOperand vars (w 4) ≡ 0) × (asksStep (w 5) (w 6) ≡ 0) × (asksEnd (w 7) ≡ 0)
+unfolding asksFor
+for-yes vars w q e z =
+    let (a, b, c) = two-yes _ _ _ q e z in
+    let (_, d) = sooner-yes _ _ c in
+    let (f, g) = sooner-yes _ _ d in
+    let (h, i) = sooner-yes _ _ g in
+    (a, b, f, h, i)
 
 -- ---- a row's line, whose words are read up to the byte p
 module _ (s : List ℕ) (at m p : ℕ) (f : (ℕ → Word) → RowRead) (h : Reached s at m p) where
@@ -192,14 +194,6 @@ module _ (s : List ℕ) (at m p : ℕ) (f : (ℕ → Word) → RowRead) (h : Rea
 
 pub lined-wrong : (s : List ℕ) (at p : ℕ) (f : (ℕ → Word) → RowRead) (q : ℕ) → Wrong q ≡ f (after Missing (drop at s)) → Lined s at f (record { row = Wrong q; end = p })
 lined-wrong s at p f q e = record { row = e; end = λ k w. absurd (let y : _≡_ {A = ℕ} 0 1 = cc in omega arith) }
-
-pub for-last : (vars : ℕ) (w : ℕ → Word) (q : ℕ) → q ≡ asksFor vars w → q ≡ 0 → asksEnd (w 7) ≡ 0
-unfolding asksFor
-for-last vars w q e z = sooner-yes _ _ (sooner-yes _ _ (sooner-yes _ _ (sooner-yes _ _ (sooner-yes _ _ (sym e ∙ z) .1) .1) .1) .1) .1
-
-pub test-last : (vars : ℕ) (w : ℕ → Word) (q : ℕ) → q ≡ asksTest vars w → q ≡ 0 → asksEnd (w 4) ≡ 0
-unfolding asksTest
-test-last vars w q e z = sooner-yes _ _ (sooner-yes _ _ (sooner-yes _ _ (sym e ∙ z) .1) .1) .1
 
 -- a loop with a test
 module _ (after : Bool) (vars : ℕ) (w : ℕ → Word) (q : ℕ) where

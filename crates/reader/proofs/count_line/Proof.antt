@@ -3,7 +3,7 @@ use Prim.Native.Nat.{_+_, _-_, _≤_}
 use lib.ListN.{length, drop}
 use denote.Ref.{now}
 use Rattle.reader.proofs.Counts.{count-read, count-wrong, count-small, count-long, count-none}
-use Rattle.reader.proofs.Lines.{Keyed, keyed-at, keyed-end, at-none, last, last-length}
+use Rattle.reader.proofs.Lines.{Keyed, keyed-at, keyed-end, at-none, last-length}
 use Rattle.text.proofs.Line.{Reached, reach-none, reach-word}
 use Rattle.text.specs.Words.{before, cut, following}
 use mir.Facts.{toZ-ofZ}

@@ -10,7 +10,7 @@ use mir.Facts.{toZ-ofZ}
 use mir.Syntax.{w32}
 use mir.Val.{SFits}
 use borrow.Author.Needs.{sfits-of, needs}
-use Rattle.rules.specs.File.{sooner, asksEnd, asksOrder, asksRange, numberOf, rangeKey}
+use Rattle.rules.specs.File.{asksEnd, asksRange, numberOf, rangeKey}
 use Rattle.rules.specs.Values.{lowest, highest}
 use Rattle.reader.proofs.range_line.Statement.{statement}
 use Rattle.reader.proofs.range_line.Tie as tie

@@ -1,11 +1,11 @@
 use mathlib.Core.Path.{_≡_}
 use denote.Ref.{now}
 use lib.ListN.{drop}
-use Rattle.rules.specs.File.{sooner, asksEnd, asksFor, forRow}
+use Rattle.rules.specs.File.{asksFor, forRow}
 use Rattle.rules.specs.declared.Word.the-variants.{Missing}
 use Rattle.text.proofs.Line.{Reached, reach-two, reach-word, reach-last}
 use Rattle.rows.specs.Words.{after}
-use Rattle.rows.proofs.Laws.{checked-read, checked-wrong, lined-read, lined-wrong, for-words, for-last}
+use Rattle.rows.proofs.Laws.{checked-read, checked-wrong, lined-read, lined-wrong, for-yes}
 use borrow.Author.Needs.{sfits-of, needs}
 use Rattle.rows.proofs.for_row.Statement.{statement}
 use Rattle.rows.proofs.for_row.Tie as tie
@@ -28,23 +28,23 @@ asked c = let (v, x, o, y, n, z, r) = words (c .before .before .before .before .
     rw (c .sooner5 .ensures, c .before .asks-variable .ensures, c .before .before .sooner4 .ensures, c .before .before .before .asks-operand2 .ensures, c .before .before .before .before .sooner3 .ensures, c .before .before .before .before .before .asks-comparison .ensures, c .before .before .before .before .before .before .sooner2 .ensures, c .before .before .before .before .before .before .before .asks-operand .ensures, c .before .before .before .before .before .before .before .before .sooner .ensures, c .before .before .before .before .before .before .before .before .before .before .asks-step .ensures, c .before .before .before .before .before .before .before .before .before .asks-last .ensures, v, x, o, y, n, z, reach-last _ _ 6 _ r)
 
 operand-of-requires : tie.Need-operand-of-requires
-operand-of-requires c κs = (c .before .before .before .before .before .before .before .before .before .before .before .before .before .before .before .before .before .before .before .before .before .before .before .before .before .before .before .before .before .before .before .pre .1, rw (words (c .before .before .before .before .before .before .before .before .before .before .before .before) .1) (for-words _ _ _ (asked (c .before)) (c .if1 .taken) .1))
+operand-of-requires c κs = (c .before .before .before .before .before .before .before .before .before .before .before .before .before .before .before .before .before .before .before .before .before .before .before .before .before .before .before .before .before .before .before .pre .1, rw (words (c .before .before .before .before .before .before .before .before .before .before .before .before) .1) (for-yes _ _ _ (asked (c .before)) (c .if1 .taken) .1))
 
 operand-of-requires-2 : tie.Need-operand-of-requires-2
-operand-of-requires-2 c κs = (c .before .before .before .before .before .before .before .before .before .before .before .before .before .before .before .before .before .before .before .before .before .before .before .before .before .before .before .before .before .before .before .before .pre .1, rw (words (c .before .before .before .before .before .before .before .before .before .before .before .before .before) .3) (for-words _ _ _ (asked (c .before .before)) (c .before .if1 .taken) .2))
+operand-of-requires-2 c κs = (c .before .before .before .before .before .before .before .before .before .before .before .before .before .before .before .before .before .before .before .before .before .before .before .before .before .before .before .before .before .before .before .before .pre .1, rw (words (c .before .before .before .before .before .before .before .before .before .before .before .before .before) .3) (for-yes _ _ _ (asked (c .before .before)) (c .before .if1 .taken) .2))
 
 step-of-requires : tie.Need-step-of-requires
 step-of-requires c κs = let (_, _, _, _, n, z, _) = words (c .before .before .before .before .before .before .before .before .before .before .before .before .before .before) in
-    rw (n, z) (for-words _ _ _ (asked (c .before .before .before)) (c .before .before .if1 .taken) .3)
+    rw (n, z) (for-yes _ _ _ (asked (c .before .before .before)) (c .before .before .if1 .taken) .3)
 
 variable-of-requires : tie.Need-variable-of-requires
-variable-of-requires c κs = (c .before .before .before .before .before .before .before .before .before .before .before .before .before .before .before .before .before .before .before .before .before .before .before .before .before .before .before .before .before .before .before .before .before .before .pre .1, rw (words (c .before .before .before .before .before .before .before .before .before .before .before .before .before .before .before) .0) (for-words _ _ _ (asked (c .before .before .before .before)) (c .before .before .before .if1 .taken) .0))
+variable-of-requires c κs = (c .before .before .before .before .before .before .before .before .before .before .before .before .before .before .before .before .before .before .before .before .before .before .before .before .before .before .before .before .before .before .before .before .before .before .pre .1, rw (words (c .before .before .before .before .before .before .before .before .before .before .before .before .before .before .before) .0) (for-yes _ _ _ (asked (c .before .before .before .before)) (c .before .before .before .if1 .taken) .0))
 
 returns : tie.Need-returns
 unfolding forRow
 returns c = let (v, x, o, y, n, z, r) = words (c .before .before .before .before .before .before .before .before .before .before .before .before .before .before .before .before .before) in
     let e = asked (c .before .before .before .before .before .before) in
-    lined-read _ _ 6 _ (forRow (c .before .before .before .before .before .before .before .before .before .before .before .before .before .before .before .before .before .before .before .before .before .before .before .before .before .before .before .before .before .before .before .before .before .before .before .before .args .vars)) r _ (checked-read _ _ _ _ e (c .before .before .before .before .before .if1 .taken) (rw (c .comparison-of .ensures, c .before .variable-of .ensures, c .before .before .step-of .ensures, c .before .before .before .operand-of2 .ensures, c .before .before .before .before .operand-of .ensures, v, x, o, y, n, z))) (for-last _ _ _ e (c .before .before .before .before .before .if1 .taken))
+    lined-read _ _ 6 _ (forRow (c .before .before .before .before .before .before .before .before .before .before .before .before .before .before .before .before .before .before .before .before .before .before .before .before .before .before .before .before .before .before .before .before .before .before .before .before .args .vars)) r _ (checked-read _ _ _ _ e (c .before .before .before .before .before .if1 .taken) (rw (c .comparison-of .ensures, c .before .variable-of .ensures, c .before .before .step-of .ensures, c .before .before .before .operand-of2 .ensures, c .before .before .before .before .operand-of .ensures, v, x, o, y, n, z))) (for-yes _ _ _ e (c .before .before .before .before .before .if1 .taken) .4)
 
 returns-2 : tie.Need-returns-2
 unfolding forRow
