@@ -29,7 +29,7 @@ ghost use Rattle.table.specs.Code.{kindAt, rowsOf};
 ghost use Rattle.steps.specs.Tree.{shapeOf, plainOf, formOf, testOf, Ready, Walked};
 ghost use Rattle.steps.specs.Sets.{setOf};
 ghost use Rattle.steps.specs.Body.{AtLoop};
-ghost use Rattle.ranges.specs.Env.{EnvIs, envOf, rangeOf, joinRange, changedRange, widenedEnv, late, HeadOf, InsideOf, OutsideOf, AfterLoop};
+ghost use Rattle.ranges.specs.Env.{EnvIs, envOf, rangeOf, joinRange, changedRange, widenedEnv, HeadOf, InsideOf, OutsideOf, AfterLoop};
 
 // A pair of ends.
 pub struct Span {
@@ -38,7 +38,7 @@ pub struct Span {
 }
 
 // The range of v.
-fn span_in(r: &[[i32; 2]; 16], v: u8) -> Span
+pub fn span_at(r: &[[i32; 2]; 16], v: u8) -> Span
     requires { ⌜ v < 16 ⌝ }
     ensures { λ s. ⌜ rangeOf s ≡ envOf (now (r .entry)) v ⌝ }
 {
@@ -49,15 +49,8 @@ fn span_in(r: &[[i32; 2]; 16], v: u8) -> Span
     }
 }
 
-pub fn span_at(r: [[i32; 2]; 16], v: u8) -> Span
-    requires { ⌜ v < 16 ⌝ }
-    ensures { λ s. ⌜ rangeOf s ≡ envOf r v ⌝ }
-{
-    span_in(&r, v)
-}
-
 // s for v; the other ranges stay.
-fn put_in(r: &mut [[i32; 2]; 16], v: u8, s: Span)
+fn put(r: &mut [[i32; 2]; 16], v: u8, s: Span)
     requires { ⌜ (v < 16) × (length (now r) ≡ 16) ⌝ }
     ensures { λ _. ⌜ EnvIs (now (r .exit)) (put (envOf (now (r .entry))) v (rangeOf s)) ⌝ }
 {
@@ -67,31 +60,15 @@ fn put_in(r: &mut [[i32; 2]; 16], v: u8, s: Span)
     r[i] = [lo, hi];
 }
 
-fn put(r: [[i32; 2]; 16], v: u8, s: Span) -> [[i32; 2]; 16]
-    requires { ⌜ v < 16 ⌝ }
-    ensures { λ x. ⌜ envOf x ≡ put (envOf r) v (rangeOf s) ⌝ }
-{
-    let mut next = r;
-    put_in(&mut next, v, s);
-    next
-}
-
 // An operand's range.
-fn bounds_in(r: &[[i32; 2]; 16], x: Operand) -> Span
+pub fn bounds(r: &[[i32; 2]; 16], x: Operand) -> Span
     requires { ⌜ FineOperand x ⌝ }
     ensures { λ s. ⌜ rangeOf s ≡ bounds (envOf (now (r .entry))) x ⌝ }
 {
     match x {
         Operand::Constant(k) => Span { lo: k, hi: k },
-        Operand::Variable(w) => span_in(r, w),
+        Operand::Variable(w) => span_at(r, w),
     }
-}
-
-pub fn bounds(r: [[i32; 2]; 16], x: Operand) -> Span
-    requires { ⌜ FineOperand x ⌝ }
-    ensures { λ s. ⌜ rangeOf s ≡ bounds (envOf r) x ⌝ }
-{
-    bounds_in(&r, x)
 }
 
 fn lower(a: i32, b: i32) -> i32
@@ -121,7 +98,7 @@ pub fn joined(a: [[i32; 2]; 16], b: [[i32; 2]; 16]) -> [[i32; 2]; 16]
 {
     let mut r = a;
     for i in 0..16 {
-        let s = joined_span(span_at(a, i), span_at(b, i));
+        let s = joined_span(span_at(&a, i), span_at(&b, i));
         let lo = s.lo;
         let hi = s.hi;
         let k = i as usize;
@@ -171,11 +148,11 @@ pub fn step_row(r: &mut [[i32; 2]; 16], rows: &[[u32; 9]; 256], i: usize)
     let t = tag_at(rows, i);
     let v = variable_at(rows, i);
     if t == 3 {
-        let s = bounds_in(r, operand_at(rows, i));
-        put_in(r, v, s);
+        let s = bounds(r, operand_at(rows, i));
+        put(r, v, s);
     } else if t == 4 {
-        let s = changed_span(span_in(r, v), change_at(rows, i));
-        put_in(r, v, s);
+        let s = changed_span(span_at(r, v), change_at(rows, i));
+        put(r, v, s);
     }
 }
 
@@ -185,7 +162,12 @@ pub fn at_start(r: [[i32; 2]; 16], kind: Kind) -> [[i32; 2]; 16]
     ensures { λ x. ⌜ envOf x ≡ atStart (formOf kind) (testOf kind) (envOf r) ⌝ }
 {
     match kind {
-        Kind::For(v, x, _, _, _) => put(r, v, bounds(r, x)),
+        Kind::For(v, x, _, _, _) => {
+            let s = bounds(&r, x);
+            let mut begun = r;
+            put(&mut begun, v, s);
+            begun
+        }
         _ => r,
     }
 }
@@ -250,7 +232,7 @@ fn widened(set: [bool; 16], start: [[i32; 2]; 16], mine: Span, v: u8) -> [[i32; 
 {
     let mut r = start;
     for w in 0..16 {
-        let s = chosen(has(set, w), w == v, mine, span_at(start, w));
+        let s = chosen(has(set, w), w == v, mine, span_at(&start, w));
         let lo = s.lo;
         let hi = s.hi;
         let k = w as usize;
@@ -261,18 +243,11 @@ fn widened(set: [bool; 16], start: [[i32; 2]; 16], mine: Span, v: u8) -> [[i32; 
 
 // A do is tested after its body.
 pub fn is_do(kind: Kind) -> bool
-    ensures { λ r. ⌜ r ≡ late kind ⌝ }
+    ensures { λ r. ⌜ r ≡ isDo (formOf kind) ⌝ }
 {
     match kind {
-        Kind::Set(_, _) => false,
-        Kind::Move(_, _) => false,
-        Kind::Cue(_) => false,
-        Kind::Pick => false,
-        Kind::Else => false,
-        Kind::End => false,
-        Kind::While(_, _, _) => false,
         Kind::Do(_, _, _) => true,
-        Kind::For(_, _, _, _, _) => false,
+        _ => false,
     }
 }
 
@@ -331,8 +306,8 @@ pub fn inside(kind: Kind, set: [bool; 16], begun: [[i32; 2]; 16]) -> [[i32; 2]; 
     let v = head.tested;
     let comparison = head.comparison;
     let limit = head.limit;
-    let s = span_at(begun, v);
-    let n = bounds(begun, limit);
+    let s = span_at(&begun, v);
+    let n = bounds(&begun, limit);
     let mine = inside_span(is_do(kind), comparison, s, n);
     widened(set, begun, mine, v)
 }
@@ -389,7 +364,7 @@ pub fn outside(kind: Kind, set: [bool; 16], step: Step, begun: [[i32; 2]; 16]) -
     let head = head_of(kind);
     let v = head.tested;
     let comparison = head.comparison;
-    let mine = outside_span(step, comparison, span_at(begun, v));
+    let mine = outside_span(step, comparison, span_at(&begun, v));
     widened(set, begun, mine, v)
 }
 

@@ -100,8 +100,8 @@ fn one_loop(rows: &[[u32; 9]; 256], count: usize, i: usize, begun: [[i32; 2]; 16
     let set = body.set;
     let next = body.next;
     let step = body.step;
-    let s = span_at(begun, v);
-    let n = bounds(begun, limit);
+    let s = span_at(&begun, v);
+    let n = bounds(&begun, limit);
     let figure = ask(is_do(kind), step, keeps(limit, set), comparison, s, n);
     Turning {
         number: figure.number,

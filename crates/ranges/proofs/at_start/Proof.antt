@@ -8,17 +8,17 @@ use Rattle.ranges.proofs.at_start.Statement.{statement}
 use Rattle.ranges.proofs.at_start.Tie as tie
 
 bounds-requires : tie.Need-bounds-requires
-bounds-requires c κs = let h = rw (c .before .kind .given .1) at (c .before .before .before .pre) in h .1
+bounds-requires c κs = let h = rw (c .before .before .kind .given .1) at (c .before .before .before .before .pre) in h .1
 
 put-requires : tie.Need-put-requires
-put-requires c κs = let h = rw (c .before .before .kind .given .1) at (c .before .before .before .before .pre) in h .0
+put-requires c κs = let h = rw (c .before .before .before .before .kind .given .1) at (c .before .before .before .before .before .before .pre) in (h .0, search needs)
 
 returns : tie.Need-returns
 unfolding atStart formOf testOf
-returns c = rw (c .put .ensures, c .before .bounds .ensures, c .before .before .before .kind .given .1)
+returns c = rw (c .put .ensures .value, c .before .before .bounds .ensures, c .before .before .before .before .before .kind .given .1)
 
 returns-2 : tie.Need-returns-2
-returns-2 c = no-start (envOf (c .before .args .r)) (c .before .args .kind) (c .match .keys2)
+returns-2 c = no-start (envOf (c .before .args .t1)) (c .before .args .kind) (c .match .keys2)
 
 pub at-start-spec : {M : Type 1} → statement M
 at-start-spec = tie.close (tie.spec (λ c. search needs) bounds-requires put-requires returns returns-2)

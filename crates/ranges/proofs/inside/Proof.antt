@@ -1,15 +1,14 @@
 -- `ranges::inside` meets its contract.
 use borrow.Author.Needs.{needs}
-use mathlib.Core.Path.{_∙_}
-use Rattle.ranges.proofs.Loops.{inside-is, late-is}
+use Rattle.ranges.proofs.Loops.{inside-is}
 use Rattle.ranges.proofs.inside.Statement.{statement}
 use Rattle.ranges.proofs.inside.Tie as tie
 
 returns : tie.Need-returns
 returns c =
-    let h = c .before .before .before .before .before .head-of .ensures in
+    let h = c .before .before .before .before .before .before .before .head-of .ensures in
     record {
-      value = λ body e. inside-is _ body _ e _ _ _ _ _ _ (c .widened .ensures) (h .tested) (h .comparison) (c .before .before .before .before .span-at .ensures) _ _ _ (c .before .inside-span .ensures _ (c .before .before .is-do .ensures ∙ late-is _)) (c .before .before .before .bounds .ensures) (h .limit);
+      value = λ body e. inside-is _ body _ e _ _ _ _ _ _ (c .widened .ensures) (h .tested) (h .comparison) (c .before .before .before .before .before .span-at .ensures) _ _ _ (c .before .inside-span .ensures _ (c .before .before .is-do .ensures)) (c .before .before .before .bounds .ensures) (h .limit);
     }
 
 pub inside-spec : {M : Type 1} → statement M

@@ -24,19 +24,19 @@ loop-holds c = (search needs, search needs, sym (up-none _ _))
 
 loop-again : tie.Need-loop-again Inv-loop μ-loop
 loop-again c =
-    let l = c .before .before .before .before .before .before .loop in
+    let l = c .before .before .before .before .before .before .before .before .loop in
     let x = c .before .before .joined-span .result in
     let f : SFits w32 (x .lo) = search needs in
     let g : SFits w32 (x .hi) = search needs in
-    (search needs, simp length-set (l .inv .1), rw (toZ-ofZ f, toZ-ofZ g) (env-set (l .r) (l .i) (x .lo) (x .hi) (search needs)) ∙ up-put _ _ _ _ _ (l .inv .2) (join-at _ _ _ _ _ _ (c .before .before .joined-span .ensures) (c .before .before .before .before .span-at .ensures) (c .before .before .before .span-at2 .ensures)))
+    (search needs, simp length-set (l .inv .1), rw (toZ-ofZ f, toZ-ofZ g) (env-set (l .r) (l .i) (x .lo) (x .hi) (search needs)) ∙ up-put _ _ _ _ _ (l .inv .2) (join-at _ _ _ _ _ _ (c .before .before .joined-span .ensures) (c .before .before .before .before .before .span-at .ensures) (c .before .before .before .span-at2 .ensures)))
 
 returns : tie.Need-returns Inv-loop μ-loop
 returns c =
     let s = c .before .before .args in
     let e : c .before .loop .i ≡ 16 = omega arith in
-    let la : length (s .a) ≡ 16 = search needs in
-    let lb : length (s .b) ≡ 16 = search needs in
-    c .before .loop .inv .2 ∙ (rw e (up-all _ _ 16 (join-far (s .a) (s .b) la lb)))
+    let la : length (s .t1) ≡ 16 = search needs in
+    let lb : length (s .t2) ≡ 16 = search needs in
+    c .before .loop .inv .2 ∙ (rw e (up-all _ _ 16 (join-far (s .t1) (s .t2) la lb)))
 
 pub joined-spec : {M : Type 1} → statement M
 joined-spec =

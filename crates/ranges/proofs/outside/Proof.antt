@@ -6,7 +6,7 @@ use Rattle.ranges.proofs.outside.Tie as tie
 
 returns : tie.Need-returns
 returns c =
-    let h = c .before .before .before .head-of .ensures in
+    let h = c .before .before .before .before .head-of .ensures in
     record {
       value = λ body e q. outside-is _ body _ e _ _ _ _ _ _ (c .widened .ensures) (h .tested) (h .comparison) (c .before .before .span-at .ensures) _ (c .before .outside-span .ensures) q;
     }

@@ -15,21 +15,21 @@ use Rattle.ranges.proofs.widened.Statement.{statement}
 use Rattle.ranges.proofs.widened.Tie as tie
 
 abbrev Inv-loop : tie.InvT-loop
-Inv-loop set start mine v r₀ w₀ r w = (w ≤ 16) × (length r ≡ 16) × (envOf r ≡ upTo w (widenedEnv (setOf set) (rangeOf mine) v (envOf start)) (envOf start))
+Inv-loop set mine v start r₀ w₀ r w = (w ≤ 16) × (length r ≡ 16) × (envOf r ≡ upTo w (widenedEnv (setOf set) (rangeOf mine) v (envOf start)) (envOf start))
 
 abbrev μ-loop : tie.MeasureT-loop
-μ-loop set start mine v r₀ w₀ r w = 16 - w
+μ-loop set mine v start r₀ w₀ r w = 16 - w
 
 loop-holds : tie.Need-loop-holds Inv-loop μ-loop
 loop-holds c = (search needs, search needs, sym (up-none _ _))
 
 loop-again : tie.Need-loop-again Inv-loop μ-loop
 loop-again c =
-    let l = c .before .before .before .before .before .before .loop in
+    let l = c .before .before .before .before .before .before .before .loop in
     let x = c .before .before .chosen .result in
     let f : SFits w32 (x .lo) = search needs in
     let g : SFits w32 (x .hi) = search needs in
-    (search needs, simp length-set (l .inv .1), rw (toZ-ofZ f, toZ-ofZ g) (env-set (l .r) (l .w) (x .lo) (x .hi) (search needs)) ∙ up-put _ _ _ _ _ (l .inv .2) (wide-at _ _ _ _ _ _ _ _ (c .before .before .chosen .ensures) (c .before .before .before .span-at .ensures) (c .before .before .before .before .has .ensures)))
+    (search needs, simp length-set (l .inv .1), rw (toZ-ofZ f, toZ-ofZ g) (env-set (l .r) (l .w) (x .lo) (x .hi) (search needs)) ∙ up-put _ _ _ _ _ (l .inv .2) (wide-at _ _ _ _ _ _ _ _ (c .before .before .chosen .ensures) (c .before .before .before .span-at .ensures) (c .before .before .before .before .before .has .ensures)))
 
 returns : tie.Need-returns Inv-loop μ-loop
 returns c =
