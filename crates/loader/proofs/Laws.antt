@@ -15,7 +15,7 @@ use Rattle.rules.proofs.Reading.{read-legal}
 use Rattle.rules.proofs.FromBytes.{demand3-call}
 use Rattle.reader.specs.declared.Loaded.{Loaded}
 use Rattle.table.specs.Code.{rowsOf}
-use Rattle.reader.specs.Read.{loadedOf, scriptOf, Tabled}
+use Rattle.reader.specs.Read.{loadedOf, loadedScript, Tabled}
 use Rattle.calls.specs.Held.{held, Given, judgedScript}
 use Rattle.calls.proofs.Pairs.{packed-held}
 use Rattle.calls.specs.Told.{Ran, ToldNo}
@@ -39,25 +39,25 @@ module _ (scratch : ℕ) (file : List ℕ) (l : Loaded) (room : 8_192 ≤ scratc
   file-refused z = rw (le-leb 8_192 scratch room, ← e, ne-eqb (l .number) 0 z)
 
   module _ (z : l .number ≡ 0) where
-    loaded : fileScript file ≡ File.read (scriptOf l) ([] ∷ [])
+    loaded : fileScript file ≡ File.read (loadedScript l) ([] ∷ [])
     unfolding loadedOf
     loaded = sym e ∙ rw (eq-eqb (l .number) 0 z)
 
     -- the file is read
-    pub file-read : judged ones scratch file ≡ judgedScript (scriptOf l)
+    pub file-read : judged ones scratch file ≡ judgedScript (loadedScript l)
     unfolding judged judgedFile
     file-read = rw (le-leb 8_192 scratch room, loaded)
 
     module _ (t : List (List ℕ)) (k : Tabled l t) where
-      pub file-given : Given (scriptOf l) (l .head .count) (l .head .vars)
-      unfolding scriptOf
+      pub file-given : Given (loadedScript l) (l .head .count) (l .head .vars)
+      unfolding loadedScript
       file-given =
-          let legal : Legal (scriptOf l) = read-legal file (scriptOf l) ([] ∷ []) loaded in
+          let legal : Legal (loadedScript l) = read-legal file (loadedScript l) ([] ∷ []) loaded in
           record { legal = legal; rows = k .long; ranges = omega (arith, legal .sizes .0, ends-length (l .head .vars) (l .head .low) (l .head .high)) }
 
       -- the table has its script
-      table-script : held (rowsOf t) (l .head .count) (l .head .vars) (l .head .low) (l .head .high) ≡ scriptOf l
-      unfolding scriptOf
+      table-script : held (rowsOf t) (l .head .count) (l .head .vars) (l .head .low) (l .head .high) ≡ loadedScript l
+      unfolding loadedScript
       table-script = packed-held (l .rows) t (l .head .count) (l .head .vars) (l .head .low) (l .head .high) (k .packed z)
 
       pub table-read : judged ones scratch file ≡ judgedScript (held (rowsOf t) (l .head .count) (l .head .vars) (l .head .low) (l .head .high))

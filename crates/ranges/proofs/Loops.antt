@@ -22,7 +22,7 @@ use Rattle.rules.specs.Steps.{assigns, step}
 use Rattle.rules.specs.Ranges.{Range, Env, full, atStart, bounds, edge, sort, insideRange, outsideRange, loopEnv, inside, outside, isDo}
 use Rattle.steps.specs.Tree.{formOf, testOf, noTest}
 use Rattle.steps.specs.Sets.{setOf}
-use Rattle.ranges.specs.Env.{widenedEnv, late}
+use Rattle.ranges.specs.Env.{widenedEnv}
 
 -- one variable, as the code finds it
 pub wide-at : (set : ℕ → Bool) (mine : Range) (v : ℕ) (ρ : Env) (w : ℕ) (x y : Range) (p : Bool) → x ≡ cond p (cond (eqb w v) mine full) y → y ≡ ρ w → p ≡ set w
@@ -54,19 +54,6 @@ module _ (test : Test) (body : Block) (set : ℕ → Bool) (h : (w : ℕ) → se
   inside-is form x n m g e =
       whole ∙ ap (λ y. loopEnv y ρ test body)
       (m ∙ (λ j. insideRange form (sort c) (f j) (edge c (g j))) ∙ (λ j. insideRange form (sort (r j)) (ρ (q j)) (edge (r j) (bounds ρ (e j)))))
-
--- a do is tested late
-pub late-is : (k : Kind) → late k ≡ isDo (formOf k)
-unfolding formOf
-late-is (Set v x) = refl
-late-is (Move v c) = refl
-late-is (Cue n) = refl
-late-is Pick = refl
-late-is Else = refl
-late-is End = refl
-late-is (While v c x) = refl
-late-is (Do v c x) = refl
-late-is (For v s c x d) = refl
 
 -- what is not read of a row that is no loop
 pub zero-near : Near 1 (pos 0)
@@ -102,3 +89,19 @@ no-start ρ (Cue n) o = refl
 no-start ρ (While v c x) o = refl
 no-start ρ (Do v c x) o = refl
 no-start ρ (For v s c x d) o = absurd (miss no-for 8 tt o)
+
+-- any row but a do
+abbrev no-do : List ℕ
+no-do = 0 ∷ 1 ∷ 2 ∷ 3 ∷ 4 ∷ 5 ∷ 6 ∷ 8 ∷ []
+
+pub not-late : (k : Kind) → OneOf no-do (tagOf the-type k) → false ≡ isDo (formOf k)
+unfolding formOf
+not-late End o = refl
+not-late Else o = refl
+not-late Pick o = refl
+not-late (Set v x) o = refl
+not-late (Move v c) o = refl
+not-late (Cue n) o = refl
+not-late (While v c x) o = refl
+not-late (Do v c x) o = absurd (miss no-do 7 tt o)
+not-late (For v s c x d) o = refl

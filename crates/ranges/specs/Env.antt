@@ -1,6 +1,6 @@
 -- The array of ranges as the function of the rules.
 use mathlib.Core.Path.{_≡_}
-use mathlib.Core.Bool.{Bool, true, false, cond}
+use mathlib.Core.Bool.{Bool, cond}
 use mathlib.Core.List.{List, []}
 use Prim.Native.Nat.{ℕ, _<_}
 use lib.Dec.{ltb, eqb}
@@ -9,7 +9,6 @@ use lib.ListN.{length, getD}
 use Rattle.ints.specs.Ints.{minZ, maxZ, drawn}
 use Rattle.rules.specs.declared.Row.{Row}
 use Rattle.rules.specs.declared.Kind.{Kind}
-use Rattle.rules.specs.declared.Kind.the-variants.{Set, Move, Cue, Pick, Else, End, While, Do, For}
 use Rattle.rules.specs.declared.Change.{Change}
 use Rattle.rules.specs.declared.Step.{Step}
 use Rattle.rules.specs.Values.{lowest, highest, applied}
@@ -77,15 +76,3 @@ pub record OutsideOf (k : Kind) (set : ℕ → Bool) (st : Step) (ρ : Env) (r :
 pub record AfterLoop (rows : List Row) (count i : ℕ) (ρ : Env) (r : List (List ℤ)) (next : ℕ) : Type 0 where
   pub value : EnvIs r (outside (atStart (formOf (kindAt rows i)) (testOf (kindAt rows i)) ρ) (testOf (kindAt rows i)) (bodyAt rows count i))
   pub ends : EndsAt rows count i next
-
--- a do is tested late
-abbrev pub late : Kind → Bool
-late (Set v x) = false
-late (Move v c) = false
-late (Cue n) = false
-late Pick = false
-late Else = false
-late End = false
-late (While v c x) = false
-late (Do v c x) = true
-late (For v s c x d) = false

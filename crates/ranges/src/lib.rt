@@ -29,7 +29,7 @@ ghost use Rattle.table.specs.Code.{kindAt, rowsOf};
 ghost use Rattle.steps.specs.Tree.{shapeOf, plainOf, formOf, testOf, Ready, Walked};
 ghost use Rattle.steps.specs.Sets.{setOf};
 ghost use Rattle.steps.specs.Body.{AtLoop};
-ghost use Rattle.ranges.specs.Env.{EnvIs, envOf, rangeOf, joinRange, changedRange, widenedEnv, late, HeadOf, InsideOf, OutsideOf, AfterLoop};
+ghost use Rattle.ranges.specs.Env.{EnvIs, envOf, rangeOf, joinRange, changedRange, widenedEnv, HeadOf, InsideOf, OutsideOf, AfterLoop};
 
 // A pair of ends.
 pub struct Span {
@@ -38,7 +38,7 @@ pub struct Span {
 }
 
 // The range of v.
-pub fn span_in(r: &[[i32; 2]; 16], v: u8) -> Span
+pub fn span_at(r: &[[i32; 2]; 16], v: u8) -> Span
     requires { ⌜ v < 16 ⌝ }
     ensures { λ s. ⌜ rangeOf s ≡ envOf (now (r .entry)) v ⌝ }
 {
@@ -50,7 +50,7 @@ pub fn span_in(r: &[[i32; 2]; 16], v: u8) -> Span
 }
 
 // s for v; the other ranges stay.
-fn put_in(r: &mut [[i32; 2]; 16], v: u8, s: Span)
+fn put(r: &mut [[i32; 2]; 16], v: u8, s: Span)
     requires { ⌜ (v < 16) × (length (now r) ≡ 16) ⌝ }
     ensures { λ _. ⌜ EnvIs (now (r .exit)) (put (envOf (now (r .entry))) v (rangeOf s)) ⌝ }
 {
@@ -61,13 +61,13 @@ fn put_in(r: &mut [[i32; 2]; 16], v: u8, s: Span)
 }
 
 // An operand's range.
-pub fn bounds_in(r: &[[i32; 2]; 16], x: Operand) -> Span
+pub fn bounds(r: &[[i32; 2]; 16], x: Operand) -> Span
     requires { ⌜ FineOperand x ⌝ }
     ensures { λ s. ⌜ rangeOf s ≡ bounds (envOf (now (r .entry))) x ⌝ }
 {
     match x {
         Operand::Constant(k) => Span { lo: k, hi: k },
-        Operand::Variable(w) => span_in(r, w),
+        Operand::Variable(w) => span_at(r, w),
     }
 }
 
@@ -98,8 +98,8 @@ pub fn joined(a: [[i32; 2]; 16], b: [[i32; 2]; 16]) -> [[i32; 2]; 16]
 {
     let mut r = a;
     for i in 0..16 {
-        let s = joined_span(span_in(&a, i), span_in(&b, i));
-        put_in(&mut r, i, s);
+        let s = joined_span(span_at(&a, i), span_at(&b, i));
+        put(&mut r, i, s);
     }
     r
 }
@@ -145,11 +145,11 @@ pub fn step_row(r: &mut [[i32; 2]; 16], rows: &[[u32; 9]; 256], i: usize)
     let t = tag_at(rows, i);
     let v = variable_at(rows, i);
     if t == 3 {
-        let s = bounds_in(r, operand_at(rows, i));
-        put_in(r, v, s);
+        let s = bounds(r, operand_at(rows, i));
+        put(r, v, s);
     } else if t == 4 {
-        let s = changed_span(span_in(r, v), change_at(rows, i));
-        put_in(r, v, s);
+        let s = changed_span(span_at(r, v), change_at(rows, i));
+        put(r, v, s);
     }
 }
 
@@ -160,8 +160,8 @@ pub fn at_start(r: &mut [[i32; 2]; 16], kind: Kind)
 {
     match kind {
         Kind::For(v, x, _, _, _) => {
-            let s = bounds_in(r, x);
-            put_in(r, v, s);
+            let s = bounds(r, x);
+            put(r, v, s);
         }
         _ => {}
     }
@@ -227,26 +227,19 @@ fn widen(r: &mut [[i32; 2]; 16], set: [bool; 16], mine: Span, v: u8)
     ensures { λ _. ⌜ EnvIs (now (r .exit)) (widenedEnv (setOf set) (rangeOf mine) v (envOf (now (r .entry)))) ⌝ }
 {
     for w in 0..16 {
-        let old = span_in(r, w);
+        let old = span_at(r, w);
         let s = chosen(has(set, w), w == v, mine, old);
-        put_in(r, w, s);
+        put(r, w, s);
     }
 }
 
 // A do is tested after its body.
 pub fn is_do(kind: Kind) -> bool
-    ensures { λ r. ⌜ r ≡ late kind ⌝ }
+    ensures { λ r. ⌜ r ≡ isDo (formOf kind) ⌝ }
 {
     match kind {
-        Kind::Set(_, _) => false,
-        Kind::Move(_, _) => false,
-        Kind::Cue(_) => false,
-        Kind::Pick => false,
-        Kind::Else => false,
-        Kind::End => false,
-        Kind::While(_, _, _) => false,
         Kind::Do(_, _, _) => true,
-        Kind::For(_, _, _, _, _) => false,
+        _ => false,
     }
 }
 
@@ -305,8 +298,8 @@ pub fn inside(r: &mut [[i32; 2]; 16], kind: Kind, set: [bool; 16])
     let v = head.tested;
     let comparison = head.comparison;
     let limit = head.limit;
-    let s = span_in(r, v);
-    let n = bounds_in(r, limit);
+    let s = span_at(r, v);
+    let n = bounds(r, limit);
     let mine = inside_span(is_do(kind), comparison, s, n);
     widen(r, set, mine, v);
 }
@@ -363,7 +356,7 @@ pub fn outside(r: &mut [[i32; 2]; 16], kind: Kind, set: [bool; 16], step: Step)
     let head = head_of(kind);
     let v = head.tested;
     let comparison = head.comparison;
-    let mine = outside_span(step, comparison, span_in(r, v));
+    let mine = outside_span(step, comparison, span_at(r, v));
     widen(r, set, mine, v);
 }
 

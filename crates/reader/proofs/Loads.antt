@@ -18,7 +18,8 @@ use Rattle.nesting.proofs.Laws.{closed-depth, open-depth}
 use Rattle.reader.specs.declared.Counted.{Counted}
 use Rattle.reader.specs.declared.Ranges.{Ranges}
 use Rattle.reader.specs.declared.Head.{Head}
-use Rattle.reader.specs.Read.{lines, countOf, CountRead, rangesOf, RangesRead, headOf, lastNo, scriptOf, loadedOf}
+use Rattle.reader.specs.declared.No.{No}
+use Rattle.reader.specs.Read.{lines, countOf, CountRead, rangesOf, RangesRead, headOf, firstNo, asked, loadedScript, loadedOf}
 use Rattle.table.specs.Code.{Packed}
 use Rattle.reader.proofs.Lines.{split-some}
 use Rattle.reader.proofs.Fill.{Stop, given, RowsRead}
@@ -108,40 +109,40 @@ unfolding fileScript
 file-long file h = rw (lt-leb (length file) 16_384 h)
 
 -- a head and what follows it: the first no of both, and the script
-module _ (file : List ℕ) (h : Head) (t : List (List ℕ)) (l : Stop) (f : RowsRead file (h .at) (h .vars) (h .count) t l) (q p : ℕ)
-    (number : q ≡ lastNo (l .number) (l .number) (ltb (l .at) (length file)) (l .blocks .depth) 3 6)
-    (place : p ≡ lastNo (l .number) (l .place) (ltb (l .at) (length file)) (l .blocks .depth) (4 + h .vars + h .count) (4 + h .vars + h .count)) where
+module _ (file : List ℕ) (h : Head) (t : List (List ℕ)) (l : Stop) (f : RowsRead file (h .at) (h .vars) (h .count) t l) (r : No)
+    (first : r ≡ firstNo (asked h (record { number = l .number; place = l .place }) (ltb (l .at) (length file)) (l .blocks .depth))) where
   abbrev pub tail : Reading Script
   tail = andThen (rowLines (h .vars) (h .count) (4 + h .vars) (lines (drop (h .at) file)) noRows) (lastLine (4 + h .vars + h .count) (ends (h .vars) (h .low) (h .high)))
 
-  abbrev pub whole : Reading Script
-  whole = cond (eqb q 0) (read (record { ranges = ends (h .vars) (h .low) (h .high); rows = take (h .count) (kindsOf (l .rows)) }) ([] ∷ [])) (refused q p)
+  -- a file whose first no is n
+  abbrev pub whole : No → Reading Script
+  whole n = cond (eqb (n .number) 0) (read (record { ranges = ends (h .vars) (h .low) (h .high); rows = take (h .count) (kindsOf (l .rows)) }) ([] ∷ [])) (refused (n .number) (n .place))
 
-  pub tail-read : tail ≡ whole
-  unfolding lastNo
-  tail-read = go (eqb (l .number) 0) (ltb (l .at) (length file)) (eqb (l .blocks .depth) 0) refl refl refl
+  -- the head has yes
+  pub tail-read : eqb (h .number) 0 ≡ true → tail ≡ whole r
+  unfolding firstNo asked
+  tail-read z = go (eqb (l .number) 0) (ltb (l .at) (length file)) (eqb (l .blocks .depth) 0) refl refl refl
     where
-      go : (a b d : Bool) → eqb (l .number) 0 ≡ a → ltb (l .at) (length file) ≡ b → eqb (l .blocks .depth) 0 ≡ d → tail ≡ whole
-      go false b d x y w = rows-refused file (h .at) (h .vars) (h .count) t l f _ (eqb-false _ _ x) ∙ rw (number, place, x, x) refl
-      go true true d x y w = bytes-after file (h .at) (h .vars) (h .count) t l f _ (eqb-true _ _ x) (ltb-true _ _ y) ∙ rw (number, place, x, y) refl
-      go true false false x y w = left-open file (h .at) (h .vars) (h .count) t l f _ (eqb-true _ _ x) (ltb-false _ _ y) (eqb-false _ _ w) ∙ rw (number, place, x, y, w) refl
-      go true false true x y w = all-read file (h .at) (h .vars) (h .count) t l f _ (eqb-true _ _ x) (ltb-false _ _ y) (eqb-true _ _ w) ∙ rw (number, x, y, w) refl
+      go : (a b d : Bool) → eqb (l .number) 0 ≡ a → ltb (l .at) (length file) ≡ b → eqb (l .blocks .depth) 0 ≡ d → tail ≡ whole r
+      go false b d x y w = rows-refused file (h .at) (h .vars) (h .count) t l f _ (eqb-false _ _ x) ∙ rw (first, z, x, x) refl
+      go true true d x y w = bytes-after file (h .at) (h .vars) (h .count) t l f _ (eqb-true _ _ x) (ltb-true _ _ y) ∙ rw (first, z, x, y) refl
+      go true false false x y w = left-open file (h .at) (h .vars) (h .count) t l f _ (eqb-true _ _ x) (ltb-false _ _ y) (eqb-false _ _ w) ∙ rw (first, z, x, y, w) refl
+      go true false true x y w = all-read file (h .at) (h .vars) (h .count) t l f _ (eqb-true _ _ x) (ltb-false _ _ y) (eqb-true _ _ w) ∙ rw (first, z, x, y, w) refl
 
-  pub load-read : (a b : ℕ) → a ≡ cond (eqb (h .number) 0) q (h .number) → b ≡ cond (eqb (h .number) 0) p (h .place)
-      → loadedOf (record { number = a; place = b; head = h; rows = l .rows }) ≡ headOf file h
-  unfolding loadedOf scriptOf headOf
-  load-read a b x y = go (eqb (h .number) 0) refl
+  pub load-read : loadedOf (record { number = r .number; place = r .place; head = h; rows = l .rows }) ≡ headOf file h
+  unfolding loadedOf loadedScript headOf firstNo asked
+  load-read = go (eqb (h .number) 0) refl
     where
-      go : (t : Bool) → eqb (h .number) 0 ≡ t → loadedOf (record { number = a; place = b; head = h; rows = l .rows }) ≡ headOf file h
-      go true e = rw (x, y, e) (sym tail-read)
-      go false e = rw (x, y, e, e) refl
+      go : (b : Bool) → eqb (h .number) 0 ≡ b → loadedOf (record { number = r .number; place = r .place; head = h; rows = l .rows }) ≡ headOf file h
+      go true z = rw z (sym (tail-read z))
+      go false z = rw (first, z, z) refl
 
   -- no question has no: the rows are in the table
-  pub load-packed : (a : ℕ) → a ≡ cond (eqb (h .number) 0) q (h .number) → a ≡ 0 → Packed (h .count) (l .rows) t
-  unfolding lastNo
-  load-packed a x z = go (eqb (h .number) 0) (eqb (l .number) 0) refl refl
+  pub load-packed : r .number ≡ 0 → Packed (h .count) (l .rows) t
+  unfolding firstNo asked
+  load-packed y = go (eqb (h .number) 0) (eqb (l .number) 0) refl refl
     where
       go : (b d : Bool) → eqb (h .number) 0 ≡ b → eqb (l .number) 0 ≡ d → Packed (h .count) (l .rows) t
-      go b true y w = f .packed (eqb-true _ _ w)
-      go false false y w = absurd (eqb-false _ _ y (rw y at (sym x ∙ z)))
-      go true false y w = absurd (eqb-false _ _ w (sym (rw w at number) ∙ sym (rw y at x) ∙ z))
+      go b true z x = f .packed (eqb-true _ _ x)
+      go false false z x = absurd (eqb-false _ _ z (sym (ap (λ (n : No). n .number) (rw z at first)) ∙ y))
+      go true false z x = absurd (eqb-false _ _ x (sym (ap (λ (n : No). n .number) (rw (z, x) at first)) ∙ y))

@@ -20,6 +20,7 @@ use Rattle.reader.specs.declared.Counted.{Counted}
 use Rattle.reader.specs.declared.Ranged.{Ranged}
 use Rattle.reader.specs.declared.Ranges.{Ranges}
 use Rattle.reader.specs.declared.Head.{Head}
+use Rattle.reader.specs.declared.No.{No}
 use Rattle.reader.specs.declared.Loaded.{Loaded}
 
 -- there is a next line, and it has the key
@@ -89,19 +90,26 @@ pub record HeadWithin (file : List ℕ) (h : Head) : Type 0 where
   pub vars : h .vars ≤ 16
   pub count : h .count ≤ 256
 
--- the rows' own, or a where bytes follow, or b where a block is open, or 0
-unfoldable pub lastNo : ℕ → ℕ → Bool → ℕ → ℕ → ℕ → ℕ
-lastNo number own more depth a b = cond (eqb number 0) (cond more a (cond (eqb depth 0) 0 b)) own
+-- the first of a list of questions that has no; number 0: all have yes
+unfoldable pub firstNo : List No → No
+firstNo [] = record { number = 0; place = 0 }
+firstNo (x ∷ xs) = cond (eqb (x .number) 0) (firstNo xs) x
+
+-- the questions of a file in order: of its head, of its rows, 3 of bytes after the last row, 6 of blocks that are open there
+unfoldable pub asked : Head → No → Bool → ℕ → List No
+asked h rows more depth =
+    let end = 4 + h .vars + h .count in
+    record { number = h .number; place = h .place } ∷ (rows ∷ (record { number = cond more 3 0; place = end } ∷ (record { number = cond (eqb depth 0) 0 6; place = end } ∷ [])))
 
 -- the script of a loaded file: the first `vars` ranges and the first `count` rows
-unfoldable pub scriptOf : Loaded → Script
-scriptOf r = held (r .rows) (r .head .count) (r .head .vars) (r .head .low) (r .head .high)
+unfoldable pub loadedScript : Loaded → Script
+loadedScript r = held (r .rows) (r .head .count) (r .head .vars) (r .head .low) (r .head .high)
 
 -- a loaded file, or its refusal
 unfoldable pub loadedOf : Loaded → Reading Script
-loadedOf r = cond (eqb (r .number) 0) (read (scriptOf r) ([] ∷ [])) (refused (r .number) (r .place))
+loadedOf r = cond (eqb (r .number) 0) (read (loadedScript r) ([] ∷ [])) (refused (r .number) (r .place))
 
 -- it has `count` rows; where it is not refused, the table holds them
 pub record Tabled (r : Loaded) (t : List (List ℕ)) : Type 0 where
-  pub long : length (scriptOf r .rows) ≡ r .head .count
+  pub long : length (loadedScript r .rows) ≡ r .head .count
   pub packed : r .number ≡ 0 → Packed (r .head .count) (r .rows) t

@@ -18,9 +18,9 @@ use text::position;
 use text::said;
 use text::starts_with;
 ghost use mathlib.Core.Path.{_≡_};
-ghost use mathlib.Core.Bool.{true, cond};
+ghost use mathlib.Core.Bool.{true};
 ghost use Prim.Native.Nat.{ℕ, _+_, _≤_, _<_};
-ghost use lib.Dec.{eqb, ltb};
+ghost use lib.Dec.{ltb};
 ghost use mathlib.Core.List.{List};
 ghost use lib.IntN.{pos, natAbs};
 ghost use lib.Signed.{_≤ℤ_};
@@ -28,7 +28,7 @@ ghost use lib.ListN.{length, drop};
 ghost use Rattle.rules.specs.Scripts.{ends};
 ghost use Rattle.rules.specs.File.{refused, andThen, varsKey, scriptLine, countLine, rowPart, rangePart, fileScript};
 ghost use Rattle.text.specs.Words.{before};
-ghost use Rattle.reader.specs.Read.{keyed, clean, lines, countOf, CountRead, Within, RangeRead, LineRead, RangesRead, headOf, HeadWithin, lastNo, loadedOf, Tabled};
+ghost use Rattle.reader.specs.Read.{keyed, clean, lines, countOf, CountRead, Within, RangeRead, LineRead, RangesRead, headOf, HeadWithin, firstNo, asked, loadedOf, Tabled};
 
 // Whether an LF ends the next line.
 fn has_line(rest: &[u8]) -> bool
@@ -272,18 +272,29 @@ fn load_head(file: &[u8]) -> Head
     }
 }
 
-// A question's number, 0 for none, and its place.
+// A question's number, 0 where it has yes, and its place.
 struct No {
     number: u32,
     place: usize,
 }
 
-// The first no of the rows, and of the line after the last: its place is `end`.
-fn last_no(number: u32, place: usize, more: bool, depth: usize, end: usize) -> No
-    ensures { λ r. ⌜ (r .number ≡ lastNo number number more depth 3 6) × (r .place ≡ lastNo number place more depth end end) ⌝ }
+// The first no of a file: of its head, of row i, of what follows the last row.
+fn first_no(head: Head, stopped: u32, i: usize, more: bool, depth: usize) -> No
+    requires { ⌜ (head .vars ≤ 16) × (head .count ≤ 256) × (i ≤ 256) ⌝ }
+    ensures { λ r. ⌜ r ≡ firstNo (asked head (record { number = stopped; place = 4 + head .vars + i }) more depth) ⌝ }
 {
-    if number != 0 {
-        return No { number, place };
+    let end = 4 + head.vars + head.count;
+    if head.number != 0 {
+        return No {
+            number: head.number,
+            place: head.place,
+        };
+    }
+    if stopped != 0 {
+        return No {
+            number: stopped,
+            place: 4 + head.vars + i,
+        };
     }
     if more {
         return No {
@@ -303,16 +314,6 @@ fn last_no(number: u32, place: usize, more: bool, depth: usize, end: usize) -> N
     }
 }
 
-// The head's no, or else the rest's.
-fn first_no(number: u32, place: usize, rest: No) -> No
-    ensures { λ r. ⌜ (r .number ≡ cond (eqb number 0) (rest .number) number) × (r .place ≡ cond (eqb number 0) (rest .place) place) ⌝ }
-{
-    if number != 0 {
-        return No { number, place };
-    }
-    rest
-}
-
 // A loaded file: question 0 for none, or the first no with its place; what its head says, and its rows.
 pub struct Loaded {
     pub number: u32,
@@ -328,20 +329,19 @@ const NONE_OPEN: Blocks = Blocks {
     loops: 0,
 };
 
-// The row lines after a head, and the line after the last. Each file has one array of rows, refused or not: no copy where ways meet.
-fn read_rows(file: &[u8], h: Head, table: &mut [[u32; 9]; 256]) -> Loaded
-    requires { ⌜ HeadWithin (now file) h × (length (now table) ≡ 256) ⌝ }
-    ensures { λ r. ⌜ (loadedOf r ≡ headOf (now (file .entry)) h) × Tabled r (now (table .exit)) ⌝ }
+// A file's script, or its first no. Its rows are in the table too. Each file has one array of rows, refused or not: no copy where ways meet.
+pub fn load(file: &[u8], table: &mut [[u32; 9]; 256]) -> Loaded
+    requires { ⌜ length (now table) ≡ 256 ⌝ }
+    ensures { λ r. ⌜ (loadedOf r ≡ fileScript (now (file .entry))) × Tabled r (now (table .exit)) ⌝ }
 {
-    let vars = h.vars;
-    let count = h.count;
+    let head = load_head(file);
     let mut rows = [BLANK; 256];
     let mut blocks = NONE_OPEN;
-    let mut next = h.at;
+    let mut next = head.at;
     let mut stopped: u32 = 0;
     let mut i: usize = 0;
-    while i < count {
-        let l = row_line(&file[next..], vars as u32);
+    while i < head.count {
+        let l = row_line(&file[next..], head.vars as u32);
         let r = l.row;
         match r {
             RowRead::Read(kind) => {
@@ -364,21 +364,11 @@ fn read_rows(file: &[u8], h: Head, table: &mut [[u32; 9]; 256]) -> Loaded
         }
     }
     let more = next < file.len();
-    let rest = last_no(stopped, 4 + vars + i, more, blocks.depth, 4 + vars + count);
-    let no = first_no(h.number, h.place, rest);
+    let no = first_no(head, stopped, i, more, blocks.depth);
     Loaded {
         number: no.number,
         place: no.place,
-        head: h,
+        head,
         rows,
     }
-}
-
-// A file's script, or its first no. Its rows are in the table too.
-pub fn load(file: &[u8], table: &mut [[u32; 9]; 256]) -> Loaded
-    requires { ⌜ length (now table) ≡ 256 ⌝ }
-    ensures { λ r. ⌜ (loadedOf r ≡ fileScript (now (file .entry))) × Tabled r (now (table .exit)) ⌝ }
-{
-    let h = load_head(file);
-    read_rows(file, h, table)
 }

@@ -3,8 +3,7 @@ use mathlib.Core.Path.{_≡_, refl, sym, ap, _∙_}
 use mathlib.Core.Bool.{Bool, true, false, cond, _&&_}
 use Prim.Native.Nat.{ℕ, zero, suc, _≤_, _<_}
 use native.Mathlib.Omega.{arith}
-use lib.Dec.{leb, ltb}
-use lib.IntN.{ℤ, pos, natAbs}
+use lib.IntN.{ℤ, pos}
 use lib.Signed.{leZ}
 use borrow.Author.Tests.{le-leb, lt-leb}
 use Rattle.rules.specs.declared.Kind.{Kind}
@@ -12,22 +11,19 @@ use Rattle.rules.specs.declared.Word.{Word}
 use Rattle.rules.specs.declared.Word.the-variants.{Number, Variable}
 use Rattle.rules.specs.declared.RowRead.{RowRead}
 use Rattle.rules.specs.declared.RowRead.the-variants.{Read, Wrong}
-use Rattle.rules.specs.Values.{highest}
-use Rattle.rules.specs.File.{sooner, asksEnd, asksNumber, asksVariable, asksOperand, asksChange, asksStep, asksOne, asksTest, asksFor, checked, variableOf, comparisonOf, operandOf, changeOf, setRow, moveRow, cueRow, bareRow, whileRow, doRow, forRow, namedRow, firstWord, rowOf}
+use Rattle.rules.specs.File.{sooner, asksEnd, asksNumber, asksVariable, asksOperand, asksChange, asksStep, asksOne, asksTest, asksFor, checked, variableOf, comparisonOf, operandOf, numberOf, changeOf, stepOf, setRow, moveRow, cueRow, bareRow, whileRow, doRow, forRow, namedRow, firstWord, rowOf}
 use lib.Signed.{_≤ℤ_}
-use mir.Syntax.{w32}
-use mir.Val.{SFits, toZ, ofZ}
-use mir.Facts.{toZ-ofZ}
 use Rattle.ints.proofs.Parts.{ints}
 use Rattle.rules.specs.declared.Word.the-variants.{Missing, Compares, Keyword, Other}
 use mathlib.Core.List.{List, [], _∷_}
 use types.Run.{OneOf, miss}
 use denote.Enum.Declared.{tagOf}
 use Rattle.rules.proofs.Name.{the-type}
+use Rattle.rules.proofs.Word as word
 use lib.ListN.{drop}
-use Rattle.text.specs.Words.{cut, following, wordIn, Next}
+use Rattle.text.specs.Words.{cut, following, Next}
 use Rattle.text.specs.declared.Found.{Found}
-use Rattle.text.proofs.Line.{Reached, reach-end}
+use Rattle.text.proofs.Line.{Says, says-word, Reached, reach-end}
 use Rattle.text.proofs.Cut.{row-cut}
 use Rattle.rows.specs.declared.Line.{Line}
 use Rattle.rules.specs.declared.Comparison.{Comparison}
@@ -122,25 +118,74 @@ no-change Name.While w o = (refl, refl)
 no-change Name.Do w o = (refl, refl)
 no-change Name.For w o = (refl, refl)
 
--- the words of a test, and of a for, whose questions all have yes
-pub test-words : (vars : ℕ) (w : ℕ → Word) (q : ℕ) → q ≡ asksTest vars w → q ≡ 0 → (asksVariable vars (w 1) ≡ 0) × (asksOperand vars (w 3) ≡ 0)
-unfolding asksTest
-test-words vars w q e z =
-    let (a, b) = sooner-yes _ _ (sym e ∙ z) in
-    let (_, c) = sooner-yes _ _ b in
-    let (d, _) = sooner-yes _ _ c in
-    (a, d)
+-- words of other kinds than the one that is asked for, by their places in `Word`
+abbrev no-numbers : List ℕ
+no-numbers = 0 ∷ 2 ∷ 3 ∷ 4 ∷ 5 ∷ []
 
-pub for-words : (vars : ℕ) (w : ℕ → Word) (q : ℕ) → q ≡ asksFor vars w → q ≡ 0
-    → (asksVariable vars (w 1) ≡ 0) × (asksOperand vars (w 2) ≡ 0) × (asksOperand vars (w 4) ≡ 0) × (asksStep (w 5) (w 6) ≡ 0)
-unfolding asksFor
-for-words vars w q e z =
-    let (a, b) = sooner-yes _ _ (sym e ∙ z) in
+pub no-number : (w : Word) → OneOf no-numbers (tagOf word.the-type w) → ((lo hi : ℤ) → 3 ≡ asksNumber lo hi w) × (3 ≡ asksOne w) × (pos 0 ≡ numberOf w)
+no-number Missing o = (λ _ _. refl, refl, refl)
+no-number (Number z) o = absurd (miss no-numbers 1 tt o)
+no-number (Variable v) o = (λ _ _. refl, refl, refl)
+no-number (Compares c) o = (λ _ _. refl, refl, refl)
+no-number (Keyword n) o = (λ _ _. refl, refl, refl)
+no-number Other o = (λ _ _. refl, refl, refl)
+
+abbrev no-variables : List ℕ
+no-variables = 0 ∷ 1 ∷ 3 ∷ 4 ∷ 5 ∷ []
+
+pub no-variable : (w : Word) → OneOf no-variables (tagOf word.the-type w) → ((vars : ℕ) → 3 ≡ asksVariable vars w) × (0 ≡ variableOf w)
+no-variable Missing o = (λ _. refl, refl)
+no-variable (Number z) o = (λ _. refl, refl)
+no-variable (Variable v) o = absurd (miss no-variables 2 tt o)
+no-variable (Compares c) o = (λ _. refl, refl)
+no-variable (Keyword n) o = (λ _. refl, refl)
+no-variable Other o = (λ _. refl, refl)
+
+abbrev no-operands : List ℕ
+no-operands = 0 ∷ 3 ∷ 4 ∷ 5 ∷ []
+
+pub no-operand : (w : Word) → OneOf no-operands (tagOf word.the-type w) → ((vars : ℕ) → 3 ≡ asksOperand vars w) × (Operand.Constant (pos 0) ≡ operandOf w)
+no-operand Missing o = (λ _. refl, refl)
+no-operand (Number z) o = absurd (miss no-operands 1 tt o)
+no-operand (Variable v) o = absurd (miss no-operands 2 tt o)
+no-operand (Compares c) o = (λ _. refl, refl)
+no-operand (Keyword n) o = (λ _. refl, refl)
+no-operand Other o = (λ _. refl, refl)
+
+abbrev no-keywords : List ℕ
+no-keywords = 0 ∷ 1 ∷ 2 ∷ 3 ∷ 5 ∷ []
+
+pub no-keyword : (w : Word) → OneOf no-keywords (tagOf word.the-type w) → ((x : Word) → (3 ≡ asksStep w x) × (Change.Add 0 ≡ stepOf w x)) × ((vars : ℕ) (ws : ℕ → Word) → Wrong 3 ≡ firstWord vars ws w)
+no-keyword Missing o = (λ _. (refl, refl), λ _ _. refl)
+no-keyword (Number z) o = (λ _. (refl, refl), λ _ _. refl)
+no-keyword (Variable v) o = (λ _. (refl, refl), λ _ _. refl)
+no-keyword (Compares c) o = (λ _. (refl, refl), λ _ _. refl)
+no-keyword (Keyword n) o = absurd (miss no-keywords 4 tt o)
+no-keyword Other o = (λ _. (refl, refl), λ _ _. refl)
+
+-- a row's words, whose questions all have yes: of two words, of a test, of a for
+pub two-yes : (a b c q : ℕ) → q ≡ sooner a (sooner b c) → q ≡ 0 → (a ≡ 0) × (b ≡ 0) × (c ≡ 0)
+two-yes a b c q e z =
+    let (f, g) = sooner-yes _ _ (sym e ∙ z) in
+    let (h, i) = sooner-yes _ _ g in
+    (f, h, i)
+
+pub test-yes : (vars : ℕ) (w : ℕ → Word) (q : ℕ) → q ≡ asksTest vars w → q ≡ 0 → (asksVariable vars (w 1) ≡ 0) × (asksOperand vars (w 3) ≡ 0) × (asksEnd (w 4) ≡ 0)
+unfolding asksTest
+test-yes vars w q e z =
+    let (a, _, b) = two-yes _ _ _ q e z in
     let (c, d) = sooner-yes _ _ b in
-    let (_, f) = sooner-yes _ _ d in
-    let (g, h) = sooner-yes _ _ f in
-    let (i, _) = sooner-yes _ _ h in
-    (a, c, g, i)
+    (a, c, d)
+
+pub for-yes : (vars : ℕ) (w : ℕ → Word) (q : ℕ) → q ≡ asksFor vars w → q ≡ 0
+    → (asksVariable vars (w 1) ≡ 0) × (asksOperand vars (w 2) ≡ 0) × (asksOperand vars (w 4) ≡ 0) × (asksStep (w 5) (w 6) ≡ 0) × (asksEnd (w 7) ≡ 0)
+unfolding asksFor
+for-yes vars w q e z =
+    let (a, b, c) = two-yes _ _ _ q e z in
+    let (_, d) = sooner-yes _ _ c in
+    let (f, g) = sooner-yes _ _ d in
+    let (h, i) = sooner-yes _ _ g in
+    (a, b, f, h, i)
 
 -- ---- a row's line, whose words are read up to the byte p
 module _ (s : List ℕ) (at m p : ℕ) (f : (ℕ → Word) → RowRead) (h : Reached s at m p) where
@@ -149,14 +194,6 @@ module _ (s : List ℕ) (at m p : ℕ) (f : (ℕ → Word) → RowRead) (h : Rea
 
 pub lined-wrong : (s : List ℕ) (at p : ℕ) (f : (ℕ → Word) → RowRead) (q : ℕ) → Wrong q ≡ f (after Missing (drop at s)) → Lined s at f (record { row = Wrong q; end = p })
 lined-wrong s at p f q e = record { row = e; end = λ k w. absurd (let y : _≡_ {A = ℕ} 0 1 = cc in omega arith) }
-
-pub for-last : (vars : ℕ) (w : ℕ → Word) (q : ℕ) → q ≡ asksFor vars w → q ≡ 0 → asksEnd (w 7) ≡ 0
-unfolding asksFor
-for-last vars w q e z = sooner-yes _ _ (sooner-yes _ _ (sooner-yes _ _ (sooner-yes _ _ (sooner-yes _ _ (sym e ∙ z) .1) .1) .1) .1) .1
-
-pub test-last : (vars : ℕ) (w : ℕ → Word) (q : ℕ) → q ≡ asksTest vars w → q ≡ 0 → asksEnd (w 4) ≡ 0
-unfolding asksTest
-test-last vars w q e z = sooner-yes _ _ (sooner-yes _ _ (sooner-yes _ _ (sym e ∙ z) .1) .1) .1
 
 -- a loop with a test
 module _ (after : Bool) (vars : ℕ) (w : ℕ → Word) (q : ℕ) where
@@ -194,17 +231,17 @@ named-after vars x s Name.Do = refl
 named-after vars x s Name.For = refl
 
 -- the row of a line from its first word x
-module _ (s : List ℕ) (at vars : ℕ) (f : Found) (n : Next s at f) (few : vars ≤ 16) (fit : SFits w32 (f .value)) (x : Word) (said : x ≡ wordIn (f .tag) (toZ w32 (ofZ w32 (f .value)))) where
+module _ (s : List ℕ) (at vars : ℕ) (f : Found) (n : Next s at f) (few : vars ≤ 16) (x : Word) (said : Says f x) where
   whole : rowOf vars (after x (drop (f .end) s)) ≡ rowOf vars (following (drop at s))
   whole = row-cut vars (after x (drop (f .end) s)) (following (drop at s)) few words
     where
       words : (k : ℕ) → k < 8 → after x (drop (f .end) s) k ≡ cut (following (drop at s) k)
-      words zero h = (rw (toZ-ofZ fit) at said) ∙ n .word
+      words zero h = says-word f x said ∙ n .word
       words (suc k) h = ap cut (sym (n .more k))
 
-  pub row-other : Wrong 3 ≡ firstWord vars (after x (drop (f .end) s)) x → (p : ℕ) → RowLine s at vars (record { row = Wrong 3; end = p })
+  pub row-other : OneOf no-keywords (tagOf word.the-type x) → (p : ℕ) → RowLine s at vars (record { row = Wrong 3; end = p })
   unfolding rowOf
-  row-other e p = record { row = e ∙ whole; end = λ k w. absurd (let y : _≡_ {A = ℕ} 0 1 = cc in omega arith) }
+  row-other o p = record { row = no-keyword x o .1 vars (after x (drop (f .end) s)) ∙ whole; end = λ k w. absurd (let y : _≡_ {A = ℕ} 0 1 = cc in omega arith) }
 
   pub row-named : (name : Name) (r : Line) → x ≡ Keyword name → Lined s (f .end) (λ w. namedRow vars w name) r → RowLine s at vars r
   unfolding rowOf

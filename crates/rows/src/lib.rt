@@ -49,12 +49,8 @@ pub fn asks_number(lo: i32, hi: i32, w: Word) -> u32
     ensures { λ r. ⌜ r ≡ asksNumber lo hi w ⌝ }
 {
     match w {
-        Word::Missing => 3,
         Word::Number(z) => inside(lo, hi, z),
-        Word::Variable(_) => 3,
-        Word::Compares(_) => 3,
-        Word::Keyword(_) => 3,
-        Word::Other => 3,
+        _ => 3,
     }
 }
 
@@ -70,12 +66,8 @@ pub fn asks_variable(vars: u32, w: Word) -> u32
     ensures { λ r. ⌜ r ≡ asksVariable vars w ⌝ }
 {
     match w {
-        Word::Missing => 3,
-        Word::Number(_) => 3,
         Word::Variable(v) => below(vars, v),
-        Word::Compares(_) => 3,
-        Word::Keyword(_) => 3,
-        Word::Other => 3,
+        _ => 3,
     }
 }
 
@@ -84,12 +76,9 @@ pub fn asks_operand(vars: u32, w: Word) -> u32
     ensures { λ r. ⌜ r ≡ asksOperand vars w ⌝ }
 {
     match w {
-        Word::Missing => 3,
         Word::Number(z) => inside(-1_000_000_000, 1_000_000_000, z),
         Word::Variable(v) => below(vars, v),
-        Word::Compares(_) => 3,
-        Word::Keyword(_) => 3,
-        Word::Other => 3,
+        _ => 3,
     }
 }
 
@@ -112,17 +101,13 @@ pub fn asks_one(w: Word) -> u32
     ensures { λ r. ⌜ r ≡ asksOne w ⌝ }
 {
     match w {
-        Word::Missing => 3,
         Word::Number(z) => {
             if inside(1, 1, z) == 0 {
                 return 0;
             }
             3
         }
-        Word::Variable(_) => 3,
-        Word::Compares(_) => 3,
-        Word::Keyword(_) => 3,
-        Word::Other => 3,
+        _ => 3,
     }
 }
 
@@ -131,12 +116,8 @@ pub fn number_of(w: Word) -> i32
     ensures { λ r. ⌜ r ≡ numberOf w ⌝ }
 {
     match w {
-        Word::Missing => 0,
         Word::Number(z) => z,
-        Word::Variable(_) => 0,
-        Word::Compares(_) => 0,
-        Word::Keyword(_) => 0,
-        Word::Other => 0,
+        _ => 0,
     }
 }
 
@@ -161,12 +142,8 @@ pub fn variable_of(vars: u32, w: Word) -> u8
     ensures { λ r. ⌜ r ≡ variableOf w ⌝ }
 {
     match w {
-        Word::Missing => 0,
-        Word::Number(_) => 0,
         Word::Variable(v) => v as u8,
-        Word::Compares(_) => 0,
-        Word::Keyword(_) => 0,
-        Word::Other => 0,
+        _ => 0,
     }
 }
 
@@ -176,12 +153,9 @@ pub fn operand_of(vars: u32, w: Word) -> Operand
     ensures { λ r. ⌜ r ≡ operandOf w ⌝ }
 {
     match w {
-        Word::Missing => Operand::Constant(0),
         Word::Number(z) => Operand::Constant(z),
         Word::Variable(v) => Operand::Variable(v as u8),
-        Word::Compares(_) => Operand::Constant(0),
-        Word::Keyword(_) => Operand::Constant(0),
-        Word::Other => Operand::Constant(0),
+        _ => Operand::Constant(0),
     }
 }
 
@@ -231,12 +205,8 @@ pub fn asks_step(x: Word, w: Word) -> u32
     ensures { λ r. ⌜ r ≡ asksStep x w ⌝ }
 {
     match x {
-        Word::Missing => 3,
-        Word::Number(_) => 3,
-        Word::Variable(_) => 3,
-        Word::Compares(_) => 3,
         Word::Keyword(n) => asks_change(n, w),
-        Word::Other => 3,
+        _ => 3,
     }
 }
 
@@ -246,12 +216,8 @@ pub fn step_of(x: Word, w: Word) -> Change
     ensures { λ r. ⌜ r ≡ stepOf x w ⌝ }
 {
     match x {
-        Word::Missing => Change::Add(0),
-        Word::Number(_) => Change::Add(0),
-        Word::Variable(_) => Change::Add(0),
-        Word::Compares(_) => Change::Add(0),
         Word::Keyword(n) => change_of(n, w),
-        Word::Other => Change::Add(0),
+        _ => Change::Add(0),
     }
 }
 
@@ -477,11 +443,7 @@ pub fn row_of(s: &[u8], at: usize, vars: u32) -> Line
     let first = said(f.tag, f.value);
     let end = f.end;
     match first {
-        Word::Missing => shapeless(end),
-        Word::Number(_) => shapeless(end),
-        Word::Variable(_) => shapeless(end),
-        Word::Compares(_) => shapeless(end),
         Word::Keyword(n) => named_row(s, end, vars, n),
-        Word::Other => shapeless(end),
+        _ => shapeless(end),
     }
 }

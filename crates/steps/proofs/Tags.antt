@@ -4,10 +4,8 @@ use mathlib.Core.Bool.{Bool, true, false, cond, _&&_, false≢true}
 use mathlib.Core.List.{List}
 use Prim.Native.Nat.{ℕ, _+_, _<_}
 use native.Mathlib.Omega.{arith}
-use borrow.Author.Tests.{eqb-true, ne-eqb, lt-ltb, le-ltb}
+use borrow.Author.Tests.{ne-eqb, lt-ltb, le-ltb}
 use lib.Dec.{eqb, ltb}
-use Rattle.rules.specs.declared.Kind.{Kind}
-use Rattle.rules.specs.declared.Kind.the-variants.{Set, Move, Cue, Pick, Else, End, While, Do, For}
 use Rattle.rules.specs.declared.Step.the-variants.{Unknown}
 use Rattle.rules.specs.Steps.{sets, rowStep, sourceStep, changeStep}
 use Rattle.rules.specs.Bounds.{Fine, FineChange}
@@ -23,6 +21,10 @@ shapeBy t = cond (ltb t 2) Shape.Close (cond (eqb t 2) Shape.Branch (cond (ltb t
 -- a set, a change or a for
 abbrev pub assignsBy : ℕ → Bool
 assignsBy t = cond (ltb t 5) (ltb 2 t) (ltb 7 t)
+
+-- a row that assigns nothing
+none : {A B : Type 0} → A → false ≡ true → B
+none f h = absurd (false≢true h)
 
 module _ (rows : List (List ℕ)) (i : ℕ) where
   pub shape-is : shapeOf (kindAt (rowsOf rows) i) ≡ shapeBy (number (numbersAt rows i) 0)
@@ -55,20 +57,12 @@ module _ (rows : List (List ℕ)) (i : ℕ) where
   step-change v =
       rw (kind-in rows i)
       (by-tag (numbersAt rows i) (λ t k. (t ≡ 3 → ⊥) → Fine k → sets v (plainOf k) ≡ true → FineChange (stepIn (numbersAt rows i)) × (rowStep v (plainOf k) ≡ changeStep (stepIn (numbersAt rows i))))
-      none none none (λ n f h. absurd (n refl)) (λ n f h. (f .1, rw h)) none none none (λ t l n f h. (f .3, rw h)))
-    where
-      none : {A B C : Type 0} → A → B → false ≡ true → C
-      none n f h = absurd (false≢true h)
+      (λ n. none) (λ n. none) (λ n. none) (λ n f h. absurd (n refl)) (λ n f h. (f .1, rw h)) (λ n. none) (λ n. none) (λ n. none) (λ t l n f h. (f .3, rw h)))
 
--- a row assigns one of the 16 variables
-pub sets-small : (k : Kind) (w : ℕ) → Fine k → sets w (plainOf k) ≡ true → w < 16
-unfolding sets
-sets-small (Set v x) w f h = let e = eqb-true w v h in omega (arith, f .0)
-sets-small (Move v c) w f h = let e = eqb-true w v h in omega (arith, f .0)
-sets-small (Cue n) w f h = absurd (false≢true h)
-sets-small Pick w f h = absurd (false≢true h)
-sets-small Else w f h = absurd (false≢true h)
-sets-small End w f h = absurd (false≢true h)
-sets-small (While v c x) w f h = absurd (false≢true h)
-sets-small (Do v c x) w f h = absurd (false≢true h)
-sets-small (For v s c x d) w f h = let e = eqb-true w v h in omega (arith, f .0)
+  -- it is one of the 16 variables
+  pub sets-small : Fine (kindAt (rowsOf rows) i) → sets (variableIn (numbersAt rows i)) (plainOf (kindAt (rowsOf rows) i)) ≡ true → variableIn (numbersAt rows i) < 16
+  unfolding sets
+  sets-small =
+      rw (kind-in rows i)
+      (by-tag (numbersAt rows i) (λ t k. Fine k → sets (variableIn (numbersAt rows i)) (plainOf k) ≡ true → variableIn (numbersAt rows i) < 16)
+      none none none (λ f h. f .0) (λ f h. f .0) none none none (λ t l f h. f .0))

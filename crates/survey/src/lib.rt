@@ -2,13 +2,13 @@
 use lines::put_line;
 use ranges::after;
 use ranges::at_start;
-use ranges::bounds_in;
+use ranges::bounds;
 use ranges::head_of;
 use ranges::inside;
 use ranges::is_do;
 use ranges::joined;
 use ranges::outside;
-use ranges::span_in;
+use ranges::span_at;
 use ranges::step_row;
 use rules::Kind;
 use rules::LoopLine;
@@ -91,8 +91,8 @@ fn one_loop(rows: &[[u32; 9]; 256], count: usize, i: usize, begun: &[[i32; 2]; 1
     let set = body.set;
     let next = body.next;
     let step = body.step;
-    let s = span_in(begun, v);
-    let n = bounds_in(begun, limit);
+    let s = span_at(begun, v);
+    let n = bounds(begun, limit);
     let figure = ask(is_do(kind), step, keeps(limit, set), comparison, s, n);
     Turning {
         number: figure.number,

@@ -136,6 +136,13 @@ last-end s at h z = go (eqb (getD s at 0) 10) refl
     go true e = rw (drop-cons s at 0 (ends-within s at h), e)
     go false e = absurd (omega (arith, z, last-no s at h (eqb-false _ _ e)))
 
+-- the word that a call of `said` gives of what was found: the number comes to it as bits
+abbrev pub Says : Found → Word → Type 0
+Says r w = SFits w32 (r .value) × (w ≡ wordIn (r .tag) (toZ w32 (ofZ w32 (r .value))))
+
+pub says-word : (r : Found) (w : Word) → Says r w → w ≡ wordIn (r .tag) (r .value)
+says-word r w (f, e) = rw (toZ-ofZ f) at e
+
 -- ---- m words of a line are read, and the others begin after the byte p
 pub record Reached (s : List ℕ) (at m p : ℕ) : Type 0 where
   pub more : (k : ℕ) → following (drop at s) (m + k) ≡ following (drop p s) k
@@ -156,10 +163,8 @@ module _ (s : List ℕ) (at m p : ℕ) (h : Reached s at m p) where
     ends = n .ends;
   }
 
-  -- the next word, as a call of `said` with the fields of a call of `next_word` gives it
-  pub reach-word : (r : Found) → Next s p r → SFits w32 (r .value) → (w : Word) → w ≡ wordIn (r .tag) (toZ w32 (ofZ w32 (r .value)))
-      → (w ≡ cut (following (drop at s) m)) × Reached s at (suc m) (r .end)
-  reach-word r n f w e = ((rw (toZ-ofZ f) at e) ∙ n .word ∙ ap cut (sym here), reach-more r n)
+  pub reach-word : (r : Found) → Next s p r → (w : Word) → Says r w → (w ≡ cut (following (drop at s) m)) × Reached s at (suc m) (r .end)
+  reach-word r n w e = (says-word r w e ∙ n .word ∙ ap cut (sym here), reach-more r n)
 
   pub reach-last : asksEnd (following (drop p s) 0) ≡ asksEnd (cut (following (drop at s) m))
   reach-last = ap asksEnd (sym here) ∙ sym (cut-end (following (drop at s) m))
@@ -168,10 +173,9 @@ module _ (s : List ℕ) (at m p : ℕ) (h : Reached s at m p) where
   reach-end z = omega (arith, last-end s p (h .ends) (reach-last ∙ z), h .line)
 
 -- the first two words
-pub reach-two : (s : List ℕ) (at : ℕ) → Ends (drop at s) → (f : Found) → Next s at f → SFits w32 (f .value) → (v : Word) → v ≡ wordIn (f .tag) (toZ w32 (ofZ w32 (f .value)))
-    → (g : Found) → Next s (f .end) g → SFits w32 (g .value) → (x : Word) → x ≡ wordIn (g .tag) (toZ w32 (ofZ w32 (g .value)))
+pub reach-two : (s : List ℕ) (at : ℕ) → Ends (drop at s) → (f : Found) → Next s at f → (v : Word) → Says f v → (g : Found) → Next s (f .end) g → (x : Word) → Says g x
     → (v ≡ cut (following (drop at s) 0)) × (x ≡ cut (following (drop at s) 1)) × Reached s at 2 (g .end)
-reach-two s at h f n i v e g o j x d =
-    let (a, r) = reach-word s at 0 at (reach-none s at h) f n i v e in
-    let (b, t) = reach-word s at 1 (f .end) r g o j x d in
+reach-two s at h f n v i g o x j =
+    let (a, r) = reach-word s at 0 at (reach-none s at h) f n v i in
+    let (b, t) = reach-word s at 1 (f .end) r g o x j in
     (a, b, t)

@@ -8,18 +8,18 @@ use borrow.Author.Needs.{needs}
 use Rattle.ranges.proofs.at_start.Statement.{statement}
 use Rattle.ranges.proofs.at_start.Tie as tie
 
-bounds-in-requires : tie.Need-bounds-in-requires
-bounds-in-requires c κs = let h = rw (c .before .before .kind .given .1) at (c .before .before .before .before .pre .0) in h .1
+bounds-requires : tie.Need-bounds-requires
+bounds-requires c κs = let h = rw (c .before .before .kind .given .1) at (c .before .before .before .before .pre .0) in h .1
 
-put-in-requires : tie.Need-put-in-requires
-put-in-requires c κs = let h = rw (c .before .before .before .before .kind .given .1) at (c .before .before .before .before .before .before .pre .0) in (h .0, c .before .before .before .before .before .before .pre .1)
+put-requires : tie.Need-put-requires
+put-requires c κs = let h = rw (c .before .before .before .before .kind .given .1) at (c .before .before .before .before .before .before .pre .0) in (h .0, c .before .before .before .before .before .before .pre .1)
 
 returns : tie.Need-returns
 unfolding atStart formOf testOf
-returns c = let p = c .put-in .ensures in record { long = p .long; value = rw (p .value, c .before .before .bounds-in .ensures, c .before .before .before .before .before .kind .given .1) }
+returns c = let p = c .put .ensures in record { long = p .long; value = rw (p .value, c .before .before .bounds .ensures, c .before .before .before .before .before .kind .given .1) }
 
 returns-2 : tie.Need-returns-2
 returns-2 c = record { long = c .before .pre .1; value = no-start (envOf (now (c .before .args .r))) (c .before .args .kind) (c .match .keys2) }
 
 pub at-start-spec : {M : Type 1} → statement M
-at-start-spec = tie.close (tie.spec (λ c. search needs) bounds-in-requires put-in-requires returns returns-2)
+at-start-spec = tie.close (tie.spec (λ c. search needs) bounds-requires put-requires returns returns-2)

@@ -1,7 +1,6 @@
 -- `ranges::inside` meets its contract.
 use borrow.Author.Needs.{needs}
-use mathlib.Core.Path.{_∙_}
-use Rattle.ranges.proofs.Loops.{inside-is, late-is}
+use Rattle.ranges.proofs.Loops.{inside-is}
 use Rattle.ranges.proofs.inside.Statement.{statement}
 use Rattle.ranges.proofs.inside.Tie as tie
 
@@ -12,7 +11,7 @@ returns c =
     record {
       value = λ body e. record {
         long = x .long;
-        value = inside-is _ body _ e _ _ _ _ _ _ (x .value) (h .tested) (h .comparison) (c .before .before .before .before .before .before .span-in .ensures) _ _ _ (c .before .before .inside-span .ensures _ (c .before .before .before .is-do .ensures ∙ late-is _)) (c .before .before .before .before .bounds-in .ensures) (h .limit);
+        value = inside-is _ body _ e _ _ _ _ _ _ (x .value) (h .tested) (h .comparison) (c .before .before .before .before .before .before .span-at .ensures) _ _ _ (c .before .before .inside-span .ensures _ (c .before .before .before .is-do .ensures)) (c .before .before .before .before .bounds .ensures) (h .limit);
       };
     }
 

@@ -22,8 +22,8 @@ loop-holds c = (search needs, record { long = search needs; value = sym (up-none
 loop-again : tie.Need-loop-again Inv-loop μ-loop
 loop-again c =
     let k = c .before .before .before .before .before .before .before .before .loop .inv .1 in
-    let p = c .put-in .ensures in
-    (search needs, record { long = p .long; value = p .value ∙ up-put _ _ _ _ _ (k .value) (join-at _ _ _ _ _ _ (c .before .before .joined-span .ensures) (c .before .before .before .before .before .span-in .ensures) (c .before .before .before .span-in2 .ensures)) })
+    let p = c .put .ensures in
+    (search needs, record { long = p .long; value = p .value ∙ up-put _ _ _ _ _ (k .value) (join-at _ _ _ _ _ _ (c .before .before .joined-span .ensures) (c .before .before .before .before .before .span-at .ensures) (c .before .before .before .span-at2 .ensures)) })
 
 returns : tie.Need-returns Inv-loop μ-loop
 returns c =

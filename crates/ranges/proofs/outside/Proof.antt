@@ -11,7 +11,7 @@ returns c =
     record {
       value = λ body e q. record {
         long = x .long;
-        value = outside-is _ body _ e _ _ _ _ _ _ (x .value) (h .tested) (h .comparison) (c .before .before .before .span-in .ensures) _ (c .before .before .outside-span .ensures) q;
+        value = outside-is _ body _ e _ _ _ _ _ _ (x .value) (h .tested) (h .comparison) (c .before .before .before .span-at .ensures) _ (c .before .before .outside-span .ensures) q;
       };
     }
 

@@ -23,8 +23,8 @@ loop-holds c = (search needs, record { long = c .pre; value = sym (up-none _ _) 
 loop-again : tie.Need-loop-again Inv-loop μ-loop
 loop-again c =
     let k = c .before .before .before .before .before .before .before .loop .inv .1 in
-    let p = c .put-in .ensures in
-    let old = c .before .before .before .before .span-in .ensures ∙ ap (λ ρ. ρ (c .before .before .before .before .before .before .before .loop .w)) (k .value) ∙ up-here _ _ _ in
+    let p = c .put .ensures in
+    let old = c .before .before .before .before .span-at .ensures ∙ ap (λ ρ. ρ (c .before .before .before .before .before .before .before .loop .w)) (k .value) ∙ up-here _ _ _ in
     (search needs, record { long = p .long; value = p .value ∙ up-put _ _ _ _ _ (k .value) (wide-at _ _ _ _ _ _ _ _ (c .before .before .chosen .ensures) old (c .before .before .before .has .ensures)) })
 
 returns : tie.Need-returns Inv-loop μ-loop

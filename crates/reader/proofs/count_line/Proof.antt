@@ -3,7 +3,7 @@ use Prim.Native.Nat.{_+_, _-_, _≤_}
 use lib.ListN.{length, drop}
 use denote.Ref.{now}
 use Rattle.reader.proofs.Counts.{count-read, count-wrong, count-small, count-long, count-none}
-use Rattle.reader.proofs.Lines.{Keyed, keyed-at, keyed-end, at-none, last, last-length}
+use Rattle.reader.proofs.Lines.{Keyed, keyed-at, keyed-end, at-none, last-length}
 use Rattle.text.proofs.Line.{Reached, reach-none, reach-word}
 use Rattle.text.specs.Words.{before, cut, following}
 use mir.Facts.{toZ-ofZ}
@@ -28,7 +28,7 @@ key-at c =
 -- the first word
 word : (c : tie.After-said) → let a = c .before .before .before .before .before .before .before .args in let p = length (now (a .key)) - 1 in
     (c .said .result ≡ cut (following (drop p (now (a .rest))) 0)) × Reached (now (a .rest)) p 1 (c .before .before .next-word .result .end)
-word c = reach-word _ _ 0 _ (reach-none _ _ (key-at (c .before .before .before) .ends)) _ (c .before .before .next-word .ensures) (search needs) _ (c .said .ensures)
+word c = reach-word _ _ 0 _ (reach-none _ _ (key-at (c .before .before .before) .ends)) _ (c .before .before .next-word .ensures) _ (search needs, c .said .ensures)
 
 -- the question after the first word, and where the line ends
 second : (c : tie.After-sooner) → let a = c .before .before .before .before .before .before .before .before .before .before .args in c .before .asks-last .result ≡ asksEnd (following (drop (length (now (a .key)) - 1) (now (a .rest))) 1)

@@ -10,7 +10,7 @@ use mir.Facts.{toZ-ofZ}
 use mir.Syntax.{w32}
 use mir.Val.{SFits}
 use borrow.Author.Needs.{sfits-of, needs}
-use Rattle.rules.specs.File.{sooner, asksEnd, asksOrder, asksRange, numberOf, rangeKey}
+use Rattle.rules.specs.File.{asksEnd, asksRange, numberOf, rangeKey}
 use Rattle.rules.specs.Values.{lowest, highest}
 use Rattle.reader.proofs.range_line.Statement.{statement}
 use Rattle.reader.proofs.range_line.Tie as tie
@@ -23,7 +23,7 @@ key-at c = keyed-at _ _ _ refl refl (sym (c .before .keyed .ensures) ∙ c .if1 
 -- its two words
 words : (c : tie.After-said2) → let s = now (c .before .before .before .before .before .before .before .before .before .before .args .rest) in
     (c .before .before .before .said .result ≡ cut (following (drop 5 s) 0)) × (c .said2 .result ≡ cut (following (drop 5 s) 1)) × Reached s 5 2 (c .before .before .next-word2 .result .end)
-words c = reach-two _ _ (key-at (c .before .before .before .before .before .before) .ends) _ (c .before .before .before .before .before .next-word .ensures) (search needs) _ (c .before .before .before .said .ensures) _ (c .before .before .next-word2 .ensures) (search needs) _ (c .said2 .ensures)
+words c = reach-two _ _ (key-at (c .before .before .before .before .before .before) .ends) _ (c .before .before .before .before .before .next-word .ensures) _ (search needs, c .before .before .before .said .ensures) _ (c .before .before .next-word2 .ensures) _ (search needs, c .said2 .ensures)
 
 -- where the line ends, and the question of the words
 ended : (c : tie.After-sooner3) → let s = now (c .before .before .before .before .before .before .before .before .before .before .before .before .before .before .before .before .before .args .rest) in asksEnd (following (drop 5 s) 2) ≡ 0 → c .before .before .before .before .before .before .before .before .before .next-word2 .result .end ≡ before 10 s

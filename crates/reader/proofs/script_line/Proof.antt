@@ -18,7 +18,7 @@ key-at c = keyed-at _ _ _ refl refl (sym (c .before .keyed .ensures) ∙ c .if1 
 
 -- the first word
 word : (c : tie.After-said) → let s = now (c .before .before .before .before .before .before .before .args .rest) in (c .said .result ≡ cut (following (drop 6 s) 0)) × Reached s 6 1 (c .before .before .next-word .result .end)
-word c = reach-word _ _ 0 _ (reach-none _ _ (key-at (c .before .before .before) .ends)) _ (c .before .before .next-word .ensures) (search needs) _ (c .said .ensures)
+word c = reach-word _ _ 0 _ (reach-none _ _ (key-at (c .before .before .before) .ends)) _ (c .before .before .next-word .ensures) _ (search needs, c .said .ensures)
 
 -- the question after the first word, and where the line ends
 second : (c : tie.After-sooner) → c .before .asks-last .result ≡ asksEnd (following (drop 6 (now (c .before .before .before .before .before .before .before .before .before .before .args .rest))) 1)

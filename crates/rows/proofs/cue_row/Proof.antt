@@ -17,7 +17,7 @@ use Rattle.rows.proofs.cue_row.Tie as tie
 -- the word read
 words : (c : tie.After-said) → let a = c .before .before .before .before .args in let w = after Missing (drop (a .at) (now (a .s))) in
     (c .said .result ≡ w 1) × Reached (now (a .s)) (a .at) 1 (c .before .before .next-word .result .end)
-words c = reach-word _ _ 0 _ (reach-none _ _ (c .before .before .before .before .pre)) _ (c .before .before .next-word .ensures) (search needs) _ (c .said .ensures)
+words c = reach-word _ _ 0 _ (reach-none _ _ (c .before .before .before .before .pre)) _ (c .before .before .next-word .ensures) _ (search needs, c .said .ensures)
 
 -- the words' questions
 asked : (c : tie.After-sooner) → let a = c .before .before .before .before .before .before .before .args in let w = after Missing (drop (a .at) (now (a .s))) in

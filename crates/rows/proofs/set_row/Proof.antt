@@ -1,12 +1,11 @@
-use mathlib.Core.Path.{_≡_, sym, _∙_}
+use mathlib.Core.Path.{_≡_}
 use denote.Ref.{now}
 use lib.ListN.{drop}
-use Rattle.rules.proofs.Reading.{sooner-yes}
 use Rattle.rules.specs.File.{sooner, asksEnd, asksVariable, asksOperand, setRow}
 use Rattle.rules.specs.declared.Word.the-variants.{Missing}
 use Rattle.text.proofs.Line.{Reached, reach-two, reach-last}
 use Rattle.rows.specs.Words.{after}
-use Rattle.rows.proofs.Laws.{checked-read, checked-wrong, lined-read, lined-wrong}
+use Rattle.rows.proofs.Laws.{two-yes, checked-read, checked-wrong, lined-read, lined-wrong}
 use borrow.Author.Needs.{needs}
 use Rattle.rows.proofs.set_row.Statement.{statement}
 use Rattle.rows.proofs.set_row.Tie as tie
@@ -14,7 +13,7 @@ use Rattle.rows.proofs.set_row.Tie as tie
 -- the words read
 words : (c : tie.After-said2) → let a = c .before .before .before .before .before .before .before .args in let w = after Missing (drop (a .at) (now (a .s))) in
     (c .before .before .before .said .result ≡ w 1) × (c .said2 .result ≡ w 2) × Reached (now (a .s)) (a .at) 2 (c .before .before .next-word2 .result .end)
-words c = reach-two _ _ (c .before .before .before .before .before .before .before .pre .0) _ (c .before .before .before .before .before .next-word .ensures) (search needs) _ (c .before .before .before .said .ensures) _ (c .before .before .next-word2 .ensures) (search needs) _ (c .said2 .ensures)
+words c = reach-two _ _ (c .before .before .before .before .before .before .before .pre .0) _ (c .before .before .before .before .before .next-word .ensures) _ (search needs, c .before .before .before .said .ensures) _ (c .before .before .next-word2 .ensures) _ (search needs, c .said2 .ensures)
 
 -- the words' questions
 asked : (c : tie.After-sooner2) → let a = c .before .before .before .before .before .before .before .before .before .before .before .before .args in let w = after Missing (drop (a .at) (now (a .s))) in
@@ -23,18 +22,17 @@ asked c = let (v, x, r) = words (c .before .before .before .before .before) in
     rw (c .sooner2 .ensures, c .before .asks-variable .ensures, c .before .before .sooner .ensures, c .before .before .before .before .asks-operand .ensures, c .before .before .before .asks-last .ensures, v, x, reach-last _ _ 2 _ r)
 
 variable-of-requires : tie.Need-variable-of-requires
-variable-of-requires c κs = (c .before .before .before .before .before .before .before .before .before .before .before .before .before .pre .1, rw (words (c .before .before .before .before .before .before) .0) (sooner-yes _ _ (sym (asked (c .before)) ∙ c .if1 .taken) .0))
+variable-of-requires c κs = (c .before .before .before .before .before .before .before .before .before .before .before .before .before .pre .1, rw (words (c .before .before .before .before .before .before) .0) (two-yes _ _ _ _ (asked (c .before)) (c .if1 .taken) .0))
 
 operand-of-requires : tie.Need-operand-of-requires
-operand-of-requires c κs = (c .before .before .before .before .before .before .before .before .before .before .before .before .before .before .pre .1, rw (words (c .before .before .before .before .before .before .before) .1) (sooner-yes _ _ (sooner-yes _ _ (sym (asked (c .before .before)) ∙ c .before .if1 .taken) .1) .0))
+operand-of-requires c κs = (c .before .before .before .before .before .before .before .before .before .before .before .before .before .before .pre .1, rw (words (c .before .before .before .before .before .before .before) .1) (two-yes _ _ _ _ (asked (c .before .before)) (c .before .if1 .taken) .1))
 
 returns : tie.Need-returns
 unfolding setRow
 returns c = let a = c .before .before .before .before .before .before .before .before .before .before .before .before .before .before .before .args in
     let (v, x, r) = words (c .before .before .before .before .before .before .before .before) in
     let e = asked (c .before .before .before) in
-    let (_, z) = sooner-yes _ _ (sym e ∙ c .before .before .if1 .taken) in
-    lined-read _ _ 2 _ (setRow (a .vars)) r _ (checked-read _ _ _ _ e (c .before .before .if1 .taken) (rw (c .operand-of .ensures, c .before .variable-of .ensures, v, x))) (sooner-yes _ _ z .1)
+    lined-read _ _ 2 _ (setRow (a .vars)) r _ (checked-read _ _ _ _ e (c .before .before .if1 .taken) (rw (c .operand-of .ensures, c .before .variable-of .ensures, v, x))) (two-yes _ _ _ _ e (c .before .before .if1 .taken) .2)
 
 returns-2 : tie.Need-returns-2
 unfolding setRow

@@ -3,12 +3,11 @@ use denote.Ref.{now}
 use mathlib.Core.Path.{sym, ap, _∙_}
 use Rattle.rules.specs.Steps.{step}
 use Rattle.rules.specs.Questions.{keeps}
-use Rattle.rules.specs.Ranges.{bounds}
+use Rattle.rules.specs.Ranges.{bounds, isDo}
 use Rattle.table.specs.Code.{kindAt, rowsOf}
 use Rattle.steps.specs.Tree.{formOf, testOf}
 use Rattle.steps.specs.Body.{bodyAt}
-use Rattle.ranges.specs.Env.{envOf, late}
-use Rattle.ranges.proofs.Loops.{late-is}
+use Rattle.ranges.specs.Env.{envOf}
 use Rattle.survey.proofs.Parts.{loop-verdict, loop-turns, loop-exact}
 use borrow.Author.Needs.{needs}
 use Rattle.survey.proofs.one_loop.Statement.{statement}
@@ -31,10 +30,10 @@ returns c =
     let b = c .before .before .before .before .before .before .before .body-moves .ensures in
     let st = b .moves ∙ ap (λ v. step v body) (h .tested) in
     let keep = c .before .before .keeps .ensures body (b .sets) ∙ ap (λ x. keeps x body) (h .limit) in
-    let s = c .before .before .before .before .before .span-in .ensures ∙ ap ρ (h .tested) in
-    let n = c .before .before .before .before .bounds-in .ensures ∙ ap (bounds ρ) (h .limit) in
+    let s = c .before .before .before .before .before .span-at .ensures ∙ ap ρ (h .tested) in
+    let n = c .before .before .before .before .bounds .ensures ∙ ap (bounds ρ) (h .limit) in
     let f = c .before .ask .ensures in
-    let late = c .before .before .before .is-do .ensures ∙ ap late (c .before .before .before .before .before .before .before .before .before .kind-at .ensures) ∙ late-is k in
+    let late = c .before .before .before .is-do .ensures ∙ ap (λ d. isDo (formOf d)) (c .before .before .before .before .before .before .before .before .before .kind-at .ensures) in
     record {
       verdict = sym (loop-verdict (formOf k) ρ (testOf k) body _ _ _ _ _ st keep (h .comparison) s n (a .i)) ∙ f .verdict (formOf k) late (a .i);
       turns = λ z. f .turns (formOf k) late z ∙ loop-turns (formOf k) ρ (testOf k) body _ _ _ _ _ st keep (h .comparison) s n;

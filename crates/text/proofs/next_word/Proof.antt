@@ -1,6 +1,4 @@
-use mathlib.Core.Path.{_≡_, sym, ap, _∙_}
-use mathlib.Core.List.{List}
-use Prim.Native.Nat.{ℕ, _+_, _<_, _≤_}
+use Prim.Native.Nat.{_+_, _<_, _≤_}
 use lib.ListN.{length, drop, length-drop}
 use denote.Ref.{now}
 use Rattle.text.proofs.Laws.{part-rest, stop-within}

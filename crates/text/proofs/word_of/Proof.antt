@@ -4,7 +4,6 @@ use Prim.Native.Nat.{ℕ}
 use denote.Ref.{now}
 use Rattle.text.proofs.Laws.{natural-small, not-natural, is-natural, word-none, word-number, front-length, stop-end, stop-here, stop-on}
 use Rattle.text.specs.Words.{stop, front, keywords, wordAt, wordIn}
-use Rattle.text.specs.declared.Value.{Value}
 use mir.Facts.{toZ-ofZ}
 use borrow.Author.Needs.{sfits-of, needs}
 use native.Mathlib.Omega.{arith}

@@ -1,4 +1,4 @@
--- `ranges::put_in` meets its contract.
+-- `ranges::put` meets its contract.
 use mir.Syntax.{w32}
 use mir.Val.{SFits}
 use mir.Facts.{toZ-ofZ}
@@ -6,8 +6,8 @@ use lib.ListN.{length-set}
 use denote.Ref.{now}
 use Rattle.ranges.proofs.Envs.{env-set}
 use borrow.Author.Needs.{needs}
-use Rattle.ranges.proofs.put_in.Statement.{statement}
-use Rattle.ranges.proofs.put_in.Tie as tie
+use Rattle.ranges.proofs.put.Statement.{statement}
+use Rattle.ranges.proofs.put.Tie as tie
 
 returns : tie.Need-returns
 returns c =
@@ -19,5 +19,5 @@ returns c =
       value = rw (toZ-ofZ f0, toZ-ofZ f1) (env-set (now (s .args .r)) (s .args .v) (s .args .s .lo) (s .args .s .hi) (search needs));
     }
 
-pub put-in-spec : {M : Type 1} → statement M
-put-in-spec = tie.close (tie.spec (λ c. search needs) (λ c. search needs) returns)
+pub put-spec : {M : Type 1} → statement M
+put-spec = tie.close (tie.spec (λ c. search needs) (λ c. search needs) returns)

@@ -1,12 +1,12 @@
--- `ranges::span_in` meets its contract.
+-- `ranges::span_at` meets its contract.
 use mir.Syntax.{w32}
 use mir.Val.{SFits}
 use mir.Facts.{toZ-ofZ}
 use denote.Ref.{now}
 use Rattle.ranges.specs.Env.{envOf, lowOf, highOf}
 use borrow.Author.Needs.{needs}
-use Rattle.ranges.proofs.span_in.Statement.{statement}
-use Rattle.ranges.proofs.span_in.Tie as tie
+use Rattle.ranges.proofs.span_at.Statement.{statement}
+use Rattle.ranges.proofs.span_at.Tie as tie
 
 returns : tie.Need-returns
 unfolding envOf
@@ -16,5 +16,5 @@ returns c =
     let f1 : SFits w32 (highOf (now (s .args .r)) (s .args .v)) = search needs in
     simp (toZ-ofZ f0, toZ-ofZ f1)
 
-pub span-in-spec : {M : Type 1} → statement M
-span-in-spec = tie.close (tie.spec (λ c. search needs) (λ c. search needs) (λ c. search needs) (λ c. search needs) (λ c. search needs) (λ c. search needs) returns)
+pub span-at-spec : {M : Type 1} → statement M
+span-at-spec = tie.close (tie.spec (λ c. search needs) (λ c. search needs) (λ c. search needs) (λ c. search needs) (λ c. search needs) (λ c. search needs) returns)
