@@ -10,7 +10,7 @@ use lib.Seq.{getD-set-other, take-suc-set}
 use Rattle.rules.specs.declared.Row.{Row}
 use Rattle.rules.specs.Blocks.{kindsOf}
 use Rattle.rules.specs.Ranges.{Range}
-use Rattle.rules.specs.Scripts.{Script, pairRange, pairRanges, ends, scriptOf}
+use Rattle.rules.specs.Scripts.{Script, pairRange, pairRanges, endRanges, scriptOf}
 use Rattle.table.specs.Code.{rowsOf, Packed}
 use Rattle.calls.specs.Held.{held, PairsOf}
 
@@ -32,19 +32,19 @@ blank-all (suc n) zero = refl
 blank-all (suc n) (suc w) = blank-all n w
 
 pub pairs-none : (low high : List ℤ) → PairsOf 0 low high (replicate 16 (pos 0 ∷ (pos 0 ∷ [])))
-unfolding ends
+unfolding endRanges
 pairs-none low high = record { first = refl; rest = record { blank = λ w h. blank-all 16 w } }
 
 -- one variable more
 pub pairs-next : (low high : List ℤ) (v : ℕ) (r : List (List ℤ)) → v < length r → PairsOf v low high r
     → PairsOf (v + 1) low high (set r v (getD low v (pos 0) ∷ (getD high v (pos 0) ∷ [])))
-unfolding ends
+unfolding endRanges
 pairs-next low high v r h o =
     let p : List ℤ = getD low v (pos 0) ∷ (getD high v (pos 0) ∷ []) in
     let k : v < length (pairRanges r) = omega (arith, pairs-length r) in
     record {
       first = ap (λ n. take n (pairRanges (set r v p))) (add-one v) ∙ ap (take (suc v)) (pairs-set r v p) ∙ take-suc-set (pairRanges r) v (pairRange p) k
-          ∙ ap (λ l. l ++ (pairRange p ∷ [])) (o .first) ∙ ap (λ n. ends n low high) (sym (add-one v));
+          ∙ ap (λ l. l ++ (pairRange p ∷ [])) (o .first) ∙ ap (λ n. endRanges n low high) (sym (add-one v));
       rest = record { blank = λ w l. ap pairRange (getD-set-other r v w p [] (λ e. let z : ⊥ = omega arith in z)) ∙ o .rest .blank w (omega arith) };
     }
 
@@ -55,4 +55,4 @@ script-is rows count vars low high r o = ap {B = Script} (λ rs. record { ranges
 
 -- the table of a script's rows has its script
 pub packed-held : (rows : List Row) (t : List (List ℕ)) (count vars : ℕ) (low high : List ℤ) → Packed count rows t → held (rowsOf t) count vars low high ≡ held rows count vars low high
-packed-held rows t count vars low high p = ap {B = Script} (λ ks. record { ranges = ends vars low high; rows = ks }) p
+packed-held rows t count vars low high p = ap {B = Script} (λ ks. record { ranges = endRanges vars low high; rows = ks }) p

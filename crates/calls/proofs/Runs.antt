@@ -8,7 +8,7 @@ use lib.ListN.{length}
 use Rattle.rules.specs.declared.Row.{Row}
 use Rattle.rules.specs.Figures.{ones}
 use Rattle.rules.specs.Questions.{passed}
-use Rattle.rules.specs.Scripts.{Script, ends, Legal}
+use Rattle.rules.specs.Scripts.{Script, endRanges, Legal}
 use Rattle.rules.specs.Answers.{Answer}
 use Rattle.rules.specs.Calls.{RunReply, ran, refuses, storeVerdict, loopRows, countsAt, runScript, ranScript, stored, runReply, storeAfter}
 use Rattle.rules.proofs.FromBytes.{store-in}
@@ -70,7 +70,7 @@ module _ (script : Script) (count : ℕ) (s : Figures) (ls : List (List ℕ)) (f
 
 -- the run of the rows is the answer
 pub ran-all : (rows : List Row) (count vars : ℕ) (low high : List ℤ) (s : Figures) (ls : List (List ℕ)) → Found (held rows count vars low high) count s ls
-    → (store : List ℤ) (picks : List ℕ) (allowance : ℕ) → s .number ≡ 0 → (n p : ℕ) → storeVerdict 0 (ends vars low high) store ≡ answer n p → n ≡ 0 → Legal (held rows count vars low high)
+    → (store : List ℤ) (picks : List ℕ) (allowance : ℕ) → s .number ≡ 0 → (n p : ℕ) → storeVerdict 0 (endRanges vars low high) store ≡ answer n p → n ≡ 0 → Legal (held rows count vars low high)
     → (least : ℕ) → least ≡ min allowance (s .ticks) → (new : List ℤ) (o : Outcome)
     → Ran (ranRows rows count store picks least) store new o → Ran (runReply ones (judgedScript (held rows count vars low high)) store picks allowance) store new o
 unfolding ranScript runScript

@@ -12,7 +12,8 @@ use lib.ListN.{length, getD, drop, length-append, drop-of-length-le, List·getD-
 use lib.Seq.{drop-cons, getD-at}
 use Rattle.rules.specs.Ranges.{Range}
 use Rattle.rules.specs.Questions.{Verdict, refused}
-use Rattle.rules.specs.Scripts.{ends}
+use Rattle.rules.specs.Scripts.{endRanges}
+use Rattle.rules.proofs.Laws.{ends-length}
 use Rattle.rules.specs.Calls.{storeVerdict}
 use Rattle.turns.specs.Needs.{answer}
 
@@ -20,31 +21,26 @@ module _ (low high : List ℤ) where
   abbrev at : ℕ → Range
   at i = record { lo = getD low i (pos 0); hi = getD high i (pos 0) }
 
-  ends-length : (n : ℕ) → length (ends n low high) ≡ n
-  unfolding ends
-  ends-length zero = refl
-  ends-length (suc n) = length-append (ends n low high) (at n ∷ []) ∙ ap (λ k. k + 1) (ends-length n) ∙ add-one n
-
-  ends-at : (n i : ℕ) → i < n → (d : Range) → getD (ends n low high) i d ≡ at i
-  unfolding ends
+  ends-at : (n i : ℕ) → i < n → (d : Range) → getD (endRanges n low high) i d ≡ at i
+  unfolding endRanges
   ends-at zero i h d = absurd (omega arith)
   ends-at (suc n) i h d = by (ltb i n) (ltb→lt i n) (nltb→le i n) (λ k. ends-at n i k d)
     where
-      by : (b : Bool) → (T b → i < n) → (T (not b) → n ≤ i) → (i < n → getD (ends n low high) i d ≡ at i) → getD (ends n low high ++ (at n ∷ [])) i d ≡ at i
-      by true f g ih = List·getD-append (ends n low high) (at n ∷ []) d i (omega (arith, ends-length n, f tt)) ∙ ih (f tt)
-      by false f g ih = let e : i ≡ n = omega (arith, g tt) in rw e (getD-at (ends n low high) (at n) [] d n (ends-length n))
+      by : (b : Bool) → (T b → i < n) → (T (not b) → n ≤ i) → (i < n → getD (endRanges n low high) i d ≡ at i) → getD (endRanges n low high ++ (at n ∷ [])) i d ≡ at i
+      by true f g ih = List·getD-append (endRanges n low high) (at n ∷ []) d i (omega (arith, ends-length n low high, f tt)) ∙ ih (f tt)
+      by false f g ih = let e : i ≡ n = omega (arith, g tt) in rw e (getD-at (endRanges n low high) (at n) [] d n (ends-length n low high))
 
   module _ (n : ℕ) (xs : List ℤ) where
     -- the verdict from index i on
     pub from : ℕ → Verdict
-    from i = storeVerdict i (drop i (ends n low high)) (drop i xs)
+    from i = storeVerdict i (drop i (endRanges n low high)) (drop i xs)
 
-    pub from-start : storeVerdict 0 (ends n low high) xs ≡ from 0
+    pub from-start : storeVerdict 0 (endRanges n low high) xs ≡ from 0
     unfolding from
     from-start = refl
 
-    range-at : (i : ℕ) → i < n → drop i (ends n low high) ≡ at i ∷ drop (suc i) (ends n low high)
-    range-at i h = drop-cons (ends n low high) i (at i) (omega (arith, ends-length n)) ∙ ap {B = List Range} (λ r. r ∷ drop (suc i) (ends n low high)) (ends-at n i h (at i))
+    range-at : (i : ℕ) → i < n → drop i (endRanges n low high) ≡ at i ∷ drop (suc i) (endRanges n low high)
+    range-at i h = drop-cons (endRanges n low high) i (at i) (omega (arith, ends-length n low high)) ∙ ap {B = List Range} (λ r. r ∷ drop (suc i) (endRanges n low high)) (ends-at n i h (at i))
 
     at-index : (i : ℕ) → i < n → i < length xs
         → from i ≡ cond (leZ (getD low i (pos 0)) (getD xs i (pos 0)) && leZ (getD xs i (pos 0)) (getD high i (pos 0))) (from (suc i)) (refused 15 i)
@@ -75,8 +71,8 @@ module _ (low high : List ℤ) where
     unfolding storeVerdict answer from
     from-missing i h k = λ j. storeVerdict i (range-at i h j) (drop-of-length-le xs k j)
 
-    none-left : (i : ℕ) → n ≤ i → drop i (ends n low high) ≡ []
-    none-left i h = let k : length (ends n low high) ≤ i = omega (arith, ends-length n) in drop-of-length-le (ends n low high) k
+    none-left : (i : ℕ) → n ≤ i → drop i (endRanges n low high) ≡ []
+    none-left i h = let k : length (endRanges n low high) ≤ i = omega (arith, ends-length n low high) in drop-of-length-le (endRanges n low high) k
 
     pub from-extra : (i : ℕ) → n ≤ i → i < length xs → from i ≡ answer 15 i
     unfolding storeVerdict answer from

@@ -6,7 +6,7 @@ use lib.IntN.{ℤ}
 use lib.ListN.{length, take}
 use Rattle.rules.specs.Figures.{ones}
 use Rattle.rules.specs.Questions.{verdict}
-use Rattle.rules.specs.Scripts.{Script, pairRanges, ends, envOf, treeOf, Legal}
+use Rattle.rules.specs.Scripts.{Script, pairRanges, endRanges, envOf, treeOf, Legal}
 pub use Rattle.rules.specs.Scripts.{held}
 use Rattle.rules.specs.Calls.{Judged, judgedBy}
 use Rattle.survey.specs.declared.Figures.{Figures}
@@ -29,5 +29,5 @@ pub record Found (script : Script) (count : ℕ) (s : Figures) (lines : List (Li
 
 -- the ends side by side, and [0, 0] from variable `vars` on
 pub record PairsOf (vars : ℕ) (low high : List ℤ) (r : List (List ℤ)) : Type 0 where
-  pub first : take vars (pairRanges r) ≡ ends vars low high
+  pub first : take vars (pairRanges r) ≡ endRanges vars low high
   pub rest : BlankFrom vars r

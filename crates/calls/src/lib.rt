@@ -11,7 +11,7 @@ ghost use Prim.Native.Nat.{_≤_, min};
 ghost use lib.Signed.{leZ};
 ghost use lib.ListN.{length};
 ghost use Rattle.rules.specs.Figures.{ones};
-ghost use Rattle.rules.specs.Scripts.{ends};
+ghost use Rattle.rules.specs.Scripts.{endRanges};
 ghost use Rattle.rules.specs.Calls.{replyOf, bufferOf, storeVerdict, runReply};
 ghost use Rattle.rules.specs.Claim.{Demand3Of};
 ghost use Rattle.table.specs.Code.{rowsOf, Packed};
@@ -89,7 +89,7 @@ struct Asked {
 // 15: the first index of the store that is wrong, missing or extra.
 fn ask_store(vars: usize, low: [i32; 16], high: [i32; 16], store: &[i32]) -> Asked
     requires { ⌜ vars ≤ 16 ⌝ }
-    ensures { λ r. ⌜ storeVerdict 0 (ends vars low high) (now (store .entry)) ≡ answer (r .number) (r .place) ⌝ }
+    ensures { λ r. ⌜ storeVerdict 0 (endRanges vars low high) (now (store .entry)) ≡ answer (r .number) (r .place) ⌝ }
 {
     let mut i: usize = 0;
     while i < vars {

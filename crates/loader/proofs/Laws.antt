@@ -7,10 +7,11 @@ use lib.IntN.{ℤ}
 use lib.ListN.{length, length-append}
 use borrow.Author.Tests.{eq-eqb, ne-eqb, le-leb, lt-leb}
 use Rattle.rules.specs.Figures.{ones}
-use Rattle.rules.specs.Scripts.{ends, Legal}
+use Rattle.rules.specs.Scripts.{Legal}
 use Rattle.rules.specs.File
 use Rattle.rules.specs.File.{fileScript}
 use Rattle.rules.specs.Calls.{Judged, refuses, judgedFile, judged, runReply, storeAfter}
+use Rattle.rules.proofs.Laws.{ends-length}
 use Rattle.rules.proofs.Reading.{read-legal}
 use Rattle.rules.proofs.FromBytes.{demand3-call}
 use Rattle.reader.specs.declared.Loaded.{Loaded}
@@ -26,11 +27,6 @@ use Rattle.loader.specs.Kept.{KeptCall}
 pub scratch-short : (scratch : ℕ) (file : List ℕ) → scratch < 8_192 → judged ones scratch file ≡ refuses 1 8_192
 unfolding judged
 scratch-short scratch file h = rw (lt-leb 8_192 scratch h)
-
-ends-length : (n : ℕ) (lo hi : List ℤ) → length (ends n lo hi) ≡ n
-unfolding ends
-ends-length zero lo hi = refl
-ends-length (suc n) lo hi = length-append (ends n lo hi) _ ∙ omega (arith, ends-length n lo hi)
 
 module _ (scratch : ℕ) (file : List ℕ) (l : Loaded) (room : 8_192 ≤ scratch) (e : loadedOf l ≡ fileScript file) where
   -- the file is refused

@@ -31,7 +31,7 @@ use Rattle.nesting.specs.Open.{nestOf, nestedOf, Shallow}
 use Rattle.nesting.proofs.Laws.{nest-none}
 use Rattle.reader.specs.declared.Ranged.{Ranged}
 use Rattle.reader.specs.Read.{lines, rangeOf, RangeWithin, RangeRead}
-use Rattle.rules.specs.Scripts.{ends}
+use Rattle.rules.specs.Scripts.{endRanges}
 use Rattle.rules.specs.Bounds.{Fine}
 use Rattle.rules.proofs.Reading
 use Rattle.table.specs.Code as table
@@ -41,15 +41,15 @@ use Rattle.table.proofs.Limits.{row-fine}
 use Rattle.reader.proofs.Lines.{next-none, lines-next}
 
 -- ---- ranges
-ends-set : (n i : ℕ) (lo hi : List ℤ) (a b : ℤ) → n ≤ i → ends n (set lo i a) (set hi i b) ≡ ends n lo hi
-unfolding ends
+ends-set : (n i : ℕ) (lo hi : List ℤ) (a b : ℤ) → n ≤ i → endRanges n (set lo i a) (set hi i b) ≡ endRanges n lo hi
+unfolding endRanges
 ends-set zero i lo hi a b h = refl
 ends-set (suc n) i lo hi a b h =
     rw (ends-set n i lo hi a b (omega arith), getD-set-other lo i n a (pos 0) (λ (e : n ≡ i). omega arith), getD-set-other hi i n b (pos 0) (λ (e : n ≡ i). omega arith))
 
 -- one range more
-ends-more : (i : ℕ) (lo hi : List ℤ) (a b : ℤ) → i < length lo → i < length hi → ends (suc i) (set lo i a) (set hi i b) ≡ ends i lo hi ++ (record { lo = a; hi = b } ∷ [])
-unfolding ends
+ends-more : (i : ℕ) (lo hi : List ℤ) (a b : ℤ) → i < length lo → i < length hi → endRanges (suc i) (set lo i a) (set hi i b) ≡ endRanges i lo hi ++ (record { lo = a; hi = b } ∷ [])
+unfolding endRanges
 ends-more i lo hi a b h k = rw (ends-set i i lo hi a b (omega arith), getD-set-same lo i a (pos 0) h, getD-set-same hi i b (pos 0) k)
 
 -- i of n range lines are read, and the next begins at byte `next`
@@ -58,7 +58,7 @@ pub record RangesUpto (file : List ℕ) (at n : ℕ) (low high : List ℤ) (next
   pub within : next ≤ length file
   pub low-size : length low ≡ 16
   pub high-size : length high ≡ 16
-  pub same : rangeLines n 3 (lines (drop at file)) [] ≡ rangeLines (n - i) (3 + i) (lines (drop next file)) (ends i low high)
+  pub same : rangeLines n 3 (lines (drop at file)) [] ≡ rangeLines (n - i) (3 + i) (lines (drop next file)) (endRanges i low high)
 
 less-one : (n i : ℕ) → i < n → n - i ≡ suc (n - (i + 1))
 less-one n i h = omega arith
@@ -66,9 +66,9 @@ less-one n i h = omega arith
 module _ (file : List ℕ) (at n : ℕ) (low high : List ℤ) (next i : ℕ) (u : RangesUpto file at n low high next i) (small : n ≤ 16) (h : i < n) where
   -- the next line, and then the others
   step : (r : Ranged) → RangeRead (drop next file) r
-      → rangeLines n 3 (lines (drop at file)) [] ≡ rangeOf (drop next file) (3 + i) (λ x ls. rangeLines (n - (i + 1)) (suc (3 + i)) ls (ends i low high ++ (x ∷ []))) r
+      → rangeLines n 3 (lines (drop at file)) [] ≡ rangeOf (drop next file) (3 + i) (λ x ls. rangeLines (n - (i + 1)) (suc (3 + i)) ls (endRanges i low high ++ (x ∷ []))) r
   unfolding rangeLines
-  step r f = u .same ∙ ap (λ m. rangeLines m (3 + i) (lines (drop next file)) (ends i low high)) (less-one n i h) ∙ f .line (3 + i) (λ x ls. rangeLines (n - (i + 1)) (suc (3 + i)) ls (ends i low high ++ (x ∷ [])))
+  step r f = u .same ∙ ap (λ m. rangeLines m (3 + i) (lines (drop next file)) (endRanges i low high)) (less-one n i h) ∙ f .line (3 + i) (λ x ls. rangeLines (n - (i + 1)) (suc (3 + i)) ls (endRanges i low high ++ (x ∷ [])))
 
   pub ranges-more : (a b : ℤ) (k : ℕ) → RangeRead (drop next file) (Ranged.Range a b k) → RangesUpto file at n (set low i a) (set high i b) (next + k) (i + 1)
   unfolding rangeOf
@@ -78,9 +78,9 @@ module _ (file : List ℕ) (at n : ℕ) (low high : List ℤ) (next i : ℕ) (u 
     low-size = length-set low i a ∙ u .low-size;
     high-size = length-set high i b ∙ u .high-size;
     same = step (Ranged.Range a b k) f
-        ∙ ap (λ (ls : List (List ℕ)). rangeLines (n - (i + 1)) (suc (3 + i)) ls (ends i low high ++ (record { lo = a; hi = b } ∷ []))) (ap lines (drop-drop k next file))
+        ∙ ap (λ (ls : List (List ℕ)). rangeLines (n - (i + 1)) (suc (3 + i)) ls (endRanges i low high ++ (record { lo = a; hi = b } ∷ []))) (ap lines (drop-drop k next file))
         ∙ ap (λ rs. rangeLines (n - (i + 1)) (suc (3 + i)) (lines (drop (next + k) file)) rs) (sym (ends-more i low high a b (omega (arith, u .low-size)) (omega (arith, u .high-size))))
-        ∙ rw (add-one i) (ap (λ p. rangeLines (n - suc i) p (lines (drop (next + k) file)) (ends (suc i) (set low i a) (set high i b))) (omega arith));
+        ∙ rw (add-one i) (ap (λ p. rangeLines (n - suc i) p (lines (drop (next + k) file)) (endRanges (suc i) (set low i a) (set high i b))) (omega arith));
   }
 
   pub ranges-wrong : (q : ℕ) → RangeRead (drop next file) (Ranged.Wrong q) → rangeLines n 3 (lines (drop at file)) [] ≡ refused q (3 + i)
@@ -88,7 +88,7 @@ module _ (file : List ℕ) (at n : ℕ) (low high : List ℤ) (next i : ℕ) (u 
   ranges-wrong q f = step (Ranged.Wrong q) f
 
 pub ranges-all : (file : List ℕ) (at n : ℕ) (low high : List ℤ) (next i : ℕ) → RangesUpto file at n low high next i → n ≤ i
-    → rangeLines n 3 (lines (drop at file)) [] ≡ read (ends n low high) (lines (drop next file))
+    → rangeLines n 3 (lines (drop at file)) [] ≡ read (endRanges n low high) (lines (drop next file))
 unfolding rangeLines
 ranges-all file at n low high next i u h =
     let e : i ≡ n = omega (arith, u .few) in
@@ -155,7 +155,7 @@ row-line vars s k e = go (ltb (before 10 s) (length s)) refl
         absurd (let y : _≡_ {A = ℕ} 0 1 = cc in omega arith)
 
 pub ranges-none : (file : List ℕ) (at n : ℕ) → at ≤ length file → RangesUpto file at n (replicate 16 (pos 0)) (replicate 16 (pos 0)) at 0
-unfolding ends
+unfolding endRanges
 ranges-none file at n h = record { few = omega arith; within = h; low-size = refl; high-size = refl; same = ap (λ m. rangeLines m 3 (lines (drop at file)) []) (omega arith) }
 
 -- a row that is put in a table: its length, and its rows beside an array's

@@ -10,7 +10,7 @@ use lib.Seq.{drop-drop}
 use Rattle.rules.specs.Blocks.{kindsOf}
 use borrow.Author.Tests.{eq-eqb, ne-eqb, eqb-true, eqb-false, le-leb, lt-leb, ltb-true, ltb-false}
 use Rattle.rules.specs.Ranges.{Range}
-use Rattle.rules.specs.Scripts.{Script, ends}
+use Rattle.rules.specs.Scripts.{Script, endRanges}
 use Rattle.rules.specs.Text.{prefixed, split}
 use Rattle.rules.specs.File.{Reading, read, refused, andThen, unless, sooner, asksRest, asksClosed, lastLine, rangeLines, rowLines, noRows, countLine, varsKey, scriptLine, rangePart, linesScript, fileScript}
 use Rattle.nesting.specs.Open.{nestOf}
@@ -91,7 +91,7 @@ module _ (file : List ℕ) (at n : ℕ) (r : Ranges) (h : RangesRead file at n r
   unfolding andThen rangesOf
   ranges-refused z = rw (h .all, ne-eqb (r .number) 0 z) refl
 
-  pub ranges-then : r .number ≡ 0 → andThen (rangeLines n 3 (lines (drop at file)) []) f ≡ f (ends n (r .low) (r .high)) (lines (drop (r .at) file))
+  pub ranges-then : r .number ≡ 0 → andThen (rangeLines n 3 (lines (drop at file)) []) f ≡ f (endRanges n (r .low) (r .high)) (lines (drop (r .at) file))
   unfolding andThen rangesOf
   ranges-then z = rw (h .all, eq-eqb (r .number) 0 z) refl
 
@@ -112,11 +112,11 @@ file-long file h = rw (lt-leb (length file) 16_384 h)
 module _ (file : List ℕ) (h : Head) (t : List (List ℕ)) (l : Stop) (f : RowsRead file (h .at) (h .vars) (h .count) t l) (r : No)
     (first : r ≡ firstNo (asked h (record { number = l .number; place = l .place }) (ltb (l .at) (length file)) (l .blocks .depth))) where
   abbrev pub tail : Reading Script
-  tail = andThen (rowLines (h .vars) (h .count) (4 + h .vars) (lines (drop (h .at) file)) noRows) (lastLine (4 + h .vars + h .count) (ends (h .vars) (h .low) (h .high)))
+  tail = andThen (rowLines (h .vars) (h .count) (4 + h .vars) (lines (drop (h .at) file)) noRows) (lastLine (4 + h .vars + h .count) (endRanges (h .vars) (h .low) (h .high)))
 
   -- a file whose first no is n
   abbrev pub whole : No → Reading Script
-  whole n = cond (eqb (n .number) 0) (read (record { ranges = ends (h .vars) (h .low) (h .high); rows = take (h .count) (kindsOf (l .rows)) }) ([] ∷ [])) (refused (n .number) (n .place))
+  whole n = cond (eqb (n .number) 0) (read (record { ranges = endRanges (h .vars) (h .low) (h .high); rows = take (h .count) (kindsOf (l .rows)) }) ([] ∷ [])) (refused (n .number) (n .place))
 
   -- the head has yes
   pub tail-read : eqb (h .number) 0 ≡ true → tail ≡ whole r

@@ -9,7 +9,7 @@ use lib.ListN.{length, drop}
 use Rattle.rules.specs.declared.Kind.{Kind}
 use Rattle.rules.specs.declared.RowRead.the-variants.{Read}
 use Rattle.rules.specs.Ranges.{Range}
-use Rattle.rules.specs.Scripts.{Script, ends, held}
+use Rattle.rules.specs.Scripts.{Script, endRanges, held}
 use Rattle.rules.specs.Text.{split, startsWith, nextWords, nextLines}
 use Rattle.rules.specs.File
 use Rattle.rules.specs.File.{Reading, read, refused, unless, countLine, asksRange, rangeKey, rowKey, rowOf, rangeLines, rowLines, noRows, andThen, lastLine}
@@ -72,7 +72,7 @@ pub record LineRead (rest : List ℕ) (vars : ℕ) (r : Line) : Type 0 where
 
 -- all range lines of a file, n of them
 unfoldable pub rangesOf : List ℕ → ℕ → Ranges → Reading (List Range)
-rangesOf file n r = cond (eqb (r .number) 0) (read (ends n (r .low) (r .high)) (lines (drop (r .at) file))) (refused (r .number) (r .place))
+rangesOf file n r = cond (eqb (r .number) 0) (read (endRanges n (r .low) (r .high)) (lines (drop (r .at) file))) (refused (r .number) (r .place))
 
 pub record RangesRead (file : List ℕ) (at n : ℕ) (r : Ranges) : Type 0 where
   pub all : rangeLines n 3 (lines (drop at file)) [] ≡ rangesOf file n r
@@ -82,7 +82,7 @@ pub record RangesRead (file : List ℕ) (at n : ℕ) (r : Ranges) : Type 0 where
 unfoldable pub headOf : List ℕ → Head → Reading Script
 headOf file h =
     cond (eqb (h .number) 0)
-    (andThen (rowLines (h .vars) (h .count) (4 + h .vars) (lines (drop (h .at) file)) noRows) (lastLine (4 + h .vars + h .count) (ends (h .vars) (h .low) (h .high))))
+    (andThen (rowLines (h .vars) (h .count) (4 + h .vars) (lines (drop (h .at) file)) noRows) (lastLine (4 + h .vars + h .count) (endRanges (h .vars) (h .low) (h .high))))
     (refused (h .number) (h .place))
 
 pub record HeadWithin (file : List ℕ) (h : Head) : Type 0 where

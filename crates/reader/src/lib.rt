@@ -25,7 +25,7 @@ ghost use mathlib.Core.List.{List};
 ghost use lib.IntN.{pos, natAbs};
 ghost use lib.Signed.{_≤ℤ_};
 ghost use lib.ListN.{length, drop};
-ghost use Rattle.rules.specs.Scripts.{ends};
+ghost use Rattle.rules.specs.Scripts.{endRanges};
 ghost use Rattle.rules.specs.File.{refused, andThen, varsKey, scriptLine, countLine, rowPart, rangePart, fileScript};
 ghost use Rattle.text.specs.Words.{before};
 ghost use Rattle.reader.specs.Read.{keyed, clean, lines, countOf, CountRead, Within, RangeRead, LineRead, RangesRead, headOf, HeadWithin, firstNo, asked, loadedOf, Tabled};
@@ -212,7 +212,7 @@ fn refused(number: u32, place: usize) -> Head
 // `rows=R`
 fn load_count(file: &[u8], at: usize, vars: usize, low: [i32; 16], high: [i32; 16]) -> Head
     requires { ⌜ (at ≤ length (now file)) × (vars ≤ 16) ⌝ }
-    ensures { λ r. ⌜ (headOf (now (file .entry)) r ≡ rowPart vars (ends vars low high) (lines (drop at (now (file .entry))))) × HeadWithin (now (file .entry)) r ⌝ }
+    ensures { λ r. ⌜ (headOf (now (file .entry)) r ≡ rowPart vars (endRanges vars low high) (lines (drop at (now (file .entry))))) × HeadWithin (now (file .entry)) r ⌝ }
 {
     let c = count_line(&file[at..], b"rows=", 256);
     match c {

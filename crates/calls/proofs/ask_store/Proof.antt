@@ -8,7 +8,7 @@ use mir.Val.{SFits}
 use mir.Facts.{toZ-ofZ}
 use Prim.Native.Nat.{_≤_, _-_}
 use lib.ListN.{getD}
-use Rattle.rules.specs.Scripts.{ends}
+use Rattle.rules.specs.Scripts.{endRanges}
 use Rattle.rules.specs.Calls.{storeVerdict}
 use Rattle.calls.proofs.Stores.{from, from-start, from-next, from-wrong, from-missing, from-extra, from-end}
 use borrow.Author.Needs.{needs}
@@ -17,7 +17,7 @@ use Rattle.calls.proofs.ask_store.Statement.{statement}
 use Rattle.calls.proofs.ask_store.Tie as tie
 
 abbrev Inv-loop : tie.InvT-loop
-Inv-loop vars store low high i₀ i = (i ≤ vars) × (storeVerdict 0 (ends vars low high) store ≡ from low high vars store i)
+Inv-loop vars store low high i₀ i = (i ≤ vars) × (storeVerdict 0 (endRanges vars low high) store ≡ from low high vars store i)
 
 abbrev μ-loop : tie.MeasureT-loop
 μ-loop vars store low high i₀ i = vars - i

@@ -3,7 +3,7 @@ use Prim.Native.Nat.{_+_}
 use lib.ListN.{drop, length-drop}
 use denote.Ref.{now}
 use Rattle.rules.specs.File.{andThen, rowLines, noRows, lastLine, rowPart, rowsKey}
-use Rattle.rules.specs.Scripts.{ends}
+use Rattle.rules.specs.Scripts.{endRanges}
 use Rattle.reader.proofs.Loads.{after-count, after-wrong}
 use Rattle.reader.specs.Read.{clean, CountRead, headOf}
 use Rattle.text.proofs.Laws.{part-rest}
@@ -31,11 +31,11 @@ unfolding rowPart headOf
 returns c =
     let s = c .before .before .before .before .before .before .before in
     let l = subst (CountRead _ _ _) (c .before .c .given .1) (line (c .before .before .before)) in
-    (sym (after-count _ (now (s .args .file)) (s .args .at) _ _ _ _ (λ n more. andThen (rowLines (s .args .vars) n (4 + s .args .vars) more noRows) (λ rows rest. lastLine (4 + s .args .vars + n) (ends (s .args .vars) (s .args .low) (s .args .high)) rows rest)) l), record { start = omega (arith, l .within .1, length-drop (s .args .at) (now (s .args .file)), s .pre .0); vars = s .pre .1; count = l .within .0 })
+    (sym (after-count _ (now (s .args .file)) (s .args .at) _ _ _ _ (λ n more. andThen (rowLines (s .args .vars) n (4 + s .args .vars) more noRows) (λ rows rest. lastLine (4 + s .args .vars + n) (endRanges (s .args .vars) (s .args .low) (s .args .high)) rows rest)) l), record { start = omega (arith, l .within .1, length-drop (s .args .at) (now (s .args .file)), s .pre .0); vars = s .pre .1; count = l .within .0 })
 
 returns-2 : tie.Need-returns-2
 unfolding rowPart
-returns-2 c = (c .refused .ensures .0 _ ∙ sym (after-wrong _ _ _ _ _ (λ n more. andThen (rowLines (c .before .before .before .before .before .before .before .before .args .vars) n (4 + c .before .before .before .before .before .before .before .before .args .vars) more noRows) (λ rows rest. lastLine (4 + c .before .before .before .before .before .before .before .before .args .vars + n) (ends (c .before .before .before .before .before .before .before .before .args .vars) (c .before .before .before .before .before .before .before .before .args .low) (c .before .before .before .before .before .before .before .before .args .high)) rows rest)) (subst (CountRead _ _ _) (c .before .before .c2 .given .1) (line (c .before .before .before .before)))), c .refused .ensures .1 _)
+returns-2 c = (c .refused .ensures .0 _ ∙ sym (after-wrong _ _ _ _ _ (λ n more. andThen (rowLines (c .before .before .before .before .before .before .before .before .args .vars) n (4 + c .before .before .before .before .before .before .before .before .args .vars) more noRows) (λ rows rest. lastLine (4 + c .before .before .before .before .before .before .before .before .args .vars + n) (endRanges (c .before .before .before .before .before .before .before .before .args .vars) (c .before .before .before .before .before .before .before .before .args .low) (c .before .before .before .before .before .before .before .before .args .high)) rows rest)) (subst (CountRead _ _ _) (c .before .before .c2 .given .1) (line (c .before .before .before .before)))), c .refused .ensures .1 _)
 
 pub load-count-spec : {M : Type 1} → statement M
 load-count-spec =
