@@ -172,17 +172,11 @@ pub fn moves_of(
                 i = body.next + 1;
             }
             Shape::Close => {
-                return Stepped {
-                    step: step,
-                    next: i,
-                };
+                return Stepped { step, next: i };
             }
         }
     }
-    Stepped {
-        step: step,
-        next: i,
-    }
+    Stepped { step, next: i }
 }
 
 // What a loop's body does: the variables that it assigns, the step of one variable, and the loop's end.

@@ -17,20 +17,20 @@ use Rattle.survey.specs.Fold.{loopCount}
 use Rattle.survey.proofs.Folding.{count-snoc}
 
 -- the loops of rows, of parts, of what is built
-abbrev isLoop : Kind → ℕ
-isLoop (Set v x) = 0
-isLoop (Move v c) = 0
-isLoop (Cue n) = 0
-isLoop Pick = 0
-isLoop Else = 0
-isLoop End = 0
-isLoop (While v c x) = 1
-isLoop (Do v c x) = 1
-isLoop (For v s c x d) = 1
+abbrev oneIfLoop : Kind → ℕ
+oneIfLoop (Set v x) = 0
+oneIfLoop (Move v c) = 0
+oneIfLoop (Cue n) = 0
+oneIfLoop Pick = 0
+oneIfLoop Else = 0
+oneIfLoop End = 0
+oneIfLoop (While v c x) = 1
+oneIfLoop (Do v c x) = 1
+oneIfLoop (For v s c x d) = 1
 
 rowLoops : List Kind → ℕ
 rowLoops [] = 0
-rowLoops (k ∷ ks) = isLoop k + rowLoops ks
+rowLoops (k ∷ ks) = oneIfLoop k + rowLoops ks
 
 abbrev partLoops : Part → ℕ
 partLoops (to-end e b) = loopCount b
@@ -78,7 +78,7 @@ unfolding closes builtLoops restLoops
 close-loops new h (parts p ps) = omega arith
 close-loops new h misfit = refl
 
-row-loops : (k : Kind) (i : ℕ) (b : Built) → (onRow k i b ≡ misfit → ⊥) → builtLoops (onRow k i b) ≡ isLoop k + builtLoops b
+row-loops : (k : Kind) (i : ℕ) (b : Built) → (onRow k i b ≡ misfit → ⊥) → builtLoops (onRow k i b) ≡ oneIfLoop k + builtLoops b
 unfolding onRow loopCount
 row-loops (Set v x) i b h = omega (arith, plain-loops i (assign v (from x)) b)
 row-loops (Move v c) i b h = omega (arith, plain-loops i (assign v (changed c)) b)
@@ -98,7 +98,7 @@ module _ (rows : List Kind) (tree : Block) (whole : build 0 rows ≡ parts (to-e
       let l : i < length rows = omega arith in
       ap builtLoops (parts-row rows i l)
       ∙ row-loops (rowAt rows i) i (partsAt rows (suc i)) (λ m. no-misfit rows tree whole i (omega arith) (parts-row rows i l ∙ m))
-      ∙ ap (λ m. isLoop (rowAt rows i) + m) (from-row n (suc i) (omega arith))
+      ∙ ap (λ m. oneIfLoop (rowAt rows i) + m) (from-row n (suc i) (omega arith))
       ∙ sym (ap rowLoops (drop-cons rows i End l))
 
   tree-loops : loopCount tree ≡ rowLoops rows
@@ -144,7 +144,7 @@ more : (s t : Nest) → (t .loops ≡ 1 + s .loops) × (t .loops ≤ 16) → Cou
 unfolding Counted
 more s t (a, b) = (a, λ h. b)
 
-row-count : (k : Kind) (s t : Nest) → nestRow k s ≡ nested t → Counted (isLoop k) s t
+row-count : (k : Kind) (s t : Nest) → nestRow k s ≡ nested t → Counted (oneIfLoop k) s t
 unfolding nestRow opens
 row-count (Set v x) s t e = still s t (sym (same-nest s t e))
 row-count (Move v c) s t e = still s t (sym (same-nest s t e))
@@ -157,7 +157,7 @@ row-count (Do v c x) s t e = more s t (opened in-loop (ltb (length (s .open-bloc
 row-count (For v y c x d) s t e = more s t (opened in-loop (ltb (length (s .open-blocks)) 8) (ltb (s .loops) 16) _ _ t (ltb-true (s .loops) 16) e)
 
 by-row : (r : Kind) (rs : List Kind) (s : Nest) (n : ℕ) (x : Nested) → nestRow r s ≡ x → andRows x (λ t. nestRows rs t) ≡ nest [] n → s .loops ≤ 16
-    → ((t : Nest) → nestRows rs t ≡ nest [] n → t .loops ≤ 16 → rowLoops rs + t .loops ≤ 16) → isLoop r + rowLoops rs + s .loops ≤ 16
+    → ((t : Nest) → nestRows rs t ≡ nest [] n → t .loops ≤ 16 → rowLoops rs + t .loops ≤ 16) → oneIfLoop r + rowLoops rs + s .loops ≤ 16
 unfolding andRows Counted
 by-row r rs s n (nested t) p q h ih = let c = row-count r s t p in let k = ih t q (c .1 h) in omega (arith, c .0)
 by-row r rs s n (wrong m) p q h ih = wrong-not m _ q

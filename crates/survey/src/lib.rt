@@ -46,7 +46,7 @@ ghost use Rattle.survey.specs.Fold.{found, lastTicks, LoopOf, Restarted,
 ghost use Rattle.survey.specs.Whole.{FirstNo, BlankFrom, SurveyOf};
 
 // What a walk has found: a refusal of 8 to 12 (number 0: none), the first block over the limit (256: none), the ticks of
-// one pass, the lines so far, and the row that closes the block.
+// one pass, how many lines there are so far, and the row that closes the block.
 struct Tally {
     number: u32,
     place: usize,
@@ -145,7 +145,7 @@ fn last_ticks(kind: Kind) -> u64
     }
 }
 
-// The same lines, with a block's ticks from the start.
+// As many lines, with a block's ticks from the start.
 fn restarted(t: Tally, spent: u64) -> Tally
     ensures { λ r. ⌜ ((ls : List (List ℕ)) → Restarted (found t ls) spent (found r ls)) ⌝ }
 {
@@ -159,7 +159,7 @@ fn restarted(t: Tally, spent: u64) -> Tally
     }
 }
 
-// A loop's line, and its body's ticks from the start.
+// A loop's line put in the table, and its body's ticks from the start.
 fn lined(
     lines: &mut [[u64; 7]; 16],
     t: Tally,
