@@ -12,23 +12,22 @@ use Rattle.rules.specs.declared.LoopLine.{LoopLine}
 use Rattle.rules.specs.Figures.{Line}
 use Rattle.rules.specs.Report.{linesOf}
 
-abbrev pub changeIn : ℕ → ℤ
-changeIn x = pos (min x 2_199_023_255_552) -ℤ pos 1_099_511_627_776
+-- an end of a step that adds
+abbrev pub endIn : ℕ → ℤ
+endIn x = pos (min x 2_199_023_255_552) -ℤ pos 1_099_511_627_776
 
 -- the step by its tag
-unfoldable pub stepIn : ℕ → ℕ → ℕ → Step
-stepIn t a b = cond (eqb t 0) (Add (changeIn a) (changeIn b)) (cond (eqb t 1) (Grow a b) (cond (eqb t 2) (Shrink a b) Unknown))
+unfoldable pub lineStep : ℕ → ℕ → ℕ → Step
+lineStep t a b = cond (eqb t 0) (Add (endIn a) (endIn b)) (cond (eqb t 1) (Grow a b) (cond (eqb t 2) (Shrink a b) Unknown))
 
-abbrev pub number : List ℕ → ℕ → ℕ
-number e i = getD e i 0
-
+-- the line of seven numbers
 unfoldable pub lineIn : List ℕ → LoopLine
 lineIn e = record {
-  row = number e 0;
-  step = stepIn (number e 1) (number e 2) (number e 3);
-  turns = number e 4;
-  total = number e 5;
-  exact = eqb (number e 6) 1;
+  row = getD e 0 0;
+  step = lineStep (getD e 1 0) (getD e 2 0) (getD e 3 0);
+  turns = getD e 4 0;
+  total = getD e 5 0;
+  exact = eqb (getD e 6 0) 1;
 }
 
 -- the lines that a table holds

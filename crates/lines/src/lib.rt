@@ -7,7 +7,7 @@ ghost use Prim.Native.Nat.{_<_, min};
 ghost use lib.Dec.{eqb};
 ghost use lib.ListN.{length, getD, set};
 ghost use Rattle.rules.specs.Bounds.{Near, Ends};
-ghost use Rattle.lines.specs.Coded.{changeIn, stepIn, lineIn, linesIn};
+ghost use Rattle.lines.specs.Coded.{endIn, lineStep, lineIn, linesIn};
 
 const MIDDLE: i64 = 1_099_511_627_776;
 
@@ -19,18 +19,18 @@ fn near(x: u64) -> u64
     if x < MOST { x } else { MOST }
 }
 
-// A change of the table.
-fn change_in(x: u64) -> i64
-    ensures { λ r. ⌜ r ≡ changeIn x ⌝ }
+// An end of the table.
+fn end_in(x: u64) -> i64
+    ensures { λ r. ⌜ r ≡ endIn x ⌝ }
 {
     near(x) as i64 - MIDDLE
 }
 
 fn step_in(t: u64, a: u64, b: u64) -> Step
-    ensures { λ r. ⌜ r ≡ stepIn t a b ⌝ }
+    ensures { λ r. ⌜ r ≡ lineStep t a b ⌝ }
 {
     if t == 0 {
-        return Step::Add(change_in(a), change_in(b));
+        return Step::Add(end_in(a), end_in(b));
     }
     if t == 1 {
         return Step::Grow(a, b);
@@ -56,10 +56,10 @@ pub fn line_at(table: &[[u64; 7]; 16], k: usize) -> LoopLine
     }
 }
 
-// The number that stands for a change.
+// The number that stands for an end.
 fn shifted(a: i64) -> u64
     requires { ⌜ Near 256 a ⌝ }
-    ensures { λ r. ⌜ changeIn r ≡ a ⌝ }
+    ensures { λ r. ⌜ endIn r ≡ a ⌝ }
 {
     (a + MIDDLE) as u64
 }
@@ -73,7 +73,7 @@ struct Code {
 
 fn step_code(step: Step) -> Code
     requires { ⌜ Ends 256 step ⌝ }
-    ensures { λ r. ⌜ stepIn (r .tag) (r .first) (r .second) ≡ step ⌝ }
+    ensures { λ r. ⌜ lineStep (r .tag) (r .first) (r .second) ≡ step ⌝ }
 {
     match step {
         Step::Add(a, b) => Code {

@@ -23,11 +23,11 @@ use Rattle.steps.proofs.Walking.{Walking, plain-row, pick-row, loop-row}
 use Rattle.ticks.specs.Capped.{capped, overOf}
 use Rattle.turns.specs.Needs.{answer}
 use Rattle.survey.specs.declared.Turning.{Turning}
-use Rattle.survey.specs.Fold.{loopCount, cut, cuts, State, Found, folded, tallied, lastTicks, LoopOf, Restarted, Lined, Closed, EndedAt, Walkable, Passed, Surveyed}
+use Rattle.survey.specs.Fold.{loopCount, cut, cuts, State, TallyLines, folded, tallied, lastTicks, LoopOf, Restarted, Lined, Closed, EndedAt, Walkable, Passed, Surveyed}
 use Rattle.survey.proofs.Folding.{state-is, cap-lines, fold-plain, fold-pick, fold-loop, pastPlain, pastPick, pastLoop, SameBody, same-body}
 
 -- what a walk over a block found, part by part, from a tally with these parts
-pub record Part (outer : ℕ) (ρ : Env) (s : ℕ) (o : Verdict) (ls : List Line) (n : ℕ) (b : Block) (r : Found) : Type 0 where
+pub record Part (outer : ℕ) (ρ : Env) (s : ℕ) (o : Verdict) (ls : List Line) (n : ℕ) (b : Block) (r : TallyLines) : Type 0 where
   pub verdict : loopsVerdict ρ b ≡ passed
   pub spent : r .spent ≡ capped (s + ticks ones ρ b)
   pub over : overOf (r .over) ≡ andThen o (blocksVerdict ones ρ b)
@@ -38,7 +38,7 @@ pub record Part (outer : ℕ) (ρ : Env) (s : ℕ) (o : Verdict) (ls : List Line
 abbrev pub from-parts : Env → ℕ → Verdict → List Line → ℕ → State
 from-parts ρ s o ls n = record { env = ρ; verdict = passed; spent = s; over = o; lines = ls; loops = n }
 
-pub part-of : {rows : List Row} {count at outer : ℕ} {ρ : Env} {t r : Found} (s : ℕ) (o : Verdict) (ls : List Line) (n : ℕ) → tallied t ρ ≡ from-parts ρ s o ls n
+pub part-of : {rows : List Row} {count at outer : ℕ} {ρ : Env} {t r : TallyLines} (s : ℕ) (o : Verdict) (ls : List Line) (n : ℕ) → tallied t ρ ≡ from-parts ρ s o ls n
     → Passed rows count at ρ outer t r → Part outer ρ s o ls n (blockAt rows count at) r
 unfolding folded andThen
 part-of {rows} {count} {at} {outer} {ρ} {t} {r} s o ls n e p =
@@ -54,7 +54,7 @@ part-of {rows} {count} {at} {outer} {ρ} {t} {r} s o ls n e p =
     }
 
 -- or which loop it refused
-pub refused-in : {rows : List Row} {count at outer : ℕ} {ρ : Env} {t r : Found} → Surveyed rows count at ρ outer t r → (r .number ≡ 0 → ⊥)
+pub refused-in : {rows : List Row} {count at outer : ℕ} {ρ : Env} {t r : TallyLines} → Surveyed rows count at ρ outer t r → (r .number ≡ 0 → ⊥)
     → loopsVerdict ρ (blockAt rows count at) ≡ refused (r .number) (r .place)
 unfolding folded andThen
 refused-in s h = s .stopped h
@@ -71,7 +71,7 @@ last-small (Do v c x) = omega arith
 last-small (For v s c x d) = omega arith
 
 -- the walk is over
-pub closing : {rows : List Row} {count at outer i : ℕ} {ρ ρ₀ : Env} {t t₀ r : Found} → Walked rows count at i (tallied t ρ) (folded outer (tallied t₀ ρ₀)) → t .spent ≤ 1_000_000_000_001 → length (t .lines) ≡ 16 → EndedAt t i r
+pub closing : {rows : List Row} {count at outer i : ℕ} {ρ ρ₀ : Env} {t t₀ r : TallyLines} → Walked rows count at i (tallied t ρ) (folded outer (tallied t₀ ρ₀)) → t .spent ≤ 1_000_000_000_001 → length (t .lines) ≡ 16 → EndedAt t i r
     → Passed rows count at ρ₀ outer t₀ r
 unfolding folded
 closing {rows} {count} {at} {outer} {i} {ρ} {ρ₀} {t} {t₀} {r} w s m h =
@@ -91,14 +91,14 @@ nowhere : Env
 nowhere w = full
 
 -- a tally that a walk may start from
-pub restart-walkable : {rows : List Row} {count a outer s : ℕ} {t r : Found} → Ready rows count a → Restarted t s r → length (t .lines) ≡ 16 → s ≤ 1_000_000_000_001 → outer ≤ 1_000_000_000_001
+pub restart-walkable : {rows : List Row} {count a outer s : ℕ} {t r : TallyLines} → Ready rows count a → Restarted t s r → length (t .lines) ≡ 16 → s ≤ 1_000_000_000_001 → outer ≤ 1_000_000_000_001
     → t .loops + loopCount (blockAt rows count a) ≤ 16 → Walkable rows count a outer r
 restart-walkable {t} {r} k h g l o m =
     let p = ap (λ (x : State). x .spent) (h .value nowhere) in
     let q = ap (λ (x : State). x .loops) (h .value nowhere) in
     record { ready = k; small = omega arith; times = o; room = omega arith; long = ap length (h .same) ∙ g }
 
-pub lined-walkable : {rows : List Row} {count a outer i total s : ℕ} {one : Turning} {t r : Found} → Ready rows count a → Lined t i one total s r → s ≤ 1_000_000_000_001 → outer ≤ 1_000_000_000_001
+pub lined-walkable : {rows : List Row} {count a outer i total s : ℕ} {one : Turning} {t r : TallyLines} → Ready rows count a → Lined t i one total s r → s ≤ 1_000_000_000_001 → outer ≤ 1_000_000_000_001
     → t .loops + 1 + loopCount (blockAt rows count a) ≤ 16 → Walkable rows count a outer r
 lined-walkable {t} {r} k h l o m =
     let p = ap (λ (x : State). x .spent) (h .value nowhere) in
@@ -106,19 +106,19 @@ lined-walkable {t} {r} k h l o m =
     record { ready = k; small = omega arith; times = o; room = omega arith; long = h .long }
 
 module _ (rows : List Row) (count outer at : ℕ) (x₀ : State) where
-  pub record Going (i : ℕ) (ρ : Env) (t : Found) : Type 0 where
+  pub record Going (i : ℕ) (ρ : Env) (t : TallyLines) : Type 0 where
     pub walk : Walking rows count (folded outer) at x₀ i (tallied t ρ)
     pub small : t .spent ≤ 1_000_000_000_001
     pub long : length (t .lines) ≡ 16
 
-  module _ {i : ℕ} {ρ : Env} {t : Found} (k : Going i ρ t) where
+  module _ {i : ℕ} {ρ : Env} {t : TallyLines} (k : Going i ρ t) where
     -- the loops that are left
     pub room : folded outer x₀ (blockAt rows count at) .loops ≡ t .loops + loopCount (blockAt rows count i)
     unfolding folded
     room = ap (λ (x : State). x .loops) (k .walk .value)
 
     module _ (l : i < count) (built : Whole rows count) where
-      pub go-plain : shapeOf (kindAt rows i) ≡ Shape.Plain → {σ : Env} {p : ℕ} {r : Found} → σ ≡ afterRow ρ (plainOf (kindAt rows i)) → p ≡ capped (t .spent + 1) → Restarted t p r → Going (i + 1) σ r
+      pub go-plain : shapeOf (kindAt rows i) ≡ Shape.Plain → {σ : Env} {p : ℕ} {r : TallyLines} → σ ≡ afterRow ρ (plainOf (kindAt rows i)) → p ≡ capped (t .spent + 1) → Restarted t p r → Going (i + 1) σ r
       go-plain h {σ} {p} {r} a b c =
           let e : tallied r σ ≡ pastPlain outer (tallied t ρ) (plainOf (kindAt rows i)) = c .value σ ∙ state-is a refl b refl refl refl in
           record {
@@ -151,7 +151,7 @@ module _ (rows : List Row) (count outer at : ℕ) (x₀ : State) where
         unfolding andThen
         pick-second n p g h = verdict-pick ∙ ap₂ (λ v w. andThen (andThen v w) (loopsVerdict (join (after ρ A) (after ρ B)) (blockAt rows count (e + 1)))) g h
 
-        pub go-pick : {a b : Found} {F : ℕ} {σ : Env} {r : Found}
+        pub go-pick : {a b : TallyLines} {F : ℕ} {σ : Env} {r : TallyLines}
             → Part outer ρ 0 (overOf (t .over)) (firstLines (t .lines) (t .loops)) (t .loops) A a
             → Part outer ρ 0 (overOf (a .over)) (firstLines (a .lines) (a .loops)) (a .loops) B b
             → F ≡ capped (1 + max (a .spent) (b .spent)) → Closed t b e F r → σ ≡ join (after ρ A) (after ρ B) → Going (e + 1) σ r
@@ -208,7 +208,7 @@ module _ (rows : List Row) (count outer at : ℕ) (x₀ : State) where
         unfolding andThen
         body-refused n p g h = verdict-loop ∙ ap₂ (λ v w. andThen (andThen v w) (loopsVerdict (outside σ test body) (blockAt rows count (e + 1)))) g (same .loops β ∙ h)
 
-        pub go-loop : {one : Turning} {total F : ℕ} {α : Env} {b r : Found}
+        pub go-loop : {one : Turning} {total F : ℕ} {α : Env} {b r : TallyLines}
             → LoopOf rows count i σ one → one .number ≡ 0 → total ≡ capped (one .turns * outer)
             → Part total β (lastTicks (kindAt rows i)) (overOf (t .over)) (firstLines (t .lines) (t .loops) ++ (record { row = i; step = one .step; turns = one .turns; total = total; exact = one .exact } ∷ [])) (t .loops + 1) (blockAt rows count (i + 1)) b
             → ((G : ℕ) → b .spent ≡ capped G → F ≡ capped (loopTicks ones form (one .turns) G)) → Closed t b e F r → α ≡ outside σ test body → Going (e + 1) α r

@@ -18,7 +18,7 @@ use Rattle.turns.specs.Needs.{answer}
 use Rattle.survey.specs.declared.Tally.{Tally}
 use Rattle.survey.specs.declared.Refusal.{Refusal}
 use Rattle.survey.specs.declared.Figures.{Figures}
-use Rattle.survey.specs.Fold.{Found, found, tallied, Surveyed}
+use Rattle.survey.specs.Fold.{TallyLines, withLines, tallied, Surveyed}
 use Rattle.survey.specs.Whole.{BlankFrom, FirstNo, of-loop, of-block, of-file, none, SurveyOf}
 use Rattle.survey.proofs.Going.{from-parts, part-of, refused-in}
 use Rattle.survey.proofs.Totals.{lines-true}
@@ -39,7 +39,7 @@ module _ (ranges : List (List ℤ)) (vars : ℕ) (rows : List Row) (count : ℕ)
   moved : {A : Type 0} (f : Env → Block → A) → f (scripts.envOf (take vars (pairRanges ranges))) (treeOf (kinds rows count)) ≡ f ρ b
   moved f = λ j. f (env-is ranges vars blank j) (sym (file-is ranges vars rows count legal few all) j)
 
-  pub result : (t₀ : Found) (t : Tally) (ls : List (List ℕ)) → tallied t₀ ρ ≡ from-parts ρ 0 passed [] 0 → Surveyed rows count 0 ρ 1 t₀ (found t ls) → (f : Refusal) → FirstNo t count f
+  pub result : (t₀ : TallyLines) (t : Tally) (ls : List (List ℕ)) → tallied t₀ ρ ≡ from-parts ρ 0 passed [] 0 → Surveyed rows count 0 ρ 1 t₀ (withLines t ls) → (f : Refusal) → FirstNo t count f
       → SurveyOf (scriptOf ranges vars rows count) count (record { number = f .number; place = f .place; ticks = t .spent; loops = t .loops }) ls
   unfolding scriptOf andThen
   result t₀ t ls e s f (of-loop h p q) = record {

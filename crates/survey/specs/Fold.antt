@@ -58,7 +58,7 @@ folded outer x b = record {
 }
 
 -- the code's tally, with the table of lines beside it
-pub record Found : Type 0 where
+pub record TallyLines : Type 0 where
   pub number : ℕ
   pub place : ℕ
   pub over : ℕ
@@ -67,11 +67,11 @@ pub record Found : Type 0 where
   pub next : ℕ
   pub lines : List (List ℕ)
 
-abbrev pub found : Tally → List (List ℕ) → Found
-found t ls = record { number = t .number; place = t .place; over = t .over; spent = t .spent; loops = t .loops; next = t .next; lines = ls }
+abbrev pub withLines : Tally → List (List ℕ) → TallyLines
+withLines t ls = record { number = t .number; place = t .place; over = t .over; spent = t .spent; loops = t .loops; next = t .next; lines = ls }
 
 -- with the ranges beside them, where no loop was refused
-abbrev pub tallied : Found → Env → State
+abbrev pub tallied : TallyLines → Env → State
 tallied t ρ = record { env = ρ; verdict = passed; spent = t .spent; over = overOf (t .over); lines = firstLines (t .lines) (t .loops); loops = t .loops }
 
 -- a for's step row is the last row of its body
@@ -96,11 +96,11 @@ pub record LoopOf (rows : List Row) (count i : ℕ) (ρ : Env) (r : Turning) : T
   pub near : Ends 256 (r .step)
   pub ends : EndsAt rows count i (r .next)
 
-pub record Restarted (t : Found) (spent : ℕ) (r : Found) : Type 0 where
+pub record Restarted (t : TallyLines) (spent : ℕ) (r : TallyLines) : Type 0 where
   pub same : r .lines ≡ t .lines
   pub value : (ρ : Env) → tallied r ρ ≡ record { env = ρ; verdict = passed; spent = spent; over = overOf (t .over); lines = firstLines (t .lines) (t .loops); loops = t .loops }
 
-pub record Lined (t : Found) (i : ℕ) (one : Turning) (total spent : ℕ) (r : Found) : Type 0 where
+pub record Lined (t : TallyLines) (i : ℕ) (one : Turning) (total spent : ℕ) (r : TallyLines) : Type 0 where
   pub long : length (r .lines) ≡ 16
   pub value : (ρ : Env) → tallied r ρ ≡ record {
     env = ρ;
@@ -111,20 +111,20 @@ pub record Lined (t : Found) (i : ℕ) (one : Turning) (total spent : ℕ) (r : 
     loops = t .loops + 1;
   }
 
-pub record Closed (t inner : Found) (e ticks : ℕ) (r : Found) : Type 0 where
+pub record Closed (t inner : TallyLines) (e ticks : ℕ) (r : TallyLines) : Type 0 where
   pub spent : r .spent ≡ capped (t .spent + ticks)
   pub over : OverOf (inner .over) e ticks (r .over)
   pub same : r .lines ≡ inner .lines
   pub loops : r .loops ≡ inner .loops
 
-pub record EndedAt (t : Found) (i : ℕ) (r : Found) : Type 0 where
+pub record EndedAt (t : TallyLines) (i : ℕ) (r : TallyLines) : Type 0 where
   pub same : r .lines ≡ t .lines
   pub value : (ρ : Env) → tallied r ρ ≡ tallied t ρ
   pub number : r .number ≡ 0
   pub next : r .next ≡ i
 
 -- what the walk asks
-pub record Walkable (rows : List Row) (count at outer : ℕ) (t : Found) : Type 0 where
+pub record Walkable (rows : List Row) (count at outer : ℕ) (t : TallyLines) : Type 0 where
   pub ready : Ready rows count at
   pub small : t .spent ≤ 1_000_000_000_001
   pub times : outer ≤ 1_000_000_000_001
@@ -132,7 +132,7 @@ pub record Walkable (rows : List Row) (count at outer : ℕ) (t : Found) : Type 
   pub long : length (t .lines) ≡ 16
 
 -- what it gives: no loop refused
-pub record Passed (rows : List Row) (count at : ℕ) (ρ : Env) (outer : ℕ) (t r : Found) : Type 0 where
+pub record Passed (rows : List Row) (count at : ℕ) (ρ : Env) (outer : ℕ) (t r : TallyLines) : Type 0 where
   pub value : tallied r (after ρ (blockAt rows count at)) ≡ folded outer (tallied t ρ) (blockAt rows count at)
   pub place : r .next ≡ endAt rows count at
   pub low : at ≤ r .next
@@ -141,6 +141,6 @@ pub record Passed (rows : List Row) (count at : ℕ) (ρ : Env) (outer : ℕ) (t
   pub long : length (r .lines) ≡ 16
 
 -- or the first loop refused
-pub record Surveyed (rows : List Row) (count at : ℕ) (ρ : Env) (outer : ℕ) (t r : Found) : Type 0 where
+pub record Surveyed (rows : List Row) (count at : ℕ) (ρ : Env) (outer : ℕ) (t r : TallyLines) : Type 0 where
   pub stopped : (r .number ≡ 0 → ⊥) → folded outer (tallied t ρ) (blockAt rows count at) .verdict ≡ refused (r .number) (r .place)
   pub whole : r .number ≡ 0 → Passed rows count at ρ outer t r

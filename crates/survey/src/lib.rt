@@ -42,7 +42,7 @@ ghost use Rattle.steps.specs.Tree.{blockAt, Ready};
 ghost use Rattle.steps.specs.Sets.{setOf};
 ghost use Rattle.steps.specs.Body.{AtLoop};
 ghost use Rattle.ranges.specs.Env.{envOf};
-ghost use Rattle.survey.specs.Fold.{found, lastTicks, LoopOf, Restarted, Lined, Closed, EndedAt, Walkable, Surveyed};
+ghost use Rattle.survey.specs.Fold.{withLines, lastTicks, LoopOf, Restarted, Lined, Closed, EndedAt, Walkable, Surveyed};
 ghost use Rattle.survey.specs.Whole.{FirstNo, BlankFrom, SurveyOf};
 
 // What a walk has found: a refusal of 8 to 12 (number 0: none), the first block over the limit (256: none), the ticks of
@@ -147,7 +147,7 @@ fn last_ticks(kind: Kind) -> u64
 
 // As many lines, with a block's ticks from the start.
 fn restarted(t: Tally, spent: u64) -> Tally
-    ensures { λ r. ⌜ ((ls : List (List ℕ)) → Restarted (found t ls) spent (found r ls)) ⌝ }
+    ensures { λ r. ⌜ ((ls : List (List ℕ)) → Restarted (withLines t ls) spent (withLines r ls)) ⌝ }
 {
     Tally {
         number: 0,
@@ -169,7 +169,7 @@ fn lined(
     spent: u64,
 ) -> Tally
     requires { ⌜ (t .loops < 16) × (length (now lines) ≡ 16) × Ends 256 (one .step) ⌝ }
-    ensures { λ r. ⌜ Lined (found t (now (lines .entry))) i one total spent (found r (now (lines .exit))) ⌝ }
+    ensures { λ r. ⌜ Lined (withLines t (now (lines .entry))) i one total spent (withLines r (now (lines .exit))) ⌝ }
 {
     let k = t.loops;
     let step = one.step;
@@ -194,7 +194,7 @@ fn lined(
 // After a block of these ticks that ends at row e.
 fn closed(t: Tally, inner: Tally, e: usize, ticks: u64) -> Tally
     requires { ⌜ (e < 256) × (t .spent ≤ 1_000_000_000_001) × (ticks ≤ 1_000_000_000_001) ⌝ }
-    ensures { λ r. ⌜ ((ks ls : List (List ℕ)) → Closed (found t ks) (found inner ls) e ticks (found r ls)) ⌝ }
+    ensures { λ r. ⌜ ((ks ls : List (List ℕ)) → Closed (withLines t ks) (withLines inner ls) e ticks (withLines r ls)) ⌝ }
 {
     Tally {
         number: 0,
@@ -222,7 +222,7 @@ fn refused(t: Tally, number: u32, i: usize) -> Tally
 
 // The walk ends at row i.
 fn ended(t: Tally, i: usize) -> Tally
-    ensures { λ r. ⌜ ((ls : List (List ℕ)) → EndedAt (found t ls) i (found r ls)) ⌝ }
+    ensures { λ r. ⌜ ((ls : List (List ℕ)) → EndedAt (withLines t ls) i (withLines r ls)) ⌝ }
 {
     Tally {
         number: 0,
@@ -244,8 +244,8 @@ fn walk(
     lines: &mut [[u64; 7]; 16],
     from: Tally,
 ) -> Tally
-    requires { ⌜ Walkable (rowsOf (now rows)) count at outer (found from (now lines)) ⌝ }
-    ensures { λ r. ⌜ Surveyed (rowsOf (now (rows .entry))) count at (envOf start) outer (found from (now (lines .entry))) (found r (now (lines .exit))) ⌝ }
+    requires { ⌜ Walkable (rowsOf (now rows)) count at outer (withLines from (now lines)) ⌝ }
+    ensures { λ r. ⌜ Surveyed (rowsOf (now (rows .entry))) count at (envOf start) outer (withLines from (now (lines .entry))) (withLines r (now (lines .exit))) ⌝ }
 {
     let mut r = start;
     let mut t = from;

@@ -14,7 +14,7 @@ use borrow.Author.Tests.{leb-true, ltb-true, eq-eqb, ne-eqb, eqb-true, eqb-false
 use Rattle.rules.specs.declared.Word.{Word}
 use Rattle.rules.specs.declared.Word.the-variants.{Variable, Other}
 use Rattle.rules.specs.Text.{equals, comparisonWord, blockWord, plainWord}
-use Rattle.text.specs.Words.{packed, Bytes, Packs, keywords, packedWord, wordAt, variableIn}
+use Rattle.text.specs.Words.{packed, Bytes, Packs, keywords, packedWord, wordAt, variableWord}
 
 -- ---- a text of a few bytes has a small number
 unfoldable room : ℕ → ℕ
@@ -137,12 +137,12 @@ word-past [] i h = refl
 word-past ((w, x) ∷ t) zero h = absurd (omega arith)
 word-past ((w, x) ∷ t) (suc i) h = word-past t i (omega arith)
 
-pub is-variable : (z : ℤ) → ltZ z (pos 0) ≡ false → Variable (natAbs z) ≡ variableIn z
-unfolding variableIn
+pub is-variable : (z : ℤ) → ltZ z (pos 0) ≡ false → Variable (natAbs z) ≡ variableWord z
+unfolding variableWord
 is-variable (pos v) e = refl
 is-variable (negsuc v) e = absurd (let z : _≡_ {A = ℕ} 0 1 = cc in omega arith)
 
-pub no-variable : (z : ℤ) → ltZ z (pos 0) ≡ true → Other ≡ variableIn z
-unfolding variableIn
+pub no-variable : (z : ℤ) → ltZ z (pos 0) ≡ true → Other ≡ variableWord z
+unfolding variableWord
 no-variable (pos v) e = absurd (omega (arith, ltb-true v 0 e))
 no-variable (negsuc v) e = refl

@@ -108,13 +108,13 @@ wordAt ((w, x) ∷ t) zero = x
 wordAt ((w, x) ∷ t) (suc i) = wordAt t i
 
 -- a variable is never below 0
-unfoldable pub variableIn : ℤ → Word
-variableIn (pos v) = Variable v
-variableIn (negsuc v) = Other
+unfoldable pub variableWord : ℤ → Word
+variableWord (pos v) = Variable v
+variableWord (negsuc v) = Other
 
 -- the word that a tag and a value say: 19 none, 20 a number, 21 a variable; below that the place of a keyword or comparison, and 18 any other word
 unfoldable pub wordIn : ℕ → ℤ → Word
-wordIn t z = cond (eqb t 19) Missing (cond (eqb t 20) (Number z) (cond (eqb t 21) (variableIn z) (wordAt keywords t)))
+wordIn t z = cond (eqb t 19) Missing (cond (eqb t 20) (Number z) (cond (eqb t 21) (variableWord z) (wordAt keywords t)))
 
 -- the word at the front of a text is read, its number cut off
 pub record Reads (s : List ℕ) (r : Found) : Type 0 where

@@ -18,7 +18,7 @@ use Rattle.ranges.specs.Env.{envOf}
 use Rattle.ticks.specs.Capped.{capped, overOf}
 use Rattle.turns.specs.Needs.{answer}
 use Rattle.lines.specs.Coded.{firstLines}
-use Rattle.survey.specs.Fold.{loopCount, found, tallied, lastTicks, LoopOf, Passed}
+use Rattle.survey.specs.Fold.{loopCount, withLines, tallied, lastTicks, LoopOf, Passed}
 use Rattle.survey.proofs.Folding.{fold-none}
 use Rattle.survey.proofs.Going.{Part, from-parts, part-of, refused-in, closing, restart-walkable, lined-walkable, Going, go-plain, pick-room, pick-first, pick-second, go-pick, loop-room, loop-refused, body-refused, go-loop, last-small}
 use borrow.Fn.Kinds.{In}
@@ -59,7 +59,7 @@ abbrev below : ℕ → In 2 walk-kinds.ps
 below t = and 2 walk-kinds.ps (falls 2 walk-kinds.ps _<_ μ-walk t) walk.Pre
 
 abbrev Inv : lts.InvT-loop
-Inv rows count at outer lines₀ r₀ t₀ i₀ lines r t i = (length r ≡ 16) × Going (rowsOf rows) count outer at (tallied (found t₀ lines₀) (envOf r₀)) i (envOf r) (found t lines)
+Inv rows count at outer lines₀ r₀ t₀ i₀ lines r t i = (length r ≡ 16) × Going (rowsOf rows) count outer at (tallied (withLines t₀ lines₀) (envOf r₀)) i (envOf r) (withLines t lines)
 
 abbrev μ : lts.MeasureT-loop
 μ rows count at outer lines₀ r₀ t₀ i₀ lines r t i = count - i
@@ -72,12 +72,12 @@ pick-0 : (t : ℕ) (c : lts.After-enum-told2 (given t) (here t) walk.Post Inv μ
     PickIs (rowsOf (now (s .rows))) (s .count) (c .before .before .before .before .loop .i) m (pastElse (kindAt (rowsOf (now (s .rows))) m) m) (endAt (rowsOf (now (s .rows))) (s .count) (pastElse (kindAt (rowsOf (now (s .rows))) m) m))
 pick-0 t c = pick-at _ _ _ (c .before .before .before .loop-test .taken) (c .before .before .before .before .before .pre .1 .ready .built) (sym (c .before .before .shape-at .ensures) ∙ c .enum-told2 .given .1) refl refl refl
 
-passed-1 : (t : ℕ) (c : lts.Else1 (given t) (here t) walk.Post Inv μ) → let s = c .before .before .before .before .before .before .before .before .before .before .args in Passed (rowsOf (now (s .rows))) (s .count) (c .before .before .before .before .before .before .before .before .before .loop .i + 1) (envOf (c .before .before .before .before .before .before .before .before .before .loop .r)) (s .outer) (found (c .before .before .before .restarted .result) (c .before .before .before .before .before .before .before .before .before .loop .lines)) (found (c .before .before .walk .result) (c .before .before .walk .last .1 .1 .1 .1 .1 .0))
+passed-1 : (t : ℕ) (c : lts.Else1 (given t) (here t) walk.Post Inv μ) → let s = c .before .before .before .before .before .before .before .before .before .before .args in Passed (rowsOf (now (s .rows))) (s .count) (c .before .before .before .before .before .before .before .before .before .loop .i + 1) (envOf (c .before .before .before .before .before .before .before .before .before .loop .r)) (s .outer) (withLines (c .before .before .before .restarted .result) (c .before .before .before .before .before .before .before .before .before .loop .lines)) (withLines (c .before .before .walk .result) (c .before .before .walk .last .1 .1 .1 .1 .1 .0))
 passed-1 t c = c .before .before .walk .ensures .whole (c .if1 .left)
 
-part-1 : (t : ℕ) (c : lts.Else1 (given t) (here t) walk.Post Inv μ) → let s = c .before .before .before .before .before .before .before .before .before .before .args in let y = found (c .before .before .before .before .before .before .before .before .before .loop .t) (c .before .before .before .before .before .before .before .before .before .loop .lines) in
-    Part (s .outer) (envOf (c .before .before .before .before .before .before .before .before .before .loop .r)) 0 (overOf (y .over)) (firstLines (y .lines) (y .loops)) (y .loops) (blockAt (rowsOf (now (s .rows))) (s .count) (c .before .before .before .before .before .before .before .before .before .loop .i + 1)) (found (c .before .before .walk .result) (c .before .before .walk .last .1 .1 .1 .1 .1 .0))
-part-1 t c = let y = found (c .before .before .before .before .before .before .before .before .before .loop .t) (c .before .before .before .before .before .before .before .before .before .loop .lines) in part-of 0 (overOf (y .over)) (firstLines (y .lines) (y .loops)) (y .loops) (c .before .before .before .restarted .ensures (c .before .before .before .before .before .before .before .before .before .loop .lines) .value _) (passed-1 t c)
+part-1 : (t : ℕ) (c : lts.Else1 (given t) (here t) walk.Post Inv μ) → let s = c .before .before .before .before .before .before .before .before .before .before .args in let y = withLines (c .before .before .before .before .before .before .before .before .before .loop .t) (c .before .before .before .before .before .before .before .before .before .loop .lines) in
+    Part (s .outer) (envOf (c .before .before .before .before .before .before .before .before .before .loop .r)) 0 (overOf (y .over)) (firstLines (y .lines) (y .loops)) (y .loops) (blockAt (rowsOf (now (s .rows))) (s .count) (c .before .before .before .before .before .before .before .before .before .loop .i + 1)) (withLines (c .before .before .walk .result) (c .before .before .walk .last .1 .1 .1 .1 .1 .0))
+part-1 t c = let y = withLines (c .before .before .before .before .before .before .before .before .before .loop .t) (c .before .before .before .before .before .before .before .before .before .loop .lines) in part-of 0 (overOf (y .over)) (firstLines (y .lines) (y .loops)) (y .loops) (c .before .before .before .restarted .ensures (c .before .before .before .before .before .before .before .before .before .loop .lines) .value _) (passed-1 t c)
 
 pick-1 : (t : ℕ) (c : lts.Else1 (given t) (here t) walk.Post Inv μ) → let s = c .before .before .before .before .before .before .before .before .before .before .args in let m = c .before .before .walk .result .next in
     PickIs (rowsOf (now (s .rows))) (s .count) (c .before .before .before .before .before .before .before .before .before .loop .i) m (pastElse (kindAt (rowsOf (now (s .rows))) m) m) (endAt (rowsOf (now (s .rows))) (s .count) (pastElse (kindAt (rowsOf (now (s .rows))) m) m))
@@ -87,16 +87,16 @@ pick-q : (t : ℕ) (c : lts.After-past-else (given t) (here t) walk.Post Inv μ)
     PickIs (rowsOf (now (s .rows))) (s .count) (c .before .before .before .before .before .before .before .before .before .before .loop .i) (c .before .before .before .walk .result .next) (c .past-else .result) (endAt (rowsOf (now (s .rows))) (s .count) (c .past-else .result))
 pick-q t c = pick-at _ _ _ (c .before .before .before .before .before .before .before .before .before .loop-test .taken) (c .before .before .before .before .before .before .before .before .before .before .before .pre .1 .ready .built) (sym (c .before .before .before .before .before .before .before .before .shape-at .ensures) ∙ c .before .before .before .before .before .before .enum-told2 .given .1) (passed-1 t (c .before) .place) (c .past-else .ensures) refl
 
-passed-2 : (t : ℕ) (c : lts.Else2 (given t) (here t) walk.Post Inv μ) → let s = c .before .before .before .before .before .before .before .before .before .before .before .before .before .before .before .before .args in Passed (rowsOf (now (s .rows))) (s .count) (c .before .before .before .before .before .past-else .result) (envOf (c .before .before .before .before .before .before .before .before .before .before .before .before .before .before .before .loop .r)) (s .outer) (found (c .before .before .before .restarted2 .result) (c .before .before .before .before .before .before .before .before .walk .last .1 .1 .1 .1 .1 .0)) (found (c .before .before .walk2 .result) (c .before .before .walk2 .last .1 .1 .1 .1 .1 .0))
+passed-2 : (t : ℕ) (c : lts.Else2 (given t) (here t) walk.Post Inv μ) → let s = c .before .before .before .before .before .before .before .before .before .before .before .before .before .before .before .before .args in Passed (rowsOf (now (s .rows))) (s .count) (c .before .before .before .before .before .past-else .result) (envOf (c .before .before .before .before .before .before .before .before .before .before .before .before .before .before .before .loop .r)) (s .outer) (withLines (c .before .before .before .restarted2 .result) (c .before .before .before .before .before .before .before .before .walk .last .1 .1 .1 .1 .1 .0)) (withLines (c .before .before .walk2 .result) (c .before .before .walk2 .last .1 .1 .1 .1 .1 .0))
 passed-2 t c = c .before .before .walk2 .ensures .whole (c .if2 .left)
 
 pick-2 : (t : ℕ) (c : lts.Else2 (given t) (here t) walk.Post Inv μ) → let s = c .before .before .before .before .before .before .before .before .before .before .before .before .before .before .before .before .args in
     PickIs (rowsOf (now (s .rows))) (s .count) (c .before .before .before .before .before .before .before .before .before .before .before .before .before .before .before .loop .i) (c .before .before .before .before .before .before .before .before .walk .result .next) (c .before .before .before .before .before .past-else .result) (c .before .before .walk2 .result .next)
 pick-2 t c = pick-at _ _ _ (c .before .before .before .before .before .before .before .before .before .before .before .before .before .before .loop-test .taken) (c .before .before .before .before .before .before .before .before .before .before .before .before .before .before .before .before .pre .1 .ready .built) (sym (c .before .before .before .before .before .before .before .before .before .before .before .before .before .shape-at .ensures) ∙ c .before .before .before .before .before .before .before .before .before .before .before .enum-told2 .given .1) (passed-1 t (c .before .before .before .before .before .before) .place) (c .before .before .before .before .before .past-else .ensures) (passed-2 t c .place)
 
-part-2 : (t : ℕ) (c : lts.Else2 (given t) (here t) walk.Post Inv μ) → let s = c .before .before .before .before .before .before .before .before .before .before .before .before .before .before .before .before .args in let y = (found (c .before .before .before .before .before .before .before .before .walk .result) (c .before .before .before .before .before .before .before .before .walk .last .1 .1 .1 .1 .1 .0)) in
-    Part (s .outer) (envOf (c .before .before .before .before .before .before .before .before .before .before .before .before .before .before .before .loop .r)) 0 (overOf (y .over)) (firstLines (y .lines) (y .loops)) (y .loops) (blockAt (rowsOf (now (s .rows))) (s .count) (c .before .before .before .before .before .past-else .result)) (found (c .before .before .walk2 .result) (c .before .before .walk2 .last .1 .1 .1 .1 .1 .0))
-part-2 t c = let y = (found (c .before .before .before .before .before .before .before .before .walk .result) (c .before .before .before .before .before .before .before .before .walk .last .1 .1 .1 .1 .1 .0)) in part-of 0 (overOf (y .over)) (firstLines (y .lines) (y .loops)) (y .loops) (c .before .before .before .restarted2 .ensures (c .before .before .before .before .before .before .before .before .walk .last .1 .1 .1 .1 .1 .0) .value _) (passed-2 t c)
+part-2 : (t : ℕ) (c : lts.Else2 (given t) (here t) walk.Post Inv μ) → let s = c .before .before .before .before .before .before .before .before .before .before .before .before .before .before .before .before .args in let y = (withLines (c .before .before .before .before .before .before .before .before .walk .result) (c .before .before .before .before .before .before .before .before .walk .last .1 .1 .1 .1 .1 .0)) in
+    Part (s .outer) (envOf (c .before .before .before .before .before .before .before .before .before .before .before .before .before .before .before .loop .r)) 0 (overOf (y .over)) (firstLines (y .lines) (y .loops)) (y .loops) (blockAt (rowsOf (now (s .rows))) (s .count) (c .before .before .before .before .before .past-else .result)) (withLines (c .before .before .walk2 .result) (c .before .before .walk2 .last .1 .1 .1 .1 .1 .0))
+part-2 t c = let y = (withLines (c .before .before .before .before .before .before .before .before .walk .result) (c .before .before .before .before .before .before .before .before .walk .last .1 .1 .1 .1 .1 .0)) in part-of 0 (overOf (y .over)) (firstLines (y .lines) (y .loops)) (y .loops) (c .before .before .before .restarted2 .ensures (c .before .before .before .before .before .before .before .before .walk .last .1 .1 .1 .1 .1 .0) .value _) (passed-2 t c)
 
 -- ---- a loop: at its head, after its body
 one-1 : (t : ℕ) (c : lts.After-one-loop (given t) (here t) walk.Post Inv μ) → let s = c .before .before .before .before .before .before .before .before .before .before .args in let i = c .before .before .before .before .before .before .before .before .before .loop .i in let k = kindAt (rowsOf (now (s .rows))) i in
@@ -117,7 +117,7 @@ inside-1 t c =
     let b = bodyAt (rowsOf (now (s .rows))) (s .count) i in
     c .inside .ensures .value b (c .before .before .before .before .before .before .before .before .before .one-loop .ensures .sets) .value ∙ ap (λ ρ. inside (formOf k) ρ (testOf k) b) (c .before .before .before .before .before .before .before .before .before .before .before .at-start .ensures .value) ∙ ap (λ d. inside (formOf d) (atStart (formOf d) (testOf d) ρ) (testOf d) b) (c .before .before .before .before .before .before .before .before .before .before .before .before .before .kind-at .ensures)
 
-passed-3 : (t : ℕ) (c : lts.Else4 (given t) (here t) walk.Post Inv μ) → let s = c .before .before .before .before .before .before .before .before .before .before .before .before .before .before .before .before .before .before .before .before .before .before .before .args in Passed (rowsOf (now (s .rows))) (s .count) (c .before .before .before .before .before .before .before .before .before .before .before .before .before .before .before .before .before .before .before .before .before .before .loop .i + 1) (envOf (c .before .before .before .before .inside .last .0)) (c .before .before .before .before .before .before .before .before .before .times .result) (found (c .before .before .before .before .before .before .lined .result) (c .before .before .before .before .before .before .lined .last .0)) (found (c .before .before .walk3 .result) (c .before .before .walk3 .last .1 .1 .1 .1 .1 .0))
+passed-3 : (t : ℕ) (c : lts.Else4 (given t) (here t) walk.Post Inv μ) → let s = c .before .before .before .before .before .before .before .before .before .before .before .before .before .before .before .before .before .before .before .before .before .before .before .args in Passed (rowsOf (now (s .rows))) (s .count) (c .before .before .before .before .before .before .before .before .before .before .before .before .before .before .before .before .before .before .before .before .before .before .loop .i + 1) (envOf (c .before .before .before .before .inside .last .0)) (c .before .before .before .before .before .before .before .before .before .times .result) (withLines (c .before .before .before .before .before .before .lined .result) (c .before .before .before .before .before .before .lined .last .0)) (withLines (c .before .before .walk3 .result) (c .before .before .walk3 .last .1 .1 .1 .1 .1 .0))
 passed-3 t c = c .before .before .walk3 .ensures .whole (c .if4 .left)
 
 -- ---- the needs
@@ -270,7 +270,7 @@ loop-again-3 : (t : ℕ) → lts.Need-loop-again-3 (given t) (here t) walk.Post 
 loop-again-3 t c =
     let s = c .before .before .before .before .before .before .before .before .before .before .before .before .before .before .before .before .before .before .before .before .before .before .before .before .before .before .before .args in
     let i = c .before .before .before .before .before .before .before .before .before .before .before .before .before .before .before .before .before .before .before .before .before .before .before .before .before .before .loop .i in
-    let y = found (c .before .before .before .before .before .before .before .before .before .before .before .before .before .before .before .before .before .before .before .before .before .before .before .before .before .before .loop .t) (c .before .before .before .before .before .before .before .before .before .before .before .before .before .before .before .before .before .before .before .before .before .before .before .before .before .before .loop .lines) in
+    let y = withLines (c .before .before .before .before .before .before .before .before .before .before .before .before .before .before .before .before .before .before .before .before .before .before .before .before .before .before .loop .t) (c .before .before .before .before .before .before .before .before .before .before .before .before .before .before .before .before .before .before .before .before .before .before .before .before .before .before .loop .lines) in
     let k = kindAt (rowsOf (now (s .rows))) i in
     let body = bodyAt (rowsOf (now (s .rows))) (s .count) i in
     let one = c .before .before .before .before .before .before .before .before .before .before .before .before .before .before .before .before .before .one-loop .result in
@@ -280,11 +280,11 @@ loop-again-3 t c =
     let x = c .before .before .outside .ensures .value body (o .sets) (o .moves ∙ ap (λ d. step (testOf d .tested) body) (sym (c .before .before .before .before .before .before .before .before .before .before .before .before .before .before .before .before .before .before .before .before .before .kind-at .ensures))) in
     let α : envOf (c .before .before .outside .last .0) ≡ outside (atStart (formOf k) (testOf k) (envOf (c .before .before .before .before .before .before .before .before .before .before .before .before .before .before .before .before .before .before .before .before .before .before .before .before .before .before .loop .r))) (testOf k) body =
     x .value ∙ ap (λ ρ. outside ρ (testOf (c .before .before .before .before .before .before .before .before .before .before .before .before .before .before .before .before .before .before .before .before .before .kind-at .result)) body) (c .before .before .before .before .before .before .before .before .before .before .before .before .before .before .before .before .before .before .before .at-start .ensures .value) ∙ ap (λ d. outside (atStart (formOf d) (testOf d) (envOf (c .before .before .before .before .before .before .before .before .before .before .before .before .before .before .before .before .before .before .before .before .before .before .before .before .before .before .loop .r))) (testOf d) body) (c .before .before .before .before .before .before .before .before .before .before .before .before .before .before .before .before .before .before .before .before .before .kind-at .ensures) in
-    let part : Part total (envOf (c .before .before .before .before .before .before .before .before .inside .last .0)) (lastTicks k) (overOf (y .over)) ls (y .loops + 1) (blockAt (rowsOf (now (s .rows))) (s .count) (i + 1)) (found (c .before .before .before .before .before .before .walk3 .result) (c .before .before .before .before .before .before .walk3 .last .1 .1 .1 .1 .1 .0)) =
+    let part : Part total (envOf (c .before .before .before .before .before .before .before .before .inside .last .0)) (lastTicks k) (overOf (y .over)) ls (y .loops + 1) (blockAt (rowsOf (now (s .rows))) (s .count) (i + 1)) (withLines (c .before .before .before .before .before .before .walk3 .result) (c .before .before .before .before .before .before .walk3 .last .1 .1 .1 .1 .1 .0)) =
     part-of (lastTicks k) (overOf (y .over)) ls (y .loops + 1) (c .before .before .before .before .before .before .before .before .before .before .lined .ensures .value _ ∙ ap (λ n. from-parts (envOf (c .before .before .before .before .before .before .before .before .inside .last .0)) n (overOf (y .over)) ls (y .loops + 1)) (c .before .before .before .before .before .before .before .before .before .before .before .last-ticks .ensures ∙ ap lastTicks (c .before .before .before .before .before .before .before .before .before .before .before .before .before .before .before .before .before .before .before .before .before .kind-at .ensures))) (passed-3 t (c .before .before .before .before)) in (
       x .long,
       go-loop _ _ _ _ _ (c .before .before .before .before .before .before .before .before .before .before .before .before .before .before .before .before .before .before .before .before .before .before .before .before .before .before .loop .inv .1) (c .before .before .before .before .before .before .before .before .before .before .before .before .before .before .before .before .before .before .before .before .before .before .before .before .before .loop-test .taken) (c .before .before .before .before .before .before .before .before .before .before .before .before .before .before .before .before .before .before .before .before .before .before .before .before .before .before .before .pre .1 .ready .built) (loop-1 t (c .before .before .before .before .before .before .before .before .before .before .before .before .before .before .before .before .before)) (one-1 t (c .before .before .before .before .before .before .before .before .before .before .before .before .before .before .before .before .before)) (c .before .before .before .before .before .before .before .before .before .before .before .before .before .before .before .if3 .left) (c .before .before .before .before .before .before .before .before .before .before .before .before .before .times .ensures)
-          (subst (λ ρ. Part total ρ (lastTicks k) (overOf (y .over)) ls (y .loops + 1) (blockAt (rowsOf (now (s .rows))) (s .count) (i + 1)) (found (c .before .before .before .before .before .before .walk3 .result) (c .before .before .before .before .before .before .walk3 .last .1 .1 .1 .1 .1 .0))) (inside-1 t (c .before .before .before .before .before .before .before .before)) part)
+          (subst (λ ρ. Part total ρ (lastTicks k) (overOf (y .over)) ls (y .loops + 1) (blockAt (rowsOf (now (s .rows))) (s .count) (i + 1)) (withLines (c .before .before .before .before .before .before .walk3 .result) (c .before .before .before .before .before .before .walk3 .last .1 .1 .1 .1 .1 .0))) (inside-1 t (c .before .before .before .before .before .before .before .before)) part)
           (rw (c .before .before .before .before .before .before .before .before .before .before .before .before .before .before .before .before .before .before .before .before .before .kind-at .ensures) at (c .before .loop-ticks .ensures)) (c .closed2 .ensures _ _) α,
     )
 

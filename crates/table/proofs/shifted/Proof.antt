@@ -1,45 +1,24 @@
-use mathlib.Core.Path.{_≡_}
-use mir.Syntax.{w32, w64}
-use mir.Val.{SFits, Fits}
 use mir.Facts.{toZ-ofZ}
-use lib.IntN.{ℤ, pos, natAbs, _+ℤ_, _-ℤ_}
-use lib.Dec.{T}
-use lib.Signed.{nonNeg}
-use Rattle.ints.proofs.Parts.{ints, add-parts, minus-parts, abs-parts, neg-parts}
-use Rattle.rules.specs.Bounds.{Near}
-use borrow.Author.Needs.{needs}
+use lib.IntN.{pos}
+use Rattle.ints.proofs.Parts.{ints, neg-parts}
+use Rattle.ints.proofs.Shifts.{Shifted, shifted}
 use Rattle.table.proofs.shifted.Statement.{statement}
 use Rattle.table.proofs.shifted.Tie as tie
 
-record Wide (k : ℤ) : Type 0 where
-  wide : SFits w64 k
-  more : SFits w64 (k +ℤ pos 2_147_483_648)
-  fits : T (nonNeg (k +ℤ pos 2_147_483_648)) × Fits w32 (natAbs (k +ℤ pos 2_147_483_648))
-  back : (pos (natAbs (k +ℤ pos 2_147_483_648)) -ℤ pos 2_147_483_648) ≡ k
-
-wide : (k : ℤ) → Near 1 k → Wide k
-wide k h =
-    let a = add-parts k (pos 2_147_483_648) in
-    let n = neg-parts (pos 1_000_000_000) in
-    let s = k +ℤ pos 2_147_483_648 in
-    record {
-      wide = omega (ints, n);
-      more = omega (ints, n, a);
-      fits = (omega (ints, n, a), record { fits = omega (ints, n, a, abs-parts s) });
-      back = omega (ints, n, a, abs-parts s, minus-parts (pos (natAbs s)) (pos 2_147_483_648));
-    }
+wide : (c : tie.Start) → Shifted 2_147_483_648 (c .args .k)
+wide c = let n = neg-parts (pos 1_000_000_000) in let m = neg-parts (pos 2_147_483_648) in let h = c .pre in shifted _ _ (omega ints) (omega (ints, n, m)) (omega (ints, n, m))
 
 cast-result : tie.Need-cast-result
-cast-result c = let h = wide _ (c .pre) in search needs
+cast-result c = simp (toZ-ofZ (c .fits .k)) (wide c .wide)
 
 add-result : tie.Need-add-result
-add-result c = let h = wide _ (c .pre) in simp (toZ-ofZ (c .fits .k), toZ-ofZ (h .wide)) (h .more)
+add-result c = let h = wide c in simp (toZ-ofZ (c .fits .k), toZ-ofZ (h .wide)) (h .more)
 
 cast-result-2 : tie.Need-cast-result-2
-cast-result-2 c = let h = wide _ (c .pre) in simp (toZ-ofZ (c .fits .k), toZ-ofZ (h .wide), toZ-ofZ (h .more)) (h .fits)
+cast-result-2 c = let h = wide c in simp (toZ-ofZ (c .fits .k), toZ-ofZ (h .wide), toZ-ofZ (h .more)) (h .whole, record { fits = omega ints })
 
 returns : tie.Need-returns
-returns c = let h = wide _ (c .pre) in simp (toZ-ofZ (c .fits .k), toZ-ofZ (h .wide), toZ-ofZ (h .more)) (h .back)
+returns c = let h = wide c in simp (toZ-ofZ (c .fits .k), toZ-ofZ (h .wide), toZ-ofZ (h .more)) (h .back)
 
 pub shifted-spec : {M : Type 1} → statement M
 shifted-spec = tie.close (tie.spec cast-result add-result cast-result-2 returns)

@@ -4,7 +4,7 @@ use Prim.Native.Nat.{ℕ, _+_, _<_, _≤_}
 use lib.ListN.{length, getD, drop, length-drop}
 use denote.Ref.{now}
 use Rattle.text.proofs.Laws.{mark-plain, mark-none, mark-variable, mark-other, mark-zero, mark-negative, natural-small, is-natural, part-rest, front-length, front-at, front-rest, stop-within}
-use Rattle.text.specs.Words.{marks, stop, front, naturalOf, variableIn, wordIn}
+use Rattle.text.specs.Words.{marks, stop, front, naturalOf, variableWord, wordIn}
 use Rattle.text.specs.declared.Value.{Value}
 use Rattle.rules.specs.Text.{isNatural}
 use mathlib.Core.Bool.{Bool, true, false, not}
@@ -66,7 +66,7 @@ add-t15 : tie.Need-add-t15
 add-t15 c = let h = fits (c .before .before .before .before .before) _ _ (c .before .before .before .n .given .1) in search needs
 
 returns-3 : tie.Need-returns-3
-unfolding variableIn wordIn
+unfolding variableWord wordIn
 returns-3 c = let call = c .before .before .before .before .before in
     let e = c .before .before .before .n .given .1 in
     record {
