@@ -2,7 +2,7 @@
  *
  * Every input is taken or refused by number. The caller guarantees valid pointers: each pointer is to at least as many elements as the length
  * beside it says (a length of 0 may come with any non-null pointer), `place` to one number, `answer` to DIFTANEW_ANSWER numbers, and no two
- * of the lent parts overlap. Nothing else is asked. The calls keep no state, use no heap, and need a stack of 512 KB. */
+ * of the lent parts overlap. Nothing else is asked. The calls keep no state and use no heap. They need a stack of DIFTANEW_STACK bytes. */
 #ifndef DIFTANEW_H
 #define DIFTANEW_H
 
@@ -17,6 +17,10 @@ extern "C" {
 #define DIFTANEW_SCRATCH 8192
 /* The longest file that is taken (question 2). */
 #define DIFTANEW_FILE 16384
+/* No report is longer: a buffer of so many bytes holds every one. */
+#define DIFTANEW_REPORT 2089
+/* The bytes of stack that a call needs, with a margin: on the worst file a report took 29 KB and a run 45 KB. */
+#define DIFTANEW_STACK 57344
 /* The numbers of a run's answer. */
 #define DIFTANEW_ANSWER 53
 

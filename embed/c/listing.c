@@ -5,7 +5,7 @@
 
 static uint8_t file[DIFTANEW_FILE + 1];
 static uint32_t scratch[DIFTANEW_SCRATCH];
-static uint8_t buffer[4096];
+static uint8_t buffer[DIFTANEW_REPORT];
 
 int main(void) {
     size_t length = fread(file, 1, sizeof file, stdin);

@@ -1,9 +1,16 @@
-// Links target/staticlib/libdiftanew.a, which `rt staticlib diftanew` writes; DIFTANEW_LIB_DIR names another folder.
+//! Links target/staticlib/libdiftanew.a, which `rt staticlib diftanew` writes; DIFTANEW_LIB_DIR names another folder (absolute, or from the
+//! repository's root).
+use std::path::Path;
+
 fn main() {
-    let here = std::env::var("CARGO_MANIFEST_DIR").unwrap();
-    let dir = std::env::var("DIFTANEW_LIB_DIR").unwrap_or(format!("{here}/../../target/staticlib"));
     println!("cargo:rerun-if-env-changed=DIFTANEW_LIB_DIR");
-    println!("cargo:rerun-if-changed={dir}/libdiftanew.a");
-    println!("cargo:rustc-link-search=native={dir}");
+    let given = std::env::var("DIFTANEW_LIB_DIR").unwrap_or("target/staticlib".into());
+    // This crate is two below the root.
+    let root = Path::new(&std::env::var("CARGO_MANIFEST_DIR").unwrap()).join("../..");
+    let folder = root.join(given).canonicalize().expect("the folder of libdiftanew.a: run `rt staticlib diftanew`, or set DIFTANEW_LIB_DIR");
+    let archive = folder.join("libdiftanew.a");
+    assert!(archive.exists(), "no libdiftanew.a there: run `rt staticlib diftanew`");
+    println!("cargo:rerun-if-changed={}", archive.display());
+    println!("cargo:rustc-link-search=native={}", folder.display());
     println!("cargo:rustc-link-lib=static=diftanew");
 }

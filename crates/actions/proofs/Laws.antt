@@ -1,14 +1,14 @@
 -- What the machine's parts do in memory, as `rules` has it. Assumes nothing.
-use mathlib.Core.Path.{_≡_, refl, sym, _∙_, ap}
+use mathlib.Core.Path.{_≡_, refl, sym, _∙_, ap, subst, fun-ext}
 use mathlib.Core.Bool.{Bool, true, false, cond, _&&_}
 use mathlib.Core.List.{List, [], _∷_}
-use Prim.Native.Nat.{ℕ, suc, _+_, _-_, _≤_, _<_, max}
+use Prim.Native.Nat.{ℕ, suc, _+_, _-_, _≤_, _<_, _^_, max}
 use native.Mathlib.Numerals.{add-one}
 use native.Mathlib.Omega.{arith}
 use borrow.Author.Tests.{le-leb, lt-leb}
-use lib.Dec.{leb, eqb}
+use lib.Dec.{T, leb, eqb, eqb→eq}
 use lib.ListN.{length, getD, set, drop, length-set, drop-of-length-le}
-use lib.Seq.{drop-cons, getD-set-same, set-set}
+use lib.Seq.{drop-cons}
 use lib.IntN.{ℤ, pos}
 use lib.Signed.{leZ}
 use mir.Syntax.{w32}
@@ -16,17 +16,17 @@ use mir.Val.{SFits}
 use Rattle.ints.proofs.Parts.{ints}
 use Rattle.rules.specs.declared.Ending.{Ending}
 use Rattle.rules.specs.declared.Ending.the-variants.{Spent, NoPick}
-use Rattle.rules.specs.Values.{lowest, highest, inLimits}
+use Rattle.rules.specs.Values.{lowest, highest, inLimits, put}
 use Rattle.rules.specs.Blocks.{Source, assign, cue, Test}
 use Rattle.rules.specs.Run.{State, choose, charge, write, result, exec, holds}
 use Rattle.rules.specs.Figures.{ones}
-use Rattle.rules.specs.RowMachine.{Tally, Next, begin, turn, fresh, to, chosen, outcome, paid, picked, tests}
+use Rattle.rules.specs.RowMachine.{Tally, tallyOf, Next, begin, turn, fresh, to, chosen, outcome, paid, picked, tests}
 use Rattle.rules.specs.Scripts.{storeOf}
 use Rattle.rules.proofs.Laws.{put-set}
 use Rattle.actions.specs.declared.Machine.{Machine}
 use Rattle.actions.specs.declared.Status.{Status}
 use Rattle.actions.specs.declared.Status.the-variants.{Going, Over}
-use Rattle.actions.specs.States.{phaseOf, countOf, tallyOf, stateOf, byStatus, waitsBy, waitsOf, andTests, overAt, onAt, plainTo, putTo, pickTo, Acts, Steps, Room}
+use Rattle.actions.specs.States.{phaseOf, stateOf, byStatus, waitsBy, waitsOf, andTests, overAt, onAt, plainTo, putTo, pickTo, Acts, Steps, Begun, Room}
 
 -- ---- a tick
 no-tick : (n : ℕ) → n ≡ 0 → leb 1 n ≡ false
@@ -115,40 +115,52 @@ module _ (m : Machine) (store : List ℤ) (picks : List ℕ) (c : Tally) (i j : 
       by false = refl
 
 -- ---- the counts
-module _ (turns all most : List ℕ) (h : ℕ) where
-  pub begun : h < length turns → tallyOf (set turns h 0) all most ≡ begin h (tallyOf turns all most)
-  unfolding begin
-  begun l = λ i. record { turns = put-set turns h 0 0 l i; sum = countOf all; most = countOf most }
+-- a number set to itself
+put-same : (f : ℕ → ℕ) (h : ℕ) → put f h (f h) ≡ f
+put-same f h = fun-ext λ p. by p (eqb p h) (eqb→eq p h)
+  where
+    by : (p : ℕ) (b : Bool) → (T b → p ≡ h) → cond b (f h) (f p) ≡ f p
+    by p true e = ap f (sym (e tt))
+    by p false e = refl
 
-  pub turned : h < length turns → h < length all → h < length most
-      → tallyOf (set turns h (countOf turns h + 1)) (set all h (countOf all h + 1)) (set most h (max (countOf most h) (countOf turns h + 1))) ≡ turn h (tallyOf turns all most)
-  unfolding turn
-  turned l k n =
-      let e : (x : ℕ) → x + 1 ≡ suc x = λ x. omega arith in
-      (λ i. record {
-        turns = put-set turns h (e (countOf turns h) i) 0 l i;
-        sum = put-set all h (e (countOf all h) i) 0 k i;
-        most = put-set most h (max (countOf most h) (e (countOf turns h) i)) 0 n i;
-      })
-
-  fewer : h < length turns → (p : ℕ) → countOf (set turns h 0) p ≤ countOf turns p
-  fewer l p = by (eqb p h) (ap (λ (f : ℕ → ℕ). f p) (put-set turns h 0 0 l))
+module _ (counts : List (List ℕ)) (h : ℕ) (l : h < length counts) where
+  -- column j of a row that is set
+  column-set : (row : List ℕ) (j : ℕ) → (λ p. getD (getD (set counts h row) p []) j 0) ≡ put (λ p. getD (getD counts p []) j 0) h (getD row j 0)
+  column-set row j = fun-ext λ p. ap (λ (f : ℕ → List ℕ). getD (f p) j 0) (put-set counts h row [] l) ∙ by p (eqb p h)
     where
-      by : (b : Bool) → countOf (set turns h 0) p ≡ cond b 0 (countOf turns p) → countOf (set turns h 0) p ≤ countOf turns p
-      by true e = omega arith
-      by false e = omega arith
+      by : (p : ℕ) (b : Bool) → getD (cond b row (getD counts p [])) j 0 ≡ cond b (getD row j 0) (getD (getD counts p []) j 0)
+      by p true = refl
+      by p false = refl
 
-  pub room-begun : h < 256 → Room turns all most → Room (set turns h 0) all most
-  room-begun l r =
-      let (a, b, c) = r .rows in
-      record { rows = (simp length-set (omega arith), b, c); turn = λ p. let (x, y) = r .turn p in (omega (arith, fewer (omega arith) p), y) }
+  abbrev c : Tally
+  c = tallyOf counts
 
--- a do's entry has its first turn at once
-pub entered-do : (turns all most : List ℕ) (h : ℕ) → h < length turns → h < length all → h < length most
-    → tallyOf (set turns h 1) (set all h (countOf all h + 1)) (set most h (max (countOf most h) 1)) ≡ turn h (begin h (tallyOf turns all most))
-entered-do turns all most h l k n =
-    let z : countOf (set turns h 0) h ≡ 0 = getD-set-same turns h 0 0 l in
-    (simp (z, set-set) at (turned (set turns h 0) all most h (simp length-set l) k n)) ∙ ap (turn h) (begun turns all most h l)
+  -- its row once an entry, and once a turn has begun
+  abbrev pub fresh-row : List ℕ
+  fresh-row = 0 ∷ (c .sum h ∷ (c .most h ∷ []))
+
+  abbrev pub turned-row : List ℕ
+  turned-row = (c .turns h + 1) ∷ ((c .sum h + 1) ∷ (max (c .most h) (c .turns h + 1) ∷ []))
+
+  begun : tallyOf (set counts h fresh-row) ≡ begin h c
+  unfolding begin
+  begun = λ i. record { turns = column-set fresh-row 0 i; sum = (column-set fresh-row 1 ∙ put-same (c .sum) h) i; most = (column-set fresh-row 2 ∙ put-same (c .most) h) i }
+
+  pub turned : tallyOf (set counts h turned-row) ≡ turn h c
+  unfolding turn
+  turned =
+      let e : c .turns h + 1 ≡ suc (c .turns h) = omega arith in
+      let f : c .sum h + 1 ≡ suc (c .sum h) = omega arith in
+      (λ i. record { turns = column-set turned-row 0 i; sum = column-set turned-row 1 i; most = column-set turned-row 2 i })
+      ∙ (λ i. record { turns = put (c .turns) h (e i); sum = put (c .sum) h (f i); most = put (c .most) h (max (c .most h) (e i)) })
+
+  pub begins : Room counts → Begun h counts (set counts h fresh-row)
+  unfolding begin
+  begins r = record { same = begun; room = record { rows = simp length-set (r .rows); turn = λ p. subst (λ (d : Tally). (d .turns p < 2 ^ 63) × (d .sum p < 2 ^ 63)) (sym begun) (by p (eqb p h) (r .turn p)) } }
+    where
+      by : (p : ℕ) (b : Bool) → (c .turns p < 2 ^ 63) × (c .sum p < 2 ^ 63) → (cond b 0 (c .turns p) < 2 ^ 63) × (c .sum p < 2 ^ 63)
+      by p true (x, y) = (omega arith, y)
+      by p false q = q
 
 -- ---- the test of a loop
 module _ (m : Machine) (store : List ℤ) (c : Tally) (h e : ℕ) (t : Test) where

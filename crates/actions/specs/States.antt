@@ -2,23 +2,21 @@
 use mathlib.Core.Path.{_≡_}
 use mathlib.Core.Bool.{Bool, true, false}
 use mathlib.Core.List.{List, []}
-use Prim.Native.Nat.{ℕ, _+_, _≤_, _<_, _^_, max}
-use lib.ListN.{length, getD, set, drop}
+use Prim.Native.Nat.{ℕ, _+_, _≤_, _<_, _^_}
+use lib.ListN.{length, drop}
 use lib.IntN.{ℤ}
 use Rattle.rules.specs.declared.Kind.{Kind}
-use Rattle.rules.specs.declared.Kind.the-variants.{Set, Move, Cue, Pick, Else, End, While, Do, For}
 use Rattle.rules.specs.declared.Operand.{Operand}
 use Rattle.rules.specs.declared.Comparison.{Comparison}
 use Rattle.rules.specs.declared.Ending.{Ending}
-use Rattle.rules.specs.Blocks.{from, Plain, assign, Test}
+use Rattle.rules.specs.Blocks.{from, Plain, assign, Test, test, Form, while, do-while, for, Last, no-step, step-by, View, is-plain, is-pick, is-else, is-end, is-loop, viewAt}
 use Rattle.rules.specs.Figures.{ones}
 use Rattle.rules.specs.Run.{State, charge, write, exec}
-use Rattle.rules.specs.RowMachine.{Tally, begin, turn, Phase, fresh, testing, Place, Next, more, over, to, outcome, paid, picked, tests, test, onEnd, onRow}
+use Rattle.rules.specs.RowMachine.{Tally, tallyOf, begin, Phase, fresh, testing, Place, Next, more, over, to, outcome, paid, picked, tests, onEnd, onRow}
 use Rattle.rules.specs.Scripts.{storeOf, OperandBelow, RowLimits, RowBelow}
 use Rattle.actions.specs.declared.Status.{Status}
 use Rattle.actions.specs.declared.Status.the-variants.{Going, Over}
 use Rattle.actions.specs.declared.Machine.{Machine}
-use Rattle.actions.specs.declared.Counts.{Counts}
 
 -- a for's start or step is done
 abbrev pub phaseOf : Bool → Phase
@@ -27,13 +25,6 @@ phaseOf false = fresh
 
 abbrev pub stateOf : Machine → List ℤ → List ℕ → State
 stateOf m store picks = record { store = storeOf store; left = m .left; picks = drop (m .used) picks }
-
--- the counts by row, in three lists
-abbrev pub countOf : List ℕ → ℕ → ℕ
-countOf l p = getD l p 0
-
-abbrev pub tallyOf : List ℕ → List ℕ → List ℕ → Tally
-tallyOf turns all most = record { turns = countOf turns; sum = countOf all; most = countOf most }
 
 abbrev pub placeOf : Machine → List ℤ → List ℕ → Tally → Place
 placeOf m store picks c = record { row = m .row; phase = phaseOf (m .testing); now = stateOf m store picks; tally = c }
@@ -93,34 +84,34 @@ abbrev pub forTo : ℕ → ℕ → ℕ → Operand → Comparison → Operand �
 forTo i e v y d x true s c = tests ones i e (test v d x) s c
 forTo i e v y d x false s c = andTests i e (test v d x) (plainTo i (assign v (from y)) i true s (begin i c))
 
--- the loop at row h, of kind k, with its `end` at row e: a for that has not started or stepped yet goes on to its test
-abbrev pub onward : Kind → Phase → ℕ → ℕ → Next → Next
-onward (For v y d x m) fresh h e n = andTests h e (test v d x) n
-onward (For v y d x m) testing h e n = n
-onward (Set v x) ph h e n = n
-onward (Move v d) ph h e n = n
-onward (Cue k) ph h e n = n
-onward Pick ph h e n = n
-onward Else ph h e n = n
-onward End ph h e n = n
-onward (While v d x) ph h e n = n
-onward (Do v d x) ph h e n = n
+-- a for's start at row h, whose `end` is row e, goes on to its test
+abbrev pub started : Form → Phase → ℕ → ℕ → Test → Next → Next
+started while ph h e t n = n
+started do-while ph h e t n = n
+started (for x) fresh h e t n = andTests h e t n
+started (for x) testing h e t n = n
 
--- the `end` at row e of the block that row h, of kind k, begins
-abbrev pub endTo : List Kind → (ℕ → ℕ) → (ℕ → ℕ) → Kind → ℕ → ℕ → Phase → State → Tally → Next
-endTo rows shut opener k h e ph s c = onward k ph h e (onEnd ones rows shut opener k h e ph s c)
+-- a for's step likewise
+abbrev pub stepped : Last → Phase → ℕ → ℕ → Test → Next → Next
+stepped no-step ph h e t n = n
+stepped (step-by p) fresh h e t n = andTests h e t n
+stepped (step-by p) testing h e t n = n
 
--- row i, of kind k: one step of `rules`' machine, or two where a for's test follows its start or step
-abbrev pub rowTo : List Kind → (ℕ → ℕ) → (ℕ → ℕ) → Kind → ℕ → Phase → State → Tally → Next
-rowTo rows shut opener End i ph s c = onward (getD rows (opener i) End) ph (opener i) i (onRow ones rows shut opener End i ph s c)
-rowTo rows shut opener (For v y d x m) i ph s c = onward (For v y d x m) ph i (shut i) (onRow ones rows shut opener (For v y d x m) i ph s c)
-rowTo rows shut opener (Set v x) i ph s c = onRow ones rows shut opener (Set v x) i ph s c
-rowTo rows shut opener (Move v d) i ph s c = onRow ones rows shut opener (Move v d) i ph s c
-rowTo rows shut opener (Cue n) i ph s c = onRow ones rows shut opener (Cue n) i ph s c
-rowTo rows shut opener Pick i ph s c = onRow ones rows shut opener Pick i ph s c
-rowTo rows shut opener Else i ph s c = onRow ones rows shut opener Else i ph s c
-rowTo rows shut opener (While v d x) i ph s c = onRow ones rows shut opener (While v d x) i ph s c
-rowTo rows shut opener (Do v d x) i ph s c = onRow ones rows shut opener (Do v d x) i ph s c
+-- the `end` at row e of the block that row h begins, and row i: one step of `rules`' machine, or two where a for's test follows its start or step
+module _ (rows : List Kind) (shut opener : ℕ → ℕ) where
+  abbrev pub endTo : View → ℕ → ℕ → Phase → State → Tally → Next
+  endTo (is-plain p) h e ph s c = onEnd ones rows shut opener (is-plain p) h e ph s c
+  endTo is-pick h e ph s c = onEnd ones rows shut opener is-pick h e ph s c
+  endTo is-else h e ph s c = onEnd ones rows shut opener is-else h e ph s c
+  endTo is-end h e ph s c = onEnd ones rows shut opener is-end h e ph s c
+  endTo (is-loop form t last) h e ph s c = stepped last ph h e t (onEnd ones rows shut opener (is-loop form t last) h e ph s c)
+
+  abbrev pub rowTo : View → ℕ → Phase → State → Tally → Next
+  rowTo (is-plain p) i ph s c = onRow ones rows shut opener (is-plain p) i ph s c
+  rowTo is-pick i ph s c = onRow ones rows shut opener is-pick i ph s c
+  rowTo is-else i ph s c = onRow ones rows shut opener is-else i ph s c
+  rowTo is-end i ph s c = endTo (viewAt rows (opener i)) (opener i) i ph s c
+  rowTo (is-loop form t last) i ph s c = started form ph i (shut i) t (onRow ones rows shut opener (is-loop form t last) i ph s c)
 
 -- from m and a store and counts to r and others: f, without a pick
 pub record Acts (m r : Machine) (store store′ : List ℤ) (c c′ : Tally) (f : State → Tally → Next) : Type 0 where
@@ -139,41 +130,32 @@ pub record AfterByte (used : ℕ) (picks : List ℕ) (r : ℕ) : Type 0 where
   pub taken : used < r → (used < length picks) × (r ≡ used + 1)
   pub none : r ≤ used → (length picks ≤ used) × (r ≡ used)
 
--- the counts have room for 256 rows and for one turn more
-pub record Room (turns all most : List ℕ) : Type 0 where
-  pub rows : (256 ≤ length turns) × (256 ≤ length all) × (256 ≤ length most)
-  pub turn : (p : ℕ) → (countOf turns p < 2 ^ 63) × (countOf all p < 2 ^ 63)
+-- 256 rows of counts, with room for one turn more
+pub record Room (counts : List (List ℕ)) : Type 0 where
+  pub rows : length counts ≡ 256
+  pub turn : (p : ℕ) → (tallyOf counts .turns p < 2 ^ 63) × (tallyOf counts .sum p < 2 ^ 63)
 
--- one turn more of one loop
-pub record WithTurn (c r : Counts) : Type 0 where
-  pub turns : r .turns ≡ c .turns + 1
-  pub all : r .all ≡ c .all + 1
-  pub most : r .most ≡ max (c .most) (c .turns + 1)
-
--- a turn of the loop at row h
-pub record Counted (h : ℕ) (turns all most turns′ all′ most′ : List ℕ) : Type 0 where
-  pub same : tallyOf turns′ all′ most′ ≡ turn h (tallyOf turns all most)
-
--- an entry of the loop at row h, with n turns at once
-pub record Entered (h n : ℕ) (turns all most turns′ all′ most′ : List ℕ) : Type 0 where
-  pub same : tallyOf turns′ all′ most′ ≡ tallyOf (set turns h n) (set all h (countOf all h + n)) (set most h (max (countOf most h) n))
+-- an entry of the loop at row h begins
+pub record Begun (h : ℕ) (counts counts′ : List (List ℕ)) : Type 0 where
+  pub same : tallyOf counts′ ≡ begin h (tallyOf counts)
+  pub room : Room counts′
 
 -- the loop at row h tests v against x
-pub record Testable (h e v : ℕ) (x : Operand) (store : List ℤ) (turns all most : List ℕ) : Type 0 where
+pub record Testable (h e v : ℕ) (x : Operand) (store : List ℤ) (counts : List (List ℕ)) : Type 0 where
   pub rows : (h < 256) × (e < 256)
   pub tested : v < length store
   pub limit : OperandBelow (length store) x
-  pub room : Room turns all most
+  pub room : Room counts
 
 -- row i, of kind k, may be done; row e is its partner
-pub record Doable (e i : ℕ) (k : Kind) (store : List ℤ) (turns all most : List ℕ) : Type 0 where
+pub record Doable (e i : ℕ) (k : Kind) (store : List ℤ) (counts : List (List ℕ)) : Type 0 where
   pub rows : (i < 256) × (e < 256)
   pub limits : RowLimits k
   pub below : RowBelow (length store) k
-  pub room : Room turns all most
+  pub room : Room counts
 
--- in the rows and tables row i has the partners e and h, row h of kind k
-pub record Fitting (rows : List Kind) (shut opener : ℕ → ℕ) (i e h : ℕ) (k : Kind) : Type 0 where
+-- in the rows and tables row i has the partners e and h, row h of view w
+pub record Fitting (rows : List Kind) (shut opener : ℕ → ℕ) (i e h : ℕ) (w : View) : Type 0 where
   pub shuts : shut i ≡ e
   pub opens : opener i ≡ h
-  pub kind : getD rows h End ≡ k
+  pub head : viewAt rows h ≡ w

@@ -1,8 +1,11 @@
 // What one tick of a run does: an assignment, a cue, a pick, a test.
+use rules::ALL;
 use rules::Change;
 use rules::Comparison;
 use rules::Ending;
+use rules::MOST;
 use rules::Operand;
+use rules::TURNS;
 ghost use mathlib.Core.Path.{_≡_};
 ghost use mathlib.Core.Bool.{false, cond};
 ghost use lib.Dec.{eqb};
@@ -10,12 +13,12 @@ ghost use mathlib.Core.List.{List};
 ghost use Prim.Native.Nat.{ℕ, _+_, _≤_, _<_, _^_, max};
 ghost use lib.ListN.{length};
 ghost use lib.IntN.{ℤ};
-ghost use Rattle.rules.specs.Blocks.{from, changed, assign, cue};
+ghost use Rattle.rules.specs.Blocks.{from, changed, assign, cue, test};
 ghost use Rattle.rules.specs.Figures.{ones};
 ghost use Rattle.rules.specs.Run.{holds};
-ghost use Rattle.rules.specs.RowMachine.{Tally, tests, test};
+ghost use Rattle.rules.specs.RowMachine.{Tally, tallyOf, turn, tests};
 ghost use Rattle.rules.specs.Scripts.{storeOf, OperandBelow, ChangeLimits};
-ghost use Rattle.actions.specs.States.{waitsOf, stoppedAt, overAt, onAt, putTo, plainTo, pickTo, tallyOf, AfterByte, WithTurn, Acts, Steps, Testable, Counted, Entered, Room};
+ghost use Rattle.actions.specs.States.{waitsOf, stoppedAt, overAt, onAt, putTo, plainTo, pickTo, AfterByte, Acts, Steps, Testable, Begun, Room};
 
 // Going, or over: the ending and its row.
 pub enum Status {
@@ -195,49 +198,23 @@ fn larger(a: u64, b: u64) -> u64
     if a < b { b } else { a }
 }
 
-// The counts of one loop: the turns of its latest entry, all turns, the most in one entry.
-struct Counts {
-    turns: u64,
-    all: u64,
-    most: u64,
-}
-
-// One turn more.
-fn with_turn(c: Counts) -> Counts
-    requires { ⌜ (c .turns < 2 ^ 63) × (c .all < 2 ^ 63) ⌝ }
-    ensures { λ r. ⌜ WithTurn c r ⌝ }
+// An entry of the loop at row h begins, with no turn yet.
+pub fn begin(h: usize, counts: &mut [[u64; 3]; 256])
+    requires { ⌜ (h < 256) × Room (now counts) ⌝ }
+    ensures { λ _. ⌜ Begun h (now (counts .entry)) (now (counts .exit)) ⌝ }
 {
-    let t = c.turns + 1;
-    Counts {
-        turns: t,
-        all: c.all + 1,
-        most: larger(c.most, t),
-    }
+    counts[h] = [0, counts[h][ALL], counts[h][MOST]];
 }
 
 // A turn of the loop at row h begins.
-pub fn count_turn(h: usize, turns: &mut [u64], all: &mut [u64], most: &mut [u64])
-    requires { ⌜ (h < 256) × Room (now turns) (now all) (now most) ⌝ }
-    ensures { λ _. ⌜ Counted h (now (turns .entry)) (now (all .entry)) (now (most .entry)) (now (turns .exit)) (now (all .exit)) (now (most .exit)) ⌝ }
+pub fn count_turn(h: usize, counts: &mut [[u64; 3]; 256])
+    requires { ⌜ (h < 256) × Room (now counts) ⌝ }
+    ensures { λ _. ⌜ (tallyOf (now (counts .exit)) ≡ turn h (tallyOf (now (counts .entry)))) × (length (now (counts .exit)) ≡ 256) ⌝ }
 {
-    let c = with_turn(Counts {
-        turns: turns[h],
-        all: all[h],
-        most: most[h],
-    });
-    turns[h] = c.turns;
-    all[h] = c.all;
-    most[h] = c.most;
-}
-
-// An entry of the loop at row h begins with n turns at once: 1 for a do, whose first turn no test comes before.
-pub fn enter(h: usize, n: u64, turns: &mut [u64], all: &mut [u64], most: &mut [u64])
-    requires { ⌜ (h < 256) × (n ≤ 1) × Room (now turns) (now all) (now most) ⌝ }
-    ensures { λ _. ⌜ Entered h n (now (turns .entry)) (now (all .entry)) (now (most .entry)) (now (turns .exit)) (now (all .exit)) (now (most .exit)) ⌝ }
-{
-    turns[h] = n;
-    all[h] = all[h] + n;
-    most[h] = larger(most[h], n);
+    let turns = counts[h][TURNS] + 1;
+    let all = counts[h][ALL] + 1;
+    let most = larger(counts[h][MOST], turns);
+    counts[h] = [turns, all, most];
 }
 
 // Does the test hold?
@@ -259,18 +236,16 @@ pub fn test_row(
     comparison: Comparison,
     x: Operand,
     store: &[i32],
-    turns: &mut [u64],
-    all: &mut [u64],
-    most: &mut [u64],
+    counts: &mut [[u64; 3]; 256],
 ) -> Machine
-    requires { ⌜ Testable h e v x (now store) (now turns) (now all) (now most) ⌝ }
-    ensures { λ r. ⌜ Acts m r (now (store .entry)) (now (store .entry)) (tallyOf (now (turns .entry)) (now (all .entry)) (now (most .entry))) (tallyOf (now (turns .exit)) (now (all .exit)) (now (most .exit))) (tests ones h e (test v comparison x)) ⌝ }
+    requires { ⌜ Testable h e v x (now store) (now counts) ⌝ }
+    ensures { λ r. ⌜ Acts m r (now (store .entry)) (now (store .entry)) (tallyOf (now (counts .entry))) (tallyOf (now (counts .exit))) (tests ones h e (test v comparison x)) × (length (now (counts .exit)) ≡ 256) ⌝ }
 {
     if m.left == 0 {
         return ended(m, m.left, Ending::Spent, h);
     }
     if passes(v, comparison, x, store) {
-        count_turn(h, turns, all, most);
+        count_turn(h, counts);
         on(m, m.left - 1, h + 1, false)
     } else {
         on(m, m.left - 1, e + 1, false)

@@ -8,7 +8,8 @@ use lib.ListN.{length, take}
 use Rattle.rules.specs.declared.Reply.{Reply}
 use Rattle.rules.specs.declared.Reply.the-variants.{Refused}
 use Rattle.rules.specs.Figures.{ones}
-use Rattle.rules.specs.Questions.{passed, tickLimit, verdict}
+use Rattle.rules.specs.declared.Verdict.the-variants.{Passed as passed}
+use Rattle.rules.specs.Questions.{tickLimit, verdict}
 use Rattle.rules.specs.Scripts.{Script, envOf, treeOf, reportTicks, Legal, Accepted}
 use Rattle.rules.specs.Report.{reportText, scriptReport}
 use Rattle.lines.specs.Coded.{firstLines}

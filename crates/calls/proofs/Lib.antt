@@ -1,5 +1,5 @@
 -- The laws that belong to no one function.
-pub mod Pairs
+pub mod Tables
 pub mod Judging
 pub mod Stores
 pub mod Counts

@@ -1,31 +1,24 @@
 -- What a run call answers, as code holds it.
 use mathlib.Core.Path.{_≡_}
-use mathlib.Core.List.{List, [], _∷_}
+use mathlib.Core.List.{List}
 use Prim.Native.Nat.{ℕ, _≤_}
 use lib.IntN.{ℤ}
-use lib.ListN.{length, getD, take}
+use lib.ListN.{length, take}
 use Rattle.rules.specs.declared.Row.{Row}
 use Rattle.rules.specs.declared.Ending.the-variants.{Ended}
 use Rattle.rules.specs.declared.LoopCount.{LoopCount}
+use Rattle.rules.specs.declared.Verdict.the-variants.{Passed, Refused}
 use Rattle.rules.specs.Blocks.{kindsOf}
 use Rattle.rules.specs.Answers.{Answer}
 use Rattle.rules.specs.Calls.{RunReply, ran, refuses, loopRows, countsAt, storeAfter}
-use Rattle.loops.specs.declared.Loops.{Loops}
+use Rattle.loops.specs.Loops.{NoneFrom}
 use Rattle.runner.specs.Runs.{Runnable}
 use Rattle.runner.specs.Answered.{runOf}
 use Rattle.calls.specs.declared.Outcome.{Outcome}
 
--- what stands past the last loop
-abbrev pub noCount : LoopCount
-noCount = record { row = 0; all = 0; most = 0 }
-
-abbrev pub NoneFrom : ℕ → List LoopCount → Type 0
-NoneFrom n counts = (k : ℕ) → n ≤ k → getD counts k noCount ≡ noCount
-
--- a run: number 0, its figures, and the counts of its loops in row order
+-- a run: its figures, and the counts of its loops in row order
 pub record ToldRun (o : Outcome) (a : Answer) (cs : List LoopCount) : Type 0 where
-  pub number : o .number ≡ 0
-  pub place : o .place ≡ 0
+  pub verdict : o .verdict ≡ Passed
   pub ending : o .ending ≡ a .ending
   pub row : o .row ≡ a .row
   pub ticks : o .ticks ≡ a .ticks
@@ -34,11 +27,9 @@ pub record ToldRun (o : Outcome) (a : Answer) (cs : List LoopCount) : Type 0 whe
   pub counts : take (o .loops) (o .counts) ≡ cs
   pub rest : NoneFrom (o .loops) (o .counts)
 
--- a refusal: its number, never 0, and its place; all figures of a run are 0
+-- a refusal: its number and place; all figures of a run are 0
 pub record ToldNo (o : Outcome) (q p : ℕ) : Type 0 where
-  pub some : q ≡ 0 → ⊥
-  pub number : o .number ≡ q
-  pub place : o .place ≡ p
+  pub verdict : o .verdict ≡ Refused q p
   pub ending : o .ending ≡ Ended
   pub row : o .row ≡ 0
   pub ticks : o .ticks ≡ 0
@@ -66,15 +57,3 @@ abbrev pub ranRows : List Row → ℕ → List ℤ → List ℕ → ℕ → RunR
 ranRows rows count store picks allowance =
     let a : Answer = runOf (take count (kindsOf rows)) store picks allowance in
     ran a (countsAt (a .entries) (loopRows 0 (take count (kindsOf rows))))
-
--- a count from each of three lists
-unfoldable pub zipped : List ℕ → List ℕ → List ℕ → List LoopCount
-zipped [] b c = []
-zipped (x ∷ a) [] c = []
-zipped (x ∷ a) (y ∷ b) [] = []
-zipped (x ∷ a) (y ∷ b) (z ∷ c) = record { row = x; all = y; most = z } ∷ zipped a b c
-
--- the counts of listed loops
-pub record CountsOf (l : Loops) (r : List LoopCount) : Type 0 where
-  pub counts : take (l .count) r ≡ zipped (take (l .count) (l .rows)) (take (l .count) (l .all)) (take (l .count) (l .most))
-  pub rest : NoneFrom (l .count) r

@@ -2,12 +2,10 @@
 mod lines;
 mod print;
 mod script;
-mod words;
 
 pub use lines::Line;
 pub use lines::answer_input;
 pub use print::print_text;
+pub use script::Values;
 pub use script::rehearse_file;
 pub use script::report_input;
-pub use words::Values;
-pub use words::keep_value;

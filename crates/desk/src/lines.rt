@@ -1,11 +1,11 @@
 // Lists on standard input, one file or one run a line.
 use crate::print::print_text;
+use crate::script::Values;
 use crate::script::rehearse_file;
 use crate::script::report_file;
-use crate::words::Values;
-use crate::words::keep_value;
 use bytes::scan::find;
 use libc::STDIN_FILENO;
+use words::keep_value;
 ghost use Prim.Native.Nat.{_≤_};
 ghost use lib.ListN.{length};
 

@@ -1,9 +1,10 @@
 // What the programs print, on standard output.
-use crate::words::within;
 use calls::Outcome;
 use libc::STDOUT_FILENO;
 use rules::Ending;
 use rules::LoopCount;
+use rules::Verdict;
+use words::within;
 
 pub fn print_text(text: &[u8]) {
     io::write_all(STDOUT_FILENO, text);
@@ -82,11 +83,14 @@ fn print_counts(counts: [LoopCount; 16], loops: usize) {
 
 // What a run answers: its refusal, or its ending, ticks, bytes used, store and counts.
 pub fn print_outcome(o: Outcome, store: &[i32]) {
-    let number = o.number;
-    if number != 0 {
-        print_refusal(number, o.place);
-        return;
+    let verdict = o.verdict;
+    match verdict {
+        Verdict::Passed => print_run(o, store),
+        Verdict::Refused(number, place) => print_refusal(number, place),
     }
+}
+
+fn print_run(o: Outcome, store: &[i32]) {
     let ending = o.ending;
     print_ending(ending);
     print_number(o.row as u64);

@@ -4,15 +4,22 @@ use crate::print::print_outcome;
 use crate::print::print_refusal;
 use crate::print::print_text;
 use crate::print::print_wrong_value;
-use crate::words::Number;
-use crate::words::Values;
-use crate::words::allowance;
-use crate::words::least;
-use crate::words::pick_count;
-use crate::words::put_picks;
 use libc::STDIN_FILENO;
+use loader::REPORT;
+use loader::SCRATCH;
 use rules::Reply;
+use words::Number;
+use words::allowance;
+use words::least;
+use words::pick_count;
+use words::put_picks;
 ghost use Rattle.io.specs.Counts.{Counts};
+
+// How many words are values of the store, or the index of one that is none.
+pub enum Values {
+    Count(usize),
+    Wrong(usize),
+}
 
 // How many bytes were read, and whether a read failed.
 struct Input {
@@ -71,8 +78,8 @@ fn cannot_read() {
 
 // Prints the report of a file's bytes, or its refusal.
 fn print_report(file: &[u8]) {
-    let mut scratch = [0u32; 8192];
-    let mut buffer = [0u8; 4096];
+    let mut scratch = [0u32; SCRATCH];
+    let mut buffer = [0u8; REPORT];
     let reply = loader::report(file, &mut scratch, &mut buffer);
     match reply {
         Reply::Accepted(length) => print_front(&buffer, length),
@@ -106,7 +113,7 @@ pub fn report_file(path: &[u8]) {
 
 // Runs a file's bytes and prints the outcome.
 fn print_run(file: &[u8], allowed: u64, picks: &[u8], store: &mut [i32]) {
-    let mut scratch = [0u32; 8192];
+    let mut scratch = [0u32; SCRATCH];
     let outcome = loader::run(file, &mut scratch, store, picks, allowed);
     print_outcome(outcome, store);
 }

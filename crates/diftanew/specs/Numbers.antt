@@ -1,31 +1,26 @@
 -- The answers of the calls as numbers, as the header lays them out.
 use mathlib.Core.Path.{_≡_}
-use mathlib.Core.Bool.{cond}
 use mathlib.Core.List.{List}
 use Prim.Native.Nat.{ℕ, zero, suc, _+_, _*_, min}
-use lib.Dec.{eqb}
 use lib.IntN.{ℤ}
 use lib.ListN.{getD, set, replicate}
 use Rattle.rules.specs.declared.Reply.{Reply}
-use Rattle.rules.specs.declared.Reply.the-variants.{Accepted, Refused}
 use Rattle.rules.specs.declared.LoopCount.{LoopCount}
-use Rattle.rules.specs.Calls.{Judged, RunReply, endingNumber}
+use Rattle.rules.specs.Calls.{Judged}
 use Rattle.calls.specs.declared.Outcome.{Outcome}
-use Rattle.calls.specs.Told.{noCount, Ran}
-use Rattle.loader.specs.Kept.{KeptCall}
+use Rattle.loops.specs.Loops.{noCount}
+use Rattle.loader.specs.Kept.{numberOf, placeOf, verdictNumber, firstBy, Reported, KeptCall}
 
--- a report's answer: 0 and the length, or a refusal's number and place
-abbrev pub numberOf : Reply → ℕ
-numberOf (Accepted n) = 0
-numberOf (Refused q p) = q
-
-abbrev pub placeOf : Reply → ℕ
-placeOf (Accepted n) = n
-placeOf (Refused q p) = p
+-- a report call in numbers
+pub record Reported-in-numbers (judgement : Judged) (old new : List ℕ) (r at : ℕ) : Type 0 where
+  pub reply : Reply
+  pub reported : Reported judgement old new reply
+  pub number : r ≡ numberOf reply
+  pub place : at ≡ placeOf reply
 
 -- a run's answer: the ending, or a refusal's place
 unfoldable pub firstOf : Outcome → ℕ
-firstOf o = cond (eqb (o .number) 0) (endingNumber (o .ending)) (o .place)
+firstOf o = firstBy (o .verdict) (o .ending)
 
 -- then row, ticks, bytes used, and the number of loops
 unfoldable pub headOf : Outcome → List ℕ
@@ -42,9 +37,8 @@ unfoldable pub numbersOf : Outcome → List ℕ
 numbersOf o = upTo (min (o .loops) 16) (o .counts) (headOf o)
 
 -- a run call's answer in numbers: those of an outcome that is document 01's, and that keeps within the report
-pub record Told-in-numbers (judgement : Judged) (reply : RunReply) (store new : List ℤ) (picks : List ℕ) (allowance r : ℕ) (answer : List ℕ) : Type 0 where
+pub record Told-in-numbers (judgement : Judged) (store new : List ℤ) (picks : List ℕ) (allowance r : ℕ) (answer : List ℕ) : Type 0 where
   pub outcome : Outcome
-  pub ran : Ran reply store new outcome
-  pub kept : KeptCall judgement store picks allowance outcome
-  pub number : r ≡ outcome .number
+  pub kept : KeptCall judgement store new picks allowance outcome
+  pub number : r ≡ verdictNumber (outcome .verdict)
   pub numbers : answer ≡ numbersOf outcome

@@ -2,12 +2,12 @@
 use calls::Outcome;
 use rules::Ending;
 use rules::Reply;
+use rules::Verdict;
 ghost use mathlib.Core.Path.{_≡_};
 ghost use Prim.Native.Nat.{min};
-ghost use lib.ListN.{length};
-ghost use Rattle.rules.specs.Figures.{ones};
-ghost use Rattle.rules.specs.Calls.{judged, replyOf, bufferOf, runReply, endingNumber};
-ghost use Rattle.diftanew.specs.Numbers.{numberOf, placeOf, firstOf, numbersOf, Told-in-numbers};
+ghost use Rattle.rules.specs.Calls.{endingNumber};
+ghost use Rattle.loader.specs.Kept.{judgement, verdictNumber};
+ghost use Rattle.diftanew.specs.Numbers.{Reported-in-numbers, firstOf, numbersOf, Told-in-numbers};
 
 // The report of a file. Answers 0 for an accepted file, with the report's length in place, or the refusal's number with its place.
 #[no_mangle]
@@ -17,9 +17,7 @@ pub extern "C" fn diftanew_report(
     buffer: &mut [u8],
     place: &mut u64,
 ) -> u32
-    ensures answer { λ r. ⌜ r ≡ numberOf (replyOf ones (judged ones (length (now (scratch .entry))) (now (file .entry))) (length (now (buffer .entry)))) ⌝ }
-    ensures place { λ _. ⌜ now (place .exit) ≡ placeOf (replyOf ones (judged ones (length (now (scratch .entry))) (now (file .entry))) (length (now (buffer .entry)))) ⌝ }
-    ensures buffer { λ _. ⌜ now (buffer .exit) ≡ bufferOf ones (judged ones (length (now (scratch .entry))) (now (file .entry))) (now (buffer .entry)) ⌝ }
+    ensures answer { λ r. ⌜ Reported-in-numbers (judgement (now (scratch .entry)) (now (file .entry))) (now (buffer .entry)) (now (buffer .exit)) r (now (place .exit)) ⌝ }
     ensures scratch { λ _. ⌜ now (scratch .exit) ≡ now (scratch .entry) ⌝ }
 {
     let r = loader::report(file, scratch, buffer);
@@ -51,13 +49,21 @@ fn ending_number(ending: Ending) -> u64
 fn first_number(o: Outcome) -> u64
     ensures { λ r. ⌜ r ≡ firstOf o ⌝ }
 {
-    let number = o.number;
+    let verdict = o.verdict;
     let ending = o.ending;
-    let place = o.place;
-    if number == 0 {
-        ending_number(ending)
-    } else {
-        place as u64
+    match verdict {
+        Verdict::Passed => ending_number(ending),
+        Verdict::Refused(_, place) => place as u64,
+    }
+}
+
+// 0, or a refusal's number.
+fn verdict_number(verdict: Verdict) -> u32
+    ensures { λ r. ⌜ r ≡ verdictNumber verdict ⌝ }
+{
+    match verdict {
+        Verdict::Passed => 0,
+        Verdict::Refused(number, _) => number,
     }
 }
 
@@ -102,11 +108,12 @@ pub extern "C" fn diftanew_run(
     allowance: u64,
     answer: &mut [u64; 53],
 ) -> u32
-    ensures answer { λ r. ⌜ Told-in-numbers (judged ones (length (now (scratch .entry))) (now (file .entry))) (runReply ones (judged ones (length (now (scratch .entry))) (now (file .entry))) (now (store .entry)) (now (picks .entry)) allowance) (now (store .entry)) (now (store .exit)) (now (picks .entry)) allowance r (now (answer .exit)) ⌝ }
+    ensures answer { λ r. ⌜ Told-in-numbers (judgement (now (scratch .entry)) (now (file .entry))) (now (store .entry)) (now (store .exit)) (now (picks .entry)) allowance r (now (answer .exit)) ⌝ }
     ensures scratch { λ _. ⌜ now (scratch .exit) ≡ now (scratch .entry) ⌝ }
 {
     let o = loader::run(file, scratch, store, picks, allowance);
     let n = numbers(o);
     *answer = n;
-    o.number
+    let verdict = o.verdict;
+    verdict_number(verdict)
 }

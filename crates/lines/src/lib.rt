@@ -9,6 +9,30 @@ ghost use lib.ListN.{length, getD, set};
 ghost use Rattle.rules.specs.Bounds.{Near, Ends};
 ghost use Rattle.lines.specs.Coded.{endIn, lineStep, lineIn, linesIn};
 
+// The columns of a line of the table.
+const ROW: usize = 0;
+
+const STEP: usize = 1;
+
+const FIRST: usize = 2;
+
+const SECOND: usize = 3;
+
+const TURNS: usize = 4;
+
+const TOTAL: usize = 5;
+
+const EXACT: usize = 6;
+
+// The numbers that stand in it for a step's kind.
+const ADD: u64 = 0;
+
+const GROW: u64 = 1;
+
+const SHRINK: u64 = 2;
+
+const UNKNOWN: u64 = 3;
+
 const MIDDLE: i64 = 1_099_511_627_776;
 
 const MOST: u64 = 2_199_023_255_552;
@@ -29,13 +53,13 @@ fn end_in(x: u64) -> i64
 fn step_in(t: u64, a: u64, b: u64) -> Step
     ensures { λ r. ⌜ r ≡ lineStep t a b ⌝ }
 {
-    if t == 0 {
+    if t == ADD {
         return Step::Add(end_in(a), end_in(b));
     }
-    if t == 1 {
+    if t == GROW {
         return Step::Grow(a, b);
     }
-    if t == 2 {
+    if t == SHRINK {
         return Step::Shrink(a, b);
     }
     Step::Unknown
@@ -48,11 +72,11 @@ pub fn line_at(table: &[[u64; 7]; 16], k: usize) -> LoopLine
 {
     let e = table[k];
     LoopLine {
-        row: e[0] as usize,
-        step: step_in(e[1], e[2], e[3]),
-        turns: e[4],
-        total: e[5],
-        exact: e[6] == 1,
+        row: e[ROW] as usize,
+        step: step_in(e[STEP], e[FIRST], e[SECOND]),
+        turns: e[TURNS],
+        total: e[TOTAL],
+        exact: e[EXACT] == 1,
     }
 }
 
@@ -77,22 +101,22 @@ fn step_code(step: Step) -> Code
 {
     match step {
         Step::Add(a, b) => Code {
-            tag: 0,
+            tag: ADD,
             first: shifted(a),
             second: shifted(b),
         },
         Step::Grow(f, g) => Code {
-            tag: 1,
+            tag: GROW,
             first: f,
             second: g,
         },
         Step::Shrink(f, g) => Code {
-            tag: 2,
+            tag: SHRINK,
             first: f,
             second: g,
         },
         Step::Unknown => Code {
-            tag: 3,
+            tag: UNKNOWN,
             first: 0,
             second: 0,
         },

@@ -1,77 +1,105 @@
 -- From a loaded file to the judgement of the call. Assumes nothing.
 use mathlib.Core.Path.{_≡_, refl, sym, _∙_, ap, subst}
-use mathlib.Core.List.{List, [], _∷_}
-use Prim.Native.Nat.{ℕ, zero, suc, _≤_, _<_}
+use mathlib.Core.List.{List, []}
+use Prim.Native.Nat.{ℕ, _≤_, _<_}
 use native.Mathlib.Omega.{arith}
 use lib.IntN.{ℤ}
-use lib.ListN.{length, length-append}
-use borrow.Author.Tests.{eq-eqb, ne-eqb, le-leb, lt-leb}
+use lib.ListN.{length, take}
+use borrow.Author.Tests.{le-leb, lt-leb}
+use Rattle.rules.specs.declared.Verdict.{Verdict}
+use Rattle.rules.specs.declared.Verdict.the-variants.{Passed, Refused}
+use Rattle.rules.specs.declared.Reply.{Reply}
 use Rattle.rules.specs.Figures.{ones}
-use Rattle.rules.specs.Scripts.{Legal}
+use Rattle.rules.specs.Scripts.{Script, scriptOf, Legal}
 use Rattle.rules.specs.File
-use Rattle.rules.specs.File.{fileScript}
-use Rattle.rules.specs.Calls.{Judged, refuses, judgedFile, judged, runReply, storeAfter}
-use Rattle.rules.proofs.Laws.{ends-length}
+use Rattle.rules.specs.File.{Reading, fileScript}
+use Rattle.rules.specs.Calls.{Judged, refuses, scratchSize, judgedFile, judged, replyOf, bufferOf, RunReply, ran, runReply, storeAfter}
 use Rattle.rules.proofs.Reading.{read-legal}
 use Rattle.rules.proofs.FromBytes.{demand3-call}
 use Rattle.reader.specs.declared.Loaded.{Loaded}
-use Rattle.table.specs.Code.{rowsOf}
-use Rattle.reader.specs.Read.{loadedOf, loadedScript, Tabled}
-use Rattle.calls.specs.Held.{held, Given, judgedScript}
-use Rattle.calls.proofs.Pairs.{packed-held}
-use Rattle.calls.specs.Told.{Ran, ToldNo}
+use Rattle.reader.specs.Read.{Answer, answerOf, loadedAnswer, LoadedAs}
+use Rattle.calls.specs.Held.{Given, judgedScript}
+use Rattle.calls.specs.Told.{Told, Ran, ToldNo}
 use Rattle.calls.specs.declared.Outcome.{Outcome}
-use Rattle.loader.specs.Kept.{KeptCall}
+use Rattle.calls.proofs.Runs.{told-says}
+use Rattle.loader.specs.Kept.{numberOf, placeOf, verdictNumber, firstBy, runNumber, runFirst, Reported, KeptCall}
 
 -- question 1
-pub scratch-short : (scratch : ℕ) (file : List ℕ) → scratch < 8_192 → judged ones scratch file ≡ refuses 1 8_192
+pub scratch-short : (scratch : ℕ) (file : List ℕ) → scratch < scratchSize → judged ones scratch file ≡ refuses 1 scratchSize
 unfolding judged
-scratch-short scratch file h = rw (lt-leb 8_192 scratch h)
+scratch-short scratch file h = rw (lt-leb scratchSize scratch h)
 
-module _ (scratch : ℕ) (file : List ℕ) (l : Loaded) (room : 8_192 ≤ scratch) (e : loadedOf l ≡ fileScript file) where
+module _ (scratch : ℕ) (file : List ℕ) (l : Loaded) (ranges : List (List ℤ)) (room : scratchSize ≤ scratch) (e : LoadedAs (fileScript file) l ranges) where
+  abbrev script : Script
+  script = scriptOf ranges (l .vars) (l .rows) (l .count)
+
   -- the file is refused
-  pub file-refused : (l .number ≡ 0 → ⊥) → judged ones scratch file ≡ refuses (l .number) (l .place)
-  unfolding judged judgedFile loadedOf
-  file-refused z = rw (le-leb 8_192 scratch room, ← e, ne-eqb (l .number) 0 z)
+  pub file-refused : {q p : ℕ} → l .verdict ≡ Refused q p → judged ones scratch file ≡ refuses q p
+  unfolding judged judgedFile answerOf
+  file-refused {q} {p} z = rw (le-leb scratchSize scratch room) (go (fileScript file) (e .answer))
+    where
+      go : (r : Reading Script) → loadedAnswer l ranges ≡ answerOf r → judgedFile ones r ≡ refuses q p
+      go (File.read s rest) a =
+          let v : l .verdict ≡ Passed = ap (λ (x : Answer). x .verdict) a in
+          absurd (let y : _≡_ {A = ℕ} 0 1 = cc in omega arith)
+      go (File.refused n k) a =
+          let v : l .verdict ≡ Refused n k = ap (λ (x : Answer). x .verdict) a in
+          cc
 
-  module _ (z : l .number ≡ 0) where
-    loaded : fileScript file ≡ File.read (loadedScript l) ([] ∷ [])
-    unfolding loadedOf
-    loaded = sym e ∙ rw (eq-eqb (l .number) 0 z)
+  module _ (z : l .verdict ≡ Passed) where
+    loaded : (rest : List (List ℕ)) × (fileScript file ≡ File.read script rest) × (l .vars ≡ length (script .ranges)) × (l .count ≡ length (script .rows))
+    unfolding answerOf
+    loaded = go (fileScript file) refl (e .answer)
+      where
+        go : (r : Reading Script) → fileScript file ≡ r → loadedAnswer l ranges ≡ answerOf r
+            → (rest : List (List ℕ)) × (fileScript file ≡ File.read script rest) × (l .vars ≡ length (script .ranges)) × (l .count ≡ length (script .rows))
+        go (File.read s rest) f a =
+            let g : script ≡ s = ap (λ (x : Answer). x .script) a in
+            (rest, f ∙ ap (λ x. File.read x rest) (sym g), ap (λ (x : Answer). x .vars) a ∙ ap (λ (x : Script). length (x .ranges)) (sym g), ap (λ (x : Answer). x .count) a ∙ ap (λ (x : Script). length (x .rows)) (sym g))
+        go (File.refused n k) f a =
+            let v : l .verdict ≡ Refused n k = ap (λ (x : Answer). x .verdict) a in
+            absurd (let y : _≡_ {A = ℕ} 0 1 = cc in omega arith)
 
     -- the file is read
-    pub file-read : judged ones scratch file ≡ judgedScript (loadedScript l)
+    pub file-read : judged ones scratch file ≡ judgedScript script
     unfolding judged judgedFile
-    file-read = rw (le-leb 8_192 scratch room, loaded)
+    file-read = rw (le-leb scratchSize scratch room, loaded .1)
 
-    module _ (t : List (List ℕ)) (k : Tabled l t) where
-      pub file-given : Given (loadedScript l) (l .head .count) (l .head .vars)
-      unfolding loadedScript
-      file-given =
-          let legal : Legal (loadedScript l) = read-legal file (loadedScript l) ([] ∷ []) loaded in
-          record { legal = legal; rows = k .long; ranges = omega (arith, legal .sizes .0, ends-length (l .head .vars) (l .head .low) (l .head .high)) }
+    pub file-given : Given ranges (l .vars) (l .rows) (l .count)
+    file-given =
+        let legal : Legal script = read-legal file script (loaded .0) (loaded .1) in
+        record { legal = legal; long = sym (loaded .3); few = omega (arith, legal .sizes .0, loaded .2); blank = e .blank z }
 
-      -- the table has its script
-      table-script : held (rowsOf t) (l .head .count) (l .head .vars) (l .head .low) (l .head .high) ≡ loadedScript l
-      unfolding loadedScript
-      table-script = packed-held (l .rows) t (l .head .count) (l .head .vars) (l .head .low) (l .head .high) (k .packed z)
+-- a report that is refused, and one of a file that is judged as its script is
+pub reported-no : {j : Judged} {q p : ℕ} {old : List ℕ} → j ≡ refuses q p → Reported j old old (Reply.Refused q p)
+unfolding replyOf bufferOf
+reported-no e = rw e (record { answer = refl; number = refl; place = refl; buffer = refl })
 
-      pub table-read : judged ones scratch file ≡ judgedScript (held (rowsOf t) (l .head .count) (l .head .vars) (l .head .low) (l .head .high))
-      table-read = file-read ∙ ap judgedScript (sym table-script)
+pub reported-same : {j k : Judged} {old new : List ℕ} {r : Reply} → j ≡ k → (r ≡ replyOf ones k (length old)) × (new ≡ bufferOf ones k old) → Reported j old new r
+reported-same e (a, b) = rw e (record { answer = a; number = ap numberOf a; place = ap placeOf a; buffer = b })
 
-      pub table-given : Given (held (rowsOf t) (l .head .count) (l .head .vars) (l .head .low) (l .head .high)) (l .head .count) (l .head .vars)
-      table-given = subst (λ s. Given s (l .head .count) (l .head .vars)) (sym table-script) file-given
+-- the numbers of an answer that tells a reply
+told-number : (o : Outcome) (reply : RunReply) → Told o reply → verdictNumber (o .verdict) ≡ runNumber reply
+told-number o (ran a cs) t = ap verdictNumber (t .verdict)
+told-number o (RunReply.refuses q p) t = ap verdictNumber (t .verdict)
 
--- demand 3 of this call: from its answer, and from demand 3 of the file
-pub kept-call : (scratch : ℕ) (file : List ℕ) (store : List ℤ) (picks : List ℕ) (allowance : ℕ) (new : List ℤ) (o : Outcome)
-    → Ran (runReply ones (judged ones scratch file) store picks allowance) store new o → KeptCall (judged ones scratch file) store picks allowance o
-kept-call scratch file store picks allowance new o r = record { told = r .told; kept = demand3-call store picks allowance scratch file }
+told-first : (o : Outcome) (reply : RunReply) → Told o reply → firstBy (o .verdict) (o .ending) ≡ runFirst reply
+told-first o (ran a cs) t = λ j. firstBy (t .verdict j) (t .ending j)
+told-first o (RunReply.refuses q p) t = ap (λ v. firstBy v (o .ending)) (t .verdict)
 
--- a refusal
-pub ran-refused : (j : Judged) (q p : ℕ) (store : List ℤ) (picks : List ℕ) (allowance : ℕ) (o : Outcome) → j ≡ refuses q p → ToldNo o q p → Ran (runReply ones j store picks allowance) store store o
-unfolding runReply storeAfter
-ran-refused j q p store picks allowance o e t = rw e (record { told = t; store = refl })
+module _ (scratch : ℕ) (file : List ℕ) {store : List ℤ} {picks : List ℕ} {allowance : ℕ} {o : Outcome} where
+  kept : {new : List ℤ} → Ran (runReply ones (judged ones scratch file) store picks allowance) store new o → KeptCall (judged ones scratch file) store new picks allowance o
+  kept r = record {
+    answer = r;
+    number = told-number o (runReply ones (judged ones scratch file) store picks allowance) (r .told);
+    first = told-first o (runReply ones (judged ones scratch file) store picks allowance) (r .told);
+    demand3 = demand3-call store picks allowance (o .ending) (o .ticks) (take (o .loops) (o .counts)) scratch file (told-says o (runReply ones (judged ones scratch file) store picks allowance) (r .told));
+  }
 
--- a run of a file that is judged as its script is
-pub ran-same : (j k : Judged) (store new : List ℤ) (picks : List ℕ) (allowance : ℕ) (o : Outcome) → j ≡ k → Ran (runReply ones k store picks allowance) store new o → Ran (runReply ones j store picks allowance) store new o
-ran-same j k store new picks allowance o e r = rw e r
+  -- a run that is refused, and one of a file that is judged as its script is
+  pub kept-no : {q p : ℕ} → judged ones scratch file ≡ refuses q p → ToldNo o q p → KeptCall (judged ones scratch file) store store picks allowance o
+  unfolding runReply storeAfter
+  kept-no e t = kept (rw e (record { told = t; store = refl }))
+
+  pub kept-same : {k : Judged} {new : List ℤ} → judged ones scratch file ≡ k → Ran (runReply ones k store picks allowance) store new o → KeptCall (judged ones scratch file) store new picks allowance o
+  kept-same e r = kept (rw e r)

@@ -1,15 +1,62 @@
--- Demand 3, of the answer of one run call.
+-- What the two calls promise.
+use mathlib.Core.Path.{_≡_}
 use mathlib.Core.List.{List}
 use Prim.Native.Nat.{ℕ}
 use lib.IntN.{ℤ}
+use lib.ListN.{length, take}
+use Rattle.rules.specs.declared.Reply.{Reply}
+use Rattle.rules.specs.declared.Reply.the-variants.{Accepted}
+use Rattle.rules.specs.declared.Verdict.{Verdict}
+use Rattle.rules.specs.declared.Verdict.the-variants.{Passed}
+use Rattle.rules.specs.declared.Ending.{Ending}
 use Rattle.rules.specs.Figures.{ones}
-use Rattle.rules.specs.Calls.{Judged, runReply}
+use Rattle.rules.specs.Calls.{Judged, judged, replyOf, bufferOf, RunReply, ran, refuses, runReply, endingNumber}
 use Rattle.rules.specs.Claim.{Demand3Of}
 use Rattle.calls.specs.declared.Outcome.{Outcome}
-use Rattle.calls.specs.Told.{Told}
+use Rattle.calls.specs.Told.{Ran}
 
--- the answer tells document 01's run of this call; and for an accepted file, a store inside its ranges and an allowance of the report's ticks
--- or more, this run keeps within the report: not spent, its ticks, turns and totals at most the report's, exact loops exactly
-pub record KeptCall (judgement : Judged) (store : List ℤ) (picks : List ℕ) (allowance : ℕ) (o : Outcome) : Type 0 where
-  pub told : Told o (runReply ones judgement store picks allowance)
-  pub kept : Demand3Of judgement store picks allowance
+-- the questions 1 to 13 of a call, with document 01's prices
+abbrev pub judgement : List ℕ → List ℕ → Judged
+judgement scratch file = judged ones (length scratch) file
+
+-- a report's answer by document 01's numbers: 0 and the length, or a refusal's number and place
+abbrev pub numberOf : Reply → ℕ
+numberOf (Accepted n) = 0
+numberOf (Reply.Refused q p) = q
+
+abbrev pub placeOf : Reply → ℕ
+placeOf (Accepted n) = n
+placeOf (Reply.Refused q p) = p
+
+-- a run's: 0, or a refusal's number; the ending's number, or a refusal's place
+abbrev pub verdictNumber : Verdict → ℕ
+verdictNumber Passed = 0
+verdictNumber (Verdict.Refused q p) = q
+
+abbrev pub firstBy : Verdict → Ending → ℕ
+firstBy Passed ending = endingNumber ending
+firstBy (Verdict.Refused q p) ending = p
+
+-- what a run call's reply has for them
+abbrev pub runNumber : RunReply → ℕ
+runNumber (ran a counts) = 0
+runNumber (refuses q p) = q
+
+abbrev pub runFirst : RunReply → ℕ
+runFirst (ran a counts) = endingNumber (a .ending)
+runFirst (refuses q p) = p
+
+-- a report call: its answer, also by its numbers, and every byte of the buffer
+pub record Reported (judgement : Judged) (old new : List ℕ) (r : Reply) : Type 0 where
+  pub answer : r ≡ replyOf ones judgement (length old)
+  pub number : numberOf r ≡ numberOf (replyOf ones judgement (length old))
+  pub place : placeOf r ≡ placeOf (replyOf ones judgement (length old))
+  pub buffer : new ≡ bufferOf ones judgement old
+
+-- a run call: its answer, also by its numbers, and the store are document 01's; and for an accepted file, a store inside its ranges and an allowance of the report's ticks
+-- or more, this answer keeps within the report: not spent, its ticks, turns and totals at most the report's, exact loops exactly
+pub record KeptCall (judgement : Judged) (store new : List ℤ) (picks : List ℕ) (allowance : ℕ) (o : Outcome) : Type 0 where
+  pub answer : Ran (runReply ones judgement store picks allowance) store new o
+  pub number : verdictNumber (o .verdict) ≡ runNumber (runReply ones judgement store picks allowance)
+  pub first : firstBy (o .verdict) (o .ending) ≡ runFirst (runReply ones judgement store picks allowance)
+  pub demand3 : Demand3Of judgement store picks allowance (o .ending) (o .ticks) (take (o .loops) (o .counts))

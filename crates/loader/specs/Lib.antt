@@ -1,2 +1,2 @@
--- Demand 3 as the run call's contract states it.
+-- The promises of the two calls.
 pub mod Kept

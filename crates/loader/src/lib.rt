@@ -2,35 +2,36 @@
 use calls::Outcome;
 use reader::load;
 use rules::Reply;
+use rules::Verdict;
 ghost use mathlib.Core.Path.{_≡_};
-ghost use lib.ListN.{length};
-ghost use Rattle.rules.specs.Figures.{ones};
-ghost use Rattle.rules.specs.Calls.{judged, replyOf, bufferOf, runReply};
-ghost use Rattle.calls.specs.Told.{Ran};
-ghost use Rattle.loader.specs.Kept.{KeptCall};
+ghost use Rattle.loader.specs.Kept.{judgement, Reported, KeptCall};
+
+// How many numbers the lent scratch has at least: question 1.
+pub const SCRATCH: usize = 8_192;
+
+// The bytes of the longest report, by `longest-report`: a buffer of that many never meets question 14.
+pub const REPORT: usize = 2_089;
 
 // The report of a file: the questions 1 to 14. Accepted, the report is at the front of the buffer, and the answer is its length. Refused, the
 // buffer is untouched. The scratch is measured, and never touched.
 pub fn report(file: &[u8], scratch: &mut [u32], buffer: &mut [u8]) -> Reply
-    ensures answer { λ r. ⌜ r ≡ replyOf ones (judged ones (length (now (scratch .entry))) (now (file .entry))) (length (now (buffer .entry))) ⌝ }
-    ensures buffer { λ _. ⌜ now (buffer .exit) ≡ bufferOf ones (judged ones (length (now (scratch .entry))) (now (file .entry))) (now (buffer .entry)) ⌝ }
+    ensures answer { λ r. ⌜ Reported (judgement (now (scratch .entry)) (now (file .entry))) (now (buffer .entry)) (now (buffer .exit)) r ⌝ }
     ensures scratch { λ _. ⌜ now (scratch .exit) ≡ now (scratch .entry) ⌝ }
 {
-    if scratch.len() < 8_192 {
-        return Reply::Refused(1, 8_192);
+    if scratch.len() < SCRATCH {
+        return Reply::Refused(1, SCRATCH);
     }
-    let none: [u32; 9] = [0; 9];
-    let mut table = [none; 256];
-    let l = load(file, &mut table);
-    let number = l.number;
-    let place = l.place;
-    if number != 0 {
-        return Reply::Refused(number, place);
+    let none: [i32; 2] = [0; 2];
+    let mut ranges = [none; 16];
+    let l = load(file, &mut ranges);
+    let verdict = l.verdict;
+    match verdict {
+        Verdict::Passed => {
+            let rows = l.rows;
+            calls::report_script(rows, l.count, ranges, l.vars, buffer)
+        }
+        Verdict::Refused(q, p) => Reply::Refused(q, p),
     }
-    let h = l.head;
-    let low = h.low;
-    let high = h.high;
-    calls::report_script(&table, h.count, h.vars, low, high, buffer)
 }
 
 // The run of a file: the questions 1 to 13 and 15. The store is overwritten with the final one; refused, it is untouched. With the ticks of
@@ -42,36 +43,21 @@ pub fn run(
     picks: &[u8],
     allowance: u64,
 ) -> Outcome
-    ensures answer { λ r. ⌜ Ran (runReply ones (judged ones (length (now (scratch .entry))) (now (file .entry))) (now (store .entry)) (now (picks .entry)) allowance) (now (store .entry)) (now (store .exit)) r ⌝ }
-    ensures demand3 { λ r. ⌜ KeptCall (judged ones (length (now (scratch .entry))) (now (file .entry))) (now (store .entry)) (now (picks .entry)) allowance r ⌝ }
+    ensures answer { λ r. ⌜ KeptCall (judgement (now (scratch .entry)) (now (file .entry))) (now (store .entry)) (now (store .exit)) (now (picks .entry)) allowance r ⌝ }
     ensures scratch { λ _. ⌜ now (scratch .exit) ≡ now (scratch .entry) ⌝ }
 {
-    if scratch.len() < 8_192 {
-        return calls::refusal(1, 8_192);
+    if scratch.len() < SCRATCH {
+        return calls::refusal(1, SCRATCH);
     }
-    let none: [u32; 9] = [0; 9];
-    let mut table = [none; 256];
-    let l = load(file, &mut table);
-    let number = l.number;
-    let place = l.place;
-    if number != 0 {
-        return calls::refusal(number, place);
+    let none: [i32; 2] = [0; 2];
+    let mut ranges = [none; 16];
+    let l = load(file, &mut ranges);
+    let verdict = l.verdict;
+    match verdict {
+        Verdict::Passed => {
+            let rows = l.rows;
+            calls::run_script(rows, l.count, ranges, l.vars, store, picks, allowance)
+        }
+        Verdict::Refused(q, p) => calls::refusal(q, p),
     }
-    let rows = l.rows;
-    let h = l.head;
-    let low = h.low;
-    let high = h.high;
-    let count = h.count;
-    let vars = h.vars;
-    calls::run_script(
-        &table,
-        rows,
-        count,
-        vars,
-        low,
-        high,
-        store,
-        picks,
-        allowance,
-    )
 }

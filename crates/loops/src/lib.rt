@@ -1,25 +1,34 @@
-// The loops of a script in row order, with their turns.
+// The loops of a script in row order, with their two counts.
+use rules::ALL;
 use rules::Kind;
+use rules::LoopCount;
+use rules::MOST;
 use rules::Row;
 ghost use mathlib.Core.Path.{_≡_};
 ghost use mathlib.Core.Bool.{true};
 ghost use Prim.Native.Nat.{_<_};
 ghost use lib.ListN.{take};
-ghost use Rattle.rules.specs.Blocks.{kindsOf};
+ghost use Rattle.rules.specs.Blocks.{viewOf, kindsOf};
+ghost use Rattle.rules.specs.RowMachine.{tallyOf};
 ghost use Rattle.rules.specs.Calls.{isLoop};
 ghost use Rattle.loops.specs.Loops.{withRow, Listable, Listed};
 
-// At most 16 loops: their head rows, all turns, and the most in one entry.
+// What stands past the last loop.
+pub const NO_COUNT: LoopCount = LoopCount {
+    row: 0,
+    all: 0,
+    most: 0,
+};
+
+// At most 16 loops, with their counts in row order.
 pub struct Loops {
     pub count: usize,
-    pub rows: [u64; 16],
-    pub all: [u64; 16],
-    pub most: [u64; 16],
+    pub counts: [LoopCount; 16],
 }
 
 // Does a row begin a loop?
 fn is_loop(kind: Kind) -> bool
-    ensures { λ r. ⌜ r ≡ isLoop kind ⌝ }
+    ensures { λ r. ⌜ r ≡ isLoop (viewOf kind) ⌝ }
 {
     match kind {
         Kind::End => false,
@@ -34,40 +43,42 @@ fn is_loop(kind: Kind) -> bool
     }
 }
 
-// One row more: a loop's head is listed with its turns.
+// One row more: a loop's head is listed with its counts.
 fn with_row(loops: Loops, kind: Kind, row: usize, all: u64, most: u64) -> Loops
-    requires { ⌜ (isLoop kind ≡ true → loops .count < 16) ⌝ }
-    ensures { λ r. ⌜ r ≡ withRow (isLoop kind) row all most loops ⌝ }
+    requires { ⌜ (isLoop (viewOf kind) ≡ true → loops .count < 16) ⌝ }
+    ensures { λ r. ⌜ r ≡ withRow (isLoop (viewOf kind)) row all most loops ⌝ }
 {
     if is_loop(kind) {
         let at = loops.count;
-        let mut next = loops;
-        next.rows[at] = row as u64;
-        next.all[at] = all;
-        next.most[at] = most;
-        next.count = at + 1;
-        next
-    } else {
-        loops
+        let mut counts = loops.counts;
+        counts[at] = LoopCount {
+            row: row,
+            all: all,
+            most: most,
+        };
+        return Loops {
+            count: at + 1,
+            counts: counts,
+        };
     }
+    loops
 }
 
 // The loops of the first `count` rows, with the counts by row.
-pub fn loops_of(rows: [Row; 256], count: usize, all: &[u64], most: &[u64]) -> Loops
-    requires { ⌜ Listable rows count (now all) (now most) ⌝ }
-    ensures { λ r. ⌜ Listed (take count (kindsOf rows)) (now (all .entry)) (now (most .entry)) r ⌝ }
+pub fn loops_of(rows: [Row; 256], count: usize, counts: &[[u64; 3]; 256]) -> Loops
+    requires { ⌜ Listable rows count ⌝ }
+    ensures { λ r. ⌜ Listed (take count (kindsOf rows)) (tallyOf (now (counts .entry))) r ⌝ }
 {
+    let none = [NO_COUNT; 16];
     let mut loops = Loops {
         count: 0,
-        rows: [0; 16],
-        all: [0; 16],
-        most: [0; 16],
+        counts: none,
     };
     let mut j = 0;
     while j < count {
         let row = rows[j];
         let kind = row.kind;
-        loops = with_row(loops, kind, j, all[j], most[j]);
+        loops = with_row(loops, kind, j, counts[j][ALL], counts[j][MOST]);
         j += 1;
     }
     loops

@@ -1,15 +1,18 @@
-// The run of a script as a machine over its rows: one row a step. It stops before any tick that is not left, and goes on from there.
+// The run of a script as a machine over its rows: one row a step. It is over before any tick that is not left.
 use actions::Machine;
 use rules::Comparison;
 use rules::Kind;
 use rules::Operand;
 use rules::Row;
+ghost use mathlib.Core.Path.{_≡_};
 ghost use mathlib.Core.List.{List};
 ghost use Prim.Native.Nat.{ℕ};
 ghost use lib.ListN.{length};
 ghost use Rattle.rules.specs.declared.Kind.{Kind};
 ghost use Rattle.rules.specs.Scripts.{OperandBelow};
-ghost use Rattle.actions.specs.States.{endTo, forTo, rowTo, phaseOf, tallyOf, Acts, Steps, Testable, Doable, Fitting};
+ghost use Rattle.rules.specs.Blocks.{viewOf};
+ghost use Rattle.rules.specs.RowMachine.{tallyOf};
+ghost use Rattle.actions.specs.States.{endTo, forTo, rowTo, phaseOf, Acts, Steps, Testable, Doable, Fitting};
 
 // The `end` of the block that row h begins: a loop's step, if it is a for that has not stepped yet, and its test.
 fn end_row(
@@ -17,12 +20,10 @@ fn end_row(
     head: Row,
     h: usize,
     store: &mut [i32],
-    turns: &mut [u64],
-    all: &mut [u64],
-    most: &mut [u64],
+    counts: &mut [[u64; 3]; 256],
 ) -> Machine
-    requires { ⌜ Doable (m .row) h (head .kind) (now store) (now turns) (now all) (now most) ⌝ }
-    ensures { λ r. ⌜ ((rows : List Kind) (shut opener : ℕ → ℕ) → Acts m r (now (store .entry)) (now (store .exit)) (tallyOf (now (turns .entry)) (now (all .entry)) (now (most .entry))) (tallyOf (now (turns .exit)) (now (all .exit)) (now (most .exit))) (endTo rows shut opener (head .kind) h (m .row) (phaseOf (m .testing)))) ⌝ }
+    requires { ⌜ Doable (m .row) h (head .kind) (now store) (now counts) ⌝ }
+    ensures { λ r. ⌜ (((rows : List Kind) (shut opener : ℕ → ℕ) → Acts m r (now (store .entry)) (now (store .exit)) (tallyOf (now (counts .entry))) (tallyOf (now (counts .exit))) (endTo rows shut opener (viewOf (head .kind)) h (m .row) (phaseOf (m .testing)))) × (length (now (counts .exit)) ≡ 256)) ⌝ }
 {
     let kind = head.kind;
     let e = m.row;
@@ -33,15 +34,15 @@ fn end_row(
         Kind::Set(_, _) => actions::on(m, m.left, e + 1, false),
         Kind::Move(_, _) => actions::on(m, m.left, e + 1, false),
         Kind::Cue(_) => actions::on(m, m.left, e + 1, false),
-        Kind::While(v, c, x) => actions::test_row(m, h, e, v, c, x, store, turns, all, most),
-        Kind::Do(v, c, x) => actions::test_row(m, h, e, v, c, x, store, turns, all, most),
+        Kind::While(v, c, x) => actions::test_row(m, h, e, v, c, x, store, counts),
+        Kind::Do(v, c, x) => actions::test_row(m, h, e, v, c, x, store, counts),
         Kind::For(v, _, c, x, change) => {
             if m.testing {
-                actions::test_row(m, h, e, v, c, x, store, turns, all, most)
+                actions::test_row(m, h, e, v, c, x, store, counts)
             } else {
                 let n = actions::move_row(m, h, v, change, e, true, store);
                 if actions::waits(n) {
-                    actions::test_row(n, h, e, v, c, x, store, turns, all, most)
+                    actions::test_row(n, h, e, v, c, x, store, counts)
                 } else {
                     n
                 }
@@ -59,21 +60,19 @@ fn for_row(
     c: Comparison,
     x: Operand,
     store: &mut [i32],
-    turns: &mut [u64],
-    all: &mut [u64],
-    most: &mut [u64],
+    counts: &mut [[u64; 3]; 256],
 ) -> Machine
-    requires { ⌜ Testable (m .row) e v x (now store) (now turns) (now all) (now most) × OperandBelow (length (now store)) y ⌝ }
-    ensures { λ r. ⌜ Acts m r (now (store .entry)) (now (store .exit)) (tallyOf (now (turns .entry)) (now (all .entry)) (now (most .entry))) (tallyOf (now (turns .exit)) (now (all .exit)) (now (most .exit))) (forTo (m .row) e v y c x (m .testing)) ⌝ }
+    requires { ⌜ Testable (m .row) e v x (now store) (now counts) × OperandBelow (length (now store)) y ⌝ }
+    ensures { λ r. ⌜ Acts m r (now (store .entry)) (now (store .exit)) (tallyOf (now (counts .entry))) (tallyOf (now (counts .exit))) (forTo (m .row) e v y c x (m .testing)) × (length (now (counts .exit)) ≡ 256) ⌝ }
 {
     let h = m.row;
     if m.testing {
-        return actions::test_row(m, h, e, v, c, x, store, turns, all, most);
+        return actions::test_row(m, h, e, v, c, x, store, counts);
     }
-    turns[h] = 0;
+    actions::begin(h, counts);
     let n = actions::set_row(m, h, v, y, h, true, store);
     if actions::waits(n) {
-        actions::test_row(n, h, e, v, c, x, store, turns, all, most)
+        actions::test_row(n, h, e, v, c, x, store, counts)
     } else {
         n
     }
@@ -88,30 +87,29 @@ pub fn step(
     h: usize,
     store: &mut [i32],
     picks: &[u8],
-    turns: &mut [u64],
-    all: &mut [u64],
-    most: &mut [u64],
+    counts: &mut [[u64; 3]; 256],
 ) -> Machine
-    requires { ⌜ Doable e (m .row) (row .kind) (now store) (now turns) (now all) (now most) × Doable (m .row) h (head .kind) (now store) (now turns) (now all) (now most) ⌝ }
-    ensures { λ r. ⌜ ((rows : List Kind) (shut opener : ℕ → ℕ) → Fitting rows shut opener (m .row) e h (head .kind) → Steps m r (now (store .entry)) (now (store .exit)) (now (picks .entry)) (tallyOf (now (turns .entry)) (now (all .entry)) (now (most .entry))) (tallyOf (now (turns .exit)) (now (all .exit)) (now (most .exit))) (rowTo rows shut opener (row .kind) (m .row) (phaseOf (m .testing)))) ⌝ }
+    requires { ⌜ Doable e (m .row) (row .kind) (now store) (now counts) × Doable (m .row) h (head .kind) (now store) (now counts) ⌝ }
+    ensures { λ r. ⌜ (((rows : List Kind) (shut opener : ℕ → ℕ) → Fitting rows shut opener (m .row) e h (viewOf (head .kind)) → Steps m r (now (store .entry)) (now (store .exit)) (now (picks .entry)) (tallyOf (now (counts .entry))) (tallyOf (now (counts .exit))) (rowTo rows shut opener (viewOf (row .kind)) (m .row) (phaseOf (m .testing)))) × (length (now (counts .exit)) ≡ 256)) ⌝ }
 {
     let kind = row.kind;
     let i = m.row;
     match kind {
-        Kind::End => end_row(m, head, h, store, turns, all, most),
+        Kind::End => end_row(m, head, h, store, counts),
         Kind::Else => actions::on(m, m.left, e + 1, false),
         Kind::Pick => actions::pick_row(m, e + 1, picks),
         Kind::Set(v, x) => actions::set_row(m, i, v, x, i + 1, false, store),
         Kind::Move(v, change) => actions::move_row(m, i, v, change, i + 1, false, store),
         Kind::Cue(_) => actions::cue_row(m),
         Kind::While(v, c, x) => {
-            turns[i] = 0;
-            actions::test_row(m, i, e, v, c, x, store, turns, all, most)
+            actions::begin(i, counts);
+            actions::test_row(m, i, e, v, c, x, store, counts)
         }
         Kind::Do(_, _, _) => {
-            actions::enter(i, 1, turns, all, most);
+            actions::begin(i, counts);
+            actions::count_turn(i, counts);
             actions::on(m, m.left, i + 1, false)
         }
-        Kind::For(v, y, c, x, _) => for_row(m, e, v, y, c, x, store, turns, all, most),
+        Kind::For(v, y, c, x, _) => for_row(m, e, v, y, c, x, store, counts),
     }
 }

@@ -2,11 +2,29 @@
 use rules::Kind;
 ghost use mathlib.Core.Path.{_≡_};
 ghost use Prim.Native.Nat.{ℕ, _+_, _≤_, _<_};
+ghost use Rattle.rules.specs.Blocks.{viewOf};
 ghost use Rattle.rules.specs.Nesting.{nestRow, in-loop, in-pick};
 ghost use Rattle.rules.specs.Nesting.{opens as opensBlock, elses, ends as endsBlock};
 ghost use Rattle.nesting.specs.Open.{nestOf, nestedOf, Shallow};
 
-// The open blocks: 1 a loop, 2 a pick, 3 a pick after its else; and the loops so far.
+// What an open block is: a loop, a pick before its else, a pick after it.
+const LOOP: u8 = 1;
+
+const PICK: u8 = 2;
+
+const AFTER_ELSE: u8 = 3;
+
+// Two of the questions.
+const BLOCKS_FIT: u32 = 6;
+
+const DEPTH: u32 = 7;
+
+// The most blocks open at once, and the most loops of a file: question 7.
+const DEEPEST: usize = 8;
+
+const MOST_LOOPS: usize = 16;
+
+// The open blocks, and the loops so far.
 pub struct Blocks {
     pub kinds: [u8; 8],
     pub depth: usize,
@@ -26,9 +44,9 @@ fn open_loop(b: Blocks) -> Placed
     let depth = b.depth;
     let loops = b.loops;
     let mut kinds = b.kinds;
-    if depth < 8 {
-        if loops < 16 {
-            kinds[depth] = 1;
+    if depth < DEEPEST {
+        if loops < MOST_LOOPS {
+            kinds[depth] = LOOP;
             return Placed {
                 number: 0,
                 blocks: Blocks {
@@ -39,12 +57,12 @@ fn open_loop(b: Blocks) -> Placed
             };
         }
         return Placed {
-            number: 7,
+            number: DEPTH,
             blocks: b,
         };
     }
     Placed {
-        number: 7,
+        number: DEPTH,
         blocks: b,
     }
 }
@@ -56,8 +74,8 @@ fn open_pick(b: Blocks) -> Placed
     let depth = b.depth;
     let loops = b.loops;
     let mut kinds = b.kinds;
-    if depth < 8 {
-        kinds[depth] = 2;
+    if depth < DEEPEST {
+        kinds[depth] = PICK;
         return Placed {
             number: 0,
             blocks: Blocks {
@@ -68,7 +86,7 @@ fn open_pick(b: Blocks) -> Placed
         };
     }
     Placed {
-        number: 7,
+        number: DEPTH,
         blocks: b,
     }
 }
@@ -82,12 +100,12 @@ fn else_part(b: Blocks) -> Placed
     let mut kinds = b.kinds;
     if depth == 0 {
         return Placed {
-            number: 6,
+            number: BLOCKS_FIT,
             blocks: b,
         };
     }
-    if kinds[depth - 1] == 2 {
-        kinds[depth - 1] = 3;
+    if kinds[depth - 1] == PICK {
+        kinds[depth - 1] = AFTER_ELSE;
         return Placed {
             number: 0,
             blocks: Blocks {
@@ -98,7 +116,7 @@ fn else_part(b: Blocks) -> Placed
         };
     }
     Placed {
-        number: 6,
+        number: BLOCKS_FIT,
         blocks: b,
     }
 }
@@ -112,7 +130,7 @@ fn end_block(b: Blocks) -> Placed
     let kinds = b.kinds;
     if depth == 0 {
         return Placed {
-            number: 6,
+            number: BLOCKS_FIT,
             blocks: b,
         };
     }
@@ -129,7 +147,7 @@ fn end_block(b: Blocks) -> Placed
 // Questions 6 and 7 of a row.
 pub fn nest_row(kind: Kind, b: Blocks) -> Placed
     requires { ⌜ Shallow b ⌝ }
-    ensures { λ r. ⌜ (nestedOf r ≡ nestRow kind (nestOf b)) × Shallow (r .blocks) ⌝ }
+    ensures { λ r. ⌜ (nestedOf r ≡ nestRow (viewOf kind) (nestOf b)) × Shallow (r .blocks) ⌝ }
 {
     match kind {
         Kind::End => end_block(b),

@@ -34,19 +34,19 @@ fn letters(label: Label) -> [u8; 7]
     ensures { λ r. ⌜ take (length (labelText label)) r ≡ labelText label ⌝ }
 {
     match label {
-        Label::Report => [114, 101, 112, 111, 114, 116, 61],
-        Label::Rows => [114, 111, 119, 115, 61, 0, 0],
-        Label::Loops => [108, 111, 111, 112, 115, 61, 0],
-        Label::Loop => [108, 111, 111, 112, 61, 0, 0],
-        Label::Ticks => [116, 105, 99, 107, 115, 61, 0],
-        Label::Space => [32, 0, 0, 0, 0, 0, 0],
-        Label::Newline => [10, 0, 0, 0, 0, 0, 0],
-        Label::Minus => [45, 0, 0, 0, 0, 0, 0],
-        Label::Add => [97, 100, 100, 0, 0, 0, 0],
-        Label::Grow => [103, 114, 111, 119, 0, 0, 0],
-        Label::Shrink => [115, 104, 114, 105, 110, 107, 0],
-        Label::Exact => [101, 120, 97, 99, 116, 0, 0],
-        Label::Most => [109, 111, 115, 116, 0, 0, 0],
+        Label::Report => [b'r', b'e', b'p', b'o', b'r', b't', b'='],
+        Label::Rows => [b'r', b'o', b'w', b's', b'=', 0, 0],
+        Label::Loops => [b'l', b'o', b'o', b'p', b's', b'=', 0],
+        Label::Loop => [b'l', b'o', b'o', b'p', b'=', 0, 0],
+        Label::Ticks => [b't', b'i', b'c', b'k', b's', b'=', 0],
+        Label::Space => [b' ', 0, 0, 0, 0, 0, 0],
+        Label::Newline => [b'\n', 0, 0, 0, 0, 0, 0],
+        Label::Minus => [b'-', 0, 0, 0, 0, 0, 0],
+        Label::Add => [b'a', b'd', b'd', 0, 0, 0, 0],
+        Label::Grow => [b'g', b'r', b'o', b'w', 0, 0, 0],
+        Label::Shrink => [b's', b'h', b'r', b'i', b'n', b'k', 0],
+        Label::Exact => [b'e', b'x', b'a', b'c', b't', 0, 0],
+        Label::Most => [b'm', b'o', b's', b't', 0, 0, 0],
     }
 }
 

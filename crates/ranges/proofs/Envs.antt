@@ -14,13 +14,16 @@ use Rattle.ints.specs.Ints.{minZ, maxZ}
 use Rattle.rules.specs.Ranges.{Range, Env, bounds, join, afterRow, sourceRange}
 use Rattle.rules.specs.declared.Change.{Change}
 use Rattle.rules.specs.declared.Operand.{Operand}
-use Rattle.rules.specs.declared.Kind.{Kind}
-use Rattle.rules.specs.declared.Kind.the-variants.{Set, Move}
-use Rattle.table.specs.Code.{number, numbersAt, kindAt, rowsOf}
-use Rattle.table.proofs.Laws.{kind-in, by-tag}
-use Rattle.steps.specs.declared.Shape.{Shape}
-use Rattle.steps.specs.Tree.{shapeOf, plainOf}
-use Rattle.ranges.specs.Env.{envOf, upTo, joinRange, changedRange}
+use Rattle.rules.specs.Blocks.{viewOf}
+use types.Run.{OneOf, miss}
+use denote.Enum.Declared.{tagOf}
+use Rattle.table.specs.declared.Shape.{Shape}
+use Rattle.table.specs.declared.Tag.{Tag}
+use Rattle.table.specs.Code.{kindBy, variableIn, startIn, stepIn}
+use Rattle.table.specs.Shapes.{shapeOf, plainOf}
+use Rattle.table.proofs.Tag.{the-type}
+use Rattle.trips.specs.Env.{envOf}
+use Rattle.ranges.specs.Env.{upTo, joinRange, changedRange}
 
 abbrev two : ℤ → ℤ → List ℤ
 two lo hi = lo ∷ (hi ∷ [])
@@ -85,19 +88,27 @@ module _ (a b : List (List ℤ)) where
   unfolding join minZ maxZ
   join-far p q w h = rw (env-far a w (omega arith), env-far b w (omega arith))
 
--- a plain row: a set, a change, any other
-module _ (ρ : Env) {k : Kind} where
-  pub after-set : {v w : ℕ} {x y : Operand} {s : Range} → k ≡ Set w y → v ≡ w → x ≡ y → s ≡ bounds ρ x → put ρ v s ≡ afterRow ρ (plainOf k)
-  unfolding afterRow sourceRange
-  after-set e p q r = rw (e, r, p, q)
+-- a plain row by its tag: a set, a change, any other
+module _ (ρ : Env) (e : List ℕ) where
+  pub after-set : {v : ℕ} {x : Operand} {s : Range} → v ≡ variableIn e → x ≡ startIn e → s ≡ bounds ρ x → put ρ v s ≡ afterRow ρ (plainOf (kindBy Tag.Set e))
+  unfolding afterRow sourceRange kindBy viewOf
+  after-set p q r = rw (r, p, q)
 
-  pub after-move : {v w : ℕ} {c d : Change} {s x : Range} → k ≡ Move w d → v ≡ w → c ≡ d → s ≡ ρ v → x ≡ changedRange c s → put ρ v x ≡ afterRow ρ (plainOf k)
-  unfolding afterRow sourceRange changedRange
-  after-move e p q r u = rw (e, u, r, p, q)
+  pub after-move : {v : ℕ} {c : Change} {s x : Range} → v ≡ variableIn e → c ≡ stepIn e → s ≡ ρ v → x ≡ changedRange c s → put ρ v x ≡ afterRow ρ (plainOf (kindBy Tag.Move e))
+  unfolding afterRow sourceRange changedRange kindBy viewOf
+  after-move p q r u = rw (u, r, p, q)
 
-pub after-other : (ρ : Env) (t : List (List ℕ)) (i : ℕ) → (number (numbersAt t i) 0 ≡ 3 → ⊥) → (number (numbersAt t i) 0 ≡ 4 → ⊥) → shapeOf (kindAt (rowsOf t) i) ≡ Shape.Plain → ρ ≡ afterRow ρ (plainOf (kindAt (rowsOf t) i))
-unfolding afterRow
-after-other ρ t i =
-    rw (kind-in t i)
-    (by-tag (numbersAt t i) (λ n k. (n ≡ 3 → ⊥) → (n ≡ 4 → ⊥) → shapeOf k ≡ Shape.Plain → ρ ≡ afterRow ρ (plainOf k)) (λ a b h. refl) (λ a b h. refl) (λ a b h. refl) (λ a b h. absurd (a refl)) (λ a b h. absurd (b refl)) (λ a b h. refl) (λ a b h. refl) (λ a b h. refl)
-    (λ n l a b h. let z : _≡_ {A = ℕ} 0 1 = cc in absurd (omega arith)))
+  abbrev other : List ℕ
+  other = 0 ∷ 1 ∷ 2 ∷ 5 ∷ 6 ∷ 7 ∷ 8 ∷ []
+
+  pub after-other : (g : Tag) → OneOf other (tagOf the-type g) → shapeOf (kindBy g e) ≡ Shape.Plain → ρ ≡ afterRow ρ (plainOf (kindBy g e))
+  unfolding afterRow kindBy viewOf
+  after-other Tag.End o h = refl
+  after-other Tag.Else o h = refl
+  after-other Tag.Pick o h = refl
+  after-other Tag.Set o h = absurd (miss other 3 tt o)
+  after-other Tag.Move o h = absurd (miss other 4 tt o)
+  after-other Tag.Cue o h = refl
+  after-other Tag.While o h = refl
+  after-other Tag.Do o h = refl
+  after-other Tag.For o h = absurd (let z : _≡_ {A = ℕ} 0 1 = cc in omega arith)

@@ -2,18 +2,23 @@
 use rules::Change;
 use rules::Comparison;
 use rules::Kind;
-use rules::Operand;
 use rules::Step;
-use steps::Shape;
-use steps::body_moves;
 use steps::has;
-use steps::past_else;
-use steps::shape_at;
+use table::Shape;
+use table::Tag;
 use table::change_at;
 use table::kind_at;
 use table::operand_at;
+use table::past_else;
+use table::shape_at;
 use table::tag_at;
 use table::variable_at;
+use trips::Loop;
+use trips::Span;
+use trips::Trip;
+use trips::bounds;
+use trips::loop_at;
+use trips::span_at;
 use values::changed;
 ghost use mathlib.Core.Path.{_≡_};
 ghost use mathlib.Core.Bool.{cond};
@@ -22,32 +27,17 @@ ghost use Prim.Native.Nat.{_+_, _<_};
 ghost use lib.ListN.{length};
 ghost use Rattle.ints.specs.Ints.{minZ, maxZ, drawn};
 ghost use Rattle.rules.specs.Values.{lowest, highest, put, applied};
-ghost use Rattle.rules.specs.Blocks.{Form};
-ghost use Rattle.rules.specs.Ranges.{bounds, join, full, afterRow, atStart, edge, sort, isDo, insideRange, byStep, outsideRange, after};
-ghost use Rattle.rules.specs.Bounds.{Fine, FineOperand, FineChange};
+ghost use Rattle.rules.specs.Ranges.{join, full, afterRow, atStart, edge, sort, insideRange, byStep, outsideRange};
+ghost use Rattle.rules.specs.Trips.{innerOf, outerOf, after};
+ghost use Rattle.rules.specs.Bounds.{Fine, FineChange};
 ghost use Rattle.table.specs.Code.{kindAt, rowsOf};
-ghost use Rattle.steps.specs.Tree.{shapeOf, plainOf, formOf, testOf, Ready, Walked};
+ghost use Rattle.table.specs.Shapes.{shapeOf, plainOf};
+ghost use Rattle.steps.specs.Tree.{formOf, testOf, Ready, Walked};
 ghost use Rattle.steps.specs.Sets.{setOf};
 ghost use Rattle.steps.specs.Body.{AtLoop};
-ghost use Rattle.ranges.specs.Env.{EnvIs, envOf, rangeOf, joinRange, changedRange, widenedEnv, HeadOf, InsideOf, OutsideOf, AfterLoop};
-
-// A pair of ends.
-pub struct Span {
-    pub lo: i32,
-    pub hi: i32,
-}
-
-// The range of v.
-pub fn span_at(r: &[[i32; 2]; 16], v: u8) -> Span
-    requires { ⌜ v < 16 ⌝ }
-    ensures { λ s. ⌜ rangeOf s ≡ envOf (now (r .entry)) v ⌝ }
-{
-    let i = v as usize;
-    Span {
-        lo: r[i][0],
-        hi: r[i][1],
-    }
-}
+ghost use Rattle.trips.specs.Env.{envOf, rangeOf};
+ghost use Rattle.trips.specs.Found.{tripOf};
+ghost use Rattle.ranges.specs.Env.{EnvIs, joinRange, changedRange, widenedEnv, widened, AfterLoop};
 
 // s for v; the other ranges stay.
 fn put(r: &mut [[i32; 2]; 16], v: u8, s: Span)
@@ -58,17 +48,6 @@ fn put(r: &mut [[i32; 2]; 16], v: u8, s: Span)
     let hi = s.hi;
     let i = v as usize;
     r[i] = [lo, hi];
-}
-
-// An operand's range.
-pub fn bounds(r: &[[i32; 2]; 16], x: Operand) -> Span
-    requires { ⌜ FineOperand x ⌝ }
-    ensures { λ s. ⌜ rangeOf s ≡ bounds (envOf (now (r .entry))) x ⌝ }
-{
-    match x {
-        Operand::Constant(k) => Span { lo: k, hi: k },
-        Operand::Variable(w) => span_at(r, w),
-    }
 }
 
 fn lower(a: i32, b: i32) -> i32
@@ -137,19 +116,22 @@ fn changed_span(s: Span, change: Change) -> Span
     }
 }
 
-// The ranges after the plain row i: a set has the tag 3, a change 4.
+// The ranges after the plain row i.
 pub fn step_row(r: &mut [[i32; 2]; 16], rows: &[[u32; 9]; 256], i: usize)
     requires { ⌜ (i < 256) × Fine (kindAt (rowsOf (now rows)) i) × (shapeOf (kindAt (rowsOf (now rows)) i) ≡ Shape.Plain) × (length (now r) ≡ 16) ⌝ }
     ensures { λ _. ⌜ EnvIs (now (r .exit)) (afterRow (envOf (now (r .entry))) (plainOf (kindAt (rowsOf (now (rows .entry))) i))) ⌝ }
 {
-    let t = tag_at(rows, i);
-    let v = variable_at(rows, i);
-    if t == 3 {
-        let s = bounds(r, operand_at(rows, i));
-        put(r, v, s);
-    } else if t == 4 {
-        let s = changed_span(span_at(r, v), change_at(rows, i));
-        put(r, v, s);
+    match tag_at(rows, i) {
+        Tag::Set => {
+            let s = bounds(r, operand_at(rows, i));
+            put(r, variable_at(rows, i), s);
+        }
+        Tag::Move => {
+            let v = variable_at(rows, i);
+            let s = changed_span(span_at(r, v), change_at(rows, i));
+            put(r, v, s);
+        }
+        _ => {}
     }
 }
 
@@ -167,79 +149,31 @@ pub fn at_start(r: &mut [[i32; 2]; 16], kind: Kind)
     }
 }
 
-// The test of a loop.
-pub struct Head {
-    pub tested: u8,
-    pub comparison: Comparison,
-    pub limit: Operand,
-}
-
-// The test of a loop's head; any other row gives what is not read.
-pub fn head_of(kind: Kind) -> Head
-    requires { ⌜ Fine kind ⌝ }
-    ensures { λ r. ⌜ HeadOf kind r ⌝ }
-{
-    match kind {
-        Kind::While(v, c, x) => Head {
-            tested: v,
-            comparison: c,
-            limit: x,
-        },
-        Kind::Do(v, c, x) => Head {
-            tested: v,
-            comparison: c,
-            limit: x,
-        },
-        Kind::For(v, _, c, x, _) => Head {
-            tested: v,
-            comparison: c,
-            limit: x,
-        },
-        _ => NO_HEAD,
-    }
-}
-
-const NO_HEAD: Head = Head {
-    tested: 0,
-    comparison: Comparison::Less,
-    limit: Operand::Constant(0),
-};
-
 const FULL: Span = Span {
     lo: -1_000_000_000,
     hi: 1_000_000_000,
 };
 
 // One variable over a loop: its own range for the tested one, all for what the body assigns, else as before.
-fn chosen(changes: bool, own: bool, mine: Span, old: Span) -> Span
-    ensures { λ r. ⌜ rangeOf r ≡ cond changes (cond own (rangeOf mine) full) (rangeOf old) ⌝ }
+fn chosen(own: bool, changes: bool, mine: Span, old: Span) -> Span
+    ensures { λ r. ⌜ rangeOf r ≡ cond own (rangeOf mine) (cond changes full (rangeOf old)) ⌝ }
 {
-    if changes {
-        if own { mine } else { FULL }
+    if own {
+        mine
     } else {
-        old
+        if changes { FULL } else { old }
     }
 }
 
 // Over a loop whose body assigns a set of variables, with its tested variable's range.
 fn widen(r: &mut [[i32; 2]; 16], set: [bool; 16], mine: Span, v: u8)
-    requires { ⌜ length (now r) ≡ 16 ⌝ }
+    requires { ⌜ (v < 16) × (length (now r) ≡ 16) ⌝ }
     ensures { λ _. ⌜ EnvIs (now (r .exit)) (widenedEnv (setOf set) (rangeOf mine) v (envOf (now (r .entry)))) ⌝ }
 {
     for w in 0..16 {
         let old = span_at(r, w);
-        let s = chosen(has(set, w), w == v, mine, old);
+        let s = chosen(w == v, has(set, w), mine, old);
         put(r, w, s);
-    }
-}
-
-// A do is tested after its body.
-pub fn is_do(kind: Kind) -> bool
-    ensures { λ r. ⌜ r ≡ isDo (formOf kind) ⌝ }
-{
-    match kind {
-        Kind::Do(_, _, _) => true,
-        _ => false,
     }
 }
 
@@ -265,7 +199,7 @@ fn above(t: i32, m: i32) -> i32
 
 // The tested variable's range at the body's start: s its start range, n the limit's.
 fn inside_span(late: bool, comparison: Comparison, s: Span, n: Span) -> Span
-    ensures { λ r. ⌜ ((form : Form) → late ≡ isDo form → rangeOf r ≡ insideRange form (sort comparison) (rangeOf s) (edge comparison (rangeOf n))) ⌝ }
+    ensures { λ r. ⌜ rangeOf r ≡ insideRange late (sort comparison) (rangeOf s) (edge comparison (rangeOf n)) ⌝ }
 {
     match comparison {
         Comparison::Less => Span {
@@ -289,18 +223,28 @@ fn inside_span(late: bool, comparison: Comparison, s: Span, n: Span) -> Span
     }
 }
 
-// From the ranges at a loop's start to those at its body's start, by the variables that the body assigns.
-pub fn inside(r: &mut [[i32; 2]; 16], kind: Kind, set: [bool; 16])
-    requires { ⌜ Fine kind × (length (now r) ≡ 16) ⌝ }
-    ensures { λ _. ⌜ InsideOf kind (setOf set) (envOf (now (r .entry))) (now (r .exit)) ⌝ }
+// The tested variable of a trip at the body's start.
+fn inner(trip: Trip) -> Span
+    ensures { λ r. ⌜ rangeOf r ≡ innerOf (tripOf trip) ⌝ }
 {
-    let head = head_of(kind);
-    let v = head.tested;
-    let comparison = head.comparison;
-    let limit = head.limit;
-    let s = span_at(r, v);
-    let n = bounds(r, limit);
-    let mine = inside_span(is_do(kind), comparison, s, n);
+    if trip.free {
+        return FULL;
+    }
+    let comparison = trip.comparison;
+    let start = trip.start;
+    let limit = trip.limit;
+    inside_span(trip.late, comparison, start, limit)
+}
+
+// From the ranges at a loop's start to those at its body's start.
+pub fn inside(r: &mut [[i32; 2]; 16], one: Loop)
+    requires { ⌜ (one .tested < 16) × (length (now r) ≡ 16) ⌝ }
+    ensures { λ _. ⌜ EnvIs (now (r .exit)) (widened one (innerOf (tripOf (one .trip))) (envOf (now (r .entry)))) ⌝ }
+{
+    let trip = one.trip;
+    let set = one.set;
+    let v = one.tested;
+    let mine = inner(trip);
     widen(r, set, mine, v);
 }
 
@@ -348,15 +292,28 @@ fn outside_span(step: Step, comparison: Comparison, s: Span) -> Span
     }
 }
 
-// From the ranges at a loop's start to those after it, by the variables that its body assigns and the tested variable's step.
-pub fn outside(r: &mut [[i32; 2]; 16], kind: Kind, set: [bool; 16], step: Step)
-    requires { ⌜ Fine kind × (length (now r) ≡ 16) ⌝ }
-    ensures { λ _. ⌜ OutsideOf kind (setOf set) step (envOf (now (r .entry))) (now (r .exit)) ⌝ }
+// The tested variable of a trip after the loop.
+fn outer(trip: Trip) -> Span
+    ensures { λ r. ⌜ rangeOf r ≡ outerOf (tripOf trip) ⌝ }
 {
-    let head = head_of(kind);
-    let v = head.tested;
-    let comparison = head.comparison;
-    let mine = outside_span(step, comparison, span_at(r, v));
+    if trip.free {
+        return FULL;
+    }
+    let step = trip.step;
+    let comparison = trip.comparison;
+    let start = trip.start;
+    outside_span(step, comparison, start)
+}
+
+// From the ranges at a loop's start to those after it.
+pub fn outside(r: &mut [[i32; 2]; 16], one: Loop)
+    requires { ⌜ (one .tested < 16) × (length (now r) ≡ 16) ⌝ }
+    ensures { λ _. ⌜ EnvIs (now (r .exit)) (widened one (outerOf (tripOf (one .trip))) (envOf (now (r .entry)))) ⌝ }
+{
+    let trip = one.trip;
+    let set = one.set;
+    let v = one.tested;
+    let mine = outer(trip);
     widen(r, set, mine, v);
 }
 
@@ -365,15 +322,10 @@ fn after_loop(rows: &[[u32; 9]; 256], count: usize, i: usize, r: &mut [[i32; 2];
     requires { ⌜ AtLoop (rowsOf (now rows)) count i × (length (now r) ≡ 16) ⌝ }
     ensures { λ e. ⌜ AfterLoop (rowsOf (now (rows .entry))) count i (envOf (now (r .entry))) (now (r .exit)) e ⌝ }
 {
-    let kind = kind_at(rows, i);
-    let head = head_of(kind);
-    let v = head.tested;
-    at_start(r, kind);
-    let body = body_moves(rows, count, i, v);
-    let set = body.set;
-    let step = body.step;
-    let next = body.next;
-    outside(r, kind, set, step);
+    at_start(r, kind_at(rows, i));
+    let one = loop_at(rows, count, i, r);
+    let next = one.next;
+    outside(r, one);
     next
 }
 

@@ -18,15 +18,14 @@ use Rattle.rules.specs.Text.{nextWords, nextLines}
 use Rattle.rules.specs.File
 use Rattle.rules.specs.File.{Reading, read, refused, unless, sooner, asksEnd, asksNumber, asksOne, asksOrder, asksRange, numberOf, countLine, scriptLine, scriptKey, rangeKey, rowKey, rowOf}
 use Rattle.rules.proofs.Reading.{sooner-yes, number-yes, amount-yes}
-use Rattle.text.specs.Words.{before, cut}
+use Rattle.text.specs.Words.{before, cut, following}
 use Rattle.text.proofs.Cut.{cut-number, cut-number-of, cut-end, cut-one, range-cut, range-of-cut}
 use Rattle.reader.specs.declared.Counted.{Counted}
 use Rattle.reader.specs.declared.Ranged.{Ranged}
-use Rattle.reader.specs.Read.{lines, keyed, clean, countOf, Within, CountRead, rangeOf, RangeWithin, RangeRead, LineRead}
+use Rattle.reader.specs.Read.{lines, keyed, clean, countOf, Within, CountRead, rangeOf, RangeWithin, RangeRead, lineRead}
 use Rattle.reader.proofs.Lines.{next-none, lines-next, last, Keyed, keyed-at, at-none}
 use Rattle.rows.specs.declared.Line.{Line}
-use Rattle.rows.specs.Words.{RowLine}
-use Rattle.rules.specs.declared.RowRead.{RowRead}
+use Rattle.rows.specs.Words.{lineOf, rowLine}
 
 -- a word that passes a question stands on a line
 line-there : (key s : List ℕ) (f : Word → ℕ) → f Missing ≡ 3 → f (nextWords key (lines s) 0) ≡ 0 → before 10 s < length s
@@ -173,12 +172,9 @@ module _ (s : List ℕ) (vars : ℕ) where
   unfolding clean last
   row-there e = keyed-at rowKey s 3 refl refl e
 
-  pub row-yes : (r : Line) → keyed rowKey s ≡ true → RowLine s 3 vars r → LineRead s vars r
-  row-yes r e l = record { row = l .row ∙ ap (rowOf vars) (sym (row-there e .words)); end = λ k w. l .end k w ∙ row-there e .line }
+  pub row-yes : (r : Line) → keyed rowKey s ≡ true → r ≡ rowLine s 3 vars → r ≡ lineRead s vars
+  row-yes r e l = l ∙ ap (lineOf (rowOf vars (following (drop 3 s)))) (row-there e .line) ∙ ap (λ w. lineOf (rowOf vars w) (before 10 s)) (sym (row-there e .words))
 
-  pub row-no : (p : ℕ) → keyed rowKey s ≡ false → LineRead s vars (record { row = RowRead.Wrong 3; end = p })
+  pub row-no : keyed rowKey s ≡ false → Line.Wrong 3 ≡ lineRead s vars
   unfolding clean rowOf
-  row-no p e = record {
-    row = ap (rowOf vars) (sym (at-none rowKey s refl e));
-    end = λ k w. absurd (let y : _≡_ {A = ℕ} 0 1 = cc in omega arith);
-  }
+  row-no e = ap (λ w. lineOf (rowOf vars w) (before 10 s)) (sym (at-none rowKey s refl e))

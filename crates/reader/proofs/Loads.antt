@@ -1,26 +1,32 @@
 -- The parts of a file one after the other. Assumes nothing.
-use mathlib.Core.Path.{_≡_, refl, sym, ap, _∙_}
+use mathlib.Core.Path.{_≡_, refl, sym, ap, _∙_, subst}
 use mathlib.Core.Bool.{Bool, true, false, cond}
 use mathlib.Core.List.{List, [], _∷_}
 use Prim.Native.Nat.{ℕ, zero, suc, _+_, _≤_, _<_}
 use native.Mathlib.Omega.{arith}
 use lib.Dec.{eqb, ltb}
+use lib.IntN.{ℤ}
 use lib.ListN.{length, take, drop, length-drop}
-use lib.Seq.{drop-drop}
+use lib.Seq.{drop-drop, length-take-le}
+use Rattle.rules.specs.declared.Row.{Row}
+use Rattle.rules.specs.declared.Verdict.{Verdict}
+use Rattle.rules.specs.declared.Verdict.the-variants.{Passed, Refused}
+use Rattle.rules.specs.Questions
+use Rattle.rules.specs.Questions.{asked}
+use Rattle.rules.proofs.Laws.{kinds-first, pairs-length}
 use Rattle.rules.specs.Blocks.{kindsOf}
 use borrow.Author.Tests.{eq-eqb, ne-eqb, eqb-true, eqb-false, le-leb, lt-leb, ltb-true, ltb-false}
 use Rattle.rules.specs.Ranges.{Range}
-use Rattle.rules.specs.Scripts.{Script, endRanges}
+use Rattle.rules.specs.Scripts.{Script, pairRanges, BlankFrom, scriptOf}
 use Rattle.rules.specs.Text.{prefixed, split}
-use Rattle.rules.specs.File.{Reading, read, refused, andThen, unless, sooner, asksRest, asksClosed, lastLine, rangeLines, rowLines, noRows, countLine, varsKey, scriptLine, rangePart, linesScript, fileScript}
+use Rattle.rules.specs.File.{Reading, read, refused, andThen, unless, sooner, asksRest, asksClosed, lastLine, rangeLines, rowLines, noRows, countLine, varsKey, scriptLine, rowsKey, rowPart, rangePart, linesScript, fileScript}
 use Rattle.nesting.specs.Open.{nestOf}
 use Rattle.nesting.proofs.Laws.{closed-depth, open-depth}
 use Rattle.reader.specs.declared.Counted.{Counted}
 use Rattle.reader.specs.declared.Ranges.{Ranges}
 use Rattle.reader.specs.declared.Head.{Head}
-use Rattle.reader.specs.declared.No.{No}
-use Rattle.reader.specs.Read.{lines, countOf, CountRead, rangesOf, RangesRead, headOf, firstNo, asked, loadedScript, loadedOf}
-use Rattle.table.specs.Code.{Packed}
+use Rattle.reader.specs.declared.Loaded.{Loaded}
+use Rattle.reader.specs.Read.{lines, countOf, CountRead, Pairs, rangesOf, RangesWithin, RangesRead, noHead, HeadWithin, CountPart, HeadRead, passing, headOf, rowsVerdict, ifRead, answerOf, loadedAnswer, RowsPart, LoadedAs}
 use Rattle.reader.proofs.Lines.{split-some}
 use Rattle.reader.proofs.Fill.{Stop, given, RowsRead}
 
@@ -39,17 +45,17 @@ unfolding split
 rest-none [] h = refl
 rest-none (x ∷ t) h = absurd (omega arith)
 
-module _ (file : List ℕ) (at vars n : ℕ) (t : List (List ℕ)) (l : Stop) (f : RowsRead file at vars n t l) (ranges : List Range) where
+module _ (file : List ℕ) (at vars n : ℕ) (l : Stop) (f : RowsRead file at vars n l) (ranges : List Range) where
   pub rows-refused : (l .number ≡ 0 → ⊥) → andThen (rowLines vars n (4 + vars) (lines (drop at file)) noRows) (lastLine (4 + vars + n) ranges) ≡ refused (l .number) (l .place)
   unfolding andThen given
-  rows-refused z = rw (f .all, ne-eqb (l .number) 0 z) refl
+  rows-refused z = rw (f, ne-eqb (l .number) 0 z) refl
 
   module _ (z : l .number ≡ 0) where
     -- the rows are read: the line after the last
     last : andThen (rowLines vars n (4 + vars) (lines (drop at file)) noRows) (lastLine (4 + vars + n) ranges)
         ≡ lastLine (4 + vars + n) ranges (record { kinds = take n (kindsOf (l .rows)); nest = nestOf (l .blocks) }) (lines (drop (l .at) file))
     unfolding andThen given
-    last = rw (f .all, eq-eqb (l .number) 0 z) refl
+    last = rw (f, eq-eqb (l .number) 0 z) refl
 
     ends-at : length file ≤ l .at → lines (drop (l .at) file) ≡ [] ∷ []
     ends-at h = rest-none (drop (l .at) file) (omega (arith, length-drop (l .at) file))
@@ -86,14 +92,62 @@ pub after-wrong : {B : Type 0} (key rest : List ℕ) (most p q : ℕ) (f : ℕ �
 unfolding andThen countOf
 after-wrong key rest most p q f h = ap (λ r. andThen r f) (h .line p)
 
-module _ (file : List ℕ) (at n : ℕ) (r : Ranges) (h : RangesRead file at n r) (f : List Range → List (List ℕ) → Reading Script) where
-  pub ranges-refused : (r .number ≡ 0 → ⊥) → andThen (rangeLines n 3 (lines (drop at file)) []) f ≡ refused (r .number) (r .place)
-  unfolding andThen rangesOf
-  ranges-refused z = rw (h .all, ne-eqb (r .number) 0 z) refl
+-- a head that is refused
+none-within : (file : List ℕ) (q p : ℕ) → HeadWithin file (noHead q p)
+none-within file q p = record { start = omega arith; vars = omega arith; count = omega arith }
 
-  pub ranges-then : r .number ≡ 0 → andThen (rangeLines n 3 (lines (drop at file)) []) f ≡ f (endRanges n (r .low) (r .high)) (lines (drop (r .at) file))
-  unfolding andThen rangesOf
-  ranges-then z = rw (h .all, eq-eqb (r .number) 0 z) refl
+pub head-refused : (file : List ℕ) (ranges : List (List ℤ)) (reading : Reading Script) (h : Head) (q p : ℕ) → h ≡ noHead q p → reading ≡ refused q p → HeadRead file reading h ranges
+unfolding headOf passing
+head-refused file ranges reading h q p e f =
+    rw (e, f) (record { script = refl; pairs = λ z. absurd (let y : _≡_ {A = ℕ} 0 1 = cc in omega arith); within = none-within file q p })
+
+pub head-same : {file : List ℕ} {x y : Reading Script} {h : Head} {ranges : List (List ℤ)} → HeadRead file x h ranges → x ≡ y → HeadRead file y h ranges
+head-same r e = record { script = r .script ∙ e; pairs = r .pairs; within = r .within }
+
+-- `rows=R` and on
+module _ (file : List ℕ) (at vars : ℕ) where
+  abbrev rows-on : List Range → ℕ → List (List ℕ) → Reading Script
+  rows-on rs n more = andThen (rowLines vars n (4 + vars) more noRows) (λ rows rest. lastLine (4 + vars + n) rs rows rest)
+
+  pub count-refused : (h : Head) (q : ℕ) → h ≡ noHead q (3 + vars) → CountRead rowsKey (drop at file) 256 (Counted.Wrong q) → CountPart file at vars h
+  unfolding headOf passing rowPart
+  count-refused h q e r = rw e (record {
+    script = λ ranges. sym (after-wrong rowsKey (drop at file) 256 (3 + vars) q (rows-on (take vars (pairRanges ranges))) r);
+    same = λ z. absurd (let y : _≡_ {A = ℕ} 0 1 = cc in omega arith);
+    within = none-within file q (3 + vars);
+  })
+
+  pub count-says : (n k : ℕ) → CountRead rowsKey (drop at file) 256 (Counted.Count n k) → at ≤ length file → vars ≤ 16 → CountPart file at vars (record { verdict = Passed; vars = vars; count = n; at = at + k })
+  unfolding headOf passing rowPart
+  count-says n k r h small = record {
+    script = λ ranges. sym (after-count rowsKey file at 256 (3 + vars) n k (rows-on (take vars (pairRanges ranges))) r);
+    same = λ z. refl;
+    within = record { start = omega (arith, r .within .1, length-drop at file); vars = small; count = r .within .0 };
+  }
+
+-- the ranges and on
+module _ {file : List ℕ} {at n : ℕ} {r : Ranges} {ranges : List (List ℤ)} (f : RangesRead file at n r ranges) where
+  within-of : {next : ℕ} → r ≡ Ranges.Until next → (next ≤ length file) × Pairs n ranges
+  within-of e = subst (λ x. RangesWithin file n x ranges) e (f .within)
+
+  pub until-within : {next : ℕ} → r ≡ Ranges.Until next → next ≤ length file
+  until-within e = within-of e .0
+
+  then-of : (x : Ranges) → r ≡ x → rangePart n (lines (drop at file)) ≡ andThen (rangesOf file n x ranges) (λ rs more. rowPart n rs more)
+  unfolding rangePart
+  then-of x e = ap (λ y. andThen y (λ rs more. rowPart n rs more)) (f .all ∙ ap (λ y. rangesOf file n y ranges) e)
+
+  pub ranges-refused : {q p : ℕ} {h : Head} → r ≡ Ranges.Refused q p → h ≡ noHead q p → HeadRead file (rangePart n (lines (drop at file))) h ranges
+  unfolding rangesOf andThen
+  ranges-refused {q} {p} {h} e k = head-refused file ranges (rangePart n (lines (drop at file))) h q p k (then-of (Ranges.Refused q p) e)
+
+  pub ranges-then : {next : ℕ} {h : Head} → r ≡ Ranges.Until next → CountPart file next n h → HeadRead file (rangePart n (lines (drop at file))) h ranges
+  unfolding rangesOf andThen
+  ranges-then {next} {h} e c = record {
+    script = c .script ranges ∙ sym (then-of (Ranges.Until next) e);
+    pairs = λ z. subst (λ m. Pairs m ranges) (sym (c .same z)) (within-of e .1);
+    within = c .within;
+  }
 
 -- the first line, and then the others
 pub script-then : (file : List ℕ) (n k : ℕ) → length file ≤ 16_384 → scriptLine (lines file) ≡ countOf file 1 (Counted.Count n k) → andThen (countLine varsKey 16 2 (lines (drop k file))) rangePart ≡ fileScript file
@@ -109,40 +163,55 @@ unfolding fileScript
 file-long file h = rw (lt-leb (length file) 16_384 h)
 
 -- a head and what follows it: the first no of both, and the script
-module _ (file : List ℕ) (h : Head) (t : List (List ℕ)) (l : Stop) (f : RowsRead file (h .at) (h .vars) (h .count) t l) (r : No)
-    (first : r ≡ firstNo (asked h (record { number = l .number; place = l .place }) (ltb (l .at) (length file)) (l .blocks .depth))) where
-  abbrev pub tail : Reading Script
-  tail = andThen (rowLines (h .vars) (h .count) (4 + h .vars) (lines (drop (h .at) file)) noRows) (lastLine (4 + h .vars + h .count) (endRanges (h .vars) (h .low) (h .high)))
+module _ (file : List ℕ) (ranges : List (List ℤ)) (h : Head) (l : Stop) (f : RowsRead file (h .at) (h .vars) (h .count) l) where
+  abbrev tail : Reading Script
+  tail = andThen (rowLines (h .vars) (h .count) (4 + h .vars) (lines (drop (h .at) file)) noRows) (lastLine (4 + h .vars + h .count) (take (h .vars) (pairRanges ranges)))
 
-  -- a file whose first no is n
-  abbrev pub whole : No → Reading Script
-  whole n = cond (eqb (n .number) 0) (read (record { ranges = endRanges (h .vars) (h .low) (h .high); rows = take (h .count) (kindsOf (l .rows)) }) ([] ∷ [])) (refused (n .number) (n .place))
+  abbrev later : Verdict
+  later = rowsVerdict (l .number) (l .place) (ltb (l .at) (length file)) (l .blocks .depth) (4 + h .vars + h .count)
 
-  -- the head has yes
-  pub tail-read : eqb (h .number) 0 ≡ true → tail ≡ whole r
-  unfolding firstNo asked
-  tail-read z = go (eqb (l .number) 0) (ltb (l .at) (length file)) (eqb (l .blocks .depth) 0) refl refl refl
+  abbrev whole : Reading Script
+  whole = read (scriptOf ranges (h .vars) (l .rows) (h .count)) ([] ∷ [])
+
+  tail-read : passing later whole ≡ tail
+  unfolding passing rowsVerdict asked scriptOf
+  tail-read = go (eqb (l .number) 0) (ltb (l .at) (length file)) (eqb (l .blocks .depth) 0) refl refl refl
     where
-      go : (a b d : Bool) → eqb (l .number) 0 ≡ a → ltb (l .at) (length file) ≡ b → eqb (l .blocks .depth) 0 ≡ d → tail ≡ whole r
-      go false b d x y w = rows-refused file (h .at) (h .vars) (h .count) t l f _ (eqb-false _ _ x) ∙ rw (first, z, x, x) refl
-      go true true d x y w = bytes-after file (h .at) (h .vars) (h .count) t l f _ (eqb-true _ _ x) (ltb-true _ _ y) ∙ rw (first, z, x, y) refl
-      go true false false x y w = left-open file (h .at) (h .vars) (h .count) t l f _ (eqb-true _ _ x) (ltb-false _ _ y) (eqb-false _ _ w) ∙ rw (first, z, x, y, w) refl
-      go true false true x y w = all-read file (h .at) (h .vars) (h .count) t l f _ (eqb-true _ _ x) (ltb-false _ _ y) (eqb-true _ _ w) ∙ rw (first, z, x, y, w) refl
+      go : (a b d : Bool) → eqb (l .number) 0 ≡ a → ltb (l .at) (length file) ≡ b → eqb (l .blocks .depth) 0 ≡ d → passing later whole ≡ tail
+      go false b d x y w = rw x (sym (rows-refused file (h .at) (h .vars) (h .count) l f _ (eqb-false _ _ x)))
+      go true true d x y w = rw (x, y) (sym (bytes-after file (h .at) (h .vars) (h .count) l f _ (eqb-true _ _ x) (ltb-true _ _ y)))
+      go true false false x y w = rw (x, y, w) (sym (left-open file (h .at) (h .vars) (h .count) l f _ (eqb-true _ _ x) (ltb-false _ _ y) (eqb-false _ _ w)))
+      go true false true x y w = rw (x, y, w) (sym (all-read file (h .at) (h .vars) (h .count) l f _ (eqb-true _ _ x) (ltb-false _ _ y) (eqb-true _ _ w)))
 
-  pub load-read : loadedOf (record { number = r .number; place = r .place; head = h; rows = l .rows }) ≡ headOf file h
-  unfolding loadedOf loadedScript headOf firstNo asked
-  load-read = go (eqb (h .number) 0) refl
+  pub load-read : passing (Questions.andThen (h .verdict) later) whole ≡ headOf file ranges h
+  unfolding headOf passing Questions.andThen
+  load-read = go (h .verdict)
     where
-      go : (b : Bool) → eqb (h .number) 0 ≡ b → loadedOf (record { number = r .number; place = r .place; head = h; rows = l .rows }) ≡ headOf file h
-      go true z = rw z (sym (tail-read z))
-      go false z = rw (first, z, z) refl
+      go : (v : Verdict) → passing (Questions.andThen v later) whole ≡ passing v tail
+      go Passed = tail-read
+      go (Refused q p) = refl
 
-  -- no question has no: the rows are in the table
-  pub load-packed : r .number ≡ 0 → Packed (h .count) (l .rows) t
-  unfolding firstNo asked
-  load-packed y = go (eqb (h .number) 0) (eqb (l .number) 0) refl refl
-    where
-      go : (b d : Bool) → eqb (h .number) 0 ≡ b → eqb (l .number) 0 ≡ d → Packed (h .count) (l .rows) t
-      go b true z x = f .packed (eqb-true _ _ x)
-      go false false z x = absurd (eqb-false _ _ z (sym (ap (λ (n : No). n .number) (rw z at first)) ∙ y))
-      go true false z x = absurd (eqb-false _ _ x (sym (ap (λ (n : No). n .number) (rw (z, x) at first)) ∙ y))
+pub then-passed : (v w u : Verdict) → u ≡ Questions.andThen v w → u ≡ Passed → v ≡ Passed
+unfolding Questions.andThen
+then-passed Passed w u e z = refl
+then-passed (Refused q p) w u e z = absurd (let y : _≡_ {A = ℕ} 0 1 = cc in omega arith)
+
+-- a loaded file is the reading of its script
+pub loaded : (v : Verdict) (vars count : ℕ) (rows : List Row) (ranges : List (List ℤ)) (reading : Reading Script)
+    → passing v (read (scriptOf ranges vars rows count) ([] ∷ [])) ≡ reading → vars ≤ 16 → (v ≡ Passed → length ranges ≡ 16) → count ≤ length rows
+    → loadedAnswer (record { verdict = v; vars = ifRead v vars; count = ifRead v count; rows = rows }) ranges ≡ answerOf reading
+unfolding passing answerOf scriptOf
+loaded Passed vars count rows ranges reading e small long all =
+    let a : length (take vars (pairRanges ranges)) ≡ vars = length-take-le vars (pairRanges ranges) (omega (arith, long refl, pairs-length ranges)) in
+    let b : length (take count (kindsOf rows)) ≡ count = kinds-first count rows all in
+    rw (← e, a, b) refl
+loaded (Refused q p) vars count rows ranges reading e small long all = rw (← e) refl
+
+pub loads : (file : List ℕ) (reading : Reading Script) (h : Head) (r : Loaded) (ranges : List (List ℤ)) → HeadRead file reading h ranges → RowsPart file h r → LoadedAs reading r ranges
+loads file reading h r ranges a b = record {
+  answer = same ∙ loaded (r .verdict) (h .vars) (h .count) (r .rows) ranges reading (b .script ranges ∙ a .script) (a .within .vars) (λ z. a .pairs (b .passes z) .long) (omega (arith, b .long, a .within .count));
+  blank = λ z. subst (λ n. BlankFrom n ranges) (sym (b .vars ∙ ap (λ v. ifRead v (h .vars)) z)) (a .pairs (b .passes z) .blank);
+}
+  where
+    same : loadedAnswer r ranges ≡ loadedAnswer (record { verdict = r .verdict; vars = ifRead (r .verdict) (h .vars); count = ifRead (r .verdict) (h .count); rows = r .rows }) ranges
+    same = rw (b .vars, b .count) refl

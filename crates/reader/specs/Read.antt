@@ -4,23 +4,23 @@ use mathlib.Core.Bool.{Bool, true, false, not, cond}
 use mathlib.Core.List.{List, [], _∷_, _++_}
 use Prim.Native.Nat.{ℕ, zero, suc, _+_, _≤_, _<_}
 use lib.Dec.{eqb, ltb}
-use lib.IntN.{ℤ, pos}
-use lib.ListN.{length, drop}
-use Rattle.rules.specs.declared.Kind.{Kind}
-use Rattle.rules.specs.declared.RowRead.the-variants.{Read}
+use lib.IntN.{ℤ}
+use lib.ListN.{length, take, drop}
 use Rattle.rules.specs.Ranges.{Range}
-use Rattle.rules.specs.Scripts.{Script, endRanges, held}
+use Rattle.rules.specs.Scripts.{Script, pairRanges, BlankFrom, scriptOf}
 use Rattle.rules.specs.Text.{split, startsWith, nextWords, nextLines}
+use Rattle.rules.specs.declared.Verdict.{Verdict}
+use Rattle.rules.specs.declared.Verdict.the-variants.{Passed, Refused}
+use Rattle.rules.specs.Questions.{asked}
 use Rattle.rules.specs.File
-use Rattle.rules.specs.File.{Reading, read, refused, unless, countLine, asksRange, rangeKey, rowKey, rowOf, rangeLines, rowLines, noRows, andThen, lastLine}
+use Rattle.rules.specs.File.{Reading, read, refused, unless, countLine, asksRange, rangeKey, rowKey, rowOf, rangeLines, rowLines, noRows, andThen, lastLine, rowPart}
 use Rattle.text.specs.Words.{before}
-use Rattle.table.specs.Code.{Packed}
 use Rattle.rows.specs.declared.Line.{Line}
+use Rattle.rows.specs.Words.{lineOf}
 use Rattle.reader.specs.declared.Counted.{Counted}
 use Rattle.reader.specs.declared.Ranged.{Ranged}
 use Rattle.reader.specs.declared.Ranges.{Ranges}
 use Rattle.reader.specs.declared.Head.{Head}
-use Rattle.reader.specs.declared.No.{No}
 use Rattle.reader.specs.declared.Loaded.{Loaded}
 
 -- there is a next line, and it has the key
@@ -65,51 +65,93 @@ pub record RangeRead (rest : List ℕ) (r : Ranged) : Type 0 where
       → unless (asksRange (nextWords rangeKey (lines rest))) p (f (File.rangeOf (nextWords rangeKey (lines rest))) (nextLines (lines rest))) ≡ rangeOf rest p f r
   pub within : RangeWithin rest r
 
--- what a row line reads
-pub record LineRead (rest : List ℕ) (vars : ℕ) (r : Line) : Type 0 where
-  pub row : r .row ≡ rowOf vars (nextWords rowKey (lines rest))
-  pub end : (k : Kind) → r .row ≡ Read k → r .end ≡ before 10 rest
+-- what a row line reads: the row, and its length without the LF
+abbrev pub lineRead : List ℕ → ℕ → Line
+lineRead rest vars = lineOf (rowOf vars (nextWords rowKey (lines rest))) (before 10 rest)
 
--- all range lines of a file, n of them
-unfoldable pub rangesOf : List ℕ → ℕ → Ranges → Reading (List Range)
-rangesOf file n r = cond (eqb (r .number) 0) (read (endRanges n (r .low) (r .high)) (lines (drop (r .at) file))) (refused (r .number) (r .place))
+-- all range lines of a file, n of them: the first n pairs of the array
+unfoldable pub rangesOf : List ℕ → ℕ → Ranges → List (List ℤ) → Reading (List Range)
+rangesOf file n (Ranges.Until next) ranges = read (take n (pairRanges ranges)) (lines (drop next file))
+rangesOf file n (Ranges.Refused q p) ranges = refused q p
 
-pub record RangesRead (file : List ℕ) (at n : ℕ) (r : Ranges) : Type 0 where
-  pub all : rangeLines n 3 (lines (drop at file)) [] ≡ rangesOf file n r
-  pub within : r .at ≤ length file
+-- an array of 16 pairs, [0, 0] from variable n on
+pub record Pairs (n : ℕ) (ranges : List (List ℤ)) : Type 0 where
+  pub long : length ranges ≡ 16
+  pub blank : BlankFrom n ranges
+
+abbrev pub RangesWithin : List ℕ → ℕ → Ranges → List (List ℤ) → Type 0
+RangesWithin file n (Ranges.Until next) ranges = (next ≤ length file) × Pairs n ranges
+RangesWithin file n (Ranges.Refused q p) ranges = Unit {0}
+
+pub record RangesRead (file : List ℕ) (at n : ℕ) (r : Ranges) (ranges : List (List ℤ)) : Type 0 where
+  pub all : rangeLines n 3 (lines (drop at file)) [] ≡ rangesOf file n r ranges
+  pub within : RangesWithin file n r ranges
+
+-- what lines read, if the questions before them have yes
+unfoldable pub passing : {A : Type 0} → Verdict → Reading A → Reading A
+passing Passed r = r
+passing (Refused q p) r = refused q p
 
 -- what the rest of a file gives after its head
-unfoldable pub headOf : List ℕ → Head → Reading Script
-headOf file h =
-    cond (eqb (h .number) 0)
-    (andThen (rowLines (h .vars) (h .count) (4 + h .vars) (lines (drop (h .at) file)) noRows) (lastLine (4 + h .vars + h .count) (endRanges (h .vars) (h .low) (h .high))))
-    (refused (h .number) (h .place))
+unfoldable pub headOf : List ℕ → List (List ℤ) → Head → Reading Script
+headOf file ranges h =
+    passing (h .verdict)
+    (andThen (rowLines (h .vars) (h .count) (4 + h .vars) (lines (drop (h .at) file)) noRows) (lastLine (4 + h .vars + h .count) (take (h .vars) (pairRanges ranges))))
+
+-- a refused one
+abbrev pub noHead : ℕ → ℕ → Head
+noHead q p = record { verdict = Refused q p; vars = 0; count = 0; at = 0 }
 
 pub record HeadWithin (file : List ℕ) (h : Head) : Type 0 where
   pub start : h .at ≤ length file
   pub vars : h .vars ≤ 16
   pub count : h .count ≤ 256
 
--- the first of a list of questions that has no; number 0: all have yes
-unfoldable pub firstNo : List No → No
-firstNo [] = record { number = 0; place = 0 }
-firstNo (x ∷ xs) = cond (eqb (x .number) 0) (firstNo xs) x
+-- what the line `rows=R` and the rest give, whatever the ranges are
+pub record CountPart (file : List ℕ) (at vars : ℕ) (h : Head) : Type 0 where
+  pub script : (ranges : List (List ℤ)) → headOf file ranges h ≡ rowPart vars (take vars (pairRanges ranges)) (lines (drop at file))
+  pub same : h .verdict ≡ Passed → h .vars ≡ vars
+  pub within : HeadWithin file h
 
--- the questions of a file in order: of its head, of its rows, 3 of bytes after the last row, 6 of blocks that are open there
-unfoldable pub asked : Head → No → Bool → ℕ → List No
-asked h rows more depth =
-    let end = 4 + h .vars + h .count in
-    record { number = h .number; place = h .place } ∷ (rows ∷ (record { number = cond more 3 0; place = end } ∷ (record { number = cond (eqb depth 0) 0 6; place = end } ∷ [])))
+-- a head whose file gives this reading
+pub record HeadRead (file : List ℕ) (reading : Reading Script) (h : Head) (ranges : List (List ℤ)) : Type 0 where
+  pub script : headOf file ranges h ≡ reading
+  pub pairs : h .verdict ≡ Passed → Pairs (h .vars) ranges
+  pub within : HeadWithin file h
 
--- the script of a loaded file: the first `vars` ranges and the first `count` rows
-unfoldable pub loadedScript : Loaded → Script
-loadedScript r = held (r .rows) (r .head .count) (r .head .vars) (r .head .low) (r .head .high)
+-- the questions of the rows in order: the one that stopped them, 3 of bytes after the last row, 6 of blocks that are open there
+unfoldable pub rowsVerdict : ℕ → ℕ → Bool → ℕ → ℕ → Verdict
+rowsVerdict stopped line more depth end = asked stopped line (eqb stopped 0) (asked 3 end (not more) (asked 6 end (eqb depth 0) Passed))
 
--- a loaded file, or its refusal
-unfoldable pub loadedOf : Loaded → Reading Script
-loadedOf r = cond (eqb (r .number) 0) (read (loadedScript r) ([] ∷ [])) (refused (r .number) (r .place))
+-- a number of a file that is read; refused, 0
+abbrev pub ifRead : Verdict → ℕ → ℕ
+ifRead Passed n = n
+ifRead (Refused q p) n = 0
 
--- it has `count` rows; where it is not refused, the table holds them
-pub record Tabled (r : Loaded) (t : List (List ℕ)) : Type 0 where
-  pub long : length (loadedScript r .rows) ≡ r .head .count
-  pub packed : r .number ≡ 0 → Packed (r .head .count) (r .rows) t
+-- the rows after a head: its file's script, or the first no
+pub record RowsPart (file : List ℕ) (h : Head) (r : Loaded) : Type 0 where
+  pub script : (ranges : List (List ℤ)) → passing (r .verdict) (read (scriptOf ranges (h .vars) (r .rows) (h .count)) ([] ∷ [])) ≡ headOf file ranges h
+  pub passes : r .verdict ≡ Passed → h .verdict ≡ Passed
+  pub vars : r .vars ≡ ifRead (r .verdict) (h .vars)
+  pub count : r .count ≡ ifRead (r .verdict) (h .count)
+  pub long : length (r .rows) ≡ 256
+
+-- what the reader answers: the verdict, the numbers of variables and rows, and the script; a refused file has none
+pub record Answer : Type 0 where
+  pub verdict : Verdict
+  pub vars : ℕ
+  pub count : ℕ
+  pub script : Script
+
+unfoldable pub answerOf : Reading Script → Answer
+answerOf (read script rest) = record { verdict = Passed; vars = length (script .ranges); count = length (script .rows); script = script }
+answerOf (refused q p) = record { verdict = Refused q p; vars = 0; count = 0; script = record { ranges = []; rows = [] } }
+
+-- the same as code holds it: the first `vars` pairs of the lent array, the first `count` rows
+abbrev pub loadedAnswer : Loaded → List (List ℤ) → Answer
+loadedAnswer r ranges = record { verdict = r .verdict; vars = r .vars; count = r .count; script = scriptOf ranges (r .vars) (r .rows) (r .count) }
+
+-- a loaded file is this reading
+pub record LoadedAs (reading : Reading Script) (r : Loaded) (ranges : List (List ℤ)) : Type 0 where
+  pub answer : loadedAnswer r ranges ≡ answerOf reading
+  pub blank : r .verdict ≡ Passed → BlankFrom (r .vars) ranges

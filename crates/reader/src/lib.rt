@@ -11,24 +11,22 @@ use rows::row_of;
 use rows::sooner;
 use rules::BLANK;
 use rules::Row;
-use rules::RowRead;
-use table::put_row;
+use rules::Verdict;
 use text::next_word;
 use text::position;
 use text::said;
 use text::starts_with;
 ghost use mathlib.Core.Path.{_≡_};
 ghost use mathlib.Core.Bool.{true};
-ghost use Prim.Native.Nat.{ℕ, _+_, _≤_, _<_};
+ghost use Prim.Native.Nat.{_≤_};
 ghost use lib.Dec.{ltb};
-ghost use mathlib.Core.List.{List};
 ghost use lib.IntN.{pos, natAbs};
 ghost use lib.Signed.{_≤ℤ_};
 ghost use lib.ListN.{length, drop};
-ghost use Rattle.rules.specs.Scripts.{endRanges};
-ghost use Rattle.rules.specs.File.{refused, andThen, varsKey, scriptLine, countLine, rowPart, rangePart, fileScript};
+ghost use Rattle.rules.specs.Questions;
+ghost use Rattle.rules.specs.File.{andThen, varsKey, scriptLine, countLine, rangePart, fileScript};
 ghost use Rattle.text.specs.Words.{before};
-ghost use Rattle.reader.specs.Read.{keyed, clean, lines, countOf, CountRead, Within, RangeRead, LineRead, RangesRead, headOf, HeadWithin, firstNo, asked, loadedOf, Tabled};
+ghost use Rattle.reader.specs.Read.{keyed, clean, lines, countOf, CountRead, Within, RangeRead, lineRead, RangesRead, noHead, HeadWithin, CountPart, HeadRead, rowsVerdict, ifRead, LoadedAs};
 
 // Whether an LF ends the next line.
 fn has_line(rest: &[u8]) -> bool
@@ -122,203 +120,168 @@ fn range_line(rest: &[u8]) -> Ranged
     Ranged::Wrong(3)
 }
 
-// The ranges: question 0 for none, or the first no with its line; the bytes read; the ends.
-pub struct Ranges {
-    pub number: u32,
-    pub place: usize,
-    pub at: usize,
-    pub low: [i32; 16],
-    pub high: [i32; 16],
+// The range lines end before this byte, or the first no with its line.
+pub enum Ranges {
+    Until(usize),
+    Refused(u32, usize),
 }
 
-// The n range lines from byte `at` on.
-fn read_ranges(file: &[u8], at: usize, n: usize) -> Ranges
+// The n range lines from byte `at` on, into the lent array.
+fn read_ranges(file: &[u8], at: usize, n: usize, ranges: &mut [[i32; 2]; 16]) -> Ranges
     requires { ⌜ (at ≤ length (now file)) × (n ≤ 16) ⌝ }
-    ensures { λ r. ⌜ RangesRead (now (file .entry)) at n r ⌝ }
+    ensures { λ r. ⌜ RangesRead (now (file .entry)) at n r (now (ranges .exit)) ⌝ }
 {
-    let mut low = [0i32; 16];
-    let mut high = [0i32; 16];
+    let none: [i32; 2] = [0; 2];
+    let blank = [none; 16];
+    *ranges = blank;
     let mut next = at;
     let mut i: usize = 0;
     while i < n {
         let r = range_line(&file[next..]);
         match r {
             Ranged::Range(a, b, k) => {
-                low[i] = a;
-                high[i] = b;
+                ranges[i] = [a, b];
                 next = next + k;
                 i += 1;
             }
             Ranged::Wrong(q) => {
-                return Ranges {
-                    number: q,
-                    place: 3 + i,
-                    at: next,
-                    low,
-                    high,
-                };
+                return Ranges::Refused(q, 3 + i);
             }
         }
     }
-    Ranges {
-        number: 0,
-        place: 0,
-        at: next,
-        low,
-        high,
-    }
+    Ranges::Until(next)
 }
 
 // The next line's row.
 fn row_line(rest: &[u8], vars: u32) -> Line
     requires { ⌜ vars ≤ 16 ⌝ }
-    ensures { λ r. ⌜ LineRead (now (rest .entry)) vars r ⌝ }
+    ensures { λ r. ⌜ r ≡ lineRead (now (rest .entry)) vars ⌝ }
 {
     if keyed(rest, b"row=") {
         return row_of(rest, 3, vars);
     }
-    Line {
-        row: RowRead::Wrong(3),
-        end: 0,
-    }
+    Line::Wrong(3)
 }
 
-// The lines before the rows: question 0 for none, or the first no with its place; what they say, and the byte where the rows begin.
+// The lines before the rows: all their questions have yes, or the first no; what they say, and the byte where the rows begin.
 pub struct Head {
-    pub number: u32,
-    pub place: usize,
+    pub verdict: Verdict,
     pub vars: usize,
     pub count: usize,
     pub at: usize,
-    pub low: [i32; 16],
-    pub high: [i32; 16],
 }
 
 fn refused(number: u32, place: usize) -> Head
-    requires { ⌜ (number ≡ 0 → ⊥) ⌝ }
-    ensures { λ r. ⌜ ((file : List ℕ) → headOf file r ≡ refused number place) × ((file : List ℕ) → HeadWithin file r) ⌝ }
+    ensures { λ r. ⌜ r ≡ noHead number place ⌝ }
 {
+    let verdict = Verdict::Refused(number, place);
     Head {
-        number,
-        place,
+        verdict,
         vars: 0,
         count: 0,
         at: 0,
-        low: [0i32; 16],
-        high: [0i32; 16],
     }
 }
 
 // `rows=R`
-fn load_count(file: &[u8], at: usize, vars: usize, low: [i32; 16], high: [i32; 16]) -> Head
+fn load_count(file: &[u8], at: usize, vars: usize) -> Head
     requires { ⌜ (at ≤ length (now file)) × (vars ≤ 16) ⌝ }
-    ensures { λ r. ⌜ (headOf (now (file .entry)) r ≡ rowPart vars (endRanges vars low high) (lines (drop at (now (file .entry))))) × HeadWithin (now (file .entry)) r ⌝ }
+    ensures { λ r. ⌜ CountPart (now (file .entry)) at vars r ⌝ }
 {
     let c = count_line(&file[at..], b"rows=", 256);
     match c {
-        Counted::Count(n, k) => Head {
-            number: 0,
-            place: 0,
-            vars,
-            count: n,
-            at: at + k,
-            low,
-            high,
-        },
+        Counted::Count(n, k) => {
+            let verdict = Verdict::Passed;
+            Head {
+                verdict,
+                vars,
+                count: n,
+                at: at + k,
+            }
+        }
         Counted::Wrong(q) => refused(q, 3 + vars),
     }
 }
 
 // The ranges and on.
-fn load_ranges(file: &[u8], at: usize, vars: usize) -> Head
+fn load_ranges(file: &[u8], at: usize, vars: usize, ranges: &mut [[i32; 2]; 16]) -> Head
     requires { ⌜ (at ≤ length (now file)) × (vars ≤ 16) ⌝ }
-    ensures { λ r. ⌜ (headOf (now (file .entry)) r ≡ rangePart vars (lines (drop at (now (file .entry))))) × HeadWithin (now (file .entry)) r ⌝ }
+    ensures { λ r. ⌜ HeadRead (now (file .entry)) (rangePart vars (lines (drop at (now (file .entry))))) r (now (ranges .exit)) ⌝ }
 {
-    let r = read_ranges(file, at, vars);
-    let number = r.number;
-    let place = r.place;
-    if number != 0 {
-        return refused(number, place);
+    let r = read_ranges(file, at, vars, ranges);
+    match r {
+        Ranges::Until(next) => load_count(file, next, vars),
+        Ranges::Refused(q, p) => refused(q, p),
     }
-    let next = r.at;
-    let low = r.low;
-    let high = r.high;
-    load_count(file, next, vars, low, high)
 }
 
 // `vars=V` and on.
-fn load_vars(file: &[u8], at: usize) -> Head
+fn load_vars(file: &[u8], at: usize, ranges: &mut [[i32; 2]; 16]) -> Head
     requires { ⌜ at ≤ length (now file) ⌝ }
-    ensures { λ r. ⌜ (headOf (now (file .entry)) r ≡ andThen (countLine varsKey 16 2 (lines (drop at (now (file .entry))))) rangePart) × HeadWithin (now (file .entry)) r ⌝ }
+    ensures { λ r. ⌜ HeadRead (now (file .entry)) (andThen (countLine varsKey 16 2 (lines (drop at (now (file .entry))))) rangePart) r (now (ranges .exit)) ⌝ }
 {
     let c = count_line(&file[at..], b"vars=", 16);
     match c {
-        Counted::Count(n, k) => load_ranges(file, at + k, n),
+        Counted::Count(n, k) => load_ranges(file, at + k, n, ranges),
         Counted::Wrong(q) => refused(q, 2),
     }
 }
 
 // The lines before the rows.
-fn load_head(file: &[u8]) -> Head
-    ensures { λ r. ⌜ (headOf (now (file .entry)) r ≡ fileScript (now (file .entry))) × HeadWithin (now (file .entry)) r ⌝ }
+fn load_head(file: &[u8], ranges: &mut [[i32; 2]; 16]) -> Head
+    ensures { λ r. ⌜ HeadRead (now (file .entry)) (fileScript (now (file .entry))) r (now (ranges .exit)) ⌝ }
 {
     if 16_384 < file.len() {
         return refused(2, 16_384);
     }
     let c = script_line(file);
     match c {
-        Counted::Count(_, k) => load_vars(file, k),
+        Counted::Count(_, k) => load_vars(file, k, ranges),
         Counted::Wrong(q) => refused(q, 1),
     }
 }
 
-// A question's number, 0 where it has yes, and its place.
-struct No {
-    number: u32,
-    place: usize,
-}
-
-// The first no of a file: of its head, of row i, of what follows the last row.
-fn first_no(head: Head, stopped: u32, i: usize, more: bool, depth: usize) -> No
-    requires { ⌜ (head .vars ≤ 16) × (head .count ≤ 256) × (i ≤ 256) ⌝ }
-    ensures { λ r. ⌜ r ≡ firstNo (asked head (record { number = stopped; place = 4 + head .vars + i }) more depth) ⌝ }
+// The questions after the head: of the line where the rows stopped, 3 of bytes after the last row, 6 of blocks that are open there.
+fn ask_rows(stopped: u32, line: usize, more: bool, depth: usize, end: usize) -> Verdict
+    ensures { λ r. ⌜ r ≡ rowsVerdict stopped line more depth end ⌝ }
 {
-    let end = 4 + head.vars + head.count;
-    if head.number != 0 {
-        return No {
-            number: head.number,
-            place: head.place,
-        };
-    }
     if stopped != 0 {
-        return No {
-            number: stopped,
-            place: 4 + head.vars + i,
-        };
+        return Verdict::Refused(stopped, line);
     }
     if more {
-        return No {
-            number: 3,
-            place: end,
-        };
+        return Verdict::Refused(3, end);
     }
     if depth != 0 {
-        return No {
-            number: 6,
-            place: end,
-        };
+        return Verdict::Refused(6, end);
     }
-    No {
-        number: 0,
-        place: 0,
+    Verdict::Passed
+}
+
+// One verdict after the other.
+fn and_then(first: Verdict, later: Verdict) -> Verdict
+    ensures { λ r. ⌜ r ≡ Questions.andThen first later ⌝ }
+{
+    match first {
+        Verdict::Passed => later,
+        Verdict::Refused(q, p) => Verdict::Refused(q, p),
     }
 }
 
-// A loaded file: question 0 for none, or the first no with its place; what its head says, and its rows.
+// A number of a file that is read; refused, 0.
+fn if_read(verdict: Verdict, n: usize) -> usize
+    ensures { λ r. ⌜ r ≡ ifRead verdict n ⌝ }
+{
+    match verdict {
+        Verdict::Passed => n,
+        Verdict::Refused(_, _) => 0,
+    }
+}
+
+// A loaded file: all questions have yes, or the first no; the number of variables; and the first `count` rows. A refused file has none.
 pub struct Loaded {
-    pub number: u32,
-    pub place: usize,
-    pub head: Head,
+    pub verdict: Verdict,
+    pub vars: usize,
+    pub count: usize,
     pub rows: [Row; 256],
 }
 
@@ -329,12 +292,11 @@ const NONE_OPEN: Blocks = Blocks {
     loops: 0,
 };
 
-// A file's script, or its first no. Its rows are in the table too. Each file has one array of rows, refused or not: no copy where ways meet.
-pub fn load(file: &[u8], table: &mut [[u32; 9]; 256]) -> Loaded
-    requires { ⌜ length (now table) ≡ 256 ⌝ }
-    ensures { λ r. ⌜ (loadedOf r ≡ fileScript (now (file .entry))) × Tabled r (now (table .exit)) ⌝ }
+// A file's script, or its first no. The ranges are the pairs of the lent array. Each file has one array of rows, refused or not: no copy where ways meet.
+pub fn load(file: &[u8], ranges: &mut [[i32; 2]; 16]) -> Loaded
+    ensures { λ r. ⌜ LoadedAs (fileScript (now (file .entry))) r (now (ranges .exit)) ⌝ }
 {
-    let head = load_head(file);
+    let head = load_head(file, ranges);
     let mut rows = [BLANK; 256];
     let mut blocks = NONE_OPEN;
     let mut next = head.at;
@@ -342,9 +304,8 @@ pub fn load(file: &[u8], table: &mut [[u32; 9]; 256]) -> Loaded
     let mut i: usize = 0;
     while i < head.count {
         let l = row_line(&file[next..], head.vars as u32);
-        let r = l.row;
-        match r {
-            RowRead::Read(kind) => {
+        match l {
+            Line::Read(kind, end) => {
                 let p = nest_row(kind, blocks);
                 stopped = p.number;
                 if stopped != 0 {
@@ -353,22 +314,24 @@ pub fn load(file: &[u8], table: &mut [[u32; 9]; 256]) -> Loaded
                 let after = p.blocks;
                 blocks = after;
                 rows[i] = Row { kind };
-                put_row(table, i, kind);
-                next = next + l.end + 1;
+                next = next + end + 1;
                 i += 1;
             }
-            RowRead::Wrong(q) => {
+            Line::Wrong(q) => {
                 stopped = q;
                 break;
             }
         }
     }
-    let more = next < file.len();
-    let no = first_no(head, stopped, i, more, blocks.depth);
+    let line = 4 + head.vars + i;
+    let end = 4 + head.vars + head.count;
+    let first = head.verdict;
+    let later = ask_rows(stopped, line, next < file.len(), blocks.depth, end);
+    let verdict = and_then(first, later);
     Loaded {
-        number: no.number,
-        place: no.place,
-        head,
+        verdict,
+        vars: if_read(verdict, head.vars),
+        count: if_read(verdict, head.count),
         rows,
     }
 }

@@ -7,7 +7,7 @@ use desk::Values;
 fn keep_argument(i: usize, store: &mut [i32], at: usize) -> bool {
     let mut word = [0u8; 11];
     let n = os::arg(i, &mut word);
-    desk::keep_value(&word[..n], store, at)
+    words::keep_value(&word[..n], store, at)
 }
 
 // Reads the store's values: argument 4 and all after it.

@@ -1,7 +1,7 @@
 -- Laws of the questions on words. Assumes nothing.
 use mathlib.Core.Path.{_≡_, refl, sym, ap, _∙_}
 use mathlib.Core.Bool.{Bool, true, false, cond, _&&_}
-use Prim.Native.Nat.{ℕ, zero, suc, _≤_, _<_}
+use Prim.Native.Nat.{ℕ, zero, suc, _+_, _≤_, _<_}
 use native.Mathlib.Omega.{arith}
 use lib.IntN.{ℤ, pos}
 use lib.Signed.{leZ}
@@ -21,7 +21,7 @@ use denote.Enum.Declared.{tagOf}
 use Rattle.rules.proofs.Name.{the-type}
 use Rattle.rules.proofs.Word as word
 use lib.ListN.{drop}
-use Rattle.text.specs.Words.{cut, following, Next}
+use Rattle.text.specs.Words.{before, cut, following, Next}
 use Rattle.text.specs.declared.Found.{Found}
 use Rattle.text.proofs.Line.{Says, says-word, Reached, reach-end}
 use Rattle.text.proofs.Cut.{row-cut}
@@ -30,7 +30,7 @@ use Rattle.rules.specs.declared.Comparison.{Comparison}
 use Rattle.rules.specs.declared.Operand.{Operand}
 use Rattle.rules.specs.declared.Name.{Name}
 use Rattle.rules.specs.declared.Change.{Change}
-use Rattle.rows.specs.Words.{after, Lined, RowLine}
+use Rattle.rows.specs.Words.{after, lineOf, Lined, rowLine}
 use Rattle.rules.proofs.Reading.{variable-yes, number-yes, sooner-yes}
 
 -- the first of two questions
@@ -189,11 +189,11 @@ for-yes vars w q e z =
 
 -- ---- a row's line, whose words are read up to the byte p
 module _ (s : List ℕ) (at m p : ℕ) (f : (ℕ → Word) → RowRead) (h : Reached s at m p) where
-  pub lined-read : (k : Kind) → Read k ≡ f (after Missing (drop at s)) → asksEnd (after Missing (drop at s) (suc m)) ≡ 0 → Lined s at f (record { row = Read k; end = p })
-  lined-read k e z = record { row = e; end = λ _ _. reach-end s at m p h z }
+  pub lined-read : (k : Kind) → Read k ≡ f (after Missing (drop at s)) → asksEnd (after Missing (drop at s) (suc m)) ≡ 0 → Lined s at f (Line.Read k p)
+  lined-read k e z = record { line = ap (Line.Read k) (reach-end s at m p h z) ∙ ap (λ x. lineOf x (at + before 10 (drop at s))) e }
 
-pub lined-wrong : (s : List ℕ) (at p : ℕ) (f : (ℕ → Word) → RowRead) (q : ℕ) → Wrong q ≡ f (after Missing (drop at s)) → Lined s at f (record { row = Wrong q; end = p })
-lined-wrong s at p f q e = record { row = e; end = λ k w. absurd (let y : _≡_ {A = ℕ} 0 1 = cc in omega arith) }
+pub lined-wrong : (s : List ℕ) (at : ℕ) (f : (ℕ → Word) → RowRead) (q : ℕ) → Wrong q ≡ f (after Missing (drop at s)) → Lined s at f (Line.Wrong q)
+lined-wrong s at f q e = record { line = ap (λ x. lineOf x (at + before 10 (drop at s))) e }
 
 -- a loop with a test
 module _ (after : Bool) (vars : ℕ) (w : ℕ → Word) (q : ℕ) where
@@ -239,13 +239,13 @@ module _ (s : List ℕ) (at vars : ℕ) (f : Found) (n : Next s at f) (few : var
       words zero h = says-word f x said ∙ n .word
       words (suc k) h = ap cut (sym (n .more k))
 
-  pub row-other : OneOf no-keywords (tagOf word.the-type x) → (p : ℕ) → RowLine s at vars (record { row = Wrong 3; end = p })
+  pub row-other : OneOf no-keywords (tagOf word.the-type x) → Line.Wrong 3 ≡ rowLine s at vars
   unfolding rowOf
-  row-other o p = record { row = no-keyword x o .1 vars (after x (drop (f .end) s)) ∙ whole; end = λ k w. absurd (let y : _≡_ {A = ℕ} 0 1 = cc in omega arith) }
+  row-other o = ap (λ r. lineOf r (at + before 10 (drop at s))) (no-keyword x o .1 vars (after x (drop (f .end) s)) ∙ whole)
 
-  pub row-named : (name : Name) (r : Line) → x ≡ Keyword name → Lined s (f .end) (λ w. namedRow vars w name) r → RowLine s at vars r
+  pub row-named : (name : Name) (r : Line) → x ≡ Keyword name → Lined s (f .end) (λ w. namedRow vars w name) r → r ≡ rowLine s at vars
   unfolding rowOf
-  row-named name r e l = record {
-    row = l .row ∙ named-after vars x (drop (f .end) s) name ∙ ap (firstWord vars (after x (drop (f .end) s))) (sym e) ∙ whole;
-    end = λ k w. l .end k w ∙ n .line;
-  }
+  row-named name r e l =
+      let same : namedRow vars (after Missing (drop (f .end) s)) name ≡ rowOf vars (following (drop at s)) =
+      named-after vars x (drop (f .end) s) name ∙ ap (firstWord vars (after x (drop (f .end) s))) (sym e) ∙ whole in
+      l .line ∙ ap (lineOf (namedRow vars (after Missing (drop (f .end) s)) name)) (n .line) ∙ ap (λ y. lineOf y (at + before 10 (drop at s))) same

@@ -3,11 +3,10 @@ use mathlib.Core.Path.{_≡_}
 use mathlib.Core.List.{List}
 use Prim.Native.Nat.{ℕ, zero, suc, _+_}
 use lib.ListN.{drop}
-use Rattle.rules.specs.declared.Kind.{Kind}
 use Rattle.rules.specs.declared.Word.{Word}
 use Rattle.rules.specs.declared.Word.the-variants.{Missing}
 use Rattle.rules.specs.declared.RowRead.{RowRead}
-use Rattle.rules.specs.declared.RowRead.the-variants.{Read}
+use Rattle.rules.specs.declared.RowRead.the-variants.{Read, Wrong}
 use Rattle.rules.specs.File.{rowOf}
 use Rattle.text.specs.Words.{before, cut, following}
 use Rattle.rows.specs.declared.Line.{Line}
@@ -17,12 +16,15 @@ abbrev pub after : Word → List ℕ → ℕ → Word
 after x s zero = x
 after x s (suc k) = cut (following s k)
 
--- the words after the first are read as f says; a row that is read ends at the line's LF
-pub record Lined (s : List ℕ) (at : ℕ) (f : (ℕ → Word) → RowRead) (r : Line) : Type 0 where
-  pub row : r .row ≡ f (after Missing (drop at s))
-  pub end : (k : Kind) → r .row ≡ Read k → r .end ≡ at + before 10 (drop at s)
+-- a row that is read has `end`, the byte of its line's LF; any other line has the question that has no
+abbrev pub lineOf : RowRead → ℕ → Line
+lineOf (Read k) end = Line.Read k end
+lineOf (Wrong q) end = Line.Wrong q
 
--- the same of all words
-pub record RowLine (s : List ℕ) (at vars : ℕ) (r : Line) : Type 0 where
-  pub row : r .row ≡ rowOf vars (following (drop at s))
-  pub end : (k : Kind) → r .row ≡ Read k → r .end ≡ at + before 10 (drop at s)
+-- the words after the first are read as f says; the line ends at its LF
+pub record Lined (s : List ℕ) (at : ℕ) (f : (ℕ → Word) → RowRead) (r : Line) : Type 0 where
+  pub line : r ≡ lineOf (f (after Missing (drop at s))) (at + before 10 (drop at s))
+
+-- the line whose first word begins after the byte `at`
+abbrev pub rowLine : List ℕ → ℕ → ℕ → Line
+rowLine s at vars = lineOf (rowOf vars (following (drop at s))) (at + before 10 (drop at s))

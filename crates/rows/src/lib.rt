@@ -4,7 +4,6 @@ use rules::Comparison;
 use rules::Kind;
 use rules::Name;
 use rules::Operand;
-use rules::RowRead;
 use rules::Word;
 use text::next_word;
 use text::said;
@@ -16,7 +15,7 @@ ghost use lib.IntN.{ℤ, pos, natAbs};
 ghost use Rattle.rules.specs.Values.{highest};
 ghost use Rattle.rules.specs.File.{sooner, asksEnd, asksNumber, asksVariable, asksOperand, asksComparison, asksChange, asksStep, asksOne, asksOrder, numberOf, variableOf, operandOf, comparisonOf, changeOf, stepOf, bareRow, setRow, moveRow, cueRow, whileRow, doRow, forRow, namedRow};
 ghost use Rattle.text.specs.Words.{Ends, following};
-ghost use Rattle.rows.specs.Words.{Lined, RowLine};
+ghost use Rattle.rows.specs.Words.{Lined, rowLine};
 
 // The first question of two that has no; 0: both have yes.
 pub fn sooner(p: u32, q: u32) -> u32
@@ -221,10 +220,10 @@ pub fn step_of(x: Word, w: Word) -> Change
     }
 }
 
-// A row's line: its row, or the question that has no; and the byte where reading ended, the line's LF if the row was read.
-pub struct Line {
-    pub row: RowRead,
-    pub end: usize,
+// A row's line: its row and the byte of the line's LF, or the question that has no.
+pub enum Line {
+    Read(Kind, usize),
+    Wrong(u32),
 }
 
 // Whether the byte `at` is the line's LF: nothing stands after it.
@@ -242,15 +241,9 @@ fn bare_row(s: &[u8], at: usize, vars: u32, kind: Kind) -> Line
 {
     let q = asks_last(s, at);
     if q == 0 {
-        return Line {
-            row: RowRead::Read(kind),
-            end: at,
-        };
+        return Line::Read(kind, at);
     }
-    Line {
-        row: RowRead::Wrong(q),
-        end: at,
-    }
+    Line::Wrong(q)
 }
 
 // `set v0 X`
@@ -267,15 +260,9 @@ fn set_row(s: &[u8], at: usize, vars: u32) -> Line
     let q = sooner(asks_variable(vars, v), last);
     if q == 0 {
         let kind = Kind::Set(variable_of(vars, v), operand_of(vars, x));
-        return Line {
-            row: RowRead::Read(kind),
-            end,
-        };
+        return Line::Read(kind, end);
     }
-    Line {
-        row: RowRead::Wrong(q),
-        end,
-    }
+    Line::Wrong(q)
 }
 
 // `add v0 C`, `sub v0 C`, `mul v0 C`, `div v0 C`
@@ -292,15 +279,9 @@ fn move_row(s: &[u8], at: usize, vars: u32, name: Name) -> Line
     let q = sooner(asks_variable(vars, v), last);
     if q == 0 {
         let kind = Kind::Move(variable_of(vars, v), change_of(name, x));
-        return Line {
-            row: RowRead::Read(kind),
-            end,
-        };
+        return Line::Read(kind, end);
     }
-    Line {
-        row: RowRead::Wrong(q),
-        end,
-    }
+    Line::Wrong(q)
 }
 
 // `cue N`
@@ -314,15 +295,9 @@ fn cue_row(s: &[u8], at: usize, vars: u32) -> Line
     let q = sooner(asks_number(0, 9_999, n), asks_last(s, end));
     if q == 0 {
         let kind = Kind::Cue(amount(n));
-        return Line {
-            row: RowRead::Read(kind),
-            end,
-        };
+        return Line::Read(kind, end);
     }
-    Line {
-        row: RowRead::Wrong(q),
-        end,
-    }
+    Line::Wrong(q)
 }
 
 // A loop with a test, asked before each turn or after.
@@ -353,15 +328,9 @@ fn test_row(s: &[u8], at: usize, vars: u32, after: bool) -> Line
     if q == 0 {
         let limit = operand_of(vars, x);
         let kind = test(after, variable_of(vars, v), comparison_of(o), limit);
-        return Line {
-            row: RowRead::Read(kind),
-            end,
-        };
+        return Line::Read(kind, end);
     }
-    Line {
-        row: RowRead::Wrong(q),
-        end,
-    }
+    Line::Wrong(q)
 }
 
 // `for v0 X <= Y add C`
@@ -392,15 +361,9 @@ fn for_row(s: &[u8], at: usize, vars: u32) -> Line
         let limit = operand_of(vars, y);
         let step = step_of(n, z);
         let kind = Kind::For(variable_of(vars, v), start, comparison_of(o), limit, step);
-        return Line {
-            row: RowRead::Read(kind),
-            end,
-        };
+        return Line::Read(kind, end);
     }
-    Line {
-        row: RowRead::Wrong(q),
-        end,
-    }
+    Line::Wrong(q)
 }
 
 // By the first word, which ends at the byte `at`.
@@ -424,26 +387,16 @@ fn named_row(s: &[u8], at: usize, vars: u32, name: Name) -> Line
     }
 }
 
-// No row.
-fn shapeless(end: usize) -> Line
-    ensures { λ r. ⌜ r ≡ record { row = RowRead.Wrong 3; end = end } ⌝ }
-{
-    Line {
-        row: RowRead::Wrong(3),
-        end,
-    }
-}
-
 // The row whose first word begins after the byte `at`, or its first question that has no.
 pub fn row_of(s: &[u8], at: usize, vars: u32) -> Line
     requires { ⌜ Ends (drop at (now s)) × (vars ≤ 16) ⌝ }
-    ensures { λ r. ⌜ RowLine (now (s .entry)) at vars r ⌝ }
+    ensures { λ r. ⌜ r ≡ rowLine (now (s .entry)) at vars ⌝ }
 {
     let f = next_word(s, at);
     let first = said(f.tag, f.value);
     let end = f.end;
     match first {
         Word::Keyword(n) => named_row(s, end, vars, n),
-        _ => shapeless(end),
+        _ => Line::Wrong(3),
     }
 }

@@ -32,4 +32,4 @@ run-capped π one script ok store inside picks allowance =
         let e : allowance ≡ total + (allowance - total) = omega arith in
         let m : total ≡ min allowance total = omega arith in
         let within = demand3 π one script ok store inside picks total (omega arith) in
-        ap with-ticks e ∙ run-grown π one _ _ _ picks total (allowance - total) (within .unspent) ∙ ap with-ticks m
+        ap with-ticks e ∙ run-grown π _ _ _ picks total (allowance - total) (within .unspent) ∙ ap with-ticks m

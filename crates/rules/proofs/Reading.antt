@@ -17,6 +17,7 @@ use Rattle.rules.specs.declared.Word.the-variants.{Missing, Number, Vari
 use Rattle.rules.specs.declared.RowRead.{RowRead}
 use Rattle.rules.specs.declared.RowRead.the-variants.{Read, Wrong}
 use Rattle.rules.specs.Values.{lowest, highest}
+use Rattle.rules.specs.Blocks.{viewOf}
 use Rattle.rules.specs.Nesting.{Open, Nest, Nested, nested, wrong, nest, nestRow, andRows, nestRows}
 use Rattle.rules.specs.Ranges.{Range}
 use Rattle.rules.specs.Scripts.{All, none, some, Script, OperandLimits, ChangeLimits, RowLimits, RangeLimits, OperandBelow, RowBelow, Legal}
@@ -209,17 +210,17 @@ ranges-fine (suc n) p ls done rs ms a e =
     (g, omega (arith, length-append done (File.rangeOf w ∷ [])))
 
 -- the rows
-pub nest-snoc : (ks : List Kind) (k : Kind) (s : Nest) → nestRows (ks ++ (k ∷ [])) s ≡ andRows (nestRows ks s) (nestRow k)
+pub nest-snoc : (ks : List Kind) (k : Kind) (s : Nest) → nestRows (ks ++ (k ∷ [])) s ≡ andRows (nestRows ks s) (nestRow (viewOf k))
 unfolding nestRows andRows
-nest-snoc [] k s = last (nestRow k s)
+nest-snoc [] k s = last (nestRow (viewOf k) s)
   where
     last : (n : Nested) → andRows n (λ t. nestRows [] t) ≡ n
     last (nested t) = refl
     last (wrong q) = refl
-nest-snoc (j ∷ ks) k s = go (nestRow j s) (λ t. nest-snoc ks k t)
+nest-snoc (j ∷ ks) k s = go (nestRow (viewOf j) s) (λ t. nest-snoc ks k t)
   where
-    go : (n : Nested) → ((t : Nest) → nestRows (ks ++ (k ∷ [])) t ≡ andRows (nestRows ks t) (nestRow k))
-        → andRows n (λ t. nestRows (ks ++ (k ∷ [])) t) ≡ andRows (andRows n (λ t. nestRows ks t)) (nestRow k)
+    go : (n : Nested) → ((t : Nest) → nestRows (ks ++ (k ∷ [])) t ≡ andRows (nestRows ks t) (nestRow (viewOf k)))
+        → andRows n (λ t. nestRows (ks ++ (k ∷ [])) t) ≡ andRows (andRows n (λ t. nestRows ks t)) (nestRow (viewOf k))
     go (nested t) ih = ih t
     go (wrong q) ih = refl
 
@@ -229,13 +230,13 @@ record Sound (vars : ℕ) (rows : File.Rows) : Type 0 where
   below : All (RowBelow vars) (rows .kinds)
   nests : nestRows (rows .kinds) (record { open-blocks = []; loops = 0 }) ≡ nested (rows .nest)
 
-sound-more : (vars : ℕ) (rows : File.Rows) (k : Kind) (s : Nest) → Sound vars rows → RowLimits k × RowBelow vars k → nestRow k (rows .nest) ≡ nested s
+sound-more : (vars : ℕ) (rows : File.Rows) (k : Kind) (s : Nest) → Sound vars rows → RowLimits k × RowBelow vars k → nestRow (viewOf k) (rows .nest) ≡ nested s
     → Sound vars (record { kinds = rows .kinds ++ (k ∷ []); nest = s })
 unfolding andRows
 sound-more vars rows k s h f e = record {
   limits = all-snoc (rows .kinds) k (h .limits) (f .0);
   below = all-snoc (rows .kinds) k (h .below) (f .1);
-  nests = nest-snoc (rows .kinds) k _ ∙ ap (λ n. andRows n (nestRow k)) (h .nests) ∙ e;
+  nests = nest-snoc (rows .kinds) k _ ∙ ap (λ n. andRows n (nestRow (viewOf k))) (h .nests) ∙ e;
 }
 
 rows-fine : (vars n p : ℕ) (ls : List (List ℕ)) (done rows : File.Rows) (ms : List (List ℕ)) → Sound vars done
@@ -244,7 +245,7 @@ unfolding File.rowLines File.rowLine File.placed
 rows-fine vars zero p ls done rows ms h e = let f : done ≡ rows = cc in (subst (Sound vars) f h, omega (arith, ap (λ (r : File.Rows). length (r .kinds)) f))
 rows-fine vars (suc n) p ls done rows ms h e = by (File.rowOf vars (nextWords File.rowKey ls)) refl (λ r a g. rows-fine vars n (suc p) (nextLines ls) r rows ms a g) e
   where
-    more : (k : Kind) → File.rowOf vars (nextWords File.rowKey ls) ≡ Read k → (m : Nested) → nestRow k (done .nest) ≡ m
+    more : (k : Kind) → File.rowOf vars (nextWords File.rowKey ls) ≡ Read k → (m : Nested) → nestRow (viewOf k) (done .nest) ≡ m
         → ((r : File.Rows) → Sound vars r → File.rowLines vars n (suc p) (nextLines ls) r ≡ File.read rows ms → Sound vars rows × (length (rows .kinds) ≡ length (r .kinds) + n))
         → File.placed p (done .kinds) k m (λ r. File.rowLines vars n (suc p) (nextLines ls) r) ≡ File.read rows ms
         → Sound vars rows × (length (rows .kinds) ≡ length (done .kinds) + suc n)
@@ -257,7 +258,7 @@ rows-fine vars (suc n) p ls done rows ms h e = by (File.rowOf vars (nextWords Fi
         → ((r : File.Rows) → Sound vars r → File.rowLines vars n (suc p) (nextLines ls) r ≡ File.read rows ms → Sound vars rows × (length (rows .kinds) ≡ length (r .kinds) + n))
         → File.rowLine p done r (λ x. File.rowLines vars n (suc p) (nextLines ls) x) ≡ File.read rows ms
         → Sound vars rows × (length (rows .kinds) ≡ length (done .kinds) + suc n)
-    by (Read k) r ih f = more k r (nestRow k (done .nest)) refl ih f
+    by (Read k) r ih f = more k r (nestRow (viewOf k) (done .nest)) refl ih f
     by (Wrong c) r ih f = refused-not c p rows ms f
 
 -- a count

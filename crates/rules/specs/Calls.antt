@@ -7,7 +7,7 @@ use lib.IntN.{ℤ}
 use lib.Signed.{leZ}
 use lib.ListN.{length, drop}
 use Rattle.rules.specs.declared.Kind.{Kind}
-use Rattle.rules.specs.declared.Kind.the-variants.{Set, Move, Cue, Pick, Else, End, While, Do, For}
+use Rattle.rules.specs.Blocks.{View, is-plain, is-pick, is-else, is-end, is-loop, viewOf}
 use Rattle.rules.specs.declared.Reply.{Reply}
 use Rattle.rules.specs.declared.Reply.the-variants.{Accepted, Refused}
 use Rattle.rules.specs.declared.LoopCount.{LoopCount}
@@ -38,8 +38,11 @@ judgedFile π (read script ls) = judgedBy script (verdict π (length (script .ro
 judgedFile π (Reading.refused q p) = refuses q p
 
 -- 1: "Is the lent scratch at least 8,192 32-bit numbers?"
+abbrev pub scratchSize : ℕ
+scratchSize = 8_192
+
 unfoldable pub judged : Prices → ℕ → List ℕ → Judged
-judged π scratch file = cond (leb 8_192 scratch) (judgedFile π (fileScript file)) (refuses 1 8_192)
+judged π scratch file = cond (leb scratchSize scratch) (judgedFile π (fileScript file)) (refuses 1 scratchSize)
 
 -- 14: "is the buffer at least as long as the report?"
 unfoldable pub fitting : List ℕ → ℕ → Reply
@@ -71,21 +74,17 @@ storeVerdict i (r ∷ rs) [] = refused 15 i
 storeVerdict i (r ∷ rs) (x ∷ xs) = cond (leZ (r .lo) x && leZ x (r .hi)) (storeVerdict (suc i) rs xs) (refused 15 i)
 
 -- a loop's head row
-unfoldable pub isLoop : Kind → Bool
-isLoop End = false
-isLoop Else = false
-isLoop Pick = false
-isLoop (Set v x) = false
-isLoop (Move v c) = false
-isLoop (Cue n) = false
-isLoop (While v c x) = true
-isLoop (Do v c x) = true
-isLoop (For v s c x d) = true
+unfoldable pub isLoop : View → Bool
+isLoop (is-plain p) = false
+isLoop is-pick = false
+isLoop is-else = false
+isLoop is-end = false
+isLoop (is-loop form test last) = true
 
 -- the head rows of the loops, in row order, from row i on
 unfoldable pub loopRows : ℕ → List Kind → List ℕ
 loopRows i [] = []
-loopRows i (k ∷ ks) = cond (isLoop k) (i ∷ loopRows (suc i) ks) (loopRows (suc i) ks)
+loopRows i (k ∷ ks) = cond (isLoop (viewOf k)) (i ∷ loopRows (suc i) ks) (loopRows (suc i) ks)
 
 -- "The two counts are, for each loop, the sum and the greatest of its entries' turns"
 unfoldable pub countsAt : List Entry → List ℕ → List LoopCount

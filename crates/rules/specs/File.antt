@@ -19,6 +19,7 @@ use Rattle.rules.specs.declared.Word.the-variants.{Missing, Number, Vari
 use Rattle.rules.specs.declared.RowRead.{RowRead}
 use Rattle.rules.specs.declared.RowRead.the-variants.{Read, Wrong}
 use Rattle.rules.specs.Values.{lowest, highest}
+use Rattle.rules.specs.Blocks.{viewOf}
 use Rattle.rules.specs.Nesting.{Open, Nest, Nested, nested, wrong, nestRow}
 use Rattle.rules.specs.Ranges.{Range}
 use Rattle.rules.specs.Scripts.{Script}
@@ -318,7 +319,7 @@ placed p done k (wrong q) next = refused q p
 -- all questions of a row's line
 unfoldable pub rowLine : ℕ → Rows → RowRead → (Rows → Reading Rows) → Reading Rows
 rowLine p done (Wrong q) next = refused q p
-rowLine p done (Read k) next = placed p (done .kinds) k (nestRow k (done .nest)) next
+rowLine p done (Read k) next = placed p (done .kinds) k (nestRow (viewOf k) (done .nest)) next
 
 -- "R lines `row=`": n lines from line p on, after those read
 unfoldable pub rowLines : ℕ → ℕ → ℕ → List (List ℕ) → Rows → Reading Rows

@@ -121,3 +121,7 @@ reportText rows ls ticks =
 -- of an accepted script
 unfoldable pub scriptReport : Prices → Script → List ℕ
 scriptReport π script = reportText (length (script .rows)) (reportLines script) (reportTicks π script)
+
+-- no report is longer
+abbrev pub longestReport : ℕ
+longestReport = 2_089

@@ -8,15 +8,15 @@ use lib.Dec.{T, eqb, eqb→eq}
 use lib.ListN.{length, getD, take}
 use lib.IntN.{ℤ}
 use Rattle.rules.specs.declared.Kind.{Kind}
-use Rattle.rules.specs.declared.Kind.the-variants.{Set, Move, Cue, Pick, Else, End, While, Do, For}
+use Rattle.rules.specs.declared.Kind.the-variants.{End}
 use Rattle.rules.specs.declared.Row.{Row}
 use Rattle.rules.specs.declared.Ending.{Ending}
 use Rattle.rules.specs.declared.Ending.the-variants.{Ended}
 use Rattle.rules.specs.Values.{put}
-use Rattle.rules.specs.Blocks.{Test, kindsOf}
+use Rattle.rules.specs.Blocks.{Test, Form, while, do-while, for, Last, no-step, step-by, View, is-plain, is-pick, is-else, is-end, is-loop, viewOf, viewAt, kindsOf}
 use Rattle.rules.specs.Figures.{Prices, ones}
 use Rattle.rules.specs.Run.{State, Out, go, halt, holds}
-use Rattle.rules.specs.RowMachine.{Tally, begin, turn, Phase, fresh, testing, Place, Next, more, over, to, chosen, outcome, paid, picked, tests, test, onEnd, onRow, next, steps, Partners, pairs, rank}
+use Rattle.rules.specs.RowMachine.{Tally, tallyOf, begin, turn, Phase, fresh, testing, Place, Next, more, over, to, chosen, outcome, paid, picked, tests, onEnd, onRow, next, steps, Partners, pairs, rank}
 use Rattle.rules.specs.Scripts.{All, some, RowLimits, RowBelow}
 use Rattle.rules.proofs.RowSimulation.{falls-more, next-row, next-past}
 use Rattle.rules.proofs.Pairing.{partners, pairs-in}
@@ -28,7 +28,7 @@ use Rattle.rules.specs.Nesting.{nest, nestRows}
 use Rattle.actions.specs.declared.Machine.{Machine}
 use Rattle.actions.specs.declared.Status.{Status}
 use Rattle.actions.specs.declared.Status.the-variants.{Going, Over}
-use Rattle.actions.specs.States.{phaseOf, stateOf, placeOf, tallyOf, byStatus, nextOf, andTests, endTo, rowTo, isGoing, overAt, Room, Doable, Fitting, Steps}
+use Rattle.actions.specs.States.{phaseOf, stateOf, placeOf, byStatus, nextOf, andTests, endTo, rowTo, isGoing, overAt, Room, Doable, Fitting, Steps}
 use Rattle.runner.specs.Runs.{Roomy, roomy-over, roomy-more, Ready, Finished}
 
 -- every element by its index
@@ -97,31 +97,26 @@ module _ (π : Prices) where
   near-picked i j (x ∷ xs) s c = near-chosen (eqb x 0) (near-to _ _ _ (less-same c)) (near-to _ _ _ (less-same c))
 
   module _ (rows : List Kind) (shut opener : ℕ → ℕ) where
-    near-end : (r : Kind) (h e : ℕ) (ph : Phase) (s : State) (c : Tally) → Near c (onEnd π rows shut opener r h e ph s c)
+    near-end : (w : View) (h e : ℕ) (ph : Phase) (s : State) (c : Tally) → Near c (onEnd π rows shut opener w h e ph s c)
     unfolding onEnd
-    near-end (Set v x) h e ph s c = near-to _ _ _ (less-same c)
-    near-end (Move v d) h e ph s c = near-to _ _ _ (less-same c)
-    near-end (Cue n) h e ph s c = near-to _ _ _ (less-same c)
-    near-end Pick h e ph s c = near-to _ _ _ (less-same c)
-    near-end Else h e ph s c = near-to _ _ _ (less-same c)
-    near-end End h e ph s c = near-to _ _ _ (less-same c)
-    near-end (While v d x) h e ph s c = near-tests h e _ s (less-same c)
-    near-end (Do v d x) h e ph s c = near-tests h e _ s (less-same c)
-    near-end (For v y d x m) h e fresh s c = near-outcome _ _ _ (less-same c)
-    near-end (For v y d x m) h e testing s c = near-tests h e _ s (less-same c)
+    near-end (is-plain p) h e ph s c = near-to _ _ _ (less-same c)
+    near-end is-pick h e ph s c = near-to _ _ _ (less-same c)
+    near-end is-else h e ph s c = near-to _ _ _ (less-same c)
+    near-end is-end h e ph s c = near-to _ _ _ (less-same c)
+    near-end (is-loop form t no-step) h e ph s c = near-tests h e t s (less-same c)
+    near-end (is-loop form t (step-by p)) h e fresh s c = near-outcome _ _ _ (less-same c)
+    near-end (is-loop form t (step-by p)) h e testing s c = near-tests h e t s (less-same c)
 
-    near-row : (r : Kind) (i : ℕ) (ph : Phase) (s : State) (c : Tally) → Near c (onRow π rows shut opener r i ph s c)
+    near-row : (w : View) (i : ℕ) (ph : Phase) (s : State) (c : Tally) → Near c (onRow π rows shut opener w i ph s c)
     unfolding onRow paid
-    near-row (Set v x) i ph s c = near-outcome _ _ _ (less-same c)
-    near-row (Move v d) i ph s c = near-outcome _ _ _ (less-same c)
-    near-row (Cue n) i ph s c = near-outcome _ _ _ (less-same c)
-    near-row Pick i ph s c = near-chosen _ (near-picked i _ (s .picks) _ c) near-over
-    near-row Else i ph s c = near-to _ _ _ (less-same c)
-    near-row End i ph s c = near-end _ _ i ph s c
-    near-row (While v d x) i ph s c = near-tests i _ _ s (less-begin i c)
-    near-row (Do v d x) i ph s c = near-turn _ i _ s (less-begin i c)
-    near-row (For v y d x m) i fresh s c = near-outcome _ _ _ (less-begin i c)
-    near-row (For v y d x m) i testing s c = near-tests i _ _ s (less-same c)
+    near-row (is-plain p) i ph s c = near-outcome _ _ _ (less-same c)
+    near-row is-pick i ph s c = near-chosen _ (near-picked i _ (s .picks) _ c) near-over
+    near-row is-else i ph s c = near-to _ _ _ (less-same c)
+    near-row is-end i ph s c = near-end _ _ i ph s c
+    near-row (is-loop while t last) i ph s c = near-tests i _ t s (less-begin i c)
+    near-row (is-loop do-while t last) i ph s c = near-turn _ i _ s (less-begin i c)
+    near-row (is-loop (for x) t last) i fresh s c = near-outcome _ _ _ (less-begin i c)
+    near-row (is-loop (for x) t last) i testing s c = near-tests i _ t s (less-same c)
 
     near-next : (m : Place) → Near (m .tally) (next π rows shut opener m)
     unfolding next
@@ -157,41 +152,36 @@ module _ (rows : List Kind) (shut opener : ℕ → ℕ) where
   onto-tests m h e i t c (halt a j u es) q f = one (sym q)
 
   module _ (i : ℕ) (l : i < length rows) where
-    -- row i, of kind k, and an `end` of a block that a row of kind k begins
-    at-row : (k : Kind) → getD rows i End ≡ k → (ph : Phase) (s : State) (c : Tally) → onRow ones rows shut opener k i ph s c ≡ next ones rows shut opener (record { row = i; phase = ph; now = s; tally = c })
-    at-row k e ph s c = sym (next-row ones rows shut opener i k ph s c l e)
+    -- row i, and an `end` of a block, by their views
+    at-row : (w : View) → viewAt rows i ≡ w → (ph : Phase) (s : State) (c : Tally) → onRow ones rows shut opener w i ph s c ≡ next ones rows shut opener (record { row = i; phase = ph; now = s; tally = c })
+    at-row w e ph s c = sym (next-row ones rows shut opener i w ph s c l e)
 
-    at-end : (k : Kind) → getD rows i End ≡ End → getD rows (opener i) End ≡ k → (ph : Phase) (s : State) (c : Tally)
-        → onEnd ones rows shut opener k (opener i) i ph s c ≡ next ones rows shut opener (record { row = i; phase = ph; now = s; tally = c })
+    at-end : (w : View) → viewAt rows i ≡ is-end → viewAt rows (opener i) ≡ w → (ph : Phase) (s : State) (c : Tally)
+        → onEnd ones rows shut opener w (opener i) i ph s c ≡ next ones rows shut opener (record { row = i; phase = ph; now = s; tally = c })
     unfolding onRow
-    at-end k e q ph s c = ap (λ z. onEnd ones rows shut opener z (opener i) i ph s c) (sym q) ∙ at-row End e ph s c
+    at-end w e q ph s c = ap (λ z. onEnd ones rows shut opener z (opener i) i ph s c) (sym q) ∙ at-row is-end e ph s c
 
-    onto-end : (k : Kind) → getD rows i End ≡ End → getD rows (opener i) End ≡ k → (ph : Phase) (s : State) (c : Tally)
-        → Onto (record { row = i; phase = ph; now = s; tally = c }) (endTo rows shut opener k (opener i) i ph s c)
+    onto-end : (w : View) → viewAt rows i ≡ is-end → viewAt rows (opener i) ≡ w → (ph : Phase) (s : State) (c : Tally)
+        → Onto (record { row = i; phase = ph; now = s; tally = c }) (endTo rows shut opener w (opener i) i ph s c)
     unfolding onEnd
-    onto-end (For v y d x m) e q fresh s c = onto-tests _ (opener i) i i (test v d x) c _ (sym (at-end _ e q fresh s c)) (λ u. at-end _ e q testing u c)
-    onto-end (For v y d x m) e q testing s c = one (at-end _ e q testing s c)
-    onto-end (Set v x) e q ph s c = one (at-end _ e q ph s c)
-    onto-end (Move v d) e q ph s c = one (at-end _ e q ph s c)
-    onto-end (Cue n) e q ph s c = one (at-end _ e q ph s c)
-    onto-end Pick e q ph s c = one (at-end _ e q ph s c)
-    onto-end Else e q ph s c = one (at-end _ e q ph s c)
-    onto-end End e q ph s c = one (at-end _ e q ph s c)
-    onto-end (While v d x) e q ph s c = one (at-end _ e q ph s c)
-    onto-end (Do v d x) e q ph s c = one (at-end _ e q ph s c)
+    onto-end (is-plain p) e q ph s c = one (at-end _ e q ph s c)
+    onto-end is-pick e q ph s c = one (at-end _ e q ph s c)
+    onto-end is-else e q ph s c = one (at-end _ e q ph s c)
+    onto-end is-end e q ph s c = one (at-end _ e q ph s c)
+    onto-end (is-loop form t no-step) e q ph s c = one (at-end _ e q ph s c)
+    onto-end (is-loop form t (step-by p)) e q fresh s c = onto-tests _ (opener i) i i t c _ (sym (at-end _ e q fresh s c)) (λ u. at-end _ e q testing u c)
+    onto-end (is-loop form t (step-by p)) e q testing s c = one (at-end _ e q testing s c)
 
-    onto-row : (k : Kind) → getD rows i End ≡ k → (ph : Phase) (s : State) (c : Tally) → Onto (record { row = i; phase = ph; now = s; tally = c }) (rowTo rows shut opener k i ph s c)
+    onto-row : (w : View) → viewAt rows i ≡ w → (ph : Phase) (s : State) (c : Tally) → Onto (record { row = i; phase = ph; now = s; tally = c }) (rowTo rows shut opener w i ph s c)
     unfolding onRow
-    onto-row (For v y d x m) e fresh s c = onto-tests _ i (shut i) i (test v d x) (begin i c) _ (sym (at-row _ e fresh s c)) (λ u. at-row _ e testing u (begin i c))
-    onto-row (For v y d x m) e testing s c = one (at-row _ e testing s c)
-    onto-row End e ph s c = onto-end _ e refl ph s c
-    onto-row (Set v x) e ph s c = one (at-row _ e ph s c)
-    onto-row (Move v d) e ph s c = one (at-row _ e ph s c)
-    onto-row (Cue n) e ph s c = one (at-row _ e ph s c)
-    onto-row Pick e ph s c = one (at-row _ e ph s c)
-    onto-row Else e ph s c = one (at-row _ e ph s c)
-    onto-row (While v d x) e ph s c = one (at-row _ e ph s c)
-    onto-row (Do v d x) e ph s c = one (at-row _ e ph s c)
+    onto-row (is-plain p) e ph s c = one (at-row _ e ph s c)
+    onto-row is-pick e ph s c = one (at-row _ e ph s c)
+    onto-row is-else e ph s c = one (at-row _ e ph s c)
+    onto-row is-end e ph s c = onto-end _ e refl ph s c
+    onto-row (is-loop while t last) e ph s c = one (at-row _ e ph s c)
+    onto-row (is-loop do-while t last) e ph s c = one (at-row _ e ph s c)
+    onto-row (is-loop (for x) t last) e fresh s c = onto-tests _ i (shut i) i t (begin i c) _ (sym (at-row _ e fresh s c)) (λ u. at-row _ e testing u (begin i c))
+    onto-row (is-loop (for x) t last) e testing s c = one (at-row _ e testing s c)
 
   -- the state x is reached from the start, with room
   pub record Held (start x : Next) : Type 0 where
@@ -237,9 +227,9 @@ abbrev kinds : List Row → ℕ → List Kind
 kinds rows count = take count (kindsOf rows)
 
 -- what the loop keeps
-pub record Runs (rows : List Row) (count : ℕ) (t : Tables) (picks : List ℕ) (m₀ : Machine) (store₀ : List ℤ) (turns₀ all₀ most₀ : List ℕ) (m : Machine) (store : List ℤ) (turns all most : List ℕ) : Type 0 where
-  pub lengths : (length store ≡ length store₀) × (length turns ≡ length turns₀) × (length all ≡ length all₀) × (length most ≡ length most₀)
-  pub held : Held (kinds rows count) (tableOf (t .shut)) (tableOf (t .opener)) (nextOf m₀ store₀ picks (tallyOf turns₀ all₀ most₀)) (nextOf m store picks (tallyOf turns all most))
+pub record Runs (rows : List Row) (count : ℕ) (t : Tables) (picks : List ℕ) (m₀ : Machine) (store₀ : List ℤ) (counts₀ : List (List ℕ)) (m : Machine) (store : List ℤ) (counts : List (List ℕ)) : Type 0 where
+  pub lengths : (length store ≡ length store₀) × (length counts ≡ 256)
+  pub held : Held (kinds rows count) (tableOf (t .shut)) (tableOf (t .opener)) (nextOf m₀ store₀ picks (tallyOf counts₀)) (nextOf m store picks (tallyOf counts))
   pub left : m .left ≤ m₀ .left
   pub used : m .used ≤ length picks
 
@@ -248,8 +238,8 @@ going-is : (s : Status) → isGoing s ≡ true → s ≡ Going
 going-is Going e = refl
 going-is (Over x i) e = absurd (let z : _≡_ {A = ℕ} 0 1 = cc in omega arith)
 
-module _ (rows : List Row) (count : ℕ) (t : Tables) (picks : List ℕ) (m₀ : Machine) (store₀ : List ℤ) (turns₀ all₀ most₀ : List ℕ) (full : length rows ≡ 256)
-    (ready : Ready rows count t m₀ store₀ picks turns₀ all₀ most₀) where
+module _ (rows : List Row) (count : ℕ) (t : Tables) (picks : List ℕ) (m₀ : Machine) (store₀ : List ℤ) (counts₀ : List (List ℕ)) (full : length rows ≡ 256)
+    (ready : Ready rows count t m₀ store₀ picks counts₀) where
   abbrev ks : List Kind
   ks = kinds rows count
 
@@ -271,29 +261,26 @@ module _ (rows : List Row) (count : ℕ) (t : Tables) (picks : List ℕ) (m₀ :
       let q = pairs-in ks (omega arith) (length ks) (omega arith) in
       subst (λ n. opener i < n) e (subst (λ (g : ℕ → ℕ). g i < length ks) (sym (ready .found .openers)) (q .opener-in i))
 
-  pub runs-start : Runs rows count t picks m₀ store₀ turns₀ all₀ most₀ m₀ store₀ turns₀ all₀ most₀
-  runs-start = record { lengths = (refl, refl, refl, refl); held = held-start ks shut opener _ (ready .room); left = omega arith; used = ready .used }
+  pub runs-start : Runs rows count t picks m₀ store₀ counts₀ m₀ store₀ counts₀
+  runs-start = record { lengths = (refl, ready .long); held = held-start ks shut opener _ (ready .room); left = omega arith; used = ready .used }
 
-  module _ (m : Machine) (store : List ℤ) (turns all most : List ℕ) (now : Runs rows count t picks m₀ store₀ turns₀ all₀ most₀ m store turns all most) (on : isGoing (m .status) ≡ true) where
+  module _ (m : Machine) (store : List ℤ) (counts : List (List ℕ)) (now : Runs rows count t picks m₀ store₀ counts₀ m store counts) (on : isGoing (m .status) ≡ true) where
     abbrev here : Place
-    here = placeOf m store picks (tallyOf turns all most)
+    here = placeOf m store picks (tallyOf counts)
 
-    is-here : nextOf m store picks (tallyOf turns all most) ≡ more here
-    is-here = ap (λ z. byStatus z m store picks (tallyOf turns all most)) (going-is (m .status) on)
+    is-here : nextOf m store picks (tallyOf counts) ≡ more here
+    is-here = ap (λ z. byStatus z m store picks (tallyOf counts)) (going-is (m .status) on)
 
-    held-here : Held ks shut opener (nextOf m₀ store₀ picks (tallyOf turns₀ all₀ most₀)) (more here)
-    held-here = subst (λ x. Held ks shut opener (nextOf m₀ store₀ picks (tallyOf turns₀ all₀ most₀)) x) is-here (now .held)
+    held-here : Held ks shut opener (nextOf m₀ store₀ picks (tallyOf counts₀)) (more here)
+    held-here = subst (λ x. Held ks shut opener (nextOf m₀ store₀ picks (tallyOf counts₀)) x) is-here (now .held)
 
-    room-here : Room turns all most
+    room-here : Room counts
     room-here = by (held-here .room)
       where
-        by : Roomy (length ks) (more here) → Room turns all most
-        by (roomy-more f) =
-            let (a, b, c) = ready .long in
-            let (_, d, e, g) = now .lengths in
-            record { rows = (omega arith, omega arith, omega arith); turn = λ p. let (u, v) = f p in (omega arith, omega arith) }
+        by : Roomy (length ks) (more here) → Room counts
+        by (roomy-more f) = record { rows = now .lengths .1; turn = λ p. let (u, v) = f p in (omega arith, omega arith) }
 
-    pub doable : (j e : ℕ) → j < count → e < 256 → Doable e j (getD rows j (record { kind = End }) .kind) store turns all most
+    pub doable : (j e : ℕ) → j < count → e < 256 → Doable e j (getD rows j (record { kind = End }) .kind) store counts
     doable j e l k =
         let n = size-is in
         let q = kind-of count rows j l in
@@ -304,43 +291,42 @@ module _ (rows : List Row) (count : ℕ) (t : Tables) (picks : List ℕ) (m₀ :
           room = room-here;
         }
 
-    pub fitting : m .row < count → Fitting ks shut opener (m .row) (shut (m .row)) (opener (m .row)) (getD rows (opener (m .row)) (record { kind = End }) .kind)
-    fitting l = record { shuts = refl; opens = refl; kind = kind-of count rows (opener (m .row)) (opener-in (m .row) l) }
+    pub fitting : m .row < count → Fitting ks shut opener (m .row) (shut (m .row)) (opener (m .row)) (viewOf (getD rows (opener (m .row)) (record { kind = End }) .kind))
+    fitting l = record { shuts = refl; opens = refl; head = ap viewOf (kind-of count rows (opener (m .row)) (opener-in (m .row) l)) }
 
     pub head-in : m .row < count → opener (m .row) < count
     head-in l = opener-in (m .row) l
 
     -- another state that is a step of the code on
-    runs-on : (r : Machine) (store′ : List ℤ) (turns′ all′ most′ : List ℕ) → (length store′ ≡ length store) × (length turns′ ≡ length turns) × (length all′ ≡ length all) × (length most′ ≡ length most)
-        → Onto ks shut opener here (nextOf r store′ picks (tallyOf turns′ all′ most′)) → r .left ≤ m .left → r .used ≤ length picks
-        → Runs rows count t picks m₀ store₀ turns₀ all₀ most₀ r store′ turns′ all′ most′ × (weight (length ks) (nextOf r store′ picks (tallyOf turns′ all′ most′)) < weight (length ks) (nextOf m store picks (tallyOf turns all most)))
-    runs-on r store′ turns′ all′ most′ (a, b, c, d) q l u =
-        let (h, w) = held-onto ks shut opener fit _ here _ held-here q in
-        let (a′, b′, c′, d′) = now .lengths in (
-          record { lengths = (a ∙ a′, b ∙ b′, c ∙ c′, d ∙ d′); held = h; left = omega (arith, now .left); used = u },
-          subst (λ x. weight (length ks) (nextOf r store′ picks (tallyOf turns′ all′ most′)) < weight (length ks) x) (sym is-here) w,
+    runs-on : (r : Machine) (store′ : List ℤ) (counts′ : List (List ℕ)) → (length store′ ≡ length store) × (length counts′ ≡ 256)
+        → Onto ks shut opener here (nextOf r store′ picks (tallyOf counts′)) → r .left ≤ m .left → r .used ≤ length picks
+        → Runs rows count t picks m₀ store₀ counts₀ r store′ counts′ × (weight (length ks) (nextOf r store′ picks (tallyOf counts′)) < weight (length ks) (nextOf m store picks (tallyOf counts)))
+    runs-on r store′ counts′ (a, b) q l u =
+        let (h, w) = held-onto ks shut opener fit _ here _ held-here q in (
+          record { lengths = (a ∙ now .lengths .0, b); held = h; left = omega (arith, now .left); used = u },
+          subst (λ x. weight (length ks) (nextOf r store′ picks (tallyOf counts′)) < weight (length ks) x) (sym is-here) w,
         )
 
     -- a row
-    pub runs-step : (r : Machine) (store′ : List ℤ) (turns′ all′ most′ : List ℕ) → (length store′ ≡ length store) × (length turns′ ≡ length turns) × (length all′ ≡ length all) × (length most′ ≡ length most)
+    pub runs-step : (r : Machine) (store′ : List ℤ) (counts′ : List (List ℕ)) → (length store′ ≡ length store) × (length counts′ ≡ 256)
         → m .row < count
-        → Steps m r store store′ picks (tallyOf turns all most) (tallyOf turns′ all′ most′) (rowTo ks shut opener (getD rows (m .row) (record { kind = End }) .kind) (m .row) (phaseOf (m .testing)))
-        → Runs rows count t picks m₀ store₀ turns₀ all₀ most₀ r store′ turns′ all′ most′ × (weight (length ks) (nextOf r store′ picks (tallyOf turns′ all′ most′)) < weight (length ks) (nextOf m store picks (tallyOf turns all most)))
-    runs-step r store′ turns′ all′ most′ same l s =
+        → Steps m r store store′ picks (tallyOf counts) (tallyOf counts′) (rowTo ks shut opener (viewOf (getD rows (m .row) (record { kind = End }) .kind)) (m .row) (phaseOf (m .testing)))
+        → Runs rows count t picks m₀ store₀ counts₀ r store′ counts′ × (weight (length ks) (nextOf r store′ picks (tallyOf counts′)) < weight (length ks) (nextOf m store picks (tallyOf counts)))
+    runs-step r store′ counts′ same l s =
         let n = size-is in
-        runs-on r store′ turns′ all′ most′ same
-        (subst (Onto ks shut opener here) (sym (s .same)) (onto-row ks shut opener (m .row) (omega arith) _ (kind-of count rows (m .row) l) _ _ _)) (s .left) (s .used (now .used))
+        runs-on r store′ counts′ same
+        (subst (Onto ks shut opener here) (sym (s .same)) (onto-row ks shut opener (m .row) (omega arith) _ (ap viewOf (kind-of count rows (m .row) l)) _ _ _)) (s .left) (s .used (now .used))
 
     -- past the last row
     pub runs-past : count ≤ m .row
-        → Runs rows count t picks m₀ store₀ turns₀ all₀ most₀ (overAt m (m .left) Ended count) store turns all most
-        × (weight (length ks) (over Ended count (stateOf m store picks) (tallyOf turns all most)) < weight (length ks) (nextOf m store picks (tallyOf turns all most)))
+        → Runs rows count t picks m₀ store₀ counts₀ (overAt m (m .left) Ended count) store counts
+        × (weight (length ks) (over Ended count (stateOf m store picks) (tallyOf counts)) < weight (length ks) (nextOf m store picks (tallyOf counts)))
     runs-past l =
         let n = size-is in
-        runs-on (overAt m (m .left) Ended count) store turns all most (refl, refl, refl, refl)
-        (one (sym (next-past ones ks shut opener (m .row) _ _ _ (omega arith) ∙ ap (λ k. over Ended k (stateOf m store picks) (tallyOf turns all most)) n))) (omega arith) (now .used)
+        runs-on (overAt m (m .left) Ended count) store counts (refl, now .lengths .1)
+        (one (sym (next-past ones ks shut opener (m .row) _ _ _ (omega arith) ∙ ap (λ k. over Ended k (stateOf m store picks) (tallyOf counts)) n))) (omega arith) (now .used)
 
   -- it is over
-  pub runs-over : (m : Machine) (store : List ℤ) (turns all most : List ℕ) → Runs rows count t picks m₀ store₀ turns₀ all₀ most₀ m store turns all most → isGoing (m .status) ≡ false
-      → Finished ks t m₀ m store₀ store picks (tallyOf turns₀ all₀ most₀) (tallyOf turns all most)
-  runs-over m store turns all most now off = record { n = now .held .n; same = now .held .same; over = off; left = now .left; used = now .used }
+  pub runs-over : (m : Machine) (store : List ℤ) (counts : List (List ℕ)) → Runs rows count t picks m₀ store₀ counts₀ m store counts → isGoing (m .status) ≡ false
+      → Finished ks t m₀ m store₀ store picks (tallyOf counts₀) (tallyOf counts)
+  runs-over m store counts now off = record { n = now .held .n; same = now .held .same; over = off; left = now .left; used = now .used }

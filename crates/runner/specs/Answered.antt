@@ -2,13 +2,14 @@
 use mathlib.Core.Path.{_≡_}
 use mathlib.Core.List.{List}
 use Prim.Native.Nat.{ℕ, _-_, _≤_}
-use lib.ListN.{length, getD, take}
+use lib.ListN.{length, take}
 use lib.IntN.{ℤ}
 use Rattle.rules.specs.declared.Kind.{Kind}
 use Rattle.rules.specs.declared.Row.{Row}
 use Rattle.rules.specs.declared.Ending.the-variants.{Spent}
 use Rattle.rules.specs.Blocks.{kindsOf}
 use Rattle.rules.specs.Figures.{ones}
+use Rattle.rules.specs.RowMachine.{Tally, tallyOf}
 use Rattle.rules.specs.Answers.{Answer, runTree, storeList, sumAt, mostAt}
 use Rattle.rules.specs.Scripts.{storeOf, treeOf}
 use Rattle.actions.specs.declared.Machine.{Machine}
@@ -22,8 +23,9 @@ abbrev pub runOf : List Kind → List ℤ → List ℕ → ℕ → Answer
 runOf rows store picks allowance = runTree ones (length rows) (treeOf rows) (storeOf store) picks allowance
 
 -- every count is 0
-pub record Cleared (counts : List ℕ) : Type 0 where
-  pub zero : (p : ℕ) → getD counts p 0 ≡ 0
+pub record Cleared (counts : List (List ℕ)) : Type 0 where
+  pub zero : tallyOf counts ≡ record { turns = λ _. 0; sum = λ _. 0; most = λ _. 0 }
+  pub long : length counts ≡ 256
 
 -- the answer's parts
 abbrev pub ranBy : Status → Machine → ℕ → Ran
@@ -33,19 +35,18 @@ ranBy (Over e i) m allowance = record { ending = e; row = i; ticks = allowance -
 abbrev pub ranOf : Machine → ℕ → Ran
 ranOf m allowance = ranBy (m .status) m allowance
 
--- rows that pass the questions 4 to 7 over the store's variables, at most 1,000,000,000,000 ticks, and a count for each row
-pub record Given (rows : List Row) (count : ℕ) (store : List ℤ) (allowance : ℕ) (turns all most : List ℕ) : Type 0 where
+-- rows that pass the questions 4 to 7 over the store's variables, and at most 1,000,000,000,000 ticks
+pub record Given (rows : List Row) (count : ℕ) (store : List ℤ) (allowance : ℕ) : Type 0 where
   pub size : count ≤ 256
   pub runs : Runnable (length store) (take count (kindsOf rows))
   pub ticks : allowance ≤ 1_000_000_000_000
-  pub long : (256 ≤ length turns) × (256 ≤ length all) × (256 ≤ length most)
 
 -- the answer, the store of `vars` variables, and the counts by row are a's
-pub record Answered (a : Answer) (r : Ran) (vars : ℕ) (store : List ℤ) (all most : List ℕ) : Type 0 where
+pub record Answered (a : Answer) (r : Ran) (vars : ℕ) (store : List ℤ) (c : Tally) : Type 0 where
   pub ending : r .ending ≡ a .ending
   pub row : r .row ≡ a .row
   pub ticks : r .ticks ≡ a .ticks
   pub used : r .used ≡ a .used
   pub final : store ≡ storeList vars (a .store)
-  pub sums : (p : ℕ) → getD all p 0 ≡ sumAt p (a .entries)
-  pub mosts : (p : ℕ) → getD most p 0 ≡ mostAt p (a .entries)
+  pub sums : (p : ℕ) → c .sum p ≡ sumAt p (a .entries)
+  pub mosts : (p : ℕ) → c .most p ≡ mostAt p (a .entries)

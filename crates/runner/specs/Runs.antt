@@ -12,12 +12,12 @@ use Rattle.rules.specs.Blocks.{kindsOf}
 use Rattle.rules.specs.Nesting.{nest, nestRows}
 use Rattle.rules.specs.Figures.{ones}
 use Rattle.rules.specs.Run.{State}
-use Rattle.rules.specs.RowMachine.{Tally, Place, Next, more, over, steps, rank}
+use Rattle.rules.specs.RowMachine.{Tally, tallyOf, Place, Next, more, over, steps, rank}
 use Rattle.rules.specs.Scripts.{All, RowLimits, RowBelow}
 use Rattle.pairs.specs.declared.Tables.{Tables}
 use Rattle.pairs.specs.Tables.{tableOf, Found}
 use Rattle.actions.specs.declared.Machine.{Machine}
-use Rattle.actions.specs.States.{nextOf, tallyOf, isGoing}
+use Rattle.actions.specs.States.{nextOf, isGoing}
 
 -- the questions 4 to 7 of rows over so many variables
 pub record Runnable (vars : ℕ) (rows : List Kind) : Type 0 where
@@ -31,12 +31,12 @@ pub data Roomy (R : ℕ) : Next → Type 0 where
   roomy-more : {m : Place} → ((p : ℕ) → (m .tally .turns p + rank R m < 2 ^ 63) × (m .tally .sum p + rank R m < 2 ^ 63)) → Roomy R (more m)
 
 -- the loop may begin
-pub record Ready (rows : List Row) (count : ℕ) (t : Tables) (m : Machine) (store : List ℤ) (picks turns all most : List ℕ) : Type 0 where
+pub record Ready (rows : List Row) (count : ℕ) (t : Tables) (m : Machine) (store : List ℤ) (picks : List ℕ) (counts : List (List ℕ)) : Type 0 where
   pub size : count ≤ 256
   pub runs : Runnable (length store) (take count (kindsOf rows))
   pub found : Found (take count (kindsOf rows)) t
-  pub long : (256 ≤ length turns) × (256 ≤ length all) × (256 ≤ length most)
-  pub room : Roomy (length (take count (kindsOf rows))) (nextOf m store picks (tallyOf turns all most))
+  pub long : length counts ≡ 256
+  pub room : Roomy (length (take count (kindsOf rows))) (nextOf m store picks (tallyOf counts))
   pub used : m .used ≤ length picks
 
 -- some steps of `rules`' machine lead from m to r, and r is over

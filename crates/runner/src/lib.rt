@@ -8,7 +8,8 @@ ghost use mathlib.Core.Path.{_≡_};
 ghost use Prim.Native.Nat.{_≤_};
 ghost use lib.ListN.{length, take};
 ghost use Rattle.rules.specs.Blocks.{kindsOf};
-ghost use Rattle.actions.specs.States.{isGoing, tallyOf};
+ghost use Rattle.rules.specs.RowMachine.{tallyOf};
+ghost use Rattle.actions.specs.States.{isGoing};
 ghost use Rattle.runner.specs.Runs.{Ready, Finished};
 ghost use Rattle.runner.specs.Answered.{Cleared, ranOf, runOf, Given, Answered};
 
@@ -23,7 +24,7 @@ fn going(m: Machine) -> bool
     }
 }
 
-// From a state on until the run is over. A run that is spent goes on from its last state with more ticks.
+// From a state on until the run is over. A state that is over stays as it is.
 pub fn resume(
     rows: [Row; 256],
     count: usize,
@@ -31,12 +32,10 @@ pub fn resume(
     from: Machine,
     store: &mut [i32],
     picks: &[u8],
-    turns: &mut [u64],
-    all: &mut [u64],
-    most: &mut [u64],
+    counts: &mut [[u64; 3]; 256],
 ) -> Machine
-    requires { ⌜ Ready rows count tables from (now store) (now picks) (now turns) (now all) (now most) ⌝ }
-    ensures { λ r. ⌜ Finished (take count (kindsOf rows)) tables from r (now (store .entry)) (now (store .exit)) (now (picks .entry)) (tallyOf (now (turns .entry)) (now (all .entry)) (now (most .entry))) (tallyOf (now (turns .exit)) (now (all .exit)) (now (most .exit))) ⌝ }
+    requires { ⌜ Ready rows count tables from (now store) (now picks) (now counts) ⌝ }
+    ensures { λ r. ⌜ Finished (take count (kindsOf rows)) tables from r (now (store .entry)) (now (store .exit)) (now (picks .entry)) (tallyOf (now (counts .entry))) (tallyOf (now (counts .exit))) ⌝ }
 {
     let mut m = from;
     while going(m) {
@@ -46,7 +45,7 @@ pub fn resume(
             let e = tables.shut[i] as usize;
             let h = tables.opener[i] as usize;
             let head = rows[h];
-            m = machine::step(m, row, e, head, h, store, picks, turns, all, most);
+            m = machine::step(m, row, e, head, h, store, picks, counts);
         } else {
             m = actions::ended(m, m.left, Ending::Ended, count);
         }
@@ -55,12 +54,13 @@ pub fn resume(
 }
 
 // All counts to 0.
-fn clear(counts: &mut [u64])
+fn clear(counts: &mut [[u64; 3]; 256])
+    requires { ⌜ length (now counts) ≡ 256 ⌝ }
     ensures { λ _. ⌜ Cleared (now (counts .exit)) ⌝ }
 {
     let mut i = 0;
-    while i < counts.len() {
-        counts[i] = 0;
+    while i < 256 {
+        counts[i] = [0, 0, 0];
         i += 1;
     }
 }
@@ -95,23 +95,19 @@ fn answer(m: Machine, allowance: u64) -> Ran
     }
 }
 
-// The run of the first `count` rows: document 01's, with the turns of the loops by their head rows. `turns` is a scratch.
+// The run of the first `count` rows: document 01's, with the turns of the loops by their head rows.
 pub fn run_rows(
     rows: [Row; 256],
     count: usize,
     store: &mut [i32],
     picks: &[u8],
     allowance: u64,
-    turns: &mut [u64],
-    all: &mut [u64],
-    most: &mut [u64],
+    counts: &mut [[u64; 3]; 256],
 ) -> Ran
-    requires { ⌜ Given rows count (now store) allowance (now turns) (now all) (now most) ⌝ }
-    ensures { λ r. ⌜ Answered (runOf (take count (kindsOf rows)) (now (store .entry)) (now (picks .entry)) allowance) r (length (now (store .entry))) (now (store .exit)) (now (all .exit)) (now (most .exit)) ⌝ }
+    requires { ⌜ Given rows count (now store) allowance × (length (now counts) ≡ 256) ⌝ }
+    ensures { λ r. ⌜ Answered (runOf (take count (kindsOf rows)) (now (store .entry)) (now (picks .entry)) allowance) r (length (now (store .entry))) (now (store .exit)) (tallyOf (now (counts .exit))) ⌝ }
 {
-    clear(turns);
-    clear(all);
-    clear(most);
+    clear(counts);
     let tables = pairs::partners(rows, count);
     let start = Machine {
         row: 0,
@@ -120,6 +116,6 @@ pub fn run_rows(
         used: 0,
         status: Status::Going,
     };
-    let end = resume(rows, count, tables, start, store, picks, turns, all, most);
+    let end = resume(rows, count, tables, start, store, picks, counts);
     answer(end, allowance)
 }

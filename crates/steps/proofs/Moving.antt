@@ -12,10 +12,11 @@ use Rattle.rules.specs.Steps.{still, rowStep, then, either, step}
 use Rattle.rules.specs.Bounds.{Ends}
 use Rattle.rules.proofs.Ends.{ends-more, then-ends}
 use Rattle.table.specs.Code.{kindAt}
-use Rattle.steps.specs.declared.Shape.{Shape}
+use Rattle.table.specs.declared.Shape.{Shape}
+use Rattle.table.specs.Shapes.{shapeOf, plainOf}
 use Rattle.steps.specs.declared.Stepped.{Stepped}
 use Rattle.steps.specs.declared.Moves.{Moves}
-use Rattle.steps.specs.Tree.{Ready, Walked, blockAt, shapeOf, plainOf}
+use Rattle.steps.specs.Tree.{Ready, Walked, blockAt, headOf}
 use Rattle.steps.specs.Sets.{setOf, none, withRow, bothOf, assignsFrom, SetIs}
 use Rattle.steps.specs.Body.{AtLoop, MovesOf, BodyMoves}
 use Rattle.steps.proofs.Laws.{PickIs, LoopIs}
@@ -51,7 +52,7 @@ module _ (rows : List Row) (count at v : ℕ) (first : List Bool) where
         moves = rw h (pick-step rows count at v r (k .moves) l u (f .moves, f .near) (g .moves, g .near));
       }
 
-      pub with-loop : i < count → {b : Stepped} → LoopIs rows count (kindAt rows i) i (b .next) → shapeOf (kindAt rows i) ≡ Shape.Loop
+      pub with-loop : i < count → {b : Stepped} → LoopIs rows count (headOf (kindAt rows i)) i (b .next) → shapeOf (kindAt rows i) ≡ Shape.Loop
           → {z n : List Bool} → setOf z ≡ none → MovesOf rows count (i + 1) v z n b → {o : List Bool} → SetIs o (withRow (setOf n) (plainOf (kindAt rows i)))
           → {m : List Bool} → SetIs m (bothOf (setOf set) (setOf o)) → {x : Bool} → x ≡ setOf o v → {t : Step} → t ≡ then s (cond x Unknown still) → Moving (b .next + 1) m t
       with-loop l u h {z} {n} e g {o} a {m} c f p =
@@ -59,7 +60,7 @@ module _ (rows : List Row) (count at v : ℕ) (first : List Bool) where
           record {
             long = c .long;
             sets = rw (c .value, own, both-loop) (loop-row rows count assignsFrom at (setOf first) (k .sets) l (r .built) u (from-loop _ _ _ h _ _));
-            moves = rw p (loop-step rows count at v r (k .moves) l u h (f ∙ ap (λ y. y v) own ∙ body-set v (kindAt rows i) h i (blockAt rows count (i + 1))));
+            moves = rw p (loop-step rows count at v r (k .moves) l u (f ∙ ap (λ y. y v) own ∙ body-set v (kindAt rows i) h i (blockAt rows count (i + 1))));
           }
 
       -- the walk is over

@@ -10,15 +10,13 @@ use lib.Seq.{getD-set-same, getD-set-other}
 use borrow.Author.Tests.{eqb-true, eqb-false, ltb-true, ltb-false, lt-ltb, le-ltb}
 use Rattle.rules.specs.declared.Kind.{Kind}
 use Rattle.rules.specs.declared.Kind.the-variants.{Set, Move, Cue, Pick, Else, End, While, Do, For}
-use Rattle.rules.specs.Blocks.{Plain, Block, done, plain, pick, loop, snoc}
+use Rattle.rules.specs.Blocks.{Plain, Last, no-step, step-by, View, is-plain, is-pick, is-else, is-end, is-loop, viewOf, withLast, Block, done, plain, pick, loop, snoc}
 use Rattle.rules.specs.Steps.{sets, starts, assigns}
 use Rattle.rules.proofs.Laws.{put-set}
-use Rattle.steps.specs.declared.Shape.{Shape}
-use Rattle.steps.specs.Tree.{shapeOf, plainOf, formOf, testOf, withLast}
+use Rattle.table.specs.declared.Shape.{Shape}
+use Rattle.table.specs.Shapes.{shapeBy, shapeOf, lastRow, plainBy, plainOf}
+use Rattle.steps.specs.Tree.{headBy, headOf, formOf, testOf}
 use Rattle.steps.specs.Sets.{setOf, none, withOne, withRow, bothOf, assignsFrom}
-
-pub no-shape : {A : Type 0} → Shape.Plain ≡ Shape.Loop → A
-no-shape e = absurd (let z : _≡_ {A = ℕ} 0 1 = cc in omega arith)
 
 or-assoc : (a b c : Bool) → a || (b || c) ≡ (a || b) || c
 or-assoc true b c = refl
@@ -71,42 +69,55 @@ module _ (x : ℕ → Bool) where
     from-pick e a b rest = λ d w. (or-assoc (x w) (assigns w a || assigns w b) (assigns w rest) ∙ ap (λ z. z || assigns w rest) (or-assoc (x w) (assigns w a) (assigns w b))) d
 
 -- what a loop assigns, its start and its body: what its body assigns
-or-again : (a b : Bool) → a || (b || a) ≡ b || a
-or-again true true = refl
-or-again true false = refl
-or-again false b = refl
-
-pub body-assigns : (v : ℕ) (k : Kind) → shapeOf k ≡ Shape.Loop → (i : ℕ) (b : Block) → assigns v (withLast k i b) ≡ assigns v b || sets v (plainOf k)
+pub body-assigns : (v : ℕ) (l : Last) (i : ℕ) (b : Block) → assigns v (withLast l i b) ≡ assigns v b || sets v (lastRow l)
 unfolding withLast sets
-body-assigns v (Set w x) h i b = no-shape h
-body-assigns v (Move w c) h i b = no-shape h
-body-assigns v (Cue n) h i b = sym (or-false _)
-body-assigns v Pick h i b = sym (or-false _)
-body-assigns v Else h i b = sym (or-false _)
-body-assigns v End h i b = sym (or-false _)
-body-assigns v (While w c x) h i b = sym (or-false _)
-body-assigns v (Do w c x) h i b = sym (or-false _)
-body-assigns v (For w s c x d) h i b = assigns-snoc v b i _
+body-assigns v no-step i b = sym (or-false _)
+body-assigns v (step-by p) i b = assigns-snoc v b i p
 
-pub loop-assigns : (v : ℕ) (k : Kind) → shapeOf k ≡ Shape.Loop → (i : ℕ) (b : Block) → starts v (formOf k) (testOf k) || assigns v (withLast k i b) ≡ assigns v (withLast k i b)
-unfolding formOf testOf withLast sets
-loop-assigns v (Set w x) h i b = no-shape h
-loop-assigns v (Move w c) h i b = no-shape h
-loop-assigns v (Cue n) h i b = refl
-loop-assigns v Pick h i b = refl
-loop-assigns v Else h i b = refl
-loop-assigns v End h i b = refl
-loop-assigns v (While w c x) h i b = refl
-loop-assigns v (Do w c x) h i b = refl
-loop-assigns v (For w s c x d) h i b = rw (assigns-snoc v b i) (or-again (eqb v w) (assigns v b))
+-- a loop's head stands for its body's last row
+pub head-row : (k : Kind) → shapeOf k ≡ Shape.Loop → plainOf k ≡ lastRow (headOf k .last)
+unfolding headOf
+head-row k h = by (viewOf k) h
+  where
+    by : (w : View) → shapeBy w ≡ Shape.Loop → plainBy w ≡ lastRow (headBy w .last)
+    by (is-plain p) h = absurd (let z : _≡_ {A = ℕ} 0 1 = cc in omega arith)
+    by is-pick h = refl
+    by is-else h = refl
+    by is-end h = refl
+    by (is-loop form test last) h = refl
+
+or-self : (a : Bool) → a || a ≡ a
+or-self true = refl
+or-self false = refl
+
+-- what a for's start assigns, its step row assigns
+start-row : (k : Kind) (v : ℕ) → starts v (formOf k) (testOf k) || sets v (lastRow (headOf k .last)) ≡ sets v (lastRow (headOf k .last))
+unfolding headOf viewOf sets
+start-row (Set w x) v = refl
+start-row (Move w c) v = refl
+start-row (Cue n) v = refl
+start-row Pick v = refl
+start-row Else v = refl
+start-row End v = refl
+start-row (While w c x) v = refl
+start-row (Do w c x) v = refl
+start-row (For w s c x d) v = or-self (eqb v w)
+
+or-within : (a b c : Bool) → a || c ≡ c → a || (b || c) ≡ b || c
+or-within true true c h = refl
+or-within true false c h = h
+or-within false b c h = refl
+
+pub loop-assigns : (v : ℕ) (k : Kind) (i : ℕ) (b : Block) → starts v (formOf k) (testOf k) || assigns v (withLast (headOf k .last) i b) ≡ assigns v (withLast (headOf k .last) i b)
+loop-assigns v k i b = rw (body-assigns v (headOf k .last) i b) (or-within (starts v (formOf k) (testOf k)) (assigns v b) _ (start-row k v))
 
 pub from-loop : (x : ℕ → Bool) (i : ℕ) (k : Kind) → shapeOf k ≡ Shape.Loop → (e : ℕ) (b rest : Block)
-    → assignsFrom x (loop i e (formOf k) (testOf k) (withLast k i b) rest) ≡ assignsFrom (withRow (assignsFrom x b) (plainOf k)) rest
+    → assignsFrom x (loop i e (formOf k) (testOf k) (withLast (headOf k .last) i b) rest) ≡ assignsFrom (withRow (assignsFrom x b) (plainOf k)) rest
 unfolding assignsFrom assigns withRow
-from-loop x i k h e b rest = λ d w.
-    (or-assoc (x w) (starts w (formOf k) (testOf k) || assigns w (withLast k i b)) (assigns w rest)
-    ∙ ap (λ z. (x w || z) || assigns w rest) (loop-assigns w k h i b ∙ body-assigns w k h i b)
-    ∙ ap (λ z. z || assigns w rest) (or-assoc (x w) (assigns w b) (sets w (plainOf k)))) d
+from-loop x i k h e b rest = rw (head-row k h) (λ d w.
+    (or-assoc (x w) (starts w (formOf k) (testOf k) || assigns w (withLast (headOf k .last) i b)) (assigns w rest)
+    ∙ ap (λ z. (x w || z) || assigns w rest) (loop-assigns w k i b ∙ body-assigns w (headOf k .last) i b)
+    ∙ ap (λ z. z || assigns w rest) (or-assoc (x w) (assigns w b) (sets w (lastRow (headOf k .last))))) d)
 
 -- no variable is in the set
 unfoldable pub clear : List Bool → Bool
@@ -134,9 +145,9 @@ unfolding bothOf assignsFrom none withRow
 both-loop x b p = λ d w. or-assoc (x w) (assigns w b) (sets w p) d
 
 -- the set of a loop's body
-pub body-set : (v : ℕ) (k : Kind) → shapeOf k ≡ Shape.Loop → (i : ℕ) (b : Block) → withRow (assignsFrom none b) (plainOf k) v ≡ assigns v (withLast k i b)
+pub body-set : (v : ℕ) (k : Kind) → shapeOf k ≡ Shape.Loop → (i : ℕ) (b : Block) → withRow (assignsFrom none b) (plainOf k) v ≡ assigns v (withLast (headOf k .last) i b)
 unfolding none withRow assignsFrom
-body-set v k h i b = sym (body-assigns v k h i b)
+body-set v k h i b = rw (head-row k h) (sym (body-assigns v (headOf k .last) i b))
 
 -- the union of two arrays, up to variable i
 module _ (a b : List Bool) where

@@ -12,21 +12,22 @@ use Rattle.rules.specs.declared.Kind.{Kind}
 use Rattle.rules.specs.declared.Kind.the-variants.{Set, Move, Cue, Pick, Else, End, While, Do, For}
 use Rattle.rules.specs.declared.Step.{Step}
 use Rattle.rules.specs.declared.Step.the-variants.{Add, Grow, Shrink, Unknown}
-use Rattle.rules.specs.Blocks.{changed, Plain, assign, cue, Block, done, plain, pick, loop, snoc}
+use Rattle.rules.specs.Blocks.{Plain, assign, cue, Last, no-step, step-by, viewOf, withLast, Block, done, plain, pick, loop, snoc}
 use Rattle.rules.specs.Steps.{still, sets, starts, assigns, sourceStep, changeStep, rowStep, then, either, stepFrom, step}
 use Rattle.rules.specs.Bounds.{Ends, Fine}
 use Rattle.rules.proofs.Ends.{ends-more, ends-only, still-ends, then-ends, either-ends, change-ends}
-use Rattle.steps.specs.declared.Shape.{Shape}
+use Rattle.table.specs.declared.Shape.{Shape}
 use Rattle.table.specs.Code.{kindAt}
-use Rattle.steps.specs.Tree.{Ready, Walked, blockAt, shapeOf, plainOf, withLast}
+use Rattle.table.specs.Shapes.{shapeOf, lastRow, plainOf}
+use Rattle.steps.specs.Tree.{Ready, Walked, blockAt, headOf}
 use Rattle.steps.specs.Body.{bodyAt}
 use Rattle.steps.proofs.Laws.{PickIs, LoopIs}
 use Rattle.steps.proofs.Walking.{Walking, begin, plain-row, pick-row, loop-row, at-close, at-last}
-use Rattle.steps.proofs.Sets.{loop-assigns, no-shape}
+use Rattle.steps.proofs.Sets.{head-row, loop-assigns}
 
 -- the step of one row within its limits
 pub row-ends : (v : ℕ) (k : Kind) → Fine k → Ends 1 (rowStep v (plainOf k))
-unfolding rowStep sourceStep
+unfolding rowStep sourceStep viewOf
 row-ends v (Set w x) h = ends-only 1 (eqb v w) Unknown tt
 row-ends v (Move w c) (l, h) = ends-only 1 (eqb v w) (changeStep c) (change-ends c h)
 row-ends v (Cue n) h = still-ends 1
@@ -93,13 +94,13 @@ module _ (rows : List Row) (count at v : ℕ) where
               next (either x y) (e - i) (e + 1) (omega arith) either-room
               (pick-row rows count (steps v) at still (k .walk) l (r .built) t (λ rest. rw (f .0 .value, g .0 .value) refl))
 
-        pub loop-step : {e : ℕ} → LoopIs rows count (kindAt rows i) i e → shapeOf (kindAt rows i) ≡ Shape.Loop → {x : Bool} → x ≡ assigns v (bodyAt rows count i)
+        pub loop-step : {e : ℕ} → LoopIs rows count (headOf (kindAt rows i)) i e → {x : Bool} → x ≡ assigns v (bodyAt rows count i)
             → Stepping (e + 1) (then s (cond x Unknown still))
         unfolding stepFrom
-        loop-step {e} t h {x} f =
+        loop-step {e} t {x} f =
             next (cond x Unknown still) 1 (e + 1) (omega arith) (ends-only 1 x Unknown tt)
             (loop-row rows count (steps v) at still (k .walk) l (r .built) t
-            (λ rest. rw (loop-assigns v (kindAt rows i) h i (blockAt rows count (i + 1)), f) refl))
+            (λ rest. rw (loop-assigns v (kindAt rows i) i (blockAt rows count (i + 1)), f) refl))
 
 add-none : (a : ℤ) → a +ℤ pos 0 ≡ a
 add-none a = omega (ints, add-parts a (pos 0))
@@ -119,17 +120,13 @@ step-snoc x v (pick j e a b rest) i p = step-snoc (then x (either (stepFrom stil
 step-snoc x v (loop j e form test body rest) i p = step-snoc (then x (cond (starts v form test || assigns v body) Unknown still)) v rest i p
 
 -- the step over a loop's body
-pub body-is : (v : ℕ) (k : Kind) → shapeOf k ≡ Shape.Loop → (i : ℕ) (b : Block) → then (step v b) (rowStep v (plainOf k)) ≡ step v (withLast k i b)
+last-step : (v : ℕ) (l : Last) (i : ℕ) (b : Block) → then (step v b) (rowStep v (lastRow l)) ≡ step v (withLast l i b)
 unfolding withLast rowStep
-body-is v (Set w x) h i b = no-shape h
-body-is v (Move w c) h i b = no-shape h
-body-is v (Cue n) h i b = then-still (step v b)
-body-is v Pick h i b = then-still (step v b)
-body-is v Else h i b = then-still (step v b)
-body-is v End h i b = then-still (step v b)
-body-is v (While w c x) h i b = then-still (step v b)
-body-is v (Do w c x) h i b = then-still (step v b)
-body-is v (For w s c x d) h i b = sym (step-snoc still v b i (assign w (changed d)))
+last-step v no-step i b = then-still (step v b)
+last-step v (step-by p) i b = sym (step-snoc still v b i p)
+
+pub body-is : (v : ℕ) (k : Kind) → shapeOf k ≡ Shape.Loop → (i : ℕ) (b : Block) → then (step v b) (rowStep v (plainOf k)) ≡ step v (withLast (headOf k .last) i b)
+body-is v k h i b = rw (head-row k h) (last-step v (headOf k .last) i b)
 
 -- a row that does not assign v leaves its step as it is
 pub row-still : (v : ℕ) (p : Plain) → sets v p ≡ false → rowStep v p ≡ still

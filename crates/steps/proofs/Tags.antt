@@ -1,68 +1,66 @@
--- What the tag of a row tells of it.
+-- What the tag of a row that assigns tells of its step.
 use mathlib.Core.Path.{_≡_, refl}
-use mathlib.Core.Bool.{Bool, true, false, cond, _&&_, false≢true}
-use mathlib.Core.List.{List}
-use Prim.Native.Nat.{ℕ, _+_, _<_}
-use native.Mathlib.Omega.{arith}
-use borrow.Author.Tests.{ne-eqb, lt-ltb, le-ltb}
-use lib.Dec.{eqb, ltb}
+use mathlib.Core.Bool.{true, false, false≢true}
+use mathlib.Core.List.{List, [], _∷_}
+use Prim.Native.Nat.{ℕ, _<_}
+use types.Run.{OneOf, miss}
+use denote.Enum.Declared.{tagOf}
 use Rattle.rules.specs.declared.Step.the-variants.{Unknown}
+use Rattle.rules.specs.Blocks.{viewOf}
 use Rattle.rules.specs.Steps.{sets, rowStep, sourceStep, changeStep}
 use Rattle.rules.specs.Bounds.{Fine, FineChange}
-use Rattle.table.specs.Code.{number, numbersAt, variableIn, stepIn, kindAt, rowsOf}
-use Rattle.table.proofs.Laws.{kind-in, by-tag, set-at}
-use Rattle.steps.specs.declared.Shape.{Shape}
-use Rattle.steps.specs.Tree.{shapeOf, plainOf, pastElse}
+use Rattle.table.specs.declared.Tag.{Tag}
+use Rattle.table.specs.Code.{numbersAt, rowTag, kindBy, variableIn, stepIn, kindAt, rowsOf}
+use Rattle.table.specs.Shapes.{plainOf}
+use Rattle.table.proofs.Tag.{the-type}
+use Rattle.table.proofs.Laws.{kind-is}
 
--- the shape by the tag
-abbrev pub shapeBy : ℕ → Shape
-shapeBy t = cond (ltb t 2) Shape.Close (cond (eqb t 2) Shape.Branch (cond (ltb t 6) Shape.Plain Shape.Loop))
-
--- a set, a change or a for
-abbrev pub assignsBy : ℕ → Bool
-assignsBy t = cond (ltb t 5) (ltb 2 t) (ltb 7 t)
-
--- a row that assigns nothing
 none : {A B : Type 0} → A → false ≡ true → B
 none f h = absurd (false≢true h)
 
-module _ (rows : List (List ℕ)) (i : ℕ) where
-  pub shape-is : shapeOf (kindAt (rowsOf rows) i) ≡ shapeBy (number (numbersAt rows i) 0)
-  shape-is =
-      rw (kind-in rows i)
-      (by-tag (numbersAt rows i) (λ t k. shapeOf k ≡ shapeBy t) refl refl refl refl refl refl refl refl
-      (λ t h. rw (le-ltb t 2 (omega arith), ne-eqb t 2 (λ z. omega arith), le-ltb t 6 (omega arith))))
+-- any row but a set
+abbrev no-set : List ℕ
+no-set = 0 ∷ 1 ∷ 2 ∷ 4 ∷ 5 ∷ 6 ∷ 7 ∷ 8 ∷ []
 
-  pub past-is : pastElse (kindAt (rowsOf rows) i) i ≡ cond (eqb (number (numbersAt rows i) 0) 1) (i + 1) i
-  past-is =
-      rw (kind-in rows i)
-      (by-tag (numbersAt rows i) (λ t k. pastElse k i ≡ cond (eqb t 1) (i + 1) i) refl refl refl refl refl refl refl refl
-      (λ t h. rw (ne-eqb t 1 (λ z. omega arith))))
+module _ (e : List ℕ) where
+  set-step : (v : ℕ) → sets v (plainOf (kindBy Tag.Set e)) ≡ true → rowStep v (plainOf (kindBy Tag.Set e)) ≡ Unknown
+  unfolding kindBy viewOf rowStep sourceStep sets
+  set-step v h = rw h
 
-  pub sets-is : (w : ℕ) → sets w (plainOf (kindAt (rowsOf rows) i)) ≡ (assignsBy (number (numbersAt rows i) 0) && eqb w (variableIn (numbersAt rows i)))
-  unfolding sets
-  sets-is w =
-      rw (kind-in rows i)
-      (by-tag (numbersAt rows i) (λ t k. sets w (plainOf k) ≡ (assignsBy t && eqb w (variableIn (numbersAt rows i)))) refl refl refl refl refl refl refl refl
-      (λ t h. rw (le-ltb t 5 (omega arith), lt-ltb 7 t h)))
-
-  -- a row that assigns v: a set, or a change
-  pub step-set : (v : ℕ) → number (numbersAt rows i) 0 ≡ 3 → sets v (plainOf (kindAt (rowsOf rows) i)) ≡ true → rowStep v (plainOf (kindAt (rowsOf rows) i)) ≡ Unknown
-  unfolding rowStep sourceStep sets
-  step-set v q h = let a = set-at rows i q in rw (a, rw a at h)
-
-  pub step-change : (v : ℕ) → (number (numbersAt rows i) 0 ≡ 3 → ⊥) → Fine (kindAt (rowsOf rows) i) → sets v (plainOf (kindAt (rowsOf rows) i)) ≡ true
-      → FineChange (stepIn (numbersAt rows i)) × (rowStep v (plainOf (kindAt (rowsOf rows) i)) ≡ changeStep (stepIn (numbersAt rows i)))
-  unfolding rowStep sourceStep sets
-  step-change v =
-      rw (kind-in rows i)
-      (by-tag (numbersAt rows i) (λ t k. (t ≡ 3 → ⊥) → Fine k → sets v (plainOf k) ≡ true → FineChange (stepIn (numbersAt rows i)) × (rowStep v (plainOf k) ≡ changeStep (stepIn (numbersAt rows i))))
-      (λ n. none) (λ n. none) (λ n. none) (λ n f h. absurd (n refl)) (λ n f h. (f .1, rw h)) (λ n. none) (λ n. none) (λ n. none) (λ t l n f h. (f .3, rw h)))
+  change-steps : (g : Tag) → OneOf no-set (tagOf the-type g) → (v : ℕ) → Fine (kindBy g e) → sets v (plainOf (kindBy g e)) ≡ true
+      → FineChange (stepIn e) × (rowStep v (plainOf (kindBy g e)) ≡ changeStep (stepIn e))
+  unfolding kindBy viewOf rowStep sourceStep sets
+  change-steps Tag.End o v = none
+  change-steps Tag.Else o v = none
+  change-steps Tag.Pick o v = none
+  change-steps Tag.Set o v = absurd (miss no-set 3 tt o)
+  change-steps Tag.Move o v = λ f h. (f .1, rw h)
+  change-steps Tag.Cue o v = none
+  change-steps Tag.While o v = none
+  change-steps Tag.Do o v = none
+  change-steps Tag.For o v = λ f h. (f .3, rw h)
 
   -- it is one of the 16 variables
-  pub sets-small : Fine (kindAt (rowsOf rows) i) → sets (variableIn (numbersAt rows i)) (plainOf (kindAt (rowsOf rows) i)) ≡ true → variableIn (numbersAt rows i) < 16
-  unfolding sets
-  sets-small =
-      rw (kind-in rows i)
-      (by-tag (numbersAt rows i) (λ t k. Fine k → sets (variableIn (numbersAt rows i)) (plainOf k) ≡ true → variableIn (numbersAt rows i) < 16)
-      none none none (λ f h. f .0) (λ f h. f .0) none none none (λ t l f h. f .0))
+  small : (g : Tag) → Fine (kindBy g e) → sets (variableIn e) (plainOf (kindBy g e)) ≡ true → variableIn e < 16
+  unfolding kindBy viewOf sets
+  small Tag.End = none
+  small Tag.Else = none
+  small Tag.Pick = none
+  small Tag.Set = λ f h. f .0
+  small Tag.Move = λ f h. f .0
+  small Tag.Cue = none
+  small Tag.While = none
+  small Tag.Do = none
+  small Tag.For = λ f h. f .0
+
+-- the same of row i
+module _ (t : List (List ℕ)) (i : ℕ) {g : Tag} (p : g ≡ rowTag (numbersAt t i)) where
+  pub step-set : g ≡ Tag.Set → (v : ℕ) → sets v (plainOf (kindAt (rowsOf t) i)) ≡ true → rowStep v (plainOf (kindAt (rowsOf t) i)) ≡ Unknown
+  step-set q v = rw (kind-is t i p q) (set-step (numbersAt t i) v)
+
+  pub step-change : OneOf no-set (tagOf the-type g) → (v : ℕ) → Fine (kindAt (rowsOf t) i) → sets v (plainOf (kindAt (rowsOf t) i)) ≡ true
+      → FineChange (stepIn (numbersAt t i)) × (rowStep v (plainOf (kindAt (rowsOf t) i)) ≡ changeStep (stepIn (numbersAt t i)))
+  step-change o v = rw (kind-is t i p refl) (change-steps (numbersAt t i) g o v)
+
+pub sets-small : (t : List (List ℕ)) (i : ℕ) → Fine (kindAt (rowsOf t) i) → sets (variableIn (numbersAt t i)) (plainOf (kindAt (rowsOf t) i)) ≡ true → variableIn (numbersAt t i) < 16
+sets-small t i = rw (kind-is t i {g = rowTag (numbersAt t i)} refl refl) (small (numbersAt t i) (rowTag (numbersAt t i)))

@@ -4,10 +4,11 @@ use mathlib.Core.List.{List}
 use Prim.Native.Nat.{ℕ, _+_, _≤_, _<_}
 use native.Mathlib.Omega.{arith}
 use Rattle.rules.specs.declared.Row.{Row}
-use Rattle.rules.specs.Blocks.{Block, done, plain, pick, loop}
-use Rattle.steps.specs.declared.Shape.{Shape}
+use Rattle.rules.specs.Blocks.{viewOf, Block, done, plain, pick, loop}
+use Rattle.table.specs.declared.Shape.{Shape}
 use Rattle.table.specs.Code.{kindAt}
-use Rattle.steps.specs.Tree.{Ready, Walked, Whole, blockAt, endAt, shapeOf, plainOf, formOf, testOf, withLast, pastElse}
+use Rattle.table.specs.Shapes.{shapeOf, plainOf, pastElse}
+use Rattle.steps.specs.Tree.{Ready, Walked, Whole, blockAt, endAt, headOf, formOf, testOf, withLast}
 use Rattle.steps.proofs.Laws.{RowLaw, PickIs, LoopIs, ClosedAt, row-law, last-law}
 
 -- the rows build from any row on
@@ -16,14 +17,15 @@ ready r h = record { few = r .few; within = h; built = r .built; fine = r .fine 
 
 module _ (rows : List Row) (count : ℕ) where
   module _ (i : ℕ) (l : i < count) (built : Whole rows count) where
-    law-at : (s : Shape) → shapeOf (kindAt rows i) ≡ s → RowLaw rows count s (kindAt rows i) i
+    law-at : (s : Shape) → shapeOf (kindAt rows i) ≡ s → RowLaw rows count s (viewOf (kindAt rows i)) i
     law-at s e = rw e at (row-law rows count built i l)
 
     -- what a walk knows of a pick whose first part is closed at m, whose second part starts at s and ends at e
     pub pick-at : shapeOf (kindAt rows i) ≡ Shape.Branch → {m s e : ℕ} → m ≡ endAt rows count (i + 1) → s ≡ pastElse (kindAt rows m) m → e ≡ endAt rows count s → PickIs rows count i m s e
     pick-at h {m} {s} {e} p q r = let t = law-at Shape.Branch h in rw (r, q, p) t
 
-    pub loop-at : shapeOf (kindAt rows i) ≡ Shape.Loop → {e : ℕ} → e ≡ endAt rows count (i + 1) → LoopIs rows count (kindAt rows i) i e
+    pub loop-at : shapeOf (kindAt rows i) ≡ Shape.Loop → {e : ℕ} → e ≡ endAt rows count (i + 1) → LoopIs rows count (headOf (kindAt rows i)) i e
+    unfolding headOf
     loop-at h p = let t = law-at Shape.Loop h in rw p t
 
   module _ {A : Type 0} (f : A → Block → A) (at : ℕ) (x₀ : A) where
@@ -49,7 +51,7 @@ module _ (rows : List Row) (count : ℕ) where
       pick-row t g =
           record { low = omega arith; high = omega arith; value = k .value ∙ ap (f x) (t .block) ∙ g _; place = k .place ∙ t .end }
 
-      pub loop-row : {e : ℕ} → LoopIs rows count (kindAt rows i) i e → {y : A}
+      pub loop-row : {e : ℕ} → LoopIs rows count (headOf (kindAt rows i)) i e → {y : A}
           → ((rest : Block) → f x (loop i e (formOf (kindAt rows i)) (testOf (kindAt rows i)) (withLast (kindAt rows i) i (blockAt rows count (i + 1))) rest) ≡ f y rest)
           → Walking (e + 1) y
       loop-row t g =

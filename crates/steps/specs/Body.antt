@@ -9,12 +9,13 @@ use Rattle.rules.specs.declared.Step.{Step}
 use Rattle.rules.specs.Blocks.{Block}
 use Rattle.rules.specs.Steps.{assigns, step}
 use Rattle.rules.specs.Bounds.{Ends}
-use Rattle.steps.specs.declared.Shape.{Shape}
+use Rattle.table.specs.declared.Shape.{Shape}
 use Rattle.table.specs.Code.{kindAt}
+use Rattle.table.specs.Shapes.{shapeOf}
 use Rattle.steps.specs.declared.Moves.{Moves}
 use Rattle.steps.specs.declared.Stepped.{Stepped}
 use Rattle.steps.specs.Sets.{setOf, assignsFrom}
-use Rattle.steps.specs.Tree.{Ready, Walked, blockAt, endAt, shapeOf, withLast}
+use Rattle.steps.specs.Tree.{Ready, Walked, blockAt, endAt, withLast}
 
 abbrev pub bodyAt : List Row → ℕ → ℕ → Block
 bodyAt rows count i = withLast (kindAt rows i) i (blockAt rows count (i + 1))

@@ -8,12 +8,11 @@ use Rattle.rules.specs.declared.Operand.the-variants.{Constant}
 use Rattle.rules.specs.declared.Comparison.the-variants.{Less}
 use Rattle.rules.specs.declared.Row.{Row}
 use Rattle.rules.specs.declared.Kind.{Kind}
-use Rattle.rules.specs.declared.Kind.the-variants.{Set, Move, Cue, Pick, Else, End, While, Do, For}
 use Rattle.rules.specs.Bounds.{Fine}
 use Rattle.rules.specs.Blocks as blocks
-use Rattle.rules.specs.Blocks.{from, changed, Plain, assign, cue, Test, Form, while, do-while, for, Block, snoc, to-end, parts, build, kindsOf}
+use Rattle.rules.specs.Blocks.{Test, test, Form, while, Last, no-step, View, is-plain, is-pick, is-else, is-end, is-loop, viewOf, Block, to-end, parts, build, kindsOf}
 use Rattle.table.specs.Code.{kindAt}
-use Rattle.steps.specs.declared.Shape.{Shape}
+use Rattle.table.specs.Shapes.{pastElse}
 
 -- the kinds of the first `count` rows
 abbrev pub kinds : List Row → ℕ → List Kind
@@ -46,78 +45,36 @@ pub record Walked {A : Type 0} (rows : List Row) (count at next : ℕ) (x : A) (
   pub low : at ≤ next
   pub high : next ≤ count
 
--- the four shapes of rows that a walk tells apart
-abbrev pub shapeOf : Kind → Shape
-shapeOf (Set v x) = Shape.Plain
-shapeOf (Move v c) = Shape.Plain
-shapeOf (Cue n) = Shape.Plain
-shapeOf Pick = Shape.Branch
-shapeOf Else = Shape.Close
-shapeOf End = Shape.Close
-shapeOf (While v c x) = Shape.Loop
-shapeOf (Do v c x) = Shape.Loop
-shapeOf (For v s c x d) = Shape.Loop
+-- a loop's head row: its form, its test and its body's last row
+pub record LoopHead : Type 0 where
+  pub form : Form
+  pub test : Test
+  pub last : Last
 
--- what a row of each shape stands for in the tree; a row of another shape gives what is not read
-abbrev pub plainOf : Kind → Plain
-plainOf (Set v x) = assign v (from x)
-plainOf (Move v c) = assign v (changed c)
-plainOf (Cue n) = cue n
-plainOf Pick = cue 0
-plainOf Else = cue 0
-plainOf End = cue 0
-plainOf (While v c x) = cue 0
-plainOf (Do v c x) = cue 0
-plainOf (For v s c x d) = assign v (changed d)
+-- what is not read of a row that is no loop's head
+abbrev pub noLoop : LoopHead
+noLoop = record { form = while; test = test 0 Less (Constant (pos 0)); last = no-step }
 
-unfoldable pub formOf : Kind → Form
-formOf (Set v x) = while
-formOf (Move v c) = while
-formOf (Cue n) = while
-formOf Pick = while
-formOf Else = while
-formOf End = while
-formOf (While v c x) = while
-formOf (Do v c x) = do-while
-formOf (For v s c x d) = for s
+-- the head that a row is
+abbrev pub headBy : View → LoopHead
+headBy (is-plain p) = noLoop
+headBy is-pick = noLoop
+headBy is-else = noLoop
+headBy is-end = noLoop
+headBy (is-loop form test last) = record { form = form; test = test; last = last }
 
-abbrev pub noTest : Test
-noTest = record { tested = 0; comparison = Less; limit = Constant (pos 0) }
+unfoldable pub headOf : Kind → LoopHead
+headOf k = headBy (viewOf k)
 
-unfoldable pub testOf : Kind → Test
-testOf (Set v x) = noTest
-testOf (Move v c) = noTest
-testOf (Cue n) = noTest
-testOf Pick = noTest
-testOf Else = noTest
-testOf End = noTest
-testOf (While v c x) = record { tested = v; comparison = c; limit = x }
-testOf (Do v c x) = record { tested = v; comparison = c; limit = x }
-testOf (For v s c x d) = record { tested = v; comparison = c; limit = x }
+abbrev pub formOf : Kind → Form
+formOf k = headOf k .form
+
+abbrev pub testOf : Kind → Test
+testOf k = headOf k .test
 
 -- a for's step row ends its body
-unfoldable pub withLast : Kind → ℕ → Block → Block
-withLast (Set v x) i b = b
-withLast (Move v c) i b = b
-withLast (Cue n) i b = b
-withLast Pick i b = b
-withLast Else i b = b
-withLast End i b = b
-withLast (While v c x) i b = b
-withLast (Do v c x) i b = b
-withLast (For v s c x d) i b = snoc b i (assign v (changed d))
-
--- the row after an else; any other row stays
-abbrev pub pastElse : Kind → ℕ → ℕ
-pastElse (Set v x) i = i
-pastElse (Move v c) i = i
-pastElse (Cue n) i = i
-pastElse Pick i = i
-pastElse Else i = i + 1
-pastElse End i = i
-pastElse (While v c x) i = i
-pastElse (Do v c x) i = i
-pastElse (For v s c x d) i = i
+abbrev pub withLast : Kind → ℕ → Block → Block
+withLast k i b = blocks.withLast (headOf k .last) i b
 
 -- where the second part of the pick at row i starts: at the row after its else, or at its end
 abbrev pub secondAt : List Row → ℕ → ℕ → ℕ

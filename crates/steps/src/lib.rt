@@ -2,57 +2,24 @@
 use rules::Step;
 use rules::change_step;
 use rules::only;
+use table::Shape;
+use table::Tag;
+use table::assigns;
 use table::change_at;
+use table::past_else;
+use table::shape_at;
 use table::tag_at;
 use table::variable_at;
 ghost use mathlib.Core.Path.{_≡_};
-ghost use mathlib.Core.Bool.{_&&_};
-ghost use Prim.Native.Nat.{ℕ, _<_};
-ghost use lib.Dec.{eqb};
+ghost use Prim.Native.Nat.{_<_};
 ghost use lib.ListN.{length};
 ghost use Rattle.rules.specs.Steps.{sets, rowStep};
 ghost use Rattle.rules.specs.Bounds.{Fine};
-ghost use Rattle.table.specs.Code.{kindAt, rowsOf, numbersAt, variableIn};
-ghost use Rattle.steps.specs.Tree.{shapeOf, plainOf, pastElse, Ready};
+ghost use Rattle.table.specs.Code.{kindAt, rowsOf};
+ghost use Rattle.table.specs.Shapes.{plainOf};
+ghost use Rattle.steps.specs.Tree.{Ready};
 ghost use Rattle.steps.specs.Sets.{setOf, withOne, withRow, bothOf, SetIs};
 ghost use Rattle.steps.specs.Body.{AtLoop, MovesOf, BodyMoves};
-
-// What a walk tells apart: a plain row, a pick, a loop's head, an else or end.
-pub enum Shape {
-    Plain,
-    Branch,
-    Loop,
-    Close,
-}
-
-// The shape of row i by its tag: end and else have 0 and 1, pick 2, plain rows 3 to 5, loops more.
-pub fn shape_at(rows: &[[u32; 9]; 256], i: usize) -> Shape
-    requires { ⌜ i < 256 ⌝ }
-    ensures { λ r. ⌜ r ≡ shapeOf (kindAt (rowsOf (now (rows .entry))) i) ⌝ }
-{
-    let t = tag_at(rows, i);
-    if t < 2 {
-        return Shape::Close;
-    }
-    if t == 2 {
-        return Shape::Branch;
-    }
-    if t < 6 {
-        return Shape::Plain;
-    }
-    Shape::Loop
-}
-
-// The row after an else (tag 1); any other row stays.
-pub fn past_else(rows: &[[u32; 9]; 256], at: usize) -> usize
-    requires { ⌜ at < 256 ⌝ }
-    ensures { λ r. ⌜ r ≡ pastElse (kindAt (rowsOf (now (rows .entry))) at) at ⌝ }
-{
-    if tag_at(rows, at) == 1 {
-        return at + 1;
-    }
-    at
-}
 
 // Adds v to the set.
 fn add(set: &mut [bool; 16], v: u8)
@@ -61,18 +28,6 @@ fn add(set: &mut [bool; 16], v: u8)
 {
     let i = v as usize;
     set[i] = true;
-}
-
-// Does row i assign its variable: a set, a change or a for's step row (tags 3, 4 and 8)?
-fn assigns(rows: &[[u32; 9]; 256], i: usize) -> bool
-    requires { ⌜ i < 256 ⌝ }
-    ensures { λ r. ⌜ ((w : ℕ) → sets w (plainOf (kindAt (rowsOf (now (rows .entry))) i)) ≡ (r && eqb w (variableIn (numbersAt (now (rows .entry)) i)))) ⌝ }
-{
-    let t = tag_at(rows, i);
-    if t < 5 {
-        return 2 < t;
-    }
-    7 < t
 }
 
 // Adds the variable that a plain row assigns, or a for's step row.
@@ -120,10 +75,10 @@ fn row_step(rows: &[[u32; 9]; 256], i: usize, v: u8) -> Step
     if !sets_it(rows, i, v) {
         return Step::STILL;
     }
-    if tag_at(rows, i) == 3 {
-        return Step::Unknown;
+    match tag_at(rows, i) {
+        Tag::Set => Step::Unknown,
+        _ => change_step(change_at(rows, i)),
     }
-    change_step(change_at(rows, i))
 }
 
 // The step of one variable over some rows, and the row after them.

@@ -9,28 +9,24 @@ use lib.Dec.{ltb}
 use lib.ListN.{length, drop}
 use lib.Seq.{drop-cons, drop-length}
 use Rattle.rules.specs.declared.Kind.{Kind}
-use Rattle.rules.specs.declared.Kind.the-variants.{Set, Move, Cue, Pick, Else, End, While, Do, For}
-use Rattle.rules.specs.Blocks.{from, changed, Plain, assign, cue, Test, Form, Block, done, plain, pick, loop, Part, to-end, to-else, Built, parts, misfit, inFront, loopHead, pickHead, plainRow, closes, onRow, build}
+use Rattle.rules.specs.declared.Kind.the-variants.{End}
+use Rattle.rules.specs.Blocks.{Plain, Test, Form, Last, no-step, step-by, View, is-plain, is-pick, is-else, is-end, is-loop, viewOf, viewAt, withLast, Block, done, plain, pick, loop, Part, to-end, to-else, Built, parts, misfit, inFront, loopHead, pickHead, plainRow, closes, onRow, build}
 use Rattle.rules.specs.Nesting.{Open, in-loop, in-pick, in-else, Nest, Nested, nested, wrong, nest, opens, elses, ends, nestRow, andRows, nestRows}
-use Rattle.rules.proofs.Rows.{rowAt, partsAt, parts-row, parts-last, no-misfit}
+use Rattle.rules.proofs.Rows.{partsAt, parts-row, parts-last, no-misfit}
 use Rattle.survey.specs.Fold.{loopCount}
 use Rattle.survey.proofs.Folding.{count-snoc}
 
 -- the loops of rows, of parts, of what is built
-abbrev oneIfLoop : Kind → ℕ
-oneIfLoop (Set v x) = 0
-oneIfLoop (Move v c) = 0
-oneIfLoop (Cue n) = 0
-oneIfLoop Pick = 0
-oneIfLoop Else = 0
-oneIfLoop End = 0
-oneIfLoop (While v c x) = 1
-oneIfLoop (Do v c x) = 1
-oneIfLoop (For v s c x d) = 1
+abbrev oneIfLoop : View → ℕ
+oneIfLoop (is-plain p) = 0
+oneIfLoop is-pick = 0
+oneIfLoop is-else = 0
+oneIfLoop is-end = 0
+oneIfLoop (is-loop form test last) = 1
 
 rowLoops : List Kind → ℕ
 rowLoops [] = 0
-rowLoops (k ∷ ks) = oneIfLoop k + rowLoops ks
+rowLoops (k ∷ ks) = oneIfLoop (viewOf k) + rowLoops ks
 
 abbrev partLoops : Part → ℕ
 partLoops (to-end e b) = loopCount b
@@ -55,13 +51,18 @@ unfolding plainRow builtLoops loopCount
 plain-loops i p (parts q qs) = omega (arith, front (plain i p) 0 (λ b. omega arith) q)
 plain-loops i p misfit = refl
 
-loop-loops : (i : ℕ) (form : Form) (test : Test) (f : Block → Block) → ((b : Block) → loopCount (f b) ≡ loopCount b) → (b : Built) → (loopHead i form test f b ≡ misfit → ⊥)
-    → builtLoops (loopHead i form test f b) ≡ 1 + builtLoops b
+last-loops : (l : Last) (i : ℕ) (b : Block) → loopCount (withLast l i b) ≡ loopCount b
+unfolding withLast
+last-loops no-step i b = refl
+last-loops (step-by p) i b = count-snoc i p b
+
+loop-loops : (i : ℕ) (form : Form) (test : Test) (l : Last) (b : Built) → (loopHead i form test l b ≡ misfit → ⊥)
+    → builtLoops (loopHead i form test l b) ≡ 1 + builtLoops b
 unfolding loopHead builtLoops restLoops loopCount
-loop-loops i form test f h (parts (to-end e body) (rest ∷ more)) k = omega (arith, front (loop i e form test (f body)) (1 + loopCount (f body)) (λ b. refl) rest, h body)
-loop-loops i form test f h (parts (to-end e body) []) k = absurd (k refl)
-loop-loops i form test f h (parts (to-else e body) more) k = absurd (k refl)
-loop-loops i form test f h misfit k = absurd (k refl)
+loop-loops i form test l (parts (to-end e body) (rest ∷ more)) k = omega (arith, front (loop i e form test (withLast l i body)) (1 + loopCount (withLast l i body)) (λ b. refl) rest, last-loops l i body)
+loop-loops i form test l (parts (to-end e body) []) k = absurd (k refl)
+loop-loops i form test l (parts (to-else e body) more) k = absurd (k refl)
+loop-loops i form test l misfit k = absurd (k refl)
 
 pick-loops : (i : ℕ) (b : Built) → (pickHead i b ≡ misfit → ⊥) → builtLoops (pickHead i b) ≡ builtLoops b
 unfolding pickHead builtLoops restLoops loopCount
@@ -78,17 +79,13 @@ unfolding closes builtLoops restLoops
 close-loops new h (parts p ps) = omega arith
 close-loops new h misfit = refl
 
-row-loops : (k : Kind) (i : ℕ) (b : Built) → (onRow k i b ≡ misfit → ⊥) → builtLoops (onRow k i b) ≡ oneIfLoop k + builtLoops b
+row-loops : (w : View) (i : ℕ) (b : Built) → (onRow w i b ≡ misfit → ⊥) → builtLoops (onRow w i b) ≡ oneIfLoop w + builtLoops b
 unfolding onRow loopCount
-row-loops (Set v x) i b h = omega (arith, plain-loops i (assign v (from x)) b)
-row-loops (Move v c) i b h = omega (arith, plain-loops i (assign v (changed c)) b)
-row-loops (Cue n) i b h = omega (arith, plain-loops i (cue n) b)
-row-loops Pick i b h = omega (arith, pick-loops i b h)
-row-loops Else i b h = omega (arith, close-loops (to-else i done) refl b)
-row-loops End i b h = omega (arith, close-loops (to-end i done) refl b)
-row-loops (While v c x) i b h = loop-loops i _ _ _ (λ y. refl) b h
-row-loops (Do v c x) i b h = loop-loops i _ _ _ (λ y. refl) b h
-row-loops (For v s c x d) i b h = loop-loops i _ _ _ (λ y. count-snoc i _ y) b h
+row-loops (is-plain p) i b h = omega (arith, plain-loops i p b)
+row-loops is-pick i b h = omega (arith, pick-loops i b h)
+row-loops is-else i b h = omega (arith, close-loops (to-else i done) refl b)
+row-loops is-end i b h = omega (arith, close-loops (to-end i done) refl b)
+row-loops (is-loop form test last) i b h = loop-loops i form test last b h
 
 module _ (rows : List Kind) (tree : Block) (whole : build 0 rows ≡ parts (to-end (length rows) tree) []) where
   from-row : (n i : ℕ) → i + n ≡ length rows → builtLoops (partsAt rows i) ≡ rowLoops (drop i rows)
@@ -97,8 +94,8 @@ module _ (rows : List Kind) (tree : Block) (whole : build 0 rows ≡ parts (to-e
   from-row (suc n) i e =
       let l : i < length rows = omega arith in
       ap builtLoops (parts-row rows i l)
-      ∙ row-loops (rowAt rows i) i (partsAt rows (suc i)) (λ m. no-misfit rows tree whole i (omega arith) (parts-row rows i l ∙ m))
-      ∙ ap (λ m. oneIfLoop (rowAt rows i) + m) (from-row n (suc i) (omega arith))
+      ∙ row-loops (viewAt rows i) i (partsAt rows (suc i)) (λ m. no-misfit rows tree whole i (omega arith) (parts-row rows i l ∙ m))
+      ∙ ap (λ m. oneIfLoop (viewAt rows i) + m) (from-row n (suc i) (omega arith))
       ∙ sym (ap rowLoops (drop-cons rows i End l))
 
   tree-loops : loopCount tree ≡ rowLoops rows
@@ -144,28 +141,24 @@ more : (s t : Nest) → (t .loops ≡ 1 + s .loops) × (t .loops ≤ 16) → Cou
 unfolding Counted
 more s t (a, b) = (a, λ h. b)
 
-row-count : (k : Kind) (s t : Nest) → nestRow k s ≡ nested t → Counted (oneIfLoop k) s t
+row-count : (w : View) (s t : Nest) → nestRow w s ≡ nested t → Counted (oneIfLoop w) s t
 unfolding nestRow opens
-row-count (Set v x) s t e = still s t (sym (same-nest s t e))
-row-count (Move v c) s t e = still s t (sym (same-nest s t e))
-row-count (Cue n) s t e = still s t (sym (same-nest s t e))
-row-count Pick s t e = still s t (picked (ltb (length (s .open-blocks)) 8) _ _ t e)
-row-count Else s t e = still s t (elsed (s .open-blocks) (s .loops) t e)
-row-count End s t e = still s t (closed (s .open-blocks) (s .loops) t e)
-row-count (While v c x) s t e = more s t (opened in-loop (ltb (length (s .open-blocks)) 8) (ltb (s .loops) 16) _ _ t (ltb-true (s .loops) 16) e)
-row-count (Do v c x) s t e = more s t (opened in-loop (ltb (length (s .open-blocks)) 8) (ltb (s .loops) 16) _ _ t (ltb-true (s .loops) 16) e)
-row-count (For v y c x d) s t e = more s t (opened in-loop (ltb (length (s .open-blocks)) 8) (ltb (s .loops) 16) _ _ t (ltb-true (s .loops) 16) e)
+row-count (is-plain p) s t e = still s t (sym (same-nest s t e))
+row-count is-pick s t e = still s t (picked (ltb (length (s .open-blocks)) 8) _ _ t e)
+row-count is-else s t e = still s t (elsed (s .open-blocks) (s .loops) t e)
+row-count is-end s t e = still s t (closed (s .open-blocks) (s .loops) t e)
+row-count (is-loop form test last) s t e = more s t (opened in-loop (ltb (length (s .open-blocks)) 8) (ltb (s .loops) 16) _ _ t (ltb-true (s .loops) 16) e)
 
-by-row : (r : Kind) (rs : List Kind) (s : Nest) (n : ℕ) (x : Nested) → nestRow r s ≡ x → andRows x (λ t. nestRows rs t) ≡ nest [] n → s .loops ≤ 16
-    → ((t : Nest) → nestRows rs t ≡ nest [] n → t .loops ≤ 16 → rowLoops rs + t .loops ≤ 16) → oneIfLoop r + rowLoops rs + s .loops ≤ 16
+by-row : (w : View) (rs : List Kind) (s : Nest) (n : ℕ) (x : Nested) → nestRow w s ≡ x → andRows x (λ t. nestRows rs t) ≡ nest [] n → s .loops ≤ 16
+    → ((t : Nest) → nestRows rs t ≡ nest [] n → t .loops ≤ 16 → rowLoops rs + t .loops ≤ 16) → oneIfLoop w + rowLoops rs + s .loops ≤ 16
 unfolding andRows Counted
-by-row r rs s n (nested t) p q h ih = let c = row-count r s t p in let k = ih t q (c .1 h) in omega (arith, c .0)
-by-row r rs s n (wrong m) p q h ih = wrong-not m _ q
+by-row w rs s n (nested t) p q h ih = let c = row-count w s t p in let k = ih t q (c .1 h) in omega (arith, c .0)
+by-row w rs s n (wrong m) p q h ih = wrong-not m _ q
 
 rows-count : (rs : List Kind) (s : Nest) (n : ℕ) → nestRows rs s ≡ nest [] n → s .loops ≤ 16 → rowLoops rs + s .loops ≤ 16
 unfolding nestRows rowLoops
 rows-count [] s n e h = omega arith
-rows-count (r ∷ rs) s n e h = by-row r rs s n (nestRow r s) refl e h (λ t q k. rows-count rs t n q k)
+rows-count (r ∷ rs) s n e h = by-row (viewOf r) rs s n (nestRow (viewOf r) s) refl e h (λ t q k. rows-count rs t n q k)
 
 pub few-loops : (rs : List Kind) (n : ℕ) (tree : Block) → nestRows rs (record { open-blocks = []; loops = 0 }) ≡ nest [] n → build 0 rs ≡ parts (to-end (length rs) tree) [] → loopCount tree ≤ 16
 few-loops rs n tree e w = let z = rows-count rs _ n e (omega arith) in omega (arith, tree-loops rs tree w)

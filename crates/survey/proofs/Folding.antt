@@ -5,17 +5,16 @@ use mathlib.Core.List.{List, [], _∷_, _++_}
 use Prim.Native.Nat.{ℕ, _+_, _*_, _≤_, max}
 use native.Mathlib.Omega.{arith}
 use lib.Dec.{leb}
-use Rattle.rules.specs.declared.Kind.{Kind}
-use Rattle.rules.specs.declared.Kind.the-variants.{Set, Move, Cue, Pick, Else, End, While, Do, For}
-use Rattle.rules.specs.Blocks.{Plain, assign, cue, changed, Test, Form, Block, done, plain, pick, loop, snoc}
-use Rattle.rules.specs.Ranges.{Env, afterRow, join, atStart, inside, outside, after}
-use Rattle.rules.specs.Turns.{turns}
+use Rattle.rules.specs.Blocks.{Plain, assign, cue, Test, Form, Last, no-step, step-by, withLast, Block, done, plain, pick, loop, snoc}
+use Rattle.rules.specs.Ranges.{Env, afterRow, join, atStart}
+use Rattle.rules.specs.Trips.{trip, turns, inside, outside, after}
 use Rattle.rules.specs.Figures.{ones, price, loopTicks, ticks, Line, line, lines}
-use Rattle.rules.specs.Questions.{Verdict, passed, refused, andThen, asked, tickLimit, ofLoop, loopsVerdict, blocksVerdict}
-use Rattle.steps.specs.Tree.{withLast}
+use Rattle.rules.specs.declared.Verdict.{Verdict}
+use Rattle.rules.specs.declared.Verdict.the-variants.{Passed as passed, Refused as refused}
+use Rattle.rules.specs.Questions.{andThen, asked, tickLimit, ofTrip, loopsVerdict, blocksVerdict}
 use Rattle.ticks.specs.Capped.{capped}
 use Rattle.ticks.proofs.Caps.{cap-mul}
-use Rattle.survey.specs.Fold.{loopCount, cut, cuts, State, folded, lastTicks}
+use Rattle.survey.specs.Fold.{loopCount, cut, cuts, State, folded, rowsIn}
 
 -- ---- verdicts one after the other
 pub then-passed : (v : Verdict) → andThen v passed ≡ v
@@ -69,7 +68,7 @@ cap-lines o ρ (loop i e form test body rest) =
     let σ = atStart form test ρ in
     let n = turns form σ test body in
     let β = inside form σ test body in
-    let α = outside σ test body in
+    let α = outside form σ test body in
     let first : cut (line (capped o) i form σ test body) ≡ cut (line o i form σ test body) = ap (λ t. record { row = i; step = line o i form σ test body .step; turns = n; total = t; exact = line o i form σ test body .exact }) (cap-mul n o) in
     let inner : cuts (lines (n * capped o) β body) ≡ cuts (lines (n * o) β body) = sym (cap-lines (n * capped o) β body) ∙ ap (λ t. cuts (lines t β body)) (cap-mul n o) ∙ cap-lines (n * o) β body in
     ap₂ _∷_ first (cuts-append (lines (n * capped o) β body) _ ∙ ap₂ _++_ inner (cap-lines o α rest) ∙ sym (cuts-append (lines (n * o) β body) _))
@@ -138,8 +137,8 @@ module _ (outer : ℕ) (x : State) where
 
     abbrev pub pastLoop : State
     pastLoop = record {
-      env = outside σ test body;
-      verdict = andThen (andThen (x .verdict) (ofLoop i form σ test body)) (loopsVerdict β body);
+      env = outside form σ test body;
+      verdict = andThen (andThen (x .verdict) (ofTrip i (trip form σ test body))) (loopsVerdict β body);
       spent = capped (x .spent + loopTicks ones form n (ticks ones β body));
       over = andThen (andThen (x .over) (blocksVerdict ones β body)) (asked 13 e (leb (loopTicks ones form n (ticks ones β body)) tickLimit) passed);
       lines = (x .lines ++ (cut (line outer i form σ test body) ∷ [])) ++ cuts (lines (n * outer) β body);
@@ -156,16 +155,16 @@ module _ (outer : ℕ) (x : State) where
         (omega arith)
         (ap (λ v. andThen (x .over) (andThen (blocksVerdict ones β body) v)) (asked-then 13 e (leb F tickLimit) _)
         ∙ sym (then-assoc (x .over) _ _) ∙ sym (then-assoc _ q _))
-        (lines-loop (x .lines) (line outer i form σ test body) (lines (n * outer) β body) (lines outer (outside σ test body) rest))
+        (lines-loop (x .lines) (line outer i form σ test body) (lines (n * outer) β body) (lines outer (outside form σ test body) rest))
         (omega arith)
 
 -- ---- a for's step row adds a tick to its body, and nothing else
-pub record SameBody (k : Kind) (b c : Block) : Type 0 where
+pub record SameBody (l : Last) (b c : Block) : Type 0 where
   pub loops : (β : Env) → loopsVerdict β c ≡ loopsVerdict β b
   pub over : (β : Env) → blocksVerdict ones β c ≡ blocksVerdict ones β b
   pub lined : (o : ℕ) (β : Env) → lines o β c ≡ lines o β b
   pub count : loopCount c ≡ loopCount b
-  pub ticked : (β : Env) → ticks ones β c ≡ lastTicks k + ticks ones β b
+  pub ticked : (β : Env) → ticks ones β c ≡ rowsIn l + ticks ones β b
 
 price-one : (p : Plain) → price ones p ≡ 1
 unfolding price
@@ -178,14 +177,14 @@ module _ (i : ℕ) (p : Plain) where
   loops-snoc done β = refl
   loops-snoc (plain j q rest) β = loops-snoc rest _
   loops-snoc (pick j e a b rest) β = ap (λ v. andThen (loopsVerdict β a) (andThen (loopsVerdict β b) v)) (loops-snoc rest _)
-  loops-snoc (loop j e form test body rest) β = ap (λ v. andThen (ofLoop j form (atStart form test β) test body) (andThen (loopsVerdict (inside form (atStart form test β) test body) body) v)) (loops-snoc rest _)
+  loops-snoc (loop j e form test body rest) β = ap (λ v. andThen (ofTrip j (trip form (atStart form test β) test body)) (andThen (loopsVerdict (inside form (atStart form test β) test body) body) v)) (loops-snoc rest _)
 
   over-snoc : (b : Block) (β : Env) → blocksVerdict ones β (snoc b i p) ≡ blocksVerdict ones β b
   unfolding blocksVerdict snoc
   over-snoc done β = refl
   over-snoc (plain j q rest) β = over-snoc rest (afterRow β q)
   over-snoc (pick j e a b rest) β = ap (λ v. andThen (blocksVerdict ones β a) (andThen (blocksVerdict ones β b) (asked 13 e (leb (1 + max (ticks ones β a) (ticks ones β b)) tickLimit) v))) (over-snoc rest (join (after β a) (after β b)))
-  over-snoc (loop j e form test body rest) β = ap (λ v. andThen (blocksVerdict ones (inside form (atStart form test β) test body) body) (asked 13 e (leb (loopTicks ones form (turns form (atStart form test β) test body) (ticks ones (inside form (atStart form test β) test body) body)) tickLimit) v)) (over-snoc rest (outside (atStart form test β) test body))
+  over-snoc (loop j e form test body rest) β = ap (λ v. andThen (blocksVerdict ones (inside form (atStart form test β) test body) body) (asked 13 e (leb (loopTicks ones form (turns form (atStart form test β) test body) (ticks ones (inside form (atStart form test β) test body) body)) tickLimit) v)) (over-snoc rest (outside form (atStart form test β) test body))
 
   lines-snoc : (b : Block) (o : ℕ) (β : Env) → lines o β (snoc b i p) ≡ lines o β b
   unfolding lines snoc
@@ -206,21 +205,9 @@ module _ (i : ℕ) (p : Plain) where
   ticks-snoc done β = omega (arith, price-one p)
   ticks-snoc (plain j q rest) β = omega (arith, ticks-snoc rest (afterRow β q))
   ticks-snoc (pick j e a b rest) β = omega (arith, ticks-snoc rest (join (after β a) (after β b)))
-  ticks-snoc (loop j e form test body rest) β = omega (arith, ticks-snoc rest (outside (atStart form test β) test body))
+  ticks-snoc (loop j e form test body rest) β = omega (arith, ticks-snoc rest (outside form (atStart form test β) test body))
 
-itself : (k : Kind) (b : Block) → lastTicks k ≡ 0 → SameBody k b b
-itself k b h = record { loops = λ β. refl; over = λ β. refl; lined = λ o β. refl; count = refl; ticked = λ β. omega arith }
-
-pub same-body : (k : Kind) (i : ℕ) (b : Block) → SameBody k b (withLast k i b)
+pub same-body : (l : Last) (i : ℕ) (b : Block) → SameBody l b (withLast l i b)
 unfolding withLast
-same-body (Set v x) i b = itself (Set v x) b refl
-same-body (Move v c) i b = itself (Move v c) b refl
-same-body (Cue m) i b = itself (Cue m) b refl
-same-body Pick i b = itself Pick b refl
-same-body Else i b = itself Else b refl
-same-body End i b = itself End b refl
-same-body (While v c x) i b = itself (While v c x) b refl
-same-body (Do v c x) i b = itself (Do v c x) b refl
-same-body (For v s c x d) i b =
-    let p = assign v (changed d) in
-    record { loops = loops-snoc i p b; over = over-snoc i p b; lined = lines-snoc i p b; count = count-snoc i p b; ticked = ticks-snoc i p b }
+same-body no-step i b = record { loops = λ β. refl; over = λ β. refl; lined = λ o β. refl; count = refl; ticked = λ β. omega arith }
+same-body (step-by p) i b = record { loops = loops-snoc i p b; over = over-snoc i p b; lined = lines-snoc i p b; count = count-snoc i p b; ticked = ticks-snoc i p b }

@@ -1,29 +1,36 @@
 -- The survey's walk, row by row: what the code carries is what the fold carries.
-use mathlib.Core.Path.{_≡_, refl, sym, ap, ap₂, _∙_}
+use mathlib.Core.Path.{_≡_, refl, sym, ap, ap₂, subst, _∙_}
+use mathlib.Core.Bool.{Bool, true, false}
 use mathlib.Core.List.{List, [], _∷_, _++_}
-use Prim.Native.Nat.{ℕ, zero, suc, _+_, _*_, _≤_, _<_, max}
+use Prim.Native.Nat.{ℕ, _+_, _*_, _≤_, _<_, max}
 use native.Mathlib.Omega.{arith}
 use lib.Dec.{leb}
 use Rattle.rules.specs.declared.Row.{Row}
 use Rattle.rules.specs.declared.Kind.{Kind}
 use Rattle.rules.specs.declared.Kind.the-variants.{Set, Move, Cue, Pick, Else, End, While, Do, For}
-use Rattle.rules.specs.Blocks.{Plain, Test, Form, Block, pick, loop}
-use Rattle.rules.specs.Ranges.{Env, full, afterRow, join, atStart, inside, outside, after}
-use Rattle.rules.specs.Turns.{turns}
+use Rattle.rules.proofs.Kind.{the-type}
+use types.Run.{OneOf, miss}
+use denote.Enum.Declared.{tagOf}
+use Rattle.rules.specs.Blocks.{Test, Form, Last, no-step, step-by, viewOf, Block, pick, loop}
+use Rattle.rules.specs.Ranges.{Env, full, afterRow, join, atStart}
+use Rattle.rules.specs.Trips.{Trip, trip, turns, inside, outside, after}
 use Rattle.rules.specs.Figures.{ones, loopTicks, ticks, Line, line, lines}
-use Rattle.rules.specs.Questions.{Verdict, passed, refused, andThen, asked, tickLimit, ofLoop, loopsVerdict, blocksVerdict}
-use Rattle.steps.specs.declared.Shape.{Shape}
+use Rattle.rules.specs.declared.Verdict.{Verdict}
+use Rattle.rules.specs.declared.Verdict.the-variants.{Passed as passed, Refused as refused}
+use Rattle.rules.specs.Questions.{andThen, asked, tickLimit, ofTrip, loopsVerdict, blocksVerdict, loopVerdict}
+use Rattle.table.specs.declared.Shape.{Shape}
 use lib.ListN.{length}
 use Rattle.lines.specs.Coded.{firstLines}
 use Rattle.table.specs.Code.{kindAt}
-use Rattle.steps.specs.Tree.{blockAt, Whole, Ready, Walked, shapeOf, plainOf, formOf, testOf}
+use Rattle.table.specs.Shapes.{shapeOf, plainOf}
+use Rattle.steps.specs.Tree.{blockAt, Whole, Ready, Walked, headOf, formOf, testOf}
 use Rattle.steps.specs.Body.{bodyAt}
 use Rattle.steps.proofs.Laws.{PickIs, LoopIs}
 use Rattle.steps.proofs.Walking.{Walking, plain-row, pick-row, loop-row}
 use Rattle.ticks.specs.Capped.{capped, overOf}
-use Rattle.turns.specs.Needs.{answer}
-use Rattle.survey.specs.declared.Turning.{Turning}
-use Rattle.survey.specs.Fold.{loopCount, cut, cuts, State, TallyLines, folded, tallied, lastTicks, LoopOf, Restarted, Lined, Closed, EndedAt, Walkable, Passed, Surveyed}
+use Rattle.survey.specs.declared.Entered.{Entered}
+use Rattle.survey.specs.Enter.{Entry}
+use Rattle.survey.specs.Fold.{loopCount, cut, cuts, State, TallyLines, folded, tallied, rowsIn, lastTicks, lineFor, Restarted, Lined, Closed, EndedAt, Walkable, Passed, Surveyed}
 use Rattle.survey.proofs.Folding.{state-is, cap-lines, fold-plain, fold-pick, fold-loop, pastPlain, pastPick, pastLoop, SameBody, same-body}
 
 -- what a walk over a block found, part by part, from a tally with these parts
@@ -59,16 +66,28 @@ pub refused-in : {rows : List Row} {count at outer : ℕ} {ρ : Env} {t r : Tall
 unfolding folded andThen
 refused-in s h = s .stopped h
 
+rows-small : (l : Last) → rowsIn l ≤ 1
+rows-small no-step = omega arith
+rows-small (step-by p) = omega arith
+
 pub last-small : (k : Kind) → lastTicks k ≤ 1
-last-small (Set v x) = omega arith
-last-small (Move v c) = omega arith
-last-small (Cue n) = omega arith
-last-small Pick = omega arith
-last-small Else = omega arith
-last-small End = omega arith
-last-small (While v c x) = omega arith
-last-small (Do v c x) = omega arith
-last-small (For v s c x d) = omega arith
+last-small k = rows-small (headOf k .last)
+
+-- any row but a for
+abbrev no-for : List ℕ
+no-for = 0 ∷ 1 ∷ 2 ∷ 3 ∷ 4 ∷ 5 ∷ 6 ∷ 7 ∷ []
+
+pub no-last : (k : Kind) → OneOf no-for (tagOf the-type k) → 0 ≡ lastTicks k
+unfolding headOf viewOf
+no-last End o = refl
+no-last Else o = refl
+no-last Pick o = refl
+no-last (Set v x) o = refl
+no-last (Move v c) o = refl
+no-last (Cue n) o = refl
+no-last (While v c x) o = refl
+no-last (Do v c x) o = refl
+no-last (For v s c x d) o = absurd (miss no-for 8 tt o)
 
 -- the walk is over
 pub closing : {rows : List Row} {count at outer i : ℕ} {ρ ρ₀ : Env} {t t₀ r : TallyLines} → Walked rows count at i (tallied t ρ) (folded outer (tallied t₀ ρ₀)) → t .spent ≤ 1_000_000_000_001 → length (t .lines) ≡ 16 → EndedAt t i r
@@ -98,7 +117,7 @@ restart-walkable {t} {r} k h g l o m =
     let q = ap (λ (x : State). x .loops) (h .value nowhere) in
     record { ready = k; small = omega arith; times = o; room = omega arith; long = ap length (h .same) ∙ g }
 
-pub lined-walkable : {rows : List Row} {count a outer i total s : ℕ} {one : Turning} {t r : TallyLines} → Ready rows count a → Lined t i one total s r → s ≤ 1_000_000_000_001 → outer ≤ 1_000_000_000_001
+pub lined-walkable : {rows : List Row} {count a outer i turns total s : ℕ} {τ : Trip} {t r : TallyLines} → Ready rows count a → Lined t i τ turns total s r → s ≤ 1_000_000_000_001 → outer ≤ 1_000_000_000_001
     → t .loops + 1 + loopCount (blockAt rows count a) ≤ 16 → Walkable rows count a outer r
 lined-walkable {t} {r} k h l o m =
     let p = ap (λ (x : State). x .spent) (h .value nowhere) in
@@ -172,7 +191,7 @@ module _ (rows : List Row) (count outer at : ℕ) (x₀ : State) where
             }
 
       -- ---- a loop
-      module _ {e : ℕ} (u : LoopIs rows count (kindAt rows i) i e) where
+      module _ {e : ℕ} (u : LoopIs rows count (headOf (kindAt rows i)) i e) where
         abbrev form : Form
         form = formOf (kindAt rows i)
 
@@ -188,44 +207,41 @@ module _ (rows : List Row) (count outer at : ℕ) (x₀ : State) where
         abbrev β : Env
         β = inside form σ test body
 
-        same : SameBody (kindAt rows i) (blockAt rows count (i + 1)) body
-        same = same-body (kindAt rows i) i (blockAt rows count (i + 1))
+        same : SameBody (headOf (kindAt rows i) .last) (blockAt rows count (i + 1)) body
+        same = same-body (headOf (kindAt rows i) .last) i (blockAt rows count (i + 1))
 
         pub loop-room : x₀ .loops + loopCount (blockAt rows count at) ≤ 16 → t .loops + 1 + loopCount (blockAt rows count (i + 1)) ≤ 16
         unfolding folded loopCount
         loop-room h = omega (arith, room, ap loopCount (u .block), same .count)
 
-        verdict-loop : folded outer x₀ (blockAt rows count at) .verdict ≡ andThen (andThen (andThen passed (ofLoop i form σ test body)) (loopsVerdict β body)) (loopsVerdict (outside σ test body) (blockAt rows count (e + 1)))
+        verdict-loop : folded outer x₀ (blockAt rows count at) .verdict ≡ andThen (andThen (andThen passed (ofTrip i (trip form σ test body))) (loopsVerdict β body)) (loopsVerdict (outside form σ test body) (blockAt rows count (e + 1)))
         unfolding folded
         verdict-loop = ap (λ (x : State). x .verdict) (k .walk .value ∙ ap (folded outer (tallied t ρ)) (u .block) ∙ fold-loop outer (tallied t ρ) i e form test body _)
 
-        pub loop-refused : (n : ℕ) → (n ≡ 0 → ⊥) → ofLoop i form σ test body ≡ answer n i → folded outer x₀ (blockAt rows count at) .verdict ≡ refused n i
-        unfolding andThen answer
-        loop-refused zero h g = absurd (h refl)
-        loop-refused (suc n) h g = verdict-loop ∙ ap (λ v. andThen (andThen v (loopsVerdict β body)) (loopsVerdict (outside σ test body) (blockAt rows count (e + 1)))) g
-
-        pub body-refused : (n p : ℕ) → ofLoop i form σ test body ≡ passed → loopsVerdict β (blockAt rows count (i + 1)) ≡ refused n p → folded outer x₀ (blockAt rows count at) .verdict ≡ refused n p
+        pub loop-refused : (n p : ℕ) → ofTrip i (trip form σ test body) ≡ refused n p → folded outer x₀ (blockAt rows count at) .verdict ≡ refused n p
         unfolding andThen
-        body-refused n p g h = verdict-loop ∙ ap₂ (λ v w. andThen (andThen v w) (loopsVerdict (outside σ test body) (blockAt rows count (e + 1)))) g (same .loops β ∙ h)
+        loop-refused n p g = verdict-loop ∙ ap (λ v. andThen (andThen v (loopsVerdict β body)) (loopsVerdict (outside form σ test body) (blockAt rows count (e + 1)))) g
 
-        pub go-loop : {one : Turning} {total F : ℕ} {α : Env} {b r : TallyLines}
-            → LoopOf rows count i σ one → one .number ≡ 0 → total ≡ capped (one .turns * outer)
-            → Part total β (lastTicks (kindAt rows i)) (overOf (t .over)) (firstLines (t .lines) (t .loops) ++ (record { row = i; step = one .step; turns = one .turns; total = total; exact = one .exact } ∷ [])) (t .loops + 1) (blockAt rows count (i + 1)) b
-            → ((G : ℕ) → b .spent ≡ capped G → F ≡ capped (loopTicks ones form (one .turns) G)) → Closed t b e F r → α ≡ outside σ test body → Going (e + 1) α r
-        unfolding andThen answer
-        go-loop {one} {total} {F} {α} {b} {r} lo z h p f c s =
+        pub body-refused : (n p : ℕ) → ofTrip i (trip form σ test body) ≡ passed → loopsVerdict β (blockAt rows count (i + 1)) ≡ refused n p → folded outer x₀ (blockAt rows count at) .verdict ≡ refused n p
+        unfolding andThen
+        body-refused n p g h = verdict-loop ∙ ap₂ (λ v w. andThen (andThen v w) (loopsVerdict (outside form σ test body) (blockAt rows count (e + 1)))) g (same .loops β ∙ h)
+
+        pub go-loop : {x : Entered} {first : TallyLines} {α : Env} {b r : TallyLines}
+            → Entry i outer (kindAt rows i) (trip form σ test body) t x first
+            → Part (x .total) β (lastTicks (kindAt rows i)) (overOf (t .over)) (firstLines (t .lines) (t .loops) ++ (lineFor i (trip form σ test body) (x .turns) (x .total) ∷ [])) (t .loops + 1) (blockAt rows count (i + 1)) b
+            → ((G : ℕ) → b .spent ≡ capped G → Closed t b e (capped (loopTicks ones form (x .turns) G)) r) → α ≡ outside form σ test body → Going (e + 1) α r
+        unfolding andThen
+        go-loop {x} {first} {α} {b} {r} en p f s =
             let n = turns form σ test body in
-            let tn : one .turns ≡ n = lo .turns z in
             let G = ticks ones β body in
-            let fg : F ≡ capped (loopTicks ones form n G) = f G (p .spent ∙ ap capped (sym (same .ticked β))) ∙ ap (λ m. capped (loopTicks ones form m G)) tn in
-            let ht : total ≡ capped (n * outer) = h ∙ ap (λ m. capped (m * outer)) tn in
-            let v : ofLoop i form σ test body ≡ passed = lo .verdict ∙ ap (λ m. answer m i) z in
-            let L : record { row = i; step = one .step; turns = one .turns; total = total; exact = one .exact } ≡ cut (line outer i form σ test body) =
-            (λ j. record { row = i; step = lo .moves j; turns = tn j; total = ht j; exact = lo .exact j }) in
-            let inner : cuts (lines total β (blockAt rows count (i + 1))) ≡ cuts (lines (n * outer) β body) =
+            let c = f G (p .spent ∙ ap capped (sym (same .ticked β))) in
+            let fg : capped (loopTicks ones form (x .turns) G) ≡ capped (loopTicks ones form n G) = ap (λ m. capped (loopTicks ones form m G)) (en .turns) in
+            let ht : x .total ≡ capped (n * outer) = en .total ∙ ap (λ m. capped (m * outer)) (en .turns) in
+            let L : lineFor i (trip form σ test body) (x .turns) (x .total) ≡ cut (line outer i form σ test body) = (λ j. lineFor i (trip form σ test body) (en .turns j) (ht j)) in
+            let inner : cuts (lines (x .total) β (blockAt rows count (i + 1))) ≡ cuts (lines (n * outer) β body) =
             ap (λ m. cuts (lines m β (blockAt rows count (i + 1)))) ht ∙ cap-lines (n * outer) β (blockAt rows count (i + 1)) ∙ ap cuts (sym (same .lined (n * outer) β)) in
             let y : tallied r α ≡ pastLoop outer (tallied t ρ) i e form test body = state-is s
-            (sym (ap₂ (λ a w. andThen a w) v (same .loops β ∙ p .verdict)))
+            (sym (ap₂ (λ a w. andThen a w) (en .verdict) (same .loops β ∙ p .verdict)))
             (omega (arith, c .spent))
             (c .over .value (loopTicks ones form n G) fg ∙ ap (λ w. andThen w (asked 13 e (leb (loopTicks ones form n G) tickLimit) passed)) (p .over ∙ ap (andThen (overOf (t .over))) (sym (same .over β))))
             (ap₂ firstLines (c .same) (c .loops) ∙ p .lined ∙ ap₂ (λ a w. (firstLines (t .lines) (t .loops) ++ (a ∷ [])) ++ w) L inner)
@@ -235,3 +251,19 @@ module _ (rows : List Row) (count outer at : ℕ) (x₀ : State) where
               small = omega (arith, c .spent);
               long = ap length (c .same) ∙ p .long;
             }
+
+-- no question has the number 0
+asked-number : (n p : ℕ) (b : Bool) (v : Verdict) (q : ℕ) → (n ≡ 0 → ⊥) → (v ≡ refused 0 q → ⊥) → asked n p b v ≡ refused 0 q → ⊥
+unfolding asked
+asked-number n p true v q h g e = g e
+asked-number n p false v q h g e = h (let z : n ≡ 0 = cc in z)
+
+pub trip-number : (i : ℕ) (τ : Trip) (n p : ℕ) → ofTrip i τ ≡ refused n p → n ≡ 0 → ⊥
+unfolding loopVerdict
+trip-number i τ n p e z =
+    asked-number _ _ _ _ p (λ w. omega arith) (asked-number _ _ _ _ p (λ w. omega arith) (asked-number _ _ _ _ p (λ w. omega arith) (asked-number _ _ _ _ p (λ w. omega arith) (asked-number _ _ _ _ p (λ w. omega arith) (λ w. let k : _≡_ {A = ℕ} 0 1 = cc in omega arith)))))
+    (e ∙ ap (λ m. refused m p) z)
+
+-- a line of the same trip
+pub lined-is : {t r : TallyLines} {i n m a b : ℕ} {τ υ : Trip} → τ ≡ υ → a ≡ b → Lined t i τ n m a r → Lined t i υ n m b r
+lined-is {t} {r} {i} {n} {m} {a} {b} {τ} {υ} p q h = subst (λ c. Lined t i υ n m c r) q (subst (λ x. Lined t i x n m a r) p h)

@@ -14,25 +14,24 @@ use Rattle.rules.specs.declared.Kind.the-variants.{End}
 use Rattle.rules.specs.Blocks.{kindsOf}
 use Rattle.rules.specs.Bounds.{Fine}
 use Rattle.rules.specs.Scripts as scripts
-use Rattle.rules.specs.Scripts.{All, none, some, pairRange, pairRanges, scriptOf, ofBuilt, treeOf, Legal}
+use Rattle.rules.specs.Scripts.{All, none, some, pairRange, pairRanges, BlankFrom, scriptOf, ofBuilt, treeOf, Legal}
 use Rattle.rules.proofs.Laws.{kinds-length}
 use Rattle.rules.proofs.Nesting.{tree-of}
 use Rattle.rules.proofs.Rows.{rowAt, block-whole}
 use Rattle.table.proofs.Limits.{row-fine}
 use Rattle.steps.specs.Tree.{kinds, blockAt, Whole, Ready}
 use Rattle.steps.proofs.Laws.{kind-is}
-use Rattle.ranges.specs.Env.{envOf}
+use Rattle.trips.specs.Env.{envOf}
 use Rattle.survey.specs.Fold.{loopCount}
-use Rattle.survey.specs.Whole.{BlankFrom}
 use Rattle.survey.proofs.Counts.{few-loops}
 
-all-get : {A : Type 0} {Q : A → Type 0} (l : List A) → All Q l → (i : ℕ) → i < length l → (d : A) → Q (getD l i d)
+pub all-get : {A : Type 0} {Q : A → Type 0} (l : List A) → All Q l → (i : ℕ) → i < length l → (d : A) → Q (getD l i d)
 all-get [] none i h d = absurd (omega arith)
 all-get (x ∷ l) (some q a) zero h d = q
 all-get (x ∷ l) (some q a) (suc i) h d = all-get l a i (omega arith) d
 
 -- ---- ranges
-pairs-at : (r : List (List ℤ)) (w : ℕ) → getD (pairRanges r) w (record { lo = pos 0; hi = pos 0 }) ≡ pairRange (getD r w [])
+pub pairs-at : (r : List (List ℤ)) (w : ℕ) → getD (pairRanges r) w (record { lo = pos 0; hi = pos 0 }) ≡ pairRange (getD r w [])
 unfolding pairRanges
 pairs-at [] w = refl
 pairs-at (p ∷ r) zero = refl

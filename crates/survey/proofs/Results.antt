@@ -9,17 +9,19 @@ use Rattle.rules.specs.declared.Row.{Row}
 use Rattle.rules.specs.Blocks.{Block}
 use Rattle.rules.specs.Ranges.{Env}
 use Rattle.rules.specs.Figures.{ones, ticks, lines}
-use Rattle.rules.specs.Questions.{passed, andThen, verdict}
+use Rattle.rules.specs.declared.Verdict.the-variants.{Passed as passed}
+use Rattle.rules.specs.Questions.{andThen, verdict}
 use Rattle.rules.specs.Scripts as scripts
-use Rattle.rules.specs.Scripts.{pairRanges, scriptOf, treeOf, Legal, Accepted}
+use Rattle.rules.specs.Scripts.{pairRanges, BlankFrom, scriptOf, treeOf, Legal, Accepted}
 use Rattle.steps.specs.Tree.{kinds, blockAt}
-use Rattle.ranges.specs.Env.{envOf}
+use Rattle.trips.specs.Env.{envOf}
 use Rattle.turns.specs.Needs.{answer}
 use Rattle.survey.specs.declared.Tally.{Tally}
 use Rattle.survey.specs.declared.Refusal.{Refusal}
 use Rattle.survey.specs.declared.Figures.{Figures}
 use Rattle.survey.specs.Fold.{TallyLines, withLines, tallied, Surveyed}
-use Rattle.survey.specs.Whole.{BlankFrom, FirstNo, of-loop, of-block, of-file, none, SurveyOf}
+use Rattle.lines.specs.Coded.{firstLines}
+use Rattle.survey.specs.Whole.{FirstNo, of-loop, of-block, of-file, none, SurveyOf}
 use Rattle.survey.proofs.Going.{from-parts, part-of, refused-in}
 use Rattle.survey.proofs.Totals.{lines-true}
 use Rattle.survey.proofs.Verdicts.{verdict-loop, verdict-block, verdict-file, verdict-passed}
@@ -40,16 +42,18 @@ module _ (ranges : List (List ℤ)) (vars : ℕ) (rows : List Row) (count : ℕ)
   moved f = λ j. f (env-is ranges vars blank j) (sym (file-is ranges vars rows count legal few all) j)
 
   pub result : (t₀ : TallyLines) (t : Tally) (ls : List (List ℕ)) → tallied t₀ ρ ≡ from-parts ρ 0 passed [] 0 → Surveyed rows count 0 ρ 1 t₀ (withLines t ls) → (f : Refusal) → FirstNo t count f
-      → SurveyOf (scriptOf ranges vars rows count) count (record { number = f .number; place = f .place; ticks = t .spent; loops = t .loops }) ls
+      → (n : ℕ) → (f .number ≡ 0 → n ≡ t .spent) → (k : ℕ) → (f .number ≡ 0 → k ≡ t .loops) → ((f .number ≡ 0 → ⊥) → (n ≡ 0) × (k ≡ 0))
+      → SurveyOf (scriptOf ranges vars rows count) count (record { number = f .number; place = f .place; ticks = n; loops = k }) ls
   unfolding scriptOf andThen
-  result t₀ t ls e s f (of-loop h p q) = record {
+  result t₀ t ls e s f (of-loop h p q) m u k v free = record {
     verdict = moved (verdict ones count) ∙ verdict-loop count ρ b (t .number) (t .place) h (refused-in s h) ∙ (λ j. answer (sym p j) (sym q j));
     ticks = λ z. absurd (h (sym p ∙ z));
     loops = λ z. absurd (h (sym p ∙ z));
     long = λ z. absurd (h (sym p ∙ z));
     lines = λ z. absurd (h (sym p ∙ z));
+    none = free;
   }
-  result t₀ t ls e s f (of-block z l p q) =
+  result t₀ t ls e s f (of-block z l p q) m u k v free =
       let part = part-of 0 passed [] 0 e (s .whole z) in
       record {
         verdict = moved (verdict ones count) ∙ verdict-block count ρ b (part .verdict) (t .over) (part .over) l ∙ (λ j. answer (sym p j) (sym q j));
@@ -57,8 +61,9 @@ module _ (ranges : List (List ℤ)) (vars : ℕ) (rows : List Row) (count : ℕ)
         loops = λ w. no-number p w;
         long = λ w. no-number p w;
         lines = λ w. no-number p w;
+        none = free;
       }
-  result t₀ t ls e s f (of-file z l k p q) =
+  result t₀ t ls e s f (of-file z l o p q) m u k v free =
       let part = part-of 0 passed [] 0 e (s .whole z) in
       record {
         verdict = moved (verdict ones count) ∙ verdict-file count ρ b (part .verdict) (t .over) (part .over) l (omega (arith, part .spent)) ∙ (λ j. answer (sym p j) (sym q j));
@@ -66,17 +71,19 @@ module _ (ranges : List (List ℤ)) (vars : ℕ) (rows : List Row) (count : ℕ)
         loops = λ w. no-number p w;
         long = λ w. no-number p w;
         lines = λ w. no-number p w;
+        none = free;
       }
-  result t₀ t ls e s f (none z l k p) =
+  result t₀ t ls e s f (none z l o p) j u k v free =
       let part = part-of 0 passed [] 0 e (s .whole z) in
       let m : ticks ones ρ b ≤ 1_000_000_000_000 = omega (arith, part .spent) in
       let n : t .spent ≡ ticks ones ρ b = omega (arith, part .spent) in
       record {
-        verdict = moved (verdict ones count) ∙ verdict-passed count ρ b (part .verdict) (t .over) (part .over) l (f .place) m ∙ (λ j. answer (sym p j) (f .place));
-        ticks = λ w. n ∙ sym (moved (ticks ones));
-        loops = λ w. omega (arith, part .count, few-in ranges vars rows count legal few all);
+        verdict = moved (verdict ones count) ∙ verdict-passed count ρ b (part .verdict) (t .over) (part .over) l (f .place) m ∙ (λ d. answer (sym p d) (f .place));
+        ticks = λ w. u w ∙ n ∙ sym (moved (ticks ones));
+        loops = λ w. omega (arith, v w, part .count, few-in ranges vars rows count legal few all);
         long = λ w. part .long;
-        lines = λ w. part .lined ∙ lines-true b ρ m ∙ sym (moved (lines 1));
+        lines = λ w. ap (firstLines ls) (v w) ∙ part .lined ∙ lines-true b ρ m ∙ sym (moved (lines 1));
+        none = free;
       }
 
   -- a file that passes here is accepted

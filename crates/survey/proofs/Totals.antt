@@ -5,8 +5,8 @@ use Prim.Native.Nat.{ℕ, _+_, _*_, _≤_}
 use native.Mathlib.Nat.{le-trans, le-of-eq, mul-le-mul-left, mul-comm, mul-assoc}
 use native.Mathlib.Omega.{arith}
 use Rattle.rules.specs.Blocks.{Block, done, plain, pick, loop}
-use Rattle.rules.specs.Ranges.{Env, afterRow, join, atStart, inside, outside, after}
-use Rattle.rules.specs.Turns.{turns}
+use Rattle.rules.specs.Ranges.{Env, afterRow, join, atStart}
+use Rattle.rules.specs.Trips.{turns, inside, outside, after}
 use Rattle.rules.specs.Figures.{ones, loopTicks, ticks, Line, line, lines}
 use Rattle.rules.specs.Scripts.{All, none, some}
 use Rattle.rules.proofs.Good.{all-append, all-map}
@@ -32,7 +32,7 @@ totals (loop i e form test body rest) ρ outer =
     let σ = atStart form test ρ in
     let n = turns form σ test body in
     let β = inside form σ test body in
-    let α = outside σ test body in
+    let α = outside form σ test body in
     let B = ticks ones β body in
     let F = loopTicks ones form n B in
     let f : n * (B + 1) ≤ F = omega (arith, loop-ticks-is form n B) in

@@ -5,7 +5,8 @@ use borrow.Author.Tests.{lt-ltb, le-ltb, le-leb, lt-leb}
 use Rattle.rules.specs.Blocks.{Block}
 use Rattle.rules.specs.Ranges.{Env}
 use Rattle.rules.specs.Figures.{ones, ticks}
-use Rattle.rules.specs.Questions.{passed, refused, andThen, asked, tickLimit, loopsVerdict, blocksVerdict, verdict}
+use Rattle.rules.specs.declared.Verdict.the-variants.{Passed as passed, Refused as refused}
+use Rattle.rules.specs.Questions.{andThen, asked, tickLimit, loopsVerdict, blocksVerdict, verdict}
 use Rattle.turns.specs.Needs.{answer}
 use Rattle.ticks.specs.Capped.{overOf}
 

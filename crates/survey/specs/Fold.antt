@@ -5,23 +5,17 @@ use Prim.Native.Nat.{ℕ, _+_, _≤_}
 use lib.ListN.{length}
 use Rattle.rules.specs.declared.Row.{Row}
 use Rattle.rules.specs.declared.Kind.{Kind}
-use Rattle.rules.specs.declared.Kind.the-variants.{Set, Move, Cue, Pick, Else, End, While, Do, For}
-use Rattle.rules.specs.Blocks.{Block, done, plain, pick, loop}
-use Rattle.rules.specs.Steps.{assigns, step}
-use Rattle.rules.specs.Ranges.{Env, after}
-use Rattle.rules.specs.Turns.{turns}
-use Rattle.rules.specs.Figures.{ones, ticks, Line, isExact, lines}
-use Rattle.rules.specs.Questions.{Verdict, passed, refused, andThen, ofLoop, loopsVerdict, blocksVerdict}
-use Rattle.rules.specs.Bounds.{Ends}
+use Rattle.rules.specs.Blocks.{Last, no-step, step-by, Block, done, plain, pick, loop}
+use Rattle.rules.specs.Ranges.{Env}
+use Rattle.rules.specs.Trips.{Trip, isExact, after}
+use Rattle.rules.specs.Figures.{ones, ticks, Line, lines}
+use Rattle.rules.specs.declared.Verdict.{Verdict}
+use Rattle.rules.specs.declared.Verdict.the-variants.{Passed as passed, Refused as refused}
+use Rattle.rules.specs.Questions.{andThen, loopsVerdict, blocksVerdict}
 use Rattle.lines.specs.Coded.{firstLines}
-use Rattle.table.specs.Code.{kindAt}
-use Rattle.steps.specs.Tree.{blockAt, endAt, Ready, formOf, testOf}
-use Rattle.steps.specs.Sets.{setOf}
-use Rattle.steps.specs.Body.{bodyAt, EndsAt}
+use Rattle.steps.specs.Tree.{blockAt, endAt, Ready, headOf}
 use Rattle.ticks.specs.Capped.{capped, overOf, OverOf}
-use Rattle.turns.specs.Needs.{answer}
 use Rattle.survey.specs.declared.Tally.{Tally}
-use Rattle.survey.specs.declared.Turning.{Turning}
 
 -- how many loops a block has
 unfoldable pub loopCount : Block → ℕ
@@ -75,39 +69,30 @@ abbrev pub tallied : TallyLines → Env → State
 tallied t ρ = record { env = ρ; verdict = passed; spent = t .spent; over = overOf (t .over); lines = firstLines (t .lines) (t .loops); loops = t .loops }
 
 -- a for's step row is the last row of its body
-abbrev pub lastTicks : Kind → ℕ
-lastTicks (Set v x) = 0
-lastTicks (Move v c) = 0
-lastTicks (Cue n) = 0
-lastTicks Pick = 0
-lastTicks Else = 0
-lastTicks End = 0
-lastTicks (While v c x) = 0
-lastTicks (Do v c x) = 0
-lastTicks (For v s c x d) = 1
+abbrev pub rowsIn : Last → ℕ
+rowsIn no-step = 0
+rowsIn (step-by p) = 1
 
--- the loop at row i, ρ the ranges at its start
-pub record LoopOf (rows : List Row) (count i : ℕ) (ρ : Env) (r : Turning) : Type 0 where
-  pub verdict : ofLoop i (formOf (kindAt rows i)) ρ (testOf (kindAt rows i)) (bodyAt rows count i) ≡ answer (r .number) i
-  pub turns : r .number ≡ 0 → r .turns ≡ turns (formOf (kindAt rows i)) ρ (testOf (kindAt rows i)) (bodyAt rows count i)
-  pub exact : r .exact ≡ isExact ρ (testOf (kindAt rows i)) (bodyAt rows count i)
-  pub moves : r .step ≡ step (testOf (kindAt rows i) .tested) (bodyAt rows count i)
-  pub sets : (w : ℕ) → setOf (r .set) w ≡ assigns w (bodyAt rows count i)
-  pub near : Ends 256 (r .step)
-  pub ends : EndsAt rows count i (r .next)
+abbrev pub lastTicks : Kind → ℕ
+lastTicks k = rowsIn (headOf k .last)
 
 pub record Restarted (t : TallyLines) (spent : ℕ) (r : TallyLines) : Type 0 where
   pub same : r .lines ≡ t .lines
   pub value : (ρ : Env) → tallied r ρ ≡ record { env = ρ; verdict = passed; spent = spent; over = overOf (t .over); lines = firstLines (t .lines) (t .loops); loops = t .loops }
 
-pub record Lined (t : TallyLines) (i : ℕ) (one : Turning) (total spent : ℕ) (r : TallyLines) : Type 0 where
+-- the line of a trip of these turns
+abbrev pub lineFor : ℕ → Trip → ℕ → ℕ → Line
+lineFor i τ turns total = record { row = i; step = τ .step; turns = turns; total = total; exact = isExact τ }
+
+pub record Lined (t : TallyLines) (i : ℕ) (τ : Trip) (turns total spent : ℕ) (r : TallyLines) : Type 0 where
+  pub number : r .number ≡ 0
   pub long : length (r .lines) ≡ 16
   pub value : (ρ : Env) → tallied r ρ ≡ record {
     env = ρ;
     verdict = passed;
     spent = spent;
     over = overOf (t .over);
-    lines = firstLines (t .lines) (t .loops) ++ (record { row = i; step = one .step; turns = one .turns; total = total; exact = one .exact } ∷ []);
+    lines = firstLines (t .lines) (t .loops) ++ (lineFor i τ turns total ∷ []);
     loops = t .loops + 1;
   }
 

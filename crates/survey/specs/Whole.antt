@@ -1,21 +1,16 @@
 -- The answer of the survey: the questions 8 to 13 of the whole file, and the report's ticks and lines.
 use mathlib.Core.Path.{_≡_}
-use mathlib.Core.List.{List, []}
+use mathlib.Core.List.{List}
 use Prim.Native.Nat.{ℕ, _≤_, _<_}
-use lib.IntN.{ℤ, pos}
-use lib.ListN.{length, getD}
+use lib.ListN.{length}
 use Rattle.rules.specs.Figures.{ones}
 use Rattle.rules.specs.Questions.{verdict}
-use Rattle.rules.specs.Scripts.{Script, pairRange, envOf, treeOf, reportTicks, reportLines}
+use Rattle.rules.specs.Scripts.{Script, envOf, treeOf, reportTicks, reportLines}
 use Rattle.lines.specs.Coded.{firstLines}
 use Rattle.turns.specs.Needs.{answer}
 use Rattle.survey.specs.declared.Tally.{Tally}
 use Rattle.survey.specs.declared.Refusal.{Refusal}
 use Rattle.survey.specs.declared.Figures.{Figures}
-
--- the ranges from variable `vars` on are [0, 0]
-pub record BlankFrom (vars : ℕ) (ranges : List (List ℤ)) : Type 0 where
-  pub blank : (w : ℕ) → vars ≤ w → pairRange (getD ranges w []) ≡ record { lo = pos 0; hi = pos 0 }
 
 -- the first question that has no, from what the walk found
 pub data FirstNo (t : Tally) (count : ℕ) (r : Refusal) : Type 0 where
@@ -24,10 +19,11 @@ pub data FirstNo (t : Tally) (count : ℕ) (r : Refusal) : Type 0 where
   of-file : t .number ≡ 0 → 256 ≤ t .over → 1_000_000_000_000 < t .spent → r .number ≡ 13 → r .place ≡ count → FirstNo t count r
   none : t .number ≡ 0 → 256 ≤ t .over → t .spent ≤ 1_000_000_000_000 → r .number ≡ 0 → FirstNo t count r
 
--- number and place are the verdict; of an accepted file, the ticks and the lines are the report's
+-- number and place are the verdict; of an accepted file, the ticks and the lines are the report's, and of a refused one there are none
 pub record SurveyOf (script : Script) (rows : ℕ) (s : Figures) (table : List (List ℕ)) : Type 0 where
   pub verdict : verdict ones rows (envOf (script .ranges)) (treeOf (script .rows)) ≡ answer (s .number) (s .place)
   pub ticks : s .number ≡ 0 → s .ticks ≡ reportTicks ones script
   pub loops : s .number ≡ 0 → s .loops ≤ 16
   pub long : s .number ≡ 0 → length table ≡ 16
   pub lines : s .number ≡ 0 → firstLines table (s .loops) ≡ reportLines script
+  pub none : (s .number ≡ 0 → ⊥) → (s .ticks ≡ 0) × (s .loops ≡ 0)

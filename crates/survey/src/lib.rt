@@ -2,48 +2,44 @@
 use lines::put_line;
 use ranges::after;
 use ranges::at_start;
-use ranges::bounds;
-use ranges::head_of;
 use ranges::inside;
-use ranges::is_do;
 use ranges::joined;
 use ranges::outside;
-use ranges::span_at;
 use ranges::step_row;
 use rules::Kind;
 use rules::LoopLine;
-use rules::Operand;
-use rules::Step;
-use steps::Shape;
-use steps::body_moves;
-use steps::has;
-use steps::past_else;
-use steps::shape_at;
+use table::Shape;
 use table::kind_at;
+use table::past_else;
+use table::shape_at;
 use ticks::LIMIT;
 use ticks::first_over;
 use ticks::loop_ticks;
 use ticks::plus;
 use ticks::times;
+use trips::Loop;
+use trips::Trip;
+use trips::loop_at;
+use turns::Figure;
 use turns::ask;
 use turns::exact;
 ghost use mathlib.Core.Path.{_≡_};
 ghost use mathlib.Core.List.{List};
-ghost use Prim.Native.Nat.{ℕ, _≤_, _<_, max};
+ghost use Prim.Native.Nat.{ℕ, _+_, _≤_, _<_, max};
 ghost use lib.ListN.{length};
-ghost use Rattle.rules.specs.Blocks.{Block};
-ghost use Rattle.rules.specs.Steps.{assigns};
-ghost use Rattle.rules.specs.Bounds.{FineOperand, Ends};
-ghost use Rattle.rules.specs.Ranges.{join, after};
-ghost use Rattle.rules.specs.Questions.{keeps};
-ghost use Rattle.rules.specs.Scripts.{scriptOf, Legal};
-ghost use Rattle.table.specs.Code.{rowsOf};
+ghost use Rattle.rules.specs.Bounds.{Ends};
+ghost use Rattle.rules.specs.Ranges.{join};
+ghost use Rattle.rules.specs.Trips.{after};
+ghost use Rattle.rules.specs.Scripts.{scriptOf, BlankFrom, Legal};
+ghost use Rattle.table.specs.Code.{kindAt, rowsOf};
 ghost use Rattle.steps.specs.Tree.{blockAt, Ready};
-ghost use Rattle.steps.specs.Sets.{setOf};
 ghost use Rattle.steps.specs.Body.{AtLoop};
-ghost use Rattle.ranges.specs.Env.{envOf};
-ghost use Rattle.survey.specs.Fold.{withLines, lastTicks, LoopOf, Restarted, Lined, Closed, EndedAt, Walkable, Surveyed};
-ghost use Rattle.survey.specs.Whole.{FirstNo, BlankFrom, SurveyOf};
+ghost use Rattle.trips.specs.Env.{envOf};
+ghost use Rattle.trips.specs.Found.{tripOf};
+ghost use Rattle.ticks.specs.Capped.{capped};
+ghost use Rattle.survey.specs.Fold.{withLines, lastTicks, Restarted, Lined, Closed, EndedAt, Walkable, Surveyed};
+ghost use Rattle.survey.specs.Enter.{EnteredAt, LeftLoop};
+ghost use Rattle.survey.specs.Whole.{FirstNo, SurveyOf};
 
 // What a walk has found: a refusal of 8 to 12 (number 0: none), the first block over the limit (256: none), the ticks of
 // one pass, how many lines there are so far, and the row that closes the block.
@@ -54,54 +50,6 @@ struct Tally {
     spent: u64,
     loops: usize,
     next: usize,
-}
-
-// 10: is the limit a constant or not assigned in the body?
-fn keeps(limit: Operand, set: [bool; 16]) -> bool
-    requires { ⌜ FineOperand limit ⌝ }
-    ensures { λ r. ⌜ ((body : Block) → ((w : ℕ) → setOf set w ≡ assigns w body) → r ≡ keeps limit body) ⌝ }
-{
-    match limit {
-        Operand::Constant(_) => true,
-        Operand::Variable(w) => !has(set, w),
-    }
-}
-
-// What is found of one loop at its head.
-struct Turning {
-    number: u32,
-    step: Step,
-    turns: u64,
-    exact: bool,
-    set: [bool; 16],
-    next: usize,
-}
-
-// The loop at row i, from the ranges at its start.
-fn one_loop(rows: &[[u32; 9]; 256], count: usize, i: usize, begun: &[[i32; 2]; 16]) -> Turning
-    requires { ⌜ AtLoop (rowsOf (now rows)) count i ⌝ }
-    ensures { λ r. ⌜ LoopOf (rowsOf (now (rows .entry))) count i (envOf (now (begun .entry))) r ⌝ }
-{
-    let kind = kind_at(rows, i);
-    let head = head_of(kind);
-    let v = head.tested;
-    let comparison = head.comparison;
-    let limit = head.limit;
-    let body = body_moves(rows, count, i, v);
-    let set = body.set;
-    let next = body.next;
-    let step = body.step;
-    let s = span_at(begun, v);
-    let n = bounds(begun, limit);
-    let figure = ask(is_do(kind), step, keeps(limit, set), comparison, s, n);
-    Turning {
-        number: figure.number,
-        step: step,
-        turns: figure.turns,
-        exact: exact(step, s, n),
-        set: set,
-        next: next,
-    }
 }
 
 // The ranges after a pick whose parts start at two rows.
@@ -133,15 +81,8 @@ fn last_ticks(kind: Kind) -> u64
     ensures { λ r. ⌜ r ≡ lastTicks kind ⌝ }
 {
     match kind {
-        Kind::Set(_, _) => 0,
-        Kind::Move(_, _) => 0,
-        Kind::Cue(_) => 0,
-        Kind::Pick => 0,
-        Kind::Else => 0,
-        Kind::End => 0,
-        Kind::While(_, _, _) => 0,
-        Kind::Do(_, _, _) => 0,
         Kind::For(_, _, _, _, _) => 1,
+        _ => 0,
     }
 }
 
@@ -164,21 +105,22 @@ fn lined(
     lines: &mut [[u64; 7]; 16],
     t: Tally,
     i: usize,
-    one: Turning,
+    trip: Trip,
+    turns: u64,
     total: u64,
     spent: u64,
 ) -> Tally
-    requires { ⌜ (t .loops < 16) × (length (now lines) ≡ 16) × Ends 256 (one .step) ⌝ }
-    ensures { λ r. ⌜ Lined (withLines t (now (lines .entry))) i one total spent (withLines r (now (lines .exit))) ⌝ }
+    requires { ⌜ (t .loops < 16) × (length (now lines) ≡ 16) × Ends 256 (trip .step) ⌝ }
+    ensures { λ r. ⌜ Lined (withLines t (now (lines .entry))) i (tripOf trip) turns total spent (withLines r (now (lines .exit))) ⌝ }
 {
     let k = t.loops;
-    let step = one.step;
+    let step = trip.step;
     let line = LoopLine {
         row: i,
         step: step,
-        turns: one.turns,
+        turns: turns,
         total: total,
-        exact: one.exact,
+        exact: exact(trip),
     };
     put_line(lines, k, line);
     Tally {
@@ -234,6 +176,80 @@ fn ended(t: Tally, i: usize) -> Tally
     }
 }
 
+// A loop that has been entered: the turns of one entry, its total, and what has been found: its line, or its refusal.
+struct Entered {
+    one: Loop,
+    turns: u64,
+    total: u64,
+    first: Tally,
+}
+
+// From the ranges before the loop at row i to those at its start: its questions 8 to 12, then its line.
+fn enter_loop(
+    rows: &[[u32; 9]; 256],
+    count: usize,
+    i: usize,
+    outer: u64,
+    lines: &mut [[u64; 7]; 16],
+    t: Tally,
+    r: &mut [[i32; 2]; 16],
+) -> Entered
+    requires { ⌜ AtLoop (rowsOf (now rows)) count i × (outer ≤ 1_000_000_000_001) × (t .loops < 16) × (length (now lines) ≡ 16) × (length (now r) ≡ 16) ⌝ }
+    ensures { λ e. ⌜ EnteredAt (rowsOf (now (rows .entry))) count i outer (envOf (now (r .entry))) (withLines t (now (lines .entry))) (now (r .exit)) e (withLines (e .first) (now (lines .exit))) ⌝ }
+{
+    let kind = kind_at(rows, i);
+    at_start(r, kind);
+    let one = loop_at(rows, count, i, r);
+    let trip = one.trip;
+    match ask(trip) {
+        Figure::Refused(number) => Entered {
+            one: one,
+            turns: 0,
+            total: 0,
+            first: refused(t, number, i),
+        },
+        Figure::Turns(turns) => {
+            let total = times(turns, outer);
+            let first = lined(lines, t, i, trip, turns, total, last_ticks(kind));
+            Entered {
+                one: one,
+                turns: turns,
+                total: total,
+                first: first,
+            }
+        }
+    }
+}
+
+// From the ranges at a loop's start to those after it, and what is found after its body.
+fn leave_loop(
+    rows: &[[u32; 9]; 256],
+    i: usize,
+    one: Loop,
+    turns: u64,
+    t: Tally,
+    body: Tally,
+    r: &mut [[i32; 2]; 16],
+) -> Tally
+    requires { ⌜ (i < 256) × (one .tested < 16) × (one .next < 256) × (t .spent ≤ 1_000_000_000_001) × (body .spent ≤ 1_000_000_000_001) × (length (now r) ≡ 16) ⌝ }
+    ensures { λ x. ⌜ LeftLoop (kindAt (rowsOf (now (rows .entry))) i) one turns t body (envOf (now (r .entry))) (now (r .exit)) x ⌝ }
+{
+    outside(r, one);
+    let e = one.next;
+    let ticks = loop_ticks(kind_at(rows, i), turns, body.spent);
+    closed(t, body, e, ticks)
+}
+
+// What is found after a pick whose parts found a and b.
+fn leave_pick(t: Tally, a: Tally, b: Tally) -> Tally
+    requires { ⌜ (b .next < 256) × (t .spent ≤ 1_000_000_000_001) × (a .spent ≤ 1_000_000_000_001) × (b .spent ≤ 1_000_000_000_001) ⌝ }
+    ensures { λ r. ⌜ ((ks ls : List (List ℕ)) → Closed (withLines t ks) (withLines b ls) (b .next) (capped (1 + max (a .spent) (b .spent))) (withLines r ls)) ⌝ }
+{
+    let e = b.next;
+    let both = larger(a.spent, b.spent);
+    closed(t, b, e, plus(1, both))
+}
+
 // The block that starts at row `at`: its rows from the first, nested blocks by the same walk.
 fn walk(
     rows: &[[u32; 9]; 256],
@@ -269,33 +285,24 @@ fn walk(
                 }
                 let x = after_pick(rows, count, i + 1, second, r);
                 r = x;
-                let e = b.next;
-                let both = larger(a.spent, b.spent);
-                t = closed(t, b, e, plus(1, both));
-                i = e + 1;
+                t = leave_pick(t, a, b);
+                i = b.next + 1;
             }
             Shape::Loop => {
-                let kind = kind_at(rows, i);
-                at_start(&mut r, kind);
-                let one = one_loop(rows, count, i, &r);
-                if one.number != 0 {
-                    return refused(t, one.number, i);
+                let entered = enter_loop(rows, count, i, outer, lines, t, &mut r);
+                let one = entered.one;
+                let first = entered.first;
+                if first.number != 0 {
+                    return first;
                 }
-                let set = one.set;
-                let turns = one.turns;
-                let total = times(turns, outer);
-                let first = lined(lines, t, i, one, total, last_ticks(kind));
                 let mut begun = r;
-                inside(&mut begun, kind, set);
-                let body = walk(rows, count, i + 1, begun, total, lines, first);
+                inside(&mut begun, one);
+                let body = walk(rows, count, i + 1, begun, entered.total, lines, first);
                 if body.number != 0 {
                     return body;
                 }
-                let step = one.step;
-                let e = one.next;
-                outside(&mut r, kind, set, step);
-                t = closed(t, body, e, loop_ticks(kind, turns, body.spent));
-                i = e + 1;
+                t = leave_loop(rows, i, one, entered.turns, t, body, &mut r);
+                i = one.next + 1;
             }
             Shape::Close => {
                 return ended(t, i);
@@ -339,7 +346,7 @@ fn first_no(t: Tally, count: usize) -> Refusal
     }
 }
 
-// The questions 8 to 13 of a file (number 0: all have yes), and the report's figures.
+// The questions 8 to 13 of a file (number 0: all have yes), and the report's figures; all 0 for a refused file.
 pub struct Figures {
     pub number: u32,
     pub place: usize,
@@ -368,6 +375,14 @@ pub fn survey(
     };
     let t = walk(rows, count, 0, ranges, 1, lines, empty);
     let no = first_no(t, count);
+    if no.number != 0 {
+        return Figures {
+            number: no.number,
+            place: no.place,
+            ticks: 0,
+            loops: 0,
+        };
+    }
     Figures {
         number: no.number,
         place: no.place,

@@ -1,60 +1,62 @@
 -- A table's rows, one by one.
-use mathlib.Core.Path.{_≡_, refl, ap}
+use mathlib.Core.Path.{_≡_, refl, sym, ap, _∙_}
 use mathlib.Core.Bool.{false}
 use mathlib.Core.List.{List, [], _∷_}
 use Prim.Native.Nat.{ℕ, zero, suc, _<_, min}
+use types.Run.{OneOf, miss}
+use denote.Enum.Declared.{tagOf}
 use native.Mathlib.Omega.{arith}
-use lib.Dec.{eqb}
 use lib.ListN.{length, getD, set}
-use borrow.Author.Tests.{ne-eqb}
 use Rattle.rules.specs.declared.Row.{Row}
-use Rattle.rules.specs.declared.Kind.{Kind}
-use Rattle.rules.specs.declared.Kind.the-variants.{Set, Move, Cue, Pick, Else, End, While, Do, For}
-use Rattle.table.specs.Code.{number, numbersAt, comparisonIn, variableIn, startIn, limitIn, stepIn, kindIn, kindAt, rowIn, rowsOf}
+use Rattle.rules.specs.Blocks.{viewOf}
+use Rattle.rules.specs.Steps.{sets}
+use Rattle.table.specs.declared.Tag.{Tag}
+use Rattle.table.specs.Code.{numbersAt, rowTag, kindBy, kindIn, kindAt, rowIn, rowsOf}
+use Rattle.table.specs.Shapes.{plainOf, pastElse}
+use Rattle.table.proofs.Tag.{the-type}
 
 pub kind-in : (t : List (List ℕ)) (i : ℕ) → kindAt (rowsOf t) i ≡ kindIn (getD t i [])
-unfolding kindIn
+unfolding kindIn kindBy
 kind-in [] i = refl
 kind-in (e ∷ t) zero = refl
 kind-in (e ∷ t) (suc i) = kind-in t i
 
--- what holds of each kind and its tag holds of the row
-pub by-tag : (e : List ℕ) (P : ℕ → Kind → Type 0)
-    → P 0 End
-    → P 1 Else
-    → P 2 Pick
-    → P 3 (Set (variableIn e) (startIn e))
-    → P 4 (Move (variableIn e) (stepIn e))
-    → P 5 (Cue (number e 8))
-    → P 6 (While (variableIn e) (comparisonIn (number e 4)) (limitIn e))
-    → P 7 (Do (variableIn e) (comparisonIn (number e 4)) (limitIn e))
-    → ((t : ℕ) → 7 < t → P t (For (variableIn e) (startIn e) (comparisonIn (number e 4)) (limitIn e) (stepIn e)))
-    → P (number e 0) (kindIn e)
+-- the kind of a row by its tag
+pub kind-is : (t : List (List ℕ)) (i : ℕ) {g h : Tag} → g ≡ rowTag (numbersAt t i) → g ≡ h → kindAt (rowsOf t) i ≡ kindBy h (numbersAt t i)
 unfolding kindIn
-by-tag e P end other pick put move cue while late for = go (number e 0) refl
-  where
-    go : (t : ℕ) → number e 0 ≡ t → P (number e 0) (kindIn e)
-    go zero q = rw q end
-    go (suc zero) q = rw q other
-    go (suc (suc zero)) q = rw q pick
-    go (suc (suc (suc zero))) q = rw q put
-    go (suc (suc (suc (suc zero)))) q = rw q move
-    go (suc (suc (suc (suc (suc zero))))) q = rw q cue
-    go (suc (suc (suc (suc (suc (suc zero)))))) q = rw q while
-    go (suc (suc (suc (suc (suc (suc (suc zero))))))) q = rw q late
-    go (suc (suc (suc (suc (suc (suc (suc (suc t)))))))) q =
-        let ne : (k : ℕ) → k < 8 → eqb (number e 0) k ≡ false = λ k h. ne-eqb (number e 0) k (λ z. omega arith) in
-        rw (ne 0 (omega arith), ne 1 (omega arith), ne 2 (omega arith), ne 3 (omega arith), ne 4 (omega arith), ne 5 (omega arith), ne 6 (omega arith), ne 7 (omega arith)) (for (number e 0) (omega arith))
+kind-is t i p q = kind-in t i ∙ ap (λ x. kindBy x (numbersAt t i)) (sym p ∙ q)
 
--- a row by its tag: a set, a change
-module _ (t : List (List ℕ)) (i : ℕ) where
-  pub set-at : number (numbersAt t i) 0 ≡ 3 → kindAt (rowsOf t) i ≡ Set (variableIn (numbersAt t i)) (startIn (numbersAt t i))
-  unfolding kindIn
-  set-at q = rw (kind-in t i, q)
+-- a row that is no else
+abbrev other : List ℕ
+other = 0 ∷ 2 ∷ 3 ∷ 4 ∷ 5 ∷ 6 ∷ 7 ∷ 8 ∷ []
 
-  pub move-at : number (numbersAt t i) 0 ≡ 4 → kindAt (rowsOf t) i ≡ Move (variableIn (numbersAt t i)) (stepIn (numbersAt t i))
-  unfolding kindIn
-  move-at q = rw (kind-in t i, q)
+pub not-else : (g : Tag) (e : List ℕ) → OneOf other (tagOf the-type g) → (i : ℕ) → pastElse (kindBy g e) i ≡ i
+unfolding kindBy viewOf
+not-else Tag.End e o i = refl
+not-else Tag.Else e o i = absurd (miss other 1 tt o)
+not-else Tag.Pick e o i = refl
+not-else Tag.Set e o i = refl
+not-else Tag.Move e o i = refl
+not-else Tag.Cue e o i = refl
+not-else Tag.While e o i = refl
+not-else Tag.Do e o i = refl
+not-else Tag.For e o i = refl
+
+-- a row that is no set, no change and no for
+abbrev idle : List ℕ
+idle = 0 ∷ 1 ∷ 2 ∷ 5 ∷ 6 ∷ 7 ∷ []
+
+pub not-assigned : (g : Tag) (e : List ℕ) → OneOf idle (tagOf the-type g) → (w : ℕ) → sets w (plainOf (kindBy g e)) ≡ false
+unfolding kindBy viewOf sets
+not-assigned Tag.End e o w = refl
+not-assigned Tag.Else e o w = refl
+not-assigned Tag.Pick e o w = refl
+not-assigned Tag.Set e o w = absurd (miss idle 3 tt o)
+not-assigned Tag.Move e o w = absurd (miss idle 4 tt o)
+not-assigned Tag.Cue e o w = refl
+not-assigned Tag.While e o w = refl
+not-assigned Tag.Do e o w = refl
+not-assigned Tag.For e o w = absurd (miss idle 8 tt o)
 
 -- a variable is a byte
 pub small : (v : ℕ) → v < 16 → min v 255 ≡ v

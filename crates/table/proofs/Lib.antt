@@ -1,3 +1,4 @@
 -- The laws that belong to no one function.
 pub mod Laws
 pub mod Limits
+pub mod Whole

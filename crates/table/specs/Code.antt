@@ -17,6 +17,7 @@ use Rattle.rules.specs.declared.Comparison.the-variants.{Less, AtMost, Greater,
 use Rattle.rules.specs.declared.Change.{Change}
 use Rattle.rules.specs.declared.Change.the-variants.{Add, Sub, Mul, Div}
 use Rattle.rules.specs.Blocks.{kindsOf}
+use Rattle.table.specs.declared.Tag.{Tag}
 
 abbrev pub constantIn : ℕ → ℤ
 constantIn x = pos x -ℤ pos 2_147_483_648
@@ -46,16 +47,29 @@ limitIn e = operandIn (number e 5) (number e 6)
 abbrev pub stepIn : List ℕ → Change
 stepIn e = changeIn (number e 7) (number e 8)
 
--- the kind by its tag
+-- the tag that a number stands for
+abbrev pub tagIn : ℕ → Tag
+tagIn t =
+    cond (eqb t 0) Tag.End (cond (eqb t 1) Tag.Else (cond (eqb t 2) Tag.Pick (cond (eqb t 3) Tag.Set
+    (cond (eqb t 4) Tag.Move (cond (eqb t 5) Tag.Cue (cond (eqb t 6) Tag.While (cond (eqb t 7) Tag.Do Tag.For)))))))
+
+abbrev pub rowTag : List ℕ → Tag
+rowTag e = tagIn (number e 0)
+
+-- the kind of a tag with these numbers
+unfoldable pub kindBy : Tag → List ℕ → Kind
+kindBy Tag.End e = End
+kindBy Tag.Else e = Else
+kindBy Tag.Pick e = Pick
+kindBy Tag.Set e = Set (variableIn e) (startIn e)
+kindBy Tag.Move e = Move (variableIn e) (stepIn e)
+kindBy Tag.Cue e = Cue (number e 8)
+kindBy Tag.While e = While (variableIn e) (comparisonIn (number e 4)) (limitIn e)
+kindBy Tag.Do e = Do (variableIn e) (comparisonIn (number e 4)) (limitIn e)
+kindBy Tag.For e = For (variableIn e) (startIn e) (comparisonIn (number e 4)) (limitIn e) (stepIn e)
+
 unfoldable pub kindIn : List ℕ → Kind
-kindIn e =
-    let t = number e 0 in
-    let v = variableIn e in
-    let start = startIn e in
-    let c = comparisonIn (number e 4) in
-    let limit = limitIn e in
-    let d = stepIn e in
-    cond (eqb t 0) End (cond (eqb t 1) Else (cond (eqb t 2) Pick (cond (eqb t 3) (Set v start) (cond (eqb t 4) (Move v d) (cond (eqb t 5) (Cue (number e 8)) (cond (eqb t 6) (While v c limit) (cond (eqb t 7) (Do v c limit) (For v start c limit d))))))))
+kindIn e = kindBy (rowTag e) e
 
 -- the numbers of row i
 abbrev pub numbersAt : List (List ℕ) → ℕ → List ℕ

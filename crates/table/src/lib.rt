@@ -1,14 +1,22 @@
 // The rows as a table of numbers, nine to a row: a table can be lent to a walk, and an array of rows cannot.
+mod codes;
+mod columns;
+
 use rules::Change;
 use rules::Comparison;
 use rules::Kind;
 use rules::Operand;
+use rules::Row;
 ghost use mathlib.Core.Path.{_≡_};
-ghost use Prim.Native.Nat.{_<_, min};
-ghost use lib.ListN.{set};
+ghost use mathlib.Core.Bool.{_&&_};
+ghost use Prim.Native.Nat.{ℕ, _<_, _≤_, min};
+ghost use lib.Dec.{eqb};
+ghost use lib.ListN.{length, set};
 ghost use Rattle.rules.specs.Bounds.{Near, Fine, FineOperand};
 ghost use Rattle.rules.specs.declared.Kind.{Kind};
-ghost use Rattle.table.specs.Code.{constantIn, operandIn, comparisonIn, changeIn, number, variableIn, startIn, stepIn, kindIn, numbersAt, kindAt, rowsOf};
+ghost use Rattle.rules.specs.Steps.{sets};
+ghost use Rattle.table.specs.Code.{constantIn, operandIn, comparisonIn, changeIn, variableIn, startIn, limitIn, stepIn, tagIn, rowTag, kindIn, numbersAt, kindAt, rowsOf, Packed};
+ghost use Rattle.table.specs.Shapes.{shapeOf, plainOf, pastElse};
 
 // A byte of the table.
 fn byte(x: u32) -> u8
@@ -29,7 +37,7 @@ fn constant(x: u32) -> i32
 fn operand(t: u32, x: u32) -> Operand
     ensures { λ r. ⌜ r ≡ operandIn t x ⌝ }
 {
-    if t == 0 {
+    if t == codes::CONSTANT {
         return Operand::Constant(constant(x));
     }
     Operand::Variable(byte(x))
@@ -38,77 +46,91 @@ fn operand(t: u32, x: u32) -> Operand
 fn comparison(t: u32) -> Comparison
     ensures { λ r. ⌜ r ≡ comparisonIn t ⌝ }
 {
-    if t == 0 {
-        return Comparison::Less;
+    match t {
+        codes::LESS => Comparison::Less,
+        codes::AT_MOST => Comparison::AtMost,
+        codes::GREATER => Comparison::Greater,
+        codes::AT_LEAST => Comparison::AtLeast,
+        codes::EQUAL => Comparison::Equal,
+        _ => Comparison::Different,
     }
-    if t == 1 {
-        return Comparison::AtMost;
-    }
-    if t == 2 {
-        return Comparison::Greater;
-    }
-    if t == 3 {
-        return Comparison::AtLeast;
-    }
-    if t == 4 {
-        return Comparison::Equal;
-    }
-    Comparison::Different
 }
 
 fn change(t: u32, c: u32) -> Change
     ensures { λ r. ⌜ r ≡ changeIn t c ⌝ }
 {
-    if t == 0 {
-        return Change::Add(c);
+    match t {
+        codes::ADD => Change::Add(c),
+        codes::SUB => Change::Sub(c),
+        codes::MUL => Change::Mul(c),
+        _ => Change::Div(c),
     }
-    if t == 1 {
-        return Change::Sub(c);
+}
+
+// The kinds of row.
+pub enum Tag {
+    End,
+    Else,
+    Pick,
+    Set,
+    Move,
+    Cue,
+    While,
+    Do,
+    For,
+}
+
+fn tag_of(t: u32) -> Tag
+    ensures { λ r. ⌜ r ≡ tagIn t ⌝ }
+{
+    match t {
+        codes::END => Tag::End,
+        codes::ELSE => Tag::Else,
+        codes::PICK => Tag::Pick,
+        codes::SET => Tag::Set,
+        codes::MOVE => Tag::Move,
+        codes::CUE => Tag::Cue,
+        codes::WHILE => Tag::While,
+        codes::DO => Tag::Do,
+        _ => Tag::For,
     }
-    if t == 2 {
-        return Change::Mul(c);
-    }
-    Change::Div(c)
+}
+
+fn first_operand(e: [u32; 9]) -> Operand
+    ensures { λ r. ⌜ r ≡ startIn e ⌝ }
+{
+    operand(e[columns::START], e[columns::START_VALUE])
+}
+
+fn limit(e: [u32; 9]) -> Operand
+    ensures { λ r. ⌜ r ≡ limitIn e ⌝ }
+{
+    operand(e[columns::LIMIT], e[columns::LIMIT_VALUE])
+}
+
+fn step(e: [u32; 9]) -> Change
+    ensures { λ r. ⌜ r ≡ stepIn e ⌝ }
+{
+    change(e[columns::CHANGE], e[columns::NUMBER])
 }
 
 // The kind of a row of the table.
 fn kind_of(e: [u32; 9]) -> Kind
     ensures { λ r. ⌜ r ≡ kindIn e ⌝ }
 {
-    let t = e[0];
-    if t == 0 {
-        return Kind::End;
+    let v = byte(e[columns::VARIABLE]);
+    let c = comparison(e[columns::COMPARISON]);
+    match tag_of(e[columns::TAG]) {
+        Tag::End => Kind::End,
+        Tag::Else => Kind::Else,
+        Tag::Pick => Kind::Pick,
+        Tag::Set => Kind::Set(v, first_operand(e)),
+        Tag::Move => Kind::Move(v, step(e)),
+        Tag::Cue => Kind::Cue(e[columns::NUMBER]),
+        Tag::While => Kind::While(v, c, limit(e)),
+        Tag::Do => Kind::Do(v, c, limit(e)),
+        Tag::For => Kind::For(v, first_operand(e), c, limit(e), step(e)),
     }
-    if t == 1 {
-        return Kind::Else;
-    }
-    if t == 2 {
-        return Kind::Pick;
-    }
-    if t == 3 {
-        return Kind::Set(byte(e[1]), operand(e[2], e[3]));
-    }
-    if t == 4 {
-        return Kind::Move(byte(e[1]), change(e[7], e[8]));
-    }
-    if t == 5 {
-        return Kind::Cue(e[8]);
-    }
-    if t == 6 {
-        return Kind::While(byte(e[1]), comparison(e[4]), operand(e[5], e[6]));
-    }
-    if t == 7 {
-        return Kind::Do(byte(e[1]), comparison(e[4]), operand(e[5], e[6]));
-    }
-    let start = operand(e[2], e[3]);
-    let limit = operand(e[5], e[6]);
-    Kind::For(
-        byte(e[1]),
-        start,
-        comparison(e[4]),
-        limit,
-        change(e[7], e[8]),
-    )
 }
 
 // The kind of row i.
@@ -121,11 +143,11 @@ pub fn kind_at(table: &[[u32; 9]; 256], i: usize) -> Kind
 }
 
 // The tag of row i.
-pub fn tag_at(table: &[[u32; 9]; 256], i: usize) -> u32
+pub fn tag_at(table: &[[u32; 9]; 256], i: usize) -> Tag
     requires { ⌜ i < 256 ⌝ }
-    ensures { λ r. ⌜ r ≡ number (numbersAt (now (table .entry)) i) 0 ⌝ }
+    ensures { λ r. ⌜ r ≡ rowTag (numbersAt (now (table .entry)) i) ⌝ }
 {
-    table[i][0]
+    tag_of(table[i][columns::TAG])
 }
 
 // The variable of row i.
@@ -133,7 +155,7 @@ pub fn variable_at(table: &[[u32; 9]; 256], i: usize) -> u8
     requires { ⌜ i < 256 ⌝ }
     ensures { λ r. ⌜ r ≡ variableIn (numbersAt (now (table .entry)) i) ⌝ }
 {
-    byte(table[i][1])
+    byte(table[i][columns::VARIABLE])
 }
 
 // The first operand of row i.
@@ -141,7 +163,7 @@ pub fn operand_at(table: &[[u32; 9]; 256], i: usize) -> Operand
     requires { ⌜ i < 256 ⌝ }
     ensures { λ r. ⌜ r ≡ startIn (numbersAt (now (table .entry)) i) ⌝ }
 {
-    operand(table[i][2], table[i][3])
+    operand(table[i][columns::START], table[i][columns::START_VALUE])
 }
 
 // The change of row i.
@@ -149,7 +171,57 @@ pub fn change_at(table: &[[u32; 9]; 256], i: usize) -> Change
     requires { ⌜ i < 256 ⌝ }
     ensures { λ r. ⌜ r ≡ stepIn (numbersAt (now (table .entry)) i) ⌝ }
 {
-    change(table[i][7], table[i][8])
+    change(table[i][columns::CHANGE], table[i][columns::NUMBER])
+}
+
+// What a walk tells apart: a plain row, a pick, a loop's head, an else or end.
+pub enum Shape {
+    Plain,
+    Branch,
+    Loop,
+    Close,
+}
+
+// The shape of row i.
+pub fn shape_at(rows: &[[u32; 9]; 256], i: usize) -> Shape
+    requires { ⌜ i < 256 ⌝ }
+    ensures { λ r. ⌜ r ≡ shapeOf (kindAt (rowsOf (now (rows .entry))) i) ⌝ }
+{
+    match tag_at(rows, i) {
+        Tag::End => Shape::Close,
+        Tag::Else => Shape::Close,
+        Tag::Pick => Shape::Branch,
+        Tag::Set => Shape::Plain,
+        Tag::Move => Shape::Plain,
+        Tag::Cue => Shape::Plain,
+        Tag::While => Shape::Loop,
+        Tag::Do => Shape::Loop,
+        Tag::For => Shape::Loop,
+    }
+}
+
+// The row after an else; any other row stays.
+pub fn past_else(rows: &[[u32; 9]; 256], at: usize) -> usize
+    requires { ⌜ at < 256 ⌝ }
+    ensures { λ r. ⌜ r ≡ pastElse (kindAt (rowsOf (now (rows .entry))) at) at ⌝ }
+{
+    match tag_at(rows, at) {
+        Tag::Else => at + 1,
+        _ => at,
+    }
+}
+
+// Does row i assign its variable: a set, a change or a for's step row?
+pub fn assigns(rows: &[[u32; 9]; 256], i: usize) -> bool
+    requires { ⌜ i < 256 ⌝ }
+    ensures { λ r. ⌜ ((w : ℕ) → sets w (plainOf (kindAt (rowsOf (now (rows .entry))) i)) ≡ (r && eqb w (variableIn (numbersAt (now (rows .entry)) i)))) ⌝ }
+{
+    match tag_at(rows, i) {
+        Tag::Set => true,
+        Tag::Move => true,
+        Tag::For => true,
+        _ => false,
+    }
 }
 
 // A tag and its value.
@@ -172,11 +244,11 @@ fn operand_code(x: Operand) -> Code
 {
     match x {
         Operand::Constant(k) => Code {
-            tag: 0,
+            tag: codes::CONSTANT,
             value: shifted(k),
         },
         Operand::Variable(w) => Code {
-            tag: 1,
+            tag: codes::VARIABLE,
             value: w as u32,
         },
     }
@@ -186,12 +258,12 @@ fn comparison_code(c: Comparison) -> u32
     ensures { λ r. ⌜ comparisonIn r ≡ c ⌝ }
 {
     match c {
-        Comparison::Less => 0,
-        Comparison::AtMost => 1,
-        Comparison::Greater => 2,
-        Comparison::AtLeast => 3,
-        Comparison::Equal => 4,
-        Comparison::Different => 5,
+        Comparison::Less => codes::LESS,
+        Comparison::AtMost => codes::AT_MOST,
+        Comparison::Greater => codes::GREATER,
+        Comparison::AtLeast => codes::AT_LEAST,
+        Comparison::Equal => codes::EQUAL,
+        Comparison::Different => codes::DIFFERENT,
     }
 }
 
@@ -199,14 +271,26 @@ fn change_code(d: Change) -> Code
     ensures { λ r. ⌜ changeIn (r .tag) (r .value) ≡ d ⌝ }
 {
     match d {
-        Change::Add(c) => Code { tag: 0, value: c },
-        Change::Sub(c) => Code { tag: 1, value: c },
-        Change::Mul(c) => Code { tag: 2, value: c },
-        Change::Div(c) => Code { tag: 3, value: c },
+        Change::Add(c) => Code {
+            tag: codes::ADD,
+            value: c,
+        },
+        Change::Sub(c) => Code {
+            tag: codes::SUB,
+            value: c,
+        },
+        Change::Mul(c) => Code {
+            tag: codes::MUL,
+            value: c,
+        },
+        Change::Div(c) => Code {
+            tag: codes::DIV,
+            value: c,
+        },
     }
 }
 
-// `end` has the tag 0, `else` 1, `pick` 2.
+// A row of a tag alone: `end`, `else` or `pick`.
 fn bare_row(tag: u32) -> [u32; 9]
     ensures { λ r. ⌜ ((tag ≡ 0 → kindIn r ≡ Kind.End) × (tag ≡ 1 → kindIn r ≡ Kind.Else) × (tag ≡ 2 → kindIn r ≡ Kind.Pick)) ⌝ }
 {
@@ -218,7 +302,7 @@ fn set_row(v: u8, x: Operand) -> [u32; 9]
     ensures { λ r. ⌜ kindIn r ≡ Kind.Set v x ⌝ }
 {
     let s = operand_code(x);
-    [3, v as u32, s.tag, s.value, 0, 0, 0, 0, 0]
+    [codes::SET, v as u32, s.tag, s.value, 0, 0, 0, 0, 0]
 }
 
 fn move_row(v: u8, d: Change) -> [u32; 9]
@@ -226,16 +310,16 @@ fn move_row(v: u8, d: Change) -> [u32; 9]
     ensures { λ r. ⌜ kindIn r ≡ Kind.Move v d ⌝ }
 {
     let m = change_code(d);
-    [4, v as u32, 0, 0, 0, 0, 0, m.tag, m.value]
+    [codes::MOVE, v as u32, 0, 0, 0, 0, 0, m.tag, m.value]
 }
 
 fn cue_row(n: u32) -> [u32; 9]
     ensures { λ r. ⌜ kindIn r ≡ Kind.Cue n ⌝ }
 {
-    [5, 0, 0, 0, 0, 0, 0, 0, n]
+    [codes::CUE, 0, 0, 0, 0, 0, 0, 0, n]
 }
 
-// `while` has the tag 6, `do` 7.
+// A `while` or a `do`, by its tag.
 fn test_row(tag: u32, v: u8, c: Comparison, x: Operand) -> [u32; 9]
     requires { ⌜ (v < 16) × FineOperand x ⌝ }
     ensures { λ r. ⌜ ((tag ≡ 6 → kindIn r ≡ Kind.While v c x) × (tag ≡ 7 → kindIn r ≡ Kind.Do v c x)) ⌝ }
@@ -262,7 +346,7 @@ fn for_row(v: u8, x: Operand, c: Comparison, y: Operand, d: Change) -> [u32; 9]
     let n = operand_code(y);
     let m = change_code(d);
     [
-        8,
+        codes::FOR,
         v as u32,
         s.tag,
         s.value,
@@ -280,14 +364,14 @@ fn row_code(kind: Kind) -> [u32; 9]
     ensures { λ r. ⌜ kindIn r ≡ kind ⌝ }
 {
     match kind {
-        Kind::End => bare_row(0),
-        Kind::Else => bare_row(1),
-        Kind::Pick => bare_row(2),
+        Kind::End => bare_row(codes::END),
+        Kind::Else => bare_row(codes::ELSE),
+        Kind::Pick => bare_row(codes::PICK),
         Kind::Set(v, x) => set_row(v, x),
         Kind::Move(v, d) => move_row(v, d),
         Kind::Cue(n) => cue_row(n),
-        Kind::While(v, c, x) => test_row(6, v, c, x),
-        Kind::Do(v, c, x) => test_row(7, v, c, x),
+        Kind::While(v, c, x) => test_row(codes::WHILE, v, c, x),
+        Kind::Do(v, c, x) => test_row(codes::DO, v, c, x),
         Kind::For(v, x, c, y, d) => for_row(v, x, c, y, d),
     }
 }
@@ -299,4 +383,18 @@ pub fn put_row(table: &mut [[u32; 9]; 256], i: usize, kind: Kind)
 {
     let e = row_code(kind);
     table[i] = e;
+}
+
+// The first `count` rows become those of the array.
+pub fn put_rows(table: &mut [[u32; 9]; 256], rows: [Row; 256], count: usize)
+    requires { ⌜ (length (now table) ≡ 256) × (count ≤ 256) × ((i : ℕ) → i < count → Fine (kindAt rows i)) ⌝ }
+    ensures { λ _. ⌜ (length (now (table .exit)) ≡ 256) × Packed count rows (now (table .exit)) ⌝ }
+{
+    let mut i: usize = 0;
+    while i < count {
+        let row = rows[i];
+        let kind = row.kind;
+        put_row(table, i, kind);
+        i += 1;
+    }
 }

@@ -147,7 +147,43 @@ fn packed(s: &[u8]) -> u64
     n
 }
 
-// The tags of the words that are no keyword or comparison.
+// The tags of words: the keywords and comparisons, any other word, none, a number, a variable.
+const SET: u32 = 0;
+
+const ADD: u32 = 1;
+
+const SUB: u32 = 2;
+
+const MUL: u32 = 3;
+
+const DIV: u32 = 4;
+
+const CUE: u32 = 5;
+
+const FOR: u32 = 6;
+
+const WHILE: u32 = 7;
+
+const DO: u32 = 8;
+
+const END: u32 = 9;
+
+const ELSE: u32 = 10;
+
+const PICK: u32 = 11;
+
+const LESS: u32 = 12;
+
+const AT_MOST: u32 = 13;
+
+const GREATER: u32 = 14;
+
+const AT_LEAST: u32 = 15;
+
+const EQUAL: u32 = 16;
+
+const DIFFERENT: u32 = 17;
+
 const OTHER: u32 = 18;
 
 const MISSING: u32 = 19;
@@ -161,24 +197,24 @@ pub fn said(tag: u32, value: i32) -> Word
     ensures { λ r. ⌜ r ≡ wordIn tag value ⌝ }
 {
     match tag {
-        0 => Word::Keyword(Name::Set),
-        1 => Word::Keyword(Name::Add),
-        2 => Word::Keyword(Name::Sub),
-        3 => Word::Keyword(Name::Mul),
-        4 => Word::Keyword(Name::Div),
-        5 => Word::Keyword(Name::Cue),
-        6 => Word::Keyword(Name::For),
-        7 => Word::Keyword(Name::While),
-        8 => Word::Keyword(Name::Do),
-        9 => Word::Keyword(Name::End),
-        10 => Word::Keyword(Name::Else),
-        11 => Word::Keyword(Name::Pick),
-        12 => Word::Compares(Comparison::Less),
-        13 => Word::Compares(Comparison::AtMost),
-        14 => Word::Compares(Comparison::Greater),
-        15 => Word::Compares(Comparison::AtLeast),
-        16 => Word::Compares(Comparison::Equal),
-        17 => Word::Compares(Comparison::Different),
+        SET => Word::Keyword(Name::Set),
+        ADD => Word::Keyword(Name::Add),
+        SUB => Word::Keyword(Name::Sub),
+        MUL => Word::Keyword(Name::Mul),
+        DIV => Word::Keyword(Name::Div),
+        CUE => Word::Keyword(Name::Cue),
+        FOR => Word::Keyword(Name::For),
+        WHILE => Word::Keyword(Name::While),
+        DO => Word::Keyword(Name::Do),
+        END => Word::Keyword(Name::End),
+        ELSE => Word::Keyword(Name::Else),
+        PICK => Word::Keyword(Name::Pick),
+        LESS => Word::Compares(Comparison::Less),
+        AT_MOST => Word::Compares(Comparison::AtMost),
+        GREATER => Word::Compares(Comparison::Greater),
+        AT_LEAST => Word::Compares(Comparison::AtLeast),
+        EQUAL => Word::Compares(Comparison::Equal),
+        DIFFERENT => Word::Compares(Comparison::Different),
         MISSING => Word::Missing,
         NUMBER => Word::Number(value),
         VARIABLE => {
@@ -191,29 +227,69 @@ pub fn said(tag: u32, value: i32) -> Word
     }
 }
 
+// Their texts, packed: the first byte lowest, a 1 after the last.
+const SET_TEXT: u64 = b's' as u64 + 256 * (b'e' as u64 + 256 * (b't' as u64 + 256));
+
+const ADD_TEXT: u64 = b'a' as u64 + 256 * (b'd' as u64 + 256 * (b'd' as u64 + 256));
+
+const SUB_TEXT: u64 = b's' as u64 + 256 * (b'u' as u64 + 256 * (b'b' as u64 + 256));
+
+const MUL_TEXT: u64 = b'm' as u64 + 256 * (b'u' as u64 + 256 * (b'l' as u64 + 256));
+
+const DIV_TEXT: u64 = b'd' as u64 + 256 * (b'i' as u64 + 256 * (b'v' as u64 + 256));
+
+const CUE_TEXT: u64 = b'c' as u64 + 256 * (b'u' as u64 + 256 * (b'e' as u64 + 256));
+
+const FOR_TEXT: u64 = b'f' as u64 + 256 * (b'o' as u64 + 256 * (b'r' as u64 + 256));
+
+const WHILE_TEXT: u64 = b'w' as u64
+    + 256 * (b'h' as u64 + 256 * (b'i' as u64 + 256 * (b'l' as u64 + 256 * (b'e' as u64 + 256))));
+
+const DO_TEXT: u64 = b'd' as u64 + 256 * (b'o' as u64 + 256);
+
+const END_TEXT: u64 = b'e' as u64 + 256 * (b'n' as u64 + 256 * (b'd' as u64 + 256));
+
+const ELSE_TEXT: u64 = b'e' as u64
+    + 256 * (b'l' as u64 + 256 * (b's' as u64 + 256 * (b'e' as u64 + 256)));
+
+const PICK_TEXT: u64 = b'p' as u64
+    + 256 * (b'i' as u64 + 256 * (b'c' as u64 + 256 * (b'k' as u64 + 256)));
+
+const LESS_TEXT: u64 = b'<' as u64 + 256;
+
+const AT_MOST_TEXT: u64 = b'<' as u64 + 256 * (b'=' as u64 + 256);
+
+const GREATER_TEXT: u64 = b'>' as u64 + 256;
+
+const AT_LEAST_TEXT: u64 = b'>' as u64 + 256 * (b'=' as u64 + 256);
+
+const EQUAL_TEXT: u64 = b'=' as u64 + 256 * (b'=' as u64 + 256);
+
+const DIFFERENT_TEXT: u64 = b'!' as u64 + 256 * (b'=' as u64 + 256);
+
 // The tag of the keyword or comparison of a packed text.
 fn keyword(n: u64) -> u32
     ensures { λ r. ⌜ wordIn r (pos 0) ≡ packedWord keywords n ⌝ }
 {
     match n {
-        0x1746573 => 0,
-        0x1646461 => 1,
-        0x1627573 => 2,
-        0x16c756d => 3,
-        0x1766964 => 4,
-        0x1657563 => 5,
-        0x1726f66 => 6,
-        0x1656c696877 => 7,
-        0x16f64 => 8,
-        0x1646e65 => 9,
-        0x165736c65 => 10,
-        0x16b636970 => 11,
-        0x13c => 12,
-        0x13d3c => 13,
-        0x13e => 14,
-        0x13d3e => 15,
-        0x13d3d => 16,
-        0x13d21 => 17,
+        SET_TEXT => SET,
+        ADD_TEXT => ADD,
+        SUB_TEXT => SUB,
+        MUL_TEXT => MUL,
+        DIV_TEXT => DIV,
+        CUE_TEXT => CUE,
+        FOR_TEXT => FOR,
+        WHILE_TEXT => WHILE,
+        DO_TEXT => DO,
+        END_TEXT => END,
+        ELSE_TEXT => ELSE,
+        PICK_TEXT => PICK,
+        LESS_TEXT => LESS,
+        AT_MOST_TEXT => AT_MOST,
+        GREATER_TEXT => GREATER,
+        AT_LEAST_TEXT => AT_LEAST,
+        EQUAL_TEXT => EQUAL,
+        DIFFERENT_TEXT => DIFFERENT,
         _ => OTHER,
     }
 }

@@ -1,6 +1,10 @@
 -- Capped sums and products.
 use mathlib.Core.Path.{_≡_, refl, _∙_}
 use mathlib.Core.Bool.{Bool, true, false}
+use mathlib.Core.List.{List, [], _∷_}
+use types.Run.{OneOf, miss}
+use denote.Enum.Declared.{tagOf}
+use Rattle.rules.proofs.Kind.{the-type}
 use Prim.Native.Nat.{ℕ, zero, suc, _+_, _*_, _≤_, _<_}
 use native.Mathlib.Nat.{mul-le-mul}
 use native.Mathlib.Omega.{arith}
@@ -8,11 +12,12 @@ use borrow.Author.Tests.{leb-true, leb-false, lt-ltb, le-ltb, le-leb, lt-leb}
 use lib.Dec.{leb}
 use Rattle.rules.specs.declared.Kind.{Kind}
 use Rattle.rules.specs.declared.Kind.the-variants.{Set, Move, Cue, Pick, Else, End, While, Do, For}
-use Rattle.rules.specs.Blocks.{Form, while, do-while, for}
+use Rattle.rules.specs.Blocks.{Form, while, do-while, for, viewOf}
 use Rattle.rules.specs.Figures.{ones, loopTicks}
-use Rattle.rules.specs.Questions.{passed, andThen, asked, tickLimit}
-use Rattle.steps.specs.Tree.{formOf}
-use Rattle.ticks.specs.Capped.{capped, once, onceOf, overOf}
+use Rattle.rules.specs.declared.Verdict.the-variants.{Passed as passed}
+use Rattle.rules.specs.Questions.{andThen, asked, tickLimit}
+use Rattle.steps.specs.Tree.{formOf, headOf}
+use Rattle.ticks.specs.Capped.{capped, once, overOf}
 
 abbrev most : ℕ
 most = 1_000_000_000_001
@@ -43,17 +48,21 @@ loop-ticks-is while n b = refl
 loop-ticks-is do-while n b = omega arith
 loop-ticks-is (for x) n b = omega arith
 
-pub once-is : (k : Kind) → onceOf k ≡ once (formOf k)
-unfolding formOf
-once-is (Set v x) = refl
-once-is (Move v c) = refl
-once-is (Cue n) = refl
-once-is Pick = refl
-once-is Else = refl
-once-is End = refl
-once-is (While v c x) = refl
-once-is (Do v c x) = refl
-once-is (For v s c x d) = refl
+-- any row but a do or a for
+abbrev one-test : List ℕ
+one-test = 0 ∷ 1 ∷ 2 ∷ 3 ∷ 4 ∷ 5 ∷ 6 ∷ []
+
+pub once-one : (k : Kind) → OneOf one-test (tagOf the-type k) → 1 ≡ once (formOf k)
+unfolding headOf viewOf
+once-one (Set v x) o = refl
+once-one (Move v c) o = refl
+once-one (Cue n) o = refl
+once-one Pick o = refl
+once-one Else o = refl
+once-one End o = refl
+once-one (While v c x) o = refl
+once-one (Do v c x) o = absurd (miss one-test 7 tt o)
+once-one (For v s c x d) o = absurd (miss one-test 8 tt o)
 
 pub once-small : (form : Form) → once form ≤ 2
 once-small while = omega arith

@@ -3,10 +3,10 @@ use mathlib.Core.Path.{_≡_}
 use mathlib.Core.Bool.{cond}
 use Prim.Native.Nat.{ℕ, min}
 use lib.Dec.{ltb, leb}
-use Rattle.rules.specs.declared.Kind.{Kind}
-use Rattle.rules.specs.declared.Kind.the-variants.{Set, Move, Cue, Pick, Else, End, While, Do, For}
 use Rattle.rules.specs.Blocks.{Form, while, do-while, for}
-use Rattle.rules.specs.Questions.{Verdict, passed, refused, andThen, asked, tickLimit}
+use Rattle.rules.specs.declared.Verdict.{Verdict}
+use Rattle.rules.specs.declared.Verdict.the-variants.{Passed as passed, Refused as refused}
+use Rattle.rules.specs.Questions.{andThen, asked, tickLimit}
 
 abbrev pub capped : ℕ → ℕ
 capped n = min n 1_000_000_000_001
@@ -16,18 +16,6 @@ abbrev pub once : Form → ℕ
 once while = 1
 once do-while = 0
 once (for x) = 2
-
--- the same of a loop's head row
-abbrev pub onceOf : Kind → ℕ
-onceOf (Set v x) = 1
-onceOf (Move v c) = 1
-onceOf (Cue n) = 1
-onceOf Pick = 1
-onceOf Else = 1
-onceOf End = 1
-onceOf (While v c x) = 1
-onceOf (Do v c x) = 0
-onceOf (For v s c x d) = 2
 
 -- the first block over the limit, as a verdict; 256 and more: none
 unfoldable pub overOf : ℕ → Verdict

@@ -4,7 +4,7 @@ ghost use mathlib.Core.Path.{_≡_};
 ghost use Prim.Native.Nat.{ℕ, _+_, _*_, _≤_, _<_};
 ghost use Rattle.rules.specs.Figures.{ones, loopTicks};
 ghost use Rattle.steps.specs.Tree.{formOf};
-ghost use Rattle.ticks.specs.Capped.{capped, onceOf, OverOf};
+ghost use Rattle.ticks.specs.Capped.{capped, once, OverOf};
 
 // The first number over the limit.
 pub const MOST: u64 = 1_000_000_000_001;
@@ -29,18 +29,12 @@ pub fn times(n: u64, b: u64) -> u64
 
 // What an entry takes beside its turns: a while its last test, a for its start too, a do nothing.
 fn besides(kind: Kind) -> u64
-    ensures { λ r. ⌜ r ≡ onceOf kind ⌝ }
+    ensures { λ r. ⌜ r ≡ once (formOf kind) ⌝ }
 {
     match kind {
-        Kind::Set(_, _) => 1,
-        Kind::Move(_, _) => 1,
-        Kind::Cue(_) => 1,
-        Kind::Pick => 1,
-        Kind::Else => 1,
-        Kind::End => 1,
-        Kind::While(_, _, _) => 1,
         Kind::Do(_, _, _) => 0,
         Kind::For(_, _, _, _, _) => 2,
+        _ => 1,
     }
 }
 
@@ -58,7 +52,7 @@ pub const LIMIT: u64 = 1_000_000_000_000;
 
 // The first `end` row over the limit of question 13, with a block of these ticks that ends at row e.
 pub fn first_over(over: usize, e: usize, ticks: u64) -> usize
-    requires { ⌜ e < 256 ⌝ }
+    requires { ⌜ (e < 256) × (ticks ≤ 1_000_000_000_001) ⌝ }
     ensures { λ r. ⌜ OverOf over e ticks r ⌝ }
 {
     if over < 256 {

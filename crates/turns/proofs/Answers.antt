@@ -13,12 +13,11 @@ use Rattle.ints.proofs.Parts.{ints, eqZ-true, minus-parts, abs-parts}
 use Rattle.ints.proofs.Scale.{mul-P, mul-N}
 use Rattle.rules.specs.declared.Step.{Step}
 use Rattle.rules.specs.declared.Step.the-variants.{Add, Grow, Shrink, Unknown}
-use Rattle.rules.specs.Blocks.{Form, while, do-while, for}
 use Rattle.rules.specs.Bounds.{Near, Ends}
-use Rattle.rules.specs.Steps.{cap}
+use Rattle.rules.specs.Steps.{cap, moving}
 use Rattle.rules.specs.Ranges.{Range, Sort, rising, falling, same, differ}
 use Rattle.rules.specs.Turns.{climb, powers, scale, share, apart, whileTurns, moved, atTest}
-use Rattle.rules.specs.Questions.{moving, suits, hasFigure}
+use Rattle.rules.specs.Questions.{suits, hasFigure}
 use Rattle.turns.specs.declared.Wide.{Wide}
 use Rattle.turns.specs.Needs.{rangeOf, Ranged, Begun, Countable}
 
@@ -52,34 +51,33 @@ up (pos n) zero h k = absurd (let z : ⊥ = omega arith in z)
 up (negsuc n) f h k = absurd (h .le)
 
 -- Grow: what the first test sees is at least 1 where the start is
-grow-start : (form : Form) (f g : ℕ) (s : Range) (r : Wide) → rangeOf r ≡ atTest form (Grow f g) s → 2 ≤ f → pos 1 ≤ℤ s .lo → pos 1 ≤ℤ r .lo
+grow-start : (late : Bool) (f g : ℕ) (s : Range) (r : Wide) → rangeOf r ≡ atTest late (Grow f g) s → 2 ≤ f → pos 1 ≤ℤ s .lo → pos 1 ≤ℤ r .lo
 unfolding atTest moved
-grow-start while f g s r e h k = subst (λ z. pos 1 ≤ℤ z) (sym (ap (λ (x : Range). x .lo) e)) k
-grow-start (for x) f g s r e h k = subst (λ z. pos 1 ≤ℤ z) (sym (ap (λ (x : Range). x .lo) e)) k
-grow-start do-while f g s r e h k = subst (λ z. pos 1 ≤ℤ z) (sym (ap (λ (x : Range). x .lo) e)) (up (s .lo) f k h)
+grow-start false f g s r e h k = subst (λ z. pos 1 ≤ℤ z) (sym (ap (λ (x : Range). x .lo) e)) k
+grow-start true f g s r e h k = subst (λ z. pos 1 ≤ℤ z) (sym (ap (λ (x : Range). x .lo) e)) (up (s .lo) f k h)
 
-pub countable : (form : Form) (st : Step) (d : Sort) (s : Range) (r n : Wide) (e : ℤ) → Ends 256 st → Near 4 e → Ranged n → rangeOf r ≡ atTest form st s → Begun st r
+pub countable : (late : Bool) (st : Step) (d : Sort) (s : Range) (r n : Wide) (e : ℤ) → Ends 256 st → Near 4 e → Ranged n → rangeOf r ≡ atTest late st s → Begun st r
     → moving st ≡ true → suits st d ≡ true → hasFigure st d s (rangeOf r) (rangeOf n) e ≡ true → Countable st d r n e
 unfolding moving suits hasFigure cap
-countable form (Add a b) rising s r n e (na, nb) ne rn q rr m u h = let l : pos 1 ≤ℤ a = omega ints in (rr, near-more e ne, l)
-countable form (Add a b) falling s r n e (na, nb) ne rn q rr m u h = let l : b ≤ℤ negsuc 0 = omega ints in (rr, near-more e ne, near-step b nb, l)
-countable form (Add a b) same s r n e en ne rn q rr m u h = tt
-countable form (Add a b) differ s r n e (na, nb) ne rn q rr m u h = (near-step a na, not-still a b m (and-left (eqZ a b) _ h), rr, rn)
-countable form (Grow f g) rising s r n e en ne rn q rr m u h =
+countable late (Add a b) rising s r n e (na, nb) ne rn q rr m u h = let l : pos 1 ≤ℤ a = omega ints in (rr, near-more e ne, l)
+countable late (Add a b) falling s r n e (na, nb) ne rn q rr m u h = let l : b ≤ℤ negsuc 0 = omega ints in (rr, near-more e ne, near-step b nb, l)
+countable late (Add a b) same s r n e en ne rn q rr m u h = tt
+countable late (Add a b) differ s r n e (na, nb) ne rn q rr m u h = (near-step a na, not-still a b m (and-left (eqZ a b) _ h), rr, rn)
+countable late (Grow f g) rising s r n e en ne rn q rr m u h =
     let k : 2 ≤ f = leb-true 2 f m in
     let l : pos 1 ≤ℤ s .lo = omega ints in
-    (grow-start form f g s r q k l, ne, k, en .first)
-countable form (Grow f g) falling s r n e en ne rn q rr m u h = no-true u
-countable form (Grow f g) same s r n e en ne rn q rr m u h = no-true u
-countable form (Grow f g) differ s r n e en ne rn q rr m u h = no-true u
-countable form (Shrink f g) rising s r n e en ne rn q rr m u h = no-true u
-countable form (Shrink f g) falling s r n e en ne rn q rr m u h =
+    (grow-start late f g s r q k l, ne, k, en .first)
+countable late (Grow f g) falling s r n e en ne rn q rr m u h = no-true u
+countable late (Grow f g) same s r n e en ne rn q rr m u h = no-true u
+countable late (Grow f g) differ s r n e en ne rn q rr m u h = no-true u
+countable late (Shrink f g) rising s r n e en ne rn q rr m u h = no-true u
+countable late (Shrink f g) falling s r n e en ne rn q rr m u h =
     let k : 2 ≤ f = leb-true 2 f m in
     let l : pos 1 ≤ℤ e = omega ints in
     (l, rr, k, en .first)
-countable form (Shrink f g) same s r n e en ne rn q rr m u h = no-true u
-countable form (Shrink f g) differ s r n e en ne rn q rr m u h = no-true u
-countable form Unknown d s r n e en ne rn q rr m u h = tt
+countable late (Shrink f g) same s r n e en ne rn q rr m u h = no-true u
+countable late (Shrink f g) differ s r n e en ne rn q rr m u h = no-true u
+countable late Unknown d s r n e en ne rn q rr m u h = tt
 
 -- ---- turns are few
 abbrev few : ℕ

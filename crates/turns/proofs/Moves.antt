@@ -8,29 +8,14 @@ use lib.Signed.{leZ}
 use Rattle.ints.specs.Ints.{eqZ}
 use Rattle.rules.specs.declared.Step.{Step}
 use Rattle.rules.specs.declared.Step.the-variants.{Add, Grow, Shrink, Unknown}
-use Rattle.rules.specs.Blocks.{Form, while, do-while, for}
 use Rattle.rules.specs.Bounds.{Near}
-use Rattle.rules.specs.Ranges.{Range, Sort, rising, falling, same, differ, isDo}
-use Rattle.rules.specs.Turns.{moved, atTest}
+use Rattle.rules.specs.Ranges.{Range, Sort, rising, falling, same, differ}
 use Rattle.rules.specs.Questions.{suits, hasFigure}
 use Rattle.turns.specs.declared.Wide.{Wide}
 use Rattle.turns.specs.Needs.{Ranged, Begun, isRising, isFalling, isDiffer, meeting}
 
 not-both : {A : Type 0} {b : Bool} → b ≡ true → b ≡ false → A
 not-both p q = absurd (let z : _≡_ {A = ℕ} 0 1 = cc in omega arith)
-
--- a do's start is moved, another loop's is not
-pub do-start : (form : Form) (st : Step) (s r : Range) {b : Bool} → b ≡ true → b ≡ isDo form → r ≡ moved st s → r ≡ atTest form st s
-unfolding atTest
-do-start while st s r t q e = not-both t q
-do-start (for x) st s r t q e = not-both t q
-do-start do-while st s r t q e = e
-
-pub other-start : (form : Form) (st : Step) (s r : Range) {b : Bool} → b ≡ false → b ≡ isDo form → r ≡ s → r ≡ atTest form st s
-unfolding atTest
-other-start while st s r t q e = e
-other-start (for x) st s r t q e = e
-other-start do-while st s r t q e = not-both q t
 
 pub whole-begun : (st : Step) (r : Wide) → Ranged r → Near 4 (r .hi) → Begun st r
 whole-begun (Add a b) r h k = h

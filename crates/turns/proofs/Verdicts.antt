@@ -1,17 +1,16 @@
 -- The questions 8 to 12 in their order, from the answers that the code finds.
 use mathlib.Core.Path.{_≡_, refl, sym, ap, _∙_}
-use mathlib.Core.Bool.{Bool, true, false, not, cond}
-use Prim.Native.Nat.{ℕ, suc}
-use native.Mathlib.Omega.{arith}
+use mathlib.Core.Bool.{Bool, true, false, not}
+use Prim.Native.Nat.{ℕ}
 use lib.IntN.{ℤ}
-use Rattle.rules.specs.declared.Comparison.{Comparison}
-use Rattle.rules.specs.declared.Step.{Step}
-use Rattle.rules.specs.Blocks.{Form, while, do-while}
-use Rattle.rules.specs.Ranges.{Range, sort, isDo, edge}
-use Rattle.rules.specs.Turns.{whileTurns, atTest}
-use Rattle.rules.specs.Questions.{Verdict, refused, asked, known, moving, suits, hasFigure, loopVerdict}
+use Rattle.rules.specs.Steps.{moving}
+use Rattle.rules.specs.Ranges.{Range, sort}
+use Rattle.rules.specs.Turns.{whileTurns}
+use Rattle.rules.specs.Trips.{Trip, edgeOf, firstOf, led, turnsOf}
+use Rattle.rules.specs.declared.Verdict.the-variants.{Refused as refused}
+use Rattle.rules.specs.Questions.{asked, known, suits, hasFigure, loopVerdict, ofTrip}
 use Rattle.turns.specs.declared.Figure.{Figure}
-use Rattle.turns.specs.Needs.{answer, FigureOf}
+use Rattle.turns.specs.Needs.{FigureOf}
 
 -- a test `!b`
 pub not-yes : {b : Bool} → not b ≡ true → b ≡ false
@@ -22,55 +21,36 @@ pub not-no : {b : Bool} → not b ≡ false → b ≡ true
 not-no {b = true} e = refl
 not-no {b = false} e = sym e
 
--- a form that is tested late or not
-pub form-for : (b : Bool) → (form : Form) × (b ≡ isDo form)
-form-for true = (do-while, refl)
-form-for false = (while, refl)
+module _ (τ : Trip) where
+  pub refused-8 : known (τ .step) ≡ false → FigureOf τ (Figure.Refused 8)
+  unfolding loopVerdict asked
+  refused-8 a = (λ i. rw a)
 
-module _ (late : Bool) (st : Step) (keep : Bool) (c : Comparison) (s n : Range) where
-  verdictOf : Form → ℕ → Verdict
-  verdictOf form i = loopVerdict i st keep (sort c) s (atTest form st s) n (edge c n)
+  module _ (a : known (τ .step) ≡ true) where
+    pub refused-9 : moving (τ .step) ≡ false → FigureOf τ (Figure.Refused 9)
+    unfolding loopVerdict asked
+    refused-9 b = (λ i. rw (a, b))
 
-  refusal : (k : ℕ) → ((form : Form) (i : ℕ) → late ≡ isDo form → verdictOf form i ≡ refused (suc k) i) → (f : Figure) → f ≡ record { number = suc k; turns = 0 }
-      → FigureOf late st keep c s n f
-  unfolding answer verdictOf
-  refusal k h f e = record {
-    verdict = λ form q i. h form i q ∙ sym (ap (λ (x : Figure). answer (x .number) i) e);
-    turns = λ form q z. absurd (let m : f .number ≡ suc k = ap (λ (x : Figure). x .number) e in omega arith);
-  }
+    module _ (b : moving (τ .step) ≡ true) where
+      pub refused-10 : τ .keeps ≡ false → FigureOf τ (Figure.Refused 10)
+      unfolding loopVerdict asked
+      refused-10 d = (λ i. rw (a, b, d))
 
-  pub refused-8 : known st ≡ false → (f : Figure) → f ≡ record { number = 8; turns = 0 } → FigureOf late st keep c s n f
-  unfolding loopVerdict asked verdictOf
-  refused-8 a = refusal 7 (λ form i q. rw a)
+      module _ (d : τ .keeps ≡ true) where
+        pub refused-11 : suits (τ .step) (sort (τ .comparison)) ≡ false → FigureOf τ (Figure.Refused 11)
+        unfolding loopVerdict asked
+        refused-11 e = (λ i. rw (a, b, d, e))
 
-  module _ (a : known st ≡ true) where
-    pub refused-9 : moving st ≡ false → (f : Figure) → f ≡ record { number = 9; turns = 0 } → FigureOf late st keep c s n f
-    unfolding loopVerdict asked verdictOf
-    refused-9 b = refusal 8 (λ form i q. rw (a, b))
+        -- r: what the first counted test sees; m: the limit's range; x: its end
+        module _ (e : suits (τ .step) (sort (τ .comparison)) ≡ true) (r m : Range) (x : ℤ) (start : r ≡ firstOf τ) (same : m ≡ τ .limit) (end : x ≡ edgeOf τ) where
+          figure-is : hasFigure (τ .step) (sort (τ .comparison)) (τ .start) r m x ≡ hasFigure (τ .step) (sort (τ .comparison)) (τ .start) (firstOf τ) (τ .limit) (edgeOf τ)
+          figure-is = λ j. hasFigure (τ .step) (sort (τ .comparison)) (τ .start) (start j) (same j) (end j)
 
-    module _ (b : moving st ≡ true) where
-      pub refused-10 : keep ≡ false → (f : Figure) → f ≡ record { number = 10; turns = 0 } → FigureOf late st keep c s n f
-      unfolding loopVerdict asked verdictOf
-      refused-10 d = refusal 9 (λ form i q. rw (a, b, d))
+          pub refused-12 : hasFigure (τ .step) (sort (τ .comparison)) (τ .start) r m x ≡ false → FigureOf τ (Figure.Refused 12)
+          unfolding loopVerdict asked
+          refused-12 h = (λ i. rw (a, b, d, e, sym figure-is ∙ h))
 
-      module _ (d : keep ≡ true) where
-        pub refused-11 : suits st (sort c) ≡ false → (f : Figure) → f ≡ record { number = 11; turns = 0 } → FigureOf late st keep c s n f
-        unfolding loopVerdict asked verdictOf
-        refused-11 e = refusal 10 (λ form i q. rw (a, b, d, e))
-
-        -- r: what the first test sees; m: the limit's range; x: its end
-        module _ (e : suits st (sort c) ≡ true) (r m : Range) (x : ℤ) (start : (form : Form) → late ≡ isDo form → r ≡ atTest form st s) (same : m ≡ n) (end : x ≡ edge c n) where
-          figure-is : (form : Form) → late ≡ isDo form → hasFigure st (sort c) s r m x ≡ hasFigure st (sort c) s (atTest form st s) n (edge c n)
-          figure-is form q = λ j. hasFigure st (sort c) s (start form q j) (same j) (end j)
-
-          pub refused-12 : hasFigure st (sort c) s r m x ≡ false → (f : Figure) → f ≡ record { number = 12; turns = 0 } → FigureOf late st keep c s n f
-          unfolding loopVerdict asked verdictOf
-          refused-12 h = refusal 11 (λ form i q. rw (a, b, d, e, sym (figure-is form q) ∙ h))
-
-          pub accepted : hasFigure st (sort c) s r m x ≡ true → (k : ℕ) → k ≡ whileTurns st (sort c) r m x → (t : ℕ) → t ≡ cond late (suc k) k
-              → FigureOf late st keep c s n (record { number = 0; turns = t })
-          unfolding loopVerdict asked answer
-          accepted h k w t p = record {
-            verdict = λ form q i. rw (a, b, d, e, sym (figure-is form q) ∙ h);
-            turns = λ form q z. let u : k ≡ whileTurns st (sort c) (atTest form st s) n (edge c n) = w ∙ (λ j. whileTurns st (sort c) (start form q j) (same j) (end j)) in p ∙ (λ j. cond (q j) (suc (u j)) (u j));
-          }
+          pub accepted : hasFigure (τ .step) (sort (τ .comparison)) (τ .start) r m x ≡ true → (k : ℕ) → k ≡ whileTurns (τ .step) (sort (τ .comparison)) r m x → (t : ℕ) → t ≡ led (τ .lead) k
+              → FigureOf τ (Figure.Turns t)
+          unfolding loopVerdict asked turnsOf
+          accepted h k w t p = ((λ i. rw (a, b, d, e, sym figure-is ∙ h)), p ∙ ap (led (τ .lead)) (w ∙ (λ j. whileTurns (τ .step) (sort (τ .comparison)) (start j) (same j) (end j))))

@@ -6,12 +6,13 @@ use lib.IntN.{ℤ, pos, negsuc, _+ℤ_, _*ℤ_}
 use lib.Signed.{_≤ℤ_, leZ}
 use Rattle.ints.specs.Ints.{eqZ}
 use Rattle.rules.specs.declared.Step.{Step}
-use Rattle.rules.specs.declared.Comparison.{Comparison}
-use Rattle.rules.specs.Blocks.{Form}
 use Rattle.rules.specs.Bounds.{Near}
-use Rattle.rules.specs.Ranges.{Range, Sort, rising, falling, same, differ, single, sort, isDo, edge}
-use Rattle.rules.specs.Turns.{apart, atTest, turnsOf}
-use Rattle.rules.specs.Questions.{Verdict, passed, refused, loopVerdict}
+use Rattle.rules.specs.Ranges.{Range, Sort, rising, falling, same, differ, single}
+use Rattle.rules.specs.Turns.{apart}
+use Rattle.rules.specs.Trips.{Trip, turnsOf}
+use Rattle.rules.specs.declared.Verdict.{Verdict}
+use Rattle.rules.specs.declared.Verdict.the-variants.{Passed as passed, Refused as refused}
+use Rattle.rules.specs.Questions.{ofTrip}
 use Rattle.turns.specs.declared.Wide.{Wide}
 use Rattle.turns.specs.declared.Figure.{Figure}
 
@@ -70,7 +71,7 @@ unfoldable pub answer : ℕ → ℕ → Verdict
 answer zero i = passed
 answer (suc n) i = refused (suc n) i
 
--- a loop's figure: its verdict, and its turns if it passed
-pub record FigureOf (late : Bool) (st : Step) (keep : Bool) (c : Comparison) (s n : Range) (f : Figure) : Type 0 where
-  pub verdict : (form : Form) → late ≡ isDo form → (i : ℕ) → loopVerdict i st keep (sort c) s (atTest form st s) n (edge c n) ≡ answer (f .number) i
-  pub turns : (form : Form) → late ≡ isDo form → f .number ≡ 0 → f .turns ≡ turnsOf form st (sort c) s n (edge c n)
+-- a trip's figure: its turns if it passed, else the number of its refusal
+abbrev pub FigureOf : Trip → Figure → Type 0
+FigureOf τ (Figure.Turns n) = ((i : ℕ) → ofTrip i τ ≡ passed) × (n ≡ turnsOf τ)
+FigureOf τ (Figure.Refused k) = (i : ℕ) → ofTrip i τ ≡ refused k i

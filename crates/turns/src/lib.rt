@@ -1,19 +1,23 @@
 // The questions 8 to 12 of one loop, and the turns of one entry.
-use ranges::Span;
 use rules::Comparison;
 use rules::Step;
+use trips::Lead;
+use trips::Span;
+use trips::Trip;
+use values::quotient_of;
 ghost use mathlib.Core.Path.{_≡_};
-ghost use mathlib.Core.Bool.{true, cond, _&&_};
+ghost use mathlib.Core.Bool.{true, cond};
 ghost use Prim.Native.Nat.{suc, _≤_};
 ghost use lib.IntN.{ℤ, pos, natAbs, negℤ, _-ℤ_};
 ghost use lib.Signed.{_≤ℤ_};
-ghost use Rattle.rules.specs.Blocks.{Form};
 ghost use Rattle.rules.specs.Bounds.{Near, Ends};
-ghost use Rattle.rules.specs.Ranges.{edge, sort, isDo, single};
+ghost use Rattle.rules.specs.Steps.{moving, even};
+ghost use Rattle.rules.specs.Ranges.{edge, sort};
 ghost use Rattle.rules.specs.Turns.{powers, scale, climb, share, apart, whileTurns, moved, atTest};
-ghost use Rattle.rules.specs.Figures.{even};
-ghost use Rattle.rules.specs.Questions.{known, moving, suits, hasFigure};
-ghost use Rattle.ranges.specs.Env as env;
+ghost use Rattle.rules.specs.Trips.{led, isExact};
+ghost use Rattle.rules.specs.Questions.{known, suits, hasFigure};
+ghost use Rattle.trips.specs.Env as env;
+ghost use Rattle.trips.specs.Found.{leadOf, tripOf};
 ghost use Rattle.turns.specs.Needs.{rangeOf, Ranged, Begun, Countable, isRising, isFalling, isDiffer, meeting, FigureOf};
 
 // How many k have t times f to the k at most e.
@@ -183,17 +187,17 @@ fn moved(step: Step, s: Span) -> Wide
             hi: hi * f as i64,
         },
         Step::Shrink(f, _) => Wide {
-            lo: lo / f as i64,
-            hi: hi / f as i64,
+            lo: quotient_of(s.lo, f as u32),
+            hi: quotient_of(s.hi, f as u32),
         },
         Step::Unknown => Wide { lo: lo, hi: hi },
     }
 }
 
-// What the first test sees.
+// What the first counted test sees.
 fn at_test(late: bool, step: Step, s: Span) -> Wide
     requires { ⌜ Ends 256 step × (moving step ≡ true) ⌝ }
-    ensures { λ r. ⌜ ((form : Form) → late ≡ isDo form → rangeOf r ≡ atTest form step (env.rangeOf s)) × Begun step r ⌝ }
+    ensures { λ r. ⌜ (rangeOf r ≡ atTest late step (env.rangeOf s)) × Begun step r ⌝ }
 {
     if late {
         return moved(step, s);
@@ -329,50 +333,54 @@ fn has_figure(step: Step, comparison: Comparison, s: Span, r: Wide, n: Wide, e: 
     }
 }
 
-// The number of the first question that has no, or 0 and the turns of one entry.
-pub struct Figure {
-    pub number: u32,
-    pub turns: u64,
+// The turns of one entry, or the number of the first question that has no.
+pub enum Figure {
+    Turns(u64),
+    Refused(u32),
 }
 
-fn refused(number: u32) -> Figure
-    ensures { λ r. ⌜ r ≡ record { number = number; turns = 0 } ⌝ }
+// The turns from the first counted test on, with what comes before it.
+fn led(lead: Lead, more: u64) -> u64
+    requires { ⌜ more ≤ 2_000_000_000_000 ⌝ }
+    ensures { λ r. ⌜ r ≡ led (leadOf lead) more ⌝ }
 {
-    Figure {
-        number: number,
-        turns: 0,
+    match lead {
+        Lead::Nothing => more,
+        Lead::Untested => more + 1,
     }
 }
 
-// The questions 8 to 12 in their order, then the turns. late: a do; keeps: the answer to 10.
-pub fn ask(late: bool, step: Step, keeps: bool, comparison: Comparison, s: Span, n: Span) -> Figure
-    requires { ⌜ Ends 256 step ⌝ }
-    ensures { λ r. ⌜ FigureOf late step keeps comparison (env.rangeOf s) (env.rangeOf n) r ⌝ }
+// The questions 8 to 12 of a trip in their order, then its turns.
+pub fn ask(trip: Trip) -> Figure
+    requires { ⌜ Ends 256 (trip .step) ⌝ }
+    ensures { λ r. ⌜ FigureOf (tripOf trip) r ⌝ }
 {
+    let step = trip.step;
+    let comparison = trip.comparison;
     if !known(step) {
-        return refused(8);
+        return Figure::Refused(8);
     }
     let moves = moving(step);
     if !moves {
-        return refused(9);
+        return Figure::Refused(9);
     }
-    if !keeps {
-        return refused(10);
+    if !trip.keeps {
+        return Figure::Refused(10);
     }
     if !suits(step, comparison) {
-        return refused(11);
+        return Figure::Refused(11);
     }
+    let start = trip.start;
+    let n = trip.limit;
     let e = edge(comparison, n);
-    let r = at_test(late, step, s);
+    let r = at_test(trip.late, step, start);
     let limit = whole(n);
-    if !has_figure(step, comparison, s, r, limit, e) {
-        return refused(12);
+    if !has_figure(step, comparison, start, r, limit, e) {
+        return Figure::Refused(12);
     }
     let more = while_turns(step, comparison, r, limit, e);
-    Figure {
-        number: 0,
-        turns: if late { more + 1 } else { more },
-    }
+    let lead = trip.lead;
+    Figure::Turns(led(lead, more))
 }
 
 // The two ends of the step are equal.
@@ -387,21 +395,10 @@ fn even(step: Step) -> bool
     }
 }
 
-fn single(s: Span) -> bool
-    ensures { λ r. ⌜ r ≡ single (env.rangeOf s) ⌝ }
+// Exact: the ends of the step are equal, and all starts are single numbers.
+pub fn exact(trip: Trip) -> bool
+    ensures { λ r. ⌜ r ≡ isExact (tripOf trip) ⌝ }
 {
-    let lo = s.lo;
-    let hi = s.hi;
-    lo == hi
-}
-
-// Exact: the ends of the step are equal, and s and n are single numbers.
-pub fn exact(step: Step, s: Span, n: Span) -> bool
-    ensures { λ r. ⌜ r ≡ even step && (single (env.rangeOf s) && single (env.rangeOf n)) ⌝ }
-{
-    if even(step) {
-        if single(s) { single(n) } else { false }
-    } else {
-        false
-    }
+    let step = trip.step;
+    even(step) && trip.sure
 }

@@ -26,7 +26,7 @@ pub fn value_of(x: Operand, store: &[i32]) -> i32
 }
 
 // The quotient of a `div` row.
-fn quotient_of(x: i32, c: u32) -> i64
+pub fn quotient_of(x: i32, c: u32) -> i64
     requires { ⌜ 1 ≤ c ⌝ }
     ensures { λ r. ⌜ r ≡ quotient x c ⌝ }
 {

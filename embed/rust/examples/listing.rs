@@ -5,7 +5,7 @@ fn main() {
     let mut file = Vec::new();
     std::io::stdin().read_to_end(&mut file).unwrap();
     let mut scratch = vec![0; diftanew::SCRATCH];
-    let mut buffer = [0; 4096];
+    let mut buffer = [0; diftanew::REPORT];
     let length = diftanew::report(&file, &mut scratch, &mut buffer).expect("refused");
     std::io::stdout().write_all(&buffer[..length]).unwrap();
     let mut store = [0, 1];

@@ -1,24 +1,99 @@
 //! Safe Rust calls over the proved loader of effect scripts.
 
-mod c {
-    extern "C" {
-        pub fn diftanew_report(file: *const u8, file_len: usize, scratch: *mut u32, scratch_len: usize, buffer: *mut u8, buffer_len: usize, place: *mut u64) -> u32;
-        #[allow(clippy::too_many_arguments)]
-        pub fn diftanew_run(
-            file: *const u8, file_len: usize, scratch: *mut u32, scratch_len: usize, store: *mut i32, store_len: usize, picks: *const u8, picks_len: usize,
-            allowance: u64, answer: *mut u64,
-        ) -> u32;
+pub mod numbers;
+
+use numbers::ANSWER;
+
+/// The 32-bit numbers of scratch that a call wants.
+pub const SCRATCH: usize = 8_192;
+
+/// The longest file that is taken.
+pub const FILE: usize = 16_384;
+
+/// No report is longer: a buffer of so many bytes holds every one.
+pub const REPORT: usize = 2_089;
+
+/// The bytes of stack that a call needs, with a margin.
+pub const STACK: usize = 57_344;
+
+/// The questions that can refuse a call, by their numbers.
+#[derive(Clone, Copy, Debug, PartialEq, Eq)]
+#[repr(u32)]
+pub enum Question {
+    /// The scratch is too short.
+    Scratch = 1,
+    /// The file is too long.
+    File = 2,
+    /// A line has the wrong shape, or is missing.
+    Shape = 3,
+    /// A number is outside its limits.
+    Number = 4,
+    /// A variable is not declared.
+    Variable = 5,
+    /// An else or end closes no fitting block, or a block is left open.
+    Block = 6,
+    /// Blocks too deep, or too many loops.
+    Depth = 7,
+    /// The tested variable's step is not known.
+    StepUnknown = 8,
+    /// The tested variable may stand still.
+    StepStands = 9,
+    /// The body assigns the limit.
+    LimitChanges = 10,
+    /// The comparison does not fit the step.
+    Comparison = 11,
+    /// The loop has no figure.
+    NoFigure = 12,
+    /// Too many ticks.
+    Ticks = 13,
+    /// The report's buffer is too short.
+    Buffer = 14,
+    /// The store does not fit the ranges.
+    Store = 15,
+}
+
+impl Question {
+    const ALL: [Question; 15] = [
+        Question::Scratch,
+        Question::File,
+        Question::Shape,
+        Question::Number,
+        Question::Variable,
+        Question::Block,
+        Question::Depth,
+        Question::StepUnknown,
+        Question::StepStands,
+        Question::LimitChanges,
+        Question::Comparison,
+        Question::NoFigure,
+        Question::Ticks,
+        Question::Buffer,
+        Question::Store,
+    ];
+
+    /// The question's number.
+    pub fn number(self) -> u32 {
+        self as u32
+    }
+
+    /// The question of a number.
+    pub fn of(number: u32) -> Option<Question> {
+        Question::ALL.into_iter().find(|question| question.number() == number)
     }
 }
 
-/// The 32-bit numbers of scratch that a call wants.
-pub const SCRATCH: usize = 8192;
-
-/// A refusal: the question's number and its place.
+/// A refusal: the first question that has no for an answer, and its place.
 #[derive(Clone, Copy, Debug, PartialEq, Eq)]
 pub struct Refused {
-    pub number: u32,
+    pub question: Question,
     pub place: u64,
+}
+
+impl Refused {
+    /// The library's contract gives no other number.
+    fn of(number: u32, place: u64) -> Refused {
+        Refused { question: Question::of(number).expect("a question's number"), place }
+    }
 }
 
 /// How a run ends.
@@ -30,7 +105,7 @@ pub enum Ending {
     NoPick,
 }
 
-/// The counts of a loop.
+/// The counts of a loop: its head row, all its turns, the most in one entry.
 #[derive(Clone, Copy, Debug, PartialEq, Eq)]
 pub struct LoopCount {
     pub row: u64,
@@ -48,27 +123,29 @@ pub struct Run {
     pub loops: Vec<LoopCount>,
 }
 
+impl Run {
+    /// A run's answer from its numbers.
+    pub fn of(answer: &[u64; ANSWER]) -> Run {
+        let ending = [Ending::Ended, Ending::Spent, Ending::Range, Ending::NoPick][answer[0] as usize];
+        let loops = answer[5..].chunks(3).take(answer[4] as usize).map(|c| LoopCount { row: c[0], all: c[1], most: c[2] }).collect();
+        Run { ending, row: answer[1], ticks: answer[2], used: answer[3], loops }
+    }
+}
+
 /// Writes the report of `file` to the front of `buffer` and answers its length. Refused, the buffer is untouched.
 pub fn report(file: &[u8], scratch: &mut [u32], buffer: &mut [u8]) -> Result<usize, Refused> {
     let mut place = 0;
-    // The slices give valid pointers with their lengths, and Rust keeps them apart.
-    let number = unsafe { c::diftanew_report(file.as_ptr(), file.len(), scratch.as_mut_ptr(), scratch.len(), buffer.as_mut_ptr(), buffer.len(), &mut place) };
-    if number == 0 { Ok(place as usize) } else { Err(Refused { number, place }) }
+    match numbers::report(file, scratch, buffer, &mut place) {
+        0 => Ok(place as usize),
+        number => Err(Refused::of(number, place)),
+    }
 }
 
 /// Runs `file` on `store`. Refused, the store is untouched.
 pub fn run(file: &[u8], scratch: &mut [u32], store: &mut [i32], picks: &[u8], allowance: u64) -> Result<Run, Refused> {
-    let mut answer = [0u64; 53];
-    let number = unsafe {
-        c::diftanew_run(
-            file.as_ptr(), file.len(), scratch.as_mut_ptr(), scratch.len(), store.as_mut_ptr(), store.len(), picks.as_ptr(), picks.len(), allowance,
-            answer.as_mut_ptr(),
-        )
-    };
-    if number != 0 {
-        return Err(Refused { number, place: answer[0] });
+    let mut answer = [0; ANSWER];
+    match numbers::run(file, scratch, store, picks, allowance, &mut answer) {
+        0 => Ok(Run::of(&answer)),
+        number => Err(Refused::of(number, answer[0])),
     }
-    let ending = [Ending::Ended, Ending::Spent, Ending::Range, Ending::NoPick][answer[0] as usize];
-    let loops = answer[5..].chunks(3).take(answer[4] as usize).map(|c| LoopCount { row: c[0], all: c[1], most: c[2] }).collect();
-    Ok(Run { ending, row: answer[1], ticks: answer[2], used: answer[3], loops })
 }

@@ -2,9 +2,12 @@
 //! file number FIRST on. The first difference is printed with its file, and the exit code is 1.
 
 use generate::{allowance, any_store, case, picks, store, Rng, SEED};
-use library::ANSWER;
+mod stack;
+
+use diftanew::numbers::{self, ANSWER};
 use oracle::{Ending, Plan, Refusal, Run, SCRATCH};
 use std::process::exit;
+use stack::Stack;
 use std::time::Instant;
 
 /// The longest run that is waited for where the plan is longer.
@@ -58,6 +61,8 @@ struct Checker {
     scratch: Vec<u32>,
     rng: Rng,
     tally: Tally,
+    /// For report and run calls.
+    stacks: [Stack; 2],
 }
 
 fn word(ending: Ending) -> u64 {
@@ -67,6 +72,18 @@ fn word(ending: Ending) -> u64 {
         Ending::Range => 2,
         Ending::NoPick => 3,
     }
+}
+
+/// The oracle's answer in the crate's types.
+fn typed(run: &Run) -> diftanew::Run {
+    let ending = match run.ending {
+        Ending::Ended => diftanew::Ending::Ended,
+        Ending::Spent => diftanew::Ending::Spent,
+        Ending::Range => diftanew::Ending::Range,
+        Ending::NoPick => diftanew::Ending::NoPick,
+    };
+    let loops = run.loops.iter().map(|&(row, all, most)| diftanew::LoopCount { row: row as u64, all, most }).collect();
+    diftanew::Run { ending, row: run.row as u64, ticks: run.ticks, used: run.used as u64, loops }
 }
 
 impl Checker {
@@ -121,7 +138,8 @@ impl Checker {
         let mut buffer = Room::new((0..buffer_len).map(pattern), 0x5a);
         let mut place = [0x1122_3344_5566_7788u64; 3];
         let file = self.file.clone();
-        let number = library::report(&file, &mut scratch[..scratch_len], buffer.lent(), &mut place[1]);
+        let mut number = 0;
+        self.stacks[0].call(|| number = numbers::report(&file, &mut scratch[..scratch_len], buffer.lent(), &mut place[1]));
         self.same(call, "file after the call", &self.file, &file);
         let place_kept = place[0] == 0x1122_3344_5566_7788 && place[2] == place[0];
         if !buffer.guarded() || !place_kept {
@@ -133,7 +151,10 @@ impl Checker {
                 full[..text.len()].copy_from_slice(text);
                 self.same(call, "answer", (0, text.len() as u64), (number, place[1]));
             }
-            Err(refusal) => self.same(call, "answer", *refusal, (number, place[1])),
+            Err(refusal) => {
+                self.same(call, "answer", *refusal, (number, place[1]));
+                self.same(call, "question", Some(number), diftanew::Question::of(number).map(|question| question.number()));
+            }
         }
         if full != buffer.lent() {
             let (full, got) = (full.escape_ascii().to_string(), buffer.lent().escape_ascii().to_string());
@@ -155,14 +176,11 @@ impl Checker {
         let mut answer = Room::new((0..ANSWER as u64).map(|i| !i), 0x5a5a);
         let file = self.file.clone();
         let lent_picks = picks.to_vec();
-        let number = library::run(
-            &file,
-            &mut scratch[..scratch_len],
-            lent_store.lent(),
-            &lent_picks,
-            allowance,
-            answer.lent().try_into().unwrap(),
-        );
+        let numbers: &mut [u64; ANSWER] = answer.lent().try_into().unwrap();
+        let mut number = 0;
+        self.stacks[1].call(|| {
+            number = numbers::run(&file, &mut scratch[..scratch_len], lent_store.lent(), &lent_picks, allowance, numbers)
+        });
         self.same(call, "file after the call", &self.file, &file);
         self.same(call, "picks after the call", picks, &lent_picks);
         if !lent_store.guarded() || !answer.guarded() {
@@ -191,6 +209,7 @@ impl Checker {
                 }
                 self.same(call, "number", 0, number);
                 self.same(call, "store", &run.store[..], lent_store.lent());
+                self.same(call, "typed answer", typed(run), diftanew::Run::of((&*answer.lent()).try_into().unwrap()));
             }
         }
         self.same(call, "answer", &numbers[..], answer.lent());
@@ -275,7 +294,12 @@ fn main() {
         scratch: vec![0xdead_beef; SCRATCH],
         rng: Rng::new(seed, 0),
         tally: Tally::default(),
+        stacks: [Stack::new(diftanew::STACK), Stack::new(diftanew::STACK)],
     };
+    // The file that needs most stack: 256 rows, 16 loops, 8 deep.
+    checker.file = include_bytes!("../../../crates/report_files/data/accepted-worst.script").to_vec();
+    checker.index = u64::MAX;
+    checker.case();
     for index in first..first + count {
         let (file, rng) = case(seed, index);
         checker.file = file;
@@ -287,7 +311,8 @@ fn main() {
     let refused: Vec<String> = (2..=13).map(|number| format!("{number}:{}", t.refused[number])).collect();
     println!(
         "no difference: {count} files of seed {seed}, {} accepted, refused {}; {} report calls; {} run calls ({} refused, \
-         ended {}, spent {}, range {}, no pick {}, {} ticks); demand 3 held in {} runs with {} entries; {:.1} s",
+         ended {}, spent {}, range {}, no pick {}, {} ticks); demand 3 held in {} runs with {} entries; \
+         stack of {} bytes, report {}, run {}; {:.1} s",
         t.accepted,
         refused.join(" "),
         t.reports,
@@ -300,6 +325,9 @@ fn main() {
         t.ticks,
         t.demands,
         t.entries,
+        diftanew::STACK,
+        checker.stacks[0].used(),
+        checker.stacks[1].used(),
         begin.elapsed().as_secs_f64()
     );
 }

@@ -1,9 +1,8 @@
 -- `calls::report_script` meets its contract. Assumes nothing.
 use mathlib.Core.Path.{_≡_}
-use denote.Ref.{now}
-use Rattle.rules.specs.Scripts.{Script}
-use Rattle.table.specs.Code.{rowsOf}
-use Rattle.calls.specs.Held.{held}
+use Rattle.rules.specs.Scripts.{Script, scriptOf}
+use Rattle.calls.specs.Held.{Found}
+use Rattle.calls.proofs.Tables.{few-rows, fine-rows, survey-asks, survey-found}
 use Rattle.calls.proofs.Judging.{reported, not-reported}
 use borrow.Author.Needs.{needs}
 use Rattle.calls.proofs.report_script.Statement.{statement}
@@ -11,28 +10,43 @@ use Rattle.calls.proofs.report_script.Tie as tie
 
 -- the script that is held
 abbrev script : tie.Start → Script
-script s = held (rowsOf (now (s .args .rows))) (s .args .count) (s .args .vars) (s .args .low) (s .args .high)
+script s = scriptOf (s .args .ranges) (s .args .vars) (s .args .rows) (s .args .count)
+
+put-rows-requires : tie.Need-put-rows-requires
+put-rows-requires c κs = let s = c .before .before in (search needs, few-rows _ _ _ _ (s .pre), fine-rows _ _ _ _ (s .pre))
+
+survey-requires : tie.Need-survey-requires
+survey-requires c κs =
+    let s = c .before .before .before .before .before in
+    let p = c .before .before .put-rows in
+    survey-asks (s .args .ranges) (s .args .vars) (s .args .rows) (s .args .count) (s .pre) (p .last .0) (p .ensures .1) (p .ensures .0) (search needs)
+
+-- what the survey found of it
+found : (c : tie.After-survey) → Found (script (c .before .before .before .before .before .before)) (c .before .before .before .before .before .before .args .count) (c .survey .result) (c .survey .last .1 .1 .1 .1 .0)
+found c =
+    let s = c .before .before .before .before .before .before in
+    let p = c .before .before .before .put-rows in
+    survey-found (s .args .ranges) (s .args .vars) (s .args .rows) (s .args .count) (s .pre) (p .last .0) (p .ensures .1) (c .survey .result) _ (c .survey .ensures)
 
 returns : tie.Need-returns
 returns c =
-    let s = c .before .before .before .before .before in
-    let f = c .before .before .surveyed in
+    let s = c .before .before .before .before .before .before .before .before in
+    let f = c .before .before .survey in
     let h : f .result .number ≡ 0 → ⊥ = search needs in
-    not-reported (script s) (s .args .count) (f .result) _ (f .ensures) h _ _
+    not-reported (script s) (s .args .count) (f .result) _ (found (c .before .before)) h _ _
 
 write-report-requires : tie.Need-write-report-requires
 write-report-requires c κs =
-    let f = c .before .before .before .before .surveyed in
+    let f = c .before .before .before .before .survey in
     let z : f .result .number ≡ 0 = search needs in
-    record { few = f .ensures .figures .loops z; long = f .ensures .figures .long z }
+    record { few = f .ensures .loops z; long = f .ensures .long z }
 
 returns-2 : tie.Need-returns-2
 returns-2 c =
-    let s = c .before .before .before .before .before .before .before .before .before .before in
-    let f = c .before .before .before .before .before .before .before .surveyed in
+    let s = c .before .before .before .before .before .before .before .before .before .before .before .before .before in
+    let f = c .before .before .before .before .before .before .before .survey in
     let z : f .result .number ≡ 0 = search needs in
-    reported (script s) (s .args .count) (f .result) _ (f .ensures) z _ _ _ _ (c .before .before .write-report .ensures)
+    reported (script s) (s .args .count) (f .result) _ (found (c .before .before .before .before .before .before .before)) z _ _ _ _ (c .before .before .write-report .ensures)
 
 pub report-script-spec : {M : Type 1} → statement M
-report-script-spec =
-    tie.close (tie.spec (λ c κs. search needs) returns write-report-requires (λ c. search needs) returns-2)
+report-script-spec = tie.close (tie.spec put-rows-requires survey-requires returns write-report-requires (λ c. search needs) returns-2)

@@ -12,24 +12,23 @@ use Rattle.calls.proofs.run_accepted.Tie as tie
 returns : tie.Need-returns
 unfolding storeAfter
 returns c =
-    let s = c .before .before .before .before .before .before .before .before .before .before .before .before .before .before in
-    let r = c .before .before .before .before .before .before .before .before .run-rows in
+    let s = c .before .before .before .before .before .before .before .before in
+    let r = c .before .before .before .before .run-rows in
     let l = c .before .loops-of in
     let ks = take (s .args .count) (kindsOf (s .args .rows)) in
     let a = runOf ks (s .args .store .now) (s .args .picks .now) (s .args .allowance) in
-    let counts = counts-are (a .entries) _ _ (r .ensures .sums) (r .ensures .mosts) ks (l .result) (l .ensures) in
-    let number = counts-number (a .entries) _ _ (r .ensures .sums) (r .ensures .mosts) ks (l .result) (l .ensures) in
+    let counts = counts-are (a .entries) _ (r .ensures .sums) (r .ensures .mosts) ks (l .result) (l .ensures) in
+    let number = counts-number (a .entries) _ (r .ensures .sums) (r .ensures .mosts) ks (l .result) (l .ensures) in
     record {
       told = record {
-        number = refl;
-        place = refl;
+        verdict = refl;
         ending = r .ensures .ending;
         row = r .ensures .row;
         ticks = r .ensures .ticks;
         used = r .ensures .used;
         loops = number;
-        counts = c .counts-of .ensures .counts ∙ counts;
-        rest = c .counts-of .ensures .rest;
+        counts = counts;
+        rest = l .ensures .rest;
       };
       store = r .ensures .final;
     }
@@ -38,12 +37,6 @@ pub run-accepted-spec : {M : Type 1} → statement M
 run-accepted-spec =
     tie.close
     (tie.spec
-    (λ c. search needs)
-    (λ c. search needs)
-    (λ c. search needs)
-    (λ c κs. search needs)
-    (λ c. search needs)
-    (λ c. search needs)
     (λ c κs. search needs)
     (λ c κs. search needs)
     (λ c. search needs)

@@ -1,89 +1,109 @@
 -- `calls::run_script` meets its contract. Assumes nothing.
-use mathlib.Core.Path.{_≡_, sym, subst}
+use mathlib.Core.Path.{_≡_}
+use mathlib.Core.List.{List}
+use lib.IntN.{ℤ}
+use lib.ListN.{take}
 use native.Mathlib.Omega.{arith}
-use denote.Ref.{now}
-use Rattle.rules.specs.Scripts.{Script}
+use Rattle.rules.specs.Scripts.{Script, scriptOf}
+use Rattle.rules.specs.Figures.{ones}
+use Rattle.rules.specs.Calls.{runReply}
 use Rattle.rules.specs.Claim.{Demand3Of}
 use Rattle.rules.proofs.FromBytes.{demand3-script}
-use Rattle.table.specs.Code.{rowsOf}
-use Rattle.calls.specs.Held.{held, judgedScript, Given, Found}
-use Rattle.calls.proofs.Pairs.{packed-held}
+use Rattle.calls.specs.declared.Outcome.{Outcome}
+use Rattle.calls.specs.Held.{judgedScript, Found}
+use Rattle.calls.specs.Told.{Ran}
+use Rattle.calls.proofs.Tables.{few-rows, fine-rows, survey-asks, survey-found}
 use Rattle.calls.proofs.Judging.{ticks-few}
-use Rattle.calls.proofs.Runs.{ran-no, ran-out, may-run, ran-all}
+use Rattle.calls.proofs.Runs.{told-says, ran-no, ran-out, may-run, ran-all}
 use borrow.Author.Needs.{needs}
 use Rattle.calls.proofs.run_script.Statement.{statement}
 use Rattle.calls.proofs.run_script.Tie as tie
 
 -- the script that is held
 abbrev script : tie.Start → Script
-script s = held (s .args .rows) (s .args .count) (s .args .vars) (s .args .low) (s .args .high)
+script s = scriptOf (s .args .t3) (s .args .vars) (s .args .rows) (s .args .count)
 
--- demand 3
-kept : (s : tie.Start) → Demand3Of (judgedScript (script s)) (s .args .store .now) (s .args .picks .now) (s .args .allowance)
-kept s = demand3-script (s .args .store .now) (s .args .picks .now) (s .args .allowance) (script s) (s .pre .0 .legal)
+put-rows-requires : tie.Need-put-rows-requires
+put-rows-requires c κs = let s = c .before .before in (search needs, few-rows _ _ _ _ (s .pre), fine-rows _ _ _ _ (s .pre))
 
--- the table has its script
-same : (s : tie.Start) → held (rowsOf (now (s .args .table))) (s .args .count) (s .args .vars) (s .args .low) (s .args .high) ≡ script s
-same s = packed-held (s .args .rows) (now (s .args .table)) (s .args .count) (s .args .vars) (s .args .low) (s .args .high) (s .pre .1)
+survey-requires : tie.Need-survey-requires
+survey-requires c κs =
+    let s = c .before .before .before .before .before in
+    let p = c .before .before .put-rows in
+    survey-asks (s .args .t3) (s .args .vars) (s .args .rows) (s .args .count) (s .pre) (p .last .0) (p .ensures .1) (p .ensures .0) (search needs)
 
 -- what the survey found of it
-found : (c : tie.After-surveyed) → Found (script (c .before .before .before)) (c .before .before .before .args .count) (c .surveyed .result) (c .surveyed .last .1 .1 .1 .1 .1 .0)
-found c = subst (λ k. Found k (c .before .before .before .args .count) (c .surveyed .result) (c .surveyed .last .1 .1 .1 .1 .1 .0)) (same (c .before .before .before)) (c .surveyed .ensures)
+found : (c : tie.After-survey) → Found (script (c .before .before .before .before .before .before)) (c .before .before .before .before .before .before .args .count) (c .survey .result) (c .survey .last .1 .1 .1 .1 .0)
+found c =
+    let s = c .before .before .before .before .before .before in
+    let p = c .before .before .before .put-rows in
+    survey-found (s .args .t3) (s .args .vars) (s .args .rows) (s .args .count) (s .pre) (p .last .0) (p .ensures .1) (c .survey .result) _ (c .survey .ensures)
 
-surveyed-requires : tie.Need-surveyed-requires
-surveyed-requires c κs = let s = c .before .before in (subst (λ k. Given k (s .args .count) (s .args .vars)) (sym (same s)) (s .pre .0), search needs)
+-- demand 3 of that answer
+with-kept : (s : tie.Start) (o : Outcome) (new : List ℤ)
+    → Ran (runReply ones (judgedScript (script s)) (s .args .store .now) (s .args .picks .now) (s .args .allowance)) (s .args .store .now) new o
+    → Ran (runReply ones (judgedScript (script s)) (s .args .store .now) (s .args .picks .now) (s .args .allowance)) (s .args .store .now) new o
+    × Demand3Of (judgedScript (script s)) (s .args .store .now) (s .args .picks .now) (s .args .allowance) (o .ending) (o .ticks) (take (o .loops) (o .counts))
+with-kept s o new r =
+    (r, demand3-script (s .args .store .now) (s .args .picks .now) (s .args .allowance) (o .ending) (o .ticks) (take (o .loops) (o .counts)) (script s) (s .pre .legal) (told-says o (runReply ones (judgedScript (script s)) (s .args .store .now) (s .args .picks .now) (s .args .allowance)) (r .told)))
 
 returns : tie.Need-returns
 returns c =
-    let s = c .before .before .before .before .before .before in
-    let f = c .before .before .before .surveyed in
+    let s = c .before .before .before .before .before .before .before .before .before in
+    let f = c .before .before .before .survey in
     let h : f .result .number ≡ 0 → ⊥ = search needs in
-    (ran-no (script s) (s .args .count) (f .result) _ (found (c .before .before .before)) (s .args .store .now) (s .args .picks .now) (s .args .allowance) h _ (c .refusal .ensures), kept s)
+    with-kept s _ _ (ran-no (script s) (s .args .count) (f .result) _ (found (c .before .before .before)) (s .args .store .now) (s .args .picks .now) (s .args .allowance) h _ (c .refusal .ensures))
 
-returns-2 : tie.Need-returns-2
-returns-2 c =
-    let s = c .before .before .before .before .before .before .before .before .before .before in
-    let f = c .before .before .before .before .before .before .before .surveyed in
-    let q = c .before .before .before .ask-store in
-    let z : f .result .number ≡ 0 = search needs in
-    let h : q .result .number ≡ 0 → ⊥ = search needs in
-    (ran-out (script s) (s .args .count) (f .result) _ (found (c .before .before .before .before .before .before .before)) (s .args .store .now) (s .args .picks .now) (s .args .allowance) z (q .result .number) (q .result .place) (q .ensures) h _ (c .refusal2 .ensures), kept s)
+ask-store-requires : tie.Need-ask-store-requires
+ask-store-requires c κs = (c .before .before .before .before .before .before .before .before .before .before .pre .few, search needs)
 
 run-accepted-requires : tie.Need-run-accepted-requires
+unfolding scriptOf
 run-accepted-requires c κs =
-    let s = c .before .before .before .before .before .before .before .before .before .before .before in
-    let f = c .before .before .before .before .before .before .before .before .surveyed in
+    let s = c .before .before .before .before .before .before .before .before .before .before .before .before .before .before .before in
+    let f = c .before .before .before .before .before .before .before .before .before .survey in
     let q = c .before .before .before .before .ask-store in
     let z : f .result .number ≡ 0 = search needs in
-    let y : q .result .number ≡ 0 = search needs in
-    let few = ticks-few (script s) (s .args .count) (f .result) _ (found (c .before .before .before .before .before .before .before .before)) z in
+    let few = ticks-few (script s) (s .args .count) (f .result) _ (found (c .before .before .before .before .before .before .before .before .before)) z in
     record {
-      size = omega (arith, s .pre .0 .legal .sizes .1, s .pre .0 .rows);
-      runs = may-run (script s) (s .args .count) (f .result) _ (found (c .before .before .before .before .before .before .before .before)) (s .args .store .now) (s .args .picks .now) (s .args .allowance) z (q .result .number) (q .result .place) (q .ensures) y (s .pre .0 .legal);
+      size = few-rows _ _ _ _ (s .pre);
+      runs = may-run (script s) (s .args .count) (f .result) _ (found (c .before .before .before .before .before .before .before .before .before)) (s .args .store .now) (s .args .picks .now) (s .args .allowance) z (q .result) (q .ensures) (c .before .before .enum-told .given .1) (s .pre .legal);
       ticks = omega (arith, c .smaller .ensures);
     }
 
-returns-3 : tie.Need-returns-3
-returns-3 c =
-    let s = c .before .before .before .before .before .before .before .before .before .before .before .before .before in
-    let f = c .before .before .before .before .before .before .before .before .before .before .surveyed in
+returns-2 : tie.Need-returns-2
+unfolding scriptOf
+returns-2 c =
+    let s = c .before .before .before .before .before .before .before .before .before .before .before .before .before .before .before .before .before in
+    let f = c .before .before .before .before .before .before .before .before .before .before .before .survey in
     let q = c .before .before .before .before .before .before .ask-store in
-    let z : f .result .number ≡ 0 = omega (arith, c .before .before .before .before .before .before .before .before .if1 .left) in
-    let y : q .result .number ≡ 0 = omega (arith, c .before .before .before .before .if2 .left) in
-    (ran-all (s .args .rows) (s .args .count) (s .args .vars) (s .args .low) (s .args .high) (f .result) _ (found (c .before .before .before .before .before .before .before .before .before .before)) (s .args .store .now) (s .args .picks .now) (s .args .allowance) z (q .result .number) (q .result .place) (q .ensures) y (s .pre .0 .legal) _ (c .before .before .smaller .ensures) _ _ (c .before .run-accepted .ensures), kept s)
+    let z : f .result .number ≡ 0 = omega (arith, c .before .before .before .before .before .before .before .before .before .if1 .left) in
+    with-kept s _ _ (ran-all (s .args .t3) (s .args .vars) (s .args .rows) (s .args .count) (f .result) _ (found (c .before .before .before .before .before .before .before .before .before .before .before)) (s .args .store .now) (s .args .picks .now) (s .args .allowance) z (q .result) (q .ensures) (c .before .before .before .before .enum-told .given .1) (s .pre .legal) _ (c .before .before .smaller .ensures) _ _ (c .before .run-accepted .ensures))
+
+returns-3 : tie.Need-returns-3
+unfolding scriptOf
+returns-3 c =
+    let s = c .before .before .before .before .before .before .before .before .before .before .before .before .before .before .before in
+    let f = c .before .before .before .before .before .before .before .before .before .survey in
+    let q = c .before .before .before .before .ask-store in
+    let z : f .result .number ≡ 0 = omega (arith, c .before .before .before .before .before .before .before .if1 .left) in
+    with-kept s _ _ (ran-out (script s) (s .args .count) (f .result) _ (found (c .before .before .before .before .before .before .before .before .before)) (s .args .store .now) (s .args .picks .now) (s .args .allowance) z (q .result) (q .ensures) _ _ (c .before .before .asked .given .1) _ (c .refusal2 .ensures))
 
 pub run-script-spec : {M : Type 1} → statement M
 run-script-spec =
     tie.close
     (tie.spec
-    surveyed-requires
+    put-rows-requires
+    survey-requires
     (λ c κs. search needs)
     returns
+    ask-store-requires
+    (λ c. search needs)
     (λ c κs. search needs)
+    run-accepted-requires
+    (λ c. search needs)
     (λ c κs. search needs)
     (λ c. search needs)
     returns-2
-    (λ c κs. search needs)
-    run-accepted-requires
     (λ c. search needs)
     returns-3)

@@ -10,23 +10,20 @@ use Rattle.loops.proofs.with_row.Tie as tie
 room : (c : tie.Then1) → c .before .before .args .loops .count < 16
 room c = c .before .before .pre (sym (c .before .is-loop .ensures) ∙ c .if1 .taken)
 
+mul-counts : tie.Need-mul-counts
+mul-counts c = omega (arith, room (c .before))
+
+array-set-from-counts : tie.Need-array-set-from-counts
+array-set-from-counts c = room (c .before)
+
+add-t10 : tie.Need-add-t10
+add-t10 c = omega (arith, room (c .before))
+
 returns : tie.Need-returns
-returns c = rw (sym (c .before .is-loop .ensures) ∙ c .if1 .taken)
+returns c = rw (sym (c .before .before .is-loop .ensures) ∙ c .before .if1 .taken)
 
 returns-2 : tie.Need-returns-2
 returns-2 c = rw (sym (c .before .is-loop .ensures) ∙ c .if1 .left)
 
 pub with-row-spec : {M : Type 1} → statement M
-with-row-spec =
-    tie.close
-    (tie.spec
-    (λ c κs. search needs)
-    (λ c. omega (arith, room c))
-    (λ c. omega (arith, room c))
-    (λ c. omega (arith, room c))
-    (λ c. omega (arith, room c))
-    (λ c. omega (arith, room c))
-    (λ c. omega (arith, room c))
-    (λ c. omega (arith, room c))
-    returns
-    returns-2)
+with-row-spec = tie.close (tie.spec (λ c κs. search needs) mul-counts array-set-from-counts add-t10 returns returns-2)

@@ -3,7 +3,7 @@ use Rattle.pairs.proofs.Laws.{none-yet}
 use Rattle.pairs.specs.Tables.{Sized, pairsOf}
 use Rattle.rules.proofs.Laws.{kinds-first, kind-of}
 use Rattle.rules.specs.RowMachine.{Pairs, pairs, pairRow}
-use Rattle.rules.specs.Blocks.{kindsOf}
+use Rattle.rules.specs.Blocks.{viewOf, kindsOf}
 use Rattle.rules.specs.declared.Kind.the-variants.{End}
 use Rattle.rules.specs.declared.Row.{Row}
 use native.Mathlib.Numerals.{add-one}
@@ -17,9 +17,9 @@ use Rattle.pairs.proofs.partners.Statement.{statement}
 use Rattle.pairs.proofs.partners.Tie as tie
 
 -- one row more
-next-row : (n : ℕ) (rs : List Row) (j : ℕ) {p q : Pairs} → j < n → p ≡ pairs (take n (kindsOf rs)) j → q ≡ pairRow (getD rs j (record { kind = End }) .kind) j p → q ≡ pairs (take n (kindsOf rs)) (j + 1)
+next-row : (n : ℕ) (rs : List Row) (j : ℕ) {p q : Pairs} → j < n → p ≡ pairs (take n (kindsOf rs)) j → q ≡ pairRow (viewOf (getD rs j (record { kind = End }) .kind)) j p → q ≡ pairs (take n (kindsOf rs)) (j + 1)
 unfolding pairs
-next-row n rs j h e f = rw add-one (f ∙ (λ i. pairRow (sym (kind-of n rs j h) i) j (e i)))
+next-row n rs j h e f = rw add-one (f ∙ (λ i. pairRow (viewOf (sym (kind-of n rs j h) i)) j (e i)))
 
 abbrev Inv-loop : tie.InvT-loop
 Inv-loop count rows shut₀ opener₀ stack₀ depth₀ j₀ shut opener stack depth j = (j ≤ count) × (depth ≤ j) × Sized shut opener stack × (pairsOf shut opener stack depth ≡ pairs (take count (kindsOf rows)) j)

@@ -4,12 +4,13 @@ use borrow.Author.Needs.{needs}
 use Prim.Native.Nat.{ℕ, _<_, _-_, _+_}
 use mathlib.Core.Path.{_≡_, refl, sym, _∙_}
 use lib.ListN.{length}
-use Rattle.rules.specs.Ranges as model
+use Rattle.rules.specs.Trips as model
 use Rattle.table.specs.Code.{kindAt, rowsOf}
-use Rattle.steps.specs.Tree.{endAt, pastElse}
+use Rattle.table.specs.Shapes.{pastElse}
+use Rattle.steps.specs.Tree.{endAt, headOf}
 use Rattle.steps.proofs.Laws.{PickIs, LoopIs}
 use Rattle.steps.proofs.Walking.{Walking, ready, begin, pick-at, loop-at, plain-row, pick-row, loop-row, at-close, at-last}
-use Rattle.ranges.specs.Env.{envOf}
+use Rattle.trips.specs.Env.{envOf}
 use borrow.Fn.Kinds.{In}
 use borrow.Fn.PlainCycle.{Measures, is, falls, and}
 use Rattle.ranges.proofs.after.Reads as after
@@ -18,8 +19,8 @@ use Rattle.ranges.proofs.+after.Lts-after as lts
 use Rattle.ranges.proofs.after_loop.Reads as after-loop-reads
 use Rattle.ranges.proofs.joined.Reads as joined-reads
 use Rattle.ranges.proofs.step_row.Reads as step-row-reads
-use Rattle.steps.proofs.past_else.Reads as past-else-reads
-use Rattle.steps.proofs.shape_at.Reads as shape-at-reads
+use Rattle.table.proofs.past_else.Reads as past-else-reads
+use Rattle.table.proofs.shape_at.Reads as shape-at-reads
 use Rattle.ranges.proofs.+after.{statement}
 use Rattle.ranges.proofs.+after.Tie.{close}
 
@@ -50,7 +51,7 @@ pick-2 : (t : ℕ) (c : lts.After-after2 (given t) (here t) after.Post Inv μ) �
 pick-2 t c = pick-at _ _ _ (c .before .before .before .before .before .before .before .before .loop-test .taken) (c .before .before .before .before .before .before .before .before .before .before .pre .1 .built) (sym (c .before .before .before .before .before .before .before .shape-at .ensures) ∙ c .before .before .before .before .before .enum-told2 .given .1) (c .before .before .before .after .ensures .place) (c .before .before .past-else .ensures) (c .after2 .ensures .place)
 
 loop-1 : (t : ℕ) (c : lts.After-after-loop (given t) (here t) after.Post Inv μ) → let s = c .before .before .before .before .before .before .before .args in
-    LoopIs (rowsOf (now (s .rows))) (s .count) (kindAt (rowsOf (now (s .rows))) (c .before .before .before .before .before .before .loop .i)) (c .before .before .before .before .before .before .loop .i) (c .after-loop .result)
+    LoopIs (rowsOf (now (s .rows))) (s .count) (headOf (kindAt (rowsOf (now (s .rows))) (c .before .before .before .before .before .before .loop .i))) (c .before .before .before .before .before .before .loop .i) (c .after-loop .result)
 loop-1 t c = loop-at _ _ _ (c .before .before .before .before .before .loop-test .taken) (c .before .before .before .before .before .before .before .pre .1 .built) (sym (c .before .before .before .before .shape-at .ensures) ∙ c .before .before .enum-told3 .given .1) (c .after-loop .ensures .ends .place)
 
 loop-holds : (t : ℕ) → lts.Need-loop-holds (given t) (here t) after.Post Inv μ

@@ -1,8 +1,9 @@
 -- `ranges::at_start` meets its contract.
 use denote.Ref.{now}
 use Rattle.rules.specs.Ranges.{atStart}
-use Rattle.steps.specs.Tree.{formOf, testOf}
-use Rattle.ranges.specs.Env.{envOf}
+use Rattle.rules.specs.Blocks.{viewOf}
+use Rattle.steps.specs.Tree.{headOf}
+use Rattle.trips.specs.Env.{envOf}
 use Rattle.ranges.proofs.Loops.{no-start}
 use borrow.Author.Needs.{needs}
 use Rattle.ranges.proofs.at_start.Statement.{statement}
@@ -15,7 +16,7 @@ put-requires : tie.Need-put-requires
 put-requires c κs = let h = rw (c .before .before .before .before .kind .given .1) at (c .before .before .before .before .before .before .pre .0) in (h .0, c .before .before .before .before .before .before .pre .1)
 
 returns : tie.Need-returns
-unfolding atStart formOf testOf
+unfolding atStart headOf viewOf
 returns c = let p = c .put .ensures in record { long = p .long; value = rw (p .value, c .before .before .bounds .ensures, c .before .before .before .before .before .kind .given .1) }
 
 returns-2 : tie.Need-returns-2

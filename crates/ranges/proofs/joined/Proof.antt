@@ -5,7 +5,8 @@ use borrow.Author.Needs.{needs}
 use native.Mathlib.Omega.{arith}
 use lib.ListN.{length}
 use Rattle.rules.specs.Ranges.{join}
-use Rattle.ranges.specs.Env.{EnvIs, envOf, upTo}
+use Rattle.trips.specs.Env.{envOf}
+use Rattle.ranges.specs.Env.{EnvIs, upTo}
 use Rattle.ranges.proofs.Envs.{up-none, up-put, up-all, join-at, join-far}
 use Rattle.ranges.proofs.joined.Statement.{statement}
 use Rattle.ranges.proofs.joined.Tie as tie

@@ -1,53 +1,76 @@
 -- `ranges::step_row` meets its contract.
-use mathlib.Core.Path.{_≡_, sym, _∙_}
+use mathlib.Core.Path.{_≡_, refl, sym, subst, _∙_}
 use denote.Ref.{now}
 use borrow.Author.Needs.{needs}
-use Rattle.rules.specs.declared.Kind.the-variants.{Set, Move}
-use Rattle.table.specs.Code.{kindAt, rowsOf, numbersAt, variableIn, startIn, stepIn}
-use Rattle.table.proofs.Laws.{set-at, move-at}
+use Rattle.rules.specs.Bounds.{Fine}
+use Rattle.rules.specs.Ranges.{afterRow}
+use Rattle.table.specs.declared.Shape.{Shape}
+use Rattle.table.specs.declared.Tag.{Tag}
+use Rattle.table.specs.Code.{kindAt, kindBy, rowsOf, numbersAt}
+use Rattle.table.specs.Shapes.{shapeOf, plainOf}
+use Rattle.table.proofs.Laws.{kind-is}
+use Rattle.trips.specs.Env.{envOf}
 use Rattle.ranges.proofs.Envs.{after-set, after-move, after-other}
 use Rattle.ranges.proofs.step_row.Statement.{statement}
 use Rattle.ranges.proofs.step_row.Tie as tie
 
-is-set : (c : tie.Then1) → let t = now (c .before .before .before .args .rows) in let i = c .before .before .before .args .i in let e = numbersAt t i in kindAt (rowsOf t) i ≡ Set (variableIn e) (startIn e)
-is-set c = set-at (now (c .before .before .before .args .rows)) (c .before .before .before .args .i) (sym (c .before .before .tag-at .ensures) ∙ c .if1 .taken)
+is-set : (c : tie.After-enum-told) → let s = c .before .before .before .args in kindAt (rowsOf (now (s .rows))) (s .i) ≡ kindBy Tag.Set (numbersAt (now (s .rows)) (s .i))
+is-set c = let s = c .before .before .before .args in kind-is (now (s .rows)) (s .i) (c .before .before .tag-at .ensures) (c .enum-told .given .1)
 
-is-move : (c : tie.Then2) → let t = now (c .before .before .before .before .args .rows) in let i = c .before .before .before .before .args .i in let e = numbersAt t i in kindAt (rowsOf t) i ≡ Move (variableIn e) (stepIn e)
-is-move c = move-at (now (c .before .before .before .before .args .rows)) (c .before .before .before .before .args .i) (sym (c .before .before .before .tag-at .ensures) ∙ c .if2 .taken)
+fine-set : (c : tie.After-enum-told) → let s = c .before .before .before .args in Fine (kindBy Tag.Set (numbersAt (now (s .rows)) (s .i)))
+fine-set c = subst Fine (is-set c) (c .before .before .before .pre .1)
+
+is-move : (c : tie.After-enum-told2) → let s = c .before .before .before .args in kindAt (rowsOf (now (s .rows))) (s .i) ≡ kindBy Tag.Move (numbersAt (now (s .rows)) (s .i))
+is-move c = let s = c .before .before .before .args in kind-is (now (s .rows)) (s .i) (c .before .before .tag-at .ensures) (c .enum-told2 .given .1)
+
+fine-move : (c : tie.After-enum-told2) → let s = c .before .before .before .args in Fine (kindBy Tag.Move (numbersAt (now (s .rows)) (s .i)))
+fine-move c = subst Fine (is-move c) (c .before .before .before .pre .1)
 
 bounds-requires : tie.Need-bounds-requires
-bounds-requires c κs = let h = rw (is-set (c .before .before)) at (c .before .before .before .before .before .pre .1) in rw (c .operand-at .ensures) (h .1)
+unfolding kindBy
+bounds-requires c κs = rw (c .operand-at .ensures) (fine-set (c .before .before) .1)
 
 put-requires : tie.Need-put-requires
-put-requires c κs = let h = rw (is-set (c .before .before .before .before)) at (c .before .before .before .before .before .before .before .pre .1) in (rw (c .before .before .before .before .before .variable-at .ensures) (h .0), c .before .before .before .before .before .before .before .pre .3)
+unfolding kindBy
+put-requires c κs = (rw (c .variable-at .ensures) (fine-set (c .before .before .before .before .before) .0), c .before .before .before .before .before .before .before .before .pre .3)
 
 span-at-requires : tie.Need-span-at-requires
-span-at-requires c κs = let h = rw (is-move (c .before)) at (c .before .before .before .before .before .pre .1) in rw (c .before .before .before .variable-at .ensures) (h .0)
+unfolding kindBy
+span-at-requires c κs = rw (c .before .variable-at2 .ensures) (fine-move (c .before .before) .0)
 
 changed-span-requires : tie.Need-changed-span-requires
-changed-span-requires c κs = let h = rw (is-move (c .before .before .before)) at (c .before .before .before .before .before .before .before .pre .1) in rw (c .change-at .ensures) (h .1)
+unfolding kindBy
+changed-span-requires c κs = rw (c .change-at .ensures) (fine-move (c .before .before .before .before) .1)
 
 put-requires-2 : tie.Need-put-requires-2
-put-requires-2 c κs = let h = rw (is-move (c .before .before .before .before .before)) at (c .before .before .before .before .before .before .before .before .before .pre .1) in (rw (c .before .before .before .before .before .before .before .variable-at .ensures) (h .0), c .before .before .before .before .before .before .before .before .before .pre .3)
+unfolding kindBy
+put-requires-2 c κs = (rw (c .before .before .before .before .before .variable-at2 .ensures) (fine-move (c .before .before .before .before .before .before) .0), c .before .before .before .before .before .before .before .before .before .pre .3)
 
 returns : tie.Need-returns
-returns c = let p = c .put .ensures in record { long = p .long; value = p .value ∙ after-set _ (is-set (c .before .before .before .before .before)) (c .before .before .before .before .before .before .variable-at .ensures) (c .before .before .before .operand-at .ensures) (c .before .before .bounds .ensures) }
+returns c = let p = c .put .ensures in record { long = p .long; value = p .value ∙ rw (is-set (c .before .before .before .before .before .before)) (after-set _ _ (c .before .variable-at .ensures) (c .before .before .before .before .operand-at .ensures) (c .before .before .before .bounds .ensures)) }
 
 returns-2 : tie.Need-returns-2
-returns-2 c = let p = c .put2 .ensures in record { long = p .long; value = p .value ∙ after-move _ (is-move (c .before .before .before .before .before .before)) (c .before .before .before .before .before .before .before .before .variable-at .ensures) (c .before .before .before .change-at .ensures) (c .before .before .before .before .span-at .ensures) (c .before .before .changed-span .ensures) }
+returns-2 c = let p = c .put2 .ensures in record { long = p .long; value = p .value ∙ rw (is-move (c .before .before .before .before .before .before .before)) (after-move _ _ (c .before .before .before .before .before .before .variable-at2 .ensures) (c .before .before .before .change-at .ensures) (c .before .before .before .before .span-at .ensures) (c .before .before .changed-span .ensures)) }
 
 returns-3 : tie.Need-returns-3
-returns-3 c = record { long = c .before .before .before .before .pre .3; value = after-other _ (now (c .before .before .before .before .args .rows)) (c .before .before .before .before .args .i) (λ z. c .before .if1 .left (c .before .before .before .tag-at .ensures ∙ z)) (λ z. c .if2 .left (c .before .before .before .tag-at .ensures ∙ z)) (c .before .before .before .before .pre .2) }
+returns-3 c =
+    let s = c .before .before in
+    let ρ = envOf (now (s .args .r)) in
+    let e = kind-is (now (s .args .rows)) (s .args .i) (c .before .tag-at .ensures) refl in
+    record { long = s .pre .3; value = subst (λ k. ρ ≡ afterRow ρ (plainOf k)) (sym e) (after-other ρ (numbersAt (now (s .args .rows)) (s .args .i)) (c .before .tag-at .result) (c .match .keys3) (subst (λ k. shapeOf k ≡ Shape.Plain) e (s .pre .2))) }
 
 pub step-row-spec : {M : Type 1} → statement M
 step-row-spec =
     tie.close
     (tie.spec
     (λ c κs. search needs)
-    (λ c κs. search needs)
+    (λ c. search needs)
     (λ c κs. search needs)
     bounds-requires
+    (λ c κs. search needs)
     put-requires
+    (λ c. search needs)
+    (λ c κs. search needs)
     span-at-requires
     (λ c κs. search needs)
     changed-span-requires

@@ -5,7 +5,8 @@ use borrow.Author.Needs.{needs}
 use native.Mathlib.Omega.{arith}
 use lib.ListN.{length}
 use Rattle.steps.specs.Sets.{setOf}
-use Rattle.ranges.specs.Env.{EnvIs, envOf, rangeOf, upTo, widenedEnv}
+use Rattle.trips.specs.Env.{envOf, rangeOf}
+use Rattle.ranges.specs.Env.{EnvIs, upTo, widenedEnv}
 use Rattle.ranges.proofs.Envs.{up-none, up-here, up-put, up-all}
 use Rattle.ranges.proofs.Loops.{wide-at, wide-far}
 use Rattle.ranges.proofs.widen.Statement.{statement}
@@ -18,7 +19,7 @@ abbrev μ-loop : tie.MeasureT-loop
 μ-loop r₀ set mine v w₀ r w = 16 - w
 
 loop-holds : tie.Need-loop-holds Inv-loop μ-loop
-loop-holds c = (search needs, record { long = c .pre; value = sym (up-none _ _) })
+loop-holds c = (search needs, record { long = c .pre .1; value = sym (up-none _ _) })
 
 loop-again : tie.Need-loop-again Inv-loop μ-loop
 loop-again c =
@@ -32,7 +33,7 @@ returns c =
     let e : c .before .loop .w ≡ 16 = omega arith in
     let l : length (c .before .before .args .set) ≡ 16 = search needs in
     let k = c .before .loop .inv .1 in
-    record { long = k .long; value = k .value ∙ rw e (up-all _ _ 16 (wide-far _ l _ _ _)) }
+    record { long = k .long; value = k .value ∙ rw e (up-all _ _ 16 (wide-far _ l _ _ (c .before .before .pre .0) _)) }
 
 pub widen-spec : {M : Type 1} → statement M
 widen-spec = tie.close (tie.spec

@@ -1,14 +1,12 @@
-use mathlib.Core.Path.{refl, sym, _∙_, subst}
-use Prim.Native.Nat.{_+_}
+use mathlib.Core.Path.{refl, subst}
 use lib.ListN.{drop, length-drop}
 use denote.Ref.{now}
-use Rattle.rules.specs.File.{andThen, rowLines, noRows, lastLine, rowPart, rowsKey}
-use Rattle.rules.specs.Scripts.{endRanges}
-use Rattle.reader.proofs.Loads.{after-count, after-wrong}
-use Rattle.reader.specs.Read.{clean, CountRead, headOf}
+use Rattle.rules.specs.File.{rowsKey}
 use Rattle.text.proofs.Laws.{part-rest}
-use native.Mathlib.Omega.{arith}
+use Rattle.reader.specs.Read.{clean, CountRead}
+use Rattle.reader.proofs.Loads.{count-refused, count-says}
 use borrow.Author.Needs.{needs}
+use native.Mathlib.Omega.{arith}
 use Rattle.reader.proofs.load_count.Statement.{statement}
 use Rattle.reader.proofs.load_count.Tie as tie
 
@@ -20,22 +18,18 @@ count-line-requires c κs = (search needs, search needs, refl)
 line : (c : tie.After-count-line) → CountRead rowsKey (drop (c .before .before .before .before .args .at) (now (c .before .before .before .before .args .file))) 256 (c .count-line .result)
 line c = rw (part-rest (now (c .before .before .before .before .args .file)) (c .before .before .before .before .args .at)) at (c .count-line .ensures)
 
-add-t18 : tie.Need-add-t18
-add-t18 c = let w = subst (CountRead _ _ _) (c .before .c .given .1) (line (c .before .before .before)) .within in let l = length-drop (c .before .before .before .before .before .before .before .args .at) (now (c .before .before .before .before .before .before .before .args .file)) in let h = c .before .before .before .before .before .before .before .pre in search needs
-
-refused-requires : tie.Need-refused-requires
-refused-requires c κs = subst (CountRead _ _ _) (c .before .c2 .given .1) (line (c .before .before .before)) .within
+add-t17 : tie.Need-add-t17
+add-t17 c =
+    let w = subst (CountRead _ _ _) (c .before .c .given .1) (line (c .before .before .before)) .within in
+    let l = length-drop (c .before .before .before .before .before .before .before .args .at) (now (c .before .before .before .before .before .before .before .args .file)) in
+    let h = c .before .before .before .before .before .before .before .pre in
+    search needs
 
 returns : tie.Need-returns
-unfolding rowPart headOf
-returns c =
-    let s = c .before .before .before .before .before .before .before in
-    let l = subst (CountRead _ _ _) (c .before .c .given .1) (line (c .before .before .before)) in
-    (sym (after-count _ (now (s .args .file)) (s .args .at) _ _ _ _ (λ n more. andThen (rowLines (s .args .vars) n (4 + s .args .vars) more noRows) (λ rows rest. lastLine (4 + s .args .vars + n) (endRanges (s .args .vars) (s .args .low) (s .args .high)) rows rest)) l), record { start = omega (arith, l .within .1, length-drop (s .args .at) (now (s .args .file)), s .pre .0); vars = s .pre .1; count = l .within .0 })
+returns c = count-says _ _ _ _ _ (subst (CountRead _ _ _) (c .before .c .given .1) (line (c .before .before .before))) (c .before .before .before .before .before .before .before .pre .0) (c .before .before .before .before .before .before .before .pre .1)
 
 returns-2 : tie.Need-returns-2
-unfolding rowPart
-returns-2 c = (c .refused .ensures .0 _ ∙ sym (after-wrong _ _ _ _ _ (λ n more. andThen (rowLines (c .before .before .before .before .before .before .before .before .args .vars) n (4 + c .before .before .before .before .before .before .before .before .args .vars) more noRows) (λ rows rest. lastLine (4 + c .before .before .before .before .before .before .before .before .args .vars + n) (endRanges (c .before .before .before .before .before .before .before .before .args .vars) (c .before .before .before .before .before .before .before .before .args .low) (c .before .before .before .before .before .before .before .before .args .high)) rows rest)) (subst (CountRead _ _ _) (c .before .before .c2 .given .1) (line (c .before .before .before .before)))), c .refused .ensures .1 _)
+returns-2 c = count-refused _ _ _ _ _ (c .refused .ensures) (subst (CountRead _ _ _) (c .before .before .c2 .given .1) (line (c .before .before .before .before)))
 
 pub load-count-spec : {M : Type 1} → statement M
 load-count-spec =
@@ -47,9 +41,9 @@ load-count-spec =
     (λ c. search needs)
     count-line-requires
     (λ c. search needs)
-    add-t18
+    add-t17
     (λ c. search needs)
     (λ c. search needs)
-    refused-requires
+    (λ c κs. search needs)
     returns
     returns-2)

@@ -1,24 +1,22 @@
-use mathlib.Core.Path.{ap, _∙_, subst}
-use Rattle.reader.proofs.Loads.{script-then, script-refused, file-long}
+use mathlib.Core.Path.{sym, ap, _∙_, subst}
 use Rattle.reader.specs.Read.{Within, countOf}
+use Rattle.reader.proofs.Loads.{head-refused, head-same, script-then, script-refused, file-long}
 use borrow.Author.Needs.{needs}
+use native.Mathlib.Omega.{arith}
 use Rattle.reader.proofs.load_head.Statement.{statement}
 use Rattle.reader.proofs.load_head.Tie as tie
 
 returns : tie.Need-returns
-returns c = (c .refused .ensures .0 _ ∙ file-long _ (c .before .if1 .taken), c .refused .ensures .1 _)
+returns c = head-refused _ _ _ _ _ _ (c .refused .ensures) (sym (file-long _ (c .before .if1 .taken)))
 
 load-vars-requires : tie.Need-load-vars-requires
-load-vars-requires c κs = subst (Within _ 1) (c .before .c .given .1) (c .before .before .before .script-line .ensures .1) .1
-
-refused-requires-2 : tie.Need-refused-requires-2
-refused-requires-2 c κs = subst (Within _ 1) (c .before .c2 .given .1) (c .before .before .before .script-line .ensures .1)
+load-vars-requires c κs = subst (Within _ 1) (c .before .before .c .given .1) (c .before .before .before .before .script-line .ensures .1) .1
 
 returns-2 : tie.Need-returns-2
-returns-2 c = (c .load-vars .ensures .0 ∙ script-then _ _ _ (c .before .before .before .before .before .if1 .left) (c .before .before .before .before .script-line .ensures .0 ∙ ap (countOf _ 1) (c .before .before .c .given .1)), c .load-vars .ensures .1)
+returns-2 c = head-same (c .load-vars .ensures) (script-then _ _ _ (c .before .before .before .before .before .before .if1 .left) (c .before .before .before .before .before .script-line .ensures .0 ∙ ap (countOf _ 1) (c .before .before .before .c .given .1)))
 
 returns-3 : tie.Need-returns-3
-returns-3 c = (c .refused2 .ensures .0 _ ∙ script-refused _ _ (c .before .before .before .before .before .if1 .left) (c .before .before .before .before .script-line .ensures .0 ∙ ap (countOf _ 1) (c .before .before .c2 .given .1)), c .refused2 .ensures .1 _)
+returns-3 c = head-refused _ _ _ _ _ _ (c .refused2 .ensures) (sym (script-refused _ _ (c .before .before .before .before .before .if1 .left) (c .before .before .before .before .script-line .ensures .0 ∙ ap (countOf _ 1) (c .before .before .c2 .given .1))))
 
 pub load-head-spec : {M : Type 1} → statement M
 load-head-spec =
@@ -30,6 +28,6 @@ load-head-spec =
     (λ c. search needs)
     load-vars-requires
     (λ c. search needs)
-    refused-requires-2
+    (λ c κs. search needs)
     returns-2
     returns-3)

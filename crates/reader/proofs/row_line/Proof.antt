@@ -11,7 +11,7 @@ returns : tie.Need-returns
 returns c = row-yes _ _ _ (sym (c .before .before .keyed .ensures) ∙ c .before .if1 .taken) (c .row-of .ensures)
 
 returns-2 : tie.Need-returns-2
-returns-2 c = row-no _ _ 0 (sym (c .before .keyed .ensures) ∙ c .if1 .left)
+returns-2 c = row-no _ _ (sym (c .before .keyed .ensures) ∙ c .if1 .left)
 
 pub row-line-spec : {M : Type 1} → statement M
 row-line-spec =

@@ -24,7 +24,7 @@ returns c = let e = asked (c .before) in
 
 returns-2 : tie.Need-returns-2
 unfolding bareRow
-returns-2 c = lined-wrong _ _ _ _ _ (checked-wrong _ _ _ (asked (c .before)) (c .if1 .left))
+returns-2 c = lined-wrong _ _ _ _ (checked-wrong _ _ _ (asked (c .before)) (c .if1 .left))
 
 pub bare-row-spec : {M : Type 1} → statement M
 bare-row-spec = tie.close (tie.spec (λ c κs. search needs) returns returns-2)

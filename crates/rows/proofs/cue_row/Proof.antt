@@ -37,7 +37,7 @@ returns c = let (n, r) = words (c .before .before .before .before .before) in
 
 returns-2 : tie.Need-returns-2
 unfolding cueRow
-returns-2 c = lined-wrong _ _ _ (cueRow (c .before .before .before .before .before .before .before .before .args .vars)) _ (checked-wrong _ _ _ (asked (c .before)) (c .if1 .left))
+returns-2 c = lined-wrong _ _ (cueRow (c .before .before .before .before .before .before .before .before .args .vars)) _ (checked-wrong _ _ _ (asked (c .before)) (c .if1 .left))
 
 pub cue-row-spec : {M : Type 1} → statement M
 cue-row-spec =

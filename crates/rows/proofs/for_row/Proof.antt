@@ -48,7 +48,7 @@ returns c = let (v, x, o, y, n, z, r) = words (c .before .before .before .before
 
 returns-2 : tie.Need-returns-2
 unfolding forRow
-returns-2 c = lined-wrong _ _ _ (forRow (c .before .before .before .before .before .before .before .before .before .before .before .before .before .before .before .before .before .before .before .before .before .before .before .before .before .before .before .before .before .before .before .args .vars)) _ (checked-wrong _ _ _ (asked (c .before)) (c .if1 .left))
+returns-2 c = lined-wrong _ _ (forRow (c .before .before .before .before .before .before .before .before .before .before .before .before .before .before .before .before .before .before .before .before .before .before .before .before .before .before .before .before .before .before .before .args .vars)) _ (checked-wrong _ _ _ (asked (c .before)) (c .if1 .left))
 
 pub for-row-spec : {M : Type 1} → statement M
 for-row-spec =

@@ -37,7 +37,7 @@ returns c = let a = c .before .before .before .before .before .before .before .b
 returns-2 : tie.Need-returns-2
 unfolding moveRow
 returns-2 c = let a = c .before .before .before .before .before .before .before .before .before .before .before .before .before .args in
-    lined-wrong _ _ _ (λ w. moveRow (a .vars) w (a .name)) _ (checked-wrong _ _ _ (asked (c .before)) (c .if1 .left))
+    lined-wrong _ _ (λ w. moveRow (a .vars) w (a .name)) _ (checked-wrong _ _ _ (asked (c .before)) (c .if1 .left))
 
 pub move-row-spec : {M : Type 1} → statement M
 move-row-spec =

@@ -37,7 +37,7 @@ returns c = let a = c .before .before .before .before .before .before .before .b
 returns-2 : tie.Need-returns-2
 unfolding setRow
 returns-2 c = let a = c .before .before .before .before .before .before .before .before .before .before .before .before .before .args in
-    lined-wrong _ _ _ (setRow (a .vars)) _ (checked-wrong _ _ _ (asked (c .before)) (c .if1 .left))
+    lined-wrong _ _ (setRow (a .vars)) _ (checked-wrong _ _ _ (asked (c .before)) (c .if1 .left))
 
 pub set-row-spec : {M : Type 1} → statement M
 set-row-spec =

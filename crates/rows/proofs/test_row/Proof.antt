@@ -39,7 +39,7 @@ returns c = let a = c .before .before .before .before .before .before .before .b
 
 returns-2 : tie.Need-returns-2
 returns-2 c = let a = c .before .before .before .before .before .before .before .before .before .before .before .before .before .before .before .before .before .before .args in
-    lined-wrong _ _ _ (λ w. cond (a .after) (doRow (a .vars) w) (whileRow (a .vars) w)) _ (test-wrong (a .after) (a .vars) (after Missing (drop (a .at) (now (a .s)))) _ (asked (c .before)) (c .if1 .left))
+    lined-wrong _ _ (λ w. cond (a .after) (doRow (a .vars) w) (whileRow (a .vars) w)) _ (test-wrong (a .after) (a .vars) (after Missing (drop (a .at) (now (a .s)))) _ (asked (c .before)) (c .if1 .left))
 
 pub test-row-spec : {M : Type 1} → statement M
 test-row-spec =

@@ -1,6 +1,7 @@
 -- `runner::resume` meets its contract. The invariant: the state is reached by steps from the first one. The measure: the weight of the state. Assumes nothing.
 use Rattle.runner.proofs.Loop.{Runs, weight, runs-start, doable, fitting, head-in, runs-step, runs-past, runs-over}
-use Rattle.actions.specs.States.{nextOf, tallyOf}
+use Rattle.actions.specs.States.{nextOf}
+use Rattle.rules.specs.RowMachine.{tallyOf}
 use Rattle.rules.specs.Blocks.{kindsOf}
 use mir.Val.{Fits}
 use mir.Syntax.{w8}
@@ -13,10 +14,10 @@ use Rattle.runner.proofs.resume.Statement.{statement}
 use Rattle.runner.proofs.resume.Tie as tie
 
 abbrev Inv-loop : tie.InvT-loop
-Inv-loop count store₀ picks turns₀ all₀ most₀ rows tables m₀ store turns all most m = Runs rows count tables picks m₀ store₀ turns₀ all₀ most₀ m store turns all most
+Inv-loop count store₀ picks counts₀ rows tables m₀ store counts m = Runs rows count tables picks m₀ store₀ counts₀ m store counts
 
 abbrev μ-loop : tie.MeasureT-loop
-μ-loop count store₀ picks turns₀ all₀ most₀ rows tables m₀ store turns all most m = weight (length (take count (kindsOf rows))) (nextOf m store picks (tallyOf turns all most))
+μ-loop count store₀ picks counts₀ rows tables m₀ store counts m = weight (length (take count (kindsOf rows))) (nextOf m store picks (tallyOf counts))
 
 -- the rows and the tables are whole arrays
 full-rows : (s : tie.Start Inv-loop μ-loop) → length (s .args .t1) ≡ 256
@@ -29,54 +30,47 @@ opener-fits : (s : tie.Start Inv-loop μ-loop) (i : ℕ) → Fits w8 (getD (s .a
 opener-fits s i = search needs
 
 -- one turn: a row's step
-turned : (c : tie.After-slice-known6 Inv-loop μ-loop)
-    → let s = c .before .before .before .before .before .before .before .before .before .before .before .before .before .before .before .before .before .before .before .before .before .before .before .before .args in
-    let l = c .before .before .before .before .before .before .before .before .before .before .before .before .before .before .before .before .before .before .before .loop in
-    let z = c .before .before .before .before .before .before .before .step .last in
-    Runs (s .t1) (s .count) (s .t3) (s .picks .now) (s .from) (s .store .now) (s .turns .now) (s .all .now) (s .most .now) (c .before .before .before .before .before .before .before .step .result) (z .1 .1 .1 .1 .1 .0) (z .1 .1 .1 .1 .1 .1 .1 .0) (z .1 .1 .1 .1 .1 .1 .1 .1 .0) (z .1 .1 .1 .1 .1 .1 .1 .1 .1 .0)
-    × (weight (length (take (s .count) (kindsOf (s .t1)))) (nextOf (c .before .before .before .before .before .before .before .step .result) (z .1 .1 .1 .1 .1 .0) (s .picks .now) (tallyOf (z .1 .1 .1 .1 .1 .1 .1 .0) (z .1 .1 .1 .1 .1 .1 .1 .1 .0) (z .1 .1 .1 .1 .1 .1 .1 .1 .1 .0)))
-    < weight (length (take (s .count) (kindsOf (s .t1)))) (nextOf (l .m) (l .store) (s .picks .now) (tallyOf (l .turns) (l .all) (l .most))))
+turned : (c : tie.After-store Inv-loop μ-loop)
+    → let a = c .before .before .before .before .before .before .before .before .before .before .before .before .before .args in
+    let l = c .before .before .before .before .before .before .before .before .before .before .before .loop in
+    let z = c .before .step in
+    let store = z .last .1 .1 .1 .1 .1 .0 in
+    let counts = z .last .1 .1 .1 .1 .1 .1 .1 .0 in
+    Runs (a .t1) (a .count) (a .t3) (a .picks .now) (a .from) (a .store .now) (a .counts .now) (z .result) store counts
+    × (weight (length (take (a .count) (kindsOf (a .t1)))) (nextOf (z .result) store (a .picks .now) (tallyOf counts)) < weight (length (take (a .count) (kindsOf (a .t1)))) (nextOf (l .m) (l .store) (a .picks .now) (tallyOf (l .counts))))
 turned c =
-    let s = c .before .before .before .before .before .before .before .before .before .before .before .before .before .before .before .before .before .before .before .before .before .before .before .before in
+    let s = c .before .before .before .before .before .before .before .before .before .before .before .before .before in
     let a = s .args in
-    let l = c .before .before .before .before .before .before .before .before .before .before .before .before .before .before .before .before .before .before .before .loop in
-    let z = c .before .before .before .before .before .before .before .step in
-    let go = (sym (c .before .before .before .before .before .before .before .before .before .before .before .before .before .before .before .before .before .before .going .ensures) ∙ c .before .before .before .before .before .before .before .before .before .before .before .before .before .before .before .before .before .if1 .taken) in
-    let i = c .before .before .before .before .before .before .before .before .before .before .before .before .before .before .before .before .if2 .taken in
-    runs-step (a .t1) (a .count) (a .t3) (a .picks .now) (a .from) (a .store .now) (a .turns .now) (a .all .now) (a .most .now) (full-rows s) (s .pre) (l .m) (l .store) (l .turns) (l .all) (l .most) (l .inv) go (z .result) _ (z .last .1 .1 .1 .1 .1 .1 .1 .0) (z .last .1 .1 .1 .1 .1 .1 .1 .1 .0) (z .last .1 .1 .1 .1 .1 .1 .1 .1 .1 .0)
-    (z .kept .1 .1 .1 .1 .1 .0, z .kept .1 .1 .1 .1 .1 .1 .1 .0, z .kept .1 .1 .1 .1 .1 .1 .1 .1 .0, z .kept .1 .1 .1 .1 .1 .1 .1 .1 .1 .0) i
-    (z .ensures _ _ _ (fitting (a .t1) (a .count) (a .t3) (a .picks .now) (a .from) (a .store .now) (a .turns .now) (a .all .now) (a .most .now) (full-rows s) (s .pre) (l .m) (l .store) (l .turns) (l .all) (l .most) (l .inv) go i))
+    let l = c .before .before .before .before .before .before .before .before .before .before .before .loop in
+    let z = c .before .step in
+    let go = sym (c .before .before .before .before .before .before .before .before .before .before .going .ensures) ∙ c .before .before .before .before .before .before .before .before .before .if1 .taken in
+    let i = c .before .before .before .before .before .before .before .before .if2 .taken in
+    runs-step (a .t1) (a .count) (a .t3) (a .picks .now) (a .from) (a .store .now) (a .counts .now) (full-rows s) (s .pre) (l .m) (l .store) (l .counts) (l .inv) go (z .result) _ _ (z .kept .1 .1 .1 .1 .1 .0, z .ensures .1) i (z .ensures .0 _ _ _ (fitting (a .t1) (a .count) (a .t3) (a .picks .now) (a .from) (a .store .now) (a .counts .now) (full-rows s) (s .pre) (l .m) (l .store) (l .counts) (l .inv) go i))
 
 loop-holds : tie.Need-loop-holds Inv-loop μ-loop
-loop-holds c =
-    let s = c .before .before .before .before in
-    let a = s .args in
-    let full = full-rows s in
-    runs-start (a .t1) (a .count) (a .t3) (a .picks .now) (a .from) (a .store .now) (a .turns .now) (a .all .now) (a .most .now) full (s .pre)
+loop-holds c = let s = c .before in let a = s .args in runs-start (a .t1) (a .count) (a .t3) (a .picks .now) (a .from) (a .store .now) (a .counts .now) (full-rows s) (s .pre)
 
 cast-e : tie.Need-cast-e Inv-loop μ-loop
-cast-e c = omega (arith, shut-fits (c .before .before .before .before .before .before .before .before .before .before) (c .before .before .before .before .before .loop .m .row))
+cast-e c = omega (arith, shut-fits (c .before .before .before .before .before .before .before) (c .before .before .before .before .before .loop .m .row))
 
 cast-h : tie.Need-cast-h Inv-loop μ-loop
-cast-h c = omega (arith, opener-fits (c .before .before .before .before .before .before .before .before .before .before .before) (c .before .before .before .before .before .before .loop .m .row))
+cast-h c = omega (arith, opener-fits (c .before .before .before .before .before .before .before .before) (c .before .before .before .before .before .before .loop .m .row))
 
 mul-head : tie.Need-mul-head Inv-loop μ-loop
-mul-head c = let f = opener-fits (c .before .before .before .before .before .before .before .before .before .before .before) (c .before .before .before .before .before .before .loop .m .row) in omega arith
+mul-head c = let f = opener-fits (c .before .before .before .before .before .before .before .before) (c .before .before .before .before .before .before .loop .m .row) in omega arith
 
 array-copy-out-head : tie.Need-array-copy-out-head Inv-loop μ-loop
-array-copy-out-head c = omega (arith, opener-fits (c .before .before .before .before .before .before .before .before .before .before .before) (c .before .before .before .before .before .before .loop .m .row))
+array-copy-out-head c = omega (arith, opener-fits (c .before .before .before .before .before .before .before .before) (c .before .before .before .before .before .before .loop .m .row))
 
 step-requires : tie.Need-step-requires Inv-loop μ-loop
 step-requires c κs =
-    let s = c .before .before .before .before .before .before .before .before .before .before .before .before .before .before .before .before in
+    let s = c .before .before .before .before .before .before .before .before .before .before .before in
     let a = s .args in
-    let l = c .before .before .before .before .before .before .before .before .before .before .before .loop in
-    let full = full-rows s in
+    let l = c .before .before .before .before .before .before .before .before .before .loop in
     let f = shut-fits s (l .m .row) in
-    let go = (sym (c .before .before .before .before .before .before .before .before .before .before .going .ensures) ∙ c .before .before .before .before .before .before .before .before .before .if1 .taken) in
-    let i = c .before .before .before .before .before .before .before .before .if2 .taken in
-    let h = head-in (a .t1) (a .count) (a .t3) (a .picks .now) (a .from) (a .store .now) (a .turns .now) (a .all .now) (a .most .now) full (s .pre) (l .m) (l .store) (l .turns) (l .all) (l .most) (l .inv) go i in
-    (doable (a .t1) (a .count) (a .t3) (a .picks .now) (a .from) (a .store .now) (a .turns .now) (a .all .now) (a .most .now) full (s .pre) (l .m) (l .store) (l .turns) (l .all) (l .most) (l .inv) go _ _ i (omega arith), doable (a .t1) (a .count) (a .t3) (a .picks .now) (a .from) (a .store .now) (a .turns .now) (a .all .now) (a .most .now) full (s .pre) (l .m) (l .store) (l .turns) (l .all) (l .most) (l .inv) go _ _ h (omega (arith, s .pre .size)))
+    let go = sym (c .before .before .before .before .before .before .before .before .going .ensures) ∙ c .before .before .before .before .before .before .before .if1 .taken in
+    let i = c .before .before .before .before .before .before .if2 .taken in
+    (doable (a .t1) (a .count) (a .t3) (a .picks .now) (a .from) (a .store .now) (a .counts .now) (full-rows s) (s .pre) (l .m) (l .store) (l .counts) (l .inv) go _ _ i (omega arith), doable (a .t1) (a .count) (a .t3) (a .picks .now) (a .from) (a .store .now) (a .counts .now) (full-rows s) (s .pre) (l .m) (l .store) (l .counts) (l .inv) go _ _ (head-in (a .t1) (a .count) (a .t3) (a .picks .now) (a .from) (a .store .now) (a .counts .now) (full-rows s) (s .pre) (l .m) (l .store) (l .counts) (l .inv) go i) (omega (arith, s .pre .size)))
 
 loop-less : tie.Need-loop-less Inv-loop μ-loop
 loop-less c = turned c .1
@@ -86,39 +80,27 @@ loop-again c = turned c .0
 
 loop-less-2 : tie.Need-loop-less-2 Inv-loop μ-loop
 loop-less-2 c =
-    let s = c .before .before .before .before .before .before .before .before .before in
+    let s = c .before .before .before .before .before .before in
     let a = s .args in
     let l = c .before .before .before .before .loop in
-    let full = full-rows s in
-    rw (c .ended .ensures) (runs-past (a .t1) (a .count) (a .t3) (a .picks .now) (a .from) (a .store .now) (a .turns .now) (a .all .now) (a .most .now) full (s .pre) (l .m) (l .store) (l .turns) (l .all) (l .most) (l .inv) (sym (c .before .before .before .going .ensures) ∙ c .before .before .if1 .taken) (c .before .if2 .left) .1)
+    rw (c .ended .ensures) (runs-past (a .t1) (a .count) (a .t3) (a .picks .now) (a .from) (a .store .now) (a .counts .now) (full-rows s) (s .pre) (l .m) (l .store) (l .counts) (l .inv) (sym (c .before .before .before .going .ensures) ∙ c .before .before .if1 .taken) (c .before .if2 .left) .1)
 
 loop-again-2 : tie.Need-loop-again-2 Inv-loop μ-loop
 loop-again-2 c =
-    let s = c .before .before .before .before .before .before .before .before .before in
+    let s = c .before .before .before .before .before .before in
     let a = s .args in
     let l = c .before .before .before .before .loop in
-    let full = full-rows s in
-    rw (c .ended .ensures) (runs-past (a .t1) (a .count) (a .t3) (a .picks .now) (a .from) (a .store .now) (a .turns .now) (a .all .now) (a .most .now) full (s .pre) (l .m) (l .store) (l .turns) (l .all) (l .most) (l .inv) (sym (c .before .before .before .going .ensures) ∙ c .before .before .if1 .taken) (c .before .if2 .left) .0)
+    rw (c .ended .ensures) (runs-past (a .t1) (a .count) (a .t3) (a .picks .now) (a .from) (a .store .now) (a .counts .now) (full-rows s) (s .pre) (l .m) (l .store) (l .counts) (l .inv) (sym (c .before .before .before .going .ensures) ∙ c .before .before .if1 .taken) (c .before .if2 .left) .0)
 
 same-length : tie.Need-same-length Inv-loop μ-loop
 same-length c = c .before .before .loop .inv .lengths .0
 
-same-length-2 : tie.Need-same-length-2 Inv-loop μ-loop
-same-length-2 c = c .before .before .loop .inv .lengths .1
-
-same-length-3 : tie.Need-same-length-3 Inv-loop μ-loop
-same-length-3 c = c .before .before .loop .inv .lengths .2
-
-same-length-4 : tie.Need-same-length-4 Inv-loop μ-loop
-same-length-4 c = c .before .before .loop .inv .lengths .3
-
 returns : tie.Need-returns Inv-loop μ-loop
 returns c =
-    let s = c .before .before .before .before .before .before .before in
+    let s = c .before .before .before .before in
     let a = s .args in
     let l = c .before .before .loop in
-    let full = full-rows s in
-    runs-over (a .t1) (a .count) (a .t3) (a .picks .now) (a .from) (a .store .now) (a .turns .now) (a .all .now) (a .most .now) full (s .pre) (l .m) (l .store) (l .turns) (l .all) (l .most) (l .inv) (sym (c .before .going .ensures) ∙ c .if1 .left)
+    runs-over (a .t1) (a .count) (a .t3) (a .picks .now) (a .from) (a .store .now) (a .counts .now) (full-rows s) (s .pre) (l .m) (l .store) (l .counts) (l .inv) (sym (c .before .going .ensures) ∙ c .if1 .left)
 
 pub resume-spec : {M : Type 1} → statement M
 resume-spec =
@@ -143,7 +125,4 @@ resume-spec =
     loop-less-2
     loop-again-2
     same-length
-    same-length-2
-    same-length-3
-    same-length-4
     returns)

@@ -8,7 +8,8 @@ use Rattle.rules.specs.declared.Step.the-variants.{Unknown}
 use Rattle.rules.specs.Steps.{then, rowStep}
 use Rattle.rules.proofs.Ends.{ends-only}
 use Rattle.table.specs.Code.{kindAt, rowsOf}
-use Rattle.steps.specs.Tree.{endAt, pastElse, plainOf}
+use Rattle.table.specs.Shapes.{pastElse, plainOf}
+use Rattle.steps.specs.Tree.{endAt, headOf}
 use Rattle.steps.proofs.Laws.{PickIs, LoopIs}
 use Rattle.steps.proofs.Walking.{ready, pick-at, loop-at}
 use Rattle.steps.proofs.Sets.{clear, no-set}
@@ -25,10 +26,10 @@ use Rattle.rules.proofs.only.Reads as only-reads
 use Rattle.steps.proofs.add_all.Reads as add-all-reads
 use Rattle.steps.proofs.add_row.Reads as add-row-reads
 use Rattle.steps.proofs.has.Reads as has-reads
-use Rattle.steps.proofs.past_else.Reads as past-else-reads
+use Rattle.table.proofs.past_else.Reads as past-else-reads
 use Rattle.steps.proofs.row_step.Reads as row-step-reads
 use Rattle.steps.proofs.sets_it.Reads as sets-it-reads
-use Rattle.steps.proofs.shape_at.Reads as shape-at-reads
+use Rattle.table.proofs.shape_at.Reads as shape-at-reads
 use Rattle.steps.proofs.+moves_of.{statement}
 use Rattle.steps.proofs.+moves_of.Tie.{close}
 
@@ -60,7 +61,7 @@ pick-2 : (t : ℕ) (c : lts.After-moves-of2 (given t) (here t) moves-of.Post Inv
 pick-2 t c = pick-at _ _ _ (c .before .before .before .before .before .before .before .before .loop-test .taken) (c .before .before .before .before .before .before .before .before .before .before .pre .1 .0 .built) (sym (c .before .before .before .before .before .before .before .shape-at .ensures) ∙ c .before .before .before .before .before .enum-told2 .given .1) (c .before .before .before .moves-of .ensures .sets .place) (c .before .before .past-else .ensures) (c .moves-of2 .ensures .sets .place)
 
 loop-1 : (t : ℕ) (c : lts.After-moves-of3 (given t) (here t) moves-of.Post Inv μ) → let s = c .before .before .before .before .before .before .before .args in
-    LoopIs (rowsOf (now (s .rows))) (s .count) (kindAt (rowsOf (now (s .rows))) (c .before .before .before .before .before .before .loop .i)) (c .before .before .before .before .before .before .loop .i) (c .moves-of3 .result .next)
+    LoopIs (rowsOf (now (s .rows))) (s .count) (headOf (kindAt (rowsOf (now (s .rows))) (c .before .before .before .before .before .before .loop .i))) (c .before .before .before .before .before .before .loop .i) (c .moves-of3 .result .next)
 loop-1 t c = loop-at _ _ _ (c .before .before .before .before .before .loop-test .taken) (c .before .before .before .before .before .before .before .pre .1 .0 .built) (sym (c .before .before .before .before .shape-at .ensures) ∙ c .before .before .enum-told3 .given .1) (c .moves-of3 .ensures .sets .place)
 
 loop-holds : (t : ℕ) → lts.Need-loop-holds (given t) (here t) moves-of.Post Inv μ

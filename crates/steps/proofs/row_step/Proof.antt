@@ -6,7 +6,7 @@ use borrow.Author.Tests.{not-true, not-false}
 use Rattle.rules.specs.Steps.{rowStep, changeStep}
 use Rattle.rules.specs.Bounds.{FineChange}
 use Rattle.table.specs.Code.{kindAt, rowsOf, numbersAt, stepIn}
-use Rattle.steps.specs.Tree.{plainOf}
+use Rattle.table.specs.Shapes.{plainOf}
 use Rattle.steps.proofs.Stepping.{row-still}
 use Rattle.steps.proofs.Tags.{step-set, step-change}
 use Rattle.steps.proofs.row_step.Statement.{statement}
@@ -16,10 +16,10 @@ returns : tie.Need-returns
 returns c = sym (row-still (c .before .before .args .v) _ (sym (c .before .sets-it .ensures) ∙ not-true _ (c .if1 .taken)))
 
 returns-2 : tie.Need-returns-2
-returns-2 c = sym (step-set (now (c .before .before .before .before .args .rows)) (c .before .before .before .before .args .i) (c .before .before .before .before .args .v) (sym (c .before .tag-at .ensures) ∙ c .if2 .taken) (sym (c .before .before .before .sets-it .ensures) ∙ not-false _ (c .before .before .if1 .left)))
+returns-2 c = let s = c .before .before .before .before .before in sym (step-set (now (s .args .rows)) (s .args .i) (c .before .before .tag-at .ensures) (c .enum-told .given .1) (s .args .v) (sym (c .before .before .before .before .sets-it .ensures) ∙ not-false _ (c .before .before .before .if1 .left)))
 
-is-change : (c : tie.Else2) → let t = now (c .before .before .before .before .args .rows) in let i = c .before .before .before .before .args .i in let d = stepIn (numbersAt t i) in FineChange d × (rowStep (c .before .before .before .before .args .v) (plainOf (kindAt (rowsOf t) i)) ≡ changeStep d)
-is-change c = step-change (now (c .before .before .before .before .args .rows)) (c .before .before .before .before .args .i) (c .before .before .before .before .args .v) (λ z. c .if2 .left (c .before .tag-at .ensures ∙ z)) (c .before .before .before .before .pre .1) (sym (c .before .before .before .sets-it .ensures) ∙ not-false _ (c .before .before .if1 .left))
+is-change : (c : tie.At-match-keys2) → let s = c .before .before .before .before in let d = stepIn (numbersAt (now (s .args .rows)) (s .args .i)) in FineChange d × (rowStep (s .args .v) (plainOf (kindAt (rowsOf (now (s .args .rows))) (s .args .i))) ≡ changeStep d)
+is-change c = let s = c .before .before .before .before in step-change (now (s .args .rows)) (s .args .i) (c .before .tag-at .ensures) (c .match .keys2) (s .args .v) (s .pre .1) (sym (c .before .before .before .sets-it .ensures) ∙ not-false _ (c .before .before .if1 .left))
 
 change-step-requires : tie.Need-change-step-requires
 change-step-requires c κs = rw (c .change-at .ensures) (is-change (c .before) .0)
@@ -34,7 +34,8 @@ row-step-spec =
     (λ c κs. search needs)
     returns
     (λ c κs. search needs)
-    returns-2
+    (λ c. search needs)
     (λ c κs. search needs)
     change-step-requires
+    returns-2
     returns-3)

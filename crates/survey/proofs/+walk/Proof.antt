@@ -6,45 +6,42 @@ use Prim.Native.Nat.{ℕ, _<_, _-_, _+_, _≤_}
 use mathlib.Core.Path.{_≡_, refl, sym, ap, ap₂, subst, _∙_}
 use mathlib.Core.List.{[], _∷_, _++_}
 use lib.ListN.{length}
-use Rattle.rules.specs.Steps.{step}
-use Rattle.rules.specs.Ranges.{atStart, inside, outside}
-use Rattle.rules.specs.Questions.{refused, loopsVerdict}
+use Rattle.rules.specs.Ranges.{atStart}
+use Rattle.rules.specs.Trips.{inside, outside, innerOf, outerOf, trip}
+use Rattle.rules.specs.declared.Verdict.the-variants.{Refused as refused}
+use Rattle.rules.specs.Questions.{loopsVerdict}
 use Rattle.table.specs.Code.{kindAt, rowsOf}
-use Rattle.steps.specs.Tree.{blockAt, endAt, pastElse, formOf, testOf}
+use Rattle.table.specs.Shapes.{pastElse}
+use Rattle.steps.specs.Tree.{blockAt, endAt, headOf, formOf, testOf}
 use Rattle.steps.specs.Body.{bodyAt}
 use Rattle.steps.proofs.Laws.{PickIs, LoopIs}
 use Rattle.steps.proofs.Walking.{ready, begin, pick-at, loop-at, at-close, at-last}
-use Rattle.ranges.specs.Env.{envOf}
+use Rattle.trips.specs.Env.{envOf}
+use Rattle.trips.specs.Found.{tripOf}
+use Rattle.ranges.specs.Env.{widened}
+use Rattle.ranges.proofs.Loops.{inside-is, outside-is}
 use Rattle.ticks.specs.Capped.{capped, overOf}
-use Rattle.turns.specs.Needs.{answer}
 use Rattle.lines.specs.Coded.{firstLines}
-use Rattle.survey.specs.Fold.{loopCount, withLines, tallied, lastTicks, LoopOf, Passed}
+use Rattle.survey.specs.Fold.{loopCount, withLines, tallied, lastTicks, lineFor, Passed}
+use Rattle.survey.specs.Enter.{startAt, tripAt, Entry}
 use Rattle.survey.proofs.Folding.{fold-none}
-use Rattle.survey.proofs.Going.{Part, from-parts, part-of, refused-in, closing, restart-walkable, lined-walkable, Going, go-plain, pick-room, pick-first, pick-second, go-pick, loop-room, loop-refused, body-refused, go-loop, last-small}
+use Rattle.survey.proofs.Going.{Part, part-of, refused-in, closing, restart-walkable, lined-walkable, Going, go-plain, pick-room, pick-first, pick-second, go-pick, loop-room, loop-refused, body-refused, go-loop, last-small}
 use borrow.Fn.Kinds.{In}
 use borrow.Fn.PlainCycle.{Measures, is, falls, and}
 use Rattle.survey.proofs.walk.Reads as walk
 use Rattle.survey.proofs.walk.Kinds as walk-kinds
 use Rattle.survey.proofs.+walk.Lts-walk as lts
-use Rattle.ranges.proofs.at_start.Reads as at-start-reads
 use Rattle.ranges.proofs.inside.Reads as inside-reads
-use Rattle.ranges.proofs.outside.Reads as outside-reads
 use Rattle.ranges.proofs.step_row.Reads as step-row-reads
-use Rattle.steps.proofs.past_else.Reads as past-else-reads
-use Rattle.steps.proofs.shape_at.Reads as shape-at-reads
+use Rattle.table.proofs.past_else.Reads as past-else-reads
+use Rattle.table.proofs.shape_at.Reads as shape-at-reads
 use Rattle.survey.proofs.after_pick.Reads as after-pick-reads
-use Rattle.survey.proofs.closed.Reads as closed-reads
 use Rattle.survey.proofs.ended.Reads as ended-reads
-use Rattle.survey.proofs.larger.Reads as larger-reads
-use Rattle.survey.proofs.last_ticks.Reads as last-ticks-reads
-use Rattle.survey.proofs.lined.Reads as lined-reads
-use Rattle.survey.proofs.one_loop.Reads as one-loop-reads
-use Rattle.survey.proofs.refused.Reads as refused-reads
 use Rattle.survey.proofs.restarted.Reads as restarted-reads
-use Rattle.ticks.proofs.loop_ticks.Reads as loop-ticks-reads
 use Rattle.ticks.proofs.plus.Reads as plus-reads
-use Rattle.ticks.proofs.times.Reads as times-reads
-use Rattle.table.proofs.kind_at.Reads as kind-at-reads
+use Rattle.survey.proofs.enter_loop.Reads as enter-loop-reads
+use Rattle.survey.proofs.leave_loop.Reads as leave-loop-reads
+use Rattle.survey.proofs.leave_pick.Reads as leave-pick-reads
 use Rattle.survey.proofs.+walk.{statement}
 use Rattle.survey.proofs.+walk.Tie.{close}
 
@@ -65,7 +62,7 @@ abbrev μ : lts.MeasureT-loop
 μ rows count at outer lines₀ r₀ t₀ i₀ lines r t i = count - i
 
 abbrev given : ℕ → lts.Claims
-given t = (shape-at-reads.Asked, shape-at-reads.Learnt, step-row-reads.Asked, step-row-reads.Learnt, plus-reads.Asked, plus-reads.Learnt, restarted-reads.Asked, restarted-reads.Learnt, below t, walk.Post, past-else-reads.Asked, past-else-reads.Learnt, after-pick-reads.Asked, after-pick-reads.Learnt, larger-reads.Asked, larger-reads.Learnt, closed-reads.Asked, closed-reads.Learnt, kind-at-reads.Asked, kind-at-reads.Learnt, at-start-reads.Asked, at-start-reads.Learnt, one-loop-reads.Asked, one-loop-reads.Learnt, refused-reads.Asked, refused-reads.Learnt, times-reads.Asked, times-reads.Learnt, last-ticks-reads.Asked, last-ticks-reads.Learnt, lined-reads.Asked, lined-reads.Learnt, inside-reads.Asked, inside-reads.Learnt, outside-reads.Asked, outside-reads.Learnt, loop-ticks-reads.Asked, loop-ticks-reads.Learnt, ended-reads.Asked, ended-reads.Learnt)
+given t = (shape-at-reads.Asked, shape-at-reads.Learnt, step-row-reads.Asked, step-row-reads.Learnt, plus-reads.Asked, plus-reads.Learnt, restarted-reads.Asked, restarted-reads.Learnt, below t, walk.Post, past-else-reads.Asked, past-else-reads.Learnt, after-pick-reads.Asked, after-pick-reads.Learnt, leave-pick-reads.Asked, leave-pick-reads.Learnt, enter-loop-reads.Asked, enter-loop-reads.Learnt, inside-reads.Asked, inside-reads.Learnt, leave-loop-reads.Asked, leave-loop-reads.Learnt, ended-reads.Asked, ended-reads.Learnt)
 
 -- ---- a pick: before its first part, after it, after both
 pick-0 : (t : ℕ) (c : lts.After-enum-told2 (given t) (here t) walk.Post Inv μ) → let s = c .before .before .before .before .before .args in let m = endAt (rowsOf (now (s .rows))) (s .count) (c .before .before .before .before .loop .i + 1) in
@@ -98,27 +95,35 @@ part-2 : (t : ℕ) (c : lts.Else2 (given t) (here t) walk.Post Inv μ) → let s
     Part (s .outer) (envOf (c .before .before .before .before .before .before .before .before .before .before .before .before .before .before .before .loop .r)) 0 (overOf (y .over)) (firstLines (y .lines) (y .loops)) (y .loops) (blockAt (rowsOf (now (s .rows))) (s .count) (c .before .before .before .before .before .past-else .result)) (withLines (c .before .before .walk2 .result) (c .before .before .walk2 .last .1 .1 .1 .1 .1 .0))
 part-2 t c = let y = (withLines (c .before .before .before .before .before .before .before .before .walk .result) (c .before .before .before .before .before .before .before .before .walk .last .1 .1 .1 .1 .1 .0)) in part-of 0 (overOf (y .over)) (firstLines (y .lines) (y .loops)) (y .loops) (c .before .before .before .restarted2 .ensures (c .before .before .before .before .before .before .before .before .walk .last .1 .1 .1 .1 .1 .0) .value _) (passed-2 t c)
 
--- ---- a loop: at its head, after its body
-one-1 : (t : ℕ) (c : lts.After-one-loop (given t) (here t) walk.Post Inv μ) → let s = c .before .before .before .before .before .before .before .before .before .before .args in let i = c .before .before .before .before .before .before .before .before .before .loop .i in let k = kindAt (rowsOf (now (s .rows))) i in
-    LoopOf (rowsOf (now (s .rows))) (s .count) i (atStart (formOf k) (testOf k) (envOf (c .before .before .before .before .before .before .before .before .before .loop .r))) (c .one-loop .result)
-one-1 t c = let s = c .before .before .before .before .before .before .before .before .before .before .args in subst (λ ρ. LoopOf (rowsOf (now (s .rows))) (s .count) (c .before .before .before .before .before .before .before .before .before .loop .i) ρ (c .one-loop .result)) (c .before .before .at-start .ensures .value ∙ ap (λ d. atStart (formOf d) (testOf d) (envOf (c .before .before .before .before .before .before .before .before .before .loop .r))) (c .before .before .before .before .kind-at .ensures)) (c .one-loop .ensures)
+-- ---- a loop: at its head, entered, after its body
+loop-0 : (t : ℕ) (c : lts.After-enum-told3 (given t) (here t) walk.Post Inv μ) → LoopIs (rowsOf (now (c .before .before .before .before .before .args .rows))) (c .before .before .before .before .before .args .count) (headOf (kindAt (rowsOf (now (c .before .before .before .before .before .args .rows))) (c .before .before .before .before .loop .i))) (c .before .before .before .before .loop .i) (endAt (rowsOf (now (c .before .before .before .before .before .args .rows))) (c .before .before .before .before .before .args .count) (c .before .before .before .before .loop .i + 1))
+loop-0 t c = loop-at _ _ _ (c .before .before .before .loop-test .taken) (c .before .before .before .before .before .pre .1 .ready .built) (sym (c .before .before .shape-at .ensures) ∙ c .enum-told3 .given .1) refl
 
-loop-1 : (t : ℕ) (c : lts.After-one-loop (given t) (here t) walk.Post Inv μ) → let s = c .before .before .before .before .before .before .before .before .before .before .args in
-    LoopIs (rowsOf (now (s .rows))) (s .count) (kindAt (rowsOf (now (s .rows))) (c .before .before .before .before .before .before .before .before .before .loop .i)) (c .before .before .before .before .before .before .before .before .before .loop .i) (c .one-loop .result .next)
-loop-1 t c = loop-at _ _ _ (c .before .before .before .before .before .before .before .before .loop-test .taken) (c .before .before .before .before .before .before .before .before .before .before .pre .1 .ready .built) (sym (c .before .before .before .before .before .before .before .shape-at .ensures) ∙ c .before .before .before .before .before .enum-told3 .given .1) (c .one-loop .ensures .ends .place)
+room-0 : (t : ℕ) (c : lts.After-enum-told3 (given t) (here t) walk.Post Inv μ) → c .before .before .before .before .loop .t .loops + 1 + loopCount (blockAt (rowsOf (now (c .before .before .before .before .before .args .rows))) (c .before .before .before .before .before .args .count) (c .before .before .before .before .loop .i + 1)) ≤ 16
+room-0 t c = loop-room _ _ _ _ _ (c .before .before .before .before .loop .inv .1) (c .before .before .before .loop-test .taken) (c .before .before .before .before .before .pre .1 .ready .built) (loop-0 t c) (c .before .before .before .before .before .pre .1 .room)
 
-inside-1 : (t : ℕ) (c : lts.After-inside (given t) (here t) walk.Post Inv μ) → let s = c .before .before .before .before .before .before .before .before .before .before .before .before .before .before .before .before .before .before .before .args in let i = c .before .before .before .before .before .before .before .before .before .before .before .before .before .before .before .before .before .before .loop .i in let k = kindAt (rowsOf (now (s .rows))) i in let b = bodyAt (rowsOf (now (s .rows))) (s .count) i in
-    envOf (c .inside .last .0) ≡ inside (formOf k) (atStart (formOf k) (testOf k) (envOf (c .before .before .before .before .before .before .before .before .before .before .before .before .before .before .before .before .before .before .loop .r))) (testOf k) b
+loop-1 : (t : ℕ) (c : lts.After-enter-loop (given t) (here t) walk.Post Inv μ) → LoopIs (rowsOf (now (c .before .before .before .before .before .before .before .before .args .rows))) (c .before .before .before .before .before .before .before .before .args .count) (headOf (kindAt (rowsOf (now (c .before .before .before .before .before .before .before .before .args .rows))) (c .before .before .before .before .before .before .before .loop .i))) (c .before .before .before .before .before .before .before .loop .i) (c .enter-loop .result .one .next)
+loop-1 t c = loop-at _ _ _ (c .before .before .before .before .before .before .loop-test .taken) (c .before .before .before .before .before .before .before .before .pre .1 .ready .built) (sym (c .before .before .before .before .before .shape-at .ensures) ∙ c .before .before .before .enum-told3 .given .1) (c .enter-loop .ensures .one .ends .place)
+
+entry : (t : ℕ) (c : lts.Else3 (given t) (here t) walk.Post Inv μ) → Entry (c .before .before .before .before .before .before .before .before .before .before .before .loop .i) (c .before .before .before .before .before .before .before .before .before .before .before .before .args .outer) (kindAt (rowsOf (now (c .before .before .before .before .before .before .before .before .before .before .before .before .args .rows))) (c .before .before .before .before .before .before .before .before .before .before .before .loop .i)) (tripAt (rowsOf (now (c .before .before .before .before .before .before .before .before .before .before .before .before .args .rows))) (c .before .before .before .before .before .before .before .before .before .before .before .before .args .count) (c .before .before .before .before .before .before .before .before .before .before .before .loop .i) (envOf (c .before .before .before .before .before .before .before .before .before .before .before .loop .r))) (withLines (c .before .before .before .before .before .before .before .before .before .before .before .loop .t) (c .before .before .before .before .before .before .before .before .before .before .before .loop .lines)) (c .before .before .before .before .enter-loop .result) (withLines (c .before .before .before .before .enter-loop .result .first) (c .before .before .before .before .enter-loop .last .1 .1 .1 .1 .0))
+entry t c = c .before .before .before .before .enter-loop .ensures .whole (c .if3 .left)
+
+inside-1 : (t : ℕ) (c : lts.After-inside (given t) (here t) walk.Post Inv μ) → envOf (c .inside .last .0) ≡ inside (formOf (kindAt (rowsOf (now (c .before .before .before .before .before .before .before .before .before .before .before .before .before .before .args .rows))) (c .before .before .before .before .before .before .before .before .before .before .before .before .before .loop .i))) (startAt (rowsOf (now (c .before .before .before .before .before .before .before .before .before .before .before .before .before .before .args .rows))) (c .before .before .before .before .before .before .before .before .before .before .before .before .before .loop .i) (envOf (c .before .before .before .before .before .before .before .before .before .before .before .before .before .loop .r))) (testOf (kindAt (rowsOf (now (c .before .before .before .before .before .before .before .before .before .before .before .before .before .before .args .rows))) (c .before .before .before .before .before .before .before .before .before .before .before .before .before .loop .i))) (bodyAt (rowsOf (now (c .before .before .before .before .before .before .before .before .before .before .before .before .before .before .args .rows))) (c .before .before .before .before .before .before .before .before .before .before .before .before .before .before .args .count) (c .before .before .before .before .before .before .before .before .before .before .before .before .before .loop .i))
 inside-1 t c =
-    let s = c .before .before .before .before .before .before .before .before .before .before .before .before .before .before .before .before .before .before .before .args in
-    let i = c .before .before .before .before .before .before .before .before .before .before .before .before .before .before .before .before .before .before .loop .i in
-    let ρ = envOf (c .before .before .before .before .before .before .before .before .before .before .before .before .before .before .before .before .before .before .loop .r) in
-    let k = c .before .before .before .before .before .before .before .before .before .before .before .before .before .kind-at .result in
-    let b = bodyAt (rowsOf (now (s .rows))) (s .count) i in
-    c .inside .ensures .value b (c .before .before .before .before .before .before .before .before .before .one-loop .ensures .sets) .value ∙ ap (λ ρ. inside (formOf k) ρ (testOf k) b) (c .before .before .before .before .before .before .before .before .before .before .before .at-start .ensures .value) ∙ ap (λ d. inside (formOf d) (atStart (formOf d) (testOf d) ρ) (testOf d) b) (c .before .before .before .before .before .before .before .before .before .before .before .before .before .kind-at .ensures)
+    let one = c .before .before .before .before .before .before .enter-loop .result .one in
+    c .inside .ensures .value ∙ ap (widened one (innerOf (tripOf (one .trip)))) (c .before .before .before .before .before .before .enter-loop .ensures .begun .value) ∙ inside-is (c .before .before .before .before .before .before .enter-loop .ensures .one)
 
-passed-3 : (t : ℕ) (c : lts.Else4 (given t) (here t) walk.Post Inv μ) → let s = c .before .before .before .before .before .before .before .before .before .before .before .before .before .before .before .before .before .before .before .before .before .before .before .args in Passed (rowsOf (now (s .rows))) (s .count) (c .before .before .before .before .before .before .before .before .before .before .before .before .before .before .before .before .before .before .before .before .before .before .loop .i + 1) (envOf (c .before .before .before .before .inside .last .0)) (c .before .before .before .before .before .before .before .before .before .times .result) (withLines (c .before .before .before .before .before .before .lined .result) (c .before .before .before .before .before .before .lined .last .0)) (withLines (c .before .before .walk3 .result) (c .before .before .walk3 .last .1 .1 .1 .1 .1 .0))
+passed-3 : (t : ℕ) (c : lts.Else4 (given t) (here t) walk.Post Inv μ) → Passed (rowsOf (now (c .before .before .before .before .before .before .before .before .before .before .before .before .before .before .before .before .before .before .args .rows))) (c .before .before .before .before .before .before .before .before .before .before .before .before .before .before .before .before .before .before .args .count) (c .before .before .before .before .before .before .before .before .before .before .before .before .before .before .before .before .before .loop .i + 1) (envOf (c .before .before .before .before .inside .last .0)) (c .before .before .before .before .before .before .before .before .before .before .enter-loop .result .total) (withLines (c .before .before .before .before .before .before .before .before .before .before .enter-loop .result .first) (c .before .before .before .before .before .before .before .before .before .before .enter-loop .last .1 .1 .1 .1 .0)) (withLines (c .before .before .walk3 .result) (c .before .before .walk3 .last .1 .1 .1 .1 .1 .0))
 passed-3 t c = c .before .before .walk3 .ensures .whole (c .if4 .left)
+
+part-3 : (t : ℕ) (c : lts.Else4 (given t) (here t) walk.Post Inv μ) → let k = (kindAt (rowsOf (now (c .before .before .before .before .before .before .before .before .before .before .before .before .before .before .before .before .before .before .args .rows))) (c .before .before .before .before .before .before .before .before .before .before .before .before .before .before .before .before .before .loop .i)) in let y = (withLines (c .before .before .before .before .before .before .before .before .before .before .before .before .before .before .before .before .before .loop .t) (c .before .before .before .before .before .before .before .before .before .before .before .before .before .before .before .before .before .loop .lines)) in
+    Part (c .before .before .before .before .before .before .before .before .before .before .enter-loop .result .total) (inside (formOf k) (startAt (rowsOf (now (c .before .before .before .before .before .before .before .before .before .before .before .before .before .before .before .before .before .before .args .rows))) (c .before .before .before .before .before .before .before .before .before .before .before .before .before .before .before .before .before .loop .i) (envOf (c .before .before .before .before .before .before .before .before .before .before .before .before .before .before .before .before .before .loop .r))) (testOf k) (bodyAt (rowsOf (now (c .before .before .before .before .before .before .before .before .before .before .before .before .before .before .before .before .before .before .args .rows))) (c .before .before .before .before .before .before .before .before .before .before .before .before .before .before .before .before .before .before .args .count) (c .before .before .before .before .before .before .before .before .before .before .before .before .before .before .before .before .before .loop .i))) (lastTicks k) (overOf (y .over)) (firstLines (y .lines) (y .loops) ++ (lineFor (c .before .before .before .before .before .before .before .before .before .before .before .before .before .before .before .before .before .loop .i) (tripAt (rowsOf (now (c .before .before .before .before .before .before .before .before .before .before .before .before .before .before .before .before .before .before .args .rows))) (c .before .before .before .before .before .before .before .before .before .before .before .before .before .before .before .before .before .before .args .count) (c .before .before .before .before .before .before .before .before .before .before .before .before .before .before .before .before .before .loop .i) (envOf (c .before .before .before .before .before .before .before .before .before .before .before .before .before .before .before .before .before .loop .r))) (c .before .before .before .before .before .before .before .before .before .before .enter-loop .result .turns) (c .before .before .before .before .before .before .before .before .before .before .enter-loop .result .total) ∷ [])) (y .loops + 1) (blockAt (rowsOf (now (c .before .before .before .before .before .before .before .before .before .before .before .before .before .before .before .before .before .before .args .rows))) (c .before .before .before .before .before .before .before .before .before .before .before .before .before .before .before .before .before .before .args .count) (c .before .before .before .before .before .before .before .before .before .before .before .before .before .before .before .before .before .loop .i + 1)) (withLines (c .before .before .walk3 .result) (c .before .before .walk3 .last .1 .1 .1 .1 .1 .0))
+part-3 t c =
+    let k = (kindAt (rowsOf (now (c .before .before .before .before .before .before .before .before .before .before .before .before .before .before .before .before .before .before .args .rows))) (c .before .before .before .before .before .before .before .before .before .before .before .before .before .before .before .before .before .loop .i)) in
+    let y = (withLines (c .before .before .before .before .before .before .before .before .before .before .before .before .before .before .before .before .before .loop .t) (c .before .before .before .before .before .before .before .before .before .before .before .before .before .before .before .before .before .loop .lines)) in
+    let ls = firstLines (y .lines) (y .loops) ++ (lineFor (c .before .before .before .before .before .before .before .before .before .before .before .before .before .before .before .before .before .loop .i) (tripAt (rowsOf (now (c .before .before .before .before .before .before .before .before .before .before .before .before .before .before .before .before .before .before .args .rows))) (c .before .before .before .before .before .before .before .before .before .before .before .before .before .before .before .before .before .before .args .count) (c .before .before .before .before .before .before .before .before .before .before .before .before .before .before .before .before .before .loop .i) (envOf (c .before .before .before .before .before .before .before .before .before .before .before .before .before .before .before .before .before .loop .r))) (c .before .before .before .before .before .before .before .before .before .before .enter-loop .result .turns) (c .before .before .before .before .before .before .before .before .before .before .enter-loop .result .total) ∷ []) in
+    subst (λ ρ. Part (c .before .before .before .before .before .before .before .before .before .before .enter-loop .result .total) ρ (lastTicks k) (overOf (y .over)) ls (y .loops + 1) (blockAt (rowsOf (now (c .before .before .before .before .before .before .before .before .before .before .before .before .before .before .before .before .before .before .args .rows))) (c .before .before .before .before .before .before .before .before .before .before .before .before .before .before .before .before .before .before .args .count) (c .before .before .before .before .before .before .before .before .before .before .before .before .before .before .before .before .before .loop .i + 1)) (withLines (c .before .before .walk3 .result) (c .before .before .walk3 .last .1 .1 .1 .1 .1 .0))) (inside-1 t (c .before .before .before .before))
+    (part-of (lastTicks k) (overOf (y .over)) ls (y .loops + 1) (entry t (c .before .before .before .before .before .before) .lined .value _) (passed-3 t c))
 
 -- ---- the needs
 loop-holds : (t : ℕ) → lts.Need-loop-holds (given t) (here t) walk.Post Inv μ
@@ -148,7 +153,7 @@ returns t c = record {
 }
 
 past-else-requires : (t : ℕ) → lts.Need-past-else-requires (given t) (here t) walk.Post Inv μ
-past-else-requires t c κs = let k = pick-1 t (c) in let f = c .before .before .before .before .before .before .before .before .before .before .pre .1 .ready .few in search needs
+past-else-requires t c κs = let k = pick-1 t c in let f = c .before .before .before .before .before .before .before .before .before .before .pre .1 .ready .few in search needs
 
 walk-requires-2 : (t : ℕ) → lts.Need-walk-requires-2 (given t) (here t) walk.Post Inv μ
 walk-requires-2 t c κs =
@@ -173,119 +178,76 @@ add-after-pick t c = let f = c .before .before .before .before .before .before .
 after-pick-requires : (t : ℕ) → lts.Need-after-pick-requires (given t) (here t) walk.Post Inv μ
 after-pick-requires t c κs = let r = c .before .before .before .before .before .before .before .before .before .before .before .before .before .before .before .before .pre .1 .ready in let u = pick-2 t c in (ready r (search needs), ready r (u .some))
 
-plus-requires-2 : (t : ℕ) → lts.Need-plus-requires-2 (given t) (here t) walk.Post Inv μ
-plus-requires-2 t c κs = (omega arith, omega (arith, c .larger .ensures, passed-1 t (c .before .before .before .before .before .before .before .before) .small, passed-2 t (c .before .before) .small))
-
-closed-requires : (t : ℕ) → lts.Need-closed-requires (given t) (here t) walk.Post Inv μ
-closed-requires t c κs = let u = pick-2 t (c .before .before .before) in let f = c .before .before .before .before .before .before .before .before .before .before .before .before .before .before .before .before .before .before .before .pre .1 .ready .few in (omega arith, c .before .before .before .before .before .before .before .before .before .before .before .before .before .before .before .before .before .before .loop .inv .1 .small, omega (arith, c .plus2 .ensures))
+leave-pick-requires : (t : ℕ) → lts.Need-leave-pick-requires (given t) (here t) walk.Post Inv μ
+leave-pick-requires t c κs = let u = pick-2 t (c .before) in let f = c .before .before .before .before .before .before .before .before .before .before .before .before .before .before .before .before .before .pre .1 .ready .few in (omega arith, c .before .before .before .before .before .before .before .before .before .before .before .before .before .before .before .before .loop .inv .1 .small, passed-1 t (c .before .before .before .before .before .before .before) .small, passed-2 t (c .before) .small)
 
 add-i-2 : (t : ℕ) → lts.Need-add-i-2 (given t) (here t) walk.Post Inv μ
-add-i-2 t c = let k = pick-2 t (c .before .before .before .before) in let f = c .before .before .before .before .before .before .before .before .before .before .before .before .before .before .before .before .before .before .before .before .pre .1 .ready .few in search needs
+add-i-2 t c = let k = pick-2 t (c .before .before .before) in let f = c .before .before .before .before .before .before .before .before .before .before .before .before .before .before .before .before .before .before .before .pre .1 .ready .few in search needs
 
 loop-less-2 : (t : ℕ) → lts.Need-loop-less-2 (given t) (here t) walk.Post Inv μ
-loop-less-2 t c = let k = pick-2 t (c .before .before .before .before) in search needs
+loop-less-2 t c = let k = pick-2 t (c .before .before .before) in search needs
 
 loop-again-2 : (t : ℕ) → lts.Need-loop-again-2 (given t) (here t) walk.Post Inv μ
 loop-again-2 t c = (
   search needs,
-  go-pick _ _ _ _ _ (c .before .before .before .before .before .before .before .before .before .before .before .before .before .before .before .before .before .before .before .loop .inv .1) (c .before .before .before .before .before .before .before .before .before .before .before .before .before .before .before .before .before .before .loop-test .taken) (c .before .before .before .before .before .before .before .before .before .before .before .before .before .before .before .before .before .before .before .before .pre .1 .ready .built) (pick-2 t (c .before .before .before .before)) (part-1 t (c .before .before .before .before .before .before .before .before .before .before)) (part-2 t (c .before .before .before .before))
-      (c .before .plus2 .ensures ∙ ap (λ m. capped (1 + m)) (c .before .before .larger .ensures)) (c .closed .ensures _ _) (c .before .before .before .after-pick .ensures),
+  go-pick _ _ _ _ _ (c .before .before .before .before .before .before .before .before .before .before .before .before .before .before .before .before .before .before .loop .inv .1) (c .before .before .before .before .before .before .before .before .before .before .before .before .before .before .before .before .before .loop-test .taken) (c .before .before .before .before .before .before .before .before .before .before .before .before .before .before .before .before .before .before .before .pre .1 .ready .built) (pick-2 t (c .before .before .before)) (part-1 t (c .before .before .before .before .before .before .before .before .before)) (part-2 t (c .before .before .before)) refl (c .before .leave-pick .ensures _ _) (c .before .before .after-pick .ensures),
 )
 
-at-start-requires : (t : ℕ) → lts.Need-at-start-requires (given t) (here t) walk.Post Inv μ
-at-start-requires t c κs = (rw (c .before .kind-at .ensures) (c .before .before .before .before .before .before .before .pre .1 .ready .fine _ (c .before .before .before .before .before .loop-test .taken)), c .before .before .before .before .before .before .loop .inv .0)
-
-one-loop-requires : (t : ℕ) → lts.Need-one-loop-requires (given t) (here t) walk.Post Inv μ
-one-loop-requires t c κs = record {
-  ready = ready (c .before .before .before .before .before .before .before .before .before .pre .1 .ready) (search needs);
-  inside = c .before .before .before .before .before .before .before .loop-test .taken;
-  loops = sym (c .before .before .before .before .before .before .shape-at .ensures) ∙ c .before .before .before .before .enum-told3 .given .1;
-}
+enter-loop-requires : (t : ℕ) → lts.Need-enter-loop-requires (given t) (here t) walk.Post Inv μ
+enter-loop-requires t c κs = (
+  record { ready = ready (c .before .before .before .before .before .before .before .pre .1 .ready) (search needs); inside = c .before .before .before .before .before .loop-test .taken; loops = sym (c .before .before .before .before .shape-at .ensures) ∙ c .before .before .enum-told3 .given .1 },
+  c .before .before .before .before .before .before .before .pre .1 .times,
+  omega (arith, room-0 t (c .before .before)),
+  c .before .before .before .before .before .before .loop .inv .1 .long,
+  c .before .before .before .before .before .before .loop .inv .0,
+)
 
 returns-3 : (t : ℕ) → lts.Need-returns-3 (given t) (here t) walk.Post Inv μ
-returns-3 t c =
-    let e = c .refused .ensures in
-    record {
-      stopped = λ h. loop-refused _ _ _ _ _ (c .before .before .before .before .before .before .before .before .before .before .before .before .loop .inv .1) (c .before .before .before .before .before .before .before .before .before .before .before .loop-test .taken) (c .before .before .before .before .before .before .before .before .before .before .before .before .before .pre .1 .ready .built) (loop-1 t (c .before .before .before)) _ (c .before .if3 .taken) (one-1 t (c .before .before .before) .verdict) ∙ ap₂ refused (sym (e .0)) (sym (e .1));
-      whole = λ z. absurd (c .before .if3 .taken (sym (e .0) ∙ z));
-    }
-
-times-requires : (t : ℕ) → lts.Need-times-requires (given t) (here t) walk.Post Inv μ
-times-requires t c κs = c .before .before .before .before .before .before .before .before .before .before .before .before .before .pre .1 .times
-
-room-1 : (t : ℕ) (c : lts.After-one-loop (given t) (here t) walk.Post Inv μ) → let s = c .before .before .before .before .before .before .before .before .before .before .args in
-    c .before .before .before .before .before .before .before .before .before .loop .t .loops + 1 + loopCount (blockAt (rowsOf (now (s .rows))) (s .count) (c .before .before .before .before .before .before .before .before .before .loop .i + 1)) ≤ 16
-room-1 t c = loop-room _ _ _ _ _ (c .before .before .before .before .before .before .before .before .before .loop .inv .1) (c .before .before .before .before .before .before .before .before .loop-test .taken) (c .before .before .before .before .before .before .before .before .before .before .pre .1 .ready .built) (loop-1 t c) (c .before .before .before .before .before .before .before .before .before .before .pre .1 .room)
-
-lined-requires : (t : ℕ) → lts.Need-lined-requires (given t) (here t) walk.Post Inv μ
-lined-requires t c κs = (omega (arith, room-1 t (c .before .before .before .before .before .before)), c .before .before .before .before .before .before .before .before .before .before .before .before .before .before .before .loop .inv .1 .long, one-1 t (c .before .before .before .before .before .before) .near)
-
-add-walk-2 : (t : ℕ) → lts.Need-add-walk-2 (given t) (here t) walk.Post Inv μ
-add-walk-2 t c = let f = c .before .before .before .before .before .before .before .before .before .before .before .before .before .before .before .before .before .before .before .pre .1 .ready .few in let l = c .before .before .before .before .before .before .before .before .before .before .before .before .before .before .before .before .before .loop-test .taken in search needs
+returns-3 t c = record {
+  stopped = λ h. loop-refused _ _ _ _ _ (c .before .before .before .before .before .before .before .before .before .before .before .loop .inv .1) (c .before .before .before .before .before .before .before .before .before .before .loop-test .taken) (c .before .before .before .before .before .before .before .before .before .before .before .before .pre .1 .ready .built) (loop-1 t (c .before .before .before .before)) _ _ (c .before .before .before .before .enter-loop .ensures .stopped h);
+  whole = λ z. absurd (c .if3 .taken z);
+}
 
 inside-requires : (t : ℕ) → lts.Need-inside-requires (given t) (here t) walk.Post Inv μ
-inside-requires t c κs = (rw (c .before .before .before .before .before .before .before .before .before .before .before .before .kind-at .ensures) (c .before .before .before .before .before .before .before .before .before .before .before .before .before .before .before .before .before .before .pre .1 .ready .fine _ (c .before .before .before .before .before .before .before .before .before .before .before .before .before .before .before .before .loop-test .taken)), c .before .before .before .before .before .before .before .before .before .before .at-start .ensures .long)
+inside-requires t c κs = (c .before .before .before .before .before .enter-loop .ensures .one .small, c .before .before .before .before .before .enter-loop .ensures .begun .long)
+
+add-walk-2 : (t : ℕ) → lts.Need-add-walk-2 (given t) (here t) walk.Post Inv μ
+add-walk-2 t c = let f = c .before .before .before .before .before .before .before .before .before .before .before .before .before .before .pre .1 .ready .few in let l = c .before .before .before .before .before .before .before .before .before .before .before .before .loop-test .taken in search needs
 
 walk-requires-3 : (t : ℕ) → lts.Need-walk-requires-3 (given t) (here t) walk.Post Inv μ
 walk-requires-3 t c κs =
-    let k = c .before .before .before .before .before .before .before .before .before .before .before .before .before .before .kind-at .result in
-    let w = c .before .before .before .before .before .before .before .before .before .before .before .before .before .before .before .before .before .before .before .loop .inv .1 .walk in
-    let z = c .before .before .before .before .before .before .before .before .before .before .before .before .before .before .before .before .before .before .before .before .pre .0 in
-    let l = c .before .before .before .before .before .before .before .before .before .before .before .before .before .before .before .before .before .before .loop-test .taken in
-    (search needs, lined-walkable (ready (c .before .before .before .before .before .before .before .before .before .before .before .before .before .before .before .before .before .before .before .before .pre .1 .ready) (search needs)) (c .before .before .before .lined .ensures) (omega (arith, c .before .before .before .before .last-ticks .ensures, last-small k)) (omega (arith, c .before .before .before .before .before .before .times .ensures)) (room-1 t (c .before .before .before .before .before .before .before .before .before .before)))
+    let w = c .before .before .before .before .before .before .before .before .before .before .before .before .before .before .loop .inv .1 .walk in
+    let z = c .before .before .before .before .before .before .before .before .before .before .before .before .before .before .before .pre .0 in
+    let l = c .before .before .before .before .before .before .before .before .before .before .before .before .before .loop-test .taken in
+    (search needs, lined-walkable (ready (c .before .before .before .before .before .before .before .before .before .before .before .before .before .before .before .pre .1 .ready) (search needs)) (entry t (c .before .before .before) .lined) (omega (arith, last-small (kindAt (rowsOf (now (c .before .before .before .before .before .before .before .before .before .before .before .before .before .before .before .args .rows))) (c .before .before .before .before .before .before .before .before .before .before .before .before .before .before .loop .i)))) (omega (arith, entry t (c .before .before .before) .total)) (room-0 t (c .before .before .before .before .before .before .before .before .before .before)))
 
 returns-4 : (t : ℕ) → lts.Need-returns-4 (given t) (here t) walk.Post Inv μ
-unfolding answer
-returns-4 t c =
-    let s = c .before .before .before .before .before .before .before .before .before .before .before .before .before .before .before .before .before .before .before .before .before .before .before .args in
-    let i = c .before .before .before .before .before .before .before .before .before .before .before .before .before .before .before .before .before .before .before .before .before .before .loop .i in
-    record {
-      stopped = λ h. body-refused _ _ _ _ _ (c .before .before .before .before .before .before .before .before .before .before .before .before .before .before .before .before .before .before .before .before .before .before .loop .inv .1) (c .before .before .before .before .before .before .before .before .before .before .before .before .before .before .before .before .before .before .before .before .before .loop-test .taken) (c .before .before .before .before .before .before .before .before .before .before .before .before .before .before .before .before .before .before .before .before .before .before .before .pre .1 .ready .built) (loop-1 t (c .before .before .before .before .before .before .before .before .before .before .before .before .before)) _ _
-          (one-1 t (c .before .before .before .before .before .before .before .before .before .before .before .before .before) .verdict ∙ ap (λ n. answer n i) (c .before .before .before .before .before .before .before .before .before .before .before .if3 .left))
-          (sym (ap (λ ρ. loopsVerdict ρ (blockAt (rowsOf (now (s .rows))) (s .count) (i + 1))) (inside-1 t (c .before .before .before .before))) ∙ refused-in (c .before .before .walk3 .ensures) h);
-      whole = λ z. absurd (c .if4 .taken z);
-    }
+returns-4 t c = record {
+  stopped = λ h. body-refused _ _ _ _ _ (c .before .before .before .before .before .before .before .before .before .before .before .before .before .before .before .before .before .loop .inv .1) (c .before .before .before .before .before .before .before .before .before .before .before .before .before .before .before .before .loop-test .taken) (c .before .before .before .before .before .before .before .before .before .before .before .before .before .before .before .before .before .before .pre .1 .ready .built) (loop-1 t (c .before .before .before .before .before .before .before .before .before .before)) _ _ (entry t (c .before .before .before .before .before .before) .verdict)
+      (sym (ap (λ ρ. loopsVerdict ρ (blockAt (rowsOf (now (c .before .before .before .before .before .before .before .before .before .before .before .before .before .before .before .before .before .before .args .rows))) (c .before .before .before .before .before .before .before .before .before .before .before .before .before .before .before .before .before .before .args .count) (c .before .before .before .before .before .before .before .before .before .before .before .before .before .before .before .before .before .loop .i + 1))) (inside-1 t (c .before .before .before .before))) ∙ refused-in (c .before .before .walk3 .ensures) h);
+  whole = λ z. absurd (c .if4 .taken z);
+}
 
-outside-requires : (t : ℕ) → lts.Need-outside-requires (given t) (here t) walk.Post Inv μ
-outside-requires t c κs = (rw (c .before .before .before .before .before .before .before .before .before .before .before .before .before .before .before .before .before .before .kind-at .ensures) (c .before .before .before .before .before .before .before .before .before .before .before .before .before .before .before .before .before .before .before .before .before .before .before .before .pre .1 .ready .fine _ (c .before .before .before .before .before .before .before .before .before .before .before .before .before .before .before .before .before .before .before .before .before .before .loop-test .taken)), c .before .before .before .before .before .before .before .before .before .before .before .before .before .before .before .before .at-start .ensures .long)
-
-loop-ticks-requires : (t : ℕ) → lts.Need-loop-ticks-requires (given t) (here t) walk.Post Inv μ
-loop-ticks-requires t c κs = passed-3 t (c .before .before) .small
-
-closed-requires-2 : (t : ℕ) → lts.Need-closed-requires-2 (given t) (here t) walk.Post Inv μ
-closed-requires-2 t c κs =
-    let u = loop-1 t (c .before .before .before .before .before .before .before .before .before .before .before .before .before .before .before .before) in
-    let f = c .before .before .before .before .before .before .before .before .before .before .before .before .before .before .before .before .before .before .before .before .before .before .before .before .before .before .pre .1 .ready .few in
-    let m = passed-3 t (c .before .before .before) .small in
-    let b = c .before .before .before .before .before .walk3 .result .spent in
-    (omega arith, c .before .before .before .before .before .before .before .before .before .before .before .before .before .before .before .before .before .before .before .before .before .before .before .before .before .loop .inv .1 .small, omega (arith, c .loop-ticks .ensures b (omega arith)))
+leave-loop-requires : (t : ℕ) → lts.Need-leave-loop-requires (given t) (here t) walk.Post Inv μ
+leave-loop-requires t c κs =
+    let u = loop-1 t (c .before .before .before .before .before .before .before .before .before .before .before) in
+    let f = c .before .before .before .before .before .before .before .before .before .before .before .before .before .before .before .before .before .before .before .pre .1 .ready .few in
+    let l = c .before .before .before .before .before .before .before .before .before .before .before .before .before .before .before .before .before .loop-test .taken in
+    (omega arith, c .before .before .before .before .before .before .before .before .before .before .before .enter-loop .ensures .one .small, omega arith, c .before .before .before .before .before .before .before .before .before .before .before .before .before .before .before .before .before .before .loop .inv .1 .small, passed-3 t (c .before) .small, c .before .before .before .before .before .before .before .before .before .before .before .enter-loop .ensures .begun .long)
 
 add-i-3 : (t : ℕ) → lts.Need-add-i-3 (given t) (here t) walk.Post Inv μ
-add-i-3 t c = let k = loop-1 t (c .before .before .before .before .before .before .before .before .before .before .before .before .before .before .before .before .before) in let f = c .before .before .before .before .before .before .before .before .before .before .before .before .before .before .before .before .before .before .before .before .before .before .before .before .before .before .before .pre .1 .ready .few in search needs
+add-i-3 t c = let k = loop-1 t (c .before .before .before .before .before .before .before .before .before .before .before .before .before) in let f = c .before .before .before .before .before .before .before .before .before .before .before .before .before .before .before .before .before .before .before .before .before .pre .1 .ready .few in search needs
 
 loop-less-3 : (t : ℕ) → lts.Need-loop-less-3 (given t) (here t) walk.Post Inv μ
-loop-less-3 t c = let k = loop-1 t (c .before .before .before .before .before .before .before .before .before .before .before .before .before .before .before .before .before) in search needs
+loop-less-3 t c = let k = loop-1 t (c .before .before .before .before .before .before .before .before .before .before .before .before .before) in search needs
 
 loop-again-3 : (t : ℕ) → lts.Need-loop-again-3 (given t) (here t) walk.Post Inv μ
 loop-again-3 t c =
-    let s = c .before .before .before .before .before .before .before .before .before .before .before .before .before .before .before .before .before .before .before .before .before .before .before .before .before .before .before .args in
-    let i = c .before .before .before .before .before .before .before .before .before .before .before .before .before .before .before .before .before .before .before .before .before .before .before .before .before .before .loop .i in
-    let y = withLines (c .before .before .before .before .before .before .before .before .before .before .before .before .before .before .before .before .before .before .before .before .before .before .before .before .before .before .loop .t) (c .before .before .before .before .before .before .before .before .before .before .before .before .before .before .before .before .before .before .before .before .before .before .before .before .before .before .loop .lines) in
-    let k = kindAt (rowsOf (now (s .rows))) i in
-    let body = bodyAt (rowsOf (now (s .rows))) (s .count) i in
-    let one = c .before .before .before .before .before .before .before .before .before .before .before .before .before .before .before .before .before .one-loop .result in
-    let total = c .before .before .before .before .before .before .before .before .before .before .before .before .before .times .result in
-    let o = c .before .before .before .before .before .before .before .before .before .before .before .before .before .before .before .before .before .one-loop .ensures in
-    let ls = firstLines (y .lines) (y .loops) ++ (record { row = i; step = one .step; turns = one .turns; total = total; exact = one .exact } ∷ []) in
-    let x = c .before .before .outside .ensures .value body (o .sets) (o .moves ∙ ap (λ d. step (testOf d .tested) body) (sym (c .before .before .before .before .before .before .before .before .before .before .before .before .before .before .before .before .before .before .before .before .before .kind-at .ensures))) in
-    let α : envOf (c .before .before .outside .last .0) ≡ outside (atStart (formOf k) (testOf k) (envOf (c .before .before .before .before .before .before .before .before .before .before .before .before .before .before .before .before .before .before .before .before .before .before .before .before .before .before .loop .r))) (testOf k) body =
-    x .value ∙ ap (λ ρ. outside ρ (testOf (c .before .before .before .before .before .before .before .before .before .before .before .before .before .before .before .before .before .before .before .before .before .kind-at .result)) body) (c .before .before .before .before .before .before .before .before .before .before .before .before .before .before .before .before .before .before .before .at-start .ensures .value) ∙ ap (λ d. outside (atStart (formOf d) (testOf d) (envOf (c .before .before .before .before .before .before .before .before .before .before .before .before .before .before .before .before .before .before .before .before .before .before .before .before .before .before .loop .r))) (testOf d) body) (c .before .before .before .before .before .before .before .before .before .before .before .before .before .before .before .before .before .before .before .before .before .kind-at .ensures) in
-    let part : Part total (envOf (c .before .before .before .before .before .before .before .before .inside .last .0)) (lastTicks k) (overOf (y .over)) ls (y .loops + 1) (blockAt (rowsOf (now (s .rows))) (s .count) (i + 1)) (withLines (c .before .before .before .before .before .before .walk3 .result) (c .before .before .before .before .before .before .walk3 .last .1 .1 .1 .1 .1 .0)) =
-    part-of (lastTicks k) (overOf (y .over)) ls (y .loops + 1) (c .before .before .before .before .before .before .before .before .before .before .lined .ensures .value _ ∙ ap (λ n. from-parts (envOf (c .before .before .before .before .before .before .before .before .inside .last .0)) n (overOf (y .over)) ls (y .loops + 1)) (c .before .before .before .before .before .before .before .before .before .before .before .last-ticks .ensures ∙ ap lastTicks (c .before .before .before .before .before .before .before .before .before .before .before .before .before .before .before .before .before .before .before .before .before .kind-at .ensures))) (passed-3 t (c .before .before .before .before)) in (
-      x .long,
-      go-loop _ _ _ _ _ (c .before .before .before .before .before .before .before .before .before .before .before .before .before .before .before .before .before .before .before .before .before .before .before .before .before .before .loop .inv .1) (c .before .before .before .before .before .before .before .before .before .before .before .before .before .before .before .before .before .before .before .before .before .before .before .before .before .loop-test .taken) (c .before .before .before .before .before .before .before .before .before .before .before .before .before .before .before .before .before .before .before .before .before .before .before .before .before .before .before .pre .1 .ready .built) (loop-1 t (c .before .before .before .before .before .before .before .before .before .before .before .before .before .before .before .before .before)) (one-1 t (c .before .before .before .before .before .before .before .before .before .before .before .before .before .before .before .before .before)) (c .before .before .before .before .before .before .before .before .before .before .before .before .before .before .before .if3 .left) (c .before .before .before .before .before .before .before .before .before .before .before .before .before .times .ensures)
-          (subst (λ ρ. Part total ρ (lastTicks k) (overOf (y .over)) ls (y .loops + 1) (blockAt (rowsOf (now (s .rows))) (s .count) (i + 1)) (withLines (c .before .before .before .before .before .before .walk3 .result) (c .before .before .before .before .before .before .walk3 .last .1 .1 .1 .1 .1 .0))) (inside-1 t (c .before .before .before .before .before .before .before .before)) part)
-          (rw (c .before .before .before .before .before .before .before .before .before .before .before .before .before .before .before .before .before .before .before .before .before .kind-at .ensures) at (c .before .loop-ticks .ensures)) (c .closed2 .ensures _ _) α,
+    let one = c .before .before .before .before .before .before .before .before .before .before .before .before .before .enter-loop .result .one in
+    let left = c .before .leave-loop .ensures in (
+      left .env .long,
+      go-loop _ _ _ _ _ (c .before .before .before .before .before .before .before .before .before .before .before .before .before .before .before .before .before .before .before .before .loop .inv .1) (c .before .before .before .before .before .before .before .before .before .before .before .before .before .before .before .before .before .before .before .loop-test .taken) (c .before .before .before .before .before .before .before .before .before .before .before .before .before .before .before .before .before .before .before .before .before .pre .1 .ready .built) (loop-1 t (c .before .before .before .before .before .before .before .before .before .before .before .before .before)) (entry t (c .before .before .before .before .before .before .before .before .before)) (part-3 t (c .before .before .before)) (λ G h. left .closed G h _ _)
+          (left .env .value ∙ ap (widened one (outerOf (tripOf (one .trip)))) (c .before .before .before .before .before .before .before .before .before .before .before .before .before .enter-loop .ensures .begun .value) ∙ outside-is (c .before .before .before .before .before .before .before .before .before .before .before .before .before .enter-loop .ensures .one)),
     )
 
 returns-5 : (t : ℕ) → lts.Need-returns-5 (given t) (here t) walk.Post Inv μ
@@ -331,28 +293,18 @@ pub +walk-spec : {M : Type 1} → statement M
     (returns-2 t)
     (add-after-pick t)
     (after-pick-requires t)
-    (λ c κs. search needs)
-    (plus-requires-2 t)
-    (closed-requires t)
+    (leave-pick-requires t)
     (add-i-2 t)
     (loop-less-2 t)
     (loop-again-2 t)
     (λ c. search needs)
-    (λ c κs. search needs)
-    (at-start-requires t)
-    (one-loop-requires t)
-    (λ c κs. search needs)
+    (enter-loop-requires t)
     (returns-3 t)
-    (times-requires t)
-    (λ c κs. search needs)
-    (lined-requires t)
     (inside-requires t)
     (add-walk-2 t)
     (walk-requires-3 t)
     (returns-4 t)
-    (outside-requires t)
-    (loop-ticks-requires t)
-    (closed-requires-2 t)
+    (leave-loop-requires t)
     (add-i-3 t)
     (loop-less-3 t)
     (loop-again-3 t)

@@ -27,9 +27,18 @@ walk-requires c κs =
 returns : tie.Need-returns
 unfolding linesOf overOf
 returns c =
-    let s = c .before .before .before in
+    let s = c .before .before .before .before .before in
     let a = s .args in
-    result (a .ranges) (a .vars) (rowsOf (now (a .rows))) (a .count) (s .pre .0) (s .pre .1) (all s) (s .pre .3) _ (c .before .walk .result) (c .before .walk .last .1 .1 .1 .1 .1 .0) refl (c .before .walk .ensures) (c .first-no .result) (c .first-no .ensures)
+    result (a .ranges) (a .vars) (rowsOf (now (a .rows))) (a .count) (s .pre .0) (s .pre .1) (all s) (s .pre .3) _ (c .before .before .before .walk .result) (c .before .before .before .walk .last .1 .1 .1 .1 .1 .0) refl (c .before .before .before .walk .ensures) (c .before .before .first-no .result) (c .before .before .first-no .ensures)
+    _ (λ z. absurd (c .if1 .taken z)) _ (λ z. absurd (c .if1 .taken z)) (λ _. (refl, refl))
+
+returns-2 : tie.Need-returns-2
+unfolding linesOf overOf
+returns-2 c =
+    let s = c .before .before .before .before .before in
+    let a = s .args in
+    result (a .ranges) (a .vars) (rowsOf (now (a .rows))) (a .count) (s .pre .0) (s .pre .1) (all s) (s .pre .3) _ (c .before .before .before .walk .result) (c .before .before .before .walk .last .1 .1 .1 .1 .1 .0) refl (c .before .before .before .walk .ensures) (c .before .before .first-no .result) (c .before .before .first-no .ensures)
+    _ (λ _. refl) _ (λ _. refl) (λ h. absurd (h (c .if1 .left)))
 
 pub survey-spec : {M : Type 1} → statement M
-survey-spec = tie.close (tie.spec walk-requires (λ c κs. search needs) returns)
+survey-spec = tie.close (tie.spec walk-requires (λ c κs. search needs) returns returns-2)

@@ -1,10 +1,10 @@
-use Rattle.table.specs.Code.{kindIn}
+use Rattle.table.specs.Code.{kindBy, kindIn}
 use borrow.Author.Needs.{needs}
 use Rattle.table.proofs.bare_row.Statement.{statement}
 use Rattle.table.proofs.bare_row.Tie as tie
 
 returns : tie.Need-returns
-unfolding kindIn
+unfolding kindBy kindIn
 returns c = ((λ e. rw e), (λ e. rw e), (λ e. rw e))
 
 pub bare-row-spec : {M : Type 1} → statement M

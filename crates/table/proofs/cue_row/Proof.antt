@@ -1,10 +1,10 @@
-use Rattle.table.specs.Code.{kindIn}
+use Rattle.table.specs.Code.{kindBy, kindIn}
 use borrow.Author.Needs.{needs}
 use Rattle.table.proofs.cue_row.Statement.{statement}
 use Rattle.table.proofs.cue_row.Tie as tie
 
 returns : tie.Need-returns
-unfolding kindIn
+unfolding kindBy kindIn
 returns c = search needs
 
 pub cue-row-spec : {M : Type 1} → statement M

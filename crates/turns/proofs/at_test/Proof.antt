@@ -1,14 +1,17 @@
 -- `turns::at_test` meets its contract.
 use borrow.Author.Needs.{needs}
-use Rattle.turns.proofs.Moves.{do-start, other-start, whole-begun}
+use Rattle.rules.specs.Turns.{atTest}
+use Rattle.turns.proofs.Moves.{whole-begun}
 use Rattle.turns.proofs.at_test.Statement.{statement}
 use Rattle.turns.proofs.at_test.Tie as tie
 
 returns : tie.Need-returns
-returns c = (λ form q. do-start form _ _ _ (c .before .if1 .taken) q (c .moved .ensures .0), c .moved .ensures .1)
+unfolding atTest
+returns c = (rw (c .before .if1 .taken) (c .moved .ensures .0), c .moved .ensures .1)
 
 returns-2 : tie.Need-returns-2
-returns-2 c = (λ form q. other-start form _ _ _ (c .before .if1 .left) q (c .whole .ensures .0), whole-begun (c .before .before .args .step) (c .whole .result) (c .whole .ensures .1) (c .whole .ensures .2))
+unfolding atTest
+returns-2 c = (rw (c .before .if1 .left) (c .whole .ensures .0), whole-begun (c .before .before .args .step) (c .whole .result) (c .whole .ensures .1) (c .whole .ensures .2))
 
 pub at-test-spec : {M : Type 1} → statement M
 at-test-spec =

@@ -4,7 +4,7 @@ use borrow.Author.Needs.{sfits-of}
 use mir.Syntax.{w64}
 use mir.Val.{SFits}
 use Rattle.ints.proofs.Parts.{eq-test}
-use Rattle.rules.specs.Figures.{even}
+use Rattle.rules.specs.Steps.{even}
 use Rattle.turns.proofs.even.Statement.{statement}
 use Rattle.turns.proofs.even.Tie as tie
 

@@ -5,21 +5,10 @@ use Rattle.turns.proofs.exact.Statement.{statement}
 use Rattle.turns.proofs.exact.Tie as tie
 
 returns : tie.Need-returns
-returns c = rw (sym (c .before .before .before .before .even .ensures) ∙ c .before .before .before .if1 .taken, sym (c .before .before .single .ensures) ∙ c .before .if2 .taken) (c .single2 .ensures)
+returns c = rw (sym (c .before .even .ensures) ∙ c .if1 .taken)
 
 returns-2 : tie.Need-returns-2
-returns-2 c = rw (sym (c .before .before .before .even .ensures) ∙ c .before .before .if1 .taken, sym (c .before .single .ensures) ∙ c .if2 .left)
-
-returns-3 : tie.Need-returns-3
-returns-3 c = rw (sym (c .before .even .ensures) ∙ c .if1 .left)
+returns-2 c = rw (sym (c .before .even .ensures) ∙ c .if1 .left, c .if1 .left)
 
 pub exact-spec : {M : Type 1} → statement M
-exact-spec =
-    tie.close
-    (tie.spec
-    (λ c κs. search needs)
-    (λ c κs. search needs)
-    (λ c κs. search needs)
-    returns
-    returns-2
-    returns-3)
+exact-spec = tie.close (tie.spec (λ c κs. search needs) returns returns-2)

@@ -1,15 +1,14 @@
 -- `turns::moved` meets its contract.
-use borrow.Author.Needs.{needs}
+use borrow.Author.Needs.{needs, sfits-of}
 use mathlib.Core.Path.{refl}
 use Prim.Native.Nat.{_≤_}
 use native.Mathlib.Omega.{arith}
 use borrow.Author.Tests.{leb-true}
-use mir.Syntax.{w32}
+use mir.Syntax.{w32, w64}
 use mir.Val.{SFits}
 use mir.Facts.{toZ-ofZ}
-use Rattle.rules.specs.Steps.{cap}
+use Rattle.rules.specs.Steps.{cap, moving}
 use Rattle.rules.specs.Turns.{moved}
-use Rattle.rules.specs.Questions.{moving}
 use Rattle.turns.proofs.Small.{Small, small, Summed, summed, Scaled, scaled}
 use Rattle.turns.proofs.moved.Statement.{statement}
 use Rattle.turns.proofs.moved.Tie as tie
@@ -55,24 +54,24 @@ cast-t14 c = let k = grown c in search needs
 mul-t15 : tie.Need-mul-t15
 mul-t15 c = let l = high (c .before .before .before) in let k = grown c .1 in simp (toZ-ofZ (l .a32), toZ-ofZ (l .a64), toZ-ofZ (k .f64)) (k .product)
 
-shrunk : (c : tie.After-known-told3) → Scaled (c .before .before .before .before .before .before .before .args .s .lo) (c .before .step3 .given .0 .0) × Scaled (c .before .before .before .before .before .before .before .args .s .hi) (c .before .step3 .given .0 .0) × (2 ≤ c .before .step3 .given .0 .0)
+shrunk : (c : tie.After-known-told3) → Scaled (c .before .before .before .before .before .before .before .args .s .lo) (c .before .step3 .given .0 .0) × Scaled (c .before .before .before .before .before .before .before .args .s .hi) (c .before .step3 .given .0 .0) × (2 ≤ c .before .step3 .given .0 .0) × (c .before .step3 .given .0 .0 ≤ 2_000_000_001)
 unfolding cap moving
 shrunk c =
     let e = rw (c .before .step3 .given .1) at (c .before .before .before .before .before .before .before .pre .0) in
     let m = rw (c .before .step3 .given .1) at (c .before .before .before .before .before .before .before .pre .1) in
-    (scaled _ _ (low (c .before .before .before) .a32) (e .first), scaled _ _ (high (c .before .before .before) .a32) (e .first), leb-true _ _ m)
+    (scaled _ _ (low (c .before .before .before) .a32) (e .first), scaled _ _ (high (c .before .before .before) .a32) (e .first), leb-true _ _ m, e .first)
 
-cast-t16 : tie.Need-cast-t16
-cast-t16 c = let k = shrunk c in search needs
+cast-quotient-of : tie.Need-cast-quotient-of
+cast-quotient-of c = let k = shrunk c in let h = k .3 in search needs
 
-div-t17 : tie.Need-div-t17
-div-t17 c = let l = low (c .before .before .before) in let k = shrunk c in (omega (arith, k .2), simp (toZ-ofZ (l .a32), toZ-ofZ (l .a64), toZ-ofZ (k .0 .f64)) (k .0 .quotient))
+quotient-of-requires : tie.Need-quotient-of-requires
+quotient-of-requires c κs = let k = shrunk (c .before) in omega (arith, k .2)
 
-cast-t18 : tie.Need-cast-t18
-cast-t18 c = let k = shrunk c in search needs
+cast-quotient-of-2 : tie.Need-cast-quotient-of-2
+cast-quotient-of-2 c = let k = shrunk (c .before .before) in let h = k .3 in search needs
 
-div-t19 : tie.Need-div-t19
-div-t19 c = let l = high (c .before .before .before) in let k = shrunk c in (omega (arith, k .2), simp (toZ-ofZ (l .a32), toZ-ofZ (l .a64), toZ-ofZ (k .1 .f64)) (k .1 .quotient))
+quotient-of-requires-2 : tie.Need-quotient-of-requires-2
+quotient-of-requires-2 c κs = let k = shrunk (c .before .before .before) in omega (arith, k .2)
 
 returns : tie.Need-returns
 unfolding moved
@@ -93,10 +92,14 @@ returns-2 c =
 returns-3 : tie.Need-returns-3
 unfolding moved
 returns-3 c =
-    let l = low (c .before .before .before) in
-    let h = high (c .before .before .before) in
-    let k = shrunk c in
-    rw (c .before .step3 .given .1) (simp (toZ-ofZ (l .a32), toZ-ofZ (h .a32), toZ-ofZ (l .a64), toZ-ofZ (h .a64), toZ-ofZ (k .0 .f64), toZ-ofZ (k .0 .quotient), toZ-ofZ (k .1 .quotient)) (refl, k .1 .near))
+    let l = low (c .before .before .before .before .before .before .before) in
+    let h = high (c .before .before .before .before .before .before .before) in
+    let k = shrunk (c .before .before .before .before) in
+    let p : SFits w64 (c .before .before .quotient-of .result) = sfits-of (c .before .before .quotient-of .ok) in
+    let q : SFits w64 (c .quotient-of2 .result) = sfits-of (c .quotient-of2 .ok) in
+    let a = simp (toZ-ofZ (l .a32)) at (c .before .before .quotient-of .ensures) in
+    let b = simp (toZ-ofZ (h .a32)) at (c .quotient-of2 .ensures) in
+    rw (c .before .before .before .before .before .step3 .given .1) (simp (toZ-ofZ p, toZ-ofZ q) (simp (a, b) (refl, k .1 .near)))
 
 returns-4 : tie.Need-returns-4
 unfolding moved
@@ -120,10 +123,10 @@ moved-spec =
     cast-t14
     mul-t15
     (λ c. search needs)
-    cast-t16
-    div-t17
-    cast-t18
-    div-t19
+    cast-quotient-of
+    quotient-of-requires
+    cast-quotient-of-2
+    quotient-of-requires-2
     (λ c. search needs)
     returns
     returns-2

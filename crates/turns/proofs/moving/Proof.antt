@@ -4,7 +4,7 @@ use borrow.Author.Needs.{sfits-of}
 use mir.Syntax.{w64}
 use mir.Val.{SFits}
 use mir.Facts.{toZ-ofZ}
-use Rattle.rules.specs.Questions.{moving}
+use Rattle.rules.specs.Steps.{moving}
 use Rattle.turns.proofs.moving.Statement.{statement}
 use Rattle.turns.proofs.moving.Tie as tie
 

@@ -1,12 +1,13 @@
 -- `script::rehearse_file` is safe: the values kept lie in the store. Assumes nothing.
 use mathlib.Core.Path.{sym}
 use lib.Seq.{length-take-le}
+use native.Mathlib.Omega.{arith}
 use borrow.Author.Needs.{needs}
 use Rattle.desk.proofs.script.rehearse_file.Statement.{statement}
 use Rattle.desk.proofs.script.rehearse_file.Tie as tie
 
 slice-aggregate-run-allowed : tie.Need-slice-aggregate-run-allowed
-slice-aggregate-run-allowed c = sym (length-take-le _ _ (c .before .least .ensures .1))
+slice-aggregate-run-allowed c = sym (length-take-le _ _ (omega (arith, c .before .least .ensures)))
 
 pub rehearse-file-spec : {M : Type 1} → statement M
 rehearse-file-spec =

@@ -1,0 +1,191 @@
+-- A loop as a course of stores: what its tests see of a trip, turn by turn. On stores only; the runs are in Ranges and Main.
+use mathlib.Core.Path.{_≡_, refl, sym, ap, subst}
+use mathlib.Core.Bool.{Bool, true, false, not, cond, _&&_}
+use Prim.Native.Nat.{ℕ, zero, suc, _≤_, _<_}
+use native.Mathlib.Omega.{arith}
+use lib.Dec.{T}
+use lib.IntN.{ℤ}
+use Rattle.ints.proofs.Diffs.{of, _≼_, cond-elim, both, max-ge, min-le}
+use Rattle.rules.specs.declared.Operand.{Operand}
+use Rattle.rules.specs.declared.Operand.the-variants.{Constant, Variable}
+use Rattle.rules.specs.declared.Comparison.{Comparison}
+use Rattle.rules.specs.declared.Comparison.the-variants.{Less, AtMost, Greater, AtLeast, Equal, Different}
+use Rattle.rules.specs.Values.{Store, value, compares}
+use Rattle.rules.specs.Blocks.{Test, Form, while, do-while, for, Block}
+use Rattle.rules.specs.Steps.{assigns, step, even}
+use Rattle.rules.specs.Ranges.{Range, Env, full, single, bounds, Sort, rising, falling, same, differ, sort, isDo, insideRange, outsideRange}
+use Rattle.rules.specs.Trips.{Lead, nothing, untested, Trip, edgeOf, firstOf, led, turnsOf, isExact, innerOf, outerOf, keeps, ownTrip, trip}
+use Rattle.rules.specs.Run.{holds}
+use Rattle.rules.proofs.Steps.{Moved}
+use Rattle.rules.proofs.Links.{Within, within-full, Inside, Goes, Fit, Tested, Chain, From}
+use Rattle.rules.proofs.Chain.{chain}
+
+abbrev pub In : Env → Store → Type 0
+In ρ f = (w : ℕ) → Within (ρ w) (f w)
+
+-- what a run of the body does to the store
+pub record Turn (body : Block) (g h : Store) : Type 0 where
+  pub frame : (w : ℕ) → T (not (assigns w body)) → h w ≡ g w
+  pub moved : (w : ℕ) → Moved (step w body) (of (g w)) (of (h w))
+
+-- a store at a test, f the one at the loop's start
+pub record At (body : Block) (f g : Store) : Type 0 where
+  pub kept : (w : ℕ) → T (not (assigns w body)) → g w ≡ f w
+  pub limited : (w : ℕ) → Within full (g w)
+
+-- R k g: g may be the store at a test with k turns done; n: the figure; mine, after: the tested variable at the body's start and after the loop
+pub record Tests (test : Test) (body : Block) (f : Store) (n : ℕ) (exact : Bool) (mine after : Range) (R : ℕ → Store → Type 0) : Type 0 where
+  pub onward : (k : ℕ) (g h : Store) → At body f g → At body f h → R k g → T (holds test g) → Turn body g h → R (suc k) h
+  pub count : (k : ℕ) (g : Store) → At body f g → R k g → T (holds test g) → k < n
+  pub settle : T exact → (k : ℕ) (g : Store) → At body f g → R k g → T (not (holds test g)) → n ≤ k
+  pub inner : (k : ℕ) (g : Store) → At body f g → R k g → T (holds test g) → Inside mine (g (test .tested))
+  pub outer : (k : ℕ) (g : Store) → At body f g → R k g → Inside after (g (test .tested))
+
+-- at the loop's start: before its first test, or before a do's first turn
+abbrev pub Starts : Form → Test → Block → Store → ℕ → Range → (ℕ → Store → Type 0) → Type 0
+Starts while test body f n mine R = R 0 f
+Starts (for x) test body f n mine R = R 0 f
+Starts do-while test body f n mine R = ((h : Store) → At body f h → Turn body f h → R 1 h) × Inside mine (f (test .tested)) × (1 ≤ n)
+
+pub record Course (form : Form) (test : Test) (body : Block) (f : Store) (n : ℕ) (exact : Bool) (mine after : Range) : Type 1 where
+  pub R : ℕ → Store → Type 0
+  pub begin : Starts form test body f n mine R
+  pub tests : Tests test body f n exact mine after R
+
+-- ---- from a chain of values to the stores: J x g says that x stands for the store g
+abbrev Shown : (ℤ → Store → Type 0) → (ℕ → ℤ → Type 0) → ℕ → Store → Type 0
+Shown J Q k g = (x : ℤ) × J x g × Q k x
+
+-- one turn before the first counted test: `First` holds at a test before it; `never`: that test fails
+abbrev Led : (Store → Type 0) → Bool → (ℕ → Store → Type 0) → ℕ → Store → Type 0
+Led First never R zero g = First g
+Led First never R (suc k) g = T (not never) × R k g
+
+module _ (test : Test) (body : Block) (f : Store) (exact : Bool) (mine after : Range) where
+  module _ {Start : ℤ → Type 0} {Move : ℤ → ℤ → Type 0} {sees : ℤ → Bool} {n : ℕ} (l : Tested Start Move sees n exact) (J : ℤ → Store → Type 0)
+      (same-test : (x : ℤ) (g : Store) → At body f g → J x g → holds test g ≡ sees x)
+      (goes : (x : ℤ) (g h : Store) → At body f g → At body f h → J x g → T (holds test g) → Turn body g h → (y : ℤ) × J y h × Move x y)
+      (inn : (k : ℕ) (x : ℤ) (g : Store) → At body f g → J x g → l .Q k x → T (sees x) → Inside mine (g (test .tested)))
+      (out : (k : ℕ) (x : ℤ) (g : Store) → At body f g → J x g → l .Q k x → Inside after (g (test .tested))) where
+    shown : Tests test body f n exact mine after (Shown J (l .Q))
+    shown = record {
+      onward = λ k g h a b (x, j, q) p t. let (y, i, m) = goes x g h a b j p t in (y, i, l .links .onward k x y q (rw (same-test x g a j) at p) m);
+      count = λ k g a (x, j, q) p. l .links .count k x q (rw (same-test x g a j) at p);
+      settle = λ ex k g a (x, j, q) p. l .links .settle ex k x q (rw (same-test x g a j) at p);
+      inner = λ k g a (x, j, q) p. inn k x g a j q (rw (same-test x g a j) at p);
+      outer = λ k g a (x, j, q). out k x g a j q;
+    }
+
+  module _ {n : ℕ} {R : ℕ → Store → Type 0} (l : Tests test body f n exact mine after R) (First : Store → Type 0) (never : Bool)
+      (goes : (g h : Store) → At body f g → At body f h → First g → T (holds test g) → Turn body g h → R 0 h)
+      (passes : (g : Store) → At body f g → First g → T (holds test g) → T (not never))
+      (fails : T exact → (g : Store) → At body f g → First g → T (not (holds test g)) → T never)
+      (inn : (g : Store) → At body f g → First g → Inside mine (g (test .tested)))
+      (out : (g : Store) → At body f g → First g → Inside after (g (test .tested))) where
+    more : (k : ℕ) → T (not never) → k < n → suc k < cond never 0 (suc n)
+    more k c h = cond-elim (λ m. suc k < m) never 0 (suc n) (λ yes′. absurd (lib.Dec.T-not never c yes′)) (λ _. omega arith)
+
+    led-tests : Tests test body f (cond never 0 (suc n)) exact mine after (Led First never R)
+    led-tests = record { onward = on; count = cnt; settle = set; inner = inr; outer = otr }
+      where
+        on : (k : ℕ) (g h : Store) → At body f g → At body f h → Led First never R k g → T (holds test g) → Turn body g h → Led First never R (suc k) h
+        on zero g h a b q p t = (passes g a q p, goes g h a b q p t)
+        on (suc k) g h a b (c, q) p t = (c, l .onward k g h a b q p t)
+
+        cnt : (k : ℕ) (g : Store) → At body f g → Led First never R k g → T (holds test g) → k < cond never 0 (suc n)
+        cnt zero g a q p = cond-elim (λ m. 0 < m) never 0 (suc n) (λ y. absurd (lib.Dec.T-not never (passes g a q p) y)) (λ _. omega arith)
+        cnt (suc k) g a (c, q) p = more k c (l .count k g a q p)
+
+        set : T exact → (k : ℕ) (g : Store) → At body f g → Led First never R k g → T (not (holds test g)) → cond never 0 (suc n) ≤ k
+        set ex zero g a q p = cond-elim (λ m. m ≤ 0) never 0 (suc n) (λ _. omega arith) (λ c. absurd (lib.Dec.T-not never c (fails ex g a q p)))
+        set ex (suc k) g a (c, q) p = cond-elim (λ m. m ≤ suc k) never 0 (suc n) (λ _. omega arith) (λ _. omega (arith, l .settle ex k g a q p))
+
+        inr : (k : ℕ) (g : Store) → At body f g → Led First never R k g → T (holds test g) → Inside mine (g (test .tested))
+        inr zero g a q p = inn g a q
+        inr (suc k) g a (c, q) p = l .inner k g a q p
+
+        otr : (k : ℕ) (g : Store) → At body f g → Led First never R k g → Inside after (g (test .tested))
+        otr zero g a q = out g a q
+        otr (suc k) g a (c, q) = l .outer k g a q
+
+  -- a loop whose counted tests are all its tests: a do's first turn has none
+  module _ (s : Range) {Move : ℤ → ℤ → Type 0} {sees : ℤ → Bool} {n : ℕ} (J : ℤ → Store → Type 0)
+      (same-test : (x : ℤ) (g : Store) → At body f g → J x g → holds test g ≡ sees x)
+      (goes : (x : ℤ) (g h : Store) → At body f g → At body f h → J x g → Turn body g h → (y : ℤ) × J y h × Move x y)
+      (x : ℤ) (here : J x f) (start : Inside s x) (at : At body f f) where
+    by-form : (form : Form) (l : Tested (From Move s (isDo form)) Move sees n exact)
+        → ((k : ℕ) (x : ℤ) (g : Store) → At body f g → J x g → l .Q k x → T (sees x) → Inside mine (g (test .tested)))
+        → ((k : ℕ) (x : ℤ) (g : Store) → At body f g → J x g → l .Q k x → Inside after (g (test .tested)))
+        → (T (isDo form) → Inside mine (f (test .tested)))
+        → Course form test body f (led (cond (isDo form) untested nothing) n) exact mine after
+    unfolding led
+    by-form while l inn out first = record { R = Shown J (l .Q); begin = (x, here, l .begin x start); tests = shown l J same-test (λ x g h a b j p t. goes x g h a b j t) inn out }
+    by-form (for o) l inn out first = record { R = Shown J (l .Q); begin = (x, here, l .begin x start); tests = shown l J same-test (λ x g h a b j p t. goes x g h a b j t) inn out }
+    by-form do-while l inn out first = record {
+      R = Led (λ _. ⊥) false (Shown J (l .Q));
+      begin = (λ h a t. let (y, j, m) = goes x f h at a here t in (tt, (y, j, l .begin y (x, start, m))), first tt, omega arith);
+      tests = led-tests (shown l J same-test (λ x g h a b j p t. goes x g h a b j t) inn out) (λ _. ⊥) false
+          (λ g h a b c p t. absurd c) (λ g a c p. absurd c) (λ ex g a c p. absurd c) (λ g a c. absurd c) (λ g a c. absurd c);
+    }
+
+-- ---- the trips
+-- questions 8 to 12 have yes
+pub record Good-trip (τ : Trip) : Type 0 where
+  pub fit : Fit (τ .step) (sort (τ .comparison)) (τ .start) (firstOf τ) (τ .limit) (edgeOf τ)
+  pub keep : T (τ .keeps)
+
+abbrev pub CourseOf : Form → Env → Test → Block → Store → Trip → Type 1
+CourseOf form ρ test body f τ = Course form test body f (turnsOf τ) (isExact τ) (innerOf τ) (outerOf τ)
+
+pub operand-in : (ρ : Env) (f : Store) → In ρ f → (x : Operand) → Inside (bounds ρ x) (value x f)
+unfolding value bounds
+operand-in ρ f h (Constant c) = omega arith
+operand-in ρ f h (Variable w) = (h w .low, h w .high)
+
+inside-full : {x : ℤ} → Within full x → Inside full x
+inside-full h = (h .low, h .high)
+
+-- a do's first turn starts in the range
+first-inside : (d : Sort) (s : Range) (e x : ℤ) → Within s x → Inside (insideRange true d s e) x
+unfolding insideRange
+first-inside rising s e x h = omega (arith, h .low, h .high, max-ge (s .hi) e)
+first-inside falling s e x h = omega (arith, h .low, h .high, min-le (s .lo) e)
+first-inside same s e x h = inside-full (within-full h)
+first-inside differ s e x h = inside-full (within-full h)
+
+pub at-start : (ρ : Env) (body : Block) (f : Store) → In ρ f → At body f f
+at-start ρ body f enters = record { kept = λ w _. refl; limited = λ w. within-full (enters w) }
+
+module _ (form : Form) (ρ : Env) (test : Test) (body : Block) (f : Store) (enters : In ρ f) where
+  -- the limit is as at the start
+  limit-same : T (keeps (test .limit) body) → (g : Store) → At body f g → value (test .limit) g ≡ value (test .limit) f
+  unfolding value keeps
+  limit-same keep g a = by (test .limit) keep
+    where
+      by : (o : Operand) → T (keeps o body) → value o g ≡ value o f
+      by (Constant c) h = refl
+      by (Variable w) h = a .kept w h
+
+  own : Good-trip (ownTrip form ρ test body) → CourseOf form ρ test body f (ownTrip form ρ test body)
+  unfolding turnsOf innerOf outerOf
+  own good =
+      let v = test .tested in
+      let τ = ownTrip form ρ test body in
+      let ch = chain (isDo form) (τ .step) (τ .comparison) (τ .start) (τ .limit) (value (test .limit) f) (isExact τ) (good .fit) (operand-in ρ f enters (test .limit))
+      (λ ex. let (a, b) = both (even (τ .step)) (τ .sure) ex in let (c, d) = both (single (τ .start)) (single (τ .limit)) b in (a, c, d)) in
+      by-form test body f (isExact τ) _ _ (τ .start) (λ x g. x ≡ g v)
+      (λ x g a e. rw (e, limit-same (good .keep) g a))
+      (λ x g h a b e t. (h v, refl, rw e (inside-full (a .limited v), inside-full (b .limited v), t .moved v)))
+      (f v) refl (enters v .low, enters v .high) (at-start ρ body f enters) form (ch .tested)
+      (λ k x g a e q p. rw (← e) (ch .sees .inner k x (rw e (inside-full (a .limited v))) q p))
+      (λ k x g a e q. rw (← e) (ch .sees .outer k x (rw e (inside-full (a .limited v))) q))
+      (first form)
+    where
+      first : (form : Form) → T (isDo form) → Inside (insideRange (isDo form) (sort (test .comparison)) (ρ (test .tested)) (edgeOf (ownTrip form ρ test body))) (f (test .tested))
+      first while c = absurd c
+      first (for o) c = absurd c
+      first do-while _ = first-inside (sort (test .comparison)) (ρ (test .tested)) _ _ (enters (test .tested))
+
+  -- every loop that the questions pass
+  pub course : Good-trip (trip form ρ test body) → CourseOf form ρ test body f (trip form ρ test body)
+  course good = own good

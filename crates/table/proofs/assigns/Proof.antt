@@ -1,0 +1,31 @@
+-- `table::assigns` meets its contract.
+use denote.Ref.{now}
+use borrow.Author.Needs.{needs}
+use Rattle.rules.specs.Blocks.{viewOf}
+use Rattle.rules.specs.Steps.{sets}
+use Rattle.table.specs.Code.{kindBy}
+use Rattle.table.specs.Shapes.{plainOf}
+use Rattle.table.proofs.Laws.{kind-is, not-assigned}
+use mathlib.Core.Path.{refl, ap}
+use Rattle.table.proofs.assigns.Statement.{statement}
+use Rattle.table.proofs.assigns.Tie as tie
+
+returns : tie.Need-returns
+unfolding kindBy viewOf sets
+returns c = λ w. ap (λ k. sets w (plainOf k)) (kind-is (now (c .before .before .before .args .rows)) (c .before .before .before .args .i) (c .before .before .tag-at .ensures) (c .enum-told .given .1))
+
+returns-2 : tie.Need-returns-2
+unfolding kindBy viewOf sets
+returns-2 c = λ w. ap (λ k. sets w (plainOf k)) (kind-is (now (c .before .before .before .args .rows)) (c .before .before .before .args .i) (c .before .before .tag-at .ensures) (c .enum-told2 .given .1))
+
+returns-3 : tie.Need-returns-3
+unfolding kindBy viewOf sets
+returns-3 c = λ w. ap (λ k. sets w (plainOf k)) (kind-is (now (c .before .before .before .args .rows)) (c .before .before .before .args .i) (c .before .before .tag-at .ensures) (c .enum-told3 .given .1))
+
+returns-4 : tie.Need-returns-4
+returns-4 c = λ w. rw (kind-is _ _ (c .before .tag-at .ensures) refl) (not-assigned _ _ (c .match .keys4) w)
+
+pub assigns-spec : {M : Type 1} → statement M
+assigns-spec =
+    tie.close
+    (tie.spec (λ c κs. search needs) (λ c. search needs) (λ c. search needs) (λ c. search needs) returns returns-2 returns-3 returns-4)

@@ -1,0 +1,52 @@
+-- `trips::loop_at` meets its contract.
+use denote.Ref.{now}
+use mathlib.Core.Path.{sym, ap, subst, _∙_}
+use Rattle.rules.specs.Steps.{step}
+use Rattle.rules.specs.Ranges.{bounds, isDo}
+use Rattle.rules.specs.Bounds.{Ends}
+use Rattle.rules.specs.Trips.{Trip, keeps}
+use Rattle.table.specs.Code.{kindAt, rowsOf}
+use Rattle.steps.specs.Tree.{formOf, testOf}
+use Rattle.steps.specs.Body.{bodyAt}
+use Rattle.trips.specs.Env.{envOf}
+use Rattle.trips.proofs.Filling.{own-is}
+use borrow.Author.Needs.{needs}
+use Rattle.trips.proofs.loop_at.Statement.{statement}
+use Rattle.trips.proofs.loop_at.Tie as tie
+
+head-of-requires : tie.Need-head-of-requires
+head-of-requires c κs = rw (c .kind-at .ensures) (c .before .pre .ready .fine _ (c .before .pre .inside))
+
+returns : tie.Need-returns
+returns c =
+    let a = c .before .before .before .before .before .before .before .before .before .args in
+    let rows = rowsOf (now (a .rows)) in
+    let k = kindAt rows (a .i) in
+    let body = bodyAt rows (a .count) (a .i) in
+    let ρ = envOf (now (a .begun)) in
+    let same = c .before .before .before .before .before .before .before .before .kind-at .ensures in
+    let h = rw same at (c .before .before .before .before .before .before .before .head-of .ensures) in
+    let b = c .before .before .before .before .before .before .body-moves .ensures in
+    record {
+      trip = c .own-trip .ensures ∙ own-is (formOf k) ρ (testOf k) body (c .before .is-do .ensures ∙ ap (λ d. isDo (formOf d)) same) (b .moves ∙ ap (λ v. step v body) (h .tested)) (h .comparison)
+          (c .before .before .before .before .span-at .ensures ∙ ap ρ (h .tested)) (c .before .before .before .bounds .ensures ∙ ap (bounds ρ) (h .limit)) (c .before .before .keeps .ensures body (b .sets) ∙ ap (λ x. keeps x body) (h .limit));
+      tested = h .tested;
+      small = h .small;
+      sets = b .sets;
+      near = subst (Ends 256) (sym (ap (λ (τ : Trip). τ .step) (c .own-trip .ensures))) (b .near);
+      ends = b .ends;
+    }
+
+pub loop-at-spec : {M : Type 1} → statement M
+loop-at-spec =
+    tie.close
+    (tie.spec
+    (λ c κs. search needs)
+    head-of-requires
+    (λ c κs. search needs)
+    (λ c κs. search needs)
+    (λ c κs. search needs)
+    (λ c κs. search needs)
+    (λ c κs. search needs)
+    (λ c κs. search needs)
+    returns)

@@ -1,0 +1,3 @@
+-- What the contracts of the trips cite.
+pub mod Env
+pub mod Found

@@ -1,0 +1,209 @@
+// What is stepped and tested at a loop: its trip, found once from its rows and the ranges at its start.
+use rules::Comparison;
+use rules::Kind;
+use rules::Operand;
+use rules::Step;
+use steps::body_moves;
+use steps::has;
+use table::kind_at;
+ghost use mathlib.Core.Path.{_≡_};
+ghost use mathlib.Core.Bool.{cond};
+ghost use Prim.Native.Nat.{ℕ, _<_};
+ghost use Rattle.rules.specs.Blocks.{Block};
+ghost use Rattle.rules.specs.Steps.{assigns};
+ghost use Rattle.rules.specs.Ranges.{bounds, isDo, single};
+ghost use Rattle.rules.specs.Trips as trips;
+ghost use Rattle.rules.specs.Bounds.{Fine, FineOperand};
+ghost use Rattle.table.specs.Code.{rowsOf};
+ghost use Rattle.steps.specs.Tree.{formOf};
+ghost use Rattle.steps.specs.Sets.{setOf};
+ghost use Rattle.steps.specs.Body.{AtLoop};
+ghost use Rattle.trips.specs.Env.{envOf, rangeOf, HeadOf};
+ghost use Rattle.trips.specs.Found.{leadOf, tripOf, ownFrom, LoopAt};
+
+// A pair of ends.
+pub struct Span {
+    pub lo: i32,
+    pub hi: i32,
+}
+
+// The range of v.
+pub fn span_at(r: &[[i32; 2]; 16], v: u8) -> Span
+    requires { ⌜ v < 16 ⌝ }
+    ensures { λ s. ⌜ rangeOf s ≡ envOf (now (r .entry)) v ⌝ }
+{
+    let i = v as usize;
+    Span {
+        lo: r[i][0],
+        hi: r[i][1],
+    }
+}
+
+// An operand's range.
+pub fn bounds(r: &[[i32; 2]; 16], x: Operand) -> Span
+    requires { ⌜ FineOperand x ⌝ }
+    ensures { λ s. ⌜ rangeOf s ≡ bounds (envOf (now (r .entry))) x ⌝ }
+{
+    match x {
+        Operand::Constant(k) => Span { lo: k, hi: k },
+        Operand::Variable(w) => span_at(r, w),
+    }
+}
+
+fn single(s: Span) -> bool
+    ensures { λ r. ⌜ r ≡ single (rangeOf s) ⌝ }
+{
+    let lo = s.lo;
+    let hi = s.hi;
+    lo == hi
+}
+
+// The test of a loop.
+struct Head {
+    tested: u8,
+    comparison: Comparison,
+    limit: Operand,
+}
+
+// The test of a loop's head; any other row gives what is not read.
+fn head_of(kind: Kind) -> Head
+    requires { ⌜ Fine kind ⌝ }
+    ensures { λ r. ⌜ HeadOf kind r ⌝ }
+{
+    match kind {
+        Kind::While(v, c, x) => Head {
+            tested: v,
+            comparison: c,
+            limit: x,
+        },
+        Kind::Do(v, c, x) => Head {
+            tested: v,
+            comparison: c,
+            limit: x,
+        },
+        Kind::For(v, _, c, x, _) => Head {
+            tested: v,
+            comparison: c,
+            limit: x,
+        },
+        _ => NO_HEAD,
+    }
+}
+
+const NO_HEAD: Head = Head {
+    tested: 0,
+    comparison: Comparison::Less,
+    limit: Operand::Constant(0),
+};
+
+// A do is tested after its body.
+fn is_do(kind: Kind) -> bool
+    ensures { λ r. ⌜ r ≡ isDo (formOf kind) ⌝ }
+{
+    match kind {
+        Kind::Do(_, _, _) => true,
+        _ => false,
+    }
+}
+
+// 10: is the limit a constant or not assigned in the body?
+fn keeps(limit: Operand, set: [bool; 16]) -> bool
+    requires { ⌜ FineOperand limit ⌝ }
+    ensures { λ r. ⌜ ((body : Block) → ((w : ℕ) → setOf set w ≡ assigns w body) → r ≡ trips.keeps limit body) ⌝ }
+{
+    match limit {
+        Operand::Constant(_) => true,
+        Operand::Variable(w) => !has(set, w),
+    }
+}
+
+// What comes before the first counted test: nothing, or a turn that is not tested (a do's).
+pub enum Lead {
+    Nothing,
+    Untested,
+}
+
+fn lead_of(untested: bool) -> Lead
+    ensures { λ r. ⌜ leadOf r ≡ cond untested trips.untested trips.nothing ⌝ }
+{
+    if untested {
+        Lead::Untested
+    } else {
+        Lead::Nothing
+    }
+}
+
+// What is stepped and tested: the step that is read and its comparison, the ranges of its start and its limit; whether the first counted
+// test sees the start moved by one turn, and what comes before that test; whether all starts are single numbers, question 10 has yes,
+// and the tested variable is [-L, L] at the body's start and after the loop.
+pub struct Trip {
+    pub step: Step,
+    pub comparison: Comparison,
+    pub start: Span,
+    pub limit: Span,
+    pub late: bool,
+    pub lead: Lead,
+    pub sure: bool,
+    pub keeps: bool,
+    pub free: bool,
+}
+
+// The tested variable's own step, from its start range to the limit's.
+fn own_trip(
+    untested: bool,
+    step: Step,
+    comparison: Comparison,
+    start: Span,
+    limit: Span,
+    keeps: bool,
+) -> Trip
+    ensures { λ r. ⌜ tripOf r ≡ ownFrom untested step comparison (rangeOf start) (rangeOf limit) keeps ⌝ }
+{
+    let lead = lead_of(untested);
+    let sure = single(start) && single(limit);
+    Trip {
+        step: step,
+        comparison: comparison,
+        start: start,
+        limit: limit,
+        late: untested,
+        lead: lead,
+        sure: sure,
+        keeps: keeps,
+        free: false,
+    }
+}
+
+// A loop: its trip, its tested variable, the variables that its body assigns, and its end.
+pub struct Loop {
+    pub trip: Trip,
+    pub tested: u8,
+    pub set: [bool; 16],
+    pub next: usize,
+}
+
+// The loop at row i, from the ranges at its start.
+pub fn loop_at(rows: &[[u32; 9]; 256], count: usize, i: usize, begun: &[[i32; 2]; 16]) -> Loop
+    requires { ⌜ AtLoop (rowsOf (now rows)) count i ⌝ }
+    ensures { λ r. ⌜ LoopAt (rowsOf (now (rows .entry))) count i (envOf (now (begun .entry))) r ⌝ }
+{
+    let kind = kind_at(rows, i);
+    let head = head_of(kind);
+    let v = head.tested;
+    let comparison = head.comparison;
+    let limit = head.limit;
+    let body = body_moves(rows, count, i, v);
+    let set = body.set;
+    let next = body.next;
+    let step = body.step;
+    let s = span_at(begun, v);
+    let n = bounds(begun, limit);
+    let kept = keeps(limit, set);
+    let trip = own_trip(is_do(kind), step, comparison, s, n, kept);
+    Loop {
+        trip: trip,
+        tested: v,
+        set: set,
+        next: next,
+    }
+}
