@@ -5,7 +5,7 @@ use Prim.Native.Nat.{ℕ, _*_}
 use Rattle.rules.specs.Blocks.{Block, done, plain, pick, loop}
 use Rattle.rules.specs.Ranges.{Env, afterRow, join, atStart}
 use Rattle.rules.specs.Trips.{trip, turns, inside, outside, after}
-use Rattle.rules.specs.Figures.{Line, lines}
+use Rattle.rules.specs.Figures.{lines}
 use Rattle.rules.specs.Questions.{passed, loopsVerdict, verdict}
 use Rattle.rules.specs.Scripts.{Pairwise, no-more, and-then, envOf, treeOf}
 use Rattle.rules.specs.Count.{tripsIn, FiguresCounted, CountedLine, LinesCounted}

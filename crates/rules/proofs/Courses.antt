@@ -1,24 +1,26 @@
 -- A loop as a course of stores: what its tests see of a trip, turn by turn. On stores only; the runs are in Ranges and Main.
-use mathlib.Core.Path.{_≡_, refl, sym, ap, subst}
+use mathlib.Core.Path.{_≡_, refl, sym}
 use mathlib.Core.Bool.{Bool, true, false, not, cond, _&&_}
 use Prim.Native.Nat.{ℕ, zero, suc, _≤_, _<_}
 use native.Mathlib.Omega.{arith}
 use lib.Dec.{T}
 use lib.IntN.{ℤ}
-use Rattle.ints.proofs.Diffs.{of, _≼_, cond-elim, both, max-ge, min-le}
+use Rattle.ints.proofs.Parts.{ltZ-yes!, ltZ-no! }
+use Rattle.ints.proofs.Diffs.{of, eq-yes, tests, cond-elim, both, max-ge, min-le}
 use Rattle.rules.specs.declared.Operand.{Operand}
 use Rattle.rules.specs.declared.Operand.the-variants.{Constant, Variable}
-use Rattle.rules.specs.declared.Comparison.{Comparison}
-use Rattle.rules.specs.declared.Comparison.the-variants.{Less, AtMost, Greater, AtLeast, Equal, Different}
+use Rattle.rules.specs.declared.Step.{Step}
 use Rattle.rules.specs.Values.{Store, value, compares}
 use Rattle.rules.specs.Blocks.{Test, Form, while, do-while, for, Block}
-use Rattle.rules.specs.Steps.{assigns, step, even}
-use Rattle.rules.specs.Ranges.{Range, Env, full, single, bounds, Sort, rising, falling, same, differ, sort, isDo, insideRange, outsideRange}
-use Rattle.rules.specs.Trips.{Lead, nothing, untested, Trip, edgeOf, firstOf, led, turnsOf, isExact, innerOf, outerOf, keeps, ownTrip, trip}
+use Rattle.rules.specs.Steps.{assigns, step, moving, even, isAdd, Sole, other, sole, soleOf}
+use Rattle.rules.specs.Ranges.{Range, Env, full, single, bounds, edge, ordered, Sort, rising, falling, same, differ, sort, isDo, isFor, insideRange}
+use Rattle.rules.specs.Turns.{whileTurns, atTest}
+use Rattle.rules.specs.Trips.{nothing, untested, tries, Trip, misses, edgeOf, firstOf, led, turnsOf, isExact, innerOf, outerOf, keeps, ownTrip, copyTrip, Way, own, copied, copies, soleWay, wayOf, tripBy, trip}
 use Rattle.rules.specs.Run.{holds}
 use Rattle.rules.proofs.Steps.{Moved}
-use Rattle.rules.proofs.Links.{Within, within-full, Inside, Goes, Fit, Tested, Chain, From}
-use Rattle.rules.proofs.Chain.{chain}
+use Rattle.rules.proofs.Sole.{Alone}
+use Rattle.rules.proofs.Links.{Within, within-full, Inside, Fit, Tested, From}
+use Rattle.rules.proofs.Chain.{NotPast, Past, passes, fails, chain, add-chain}
 
 abbrev pub In : Env → Store → Type 0
 In ρ f = (w : ℕ) → Within (ρ w) (f w)
@@ -27,6 +29,7 @@ In ρ f = (w : ℕ) → Within (ρ w) (f w)
 pub record Turn (body : Block) (g h : Store) : Type 0 where
   pub frame : (w : ℕ) → T (not (assigns w body)) → h w ≡ g w
   pub moved : (w : ℕ) → Moved (step w body) (of (g w)) (of (h w))
+  pub alone : (w : ℕ) → Alone w g h (soleOf w body)
 
 -- a store at a test, f the one at the loop's start
 pub record At (body : Block) (f g : Store) : Type 0 where
@@ -113,15 +116,15 @@ module _ (test : Test) (body : Block) (f : Store) (exact : Bool) (mine after : R
       (same-test : (x : ℤ) (g : Store) → At body f g → J x g → holds test g ≡ sees x)
       (goes : (x : ℤ) (g h : Store) → At body f g → At body f h → J x g → Turn body g h → (y : ℤ) × J y h × Move x y)
       (x : ℤ) (here : J x f) (start : Inside s x) (at : At body f f) where
-    by-form : (form : Form) (l : Tested (From Move s (isDo form)) Move sees n exact)
+    by-form : (form : Form) (d : Sort) (e : ℤ) (l : Tested (From Move s (isDo form)) Move sees n exact)
         → ((k : ℕ) (x : ℤ) (g : Store) → At body f g → J x g → l .Q k x → T (sees x) → Inside mine (g (test .tested)))
         → ((k : ℕ) (x : ℤ) (g : Store) → At body f g → J x g → l .Q k x → Inside after (g (test .tested)))
         → (T (isDo form) → Inside mine (f (test .tested)))
-        → Course form test body f (led (cond (isDo form) untested nothing) n) exact mine after
+        → Course form test body f (led (cond (isDo form) untested nothing) d e n) exact mine after
     unfolding led
-    by-form while l inn out first = record { R = Shown J (l .Q); begin = (x, here, l .begin x start); tests = shown l J same-test (λ x g h a b j p t. goes x g h a b j t) inn out }
-    by-form (for o) l inn out first = record { R = Shown J (l .Q); begin = (x, here, l .begin x start); tests = shown l J same-test (λ x g h a b j p t. goes x g h a b j t) inn out }
-    by-form do-while l inn out first = record {
+    by-form while d e l inn out first = record { R = Shown J (l .Q); begin = (x, here, l .begin x start); tests = shown l J same-test (λ x g h a b j p t. goes x g h a b j t) inn out }
+    by-form (for o) d e l inn out first = record { R = Shown J (l .Q); begin = (x, here, l .begin x start); tests = shown l J same-test (λ x g h a b j p t. goes x g h a b j t) inn out }
+    by-form do-while d e l inn out first = record {
       R = Led (λ _. ⊥) false (Shown J (l .Q));
       begin = (λ h a t. let (y, j, m) = goes x f h at a here t in (tt, (y, j, l .begin y (x, start, m))), first tt, omega arith);
       tests = led-tests (shown l J same-test (λ x g h a b j p t. goes x g h a b j t) inn out) (λ _. ⊥) false
@@ -156,6 +159,63 @@ first-inside differ s e x h = inside-full (within-full h)
 pub at-start : (ρ : Env) (body : Block) (f : Store) → In ρ f → At body f f
 at-start ρ body f enters = record { kept = λ w _. refl; limited = λ w. within-full (enters w) }
 
+-- ---- a row that reads w: its value there in the turn from g to h, if w's rows come first (`ahead`) or after it
+abbrev at-row : Bool → ℕ → Store → Store → ℤ
+at-row ahead w g h = cond ahead (h w) (g w)
+
+-- x there, z at the next test
+abbrev Behind : Bool → Step → ℤ → ℤ → Type 0
+Behind true st x z = x ≡ z
+Behind false st x z = Moved st (of x) (of z)
+
+behind-next : (ahead : Bool) (w : ℕ) (body : Block) (g h : Store) → Turn body g h → Behind ahead (step w body) (at-row ahead w g h) (h w)
+behind-next true w body g h t = refl
+behind-next false w body g h t = t .moved w
+
+behind-move : (ahead : Bool) (w : ℕ) (body : Block) (g h : Store) (x : ℤ) → Turn body g h → Behind ahead (step w body) x (g w) → Moved (step w body) (of x) (of (at-row ahead w g h))
+behind-move true w body g h x t e = rw e (t .moved w)
+behind-move false w body g h x t m = m
+
+behind-first : (ahead : Bool) (w : ℕ) (body : Block) (g h : Store) (s : Range) → Within s (g w) → Turn body g h → From (λ x y. Moved (step w body) (of x) (of y)) s ahead (at-row ahead w g h)
+behind-first true w body g h s i t = (g w, (i .low, i .high), t .moved w)
+behind-first false w body g h s i t = (i .low, i .high)
+
+-- the best start, and E
+not-misses : (d : Sort) (s : Range) (e x : ℤ) → Within s x → NotPast d e x → T (not (misses d s e))
+unfolding misses
+not-misses rising s e x h p = rw (ltZ-no! e (s .lo) (omega (arith, h .low))) tt
+not-misses falling s e x h p = rw (ltZ-no! (s .hi) e (omega (arith, h .high))) tt
+not-misses same s e x h p = tt
+not-misses differ s e x h p = tt
+
+all-miss : (d : Sort) → T (ordered d) → (s : Range) (e x : ℤ) → Within s x → T (single s) → Past d e x → T (misses d s e)
+unfolding misses
+all-miss rising o s e x h one p = rw (ltZ-yes! e (s .lo) (omega (arith, h .high, eq-yes (s .lo) (s .hi) one))) tt
+all-miss falling o s e x h one p = rw (ltZ-yes! (s .hi) e (omega (arith, h .low, eq-yes (s .lo) (s .hi) one))) tt
+all-miss same o s e x h one p = absurd o
+all-miss differ o s e x h one p = absurd o
+
+-- what a loop's way says of it
+abbrev Says : Way → Form → Test → Block → Type 0
+Says own form test body = Unit {0}
+Says (copied w ahead) form test body = T (not (isFor form)) × T (isAdd (step w body)) × T (ordered (sort (test .comparison))) × ((g h : Store) → Turn body g h → h (test .tested) ≡ at-row ahead w g h)
+
+way-says : (form : Form) (test : Test) (body : Block) → Says (wayOf form test body) form test body
+unfolding soleWay
+way-says form test body = by-sole (soleOf (test .tested) body) (λ g h t. t .alone (test .tested))
+  where
+    one-side : (before after : Bool) (w : ℕ) (g h : Store) → T (not (before && after)) → Alone (test .tested) g h (sole w before after) → h (test .tested) ≡ at-row before w g h
+    one-side true after w g h n (a, b) = a n
+    one-side false after w g h n (a, b) = b tt
+
+    by-sole : (so : Sole) → ((g h : Store) → Turn body g h → Alone (test .tested) g h so) → Says (soleWay form test body so) form test body
+    by-sole other _ = tt
+    by-sole (sole w before after) a =
+        cond-elim (λ way. Says way form test body) (copies form test body w before after) (copied w before) own
+        (λ h. let (n, h₁) = both (not (isFor form)) _ h in let (m, h₂) = both (not (before && after)) _ h₁ in
+        let (p, h₃) = both (isAdd (step w body)) _ h₂ in let (_, o) = both (moving (step w body)) _ h₃ in (n, p, o, λ g h t. one-side before after w g h m (a g h t)))
+        (λ _. tt)
+
 module _ (form : Form) (ρ : Env) (test : Test) (body : Block) (f : Store) (enters : In ρ f) where
   -- the limit is as at the start
   limit-same : T (keeps (test .limit) body) → (g : Store) → At body f g → value (test .limit) g ≡ value (test .limit) f
@@ -166,17 +226,17 @@ module _ (form : Form) (ρ : Env) (test : Test) (body : Block) (f : Store) (ente
       by (Constant c) h = refl
       by (Variable w) h = a .kept w h
 
-  own : Good-trip (ownTrip form ρ test body) → CourseOf form ρ test body f (ownTrip form ρ test body)
+  own-course : Good-trip (ownTrip form ρ test body) → CourseOf form ρ test body f (ownTrip form ρ test body)
   unfolding turnsOf innerOf outerOf
-  own good =
+  own-course good =
       let v = test .tested in
       let τ = ownTrip form ρ test body in
-      let ch = chain (isDo form) (τ .step) (τ .comparison) (τ .start) (τ .limit) (value (test .limit) f) (isExact τ) (good .fit) (operand-in ρ f enters (test .limit))
+      let ch = chain (isDo form) (τ .comparison) (τ .start) (τ .limit) (value (test .limit) f) (isExact τ) (operand-in ρ f enters (test .limit)) (τ .step) (good .fit)
       (λ ex. let (a, b) = both (even (τ .step)) (τ .sure) ex in let (c, d) = both (single (τ .start)) (single (τ .limit)) b in (a, c, d)) in
       by-form test body f (isExact τ) _ _ (τ .start) (λ x g. x ≡ g v)
       (λ x g a e. rw (e, limit-same (good .keep) g a))
       (λ x g h a b e t. (h v, refl, rw e (inside-full (a .limited v), inside-full (b .limited v), t .moved v)))
-      (f v) refl (enters v .low, enters v .high) (at-start ρ body f enters) form (ch .tested)
+      (f v) refl (enters v .low, enters v .high) (at-start ρ body f enters) form _ _ (ch .tested)
       (λ k x g a e q p. rw (← e) (ch .sees .inner k x (rw e (inside-full (a .limited v))) q p))
       (λ k x g a e q. rw (← e) (ch .sees .outer k x (rw e (inside-full (a .limited v))) q))
       (first form)
@@ -186,6 +246,81 @@ module _ (form : Form) (ρ : Env) (test : Test) (body : Block) (f : Store) (ente
       first (for o) c = absurd c
       first do-while _ = first-inside (sort (test .comparison)) (ρ (test .tested)) _ _ (enters (test .tested))
 
+  copy-course : (w : ℕ) (ahead : Bool) → Says (copied w ahead) form test body → Good-trip (copyTrip form ρ test body w ahead) → CourseOf form ρ test body f (copyTrip form ρ test body w ahead)
+  unfolding turnsOf innerOf outerOf led
+  copy-course w ahead (loop-form, add, o, follows) good = by form loop-form
+    where
+      v : ℕ
+      v = test .tested
+
+      n : Range
+      n = bounds ρ (test .limit)
+
+      lim : ℤ
+      lim = value (test .limit) f
+
+      exact : Bool
+      exact = isExact (copyTrip form ρ test body w ahead)
+
+      exacts : T exact → T (even (step w body)) × T (single (ρ v)) × T (single (ρ w)) × T (single n)
+      exacts ex = let (a, b) = both (even (step w body)) _ ex in let (c, d) = both (single (ρ v)) _ b in let (x, y) = both (single (ρ w)) (single n) d in (a, c, x, y)
+
+      Move : ℤ → ℤ → Type 0
+      Move x y = Moved (step w body) (of x) (of y)
+
+      J : ℤ → Store → Type 0
+      J x g = (x ≡ g v) × Behind ahead (step w body) x (g w)
+
+      -- after a turn, v is what w was at the copy
+      J-next : (g h : Store) → Turn body g h → J (at-row ahead w g h) h
+      J-next g h t = (sym (follows g h t), behind-next ahead w body g h t)
+
+      same-test : (g : Store) → At body f g → holds test g ≡ compares (test .comparison) (g v) lim
+      same-test g a = rw (limit-same (good .keep) g a)
+
+      c : ℕ
+      c = whileTurns (step w body) (sort (test .comparison)) (atTest ahead (step w body) (ρ w)) n (edge (test .comparison) n)
+
+      l : Tested (From Move (ρ w) ahead) Move (λ x. compares (test .comparison) x lim) c exact
+      l = add-chain ahead (test .comparison) (ρ w) n lim exact (operand-in ρ f enters (test .limit)) Move (step w body) (λ x y m. m) add o (good .fit) (λ ex. let (a, _, b, c) = exacts ex in (a, b, c))
+
+      Seen : ℕ → Store → Type 0
+      Seen = Shown J (l .Q)
+
+      seen : Tests test body f c exact full full Seen
+      seen = shown test body f exact full full l J (λ x g a (e, _). rw e (same-test g a))
+          (λ x g h a b (_, bh) p t. (at-row ahead w g h, J-next g h t, behind-move ahead w body g h x t bh))
+          (λ k x g a j q p. inside-full (a .limited v)) (λ k x g a j q. inside-full (a .limited v))
+
+      first : (g h : Store) → Within (ρ w) (g w) → Turn body g h → Seen 0 h
+      first g h i t = (at-row ahead w g h, J-next g h t, l .begin _ (behind-first ahead w body g h (ρ w) i t))
+
+      by : (form : Form) → T (not (isFor form)) → Course form test body f (led (cond (isDo form) untested (tries (ρ v))) (sort (test .comparison)) (edge (test .comparison) n) c) exact full full
+      by while _ =
+          let e = edge (test .comparison) n in
+          record {
+            R = Led (λ g. Within (ρ v) (g v) × Within (ρ w) (g w)) (misses (sort (test .comparison)) (ρ v) e) Seen;
+            begin = (enters v, enters w);
+            tests = led-tests test body f exact full full seen (λ g. Within (ρ v) (g v) × Within (ρ w) (g w)) (misses (sort (test .comparison)) (ρ v) e)
+                (λ g h a b (_, i) p t. first g h i t)
+                (λ g a (i, _) p. not-misses (sort (test .comparison)) (ρ v) e (g v) i (passes (test .comparison) n lim (g v) (operand-in ρ f enters (test .limit)) (rw (same-test g a) at p)))
+                (λ ex g a (i, _) p. let (_, one, _, m) = exacts ex in
+                all-miss (sort (test .comparison)) o (ρ v) e (g v) i one (fails (test .comparison) n lim (g v) (operand-in ρ f enters (test .limit)) m (rw (same-test g a) at p)))
+                (λ g a (i, _). inside-full (within-full i)) (λ g a (i, _). inside-full (within-full i));
+          }
+      by do-while _ = record {
+        R = Led (λ _. ⊥) false Seen;
+        begin = (λ h a t. (tt, first f h (enters w) t), inside-full (within-full (enters v)), omega arith);
+        tests = led-tests test body f exact full full seen (λ _. ⊥) false
+            (λ g h a b c p t. absurd c) (λ g a c p. absurd c) (λ ex g a c p. absurd c) (λ g a c. absurd c) (λ g a c. absurd c);
+      }
+      by (for x) c = absurd c
+
   -- every loop that the questions pass
   pub course : Good-trip (trip form ρ test body) → CourseOf form ρ test body f (trip form ρ test body)
-  course good = own good
+  unfolding tripBy
+  course good = by (wayOf form test body) (way-says form test body) good
+    where
+      by : (way : Way) → Says way form test body → Good-trip (tripBy way form ρ test body) → CourseOf form ρ test body f (tripBy way form ρ test body)
+      by own says good = own-course good
+      by (copied w ahead) says good = copy-course w ahead says good

@@ -12,7 +12,7 @@ use Rattle.rules.specs.declared.Step.{Step}
 use Rattle.rules.specs.declared.Step.the-variants.{Add, Grow, Shrink, Unknown}
 use Rattle.rules.specs.Figures.{Prices, Line}
 use Rattle.rules.specs.Scripts.{Script}
-use Rattle.rules.specs.Report.{decimalIn, decimal, sign, size, joined, stepName, firstEnd, secondEnd, exactName, reportKey, rowsKey, loopsKey, loopKey, ticksKey, keyLine, loopLine, loopLines, reportText, scriptReport, longestReport}
+use Rattle.rules.specs.Report.{decimalIn, decimal, sign, size, joined, stepName, firstEnd, secondEnd, exactName, reportKey, rowsKey, loopsKey, ticksKey, keyLine, loopLine, loopLines, reportText, scriptReport, longestReport}
 use Rattle.rules.specs.Calls.{accepted, judged}
 use Rattle.rules.proofs.Heads.{lines-few}
 use Rattle.rules.proofs.FromBytes.{file-accepted}

@@ -3,18 +3,20 @@ use mathlib.Core.Bool.{Bool, true, false, not, cond, _&&_}
 use Prim.Native.Nat.{ℕ, suc}
 use lib.Dec.{eqb}
 use lib.IntN.{ℤ}
+use lib.Signed.{ltZ}
 use Rattle.rules.specs.declared.Operand.{Operand}
 use Rattle.rules.specs.declared.Operand.the-variants.{Constant, Variable}
 use Rattle.rules.specs.declared.Comparison.{Comparison}
 use Rattle.rules.specs.declared.Step.{Step}
 use Rattle.rules.specs.Blocks.{Test, Form, Block, done, plain, pick, loop}
-use Rattle.rules.specs.Steps.{assigns, step, even}
-use Rattle.rules.specs.Ranges.{Range, Env, full, single, bounds, afterRow, join, atStart, edge, sort, isDo, insideRange, outsideRange}
+use Rattle.rules.specs.Steps.{assigns, step, moving, even, isAdd, Sole, other, sole, soleOf}
+use Rattle.rules.specs.Ranges.{Range, Env, full, single, bounds, afterRow, join, atStart, edge, Sort, rising, falling, same, differ, ordered, sort, isDo, isFor, insideRange, outsideRange}
 use Rattle.rules.specs.Turns.{whileTurns, atTest}
 
--- what comes before the first counted test: nothing, or a turn that is not tested (a do's)
+-- what comes before the first counted test: nothing; a turn that is not tested (a do's); a turn that tests another range (card 1's while)
 pub data Lead : Type 0 where
   nothing untested : Lead
+  tries : Range → Lead
 
 -- what is stepped and tested
 pub record Trip : Type 0 where
@@ -43,14 +45,22 @@ edgeOf τ = edge (τ .comparison) (τ .limit)
 abbrev pub firstOf : Trip → Range
 firstOf τ = atTest (τ .late) (τ .step) (τ .start)
 
--- n turns from that test on, with what comes before it
-unfoldable pub led : Lead → ℕ → ℕ
-led nothing n = n
-led untested n = suc n
+-- "even the best start fails the test": s the start range, e E
+unfoldable pub misses : Sort → Range → ℤ → Bool
+misses rising s e = ltZ e (s .lo)
+misses falling s e = ltZ (s .hi) e
+misses same s e = false
+misses differ s e = false
+
+-- c turns from that test on, with what comes before it: "Do: 1 + c. While: 0 if even v's best start fails the test, else 1 + c"
+unfoldable pub led : Lead → Sort → ℤ → ℕ → ℕ
+led nothing d e c = c
+led untested d e c = suc c
+led (tries s) d e c = cond (misses d s e) 0 (suc c)
 
 -- "Do: 1 + the while figure from the start moved by one turn"
 unfoldable pub turnsOf : Trip → ℕ
-turnsOf τ = led (τ .lead) (whileTurns (τ .step) (sort (τ .comparison)) (firstOf τ) (τ .limit) (edgeOf τ))
+turnsOf τ = led (τ .lead) (sort (τ .comparison)) (edgeOf τ) (whileTurns (τ .step) (sort (τ .comparison)) (firstOf τ) (τ .limit) (edgeOf τ))
 
 -- "'exact' if the two ends of its step are equal and s and n are single numbers, else 'most'"
 abbrev pub isExact : Trip → Bool
@@ -83,9 +93,46 @@ ownTrip form ρ test body = record {
   free = false;
 }
 
--- the trip of a loop, ρ the ranges at its start
+-- card 1: "c the while figure from w's start, moved by one turn if w's rows come first": `ahead`
+abbrev pub copyTrip : Form → Env → Test → Block → ℕ → Bool → Trip
+copyTrip form ρ test body w ahead = record {
+  step = step w body;
+  comparison = test .comparison;
+  start = ρ w;
+  limit = bounds ρ (test .limit);
+  late = ahead;
+  lead = cond (isDo form) untested (tries (ρ (test .tested)));
+  sure = single (ρ (test .tested)) && (single (ρ w) && single (bounds ρ (test .limit)));
+  keeps = keeps (test .limit) body;
+  free = true;
+}
+
+-- how the turns are counted: by the tested variable's own step, or (card 1) by that of w, which is copied into it
+pub data Way : Type 0 where
+  own : Way
+  copied : ℕ → Bool → Way
+
+-- card 1: "directly in a while or do body, where w's step is a moving Add, all of w's rows stand on one side of it, and the comparison is < <= > or >="
+abbrev pub copies : Form → Test → Block → ℕ → Bool → Bool → Bool
+copies form test body w before after = not (isFor form) && (not (before && after) && (isAdd (step w body) && (moving (step w body) && ordered (sort (test .comparison)))))
+
+-- by the tested variable's only row, if it has one
+unfoldable pub soleWay : Form → Test → Block → Sole → Way
+soleWay form test body other = own
+soleWay form test body (sole w before after) = cond (copies form test body w before after) (copied w before) own
+
+-- which way a loop goes
+abbrev pub wayOf : Form → Test → Block → Way
+wayOf form test body = soleWay form test body (soleOf (test .tested) body)
+
+-- its trip by that way, ρ the ranges at its start
+unfoldable pub tripBy : Way → Form → Env → Test → Block → Trip
+tripBy own form ρ test body = ownTrip form ρ test body
+tripBy (copied w ahead) form ρ test body = copyTrip form ρ test body w ahead
+
+-- the trip of a loop
 abbrev pub trip : Form → Env → Test → Block → Trip
-trip form ρ test body = ownTrip form ρ test body
+trip form ρ test body = tripBy (wayOf form test body) form ρ test body
 
 -- the turns of one entry
 abbrev pub turns : Form → Env → Test → Block → ℕ

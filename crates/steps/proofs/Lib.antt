@@ -5,3 +5,4 @@ pub mod Sets
 pub mod Stepping
 pub mod Moving
 pub mod Tags
+pub mod Soles

@@ -22,7 +22,7 @@ or-assoc : (a b c : Bool) → a || (b || c) ≡ (a || b) || c
 or-assoc true b c = refl
 or-assoc false b c = refl
 
-or-false : (x : Bool) → x || false ≡ x
+pub or-false : (x : Bool) → x || false ≡ x
 or-false true = refl
 or-false false = refl
 
@@ -55,6 +55,11 @@ unfolding withRow
 row-none x p h = λ d w. (sym (or-false (x w)) ∙ ap (λ z. x w || z) (sym (h w))) d
 
 module _ (x : ℕ → Bool) where
+  -- what a pick adds to a set
+  pub pick-adds : (a b : Block) → (λ w. x w || (assigns w a || assigns w b)) ≡ assignsFrom (assignsFrom x a) b
+  unfolding assignsFrom
+  pick-adds a b = λ d w. or-assoc (x w) (assigns w a) (assigns w b) d
+
   pub from-none : assignsFrom x done ≡ x
   unfolding assignsFrom assigns
   from-none = λ d w. or-false (x w) d
@@ -66,7 +71,7 @@ module _ (x : ℕ → Bool) where
 
     pub from-pick : (e : ℕ) (a b rest : Block) → assignsFrom x (pick i e a b rest) ≡ assignsFrom (assignsFrom (assignsFrom x a) b) rest
     unfolding assignsFrom assigns
-    from-pick e a b rest = λ d w. (or-assoc (x w) (assigns w a || assigns w b) (assigns w rest) ∙ ap (λ z. z || assigns w rest) (or-assoc (x w) (assigns w a) (assigns w b))) d
+    from-pick e a b rest = λ d w. (or-assoc (x w) (assigns w a || assigns w b) (assigns w rest) ∙ ap (λ (y : ℕ → Bool). y w || assigns w rest) (pick-adds a b)) d
 
 -- what a loop assigns, its start and its body: what its body assigns
 pub body-assigns : (v : ℕ) (l : Last) (i : ℕ) (b : Block) → assigns v (withLast l i b) ≡ assigns v b || sets v (lastRow l)
@@ -111,13 +116,17 @@ or-within false b c h = refl
 pub loop-assigns : (v : ℕ) (k : Kind) (i : ℕ) (b : Block) → starts v (formOf k) (testOf k) || assigns v (withLast (headOf k .last) i b) ≡ assigns v (withLast (headOf k .last) i b)
 loop-assigns v k i b = rw (body-assigns v (headOf k .last) i b) (or-within (starts v (formOf k) (testOf k)) (assigns v b) _ (start-row k v))
 
+-- what a loop adds to a set
+pub loop-adds : (x : ℕ → Bool) (i : ℕ) (k : Kind) → shapeOf k ≡ Shape.Loop → (b : Block)
+    → (λ w. x w || (starts w (formOf k) (testOf k) || assigns w (withLast (headOf k .last) i b))) ≡ withRow (assignsFrom x b) (plainOf k)
+unfolding assignsFrom withRow
+loop-adds x i k h b = rw (head-row k h) (λ d w. (ap (λ z. x w || z) (loop-assigns w k i b ∙ body-assigns w (headOf k .last) i b) ∙ or-assoc (x w) (assigns w b) (sets w (lastRow (headOf k .last)))) d)
+
 pub from-loop : (x : ℕ → Bool) (i : ℕ) (k : Kind) → shapeOf k ≡ Shape.Loop → (e : ℕ) (b rest : Block)
     → assignsFrom x (loop i e (formOf k) (testOf k) (withLast (headOf k .last) i b) rest) ≡ assignsFrom (withRow (assignsFrom x b) (plainOf k)) rest
 unfolding assignsFrom assigns withRow
-from-loop x i k h e b rest = rw (head-row k h) (λ d w.
-    (or-assoc (x w) (starts w (formOf k) (testOf k) || assigns w (withLast (headOf k .last) i b)) (assigns w rest)
-    ∙ ap (λ z. (x w || z) || assigns w rest) (loop-assigns w k i b ∙ body-assigns w (headOf k .last) i b)
-    ∙ ap (λ z. z || assigns w rest) (or-assoc (x w) (assigns w b) (sets w (lastRow (headOf k .last))))) d)
+from-loop x i k h e b rest = λ d w.
+    (or-assoc (x w) (starts w (formOf k) (testOf k) || assigns w (withLast (headOf k .last) i b)) (assigns w rest) ∙ ap (λ (y : ℕ → Bool). y w || assigns w rest) (loop-adds x i k h b)) d
 
 -- no variable is in the set
 unfoldable pub clear : List Bool → Bool

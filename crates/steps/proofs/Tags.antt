@@ -19,7 +19,7 @@ none : {A B : Type 0} → A → false ≡ true → B
 none f h = absurd (false≢true h)
 
 -- any row but a set
-abbrev no-set : List ℕ
+abbrev pub no-set : List ℕ
 no-set = 0 ∷ 1 ∷ 2 ∷ 4 ∷ 5 ∷ 6 ∷ 7 ∷ 8 ∷ []
 
 module _ (e : List ℕ) where

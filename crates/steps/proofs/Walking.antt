@@ -28,7 +28,7 @@ module _ (rows : List Row) (count : ℕ) where
     unfolding headOf
     loop-at h p = let t = law-at Shape.Loop h in rw p t
 
-  module _ {A : Type 0} (f : A → Block → A) (at : ℕ) (x₀ : A) where
+  module _ {A B : Type 0} (f : A → Block → B) (at : ℕ) (x₀ : A) where
     -- at row i, x is what the rows from `at` gave, and the block from i is left
     pub record Walking (i : ℕ) (x : A) : Type 0 where
       pub low : at ≤ i
@@ -46,6 +46,10 @@ module _ (rows : List Row) (count : ℕ) where
           let t = law-at i l built Shape.Plain h in
           record { low = omega arith; high = omega arith; value = k .value ∙ ap (f x) (t .block) ∙ g _; place = k .place ∙ t .end }
 
+      -- a plain row is next
+      pub plain-next : shapeOf (kindAt rows i) ≡ Shape.Plain → f x₀ (blockAt rows count at) ≡ f x (plain i (plainOf (kindAt rows i)) (blockAt rows count (i + 1)))
+      plain-next h = k .value ∙ ap (f x) (law-at i l built Shape.Plain h .block)
+
       pub pick-row : {m s e : ℕ} → PickIs rows count i m s e → {y : A}
           → ((rest : Block) → f x (pick i e (blockAt rows count (i + 1)) (blockAt rows count s) rest) ≡ f y rest) → Walking (e + 1) y
       pick-row t g =
@@ -57,13 +61,13 @@ module _ (rows : List Row) (count : ℕ) where
       loop-row t g =
           record { low = omega arith; high = omega arith; value = k .value ∙ ap (f x) (t .block) ∙ g _; place = k .place ∙ t .end }
 
-    -- the walk is over: x is the answer, and i the row that closes the block
-    module _ {i : ℕ} {x : A} (none : f x done ≡ x) (k : Walking i x) where
-      stopped : ClosedAt rows count i → Walked rows count at i x (f x₀)
+    -- the walk is over: y is the answer, and i the row that closes the block
+    module _ {i : ℕ} {x : A} {y : B} (none : f x done ≡ y) (k : Walking i x) where
+      stopped : ClosedAt rows count i → Walked rows count at i y (f x₀)
       stopped t = record { value = sym (k .value ∙ ap (f x) (t .block) ∙ none); place = sym (k .place ∙ t .end); low = k .low; high = k .high }
 
-      pub at-close : i < count → Whole rows count → shapeOf (kindAt rows i) ≡ Shape.Close → Walked rows count at i x (f x₀)
+      pub at-close : i < count → Whole rows count → shapeOf (kindAt rows i) ≡ Shape.Close → Walked rows count at i y (f x₀)
       at-close l built h = stopped (law-at i l built Shape.Close h)
 
-      pub at-last : Whole rows count → count ≤ i → Walked rows count at i x (f x₀)
+      pub at-last : Whole rows count → count ≤ i → Walked rows count at i y (f x₀)
       at-last built l = stopped (let e : i ≡ count = omega arith in rw e (last-law rows count built))

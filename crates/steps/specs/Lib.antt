@@ -2,3 +2,4 @@
 pub mod Tree
 pub mod Sets
 pub mod Body
+pub mod Soles

@@ -1,4 +1,5 @@
 // How a variable moves in one turn: walks over the rows of a block, nested blocks first.
+use rules::Operand;
 use rules::Step;
 use rules::change_step;
 use rules::only;
@@ -6,6 +7,7 @@ use table::Shape;
 use table::Tag;
 use table::assigns;
 use table::change_at;
+use table::operand_at;
 use table::past_else;
 use table::shape_at;
 use table::tag_at;
@@ -15,11 +17,13 @@ ghost use Prim.Native.Nat.{_<_};
 ghost use lib.ListN.{length};
 ghost use Rattle.rules.specs.Steps.{sets, rowStep};
 ghost use Rattle.rules.specs.Bounds.{Fine};
-ghost use Rattle.table.specs.Code.{kindAt, rowsOf};
+ghost use Rattle.table.specs.Code.{numbersAt, rowTag, kindAt, rowsOf};
+ghost use Rattle.table.specs.declared.Tag.{Tag};
 ghost use Rattle.table.specs.Shapes.{plainOf};
 ghost use Rattle.steps.specs.Tree.{Ready};
 ghost use Rattle.steps.specs.Sets.{setOf, withOne, withRow, bothOf, SetIs};
 ghost use Rattle.steps.specs.Body.{AtLoop, MovesOf, BodyMoves};
+ghost use Rattle.steps.specs.Soles.{AtRow, AtCopy, CopyAt, SoleAt};
 
 // Adds v to the set.
 fn add(set: &mut [bool; 16], v: u8)
@@ -156,4 +160,88 @@ pub fn body_moves(rows: &[[u32; 9]; 256], count: usize, i: usize, v: u8) -> Move
         step: step.then(row_step(rows, i, v)),
         next: next,
     }
+}
+
+// The only assignment of a variable in a block, directly in it: another variable copied into it, and whether rows before and after it
+// assign that one.
+pub enum Sole {
+    Other,
+    Copy(u8, bool, bool),
+}
+
+// At the row i, `set v w`, behind rows that assign a set.
+fn copy_at(rows: &[[u32; 9]; 256], count: usize, i: usize, v: u8, w: u8, before: [bool; 16]) -> Sole
+    requires { ⌜ AtCopy (rowsOf (now rows)) count i v w ⌝ }
+    ensures { λ r. ⌜ CopyAt (rowsOf (now (rows .entry))) count i v before r ⌝ }
+{
+    if w == v {
+        return Sole::Other;
+    }
+    let mut rest = [false; 16];
+    moves_of(rows, count, i + 1, v, &mut rest);
+    if has(rest, v) {
+        return Sole::Other;
+    }
+    if has(before, v) {
+        return Sole::Other;
+    }
+    let first = has(before, w);
+    let last = has(rest, w);
+    Sole::Copy(w, first, last)
+}
+
+// At the row i, which sets v, behind rows that assign a set.
+fn set_at(rows: &[[u32; 9]; 256], count: usize, i: usize, v: u8, before: [bool; 16]) -> Sole
+    requires { ⌜ AtRow (rowsOf (now rows)) count i v × (rowTag (numbersAt (now rows) i) ≡ Tag.Set) ⌝ }
+    ensures { λ r. ⌜ CopyAt (rowsOf (now (rows .entry))) count i v before r ⌝ }
+{
+    match operand_at(rows, i) {
+        Operand::Constant(_) => Sole::Other,
+        Operand::Variable(w) => copy_at(rows, count, i, v, w, before),
+    }
+}
+
+// At the row i, which assigns v, behind rows that assign a set.
+fn sole_at(rows: &[[u32; 9]; 256], count: usize, i: usize, v: u8, before: [bool; 16]) -> Sole
+    requires { ⌜ AtRow (rowsOf (now rows)) count i v ⌝ }
+    ensures { λ r. ⌜ CopyAt (rowsOf (now (rows .entry))) count i v before r ⌝ }
+{
+    match tag_at(rows, i) {
+        Tag::Set => set_at(rows, count, i, v, before),
+        _ => Sole::Other,
+    }
+}
+
+// The only assignment of v in the block that starts at row `at`.
+pub fn sole_of(rows: &[[u32; 9]; 256], count: usize, at: usize, v: u8) -> Sole
+    requires { ⌜ Ready (rowsOf (now rows)) count at × (v < 16) ⌝ }
+    ensures { λ r. ⌜ SoleAt (rowsOf (now (rows .entry))) count at v r ⌝ }
+{
+    let mut set = [false; 16];
+    let mut i = at;
+    while i < count {
+        match shape_at(rows, i) {
+            Shape::Plain => {
+                if sets_it(rows, i, v) {
+                    return sole_at(rows, count, i, v, set);
+                }
+                add_row(&mut set, rows, i);
+                i = i + 1;
+            }
+            Shape::Branch => {
+                let a = moves_of(rows, count, i + 1, v, &mut set);
+                let second = moves_of(rows, count, past_else(rows, a.next), v, &mut set);
+                i = second.next + 1;
+            }
+            Shape::Loop => {
+                let body = moves_of(rows, count, i + 1, v, &mut set);
+                add_row(&mut set, rows, i);
+                i = body.next + 1;
+            }
+            Shape::Close => {
+                return Sole::Other;
+            }
+        }
+    }
+    Sole::Other
 }

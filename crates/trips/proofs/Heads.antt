@@ -1,6 +1,6 @@
 -- What a row's kind says of a loop's test.
-use mathlib.Core.Path.{_≡_, refl}
-use mathlib.Core.Bool.{false}
+use mathlib.Core.Path.{_≡_, refl, sym}
+use mathlib.Core.Bool.{true, false, false≢true}
 use mathlib.Core.List.{List, [], _∷_}
 use Prim.Native.Nat.{ℕ}
 use types.Run.{OneOf, miss}
@@ -10,9 +10,9 @@ use Rattle.ints.proofs.Parts.{ints, neg-parts}
 use Rattle.rules.proofs.Kind.{the-type}
 use Rattle.rules.specs.declared.Kind.{Kind}
 use Rattle.rules.specs.declared.Kind.the-variants.{Set, Move, Cue, Pick, Else, End, While, Do, For}
-use Rattle.rules.specs.Blocks.{viewOf}
+use Rattle.rules.specs.Blocks.{viewOf, withLast, Block}
 use Rattle.rules.specs.Bounds.{Near}
-use Rattle.rules.specs.Ranges.{isDo}
+use Rattle.rules.specs.Ranges.{isDo, isFor}
 use Rattle.steps.specs.Tree.{noLoop, headOf, formOf, testOf}
 
 -- what is not read of a row that is no loop
@@ -49,3 +49,32 @@ not-late (Cue n) o = refl
 not-late (While v c x) o = refl
 not-late (Do v c x) o = absurd (miss no-do 7 tt o)
 not-late (For v s c x d) o = refl
+
+-- any row but a for
+abbrev no-for : List ℕ
+no-for = 0 ∷ 1 ∷ 2 ∷ 3 ∷ 4 ∷ 5 ∷ 6 ∷ 7 ∷ []
+
+pub not-for : (k : Kind) → OneOf no-for (tagOf the-type k) → false ≡ isFor (formOf k)
+unfolding headOf viewOf
+not-for End o = refl
+not-for Else o = refl
+not-for Pick o = refl
+not-for (Set v x) o = refl
+not-for (Move v c) o = refl
+not-for (Cue n) o = refl
+not-for (While v c x) o = refl
+not-for (Do v c x) o = refl
+not-for (For v s c x d) o = absurd (miss no-for 8 tt o)
+
+-- a body without a step row
+pub no-last : (k : Kind) → isFor (formOf k) ≡ false → (i : ℕ) (b : Block) → withLast (headOf k .last) i b ≡ b
+unfolding headOf viewOf withLast
+no-last End h i b = refl
+no-last Else h i b = refl
+no-last Pick h i b = refl
+no-last (Set v x) h i b = refl
+no-last (Move v c) h i b = refl
+no-last (Cue n) h i b = refl
+no-last (While v c x) h i b = refl
+no-last (Do v c x) h i b = refl
+no-last (For v s c x d) h i b = absurd (false≢true (sym h))

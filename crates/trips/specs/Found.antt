@@ -1,28 +1,32 @@
 -- The code's trip as the trip of the rules, and what is found of a loop.
 use mathlib.Core.Path.{_≡_}
-use mathlib.Core.Bool.{Bool, false, cond, _&&_}
+use mathlib.Core.Bool.{Bool, true, false, not, cond, _&&_}
 use mathlib.Core.List.{List}
 use Prim.Native.Nat.{ℕ, _<_}
 use Rattle.rules.specs.declared.Row.{Row}
 use Rattle.rules.specs.declared.Step.{Step}
 use Rattle.rules.specs.declared.Comparison.{Comparison}
-use Rattle.rules.specs.Steps.{assigns}
-use Rattle.rules.specs.Ranges.{Range, Env, single}
+use Rattle.rules.specs.Blocks.{Block}
+use Rattle.rules.specs.Steps.{assigns, step, isAdd, moving}
+use Rattle.rules.specs.Ranges.{Range, Env, single, sort, ordered}
 use Rattle.rules.specs.Bounds.{Ends}
 use Rattle.rules.specs.Trips as trips
-use Rattle.rules.specs.Trips.{nothing, untested, trip}
+use Rattle.rules.specs.Trips.{nothing, untested, tries, own, copied, wayOf, trip}
 use Rattle.table.specs.Code.{kindAt}
 use Rattle.steps.specs.Tree.{formOf, testOf}
 use Rattle.steps.specs.Sets.{setOf}
 use Rattle.steps.specs.Body.{bodyAt, EndsAt}
 use Rattle.trips.specs.declared.Lead.{Lead}
 use Rattle.trips.specs.declared.Trip.{Trip}
+use Rattle.trips.specs.declared.Way.{Way}
 use Rattle.trips.specs.declared.Loop.{Loop}
 use Rattle.trips.specs.Env.{rangeOf}
 
+-- the lead of the rules
 abbrev pub leadOf : Lead → trips.Lead
 leadOf Lead.Nothing = nothing
 leadOf Lead.Untested = untested
+leadOf (Lead.Tries s) = tries (rangeOf s)
 
 abbrev pub tripOf : Trip → trips.Trip
 tripOf t = record {
@@ -50,6 +54,56 @@ ownFrom late st c s n keep = record {
   keeps = keep;
   free = false;
 }
+
+-- the trip of a copied variable from its parts; tested: the tested variable's start
+abbrev pub copyFrom : Bool → Step → Comparison → Range → Range → Bool → Bool → Range → trips.Trip
+copyFrom late st c s n keep ahead tested = record {
+  step = st;
+  comparison = c;
+  start = s;
+  limit = n;
+  late = ahead;
+  lead = cond late untested (tries tested);
+  sure = single tested && (single s && single n);
+  keeps = keep;
+  free = true;
+}
+
+-- the way of the rules
+abbrev pub wayIs : Way → trips.Way
+wayIs Way.Own = own
+wayIs (Way.Copied w ahead moved) = copied w ahead
+
+-- a copied variable is one of the 16
+abbrev pub SmallWay : Way → Type 0
+SmallWay Way.Own = Unit {0}
+SmallWay (Way.Copied w ahead moved) = w < 16
+
+-- and has its own step over the body
+abbrev pub WayStep : Block → Way → Type 0
+WayStep body Way.Own = Unit {0}
+WayStep body (Way.Copied w ahead moved) = (moved ≡ step w body) × Ends 256 moved
+
+-- the trip by a way, ρ the ranges at the loop's start
+abbrev pub tripFrom : Way → Env → Bool → Step → Comparison → Range → Range → Bool → trips.Trip
+tripFrom Way.Own ρ late st c s n keep = ownFrom late st c s n keep
+tripFrom (Way.Copied w ahead moved) ρ late st c s n keep = copyFrom late moved c (ρ w) n keep ahead s
+
+-- the way of a loop at row i whose tested variable's only row copies w
+pub record CopiedAt (rows : List Row) (count i : ℕ) (c : Comparison) (w : ℕ) (before after : Bool) (r : Way) : Type 0 where
+  pub value : let st = step w (bodyAt rows count i) in wayIs r ≡ cond (not (before && after) && (isAdd st && (moving st && ordered (sort c)))) (copied w before) own
+  pub small : SmallWay r
+  pub moves : WayStep (bodyAt rows count i) r
+
+-- the own step of the tested variable of the loop at row i
+abbrev pub ownStep : List Row → ℕ → ℕ → Step
+ownStep rows count i = step (testOf (kindAt rows i) .tested) (bodyAt rows count i)
+
+-- the way of the loop at row i
+pub record WayAt (rows : List Row) (count i : ℕ) (r : Way) : Type 0 where
+  pub value : wayIs r ≡ wayOf (formOf (kindAt rows i)) (testOf (kindAt rows i)) (bodyAt rows count i)
+  pub small : SmallWay r
+  pub moves : WayStep (bodyAt rows count i) r
 
 -- the loop at row i, ρ the ranges at its start
 pub record LoopAt (rows : List Row) (count i : ℕ) (ρ : Env) (r : Loop) : Type 0 where

@@ -3,15 +3,17 @@ use rules::Comparison;
 use rules::Kind;
 use rules::Operand;
 use rules::Step;
+use steps::Sole;
 use steps::body_moves;
 use steps::has;
+use steps::sole_of;
 use table::kind_at;
 ghost use mathlib.Core.Path.{_≡_};
-ghost use mathlib.Core.Bool.{cond};
+ghost use mathlib.Core.Bool.{not, cond, _&&_};
 ghost use Prim.Native.Nat.{ℕ, _<_};
 ghost use Rattle.rules.specs.Blocks.{Block};
-ghost use Rattle.rules.specs.Steps.{assigns};
-ghost use Rattle.rules.specs.Ranges.{bounds, isDo, single};
+ghost use Rattle.rules.specs.Steps.{assigns, isAdd, moving};
+ghost use Rattle.rules.specs.Ranges.{bounds, isDo, isFor, single, sort, ordered};
 ghost use Rattle.rules.specs.Trips as trips;
 ghost use Rattle.rules.specs.Bounds.{Fine, FineOperand};
 ghost use Rattle.table.specs.Code.{rowsOf};
@@ -19,7 +21,7 @@ ghost use Rattle.steps.specs.Tree.{formOf};
 ghost use Rattle.steps.specs.Sets.{setOf};
 ghost use Rattle.steps.specs.Body.{AtLoop};
 ghost use Rattle.trips.specs.Env.{envOf, rangeOf, HeadOf};
-ghost use Rattle.trips.specs.Found.{leadOf, tripOf, ownFrom, LoopAt};
+ghost use Rattle.trips.specs.Found.{leadOf, tripOf, ownFrom, copyFrom, SmallWay, tripFrom, CopiedAt, ownStep, WayAt, LoopAt};
 
 // A pair of ends.
 pub struct Span {
@@ -96,6 +98,13 @@ const NO_HEAD: Head = Head {
     limit: Operand::Constant(0),
 };
 
+// Both.
+fn both(a: bool, b: bool) -> bool
+    ensures { λ r. ⌜ r ≡ a && b ⌝ }
+{
+    if a { b } else { false }
+}
+
 // A do is tested after its body.
 fn is_do(kind: Kind) -> bool
     ensures { λ r. ⌜ r ≡ isDo (formOf kind) ⌝ }
@@ -117,20 +126,17 @@ fn keeps(limit: Operand, set: [bool; 16]) -> bool
     }
 }
 
-// What comes before the first counted test: nothing, or a turn that is not tested (a do's).
+// What comes before the first counted test: nothing, a turn that is not tested (a do's), or a turn that tests another range.
 pub enum Lead {
     Nothing,
     Untested,
+    Tries(Span),
 }
 
-fn lead_of(untested: bool) -> Lead
-    ensures { λ r. ⌜ leadOf r ≡ cond untested trips.untested trips.nothing ⌝ }
+fn lead_of(untested: bool, first: Lead) -> Lead
+    ensures { λ r. ⌜ leadOf r ≡ cond untested trips.untested (leadOf first) ⌝ }
 {
-    if untested {
-        Lead::Untested
-    } else {
-        Lead::Nothing
-    }
+    if untested { Lead::Untested } else { first }
 }
 
 // What is stepped and tested: the step that is read and its comparison, the ranges of its start and its limit; whether the first counted
@@ -159,8 +165,8 @@ fn own_trip(
 ) -> Trip
     ensures { λ r. ⌜ tripOf r ≡ ownFrom untested step comparison (rangeOf start) (rangeOf limit) keeps ⌝ }
 {
-    let lead = lead_of(untested);
-    let sure = single(start) && single(limit);
+    let lead = lead_of(untested, Lead::Nothing);
+    let sure = both(single(start), single(limit));
     Trip {
         step: step,
         comparison: comparison,
@@ -171,6 +177,175 @@ fn own_trip(
         sure: sure,
         keeps: keeps,
         free: false,
+    }
+}
+
+// The step of a variable that is copied into the tested one at a row; ahead: its rows come before that row.
+fn copy_trip(
+    untested: bool,
+    step: Step,
+    comparison: Comparison,
+    start: Span,
+    limit: Span,
+    keeps: bool,
+    ahead: bool,
+    tested: Span,
+) -> Trip
+    ensures { λ r. ⌜ tripOf r ≡ copyFrom untested step comparison (rangeOf start) (rangeOf limit) keeps ahead (rangeOf tested) ⌝ }
+{
+    let lead = lead_of(untested, Lead::Tries(tested));
+    let sure = both(single(tested), both(single(start), single(limit)));
+    Trip {
+        step: step,
+        comparison: comparison,
+        start: start,
+        limit: limit,
+        late: ahead,
+        lead: lead,
+        sure: sure,
+        keeps: keeps,
+        free: true,
+    }
+}
+
+// A for.
+fn is_for(kind: Kind) -> bool
+    ensures { λ r. ⌜ r ≡ isFor (formOf kind) ⌝ }
+{
+    match kind {
+        Kind::For(_, _, _, _, _) => true,
+        _ => false,
+    }
+}
+
+fn is_add(step: Step) -> bool
+    ensures { λ r. ⌜ r ≡ isAdd step ⌝ }
+{
+    match step {
+        Step::Add(_, _) => true,
+        Step::Grow(_, _) => false,
+        Step::Shrink(_, _) => false,
+        Step::Unknown => false,
+    }
+}
+
+// Does the step move?
+pub fn moving(step: Step) -> bool
+    ensures { λ r. ⌜ r ≡ moving step ⌝ }
+{
+    match step {
+        Step::Add(a, b) => { if 1 <= a { true } else { b <= -1 } }
+        Step::Grow(f, _) => 2 <= f,
+        Step::Shrink(f, _) => 2 <= f,
+        Step::Unknown => false,
+    }
+}
+
+// < <= > >=
+fn ordered(comparison: Comparison) -> bool
+    ensures { λ r. ⌜ r ≡ ordered (sort comparison) ⌝ }
+{
+    match comparison {
+        Comparison::Less => true,
+        Comparison::AtMost => true,
+        Comparison::Greater => true,
+        Comparison::AtLeast => true,
+        Comparison::Equal => false,
+        Comparison::Different => false,
+    }
+}
+
+// How turns are counted: by the tested variable's own step, or by that of a variable copied into it, whose rows come before the copy or not.
+enum Way {
+    Own,
+    Copied(u8, bool, Step),
+}
+
+// A copied variable counts: its rows stand on one side, it moves by Add, and the comparison is ordered.
+fn copies(comparison: Comparison, step: Step, before: bool, after: bool) -> bool
+    ensures { λ r. ⌜ r ≡ not (before && after) && (isAdd step && (moving step && ordered (sort comparison))) ⌝ }
+{
+    both(
+        !both(before, after),
+        both(is_add(step), both(moving(step), ordered(comparison))),
+    )
+}
+
+// The tested variable's only row copies w.
+fn copied_way(
+    rows: &[[u32; 9]; 256],
+    count: usize,
+    i: usize,
+    comparison: Comparison,
+    w: u8,
+    before: bool,
+    after: bool,
+) -> Way
+    requires { ⌜ AtLoop (rowsOf (now rows)) count i × (w < 16) ⌝ }
+    ensures { λ r. ⌜ CopiedAt (rowsOf (now (rows .entry))) count i comparison w before after r ⌝ }
+{
+    let body = body_moves(rows, count, i, w);
+    let step = body.step;
+    if copies(comparison, step, before, after) {
+        return Way::Copied(w, before, step);
+    }
+    Way::Own
+}
+
+// Which way the loop at row i goes, by the only row of its tested variable.
+fn sole_way(rows: &[[u32; 9]; 256], count: usize, i: usize) -> Way
+    requires { ⌜ AtLoop (rowsOf (now rows)) count i ⌝ }
+    ensures { λ r. ⌜ WayAt (rowsOf (now (rows .entry))) count i r ⌝ }
+{
+    let kind = kind_at(rows, i);
+    if is_for(kind) {
+        return Way::Own;
+    }
+    let head = head_of(kind);
+    let comparison = head.comparison;
+    match sole_of(rows, count, i + 1, head.tested) {
+        Sole::Other => Way::Own,
+        Sole::Copy(w, before, after) => copied_way(rows, count, i, comparison, w, before, after),
+    }
+}
+
+// Which way the loop at row i goes; step: its tested variable's own.
+fn way_of(rows: &[[u32; 9]; 256], count: usize, i: usize, step: Step) -> Way
+    requires { ⌜ AtLoop (rowsOf (now rows)) count i × (step ≡ ownStep (rowsOf (now rows)) count i) ⌝ }
+    ensures { λ r. ⌜ WayAt (rowsOf (now (rows .entry))) count i r ⌝ }
+{
+    match step {
+        Step::Unknown => sole_way(rows, count, i),
+        _ => Way::Own,
+    }
+}
+
+// The trip by that way, from the ranges at the loop's start and the tested variable's own.
+fn trip_by(
+    way: Way,
+    begun: &[[i32; 2]; 16],
+    untested: bool,
+    step: Step,
+    comparison: Comparison,
+    start: Span,
+    limit: Span,
+    keeps: bool,
+) -> Trip
+    requires { ⌜ SmallWay way ⌝ }
+    ensures { λ r. ⌜ tripOf r ≡ tripFrom way (envOf (now (begun .entry))) untested step comparison (rangeOf start) (rangeOf limit) keeps ⌝ }
+{
+    match way {
+        Way::Own => own_trip(untested, step, comparison, start, limit, keeps),
+        Way::Copied(w, ahead, moved) => copy_trip(
+            untested,
+            moved,
+            comparison,
+            span_at(begun, w),
+            limit,
+            keeps,
+            ahead,
+            start,
+        ),
     }
 }
 
@@ -199,7 +374,8 @@ pub fn loop_at(rows: &[[u32; 9]; 256], count: usize, i: usize, begun: &[[i32; 2]
     let s = span_at(begun, v);
     let n = bounds(begun, limit);
     let kept = keeps(limit, set);
-    let trip = own_trip(is_do(kind), step, comparison, s, n, kept);
+    let way = way_of(rows, count, i, step);
+    let trip = trip_by(way, begun, is_do(kind), step, comparison, s, n, kept);
     Loop {
         trip: trip,
         tested: v,

@@ -1,5 +1,5 @@
 -- The questions 8 to 12 in their order, from the answers that the code finds.
-use mathlib.Core.Path.{_≡_, refl, sym, ap, _∙_}
+use mathlib.Core.Path.{_≡_, refl, sym, ap, ap₂, _∙_}
 use mathlib.Core.Bool.{Bool, true, false, not}
 use Prim.Native.Nat.{ℕ}
 use lib.IntN.{ℤ}
@@ -50,7 +50,10 @@ module _ (τ : Trip) where
           unfolding loopVerdict asked
           refused-12 h = (λ i. rw (a, b, d, e, sym figure-is ∙ h))
 
-          pub accepted : hasFigure (τ .step) (sort (τ .comparison)) (τ .start) r m x ≡ true → (k : ℕ) → k ≡ whileTurns (τ .step) (sort (τ .comparison)) r m x → (t : ℕ) → t ≡ led (τ .lead) k
+          pub accepted : hasFigure (τ .step) (sort (τ .comparison)) (τ .start) r m x ≡ true → (k : ℕ) → k ≡ whileTurns (τ .step) (sort (τ .comparison)) r m x → (t : ℕ) → t ≡ led (τ .lead) (sort (τ .comparison)) x k
               → FigureOf τ (Figure.Turns t)
           unfolding loopVerdict asked turnsOf
-          accepted h k w t p = ((λ i. rw (a, b, d, e, sym figure-is ∙ h)), p ∙ ap (led (τ .lead)) (w ∙ (λ j. whileTurns (τ .step) (sort (τ .comparison)) (start j) (same j) (end j))))
+          accepted h k w t p = (
+            (λ i. rw (a, b, d, e, sym figure-is ∙ h)),
+            p ∙ ap₂ (led (τ .lead) (sort (τ .comparison))) end (w ∙ (λ j. whileTurns (τ .step) (sort (τ .comparison)) (start j) (same j) (end j))),
+          )

@@ -4,6 +4,7 @@ use rules::Step;
 use trips::Lead;
 use trips::Span;
 use trips::Trip;
+use trips::moving;
 use values::quotient_of;
 ghost use mathlib.Core.Path.{_≡_};
 ghost use mathlib.Core.Bool.{true, cond};
@@ -14,7 +15,7 @@ ghost use Rattle.rules.specs.Bounds.{Near, Ends};
 ghost use Rattle.rules.specs.Steps.{moving, even};
 ghost use Rattle.rules.specs.Ranges.{edge, sort};
 ghost use Rattle.rules.specs.Turns.{powers, scale, climb, share, apart, whileTurns, moved, atTest};
-ghost use Rattle.rules.specs.Trips.{led, isExact};
+ghost use Rattle.rules.specs.Trips.{misses, led, isExact};
 ghost use Rattle.rules.specs.Questions.{known, suits, hasFigure};
 ghost use Rattle.trips.specs.Env as env;
 ghost use Rattle.trips.specs.Found.{leadOf, tripOf};
@@ -217,18 +218,6 @@ fn known(step: Step) -> bool
     }
 }
 
-// 9: does it move?
-fn moving(step: Step) -> bool
-    ensures { λ r. ⌜ r ≡ moving step ⌝ }
-{
-    match step {
-        Step::Add(a, b) => { if 1 <= a { true } else { b <= -1 } }
-        Step::Grow(f, _) => 2 <= f,
-        Step::Shrink(f, _) => 2 <= f,
-        Step::Unknown => false,
-    }
-}
-
 fn rises(comparison: Comparison) -> bool
     ensures { λ r. ⌜ r ≡ isRising (sort comparison) ⌝ }
 {
@@ -339,14 +328,37 @@ pub enum Figure {
     Refused(u32),
 }
 
+// Does even the best start fail the test?
+fn misses(comparison: Comparison, s: Span, e: i64) -> bool
+    ensures { λ r. ⌜ r ≡ misses (sort comparison) (env.rangeOf s) e ⌝ }
+{
+    let lo = s.lo as i64;
+    let hi = s.hi as i64;
+    match comparison {
+        Comparison::Less => e < lo,
+        Comparison::AtMost => e < lo,
+        Comparison::Greater => hi < e,
+        Comparison::AtLeast => hi < e,
+        Comparison::Equal => false,
+        Comparison::Different => false,
+    }
+}
+
 // The turns from the first counted test on, with what comes before it.
-fn led(lead: Lead, more: u64) -> u64
+fn led(lead: Lead, comparison: Comparison, e: i64, more: u64) -> u64
     requires { ⌜ more ≤ 2_000_000_000_000 ⌝ }
-    ensures { λ r. ⌜ r ≡ led (leadOf lead) more ⌝ }
+    ensures { λ r. ⌜ r ≡ led (leadOf lead) (sort comparison) e more ⌝ }
 {
     match lead {
         Lead::Nothing => more,
         Lead::Untested => more + 1,
+        Lead::Tries(s) => {
+            if misses(comparison, s, e) {
+                0
+            } else {
+                more + 1
+            }
+        }
     }
 }
 
@@ -380,7 +392,7 @@ pub fn ask(trip: Trip) -> Figure
     }
     let more = while_turns(step, comparison, r, limit, e);
     let lead = trip.lead;
-    Figure::Turns(led(lead, more))
+    Figure::Turns(led(lead, comparison, e, more))
 }
 
 // The two ends of the step are equal.

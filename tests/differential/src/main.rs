@@ -1,14 +1,19 @@
 //! differential [COUNT [SEED [FIRST]]]: compares the library with the oracle on COUNT generated files, from
-//! file number FIRST on. The first difference is printed with its file, and the exit code is 1.
+//! file number FIRST on.
+//! differential vectors FOLDER: compares oracle and library with the stored answers in the folders of a folder.
+//! The first difference is printed with its file, and the exit code is 1.
 
-use generate::{allowance, any_store, case, picks, store, Rng, SEED};
 mod stack;
+mod vectors;
 
 use diftanew::numbers::{self, ANSWER};
+use generate::{allowance, any_store, case, picks, store, Rng, SEED};
 use oracle::{Ending, Plan, Refusal, Run, SCRATCH};
-use std::process::exit;
 use stack::Stack;
+use std::path::Path;
+use std::process::exit;
 use std::time::Instant;
+use vectors::Call;
 
 /// The longest run that is waited for where the plan is longer.
 const LONGEST: u64 = 30_000;
@@ -56,8 +61,8 @@ struct Tally {
 
 struct Checker {
     file: Vec<u8>,
-    seed: u64,
-    index: u64,
+    /// The file's name in what is printed.
+    name: String,
     scratch: Vec<u32>,
     rng: Rng,
     tally: Tally,
@@ -88,9 +93,9 @@ fn typed(run: &Run) -> diftanew::Run {
 
 impl Checker {
     fn differ(&self, call: &str, expected: &dyn std::fmt::Debug, got: &dyn std::fmt::Debug) -> ! {
-        println!("difference in file {} of seed {}: {call}", self.index, self.seed);
-        println!("oracle:  {expected:?}");
-        println!("library: {got:?}");
+        println!("difference in {}: {call}", self.name);
+        println!("expected: {expected:?}");
+        println!("got:      {got:?}");
         println!("file ({} bytes): \"{}\"", self.file.len(), self.file.escape_ascii());
         exit(1)
     }
@@ -273,37 +278,37 @@ impl Checker {
         let (store, picks) = (any_store(&mut self.rng), picks(&mut self.rng));
         self.run(little, &store, &picks, 100, &Err((1, SCRATCH as u64)));
     }
+
+    /// A stored call. The oracle's answer must be the same, with all entries, and then the library's.
+    fn stored(&mut self, call: &Call) {
+        let plan = oracle::plan(&self.file, SCRATCH);
+        match call {
+            Call::Report(answer) => {
+                let oracle = plan.map(|plan| oracle::report_text(&plan));
+                self.same("the oracle's report", "stored answer", answer, &oracle);
+                self.report(SCRATCH, 4_096, answer);
+            }
+            Call::Run { store, picks, allowance, answer } => {
+                let allowance = allowance.unwrap_or(plan.as_ref().map_or(0, |plan| plan.ticks));
+                let oracle = plan.and_then(|plan| oracle::run_planned(&plan, store, picks, allowance));
+                self.same(&format!("the oracle's run from {store:?} with {allowance}"), "stored answer", answer, &oracle);
+                self.run(SCRATCH, store, picks, allowance, answer);
+            }
+        }
+    }
 }
 
-fn main() {
-    let arguments: Vec<String> = std::env::args().skip(1).collect();
-    let number = |at: usize, default: u64| {
-        arguments.get(at).map_or(default, |word| {
-            word.parse().unwrap_or_else(|_| {
-                println!("use: differential [COUNT [SEED [FIRST]]]");
-                exit(2)
-            })
-        })
-    };
-    let (count, seed, first) = (number(0, 20_000), number(1, SEED), number(2, 0));
+/// The files that `generate` makes of a seed.
+fn generated(checker: &mut Checker, count: u64, seed: u64, first: u64) {
     let begin = Instant::now();
-    let mut checker = Checker {
-        file: Vec::new(),
-        seed,
-        index: 0,
-        scratch: vec![0xdead_beef; SCRATCH],
-        rng: Rng::new(seed, 0),
-        tally: Tally::default(),
-        stacks: [Stack::new(diftanew::STACK), Stack::new(diftanew::STACK)],
-    };
     // The file that needs most stack: 256 rows, 16 loops, 8 deep.
     checker.file = include_bytes!("../../../crates/report_files/data/accepted-worst.script").to_vec();
-    checker.index = u64::MAX;
+    checker.name = "accepted-worst.script".into();
     checker.case();
     for index in first..first + count {
         let (file, rng) = case(seed, index);
         checker.file = file;
-        checker.index = index;
+        checker.name = format!("file {index} of seed {seed}");
         checker.rng = rng;
         checker.case();
     }
@@ -330,4 +335,54 @@ fn main() {
         checker.stacks[1].used(),
         begin.elapsed().as_secs_f64()
     );
+}
+
+/// The stored answers: the oracle's must be the same, and then the library's.
+fn stored(checker: &mut Checker, folder: &Path) -> Result<(), String> {
+    let files = vectors::files(folder).map_err(|_| format!("{} has no folders of vectors", folder.display()))?;
+    for file in &files {
+        let read = |file: &Path| std::fs::read(file).map_err(|_| format!("{} cannot be read", file.display()));
+        checker.file = read(file)?;
+        checker.name = file.display().to_string();
+        let text = String::from_utf8_lossy(&read(&file.with_extension("out"))?).into_owned();
+        for call in vectors::calls(&text).map_err(|line| format!("{}: {line}", file.display()))? {
+            checker.stored(&call);
+        }
+    }
+    let t = &checker.tally;
+    if t.reports == 0 || t.runs == 0 {
+        return Err(format!("{} has no vectors", folder.display()));
+    }
+    println!("vectors: {} files, {} report calls, {} run calls, no difference", files.len(), t.reports, t.runs);
+    Ok(())
+}
+
+fn main() {
+    let arguments: Vec<String> = std::env::args().skip(1).collect();
+    let mut checker = Checker {
+        file: Vec::new(),
+        name: String::new(),
+        scratch: vec![0xdead_beef; SCRATCH],
+        rng: Rng::new(SEED, 0),
+        tally: Tally::default(),
+        stacks: [Stack::new(diftanew::STACK), Stack::new(diftanew::STACK)],
+    };
+    if let [word, folder] = &arguments[..] {
+        if word == "vectors" {
+            if let Err(what) = stored(&mut checker, Path::new(folder)) {
+                println!("{what}");
+                exit(1);
+            }
+            return;
+        }
+    }
+    let number = |at: usize, default: u64| {
+        arguments.get(at).map_or(default, |word| {
+            word.parse().unwrap_or_else(|_| {
+                println!("use: differential [COUNT [SEED [FIRST]]], or differential vectors FOLDER");
+                exit(2)
+            })
+        })
+    };
+    generated(&mut checker, number(0, 20_000), number(1, SEED), number(2, 0));
 }

@@ -1,11 +1,14 @@
 //! Seeded random cases. Most files are built so that they are likely to be accepted; some are careless,
 //! some are aimed at one question, some are damaged afterwards.
 
+mod copied;
 mod damage;
 mod rng;
 mod script;
+mod spread;
 
 pub use rng::Rng;
+pub use spread::Spread;
 
 use oracle::{Plan, Script};
 

@@ -1,7 +1,7 @@
 //! generate [COUNT [SEED]]: how the generated files are answered.
 //! generate file INDEX [SEED]: prints one of them.
 
-use generate::{case, SEED};
+use generate::{case, Spread, SEED};
 use std::io::Write;
 
 fn main() {
@@ -13,36 +13,30 @@ fn main() {
         return;
     }
     let (count, seed) = (number(0, 20_000), number(1, SEED));
-    let mut answers = [0u64; 16];
-    let (mut loops, mut most_loops, mut most_rows, mut full, mut deep, mut short) = (0, 0, 0, 0, 0, 0u64);
+    let spread = Spread::of(count, seed);
+    let (mut loops, mut most_loops, mut full, mut deep, mut short) = (0, 0, 0, 0, 0u64);
     for index in 0..count {
         let (file, _) = case(seed, index);
-        match oracle::plan(&file, oracle::SCRATCH) {
-            Err((number, _)) => answers[number as usize] += 1,
-            Ok(plan) => {
-                answers[0] += 1;
-                loops += plan.lines.len();
-                most_loops += (plan.lines.len() == 16) as u64;
-                full += (plan.script.rows.len() == 256) as u64;
-                most_rows = most_rows.max(plan.script.rows.len());
-                let mut depth = 0;
-                let mut deepest = 0;
-                for row in &plan.script.rows {
-                    match row {
-                        oracle::Row::Pick { .. } | oracle::Row::Loop(_) => depth += 1,
-                        oracle::Row::End { .. } => depth -= 1,
-                        _ => {}
-                    }
-                    deepest = deepest.max(depth);
-                }
-                deep += (deepest == 8) as u64;
-                short += (plan.ticks <= 50_000) as u64;
+        let Ok(plan) = oracle::plan(&file, oracle::SCRATCH) else { continue };
+        loops += plan.lines.len();
+        most_loops += (plan.lines.len() == 16) as u64;
+        full += (plan.script.rows.len() == 256) as u64;
+        let mut depth = 0;
+        let mut deepest = 0;
+        for row in &plan.script.rows {
+            match row {
+                oracle::Row::Pick { .. } | oracle::Row::Loop(_) => depth += 1,
+                oracle::Row::End { .. } => depth -= 1,
+                _ => {}
             }
+            deepest = deepest.max(depth);
         }
+        deep += (deepest == 8) as u64;
+        short += (plan.ticks <= 50_000) as u64;
     }
-    let accepted = answers[0];
+    let accepted = spread.answers[0];
     println!("files={count} seed={seed} accepted={accepted} ({:.1} %)", 100.0 * accepted as f64 / count as f64);
-    for (number, answer) in answers.iter().enumerate().skip(2).take(12) {
+    for (number, answer) in spread.answers.iter().enumerate().skip(2).take(12) {
         println!("refused by {number}: {answer}");
     }
     println!(
@@ -50,4 +44,7 @@ fn main() {
          {short} of at most 50000 ticks",
         loops as f64 / accepted.max(1) as f64
     );
+    for (label, files) in &spread.uses {
+        println!("{label} {files} files");
+    }
 }

@@ -1,5 +1,6 @@
 //! Whole script files.
 
+use crate::copied;
 use crate::rng::Rng;
 
 const L: i64 = 1_000_000_000;
@@ -25,7 +26,7 @@ impl Text {
     }
 }
 
-fn value(rng: &mut Rng) -> i64 {
+pub fn value(rng: &mut Rng) -> i64 {
     match rng.below(20) {
         0..=10 => rng.between(-12, 12),
         11..=13 => rng.between(-1_000, 1_000),
@@ -38,7 +39,7 @@ fn value(rng: &mut Rng) -> i64 {
 }
 
 /// A distance from start to limit.
-fn distance(rng: &mut Rng) -> i64 {
+pub fn distance(rng: &mut Rng) -> i64 {
     match rng.below(20) {
         0..=12 => rng.between(0, 12),
         13..=16 => rng.between(0, 300),
@@ -57,7 +58,7 @@ fn small_step(rng: &mut Rng) -> i64 {
     }
 }
 
-fn factor(rng: &mut Rng) -> i64 {
+pub fn factor(rng: &mut Rng) -> i64 {
     match rng.below(10) {
         0..=4 => 2,
         5..=7 => rng.between(2, 10),
@@ -66,7 +67,7 @@ fn factor(rng: &mut Rng) -> i64 {
     }
 }
 
-fn within(n: i64) -> i64 {
+pub fn within(n: i64) -> i64 {
     n.clamp(-L, L)
 }
 
@@ -84,19 +85,19 @@ fn range(rng: &mut Rng) -> (i64, i64) {
     }
 }
 
-struct Builder<'r> {
-    rng: &'r mut Rng,
+pub struct Builder<'r> {
+    pub rng: &'r mut Rng,
     vars: usize,
-    rows: Vec<String>,
+    pub rows: Vec<String>,
     /// Rows and loops that may still be added.
-    left: usize,
-    loops: usize,
+    pub left: usize,
+    pub loops: usize,
     /// How often, of a hundred, a choice is made without care.
-    careless: usize,
+    pub careless: usize,
 }
 
 #[derive(Clone, Copy, PartialEq)]
-enum Way {
+pub enum Way {
     Up,
     Down,
     Grow,
@@ -112,7 +113,7 @@ impl Builder<'_> {
     }
 
     /// A variable outside `locked`, if there is one.
-    fn free(&mut self, locked: u32) -> Option<usize> {
+    pub fn free(&mut self, locked: u32) -> Option<usize> {
         if self.vars == 0 {
             return None;
         }
@@ -135,7 +136,7 @@ impl Builder<'_> {
         }
     }
 
-    fn arithmetic(&mut self) -> String {
+    pub fn arithmetic(&mut self) -> String {
         let rng = &mut *self.rng;
         match rng.below(12) {
             0..=3 => format!("add {}", small_step(rng)),
@@ -176,7 +177,7 @@ impl Builder<'_> {
     }
 
     /// One move of v, alone or in a pick.
-    fn moved(&mut self, v: usize, way: Way, depth: usize) {
+    pub fn moved(&mut self, v: usize, way: Way, depth: usize) {
         let one = |rng: &mut Rng| match way {
             Way::Up => format!("add v{v} {}", small_step(rng)),
             Way::Down => format!("sub v{v} {}", small_step(rng)),
@@ -241,6 +242,11 @@ impl Builder<'_> {
         let Some(v) = self.free(locked) else {
             return self.plain(locked);
         };
+        if self.left >= copied::ROWS && self.rng.chance(30) {
+            if let Some(w) = self.free(locked | 1 << v).filter(|&w| w != v) {
+                return self.copied(depth, locked, v, w);
+            }
+        }
         self.loops -= 1;
         self.left -= 3;
         let mut spare = 1;
@@ -333,7 +339,7 @@ impl Builder<'_> {
         self.rows.push("end".into());
     }
 
-    fn block(&mut self, depth: usize, locked: u32, items: usize) {
+    pub fn block(&mut self, depth: usize, locked: u32, items: usize) {
         for _ in 0..items {
             let roll = self.rng.below(100);
             if roll < 32 && depth > 0 && self.loops > 0 && self.left >= 4 {

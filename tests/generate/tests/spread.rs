@@ -1,5 +1,6 @@
 //! What the generator and the script files promise.
 
+use generate::{Spread, SEED};
 use std::path::Path;
 
 fn answer(file: &[u8]) -> Vec<u8> {
@@ -11,14 +12,49 @@ fn answer(file: &[u8]) -> Vec<u8> {
 
 #[test]
 fn every_refusal_occurs_and_enough_is_accepted() {
-    let mut answers = [0; 16];
-    for index in 0..20_000 {
-        let (file, _) = generate::case(generate::SEED, index);
-        let number = oracle::plan(&file, oracle::SCRATCH).map_or_else(|refusal| refusal.0, |_| 0);
-        answers[number as usize] += 1;
-    }
+    let answers = Spread::of(20_000, SEED).answers;
     assert!(answers[0] >= 8_000, "{answers:?}");
     assert!(answers[2..=13].iter().all(|&count| count > 0), "{answers:?}");
+}
+
+/// At least a tenth of the files use a change, and each of these uses occurs in at least so many files.
+fn uses(word: &str, least: &[(&str, u64)]) {
+    let spread = Spread::of(20_000, SEED);
+    assert!(spread.used(&format!("{word}:")) * 10 >= spread.files, "{word}: {:?}", spread.uses);
+    for (label, files) in least {
+        assert!(spread.used(&format!("{word}: {label}")) >= *files, "{word}: {label}: {:?}", spread.uses);
+    }
+}
+
+#[test]
+fn a_tenth_copies_a_counter() {
+    uses(
+        "copied",
+        &[
+            ("While, rows first", 300),
+            ("While, copy first", 300),
+            ("Do, rows first", 200),
+            ("Do, copy first", 200),
+            ("Lt", 200),
+            ("Le", 200),
+            ("Gt", 200),
+            ("Ge", 200),
+            ("exact", 300),
+            ("most", 300),
+            ("While of 0 turns", 100),
+            ("While of 1 turns", 50),
+            ("Do of 1 turns", 50),
+            ("8 for Form", 20),
+            ("8 for Copy", 20),
+            ("8 for Only", 20),
+            ("8 for Direct", 20),
+            ("8 for Comparison", 20),
+            ("8 for Step", 100),
+            ("8 for Sides", 20),
+            ("refused by 10", 20),
+            ("refused by 11", 20),
+        ],
+    );
 }
 
 #[test]
@@ -33,4 +69,20 @@ fn files_have_their_answers() {
         count += 1;
     }
     assert!(count >= 70);
+}
+
+/// The lines of the program run_files and what it prints; only that there is an error is compared, not its words.
+#[test]
+fn runs_have_their_answers() {
+    let program = Path::new(env!("CARGO_MANIFEST_DIR")).join("../../crates/run_files");
+    let text = |name: &str| std::fs::read_to_string(program.join(name)).unwrap();
+    let mut printed = String::new();
+    for line in text("stdin").lines() {
+        let words: Vec<&str> = line.split(' ').collect();
+        let answer = oracle::desk::rehearse(&words, |name| std::fs::read(program.join("data").join(name)).ok());
+        printed += &format!("{line}\n{}", answer.map_or("error=\n".into(), |answer| String::from_utf8(answer).unwrap()));
+    }
+    let stored = text("stdout");
+    let stored: Vec<&str> = stored.lines().map(|line| if line.starts_with("error=") { "error=" } else { line }).collect();
+    assert_eq!(printed.lines().collect::<Vec<_>>(), stored);
 }

@@ -84,17 +84,100 @@ pub fn step(rows: &[Row], from: usize, to: usize, v: u8) -> Step {
     whole
 }
 
+/// The variable that a row assigns.
+fn assigned_by(row: &Row) -> Option<u8> {
+    match *row {
+        Row::Set { v, .. } | Row::Change { v, .. } => Some(v),
+        Row::Loop(Loop { kind: Kind::For { .. }, v, .. }) => Some(v),
+        _ => None,
+    }
+}
+
+fn assign(rows: &[Row], v: u8) -> bool {
+    rows.iter().any(|row| assigned_by(row) == Some(v))
+}
+
 /// The variables that a loop's body assigns, as bits; a for's own is one of them.
 fn loop_assigns(rows: &[Row], head: usize, l: &Loop) -> u16 {
-    let own = match l.kind {
-        Kind::For { .. } => 1 << l.v,
-        Kind::While | Kind::Do => 0,
+    rows[head..l.end as usize].iter().filter_map(assigned_by).fold(0, |all, v| all | 1 << v)
+}
+
+/// Change 1: the tested variable is copied from `w`, which is counted in its place.
+#[derive(Clone, Copy, Debug, PartialEq, Eq)]
+pub struct Copied {
+    pub w: u8,
+    pub step: Step,
+    /// Whether w's rows come before the copy.
+    pub rows_first: bool,
+}
+
+/// Change 1's terms; the first broken one of a loop makes it no copied counter.
+#[derive(Clone, Copy, Debug, PartialEq, Eq)]
+pub enum Term {
+    /// In a while or do.
+    Form,
+    /// `set v w`, w another variable.
+    Copy,
+    /// v's only assignment.
+    Only,
+    /// Directly in the body.
+    Direct,
+    /// < <= > or >=.
+    Comparison,
+    /// w's step is a moving Add.
+    Step,
+    /// All of w's rows on one side.
+    Sides,
+}
+
+/// The row after the block or plain row that begins at `r`.
+fn after(rows: &[Row], r: usize) -> usize {
+    match rows[r] {
+        Row::Pick { end, .. } => end as usize + 1,
+        Row::Loop(l) => l.end as usize + 1,
+        _ => r + 1,
+    }
+}
+
+/// Whether row `at` stands in the body itself and not in a block inside it.
+fn directly_in(rows: &[Row], head: usize, at: usize) -> bool {
+    let mut r = head + 1;
+    while r < at {
+        r = after(rows, r);
+    }
+    r == at
+}
+
+/// Change 1: what the tested variable is copied from, or the first term that is broken.
+pub fn copied(rows: &[Row], head: usize, l: &Loop) -> Result<Copied, Term> {
+    if !matches!(l.kind, Kind::While | Kind::Do) {
+        return Err(Term::Form);
+    }
+    let end = l.end as usize;
+    let of_another = |row: &Row| match *row {
+        Row::Set { v, x: Operand::Variable(w) } if v == l.v && w != v => Some(w),
+        _ => None,
     };
-    rows[head + 1..l.end as usize].iter().fold(own, |all, row| match *row {
-        Row::Set { v, .. } | Row::Change { v, .. } => all | 1 << v,
-        Row::Loop(Loop { kind: Kind::For { .. }, v, .. }) => all | 1 << v,
-        _ => all,
-    })
+    let at = (head + 1..end).find(|&r| of_another(&rows[r]).is_some()).ok_or(Term::Copy)?;
+    let w = of_another(&rows[at]).ok_or(Term::Copy)?;
+    if assign(&rows[head + 1..at], l.v) || assign(&rows[at + 1..end], l.v) {
+        return Err(Term::Only);
+    }
+    if !directly_in(rows, head, at) {
+        return Err(Term::Direct);
+    }
+    if matches!(l.compare, Compare::Eq | Compare::Ne) {
+        return Err(Term::Comparison);
+    }
+    let step = step(rows, head + 1, end, w);
+    if !matches!(step, Step::Add(a, b) if a >= 1 || b <= -1) {
+        return Err(Term::Step);
+    }
+    let rows_first = assign(&rows[head + 1..at], w);
+    if rows_first && assign(&rows[at + 1..end], w) {
+        return Err(Term::Sides);
+    }
+    Ok(Copied { w, step, rows_first })
 }
 
 /// A known range, low end and high end.
@@ -113,10 +196,20 @@ fn draw_back(value: i64) -> i32 {
     value.clamp(-L as i64, L as i64) as i32
 }
 
+/// What a loop's turns are counted on.
+#[derive(Clone, Copy, Debug, PartialEq, Eq)]
+pub enum Counted {
+    /// The tested variable.
+    Tested,
+    /// The one that it is copied from.
+    Copied,
+}
+
 /// A loop's line of the report.
 #[derive(Clone, Copy, Debug, PartialEq, Eq)]
 pub struct Line {
     pub row: usize,
+    pub counted: Counted,
     pub step: Step,
     pub turns: u64,
     /// Exact up to u128::MAX, and not less than that where it stands.
@@ -132,13 +225,24 @@ pub struct Plan {
     pub ticks: u64,
 }
 
+/// A range of a figure, which can be past ±L.
+type Wide = [i64; 2];
+
+fn wide(range: Range) -> Wide {
+    range.map(i64::from)
+}
+
+fn single(range: Range) -> bool {
+    range[0] == range[1]
+}
+
 /// E: the last value of the limit's worst end for which the test can hold.
-fn edge(compare: Compare, n: Range) -> i64 {
+fn edge(compare: Compare, n: Wide) -> i64 {
     match compare {
-        Compare::Le => n[1] as i64,
-        Compare::Lt => n[1] as i64 - 1,
-        Compare::Ge => n[0] as i64,
-        Compare::Gt => n[0] as i64 + 1,
+        Compare::Le => n[1],
+        Compare::Lt => n[1] - 1,
+        Compare::Ge => n[0],
+        Compare::Gt => n[0] + 1,
         Compare::Eq | Compare::Ne => 0,
     }
 }
@@ -154,12 +258,12 @@ fn powers(low: i64, f: i64, high: i64) -> i64 {
 }
 
 /// The while figure of an == loop from the start s.
-fn equal_turns(s: [i64; 2], n: [i64; 2]) -> i64 {
+fn equal_turns(s: Wide, n: Wide) -> i64 {
     (s[0] <= n[1] && n[0] <= s[1]) as i64
 }
 
 /// The while figure of a != loop from the start s, with step a..b; None refuses.
-fn unequal_turns(a: i64, b: i64, s: [i64; 2], n: [i64; 2]) -> Option<i64> {
+fn unequal_turns(a: i64, b: i64, s: Wide, n: Wide) -> Option<i64> {
     if a != b {
         return None;
     }
@@ -176,8 +280,68 @@ fn unequal_turns(a: i64, b: i64, s: [i64; 2], n: [i64; 2]) -> Option<i64> {
     (distance % a == 0 && distance / a >= 0).then_some(distance / a)
 }
 
+/// What a loop's turns are worked out from.
+struct Counter {
+    counted: Counted,
+    step: Step,
+    /// Start and limit.
+    s: Wide,
+    n: Wide,
+    /// Whether the first test that is counted sees the start moved by one turn.
+    moved: bool,
+    /// The turns before that test.
+    before: u64,
+    /// Whether no turn is taken: a copy's while whose first test fails from the best start.
+    never: bool,
+    /// Whether starts and limit are single numbers.
+    single: bool,
+}
+
+impl Counter {
+    /// The start range of the first test that is counted, for an Add step.
+    fn added(&self, a: i64, b: i64) -> Wide {
+        if self.moved { [self.s[0] + a, self.s[1] + b] } else { self.s }
+    }
+
+    /// The while figure from the start, and question 12.
+    fn figure(&self, compare: Compare) -> Result<u64, u32> {
+        let e = edge(compare, self.n);
+        let figure = match self.step {
+            Step::Add(a, b) if compare == Compare::Eq => equal_turns(self.added(a, b), self.n),
+            Step::Add(a, b) if compare == Compare::Ne => {
+                unequal_turns(a, b, self.added(a, b), self.n).ok_or(12u32)?
+            }
+            Step::Add(a, b) if a >= 1 => {
+                let t = self.added(a, b)[0];
+                if t > e { 0 } else { (e - t) / a + 1 }
+            }
+            Step::Add(a, b) => {
+                let t = self.added(a, b)[1];
+                if t < e { 0 } else { (t - e) / -b + 1 }
+            }
+            Step::Grow(f, _) => {
+                let lo = self.s[0];
+                if lo < 1 {
+                    return Err(12);
+                }
+                powers(if self.moved { lo * f } else { lo }, f, e)
+            }
+            Step::Shrink(f, _) => {
+                let hi = self.s[1];
+                if e < 1 {
+                    return Err(12);
+                }
+                powers(e, f, if self.moved { hi / f } else { hi })
+            }
+            Step::Unknown => unreachable!("question 8"),
+        };
+        Ok(figure as u64)
+    }
+}
+
 /// Questions 8 to 12 of one loop, and its turns; the error is the question's number.
-fn turns(l: &Loop, step: Step, assigned: u16, s: Range, n: Range) -> Result<u64, u32> {
+fn turns(l: &Loop, counter: &Counter, assigned: u16) -> Result<u64, u32> {
+    let step = counter.step;
     // 8 and 9
     let moves = match step {
         Step::Unknown => return Err(8),
@@ -203,42 +367,8 @@ fn turns(l: &Loop, step: Step, assigned: u16, s: Range, n: Range) -> Result<u64,
     if !fits {
         return Err(11);
     }
-    let is_do = l.kind == Kind::Do;
-    let e = edge(l.compare, n);
-    let [lo, hi] = [s[0] as i64, s[1] as i64];
-    let n = [n[0] as i64, n[1] as i64];
-    let figure = match step {
-        Step::Add(a, b) if matches!(l.compare, Compare::Eq | Compare::Ne) => {
-            let s = if is_do { [lo + a, hi + b] } else { [lo, hi] };
-            if l.compare == Compare::Eq {
-                equal_turns(s, n)
-            } else {
-                unequal_turns(a, b, s, n).ok_or(12u32)?
-            }
-        }
-        Step::Add(a, _) if a >= 1 => {
-            let t = if is_do { lo + a } else { lo };
-            if t > e { 0 } else { (e - t) / a + 1 }
-        }
-        Step::Add(_, b) => {
-            let t = if is_do { hi + b } else { hi };
-            if t < e { 0 } else { (t - e) / -b + 1 }
-        }
-        Step::Grow(f, _) => {
-            if lo < 1 {
-                return Err(12);
-            }
-            powers(if is_do { lo * f } else { lo }, f, e)
-        }
-        Step::Shrink(f, _) => {
-            if e < 1 {
-                return Err(12);
-            }
-            powers(e, f, if is_do { hi / f } else { hi })
-        }
-        Step::Unknown => unreachable!("question 8"),
-    };
-    Ok((figure + is_do as i64) as u64)
+    let figure = counter.figure(l.compare)?;
+    Ok(if counter.never { 0 } else { counter.before + figure })
 }
 
 /// The tested variable's ranges at the body's start and after the loop.
@@ -247,7 +377,7 @@ fn tested_ranges(l: &Loop, step: Step, s: Range, n: Range) -> (Range, Range) {
         return (ALL, ALL);
     }
     let is_do = l.kind == Kind::Do;
-    let e = edge(l.compare, n);
+    let e = edge(l.compare, wide(n));
     let rising = matches!(l.compare, Compare::Lt | Compare::Le);
     let body = if rising {
         [s[0], (if is_do { s[1] } else { s[0] } as i64).max(e) as i32]
@@ -319,27 +449,65 @@ impl Walk<'_> {
         ticks
     }
 
+    /// The counter of a loop that is entered with `ranges`, a for's start assigned.
+    fn counter(&self, head: usize, l: &Loop, ranges: &Ranges) -> Counter {
+        let is_do = l.kind == Kind::Do;
+        let s = ranges[l.v as usize];
+        let n = range_of(l.limit, ranges);
+        if let Ok(copy) = copied(self.rows, head, l) {
+            let from = ranges[copy.w as usize];
+            let e = edge(l.compare, wide(n));
+            let best_fails = match l.compare {
+                Compare::Lt | Compare::Le => s[0] as i64 > e,
+                _ => (s[1] as i64) < e,
+            };
+            return Counter {
+                counted: Counted::Copied,
+                step: copy.step,
+                s: wide(from),
+                n: wide(n),
+                moved: copy.rows_first,
+                before: 1,
+                never: !is_do && best_fails,
+                single: single(s) && single(from) && single(n),
+            };
+        }
+        let mut step = step(self.rows, head + 1, l.end as usize, l.v);
+        if let Kind::For { step: by, .. } = l.kind {
+            step = step.then(Step::of(by));
+        }
+        Counter {
+            counted: Counted::Tested,
+            step,
+            s: wide(s),
+            n: wide(n),
+            moved: is_do,
+            before: is_do as u64,
+            never: false,
+            single: single(s) && single(n),
+        }
+    }
+
     fn looped(&mut self, head: usize, l: &Loop, ranges: &mut Ranges, round: u128) -> Result<u128, Refusal> {
         let (v, end) = (l.v as usize, l.end as usize);
         if let Kind::For { start, .. } = l.kind {
             ranges[v] = range_of(start, ranges);
         }
-        let s = ranges[v];
-        let n = range_of(l.limit, ranges);
-        let mut step = step(self.rows, head + 1, end, l.v);
-        if let Kind::For { step: by, .. } = l.kind {
-            step = step.then(Step::of(by));
-        }
+        let counter = self.counter(head, l, ranges);
         let assigned = loop_assigns(self.rows, head, l);
-        let turns = turns(l, step, assigned, s, n).map_err(|number| (number, head as u64))?;
+        let turns = turns(l, &counter, assigned).map_err(|number| (number, head as u64))?;
         let total = round.saturating_mul(turns as u128);
+        let step = counter.step;
         let (Step::Add(a, b) | Step::Grow(a, b) | Step::Shrink(a, b)) = step else {
             unreachable!("question 8")
         };
-        let exact = a == b && s[0] == s[1] && n[0] == n[1];
-        self.lines.push(Line { row: head, step, turns, total, exact });
+        let exact = a == b && counter.single;
+        self.lines.push(Line { row: head, counted: counter.counted, step, turns, total, exact });
 
-        let (at_body, after) = tested_ranges(l, step, s, n);
+        let (at_body, after) = match counter.counted {
+            Counted::Tested => tested_ranges(l, step, ranges[v], range_of(l.limit, ranges)),
+            Counted::Copied => (ALL, ALL),
+        };
         for (w, range) in ranges.iter_mut().enumerate() {
             if assigned & (1 << w) != 0 {
                 *range = ALL;

@@ -1,12 +1,14 @@
 //! A second implementation of document 01 in plain Rust, written from its text alone, to compare the
 //! proved one with and to time it against. A refusal is the question's number and its place.
+//! In force are the change requests of document 02 that the code names.
 
 pub mod analyse;
+pub mod desk;
 pub mod read;
 pub mod run;
 pub mod write;
 
-pub use analyse::{Line, Plan, Step};
+pub use analyse::{Counted, Line, Plan, Step};
 pub use read::{Row, Script};
 pub use run::{Counts, Ending, Entry};
 

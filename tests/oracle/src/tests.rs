@@ -392,3 +392,119 @@ fn runs() {
     assert!(!past.entries[0].tested);
     assert_eq!(breach(&plan(&file(&[(0, 0)], &rows), SCRATCH).unwrap(), &past), None);
 }
+
+/// The most turns that the first loop takes in one entry, from any store inside the ranges, without picks.
+fn longest(ranges: &[(i64, i64)], rows: &[&str]) -> u64 {
+    let file = file(ranges, rows);
+    let mut stores = vec![Vec::new()];
+    for &(lo, hi) in ranges {
+        stores = stores.iter().flat_map(|s: &Vec<i32>| (lo..=hi).map(|n| [&s[..], &[n as i32]].concat())).collect();
+    }
+    let most = |store: &Vec<i32>| {
+        let run = run(&file, SCRATCH, store, &[], 1_000_000).unwrap();
+        assert_eq!(run.ending, Ending::Ended);
+        assert_eq!(breach(&plan(&file, SCRATCH).unwrap(), &run), None);
+        run.loops[0].2
+    };
+    stores.iter().map(most).max().unwrap()
+}
+
+/// Change 1.
+#[test]
+fn copied_counters() {
+    let case: &[(i64, i64)] = &[(0, 0), (3, 3)];
+    let line = |ranges: &[(i64, i64)], rows: &[&str]| plan(&file(ranges, rows), SCRATCH).map(|plan| (plan.lines[0].turns, plan.lines[0].exact));
+    // Document 02's case: 1 + c, from w's start moved by one turn; the copy first, it is not moved.
+    assert_eq!(
+        text(case, &["while v0 < 10", "add v1 1", "set v0 v1", "end"]).unwrap(),
+        "report=1\nrows=4\nloops=1\nloop=0 add 1 1 7 7 exact\nticks=22\n"
+    );
+    assert_eq!(line(case, &["while v0 < 10", "set v0 v1", "add v1 1", "end"]), Ok((8, true)));
+    assert_eq!(line(case, &["do v0 < 10", "add v1 1", "set v0 v1", "end"]), Ok((7, true)));
+    assert_eq!(line(case, &["do v0 < 10", "set v0 v1", "add v1 1", "end"]), Ok((8, true)));
+    // A while that never turns is not charged a turn; its best start decides, and not for a do.
+    assert_eq!(line(&[(10, 20), (3, 3)], &["while v0 < 10", "add v1 1", "set v0 v1", "end"]), Ok((0, false)));
+    assert_eq!(line(&[(9, 20), (3, 3)], &["while v0 < 10", "add v1 1", "set v0 v1", "end"]), Ok((7, false)));
+    assert_eq!(line(&[(10, 20), (3, 3)], &["do v0 < 10", "add v1 1", "set v0 v1", "end"]), Ok((7, false)));
+    assert_eq!(line(&[(0, 3), (9, 9)], &["while v0 > 3", "sub v1 1", "set v0 v1", "end"]), Ok((0, false)));
+    assert_eq!(line(&[(0, 4), (9, 9)], &["while v0 > 3", "sub v1 1", "set v0 v1", "end"]), Ok((6, false)));
+    // Past the limit at once: the first turn alone.
+    assert_eq!(line(&[(0, 0), (900, 900)], &["while v0 < 10", "add v1 1", "set v0 v1", "end"]), Ok((1, true)));
+    // Exact needs v, w and the limit single and w's ends equal.
+    let rows = ["while v0 < v2", "add v1 1", "set v0 v1", "end"];
+    assert_eq!(line(&[(0, 0), (3, 3), (9, 9)], &rows), Ok((6, true)));
+    assert_eq!(line(&[(0, 1), (3, 3), (9, 9)], &rows), Ok((6, false)));
+    assert_eq!(line(&[(0, 0), (3, 4), (9, 9)], &rows), Ok((6, false)));
+    assert_eq!(line(&[(0, 0), (3, 3), (9, 10)], &rows), Ok((7, false)));
+    assert_eq!(line(case, &["while v0 < 10", "pick", "add v1 1", "else", "add v1 2", "end", "set v0 v1", "end"]), Ok((7, false)));
+    // v's range is kept neither inside nor after.
+    let plan_of = |rows: &[&str]| plan(&file(&[(0, 0), (0, 0), (0, 0)], rows), SCRATCH).unwrap();
+    let inside = plan_of(&["while v0 < 3", "for v2 0 < v0 add 1", "end", "add v1 1", "set v0 v1", "end"]);
+    assert_eq!(inside.lines[1].turns, 1_000_000_000);
+    let after = plan_of(&["while v0 < 3", "add v1 1", "set v0 v1", "end", "for v2 0 < v0 add 1", "end"]);
+    assert_eq!(after.lines[1].turns, 1_000_000_000);
+    // The master before and after: its range is that at the loop, and lost after it.
+    let master = plan_of(&["set v1 5", "while v0 < 10", "add v1 1", "set v0 v1", "end", "for v2 0 < v1 add 1", "end"]);
+    assert_eq!((master.lines[0].turns, master.lines[1].turns), (5, 1_000_000_000));
+}
+
+/// Change 1: each broken term leaves the step unknown; 10 and 11 are asked as ever.
+#[test]
+fn broken_copies() {
+    let refused = |rows: &[&str]| {
+        let rows = [rows, &["end"]].concat();
+        plan(&file(&[(0, 0), (3, 3), (0, 0)], &rows), SCRATCH).err()
+    };
+    for rows in [
+        &["while v0 < 10", "add v1 1", "pick", "set v0 v1", "end"][..],
+        &["while v0 < 10", "add v1 1", "for v2 0 < 1 add 1", "set v0 v1", "end"],
+        &["for v0 0 < 10 add 1", "add v1 1", "set v0 v1"],
+        &["while v0 == 0", "add v1 1", "set v0 v1"],
+        &["do v0 != 10", "add v1 1", "set v0 v1"],
+        &["while v0 < 10", "add v1 1", "set v0 v1", "add v1 1"],
+        &["while v0 < 10", "add v1 0", "set v0 v1", "add v1 1"],
+        &["while v0 < 10", "add v1 1", "set v0 v1", "pick", "sub v1 0", "end"],
+        &["while v0 < 10", "set v0 v1"],
+        &["while v0 < 10", "add v1 0", "set v0 v1"],
+        &["while v0 < 10", "pick", "add v1 1", "end", "set v0 v1"],
+        &["while v0 < 10", "pick", "add v1 1", "else", "sub v1 1", "end", "set v0 v1"],
+        &["while v0 < 10", "mul v1 2", "set v0 v1"],
+        &["while v0 > 1", "div v1 2", "set v0 v1"],
+        &["while v0 < 10", "set v1 50", "set v0 v1"],
+        &["while v0 < 10", "for v1 1 < 20 add 1", "end", "set v0 v1"],
+        &["while v0 < 10", "add v1 1", "set v0 v1", "set v0 v1"],
+        &["while v0 < 10", "mul v0 1", "add v1 1", "set v0 v1"],
+        &["while v0 < 10", "add v1 1", "set v0 v1", "for v0 0 < 1 add 1", "end"],
+        &["while v0 < 10", "add v1 1", "set v0 v0"],
+        &["while v0 < 10", "add v1 1", "set v0 50"],
+    ] {
+        assert_eq!(refused(rows), Some((8, 0)), "{rows:?}");
+    }
+    assert_eq!(refused(&["while v0 < v1", "add v1 1", "set v0 v1"]), Some((10, 0)));
+    assert_eq!(refused(&["while v0 < v0", "add v1 1", "set v0 v1"]), Some((10, 0)));
+    assert_eq!(refused(&["while v0 < v2", "add v1 1", "set v0 v1", "div v2 1"]), Some((10, 0)));
+    assert_eq!(refused(&["while v0 > v2", "add v1 1", "set v0 v1", "div v2 1"]), Some((10, 0)));
+    assert_eq!(refused(&["while v0 > 10", "add v1 1", "set v0 v1"]), Some((11, 0)));
+    assert_eq!(refused(&["do v0 <= 10", "set v0 v1", "sub v1 1"]), Some((11, 0)));
+}
+
+/// Change 1: the figure is the longest entry of all runs.
+#[test]
+fn copied_counters_counted() {
+    let ranges = [(0, 0), (-1, 1), (0, 3), (2, 2), (4, 6)];
+    for (v, w) in ranges.iter().flat_map(|v| ranges.iter().map(move |w| (*v, *w))) {
+        for limit in [(0, 0), (3, 3), (2, 5)] {
+            for head in ["while v0 < v2", "while v0 <= v2", "do v0 < v2", "do v0 <= v2"] {
+                for rows in [[head, "add v1 2", "set v0 v1", "end"], [head, "set v0 v1", "add v1 2", "end"]] {
+                    let starts = [v, w, limit];
+                    assert_eq!(plan(&file(&starts, &rows), SCRATCH).unwrap().lines[0].turns, longest(&starts, &rows), "{starts:?} {rows:?}");
+                    // Turned round.
+                    let starts = starts.map(|(lo, hi)| (-hi, -lo));
+                    let rows = rows.map(|row| row.replace('<', ">").replace("add", "sub"));
+                    let rows = [&rows[0][..], &rows[1], &rows[2], &rows[3]];
+                    assert_eq!(plan(&file(&starts, &rows), SCRATCH).unwrap().lines[0].turns, longest(&starts, &rows), "{starts:?} {rows:?}");
+                }
+            }
+        }
+    }
+}

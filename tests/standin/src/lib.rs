@@ -1,13 +1,35 @@
 //! The oracle behind the library's C interface. With STANDIN_WRONG=N in the environment it makes the
 //! N-th of the mistakes below, so that the harness can be seen to find them.
 
-use oracle::{report_into, run_counts, Ending};
+use oracle::analyse::{copied, Term};
+use oracle::{read, report_into, report_text, run_counts, Counted, Ending, Plan, Refusal, Row};
 use std::slice;
 use std::sync::OnceLock;
 
 fn wrong(mistake: u32) -> bool {
     static WRONG: OnceLock<u32> = OnceLock::new();
     *WRONG.get_or_init(|| std::env::var("STANDIN_WRONG").ok().and_then(|word| word.parse().ok()).unwrap_or(0)) == mistake
+}
+
+/// What a report answers by a mistake of the analysis; None if there is none.
+fn misread(file: &[u8], plan: &Result<Plan, Refusal>) -> Option<Result<Vec<u8>, Refusal>> {
+    match plan {
+        // 13: a copied counter's figure without the first turn.
+        Ok(plan) if wrong(13) => {
+            let mut plan = plan.clone();
+            for line in plan.lines.iter_mut().filter(|line| line.counted == Counted::Copied) {
+                line.turns = line.turns.saturating_sub(1);
+            }
+            Some(Ok(report_text(&plan)))
+        }
+        // 14: a master's rows on both sides of its copy are not seen.
+        Err((8, head)) if wrong(14) => {
+            let rows = read::script(file).ok()?.rows;
+            let Row::Loop(l) = rows[*head as usize] else { return None };
+            (copied(&rows, *head as usize, &l) == Err(Term::Sides)).then_some(Err((9, *head)))
+        }
+        _ => None,
+    }
 }
 
 /// # Safety
@@ -25,7 +47,15 @@ pub unsafe extern "C" fn diftanew_report(
     let file = slice::from_raw_parts(file, file_len);
     let scratch = slice::from_raw_parts_mut(scratch, scratch_len);
     let buffer = slice::from_raw_parts_mut(buffer, buffer_len);
-    let answer = report_into(file, scratch_len, buffer);
+    let mut answer = report_into(file, scratch_len, buffer);
+    match misread(file, &oracle::plan(file, scratch_len)) {
+        Some(Ok(text)) if text.len() <= buffer_len => {
+            buffer[..text.len()].copy_from_slice(&text);
+            answer = Ok(text.len() as u64);
+        }
+        Some(Err(refusal)) => answer = Err(refusal),
+        _ => {}
+    }
     match answer {
         // 1: a byte past the report is written.
         Ok(length) if wrong(1) && (length as usize) < buffer_len => buffer[length as usize] = 0,

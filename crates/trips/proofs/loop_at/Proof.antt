@@ -9,7 +9,7 @@ use Rattle.table.specs.Code.{kindAt, rowsOf}
 use Rattle.steps.specs.Tree.{formOf, testOf}
 use Rattle.steps.specs.Body.{bodyAt}
 use Rattle.trips.specs.Env.{envOf}
-use Rattle.trips.proofs.Filling.{own-is}
+use Rattle.trips.proofs.Filling.{trip-is, near-is}
 use borrow.Author.Needs.{needs}
 use Rattle.trips.proofs.loop_at.Statement.{statement}
 use Rattle.trips.proofs.loop_at.Tie as tie
@@ -17,23 +17,34 @@ use Rattle.trips.proofs.loop_at.Tie as tie
 head-of-requires : tie.Need-head-of-requires
 head-of-requires c κs = rw (c .kind-at .ensures) (c .before .pre .ready .fine _ (c .before .pre .inside))
 
+way-of-requires : tie.Need-way-of-requires
+way-of-requires c κs =
+    let s = c .before .before .before .before .before .before .before in
+    let h = rw (c .before .before .before .before .before .before .kind-at .ensures) at (c .before .before .before .before .before .head-of .ensures) in
+    (s .pre, c .before .before .before .before .body-moves .ensures .moves ∙ ap (λ v. step v (bodyAt (rowsOf (now (s .args .rows))) (s .args .count) (s .args .i))) (h .tested))
+
+trip-by-requires : tie.Need-trip-by-requires
+trip-by-requires c κs = c .before .way-of .ensures .small
+
 returns : tie.Need-returns
 returns c =
-    let a = c .before .before .before .before .before .before .before .before .before .args in
+    let a = c .before .before .before .before .before .before .before .before .before .before .args in
     let rows = rowsOf (now (a .rows)) in
     let k = kindAt rows (a .i) in
     let body = bodyAt rows (a .count) (a .i) in
     let ρ = envOf (now (a .begun)) in
-    let same = c .before .before .before .before .before .before .before .before .kind-at .ensures in
-    let h = rw same at (c .before .before .before .before .before .before .before .head-of .ensures) in
-    let b = c .before .before .before .before .before .before .body-moves .ensures in
+    let same = c .before .before .before .before .before .before .before .before .before .kind-at .ensures in
+    let h = rw same at (c .before .before .before .before .before .before .before .before .head-of .ensures) in
+    let b = c .before .before .before .before .before .before .before .body-moves .ensures in
+    let way = c .before .before .way-of .ensures in
+    let r = c .trip-by .ensures in
     record {
-      trip = c .own-trip .ensures ∙ own-is (formOf k) ρ (testOf k) body (c .before .is-do .ensures ∙ ap (λ d. isDo (formOf d)) same) (b .moves ∙ ap (λ v. step v body) (h .tested)) (h .comparison)
-          (c .before .before .before .before .span-at .ensures ∙ ap ρ (h .tested)) (c .before .before .before .bounds .ensures ∙ ap (bounds ρ) (h .limit)) (c .before .before .keeps .ensures body (b .sets) ∙ ap (λ x. keeps x body) (h .limit));
+      trip = r ∙ trip-is (formOf k) ρ (testOf k) body (c .before .before .way-of .result) (way .value) (way .moves) (c .before .is-do .ensures ∙ ap (λ d. isDo (formOf d)) same) (b .moves ∙ ap (λ v. step v body) (h .tested)) (h .comparison)
+          (c .before .before .before .before .before .span-at .ensures ∙ ap ρ (h .tested)) (c .before .before .before .before .bounds .ensures ∙ ap (bounds ρ) (h .limit)) (c .before .before .before .keeps .ensures body (b .sets) ∙ ap (λ x. keeps x body) (h .limit));
       tested = h .tested;
       small = h .small;
       sets = b .sets;
-      near = subst (Ends 256) (sym (ap (λ (τ : Trip). τ .step) (c .own-trip .ensures))) (b .near);
+      near = subst (Ends 256) (sym (ap (λ (τ : Trip). τ .step) r)) (near-is (c .before .before .way-of .result) body ρ _ _ _ _ _ _ (way .moves) (b .near));
       ends = b .ends;
     }
 
@@ -47,6 +58,7 @@ loop-at-spec =
     (λ c κs. search needs)
     (λ c κs. search needs)
     (λ c κs. search needs)
+    way-of-requires
     (λ c κs. search needs)
-    (λ c κs. search needs)
+    trip-by-requires
     returns)

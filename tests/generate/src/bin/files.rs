@@ -1,5 +1,6 @@
-//! files SCRIPTS ANSWERS: writes the hand-made script files and their answers into these directories. Every answer in
-//! the table below was found by thought from document 01; the program stops if the oracle's differs.
+//! files CRATE ANSWERS: writes the hand-made script files into the crate's data, with its stdin and stdout, and their answers into
+//! the other directory. Every answer in the table below was found by thought from documents 01 and 02; the exit code is 1 if
+//! the oracle's differs.
 //!
 //! An answer is "refused NUMBER PLACE", or the loop lines and the ticks of the report, with commas between.
 
@@ -8,7 +9,8 @@ use std::path::Path;
 struct Files<'d> {
     scripts: &'d Path,
     answers: &'d Path,
-    count: usize,
+    /// Every file's name and answer.
+    written: Vec<(String, String)>,
     wrong: usize,
 }
 
@@ -47,8 +49,8 @@ impl Files<'_> {
         let script = self.scripts.join(format!("{name}.script"));
         assert!(!script.exists(), "{name} twice");
         std::fs::write(script, file).unwrap();
-        std::fs::write(self.answers.join(format!("{name}.expected")), answer).unwrap();
-        self.count += 1;
+        std::fs::write(self.answers.join(format!("{name}.expected")), &answer).unwrap();
+        self.written.push((format!("{name}.script"), answer));
     }
 
     fn rows(&mut self, name: &str, ranges: &[(i64, i64)], rows: &[&str], thought: &str) {
@@ -71,9 +73,10 @@ const L: i64 = 1_000_000_000;
 const ALL: (i64, i64) = (-L, L);
 
 fn main() {
-    let directory = |n| std::env::args().nth(n).expect("use: files SCRIPTS ANSWERS");
-    let (scripts, answers) = (directory(1), directory(2));
-    let mut f = Files { scripts: Path::new(&scripts), answers: Path::new(&answers), count: 0, wrong: 0 };
+    let directory = |n| std::env::args().nth(n).expect("use: files CRATE ANSWERS");
+    let (crate_of, answers) = (directory(1), directory(2));
+    let scripts = Path::new(&crate_of).join("data");
+    let mut f = Files { scripts: &scripts, answers: Path::new(&answers), written: Vec::new(), wrong: 0 };
     checked_figures(&mut f);
     accepted(&mut f);
     questions_2_and_3(&mut f);
@@ -81,7 +84,13 @@ fn main() {
     questions_6_and_7(&mut f);
     questions_8_to_12(&mut f);
     question_13(&mut f);
-    println!("{} files, {} not as thought", f.count, f.wrong);
+    copied_counters(&mut f);
+    f.written.sort();
+    let names: String = f.written.iter().map(|(name, _)| format!("{name}\n")).collect();
+    let printed: String = f.written.iter().map(|(name, answer)| format!("{name}\n{answer}")).collect();
+    std::fs::write(Path::new(&crate_of).join("stdin"), names).unwrap();
+    std::fs::write(Path::new(&crate_of).join("stdout"), printed).unwrap();
+    println!("{} files, {} not as thought", f.written.len(), f.wrong);
     std::process::exit((f.wrong > 0) as i32);
 }
 
@@ -493,4 +502,98 @@ fn question_13(f: &mut Files) {
     f.rows("refused-13-end-row-255", two, &rows, "refused 13 255");
     f.brief("refused-9-before-13", two, &format!("{part}, {part}, do v0 > 0, div v0 1, end"), "refused 9 8");
     f.brief("refused-12-before-13", two, &format!("{part}, {part}, while v0 != 5, add v0 3, end"), "refused 12 8");
+}
+
+/// Change 1. A body of the master's row and the copy has 2 ticks.
+fn copied_counters(f: &mut Files) {
+    let case: &[(i64, i64)] = &[(0, 0), (3, 3)];
+    // The copies are 4 to 9, and 10 fails: 1 + 6.
+    f.brief("accepted-copied-case", case, "while v0 < 10, add v1 1, set v0 v1, end", "0 add 1 1 7 7 exact, 22");
+    // The copies are 3 to 9.
+    f.brief("accepted-copied-copy-first", case, "while v0 < 10, set v0 v1, add v1 1, end", "0 add 1 1 8 8 exact, 25");
+    f.brief("accepted-copied-do", case, "do v0 < 10, add v1 1, set v0 v1, end", "0 add 1 1 7 7 exact, 21");
+    f.brief("accepted-copied-do-copy-first", case, "do v0 < 10, set v0 v1, add v1 1, end", "0 add 1 1 8 8 exact, 24");
+    // The first copy fails: the first turn alone.
+    f.brief("accepted-copied-first-turn-alone", &[(0, 0), (9, 9)], "while v0 < 10, add v1 1, set v0 v1, end", "0 add 1 1 1 1 exact, 4");
+    f.brief("accepted-copied-without-a-turn", &[(10, 20), (3, 3)], "while v0 < 10, add v1 1, set v0 v1, end", "0 add 1 1 0 0 most, 1");
+    f.brief("accepted-copied-best-start-passes", &[(9, 20), (3, 3)], "while v0 < 10, add v1 1, set v0 v1, end", "0 add 1 1 7 7 most, 22");
+    f.brief("accepted-copied-do-from-past-the-limit", &[(10, 20), (3, 3)], "do v0 < 10, add v1 1, set v0 v1, end", "0 add 1 1 7 7 most, 21");
+    // E is 3; the copies of 9 are 7, 5, 3, those of 8 fewer.
+    f.brief("accepted-copied-falling", &[(0, 3), (8, 9)], "while v0 >= 3, sub v1 2, set v0 v1, end", "0 add -2 -2 4 4 most, 13");
+    f.brief("accepted-copied-falling-without-a-turn", &[(0, 3), (8, 9)], "while v0 > 3, sub v1 2, set v0 v1, end", "0 add -2 -2 0 0 most, 1");
+    f.brief("accepted-copied-counter-not-single", &[(0, 1), (3, 3)], "while v0 < 10, add v1 1, set v0 v1, end", "0 add 1 1 7 7 most, 22");
+    f.brief("accepted-copied-master-not-single", &[(0, 0), (3, 4)], "while v0 < 10, add v1 1, set v0 v1, end", "0 add 1 1 7 7 most, 22");
+    // The loosest limit is 12: the copies are 4 to 11.
+    f.brief("accepted-copied-limit-not-single", &[(0, 0), (3, 3), (10, 12)], "while v0 < v2, add v1 1, set v0 v1, end", "0 add 1 1 9 9 most, 28");
+    // Step 2 to 3: 5, 7, 9. A body of a pick with a row, and the copy.
+    f.brief(
+        "accepted-copied-slowest-step",
+        case,
+        "while v0 < 10, pick, add v1 2, else, add v1 3, end, set v0 v1, end",
+        "0 add 2 3 4 4 most, 17",
+    );
+    // All rows of the master on one side, standing ones too: 3, 5, 7, 9.
+    f.brief(
+        "accepted-copied-rows-on-one-side",
+        case,
+        "while v0 < 10, cue 1, set v0 v1, add v1 0, pick, cue 2, end, add v1 3, sub v1 1, end",
+        // A turn: cue, copy, three rows of the master and the pick's 2, and the test.
+        "0 add 2 2 5 5 exact, 41",
+    );
+    // The range of the master is that at the loop: copies 6 to 9.
+    f.brief("accepted-copied-master-set-before", case, "set v1 5, while v0 < 10, add v1 1, set v0 v1, end", "1 add 1 1 5 5 exact, 17");
+    // In the body the counter is not known: as many turns as up to L. 3 turns outside; inside 2·10^9 + 2 ticks.
+    f.brief(
+        "accepted-copied-not-known-in-the-body",
+        &[(0, 0), (0, 0), (0, 0)],
+        "while v0 < 3, for v2 0 < v0 add 1, end, add v1 1, set v0 v1, end",
+        "0 add 1 1 3 3 exact, 1 add 1 1 1000000000 3000000000 most, 6000000016",
+    );
+    f.brief(
+        "accepted-copied-not-known-after",
+        &[(0, 0), (0, 0), (0, 0)],
+        "while v0 < 3, add v1 1, set v0 v1, end, for v2 0 < v0 add 1, end, for v2 0 > v1 sub 1, end",
+        "0 add 1 1 3 3 exact, 4 add 1 1 1000000000 1000000000 most, 6 add -1 -1 1000000000 1000000000 most, 4000000014",
+    );
+    // Two of them, one in the other: the inner starts are not known. 1 + (4 + L - 1) + 1 turns inside, of 3 ticks.
+    f.brief(
+        "accepted-copied-in-a-copied",
+        &[(0, 0), (3, 3), (0, 0), (0, 0)],
+        "while v0 < 10, add v1 1, set v0 v1, while v2 < 5, add v3 1, set v2 v3, end, end",
+        "0 add 1 1 7 7 exact, 3 add 1 1 1000000005 7000000035 most, 21000000134",
+    );
+    // -L, 0, L: moved first, the copies are 0 and L.
+    f.brief(
+        "accepted-copied-at-the-limits",
+        &[(-L, -L), (-L, -L)],
+        "while v0 <= 1000000000, add v1 1000000000, set v0 v1, end",
+        "0 add 1000000000 1000000000 3 3 exact, 10",
+    );
+    f.brief("accepted-copied-by-ones", &[(-L, -L), (-L, -L)], "do v0 <= 1000000000, set v0 v1, add v1 1, end", "0 add 1 1 2000000002 2000000002 exact, 6000000006");
+    let three: &[(i64, i64)] = &[(0, 0), (3, 3), (0, 0)];
+    f.brief("refused-8-copy-in-a-pick", case, "while v0 < 10, add v1 1, pick, set v0 v1, end, end", "refused 8 0");
+    f.brief("refused-8-copy-in-both-branches", case, "while v0 < 10, add v1 1, pick, set v0 v1, else, set v0 v1, end, end", "refused 8 0");
+    f.brief("refused-8-copy-in-an-inner-loop", three, "while v0 < 10, add v1 1, for v2 0 < 1 add 1, set v0 v1, end, end", "refused 8 0");
+    f.brief("refused-8-copy-in-a-for", case, "for v0 0 < 10 add 1, add v1 1, set v0 v1, end", "refused 8 0");
+    f.brief("refused-8-copy-rows-on-both-sides", case, "while v0 < 10, add v1 1, set v0 v1, add v1 1, end", "refused 8 0");
+    f.brief("refused-8-copy-standing-row-before", case, "while v0 < 10, add v1 0, set v0 v1, add v1 1, end", "refused 8 0");
+    f.brief("refused-8-copy-standing-row-after", case, "do v0 < 10, add v1 1, set v0 v1, mul v1 1, end", "refused 8 0");
+    f.brief("refused-8-copy-of-a-standing-master", case, "while v0 < 10, set v0 v1, end", "refused 8 0");
+    f.brief("refused-8-copy-of-a-master-that-may-stand", case, "while v0 < 10, pick, add v1 1, end, set v0 v1, end", "refused 8 0");
+    f.brief("refused-8-copy-of-a-master-of-both-ways", case, "while v0 < 10, pick, add v1 5, else, sub v1 5, end, set v0 v1, end", "refused 8 0");
+    f.brief("refused-8-copy-of-a-growing-master", case, "while v0 < 10, mul v1 2, set v0 v1, end", "refused 8 0");
+    f.brief("refused-8-copy-of-a-shrinking-master", case, "while v0 > 1, div v1 2, set v0 v1, end", "refused 8 0");
+    f.brief("refused-8-copy-of-a-master-that-is-set", case, "while v0 < 10, set v1 20, set v0 v1, end", "refused 8 0");
+    f.brief("refused-8-copy-of-a-master-in-an-inner-loop", three, "while v0 < 10, for v2 0 < 1 add 1, add v1 1, end, set v0 v1, end", "refused 8 0");
+    f.brief("refused-8-copy-equal", case, "while v0 == 0, add v1 1, set v0 v1, end", "refused 8 0");
+    f.brief("refused-8-copy-unequal", case, "do v0 != 10, add v1 1, set v0 v1, end", "refused 8 0");
+    f.brief("refused-8-copy-and-a-standing-row", case, "while v0 < 10, add v1 1, set v0 v1, add v0 0, end", "refused 8 0");
+    f.brief("refused-8-copy-twice", case, "while v0 < 10, add v1 1, set v0 v1, set v0 v1, end", "refused 8 0");
+    f.brief("refused-8-copy-and-an-inner-for", case, "while v0 < 10, add v1 1, set v0 v1, for v0 0 < 1 add 1, end, end", "refused 8 0");
+    f.brief("refused-8-copy-of-itself", case, "while v0 < 10, add v1 1, set v0 v0, end", "refused 8 0");
+    f.brief("refused-10-copied-limit-is-the-master", case, "while v0 < v1, add v1 1, set v0 v1, end", "refused 10 0");
+    f.brief("refused-10-copied-limit-is-the-counter", case, "while v0 < v0, add v1 1, set v0 v1, end", "refused 10 0");
+    f.brief("refused-10-copied-limit-assigned", three, "while v0 < v2, add v1 1, set v0 v1, cue 1, sub v2 0, end", "refused 10 0");
+    f.brief("refused-11-copied-falling", case, "while v0 < 10, sub v1 1, set v0 v1, end", "refused 11 0");
+    f.brief("refused-11-copied-rising", case, "do v0 >= 10, set v0 v1, add v1 1, end", "refused 11 0");
 }

@@ -1,12 +1,12 @@
--- `turns::moving` meets its contract.
+-- `trips::moving` meets its contract.
 use borrow.Author.Needs.{needs}
 use borrow.Author.Needs.{sfits-of}
 use mir.Syntax.{w64}
 use mir.Val.{SFits}
 use mir.Facts.{toZ-ofZ}
 use Rattle.rules.specs.Steps.{moving}
-use Rattle.turns.proofs.moving.Statement.{statement}
-use Rattle.turns.proofs.moving.Tie as tie
+use Rattle.trips.proofs.moving.Statement.{statement}
+use Rattle.trips.proofs.moving.Tie as tie
 
 returns : tie.Need-returns
 unfolding moving

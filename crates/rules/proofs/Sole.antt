@@ -1,0 +1,155 @@
+-- A variable whose only assignment in a block copies another: what it holds after a run.
+use mathlib.Core.Path.{_≡_, refl, sym, ap, _∙_}
+use mathlib.Core.Bool.{Bool, true, false, not, cond, _||_}
+use Prim.Native.Nat.{ℕ}
+use lib.Dec.{T, eqb}
+use Rattle.ints.proofs.Diffs.{cond-elim, cond-true, nor}
+use Rattle.rules.specs.declared.Operand.the-variants.{Constant, Variable}
+use Rattle.rules.specs.declared.Step.{Step}
+use Rattle.rules.specs.declared.Step.the-variants.{Add, Grow, Shrink, Unknown}
+use Rattle.rules.specs.Values.{Store, value}
+use Rattle.rules.specs.Blocks.{Test, Form, from, changed, Plain, assign, cue, Block, done, plain, pick, loop}
+use Rattle.rules.specs.Steps.{sets, starts, assigns, rowStep, sourceStep, then, stepFrom, step, still, Sole, other, sole, behind, soleRow, soleOf}
+use Rattle.rules.specs.Trips.{own, soleWay, wayOf}
+use Rattle.rules.specs.Questions.{known}
+use Rattle.rules.specs.Figures.{Prices}
+use Rattle.rules.specs.Run.{State, result, exec, run, bind}
+use Rattle.rules.proofs.Outcomes.{Thru, went, at, thru-bind, thru-charge, thru-taken, thru-map, thru-all, thru-write, thru-pi, thru-and}
+use Rattle.rules.proofs.Steps.{exec-frame, enter-frame, frame}
+
+-- from g to h: v is w after its rows, or before them
+abbrev pub Alone : ℕ → Store → Store → Sole → Type 0
+Alone v g h other = Unit {0}
+Alone v g h (sole w before after) = (T (not after) → h v ≡ h w) × (T (not before) → h v ≡ g w)
+
+-- what a part in front keeps
+abbrev Keeps : (ℕ → Bool) → Store → Store → Type 0
+Keeps assigned g h = (w : ℕ) → T (not (assigned w)) → h w ≡ g w
+
+behind-alone : (assigned : ℕ → Bool) (v : ℕ) (f g h : Store) → Keeps assigned f g → (so : Sole) → Alone v g h so → Alone v f h (behind assigned v so)
+unfolding behind
+behind-alone assigned v f g h keeps other a = tt
+behind-alone assigned v f g h keeps (sole w before after) (a, b) =
+    cond-elim (λ so. Alone v f h so) (assigned v) other _ (λ _. tt)
+    (λ _. (a, λ n. let (nw, nb) = nor (assigned w) before n in b nb ∙ keeps w nw))
+
+module _ (π : Prices) where
+  -- the row itself, and the rows after it
+  row-alone : (i v : ℕ) (p : Plain) (rest : Block) → T (sets v p) → (s : State) → Thru (λ t. Alone v (s .store) (t .store) (soleRow v p rest)) (bind (exec π i p s) (λ t. run π rest t))
+  unfolding soleRow sets exec result value
+  row-alone i v (assign u (from (Variable w))) rest h s =
+      cond-elim (λ so. Thru (λ t. Alone v (s .store) (t .store) so) (bind (exec π i (assign u (from (Variable w))) s) (λ t. run π rest t)))
+      (eqb w v || assigns v rest) other (sole w false (assigns w rest)) (λ _. thru-all _ (λ _. tt))
+      (λ n. let (_, nv) = nor (eqb w v) (assigns v rest) n in
+      thru-bind {Q = λ t. (t .store v ≡ s .store w) × (t .store w ≡ s .store w)}
+      (thru-charge _ i _ s _ λ m. thru-write i u _ _ λ _. (cond-true (eqb v u) _ _ h, cond-elim (λ z. z ≡ s .store w) (eqb w u) _ _ (λ _. refl) (λ _. refl)))
+      (λ t (e, k). thru-map (λ r (x, y). (λ na. x ∙ e ∙ sym (y na ∙ k), λ _. x ∙ e)) (both-kept rest v w nv t)))
+    where
+      both-kept : (rest : Block) (v w : ℕ) → T (not (assigns v rest)) → (t : State)
+          → Thru (λ r. (r .store v ≡ t .store v) × (T (not (assigns w rest)) → r .store w ≡ t .store w)) (run π rest t)
+      both-kept rest v w nv t = thru-and (frame π rest v _ nv t refl) (thru-pi _ λ na. frame π rest w _ na t refl)
+  row-alone i v (assign u (from (Constant k))) rest h s = thru-all _ (λ _. tt)
+  row-alone i v (assign u (changed c)) rest h s = thru-all _ (λ _. tt)
+  row-alone i v (cue n) rest h s = thru-all _ (λ _. tt)
+
+  pub alone : (v : ℕ) (b : Block) (s : State) → Thru (λ t. Alone v (s .store) (t .store) (soleOf v b)) (run π b s)
+  unfolding run soleOf
+  alone v done s = went tt
+  alone v (plain i p rest) s =
+      cond-elim (λ so. Thru (λ t. Alone v (s .store) (t .store) so) (bind (exec π i p s) (λ t. run π rest t))) (sets v p) _ _
+      (λ h. row-alone i v p rest h s)
+      (λ _. thru-bind {Q = λ t. Keeps (λ w. sets w p) (s .store) (t .store)}
+      (thru-pi _ λ w. thru-pi _ λ n. exec-frame π i p w _ n s refl)
+      (λ t k. thru-map (λ u a. behind-alone _ v _ _ _ k (soleOf v rest) a) (alone v rest t)))
+  alone v (pick i e a b rest) s =
+      thru-bind {Q = λ t. Keeps (λ w. assigns w a || assigns w b) (s .store) (t .store)}
+      (thru-pi _ λ w. thru-pi _ λ n. let (na, nb) = nor (assigns w a) (assigns w b) n in
+      thru-charge _ i _ s _ λ m. thru-taken i (s .picks) _ _ _ (λ bs. frame π a w _ na (at s m bs) refl) (λ bs. frame π b w _ nb (at s m bs) refl))
+      (λ t k. thru-map (λ u x. behind-alone _ v _ _ _ k (soleOf v rest) x) (alone v rest t))
+  alone v (loop i e form test body rest) s =
+      thru-bind {Q = λ t. Keeps (λ w. starts w form test || assigns w body) (s .store) (t .store)}
+      (thru-pi _ λ w. thru-pi _ λ n. let (ns, nb) = nor (starts w form test) (assigns w body) n in
+      enter-frame π form i test (λ t. run π body t) w _ ns (λ t j. frame π body w _ nb t j) s refl)
+      (λ t k. thru-map (λ u a. behind-alone _ v _ _ _ k (soleOf v rest) a) (alone v rest t))
+
+-- for code that walks the rows forward: no part in front, and the parts passed so far as one part in front
+pub behind-none : (v : ℕ) (so : Sole) → behind (λ w. false) v so ≡ so
+unfolding behind
+behind-none v other = refl
+behind-none v (sole w before after) = refl
+
+or-assoc : (a b c : Bool) → a || (b || c) ≡ (a || b) || c
+or-assoc true b c = refl
+or-assoc false b c = refl
+
+pub behind-twice : (f g : ℕ → Bool) (v : ℕ) (so : Sole) → behind f v (behind g v so) ≡ behind (λ w. f w || g w) v so
+unfolding behind
+behind-twice f g v other = refl
+behind-twice f g v (sole w before after) =
+    cond-elim (λ so. behind f v so ≡ cond (f v || g v) other (sole w ((f w || g w) || before) after)) (g v) other _
+    (λ h. sym (cond-true (f v || g v) _ _ (or-too (f v) (g v) h)))
+    (λ n. by (f v) (g v) n)
+  where
+    or-too : (a b : Bool) → T b → T (a || b)
+    or-too true b h = tt
+    or-too false b h = h
+
+    by : (p q : Bool) → T (not q) → cond p other (sole w (f w || (g w || before)) after) ≡ cond (p || q) other (sole w ((f w || g w) || before) after)
+    by true q n = refl
+    by false true n = absurd n
+    by false false n = ap (λ z. sole w z after) (or-assoc (f w) (g w) before)
+
+-- ---- a variable with a sole copy has no step of its own
+-- what its sole row says of its step
+abbrev Stepless : Sole → Step → Type 0
+Stepless other st = Unit {0}
+Stepless (sole w before after) st = st ≡ Unknown
+
+behind-stepless : (assigned : ℕ → Bool) (v : ℕ) (st : Step) (so : Sole) → Stepless so st → Stepless (behind assigned v so) st
+unfolding behind
+behind-stepless assigned v st other h = tt
+behind-stepless assigned v st (sole w before after) h = cond-elim (λ so. Stepless so st) (assigned v) other _ (λ _. tt) (λ _. h)
+
+then-unknown : (st : Step) → then st Unknown ≡ Unknown
+unfolding then
+then-unknown (Add a b) = refl
+then-unknown (Grow f g) = refl
+then-unknown (Shrink f g) = refl
+then-unknown Unknown = refl
+
+from-unknown : (v : ℕ) (b : Block) → stepFrom Unknown v b ≡ Unknown
+unfolding stepFrom then
+from-unknown v done = refl
+from-unknown v (plain i p rest) = from-unknown v rest
+from-unknown v (pick i e a b rest) = from-unknown v rest
+from-unknown v (loop i e form test body rest) = from-unknown v rest
+
+row-stepless : (acc : Step) (v : ℕ) (p : Plain) (rest : Block) → T (sets v p) → Stepless (soleRow v p rest) (stepFrom (then acc (rowStep v p)) v rest)
+unfolding soleRow sets rowStep sourceStep
+row-stepless acc v (assign u (from (Variable w))) rest h =
+    cond-elim (λ so. Stepless so (stepFrom (then acc (cond (eqb v u) Unknown still)) v rest)) (eqb w v || assigns v rest) other _ (λ _. tt)
+    (λ _. rw (cond-true (eqb v u) Unknown still h, then-unknown acc) (from-unknown v rest))
+row-stepless acc v (assign u (from (Constant k))) rest h = tt
+row-stepless acc v (assign u (changed c)) rest h = tt
+row-stepless acc v (cue n) rest h = tt
+
+stepless : (acc : Step) (v : ℕ) (b : Block) → Stepless (soleOf v b) (stepFrom acc v b)
+unfolding soleOf stepFrom
+stepless acc v done = tt
+stepless acc v (plain i p rest) =
+    cond-elim (λ so. Stepless so (stepFrom (then acc (rowStep v p)) v rest)) (sets v p) _ _
+    (λ h. row-stepless acc v p rest h) (λ _. behind-stepless _ v _ (soleOf v rest) (stepless _ v rest))
+stepless acc v (pick i e a b rest) = behind-stepless _ v _ (soleOf v rest) (stepless _ v rest)
+stepless acc v (loop i e form test body rest) = behind-stepless _ v _ (soleOf v rest) (stepless _ v rest)
+
+pub sole-unknown : (v : ℕ) (b : Block) {w : ℕ} {before after : Bool} → soleOf v b ≡ sole w before after → step v b ≡ Unknown
+sole-unknown v b e = rw e at (stepless still v b)
+
+-- so a loop whose tested variable's own step is known goes its own way: code looks for the sole copy only if that step is Unknown
+pub known-own : (form : Form) (test : Test) (body : Block) → known (step (test .tested) body) ≡ true → own ≡ wayOf form test body
+unfolding soleWay known
+known-own form test body k = by (soleOf (test .tested) body) _ (stepless _ (test .tested) body) k
+  where
+    by : (so : Sole) (st : Step) → Stepless so st → known st ≡ true → own ≡ soleWay form test body so
+    by other st h k = refl
+    by (sole w before after) st h k = let z : true ≡ false = sym k ∙ ap known h in cc

@@ -1,0 +1,94 @@
+-- The walk that finds the only assignment of a variable.
+use mathlib.Core.Path.{_≡_, refl, sym, ap, _∙_}
+use mathlib.Core.Bool.{Bool, true, false, cond, _||_}
+use mathlib.Core.List.{List}
+use Prim.Native.Nat.{ℕ}
+use types.Run.{OneOf, miss}
+use denote.Enum.Declared.{tagOf}
+use lib.Dec.{eqb}
+use lib.IntN.{ℤ}
+use Rattle.rules.specs.declared.Row.{Row}
+use Rattle.rules.specs.declared.Operand.the-variants.{Constant, Variable}
+use Rattle.rules.specs.declared.Kind.{Kind}
+use Rattle.rules.specs.declared.Kind.the-variants.{Set}
+use Rattle.rules.specs.Blocks.{Plain, from, assign, viewOf, withLast, Block, done, plain, pick, loop}
+use Rattle.rules.specs.Steps.{sets, starts, assigns, Sole, other, sole, behind, soleRow, soleOf}
+use Rattle.rules.proofs.Sole.{behind-none, behind-twice}
+use Rattle.table.specs.declared.Tag.{Tag}
+use Rattle.table.specs.declared.Shape.{Shape}
+use Rattle.table.specs.Code.{numbersAt, rowTag, kindBy, kindAt, rowsOf}
+use Rattle.table.specs.Shapes.{shapeOf, plainOf}
+use Rattle.table.proofs.Tag.{the-type}
+use Rattle.table.proofs.Laws.{kind-is}
+use Rattle.steps.specs.declared.Stepped.{Stepped}
+use Rattle.steps.specs.Tree.{blockAt, headOf, formOf, testOf}
+use Rattle.steps.specs.Sets.{setOf, none, withRow, assignsFrom}
+use Rattle.steps.specs.Body.{MovesOf}
+use Rattle.steps.specs.Soles.{soleFrom}
+use Rattle.steps.proofs.Sets.{or-false, pick-adds, loop-adds}
+use Rattle.steps.proofs.Tags.{no-set}
+
+-- what a block assigns, found from no set
+pub rest-is : {rows : List Row} {count at v : ℕ} {z n : List Bool} {m : Stepped} → setOf z ≡ none → MovesOf rows count at v z n m → (u : ℕ) → setOf n u ≡ assigns u (blockAt rows count at)
+unfolding assignsFrom none
+rest-is {rows} {count} {at} e k u = ap (λ (y : ℕ → Bool). y u) (k .sets .value ∙ ap (λ x. assignsFrom x (blockAt rows count at)) e)
+
+module _ (v : ℕ) where
+  pub from-nothing : {x : ℕ → Bool} → x ≡ none → (b : Block) → soleFrom v x b ≡ soleOf v b
+  unfolding soleFrom none
+  from-nothing e b = ap (λ y. behind y v (soleOf v b)) e ∙ behind-none v (soleOf v b)
+
+  module _ (x : ℕ → Bool) where
+    pub sole-done : soleFrom v x done ≡ other
+    unfolding soleFrom soleOf behind
+    sole-done = refl
+
+    -- a row that does not assign v, and one that does
+    pub sole-past : (i : ℕ) (p : Plain) → sets v p ≡ false → (rest : Block) → soleFrom v x (plain i p rest) ≡ soleFrom v (withRow x p) rest
+    unfolding soleFrom soleOf withRow
+    sole-past i p h rest = rw h (behind-twice x (λ w. sets w p) v (soleOf v rest))
+
+    pub sole-here : (i : ℕ) (p : Plain) → sets v p ≡ true → (rest : Block) → soleFrom v x (plain i p rest) ≡ behind x v (soleRow v p rest)
+    unfolding soleFrom soleOf
+    sole-here i p h rest = rw h
+
+    pub sole-pick : (i e : ℕ) (a b rest : Block) → soleFrom v x (pick i e a b rest) ≡ soleFrom v (assignsFrom (assignsFrom x a) b) rest
+    unfolding soleFrom soleOf
+    sole-pick i e a b rest = behind-twice x (λ w. assigns w a || assigns w b) v (soleOf v rest) ∙ ap (λ y. behind y v (soleOf v rest)) (pick-adds x a b)
+
+    pub sole-loop : (i : ℕ) (k : Kind) → shapeOf k ≡ Shape.Loop → (e : ℕ) (b rest : Block)
+        → soleFrom v x (loop i e (formOf k) (testOf k) (withLast (headOf k .last) i b) rest) ≡ soleFrom v (withRow (assignsFrom x b) (plainOf k)) rest
+    unfolding soleFrom soleOf
+    sole-loop i k h e b rest =
+        behind-twice x (λ w. starts w (formOf k) (testOf k) || assigns w (withLast (headOf k .last) i b)) v (soleOf v rest) ∙ ap (λ y. behind y v (soleOf v rest)) (loop-adds x i k h b)
+
+    -- the row `set v w`
+    pub copy-is : {k : Kind} {u w : ℕ} → k ≡ Set u (Variable w) → (rest : Block)
+        → behind x v (soleRow v (plainOf k) rest) ≡ cond (eqb w v) other (cond (assigns v rest) other (cond (x v) other (sole w (x w) (assigns w rest))))
+    unfolding soleRow behind viewOf
+    copy-is {u = u} {w = w} e rest = rw e (by (eqb w v) (assigns v rest))
+      where
+        by : (p q : Bool) → behind x v (cond (p || q) other (sole w false (assigns w rest))) ≡ cond p other (cond q other (cond (x v) other (sole w (x w) (assigns w rest))))
+        by true q = refl
+        by false true = refl
+        by false false = ap (λ z. cond (x v) other (sole w z (assigns w rest))) (or-false (x w))
+
+    -- any other row
+    pub constant-is : {k : Kind} {u : ℕ} {n : ℤ} → k ≡ Set u (Constant n) → (rest : Block) → behind x v (soleRow v (plainOf k) rest) ≡ other
+    unfolding soleRow behind viewOf
+    constant-is e rest = rw e
+
+    change-of : (g : Tag) (e : List ℕ) → OneOf no-set (tagOf the-type g) → (rest : Block) → behind x v (soleRow v (plainOf (kindBy g e)) rest) ≡ other
+    unfolding kindBy viewOf soleRow behind
+    change-of Tag.End e o rest = refl
+    change-of Tag.Else e o rest = refl
+    change-of Tag.Pick e o rest = refl
+    change-of Tag.Set e o rest = absurd (miss no-set 3 tt o)
+    change-of Tag.Move e o rest = refl
+    change-of Tag.Cue e o rest = refl
+    change-of Tag.While e o rest = refl
+    change-of Tag.Do e o rest = refl
+    change-of Tag.For e o rest = refl
+
+    pub change-is : (t : List (List ℕ)) (i : ℕ) {g : Tag} → g ≡ rowTag (numbersAt t i) → OneOf no-set (tagOf the-type g) → (rest : Block) → behind x v (soleRow v (plainOf (kindAt (rowsOf t) i)) rest) ≡ other
+    change-is t i {g} p o rest = rw (kind-is t i p refl) (change-of g (numbersAt t i) o rest)

@@ -1,0 +1,55 @@
+-- The only assignment of a variable, as the code finds it.
+use mathlib.Core.Path.{_≡_}
+use mathlib.Core.Bool.{Bool, true}
+use mathlib.Core.List.{List}
+use Prim.Native.Nat.{ℕ, _+_, _<_}
+use Rattle.rules.specs.declared.Row.{Row}
+use Rattle.rules.specs.declared.Operand.the-variants.{Variable}
+use Rattle.rules.specs.declared.Kind.the-variants.{Set}
+use Rattle.rules.specs.Blocks.{Block}
+use Rattle.rules.specs.Steps as rules
+use Rattle.rules.specs.Steps.{sets, other, sole, behind, soleRow, soleOf}
+use Rattle.table.specs.Code.{kindAt}
+use Rattle.table.specs.Shapes.{plainOf}
+use Rattle.steps.specs.declared.Sole.{Sole}
+use Rattle.steps.specs.Tree.{Ready, blockAt}
+use Rattle.steps.specs.Sets.{setOf}
+
+-- the definition's answer
+abbrev pub soleIs : Sole → rules.Sole
+soleIs Sole.Other = other
+soleIs (Sole.Copy w before after) = sole w before after
+
+-- the copied variable is one of the 16
+abbrev pub SmallCopy : Sole → Type 0
+SmallCopy Sole.Other = Unit {0}
+SmallCopy (Sole.Copy w before after) = w < 16
+
+-- with rows in front that assign a set
+unfoldable pub soleFrom : ℕ → (ℕ → Bool) → Block → rules.Sole
+soleFrom v x b = behind x v (soleOf v b)
+
+-- a plain row at i assigns v
+pub record AtRow (rows : List Row) (count i v : ℕ) : Type 0 where
+  pub ready : Ready rows count i
+  pub inside : i < count
+  pub own : sets v (plainOf (kindAt rows i)) ≡ true
+  pub small : v < 16
+
+-- the row at i is `set v w`
+pub record AtCopy (rows : List Row) (count i v w : ℕ) : Type 0 where
+  pub ready : Ready rows count i
+  pub inside : i < count
+  pub small : v < 16
+  pub copied : w < 16
+  pub copy : (u : ℕ) × (kindAt rows i ≡ Set u (Variable w))
+
+-- what is found at a row that assigns v, behind rows that assign a set
+pub record CopyAt (rows : List Row) (count i v : ℕ) (before : List Bool) (r : Sole) : Type 0 where
+  pub value : soleIs r ≡ behind (setOf before) v (soleRow v (plainOf (kindAt rows i)) (blockAt rows count (i + 1)))
+  pub small : SmallCopy r
+
+-- what is found in the block from row `at` on
+pub record SoleAt (rows : List Row) (count at v : ℕ) (r : Sole) : Type 0 where
+  pub value : soleIs r ≡ soleOf v (blockAt rows count at)
+  pub small : SmallCopy r

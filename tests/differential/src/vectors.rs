@@ -1,0 +1,119 @@
+//! Stored calls and their answers: NAME.eff is a script file, NAME.out has its calls. A call is a line `> report PRICES`
+//! or `> run PRICES STORE PICKS ALLOWANCE`, and below it stands what it answers.
+
+use oracle::{Ending, Entry, Refusal, Run};
+use std::path::{Path, PathBuf};
+
+pub enum Call {
+    Report(Result<Vec<u8>, Refusal>),
+    Run {
+        store: Vec<i32>,
+        picks: Vec<u8>,
+        /// None is the report's ticks.
+        allowance: Option<u64>,
+        answer: Result<Run, Refusal>,
+    },
+}
+
+/// The numbers between commas; `-` is none.
+fn list<N: std::str::FromStr>(word: &str) -> Option<Vec<N>> {
+    match word {
+        "-" => Some(Vec::new()),
+        _ => word.split(',').map(|number| number.parse().ok()).collect(),
+    }
+}
+
+/// Bytes in hexadecimal; `-` is none.
+fn bytes(word: &str) -> Option<Vec<u8>> {
+    match word {
+        "-" => Some(Vec::new()),
+        _ => (0..word.len()).step_by(2).map(|at| u8::from_str_radix(word.get(at..at + 2)?, 16).ok()).collect(),
+    }
+}
+
+fn numbers<const N: usize>(text: &str) -> Option<[u64; N]> {
+    let all: Vec<u64> = text.split(' ').map(|word| word.parse().ok()).collect::<Option<_>>()?;
+    all.try_into().ok()
+}
+
+fn refusal(answer: &[&str]) -> Option<Refusal> {
+    let [line] = answer else { return None };
+    let [number, place] = numbers(line.strip_prefix("refused=")?)?;
+    Some((number as u32, place))
+}
+
+fn run(answer: &[&str]) -> Option<Run> {
+    let [ending, ticks, used, store, counts @ ..] = answer else { return None };
+    let (word, row) = ending.strip_prefix("ending=")?.split_once(' ')?;
+    let ending = match word {
+        "ended" => Ending::Ended,
+        "spent" => Ending::Spent,
+        "range" => Ending::Range,
+        "nopick" => Ending::NoPick,
+        _ => return None,
+    };
+    let mut run = Run {
+        ending,
+        row: row.parse().ok()?,
+        ticks: ticks.strip_prefix("ticks=")?.parse().ok()?,
+        used: used.strip_prefix("used=")?.parse().ok()?,
+        store: list(store.strip_prefix("store=")?)?,
+        entries: Vec::new(),
+        loops: Vec::new(),
+    };
+    for line in counts {
+        if let Some(text) = line.strip_prefix("loop=") {
+            let [row, all, most] = numbers(text)?;
+            run.loops.push((row as usize, all, most));
+        } else {
+            let [row, turns, tested] = numbers(line.strip_prefix("entry=")?)?;
+            run.entries.push(Entry { row: row as usize, turns, tested: tested == 1 });
+        }
+    }
+    Some(run)
+}
+
+fn call(head: &str, answer: &[&str]) -> Option<Call> {
+    let refused = refusal(answer);
+    let words: Vec<&str> = head.split(' ').collect();
+    match words[..] {
+        ["report", "1,1,1,1"] => {
+            let text = answer.iter().flat_map(|line| [line, "\n"]).collect::<String>();
+            Some(Call::Report(refused.map_or(Ok(text.into_bytes()), Err)))
+        }
+        ["run", "1,1,1,1", store, picks, allowance] => Some(Call::Run {
+            store: list(store)?,
+            picks: bytes(picks)?,
+            allowance: if allowance == "T" { None } else { Some(allowance.parse().ok()?) },
+            answer: match refused {
+                Some(refusal) => Err(refusal),
+                None => Ok(run(answer)?),
+            },
+        }),
+        _ => None,
+    }
+}
+
+/// The calls of a .out file, or the line of a call that cannot be read.
+pub fn calls(text: &str) -> Result<Vec<Call>, String> {
+    let lines: Vec<&str> = text.lines().collect();
+    let heads: Vec<usize> = (0..lines.len()).filter(|&at| lines[at].starts_with("> ")).collect();
+    if heads.first() != Some(&0) {
+        return Err("no call in the first line".into());
+    }
+    let ends = heads[1..].iter().copied().chain([lines.len()]);
+    heads.iter().zip(ends).map(|(&at, end)| call(&lines[at][2..], &lines[at + 1..end]).ok_or(lines[at].into())).collect()
+}
+
+/// The script files in the folders of a folder, by name.
+pub fn files(folder: &Path) -> std::io::Result<Vec<PathBuf>> {
+    let mut files = Vec::new();
+    for inner in std::fs::read_dir(folder)? {
+        for file in std::fs::read_dir(inner?.path())? {
+            files.push(file?.path());
+        }
+    }
+    files.retain(|file| file.extension().is_some_and(|word| word == "eff"));
+    files.sort();
+    Ok(files)
+}

@@ -1,0 +1,90 @@
+//! How the generated files are answered, and how many of them use each change request.
+
+use crate::case;
+use oracle::analyse::{copied, Term};
+use oracle::read::{self, Loop, Operand};
+use oracle::{Counted, Line, Plan, Refusal, Row};
+use std::collections::{BTreeMap, BTreeSet};
+
+#[derive(Default)]
+pub struct Spread {
+    pub files: u64,
+    /// Files by their refusal's number; 0 is accepted.
+    pub answers: [u64; 17],
+    /// Files by what they use: a change's word, a colon and what it comes to. `WORD:` counts each file once.
+    pub uses: BTreeMap<String, u64>,
+}
+
+impl Spread {
+    pub fn of(count: u64, seed: u64) -> Spread {
+        let mut spread = Spread { files: count, ..Spread::default() };
+        for index in 0..count {
+            let (file, _) = case(seed, index);
+            let plan = oracle::plan(&file, oracle::SCRATCH);
+            let number = plan.as_ref().map_or_else(|refusal| refusal.0, |_| 0);
+            spread.answers[number as usize] += 1;
+            for label in labels(&file, &plan) {
+                *spread.uses.entry(label).or_default() += 1;
+            }
+        }
+        spread
+    }
+
+    pub fn used(&self, label: &str) -> u64 {
+        self.uses.get(label).copied().unwrap_or(0)
+    }
+}
+
+/// What a file uses. A refused file counts if it is refused for that use.
+fn labels(file: &[u8], plan: &Result<Plan, Refusal>) -> BTreeSet<String> {
+    let mut labels = BTreeSet::new();
+    match plan {
+        Ok(plan) => {
+            for line in &plan.lines {
+                let Row::Loop(l) = plan.script.rows[line.row] else { unreachable!("a head row") };
+                accepted(&plan.script.rows, line, &l, &mut labels);
+            }
+        }
+        Err((number @ 8..=12, head)) => {
+            let rows = read::script(file).expect("questions 2 to 7 have passed").rows;
+            let Row::Loop(l) = rows[*head as usize] else { unreachable!("a head row") };
+            refused(&rows, *number, *head as usize, &l, &mut labels);
+        }
+        Err(_) => {}
+    }
+    let words: Vec<String> = labels.iter().map(|label| format!("{}:", label.split(':').next().unwrap())).collect();
+    labels.extend(words);
+    labels
+}
+
+fn accepted(rows: &[Row], line: &Line, l: &Loop, labels: &mut BTreeSet<String>) {
+    if line.counted == Counted::Copied {
+        let order = match copied(rows, line.row, l) {
+            Ok(copy) if copy.rows_first => "rows first",
+            _ => "copy first",
+        };
+        labels.insert(format!("copied: {:?}, {order}", l.kind));
+        labels.insert(format!("copied: {:?}", l.compare));
+        labels.insert(format!("copied: {}", if line.exact { "exact" } else { "most" }));
+        if line.turns < 2 {
+            labels.insert(format!("copied: {:?} of {} turns", l.kind, line.turns));
+        }
+    }
+}
+
+fn refused(rows: &[Row], number: u32, head: usize, l: &Loop, labels: &mut BTreeSet<String>) {
+    let sets = rows[head + 1..l.end as usize].iter().filter_map(|row| match *row {
+        Row::Set { v, x } if v == l.v => Some(x),
+        _ => None,
+    });
+    let copies = sets.clone().any(|x| matches!(x, Operand::Variable(w) if w != l.v));
+    match copied(rows, head, l) {
+        Ok(_) => {
+            labels.insert(format!("copied: refused by {number}"));
+        }
+        Err(term) if number == 8 && (copies || term == Term::Copy && sets.count() > 0) => {
+            labels.insert(format!("copied: 8 for {term:?}"));
+        }
+        Err(_) => {}
+    }
+}
