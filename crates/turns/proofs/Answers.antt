@@ -5,7 +5,7 @@ use Prim.Native.Nat.{ℕ, zero, suc, _*_, _≤_, _<_}
 use native.Mathlib.Nat.{div-le-self}
 use native.Mathlib.Omega.{arith}
 use lib.Dec.{leb}
-use lib.IntN.{ℤ, pos, negsuc, natAbs, negℤ, _-ℤ_, _*ℤ_}
+use lib.IntN.{ℤ, pos, negsuc, natAbs, _-ℤ_, _*ℤ_}
 use lib.Signed.{_≤ℤ_, leZ, ltZ}
 use borrow.Author.Tests.{leb-true}
 use Rattle.ints.specs.Ints.{eqZ}
@@ -16,8 +16,9 @@ use Rattle.rules.specs.declared.Step.the-variants.{Add, Grow, Shrink, Unknown}
 use Rattle.rules.specs.Bounds.{Near, Ends}
 use Rattle.rules.specs.Steps.{cap, moving}
 use Rattle.rules.specs.Ranges.{Range, Sort, rising, falling, same, differ}
-use Rattle.rules.specs.Turns.{climb, powers, scale, share, apart, whileTurns, moved, atTest}
+use Rattle.rules.specs.Turns.{powers, scale, share, apart, whileTurns, moved, atTest}
 use Rattle.rules.specs.Questions.{suits, hasFigure}
+use Rattle.moves.proofs.Few.{climb-few}
 use Rattle.turns.specs.declared.Wide.{Wide}
 use Rattle.turns.specs.Needs.{rangeOf, Ranged, Begun, Countable}
 
@@ -59,7 +60,7 @@ grow-start true f g s r e h k = subst (λ z. pos 1 ≤ℤ z) (sym (ap (λ (x : R
 pub countable : (late : Bool) (st : Step) (d : Sort) (s : Range) (r n : Wide) (e : ℤ) → Ends 256 st → Near 4 e → Ranged n → rangeOf r ≡ atTest late st s → Begun st r
     → moving st ≡ true → suits st d ≡ true → hasFigure st d s (rangeOf r) (rangeOf n) e ≡ true → Countable st d r n e
 unfolding moving suits hasFigure cap
-countable late (Add a b) rising s r n e (na, nb) ne rn q rr m u h = let l : pos 1 ≤ℤ a = omega ints in (rr, near-more e ne, l)
+countable late (Add a b) rising s r n e (na, nb) ne rn q rr m u h = let l : pos 1 ≤ℤ a = omega ints in (rr, near-more e ne, near-step a na, l)
 countable late (Add a b) falling s r n e (na, nb) ne rn q rr m u h = let l : b ≤ℤ negsuc 0 = omega ints in (rr, near-more e ne, near-step b nb, l)
 countable late (Add a b) same s r n e en ne rn q rr m u h = tt
 countable late (Add a b) differ s r n e (na, nb) ne rn q rr m u h = (near-step a na, not-still a b m (and-left (eqZ a b) _ h), rr, rn)
@@ -81,7 +82,7 @@ countable late Unknown d s r n e en ne rn q rr m u h = tt
 
 -- ---- turns are few
 abbrev few : ℕ
-few = 2_000_000_000_000
+few = 2_048_000_000_001
 
 gap-few : (x y : ℤ) → Near 512 x → Near 512 y → natAbs (x -ℤ y) < few
 gap-few x y h k = omega (ints, minus-parts x y, abs-parts (x -ℤ y))
@@ -89,10 +90,6 @@ gap-few x y h k = omega (ints, minus-parts x y, abs-parts (x -ℤ y))
 by-test : (t : Bool) (x y : ℕ) → x ≤ few → y ≤ few → cond t x y ≤ few
 by-test true x y h k = h
 by-test false x y h k = k
-
-climb-few : (t e a : ℤ) → Near 512 t → Near 512 e → climb t e a ≤ few
-unfolding climb
-climb-few t e a h k = by-test (ltZ e t) _ _ (omega arith) (omega (arith, gap-few e t k h, div-le-self (natAbs (e -ℤ t)) (natAbs a)))
 
 one-more : (b : Bool) (k fuel : ℕ) → k ≤ fuel → cond b (suc k) 0 ≤ suc fuel
 one-more true k fuel h = omega arith
@@ -114,10 +111,13 @@ apart-few a s n sl sh nl nh =
     (by-test (eqZ a (negsuc 0)) _ _ (omega (arith, gap-few (s .hi) (n .lo) sh nl))
     (omega (arith, gap-few (n .lo) (s .lo) nl sl, div-le-self (natAbs (n .lo -ℤ s .lo)) (natAbs a))))
 
+pub wider : (z : ℤ) → Near 512 z → Near 1024 z
+wider z h = omega ints
+
 pub turns-few : (st : Step) (d : Sort) (s n : Wide) (e : ℤ) → Countable st d s n e → whileTurns st d (rangeOf s) (rangeOf n) e ≤ few
 unfolding whileTurns
-turns-few (Add a b) rising s n e (r, ne, l) = climb-few (s .lo) e a (r .low) ne
-turns-few (Add a b) falling s n e (r, ne, nb, l) = climb-few e (s .hi) (negℤ b) ne (r .high)
+turns-few (Add a b) rising s n e (r, ne, na, l) = climb-few _ (wider _ (r .low)) (wider e ne)
+turns-few (Add a b) falling s n e (r, ne, nb, l) = climb-few _ (wider e ne) (wider _ (r .high))
 turns-few (Add a b) same s n e h = by-test (share (rangeOf s) (rangeOf n)) 1 0 (omega arith) (omega arith)
 turns-few (Add a b) differ s n e (na, z, r, q) = apart-few a (rangeOf s) (rangeOf n) (r .low) (r .high) (q .low) (q .high)
 turns-few (Grow f g) d s n e (l, ne, k, m) = scale-few (s .lo) e f ne

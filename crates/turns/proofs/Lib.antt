@@ -4,3 +4,4 @@ pub mod Answers
 pub mod Moves
 pub mod Products
 pub mod Verdicts
+pub mod Sorts

@@ -33,7 +33,7 @@ Begun Step.Unknown r = Unit {0}
 
 -- what the figure of a step and a sort of test asks: the answers to questions 8 to 12
 abbrev pub Countable : Step → Sort → Wide → Wide → ℤ → Type 0
-Countable (Step.Add a b) rising s n e = Ranged s × Near 512 e × (pos 1 ≤ℤ a)
+Countable (Step.Add a b) rising s n e = Ranged s × Near 512 e × Near 512 a × (pos 1 ≤ℤ a)
 Countable (Step.Add a b) falling s n e = Ranged s × Near 512 e × Near 512 b × (b ≤ℤ negsuc 0)
 Countable (Step.Add a b) same s n e = Unit {0}
 Countable (Step.Add a b) differ s n e = Near 512 a × (a ≡ pos 0 → ⊥) × Ranged s × Ranged n

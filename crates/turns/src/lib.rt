@@ -1,4 +1,7 @@
 // The questions 8 to 12 of one loop, and the turns of one entry.
+use moves::climb;
+use moves::turned_up;
+use rules::AddLoop;
 use rules::Comparison;
 use rules::Step;
 use trips::Lead;
@@ -9,12 +12,12 @@ use values::quotient_of;
 ghost use mathlib.Core.Path.{_≡_};
 ghost use mathlib.Core.Bool.{true, cond};
 ghost use Prim.Native.Nat.{suc, _≤_};
-ghost use lib.IntN.{ℤ, pos, natAbs, negℤ, _-ℤ_};
+ghost use lib.IntN.{ℤ, pos, natAbs, _-ℤ_};
 ghost use lib.Signed.{_≤ℤ_};
 ghost use Rattle.rules.specs.Bounds.{Near, Ends};
 ghost use Rattle.rules.specs.Steps.{moving, even};
 ghost use Rattle.rules.specs.Ranges.{edge, sort};
-ghost use Rattle.rules.specs.Turns.{powers, scale, climb, share, apart, whileTurns, moved, atTest};
+ghost use Rattle.rules.specs.Turns.{powers, scale, share, apart, whileTurns, moved, atTest};
 ghost use Rattle.rules.specs.Trips.{misses, led, isExact};
 ghost use Rattle.rules.specs.Questions.{known, suits, hasFigure};
 ghost use Rattle.trips.specs.Env as env;
@@ -33,18 +36,6 @@ fn powers(t: u64, e: u64, f: u64) -> u64
         k = k + 1;
     }
     k
-}
-
-// Add rising: from t by a, while at most e.
-fn climb(t: i64, e: i64, a: i64) -> u64
-    requires { ⌜ Near 512 t × Near 512 e × (pos 1 ≤ℤ a) ⌝ }
-    ensures { λ r. ⌜ r ≡ climb t e a ⌝ }
-{
-    if e < t {
-        return 0;
-    }
-    let gap = (e - t) as u64;
-    gap / (a as u64) + 1
 }
 
 // Grow: from t times f, while at most e.
@@ -107,28 +98,29 @@ fn apart(a: i64, s: Wide, n: Wide) -> u64
     distance(n.lo, s.lo) / distance(a, 0)
 }
 
-fn negated(a: i64) -> i64
-    requires { ⌜ Near 512 a ⌝ }
-    ensures { λ r. ⌜ r ≡ negℤ a ⌝ }
-{
-    -a
-}
-
 // The turns of a step Add[a,b]: s what the first test sees, n the limit's range, e its end.
 fn add_turns(a: i64, b: i64, comparison: Comparison, s: Wide, n: Wide, e: i64) -> u64
     requires { ⌜ Countable (Step.Add a b) (sort comparison) s n e ⌝ }
     ensures { λ r. ⌜ r ≡ whileTurns (Step.Add a b) (sort comparison) (rangeOf s) (rangeOf n) e ⌝ }
 {
-    let low = s.lo;
-    let high = s.hi;
-    match comparison {
-        Comparison::Less => climb(low, e, a),
-        Comparison::AtMost => climb(low, e, a),
-        Comparison::Greater => climb(e, high, negated(b)),
-        Comparison::AtLeast => climb(e, high, negated(b)),
-        Comparison::Equal => one_if(share(s, n)),
-        Comparison::Different => apart(a, s, n),
+    if rises(comparison) {
+        return climb(AddLoop {
+            start: s.lo,
+            limit: e,
+            step: a,
+        });
     }
+    if falls(comparison) {
+        return climb(turned_up(AddLoop {
+            start: s.hi,
+            limit: e,
+            step: b,
+        }));
+    }
+    if is_differ(comparison) {
+        return apart(a, s, n);
+    }
+    one_if(share(s, n))
 }
 
 // The turns of a while or a for.
@@ -346,7 +338,7 @@ fn misses(comparison: Comparison, s: Span, e: i64) -> bool
 
 // The turns from the first counted test on, with what comes before it.
 fn led(lead: Lead, comparison: Comparison, e: i64, more: u64) -> u64
-    requires { ⌜ more ≤ 2_000_000_000_000 ⌝ }
+    requires { ⌜ more ≤ 2_048_000_000_001 ⌝ }
     ensures { λ r. ⌜ r ≡ led (leadOf lead) (sort comparison) e more ⌝ }
 {
     match lead {

@@ -7,7 +7,7 @@ ghost use Prim.Native.Nat.{_≤_};
 ghost use lib.ListN.{length};
 ghost use lib.IntN.{ℤ};
 ghost use lib.Signed.{ltZ};
-ghost use Rattle.ints.specs.Ints.{eqZ};
+ghost use Rattle.ints.specs.Ints.{eqZ, floorZ};
 ghost use Rattle.rules.specs.Values.{value, quotient, applied, compares, inLimits};
 ghost use Rattle.rules.specs.Scripts.{storeOf, OperandBelow, ChangeLimits};
 
@@ -23,6 +23,18 @@ pub fn value_of(x: Operand, store: &[i32]) -> i32
             store[at]
         }
     }
+}
+
+// z over k, rounded down: `/` cuts toward zero.
+pub fn floor(z: i64, k: u64) -> i64
+    requires { ⌜ (1 ≤ k) × (k ≤ 4_000_000_000_000) ⌝ }
+    ensures { λ r. ⌜ r ≡ floorZ z k ⌝ }
+{
+    let d = k as i64;
+    if z < 0 {
+        return (z + 1) / d - 1;
+    }
+    z / d
 }
 
 // The quotient of a `div` row.
