@@ -17,6 +17,8 @@ extern "C" {
 #define DIFTANEW_SCRATCH 8192
 /* The longest file that is taken (question 2). */
 #define DIFTANEW_FILE 16384
+/* The prices that a call is lent (question 16): ticks of arithmetic (set, for starts and for steps with it), cue, pick and test, each 1 to 1,000. */
+#define DIFTANEW_PRICES 4
 /* No report is longer: a buffer of so many bytes holds every one. */
 #define DIFTANEW_REPORT 2089
 /* The bytes of stack that a call needs, with a margin: on the worst file a report took 29 KB and a run 45 KB. */
@@ -24,7 +26,7 @@ extern "C" {
 /* The numbers of a run's answer. */
 #define DIFTANEW_ANSWER 53
 
-/* Refusal numbers, in the words of document 01's questions. */
+/* Refusal numbers, in the words of document 01's questions; 16, which is asked after 1 and before 2, is document 02's. */
 enum {
     DIFTANEW_ACCEPTED = 0,
     DIFTANEW_SCRATCH_SHORT = 1,   /* place: 8192 */
@@ -41,24 +43,26 @@ enum {
     DIFTANEW_NO_FIGURE = 12,
     DIFTANEW_TICKS = 13,          /* place: the first end row over the limit, or the number of rows */
     DIFTANEW_BUFFER_SHORT = 14,   /* place: the report's length */
-    DIFTANEW_STORE = 15           /* place: the first index wrong, missing or extra */
+    DIFTANEW_STORE = 15,          /* place: the first index wrong, missing or extra */
+    DIFTANEW_PRICE = 16           /* place: the first price, from 0, that is wrong, missing or extra */
 };
 
 /* How a run ends: answer[0]. */
 enum { DIFTANEW_ENDED = 0, DIFTANEW_SPENT = 1, DIFTANEW_RANGE = 2, DIFTANEW_NO_PICK = 3 };
 
-/* Writes the report of `file` to the front of `buffer`. Answers 0, with the report's length in *place; or a refusal's number, with its place in
+/* Writes the report of `file`, whose rows take the ticks that `prices` says, to the front of `buffer`. Answers 0, with the report's length in *place; or a refusal's number, with its place in
  * *place and the buffer untouched. The scratch is measured and never touched. */
-uint32_t diftanew_report(const uint8_t *file, size_t file_len, uint32_t *scratch, size_t scratch_len,
-                         uint8_t *buffer, size_t buffer_len, uint64_t *place);
+uint32_t diftanew_report(const uint8_t *file, size_t file_len, const uint32_t *prices, size_t prices_len,
+                         uint32_t *scratch, size_t scratch_len, uint8_t *buffer, size_t buffer_len, uint64_t *place);
 
-/* Runs `file` on `store`, with a byte for each pick (0 takes else) and an allowance of ticks. Answers 0, with the final store in `store` and
+/* Runs `file` on `store`, with the ticks of each row in `prices`, a byte for each pick (0 takes else) and an allowance of ticks: the run is spent
+ * when the next price is more than what is left. A report of the same file and prices bounds the run. Answers 0, with the final store in `store` and
  *   answer[0] the ending, answer[1] its row, answer[2] the ticks, answer[3] the bytes used, answer[4] the number of loops, and for loop k in row
  *   order answer[5 + 3k] its head row, answer[6 + 3k] all its turns, answer[7 + 3k] the most in one entry;
  * or a refusal's number, with its place in answer[0] and the store untouched. Numbers of the answer that are not named are 0. */
-uint32_t diftanew_run(const uint8_t *file, size_t file_len, uint32_t *scratch, size_t scratch_len,
-                      int32_t *store, size_t store_len, const uint8_t *picks, size_t picks_len,
-                      uint64_t allowance, uint64_t *answer);
+uint32_t diftanew_run(const uint8_t *file, size_t file_len, const uint32_t *prices, size_t prices_len,
+                      uint32_t *scratch, size_t scratch_len, int32_t *store, size_t store_len,
+                      const uint8_t *picks, size_t picks_len, uint64_t allowance, uint64_t *answer);
 
 #ifdef __cplusplus
 }

@@ -6,11 +6,14 @@
 static uint8_t file[DIFTANEW_FILE + 1];
 static uint32_t scratch[DIFTANEW_SCRATCH];
 static uint8_t buffer[DIFTANEW_REPORT];
+/* A tick for every row. */
+static const uint32_t prices[DIFTANEW_PRICES] = {1, 1, 1, 1};
 
 int main(void) {
     size_t length = fread(file, 1, sizeof file, stdin);
     uint64_t place;
-    uint32_t refused = diftanew_report(file, length, scratch, DIFTANEW_SCRATCH, buffer, sizeof buffer, &place);
+    uint32_t refused =
+        diftanew_report(file, length, prices, DIFTANEW_PRICES, scratch, DIFTANEW_SCRATCH, buffer, sizeof buffer, &place);
     if (refused) {
         printf("refused=%" PRIu32 " %" PRIu64 "\n", refused, place);
         return 1;
@@ -19,7 +22,7 @@ int main(void) {
 
     int32_t store[2] = {0, 1};
     uint64_t answer[DIFTANEW_ANSWER];
-    refused = diftanew_run(file, length, scratch, DIFTANEW_SCRATCH, store, 2, buffer, 0, 65, answer);
+    refused = diftanew_run(file, length, prices, DIFTANEW_PRICES, scratch, DIFTANEW_SCRATCH, store, 2, buffer, 0, 65, answer);
     if (refused) {
         printf("refused=%" PRIu32 " %" PRIu64 "\n", refused, answer[0]);
         return 1;

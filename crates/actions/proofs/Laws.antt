@@ -6,7 +6,7 @@ use Prim.Native.Nat.{ℕ, suc, _+_, _-_, _≤_, _<_, _^_, max}
 use native.Mathlib.Numerals.{add-one}
 use native.Mathlib.Omega.{arith}
 use borrow.Author.Tests.{le-leb, lt-leb}
-use lib.Dec.{T, leb, eqb, eqb→eq}
+use lib.Dec.{T, eqb, eqb→eq}
 use lib.ListN.{length, getD, set, drop, length-set, drop-of-length-le}
 use lib.Seq.{drop-cons}
 use lib.IntN.{ℤ, pos}
@@ -19,7 +19,7 @@ use Rattle.rules.specs.declared.Ending.the-variants.{Spent, NoPick}
 use Rattle.rules.specs.Values.{lowest, highest, inLimits, put}
 use Rattle.rules.specs.Blocks.{Source, assign, cue, Test}
 use Rattle.rules.specs.Run.{State, choose, charge, write, result, exec, holds}
-use Rattle.rules.specs.Figures.{ones}
+use Rattle.rules.specs.declared.Prices.{Prices}
 use Rattle.rules.specs.RowMachine.{Tally, tallyOf, Next, begin, turn, fresh, to, chosen, outcome, paid, picked, tests}
 use Rattle.rules.specs.Scripts.{storeOf}
 use Rattle.rules.proofs.Laws.{put-set}
@@ -27,13 +27,6 @@ use Rattle.actions.specs.declared.Machine.{Machine}
 use Rattle.actions.specs.declared.Status.{Status}
 use Rattle.actions.specs.declared.Status.the-variants.{Going, Over}
 use Rattle.actions.specs.States.{phaseOf, stateOf, byStatus, waitsBy, waitsOf, andTests, overAt, onAt, plainTo, putTo, pickTo, Acts, Steps, Begun, Room}
-
--- ---- a tick
-no-tick : (n : ℕ) → n ≡ 0 → leb 1 n ≡ false
-no-tick n e = lt-leb 1 n (omega arith)
-
-a-tick : (n : ℕ) → (n ≡ 0 → ⊥) → leb 1 n ≡ true
-a-tick n e = le-leb 1 n (omega arith)
 
 -- ---- a variable gets a result
 both : (a b : Bool) → (a && b) ≡ true → (a ≡ true) × (b ≡ true)
@@ -46,69 +39,69 @@ pub limits-fit : (z : ℤ) → inLimits z ≡ true → SFits w32 z
 unfolding lowest highest
 limits-fit z e = let (a, b) = both (leZ lowest z) (leZ z highest) e in omega ints
 
-module _ (m : Machine) (store : List ℤ) (c : Tally) (at v : ℕ) (z : ℤ) (j : ℕ) (b : Bool) where
-  pub put-spent : m .left ≡ 0 → Acts m (overAt m (m .left) Spent at) store store c c (putTo at v z j b)
+module _ (m : Machine) (store : List ℤ) (c : Tally) (p at v : ℕ) (z : ℤ) (j : ℕ) (b : Bool) where
+  pub put-spent : m .left < p → Acts m (overAt m (m .left) Spent at) store store c c (putTo p at v z j b)
   unfolding outcome charge choose
-  put-spent e = record { same = λ picks. rw (no-tick (m .left) e); left = omega arith; used = refl }
+  put-spent e = record { same = λ picks. rw (lt-leb p (m .left) e); left = omega arith; used = refl }
 
-  pub put-range : (m .left ≡ 0 → ⊥) → inLimits z ≡ false → Acts m (overAt m (m .left - 1) Ending.Range at) store store c c (putTo at v z j b)
+  pub put-range : p ≤ m .left → inLimits z ≡ false → Acts m (overAt m (m .left - p) Ending.Range at) store store c c (putTo p at v z j b)
   unfolding outcome charge choose write
-  put-range e f = record { same = λ picks. rw (a-tick (m .left) e, f); left = omega arith; used = refl }
+  put-range e f = record { same = λ picks. rw (le-leb p (m .left) e, f); left = omega arith; used = refl }
 
-  pub put-done : (m .left ≡ 0 → ⊥) → inLimits z ≡ true → v < length store → Acts m (onAt m (m .left - 1) j b) store (set store v z) c c (putTo at v z j b)
+  pub put-done : p ≤ m .left → inLimits z ≡ true → v < length store → Acts m (onAt m (m .left - p) j b) store (set store v z) c c (putTo p at v z j b)
   unfolding outcome charge choose write
   put-done e f h = record {
-    same = λ picks. rw (a-tick (m .left) e, f) (λ i. to j (phaseOf b) (record { store = put-set store v z (pos 0) h i; left = m .left - 1; picks = drop (m .used) picks }) c);
+    same = λ picks. rw (le-leb p (m .left) e, f) (λ i. to j (phaseOf b) (record { store = put-set store v z (pos 0) h i; left = m .left - p; picks = drop (m .used) picks }) c);
     left = omega arith;
     used = refl;
   }
 
 -- the result of a plain row
-module _ {m r : Machine} {store store′ : List ℤ} {c c′ : Tally} {z : ℤ} (at v j : ℕ) (b : Bool) where
-  pub put-plain : (source : Source) → z ≡ result source (storeOf store v) (storeOf store) → Acts m r store store′ c c′ (putTo at v z j b)
-      → Acts m r store store′ c c′ (plainTo at (assign v source) j b)
+module _ (π : Prices) {m r : Machine} {store store′ : List ℤ} {c c′ : Tally} {z : ℤ} (at v j : ℕ) (b : Bool) where
+  pub put-plain : (source : Source) → z ≡ result source (storeOf store v) (storeOf store) → Acts m r store store′ c c′ (putTo (π .arithmetic) at v z j b)
+      → Acts m r store store′ c c′ (plainTo π at (assign v source) j b)
   unfolding exec charge
   put-plain source e a = record {
-    same = λ picks. a .same picks ∙ ap (λ y. putTo at v y j b (stateOf m store picks) c) e;
+    same = λ picks. a .same picks ∙ ap (λ y. putTo (π .arithmetic) at v y j b (stateOf m store picks) c) e;
     left = a .left;
     used = a .used;
   }
 
 -- ---- a cue
-module _ (m : Machine) (store : List ℤ) (c : Tally) (at n j : ℕ) (b : Bool) where
-  pub cue-spent : m .left ≡ 0 → Acts m (overAt m (m .left) Spent at) store store c c (plainTo at (cue n) j b)
+module _ (π : Prices) (m : Machine) (store : List ℤ) (c : Tally) (at n j : ℕ) (b : Bool) where
+  pub cue-spent : m .left < π .cue → Acts m (overAt m (m .left) Spent at) store store c c (plainTo π at (cue n) j b)
   unfolding outcome exec charge choose
-  cue-spent e = record { same = λ picks. rw (no-tick (m .left) e); left = omega arith; used = refl }
+  cue-spent e = record { same = λ picks. rw (lt-leb (π .cue) (m .left) e); left = omega arith; used = refl }
 
-  pub cue-done : (m .left ≡ 0 → ⊥) → Acts m (onAt m (m .left - 1) j b) store store c c (plainTo at (cue n) j b)
+  pub cue-done : π .cue ≤ m .left → Acts m (onAt m (m .left - π .cue) j b) store store c c (plainTo π at (cue n) j b)
   unfolding outcome exec charge choose
-  cue-done e = record { same = λ picks. rw (a-tick (m .left) e); left = omega arith; used = refl }
+  cue-done e = record { same = λ picks. rw (le-leb (π .cue) (m .left) e); left = omega arith; used = refl }
 
 -- ---- a pick
-module _ (m : Machine) (store : List ℤ) (picks : List ℕ) (c : Tally) (i j : ℕ) where
-  pub pick-spent : m .left ≡ 0 → Steps m (overAt m (m .left) Spent i) store store picks c c (pickTo i j)
+module _ (π : Prices) (m : Machine) (store : List ℤ) (picks : List ℕ) (c : Tally) (i j : ℕ) where
+  pub pick-spent : m .left < π .pick → Steps m (overAt m (m .left) Spent i) store store picks c c (pickTo π i j)
   unfolding paid chosen
-  pick-spent e = record { same = rw (no-tick (m .left) e); left = omega arith; used = λ h. h }
+  pick-spent e = record { same = rw (lt-leb (π .pick) (m .left) e); left = omega arith; used = λ h. h }
 
-  pub pick-none : (m .left ≡ 0 → ⊥) → length picks ≤ m .used → Steps m (overAt m (m .left - 1) NoPick i) store store picks c c (pickTo i j)
+  pub pick-none : π .pick ≤ m .left → length picks ≤ m .used → Steps m (overAt m (m .left - π .pick) NoPick i) store store picks c c (pickTo π i j)
   unfolding paid chosen picked
   pick-none e h =
       let d : drop (m .used) picks ≡ [] = drop-of-length-le picks h in
-      record { same = rw (a-tick (m .left) e, d); left = omega arith; used = λ k. k }
+      record { same = rw (le-leb (π .pick) (m .left) e, d); left = omega arith; used = λ k. k }
 
   -- m after the byte, on at row n, with so many bytes used
   abbrev pub pickedAt : ℕ → ℕ → Machine
-  pickedAt n used = record { row = n; testing = false; left = m .left - 1; used = used; status = Going }
+  pickedAt n used = record { row = n; testing = false; left = m .left - π .pick; used = used; status = Going }
 
-  pub pick-one : (n used : ℕ) → (m .left ≡ 0 → ⊥) → m .used < length picks → used ≡ m .used + 1 → n ≡ cond (eqb (getD picks (m .used) 0) 0) j (suc i)
-      → Steps m (pickedAt n used) store store picks c c (pickTo i j)
+  pub pick-one : (n used : ℕ) → π .pick ≤ m .left → m .used < length picks → used ≡ m .used + 1 → n ≡ cond (eqb (getD picks (m .used) 0) 0) j (suc i)
+      → Steps m (pickedAt n used) store store picks c c (pickTo π i j)
   unfolding paid chosen picked
   pick-one n used e h one q =
       let d : drop (m .used) picks ≡ getD picks (m .used) 0 ∷ drop (suc (m .used)) picks = drop-cons picks (m .used) 0 h in
-      record { same = rw (a-tick (m .left) e, d, q, one, add-one) (by (eqb (getD picks (m .used) 0) 0)); left = omega arith; used = λ k. omega arith }
+      record { same = rw (le-leb (π .pick) (m .left) e, d, q, one, add-one) (by (eqb (getD picks (m .used) 0) 0)); left = omega arith; used = λ k. omega arith }
     where
       after : State
-      after = record { store = storeOf store; left = m .left - 1; picks = drop (suc (m .used)) picks }
+      after = record { store = storeOf store; left = m .left - π .pick; picks = drop (suc (m .used)) picks }
 
       by : (b : Bool) → to (cond b j (suc i)) fresh after c ≡ chosen b (to j fresh after c) (to (suc i) fresh after c)
       by true = refl
@@ -163,24 +156,24 @@ module _ (counts : List (List ℕ)) (h : ℕ) (l : h < length counts) where
       by p false q = q
 
 -- ---- the test of a loop
-module _ (m : Machine) (store : List ℤ) (c : Tally) (h e : ℕ) (t : Test) where
-  pub test-spent : m .left ≡ 0 → Acts m (overAt m (m .left) Spent h) store store c c (tests ones h e t)
+module _ (π : Prices) (m : Machine) (store : List ℤ) (c : Tally) (h e : ℕ) (t : Test) where
+  pub test-spent : m .left < π .test → Acts m (overAt m (m .left) Spent h) store store c c (tests π h e t)
   unfolding tests paid chosen
-  test-spent q = record { same = λ picks. rw (no-tick (m .left) q); left = omega arith; used = refl }
+  test-spent q = record { same = λ picks. rw (lt-leb (π .test) (m .left) q); left = omega arith; used = refl }
 
-  pub test-passed : (c′ : Tally) → (m .left ≡ 0 → ⊥) → holds t (storeOf store) ≡ true → c′ ≡ turn h c → Acts m (onAt m (m .left - 1) (h + 1) false) store store c c′ (tests ones h e t)
+  pub test-passed : (c′ : Tally) → π .test ≤ m .left → holds t (storeOf store) ≡ true → c′ ≡ turn h c → Acts m (onAt m (m .left - π .test) (h + 1) false) store store c c′ (tests π h e t)
   unfolding tests paid chosen
-  test-passed c′ q y f = record { same = λ picks. rw (a-tick (m .left) q, y, f, add-one); left = omega arith; used = refl }
+  test-passed c′ q y f = record { same = λ picks. rw (le-leb (π .test) (m .left) q, y, f, add-one); left = omega arith; used = refl }
 
-  pub test-failed : (m .left ≡ 0 → ⊥) → holds t (storeOf store) ≡ false → Acts m (onAt m (m .left - 1) (e + 1) false) store store c c (tests ones h e t)
+  pub test-failed : π .test ≤ m .left → holds t (storeOf store) ≡ false → Acts m (onAt m (m .left - π .test) (e + 1) false) store store c c (tests π h e t)
   unfolding tests paid chosen
-  test-failed q n = record { same = λ picks. rw (a-tick (m .left) q, n, add-one); left = omega arith; used = refl }
+  test-failed q n = record { same = λ picks. rw (le-leb (π .test) (m .left) q, n, add-one); left = omega arith; used = refl }
 
 -- ---- a for's test after its start or step
 -- the test that follows, or nothing
-module _ (h e : ℕ) (t : Test) (n : Machine) (store : List ℤ) (picks : List ℕ) (c : Tally) where
-  by-waits : (s : Status) (b w : Bool) → waitsBy s b ≡ w → andTests h e t (byStatus s (record { row = n .row; testing = b; left = n .left; used = n .used; status = s }) store picks c)
-      ≡ cond w (tests ones h e t (stateOf n store picks) c) (byStatus s (record { row = n .row; testing = b; left = n .left; used = n .used; status = s }) store picks c)
+module _ (π : Prices) (h e : ℕ) (t : Test) (n : Machine) (store : List ℤ) (picks : List ℕ) (c : Tally) where
+  by-waits : (s : Status) (b w : Bool) → waitsBy s b ≡ w → andTests π h e t (byStatus s (record { row = n .row; testing = b; left = n .left; used = n .used; status = s }) store picks c)
+      ≡ cond w (tests π h e t (stateOf n store picks) c) (byStatus s (record { row = n .row; testing = b; left = n .left; used = n .used; status = s }) store picks c)
   by-waits Going true true q = refl
   by-waits Going true false q = absurd (let z : _≡_ {A = ℕ} 0 1 = cc in omega arith)
   by-waits Going false true q = absurd (let z : _≡_ {A = ℕ} 0 1 = cc in omega arith)
@@ -188,15 +181,15 @@ module _ (h e : ℕ) (t : Test) (n : Machine) (store : List ℤ) (picks : List �
   by-waits (Over a i) b true q = absurd (let z : _≡_ {A = ℕ} 0 1 = cc in omega arith)
   by-waits (Over a i) b false q = refl
 
-module _ {m n : Machine} {store store₁ : List ℤ} {c d : Tally} (h e : ℕ) (t : Test) (f : State → Tally → Next) (a : Acts m n store store₁ c d f) where
+module _ (π : Prices) {m n : Machine} {store store₁ : List ℤ} {c d : Tally} (h e : ℕ) (t : Test) (f : State → Tally → Next) (a : Acts m n store store₁ c d f) where
   -- it follows
-  pub then-tests : {r : Machine} {d′ : Tally} → waitsOf n ≡ true → Acts n r store₁ store₁ d d′ (tests ones h e t) → Acts m r store store₁ c d′ (λ s k. andTests h e t (f s k))
+  pub then-tests : {r : Machine} {d′ : Tally} → waitsOf n ≡ true → Acts n r store₁ store₁ d d′ (tests π h e t) → Acts m r store store₁ c d′ (λ s k. andTests π h e t (f s k))
   then-tests w b = record {
-    same = λ picks. b .same picks ∙ sym (by-waits h e t n store₁ picks d (n .status) (n .testing) true w) ∙ ap (andTests h e t) (a .same picks);
+    same = λ picks. b .same picks ∙ sym (by-waits π h e t n store₁ picks d (n .status) (n .testing) true w) ∙ ap (andTests π h e t) (a .same picks);
     left = omega (arith, a .left, b .left);
     used = b .used ∙ a .used;
   }
 
   -- it does not
-  pub no-tests : waitsOf n ≡ false → Acts m n store store₁ c d (λ s k. andTests h e t (f s k))
-  no-tests w = record { same = λ picks. sym (by-waits h e t n store₁ picks d (n .status) (n .testing) false w) ∙ ap (andTests h e t) (a .same picks); left = a .left; used = a .used }
+  pub no-tests : waitsOf n ≡ false → Acts m n store store₁ c d (λ s k. andTests π h e t (f s k))
+  no-tests w = record { same = λ picks. sym (by-waits π h e t n store₁ picks d (n .status) (n .testing) false w) ∙ ap (andTests π h e t) (a .same picks); left = a .left; used = a .used }

@@ -10,7 +10,7 @@ use Rattle.rules.specs.declared.Operand.{Operand}
 use Rattle.rules.specs.declared.Comparison.{Comparison}
 use Rattle.rules.specs.declared.Ending.{Ending}
 use Rattle.rules.specs.Blocks.{from, Plain, assign, Test, test, Form, while, do-while, for, Last, no-step, step-by, View, is-plain, is-pick, is-else, is-end, is-loop, viewAt}
-use Rattle.rules.specs.Figures.{ones}
+use Rattle.rules.specs.declared.Prices.{Prices}
 use Rattle.rules.specs.Run.{State, charge, write, exec}
 use Rattle.rules.specs.RowMachine.{Tally, tallyOf, begin, Phase, fresh, testing, Place, Next, more, over, to, outcome, paid, picked, tests, onEnd, onRow}
 use Rattle.rules.specs.Scripts.{storeOf, OperandBelow, RowLimits, RowBelow}
@@ -59,59 +59,59 @@ abbrev pub onAt : Machine → ℕ → ℕ → Bool → Machine
 onAt m left i b = record { row = i; testing = b; left = left; used = m .used; status = Going }
 
 -- a plain row's work at row i, then to row j
-abbrev pub plainTo : ℕ → Plain → ℕ → Bool → State → Tally → Next
-plainTo i p j b s c = outcome (exec ones i p s) c (λ u. to j (phaseOf b) u c)
+abbrev pub plainTo : Prices → ℕ → Plain → ℕ → Bool → State → Tally → Next
+plainTo π i p j b s c = outcome (exec π i p s) c (λ u. to j (phaseOf b) u c)
 
--- the same of a known result z for v
-abbrev pub putTo : ℕ → ℕ → ℤ → ℕ → Bool → State → Tally → Next
-putTo i v z j b s c = outcome (charge 1 i [] s (λ t. write i v z t)) c (λ u. to j (phaseOf b) u c)
+-- the same of a known result z for v, at the price p
+abbrev pub putTo : ℕ → ℕ → ℕ → ℤ → ℕ → Bool → State → Tally → Next
+putTo p i v z j b s c = outcome (charge p i [] s (λ t. write i v z t)) c (λ u. to j (phaseOf b) u c)
 
 -- a pick at row i: byte 0 to row j
-abbrev pub pickTo : ℕ → ℕ → State → Tally → Next
-pickTo i j s c = paid 1 i s c (λ u. picked i j (u .picks) u c)
+abbrev pub pickTo : Prices → ℕ → ℕ → State → Tally → Next
+pickTo π i j s c = paid (π .pick) i s c (λ u. picked i j (u .picks) u c)
 
 -- after a for's start or step, its test: of the loop at row h, whose `end` is row e
-abbrev pub testedBy : Phase → ℕ → ℕ → Test → Place → Next
-testedBy testing h e t p = tests ones h e t (p .now) (p .tally)
-testedBy fresh h e t p = more p
+abbrev pub testedBy : Prices → Phase → ℕ → ℕ → Test → Place → Next
+testedBy π testing h e t p = tests π h e t (p .now) (p .tally)
+testedBy π fresh h e t p = more p
 
-abbrev pub andTests : ℕ → ℕ → Test → Next → Next
-andTests h e t (more p) = testedBy (p .phase) h e t p
-andTests h e t (over a i s c) = over a i s c
+abbrev pub andTests : Prices → ℕ → ℕ → Test → Next → Next
+andTests π h e t (more p) = testedBy π (p .phase) h e t p
+andTests π h e t (over a i s c) = over a i s c
 
 -- a for's head at row i, whose `end` is row e: its start and its first test, or the test alone
-abbrev pub forTo : ℕ → ℕ → ℕ → Operand → Comparison → Operand → Bool → State → Tally → Next
-forTo i e v y d x true s c = tests ones i e (test v d x) s c
-forTo i e v y d x false s c = andTests i e (test v d x) (plainTo i (assign v (from y)) i true s (begin i c))
+abbrev pub forTo : Prices → ℕ → ℕ → ℕ → Operand → Comparison → Operand → Bool → State → Tally → Next
+forTo π i e v y d x true s c = tests π i e (test v d x) s c
+forTo π i e v y d x false s c = andTests π i e (test v d x) (plainTo π i (assign v (from y)) i true s (begin i c))
 
 -- a for's start at row h, whose `end` is row e, goes on to its test
-abbrev pub started : Form → Phase → ℕ → ℕ → Test → Next → Next
-started while ph h e t n = n
-started do-while ph h e t n = n
-started (for x) fresh h e t n = andTests h e t n
-started (for x) testing h e t n = n
+abbrev pub started : Prices → Form → Phase → ℕ → ℕ → Test → Next → Next
+started π while ph h e t n = n
+started π do-while ph h e t n = n
+started π (for x) fresh h e t n = andTests π h e t n
+started π (for x) testing h e t n = n
 
 -- a for's step likewise
-abbrev pub stepped : Last → Phase → ℕ → ℕ → Test → Next → Next
-stepped no-step ph h e t n = n
-stepped (step-by p) fresh h e t n = andTests h e t n
-stepped (step-by p) testing h e t n = n
+abbrev pub stepped : Prices → Last → Phase → ℕ → ℕ → Test → Next → Next
+stepped π no-step ph h e t n = n
+stepped π (step-by p) fresh h e t n = andTests π h e t n
+stepped π (step-by p) testing h e t n = n
 
 -- the `end` at row e of the block that row h begins, and row i: one step of `rules`' machine, or two where a for's test follows its start or step
-module _ (rows : List Kind) (shut opener : ℕ → ℕ) where
+module _ (π : Prices) (rows : List Kind) (shut opener : ℕ → ℕ) where
   abbrev pub endTo : View → ℕ → ℕ → Phase → State → Tally → Next
-  endTo (is-plain p) h e ph s c = onEnd ones rows shut opener (is-plain p) h e ph s c
-  endTo is-pick h e ph s c = onEnd ones rows shut opener is-pick h e ph s c
-  endTo is-else h e ph s c = onEnd ones rows shut opener is-else h e ph s c
-  endTo is-end h e ph s c = onEnd ones rows shut opener is-end h e ph s c
-  endTo (is-loop form t last) h e ph s c = stepped last ph h e t (onEnd ones rows shut opener (is-loop form t last) h e ph s c)
+  endTo (is-plain p) h e ph s c = onEnd π rows shut opener (is-plain p) h e ph s c
+  endTo is-pick h e ph s c = onEnd π rows shut opener is-pick h e ph s c
+  endTo is-else h e ph s c = onEnd π rows shut opener is-else h e ph s c
+  endTo is-end h e ph s c = onEnd π rows shut opener is-end h e ph s c
+  endTo (is-loop form t last) h e ph s c = stepped π last ph h e t (onEnd π rows shut opener (is-loop form t last) h e ph s c)
 
   abbrev pub rowTo : View → ℕ → Phase → State → Tally → Next
-  rowTo (is-plain p) i ph s c = onRow ones rows shut opener (is-plain p) i ph s c
-  rowTo is-pick i ph s c = onRow ones rows shut opener is-pick i ph s c
-  rowTo is-else i ph s c = onRow ones rows shut opener is-else i ph s c
+  rowTo (is-plain p) i ph s c = onRow π rows shut opener (is-plain p) i ph s c
+  rowTo is-pick i ph s c = onRow π rows shut opener is-pick i ph s c
+  rowTo is-else i ph s c = onRow π rows shut opener is-else i ph s c
   rowTo is-end i ph s c = endTo (viewAt rows (opener i)) (opener i) i ph s c
-  rowTo (is-loop form t last) i ph s c = started form ph i (shut i) t (onRow ones rows shut opener (is-loop form t last) i ph s c)
+  rowTo (is-loop form t last) i ph s c = started π form ph i (shut i) t (onRow π rows shut opener (is-loop form t last) i ph s c)
 
 -- from m and a store and counts to r and others: f, without a pick
 pub record Acts (m r : Machine) (store store′ : List ℤ) (c c′ : Tally) (f : State → Tally → Next) : Type 0 where

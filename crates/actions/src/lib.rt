@@ -1,10 +1,11 @@
-// What one tick of a run does: an assignment, a cue, a pick, a test.
+// What one price of a run buys: an assignment, a cue, a pick, a test.
 use rules::ALL;
 use rules::Change;
 use rules::Comparison;
 use rules::Ending;
 use rules::MOST;
 use rules::Operand;
+use rules::Prices;
 use rules::TURNS;
 ghost use mathlib.Core.Path.{_≡_};
 ghost use mathlib.Core.Bool.{false, cond};
@@ -14,7 +15,6 @@ ghost use Prim.Native.Nat.{ℕ, _+_, _≤_, _<_, _^_, max};
 ghost use lib.ListN.{length};
 ghost use lib.IntN.{ℤ};
 ghost use Rattle.rules.specs.Blocks.{from, changed, assign, cue, test};
-ghost use Rattle.rules.specs.Figures.{ones};
 ghost use Rattle.rules.specs.Run.{holds};
 ghost use Rattle.rules.specs.RowMachine.{Tally, tallyOf, turn, tests};
 ghost use Rattle.rules.specs.Scripts.{storeOf, OperandBelow, ChangeLimits};
@@ -79,9 +79,10 @@ pub fn waits(m: Machine) -> bool
     }
 }
 
-// A tick, and the variable v gets z: on to a row. Or z is past ±L.
+// A price, and the variable v gets z: on to a row. Or z is past ±L.
 fn put(
     m: Machine,
+    price: u64,
     at: usize,
     v: u8,
     z: i64,
@@ -90,24 +91,25 @@ fn put(
     store: &mut [i32],
 ) -> Machine
     requires { ⌜ v < length (now store) ⌝ }
-    ensures { λ r. ⌜ ((c : Tally) → Acts m r (now (store .entry)) (now (store .exit)) c c (putTo at v z row testing)) ⌝ }
+    ensures { λ r. ⌜ ((c : Tally) → Acts m r (now (store .entry)) (now (store .exit)) c c (putTo price at v z row testing)) ⌝ }
 {
     let left = m.left;
-    if left == 0 {
+    if left < price {
         return ended(m, left, Ending::Spent, at);
     }
     if values::within_limits(z) {
         let i = v as usize;
         store[i] = z as i32;
-        on(m, left - 1, row, testing)
+        on(m, left - price, row, testing)
     } else {
-        ended(m, left - 1, Ending::Range, at)
+        ended(m, left - price, Ending::Range, at)
     }
 }
 
 // `set`, and a for's start.
 pub fn set_row(
     m: Machine,
+    prices: Prices,
     at: usize,
     v: u8,
     x: Operand,
@@ -116,15 +118,16 @@ pub fn set_row(
     store: &mut [i32],
 ) -> Machine
     requires { ⌜ (v < length (now store)) × OperandBelow (length (now store)) x ⌝ }
-    ensures { λ r. ⌜ ((c : Tally) → Acts m r (now (store .entry)) (now (store .exit)) c c (plainTo at (assign v (from x)) row testing)) ⌝ }
+    ensures { λ r. ⌜ ((c : Tally) → Acts m r (now (store .entry)) (now (store .exit)) c c (plainTo prices at (assign v (from x)) row testing)) ⌝ }
 {
     let z = values::value_of(x, store);
-    put(m, at, v, z as i64, row, testing, store)
+    put(m, prices.arithmetic, at, v, z as i64, row, testing, store)
 }
 
 // An arithmetic row, and a for's step.
 pub fn move_row(
     m: Machine,
+    prices: Prices,
     at: usize,
     v: u8,
     change: Change,
@@ -133,23 +136,24 @@ pub fn move_row(
     store: &mut [i32],
 ) -> Machine
     requires { ⌜ (v < length (now store)) × ChangeLimits change ⌝ }
-    ensures { λ r. ⌜ ((c : Tally) → Acts m r (now (store .entry)) (now (store .exit)) c c (plainTo at (assign v (changed change)) row testing)) ⌝ }
+    ensures { λ r. ⌜ ((c : Tally) → Acts m r (now (store .entry)) (now (store .exit)) c c (plainTo prices at (assign v (changed change)) row testing)) ⌝ }
 {
     let x = values::value_of(Operand::Variable(v), store);
     let z = values::changed(change, x);
-    put(m, at, v, z, row, testing, store)
+    put(m, prices.arithmetic, at, v, z, row, testing, store)
 }
 
 // A cue.
-pub fn cue_row(m: Machine) -> Machine
+pub fn cue_row(m: Machine, prices: Prices) -> Machine
     requires { ⌜ m .row < 256 ⌝ }
-    ensures { λ r. ⌜ ((store : List ℤ) (c : Tally) (n : ℕ) → Acts m r store store c c (plainTo (m .row) (cue n) (m .row + 1) false)) ⌝ }
+    ensures { λ r. ⌜ ((store : List ℤ) (c : Tally) (n : ℕ) → Acts m r store store c c (plainTo prices (m .row) (cue n) (m .row + 1) false)) ⌝ }
 {
     let left = m.left;
-    if left == 0 {
+    let price = prices.cue;
+    if left < price {
         return ended(m, left, Ending::Spent, m.row);
     }
-    on(m, left - 1, m.row + 1, false)
+    on(m, left - price, m.row + 1, false)
 }
 
 // Byte 0 takes the one row, any other the next.
@@ -166,28 +170,29 @@ fn after_byte(used: usize, picks: &[u8]) -> usize
     if used < picks.len() { used + 1 } else { used }
 }
 
-// A pick takes its tick, and then its byte: 0 to row `other`, any other to the next row.
-pub fn pick_row(m: Machine, other: usize, picks: &[u8]) -> Machine
+// A pick takes its price, and then its byte: 0 to row `other`, any other to the next row.
+pub fn pick_row(m: Machine, prices: Prices, other: usize, picks: &[u8]) -> Machine
     requires { ⌜ m .row < 256 ⌝ }
-    ensures { λ r. ⌜ ((store : List ℤ) (c : Tally) → Steps m r store store (now (picks .entry)) c c (pickTo (m .row) other)) ⌝ }
+    ensures { λ r. ⌜ ((store : List ℤ) (c : Tally) → Steps m r store store (now (picks .entry)) c c (pickTo prices (m .row) other)) ⌝ }
 {
     let left = m.left;
+    let price = prices.pick;
     let at = m.row;
     let used = m.used;
     let after = after_byte(used, picks);
-    if left == 0 {
+    if left < price {
         return stopped(m, left, used, Ending::Spent, at);
     }
     if used < after {
         Machine {
             row: branch(picks[used], other, at + 1),
             testing: false,
-            left: left - 1,
+            left: left - price,
             used: after,
             status: Status::Going,
         }
     } else {
-        stopped(m, left - 1, used, Ending::NoPick, at)
+        stopped(m, left - price, used, Ending::NoPick, at)
     }
 }
 
@@ -230,6 +235,7 @@ fn passes(v: u8, comparison: Comparison, x: Operand, store: &[i32]) -> bool
 // The test of the loop at row h, whose `end` is row e.
 pub fn test_row(
     m: Machine,
+    prices: Prices,
     h: usize,
     e: usize,
     v: u8,
@@ -239,15 +245,16 @@ pub fn test_row(
     counts: &mut [[u64; 3]; 256],
 ) -> Machine
     requires { ⌜ Testable h e v x (now store) (now counts) ⌝ }
-    ensures { λ r. ⌜ Acts m r (now (store .entry)) (now (store .entry)) (tallyOf (now (counts .entry))) (tallyOf (now (counts .exit))) (tests ones h e (test v comparison x)) × (length (now (counts .exit)) ≡ 256) ⌝ }
+    ensures { λ r. ⌜ Acts m r (now (store .entry)) (now (store .entry)) (tallyOf (now (counts .entry))) (tallyOf (now (counts .exit))) (tests prices h e (test v comparison x)) × (length (now (counts .exit)) ≡ 256) ⌝ }
 {
-    if m.left == 0 {
+    let price = prices.test;
+    if m.left < price {
         return ended(m, m.left, Ending::Spent, h);
     }
     if passes(v, comparison, x, store) {
         count_turn(h, counts);
-        on(m, m.left - 1, h + 1, false)
+        on(m, m.left - price, h + 1, false)
     } else {
-        on(m, m.left - 1, e + 1, false)
+        on(m, m.left - price, e + 1, false)
     }
 }

@@ -7,13 +7,12 @@ use lib.Dec.{leb, leb→le}
 use lib.ListN.{length, take}
 use Rattle.rules.specs.declared.Reply.{Reply}
 use Rattle.rules.specs.declared.Reply.the-variants.{Refused}
-use Rattle.rules.specs.Figures.{ones}
 use Rattle.rules.specs.declared.Verdict.the-variants.{Passed as passed}
 use Rattle.rules.specs.Questions.{tickLimit, verdict}
 use Rattle.rules.specs.Scripts.{Script, envOf, treeOf, reportTicks, Legal, Accepted}
 use Rattle.rules.specs.Report.{reportText, scriptReport}
 use Rattle.lines.specs.Coded.{firstLines}
-use Rattle.rules.specs.Calls.{accepted, refuses, judgedBy, fitting, written, replyOf, bufferOf}
+use Rattle.rules.specs.Calls.{accepted, refuses, judgedBy, pricesOf, fitting, written, replyOf, bufferOf}
 use Rattle.rules.proofs.Accepted.{then-yes, asked-yes}
 use Rattle.turns.specs.Needs.{answer}
 use Rattle.survey.specs.declared.Figures.{Figures}
@@ -24,23 +23,23 @@ unfolding answer judgedBy
 by-number script zero p h = absurd (h refl)
 by-number script (suc n) p h = refl
 
-module _ (script : Script) (count : ℕ) (s : Figures) (ls : List (List ℕ)) (found : Found script count s ls) where
-  asked : verdict ones (length (script .rows)) (envOf (script .ranges)) (treeOf (script .rows)) ≡ answer (s .number) (s .place)
-  asked = ap (λ n. verdict ones n (envOf (script .ranges)) (treeOf (script .rows))) (found .long) ∙ found .figures .verdict
+module _ (prices : List ℕ) (script : Script) (count : ℕ) (s : Figures) (ls : List (List ℕ)) (found : Found prices script count s ls) where
+  asked : verdict (pricesOf prices) (length (script .rows)) (envOf (script .ranges)) (treeOf (script .rows)) ≡ answer (s .number) (s .place)
+  asked = ap (λ n. verdict (pricesOf prices) n (envOf (script .ranges)) (treeOf (script .rows))) (found .long) ∙ found .figures .verdict
 
-  pub judged-no : (s .number ≡ 0 → ⊥) → judgedScript script ≡ refuses (s .number) (s .place)
+  pub judged-no : (s .number ≡ 0 → ⊥) → judgedScript prices script ≡ refuses (s .number) (s .place)
   judged-no h = ap (judgedBy script) asked ∙ by-number script (s .number) (s .place) h
 
   module _ (z : s .number ≡ 0) where
-    passes : verdict ones (length (script .rows)) (envOf (script .ranges)) (treeOf (script .rows)) ≡ passed
+    passes : verdict (pricesOf prices) (length (script .rows)) (envOf (script .ranges)) (treeOf (script .rows)) ≡ passed
     unfolding answer
     passes = asked ∙ ap (λ n. answer n (s .place)) z
 
-    pub judged-yes : judgedScript script ≡ accepted script
+    pub judged-yes : judgedScript prices script ≡ accepted script
     unfolding judgedBy
     judged-yes = ap (judgedBy script) passes
 
-    pub is-accepted : Legal script → Accepted ones script
+    pub is-accepted : Legal script → Accepted (pricesOf prices) script
     is-accepted legal = record { legal = legal; loops = passes }
 
     -- question 13: the ticks are no more than the limit
@@ -49,25 +48,25 @@ module _ (script : Script) (count : ℕ) (s : Figures) (ls : List (List ℕ)) (f
     ticks-few =
         let (_, a) = then-yes _ _ passes in
         let (_, b) = then-yes _ _ a in
-        let (t, _) = asked-yes 13 _ (leb (reportTicks ones script) 1_000_000_000_000) _ b in
-        omega (arith, leb→le (reportTicks ones script) 1_000_000_000_000 t, found .figures .ticks z)
+        let (t, _) = asked-yes 13 _ (leb (reportTicks (pricesOf prices) script) 1_000_000_000_000) _ b in
+        omega (arith, leb→le (reportTicks (pricesOf prices) script) 1_000_000_000_000 t, found .figures .ticks z)
 
-    text-is : reportText count (firstLines ls (s .loops)) (s .ticks) ≡ scriptReport ones script
+    text-is : reportText count (firstLines ls (s .loops)) (s .ticks) ≡ scriptReport (pricesOf prices) script
     unfolding scriptReport
     text-is = λ j. reportText (sym (found .long) j) (found .figures .lines z j) (found .figures .ticks z j)
 
     -- the report written
     pub reported : (r : Reply) (old new : List ℕ) (room : ℕ)
         → (r ≡ fitting (reportText count (firstLines ls (s .loops)) (s .ticks)) room) × (new ≡ written (reportText count (firstLines ls (s .loops)) (s .ticks)) old)
-        → (r ≡ replyOf ones (judgedScript script) room) × (new ≡ bufferOf ones (judgedScript script) old)
+        → (r ≡ replyOf prices (judgedScript prices script) room) × (new ≡ bufferOf prices (judgedScript prices script) old)
     unfolding replyOf bufferOf
     reported r old new room (a, b) = (
-      a ∙ ap (λ t. fitting t room) text-is ∙ ap (λ j. replyOf ones j room) (sym judged-yes),
-      b ∙ ap (λ t. written t old) text-is ∙ ap (λ j. bufferOf ones j old) (sym judged-yes),
+      a ∙ ap (λ t. fitting t room) text-is ∙ ap (λ j. replyOf prices j room) (sym judged-yes),
+      b ∙ ap (λ t. written t old) text-is ∙ ap (λ j. bufferOf prices j old) (sym judged-yes),
     )
 
   -- a refusal leaves the buffer
   pub not-reported : (s .number ≡ 0 → ⊥) → (old : List ℕ) (room : ℕ)
-      → (Refused (s .number) (s .place) ≡ replyOf ones (judgedScript script) room) × (old ≡ bufferOf ones (judgedScript script) old)
+      → (Refused (s .number) (s .place) ≡ replyOf prices (judgedScript prices script) room) × (old ≡ bufferOf prices (judgedScript prices script) old)
   unfolding replyOf bufferOf
-  not-reported h old room = (ap (λ j. replyOf ones j room) (sym (judged-no h)), ap (λ j. bufferOf ones j old) (sym (judged-no h)))
+  not-reported h old room = (ap (λ j. replyOf prices j room) (sym (judged-no h)), ap (λ j. bufferOf prices j old) (sym (judged-no h)))

@@ -6,13 +6,13 @@ use native.Mathlib.Omega.{arith}
 use lib.IntN.{ℤ}
 use lib.ListN.{length, take}
 use Rattle.rules.specs.declared.Row.{Row}
-use Rattle.rules.specs.Figures.{ones}
+use Rattle.rules.specs.declared.Prices.{Prices}
 use Rattle.rules.specs.declared.Verdict.{Verdict}
 use Rattle.rules.specs.declared.Verdict.the-variants.{Passed, Refused}
 use Rattle.rules.specs.Scripts.{Script, scriptOf, Legal}
 use Rattle.rules.specs.Answers.{Answer}
-use Rattle.rules.specs.Calls.{RunReply, ran, refuses, storeVerdict, loopRows, countsAt, runScript, ranScript, stored, runReply, storeAfter}
-use Rattle.rules.proofs.FromBytes.{Says, store-in}
+use Rattle.rules.specs.Calls.{pricesOf, Priced, RunReply, ran, refuses, storeVerdict, loopRows, countsAt, runScript, ranScript, stored, runReply, storeAfter}
+use Rattle.rules.proofs.FromBytes.{Says, fine-prices, store-in}
 use Rattle.rules.proofs.Capped.{run-capped}
 use Rattle.runner.specs.Runs.{Runnable}
 use Rattle.runner.proofs.Start.{runnable}
@@ -32,19 +32,19 @@ refused-as : {reply : RunReply} {q p : ℕ} {store : List ℤ} {o : Outcome} →
 unfolding storeAfter
 refused-as {reply} {q} {p} {store} {o} e t = subst (λ r. Ran r store store o) (sym e) (record { told = t; store = refl })
 
-module _ (script : Script) (count : ℕ) (s : Figures) (ls : List (List ℕ)) (found : Found script count s ls) (store : List ℤ) (picks : List ℕ) (allowance : ℕ) where
+module _ (prices : List ℕ) (script : Script) (count : ℕ) (s : Figures) (ls : List (List ℕ)) (found : Found prices script count s ls) (store : List ℤ) (picks : List ℕ) (allowance : ℕ) where
   -- refused by 8 to 13
-  pub ran-no : (s .number ≡ 0 → ⊥) → (o : Outcome) → ToldNo o (s .number) (s .place) → Ran (runReply ones (judgedScript script) store picks allowance) store store o
+  pub ran-no : (s .number ≡ 0 → ⊥) → (o : Outcome) → ToldNo o (s .number) (s .place) → Ran (runReply prices (judgedScript prices script) store picks allowance) store store o
   unfolding runReply
-  ran-no h o t = refused-as (ap (λ j. runReply ones j store picks allowance) (judged-no script count s ls found h)) t
+  ran-no h o t = refused-as (ap (λ j. runReply prices j store picks allowance) (judged-no prices script count s ls found h)) t
 
   module _ (z : s .number ≡ 0) (v : Verdict) (asked : v ≡ storeVerdict 0 (script .ranges) store) where
-    replied : (w : Verdict) → v ≡ w → runReply ones (judgedScript script) store picks allowance ≡ stored ones script w store picks allowance
+    replied : (w : Verdict) → v ≡ w → runReply prices (judgedScript prices script) store picks allowance ≡ stored (pricesOf prices) script w store picks allowance
     unfolding runReply
-    replied w e = ap (λ j. runReply ones j store picks allowance) (judged-yes script count s ls found z) ∙ ap (λ x. stored ones script x store picks allowance) (sym asked ∙ e)
+    replied w e = ap (λ j. runReply prices j store picks allowance) (judged-yes prices script count s ls found z) ∙ ap (λ x. stored (pricesOf prices) script x store picks allowance) (sym asked ∙ e)
 
     -- refused by 15
-    pub ran-out : (q p : ℕ) → v ≡ Refused q p → (o : Outcome) → ToldNo o q p → Ran (runReply ones (judgedScript script) store picks allowance) store store o
+    pub ran-out : (q p : ℕ) → v ≡ Refused q p → (o : Outcome) → ToldNo o q p → Ran (runReply prices (judgedScript prices script) store picks allowance) store store o
     unfolding stored
     ran-out q p e o t = refused-as (replied (Refused q p) e) t
 
@@ -56,22 +56,22 @@ module _ (script : Script) (count : ℕ) (s : Figures) (ls : List (List ℕ)) (f
       may-run = subst (λ k. Runnable k (script .rows)) (sym (store-in script store passes .whole)) (runnable script legal)
 
       -- the run with the smaller of the allowance and the report's ticks is the run
-      same-run : runScript ones script store picks allowance ≡ runScript ones script store picks (min allowance (s .ticks))
+      same-run : Priced prices → runScript (pricesOf prices) script store picks allowance ≡ runScript (pricesOf prices) script store picks (min allowance (s .ticks))
       unfolding runScript
-      same-run =
-          run-capped ones (omega arith) script (is-accepted script count s ls found z legal) store (store-in script store passes) picks allowance
-          ∙ ap (λ t. runScript ones script store picks (min allowance t)) (sym (found .figures .ticks z))
+      same-run q =
+          run-capped (pricesOf prices) (fine-prices prices q .test .some) script (is-accepted prices script count s ls found z legal) store (store-in script store passes) picks allowance
+          ∙ ap (λ t. runScript (pricesOf prices) script store picks (min allowance t)) (sym (found .figures .ticks z))
 
-      pub replied-run : runReply ones (judgedScript script) store picks allowance ≡ ranScript ones script store picks (min allowance (s .ticks))
+      pub replied-run : Priced prices → runReply prices (judgedScript prices script) store picks allowance ≡ ranScript (pricesOf prices) script store picks (min allowance (s .ticks))
       unfolding stored ranScript
-      replied-run = replied Passed y ∙ ap (λ (a : Answer). ran a (countsAt (a .entries) (loopRows 0 (script .rows)))) same-run
+      replied-run q = replied Passed y ∙ ap (λ (a : Answer). ran a (countsAt (a .entries) (loopRows 0 (script .rows)))) (same-run q)
 
 -- the run of the rows is the answer
-pub ran-all : (ranges : List (List ℤ)) (vars : ℕ) (rows : List Row) (count : ℕ) (s : Figures) (ls : List (List ℕ)) → Found (scriptOf ranges vars rows count) count s ls
+pub ran-all : (prices : List ℕ) → Priced prices → (π : Prices) → π ≡ pricesOf prices → (ranges : List (List ℤ)) (vars : ℕ) (rows : List Row) (count : ℕ) (s : Figures) (ls : List (List ℕ)) → Found prices (scriptOf ranges vars rows count) count s ls
     → (store : List ℤ) (picks : List ℕ) (allowance : ℕ) → s .number ≡ 0 → (v : Verdict) → v ≡ storeVerdict 0 (scriptOf ranges vars rows count .ranges) store → v ≡ Passed → Legal (scriptOf ranges vars rows count)
     → (least : ℕ) → least ≡ min allowance (s .ticks) → (new : List ℤ) (o : Outcome)
-    → Ran (ranRows rows count store picks least) store new o → Ran (runReply ones (judgedScript (scriptOf ranges vars rows count)) store picks allowance) store new o
+    → Ran (ranRows π rows count store picks least) store new o → Ran (runReply prices (judgedScript prices (scriptOf ranges vars rows count)) store picks allowance) store new o
 unfolding ranScript runScript scriptOf
-ran-all ranges vars rows count s ls found store picks allowance z v asked y legal least e new o =
+ran-all prices q π f ranges vars rows count s ls found store picks allowance z v asked y legal least e new o =
     subst (λ r. Ran r store new o)
-    (ap (λ t. ranRows rows count store picks t) e ∙ sym (replied-run (scriptOf ranges vars rows count) count s ls found store picks allowance z v asked y legal))
+    ((λ j. ranRows (f j) rows count store picks (e j)) ∙ sym (replied-run prices (scriptOf ranges vars rows count) count s ls found store picks allowance z v asked y legal q))

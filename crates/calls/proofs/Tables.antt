@@ -6,18 +6,28 @@ use native.Mathlib.Omega.{arith}
 use lib.IntN.{ℤ}
 use lib.ListN.{length, getD, take}
 use Rattle.rules.specs.declared.Row.{Row}
+use Rattle.rules.specs.declared.Prices.{Prices}
 use Rattle.rules.specs.declared.Kind.{Kind}
 use Rattle.rules.specs.declared.Kind.the-variants.{End}
 use Rattle.rules.specs.Blocks.{kindsOf}
-use Rattle.rules.specs.Bounds.{Fine}
+use Rattle.rules.specs.Bounds.{Fine, FinePrices}
+use Rattle.rules.specs.Calls.{pricesOf, Priced}
 use Rattle.rules.specs.Scripts.{Script, pairRanges, BlankFrom, scriptOf, Legal}
 use Rattle.rules.proofs.Laws.{kind-of}
+use Rattle.rules.proofs.FromBytes.{prices-pass, fine-prices}
 use Rattle.table.specs.Code.{rowsOf, kindAt, Packed}
 use Rattle.table.proofs.Limits.{row-fine}
 use Rattle.survey.specs.declared.Figures.{Figures}
 use Rattle.survey.specs.Whole.{SurveyOf}
 use Rattle.survey.proofs.Legals.{all-get}
 use Rattle.calls.specs.Held.{Given, Found}
+
+-- four prices that question 16 passes, and the struct of them
+pub four : (prices : List ℕ) → Priced prices → length prices ≡ 4
+four prices q = prices-pass 4 0 prices q .0
+
+pub fine : (prices : List ℕ) → Priced prices → {π : Prices} → π ≡ pricesOf prices → FinePrices π
+fine prices q e = subst FinePrices (sym e) (fine-prices prices q)
 
 module _ (ranges : List (List ℤ)) (vars : ℕ) (rows : List Row) (count : ℕ) (g : Given ranges vars rows count) where
   pub few-rows : count ≤ 256
@@ -36,8 +46,8 @@ module _ (ranges : List (List ℤ)) (vars : ℕ) (rows : List Row) (count : ℕ)
     unfolding scriptOf
     same = ap {B = Script} (λ ks. record { ranges = take vars (pairRanges ranges); rows = ks }) p
 
-    pub survey-asks : {L : Type 0} → length t ≡ 256 → L → Legal (scriptOf ranges vars (rowsOf t) count) × (count ≤ 256) × (count ≤ length t) × BlankFrom vars ranges × L
-    survey-asks l n = (subst Legal (sym same) (g .legal), few-rows, omega (arith, few-rows), g .blank, n)
+    pub survey-asks : {π : Prices} {L : Type 0} → length t ≡ 256 → FinePrices π → L → Legal (scriptOf ranges vars (rowsOf t) count) × (count ≤ 256) × (count ≤ length t) × BlankFrom vars ranges × FinePrices π × L
+    survey-asks l f n = (subst Legal (sym same) (g .legal), few-rows, omega (arith, few-rows), g .blank, f, n)
 
-    pub survey-found : (s : Figures) (lines : List (List ℕ)) → SurveyOf (scriptOf ranges vars (rowsOf t) count) count s lines → Found (scriptOf ranges vars rows count) count s lines
-    survey-found s lines f = record { long = g .long; figures = subst (λ x. SurveyOf x count s lines) same f }
+    pub survey-found : (prices : List ℕ) {π : Prices} → π ≡ pricesOf prices → (s : Figures) (lines : List (List ℕ)) → SurveyOf π (scriptOf ranges vars (rowsOf t) count) count s lines → Found prices (scriptOf ranges vars rows count) count s lines
+    survey-found prices {π} e s lines f = record { long = g .long; figures = subst (λ ρ. SurveyOf ρ (scriptOf ranges vars rows count) count s lines) e (subst (λ x. SurveyOf π x count s lines) same f) }

@@ -5,10 +5,9 @@ use Prim.Native.Nat.{ℕ, _≤_}
 use lib.IntN.{ℤ}
 use lib.ListN.{length}
 use Rattle.rules.specs.declared.Row.{Row}
-use Rattle.rules.specs.Figures.{ones}
 use Rattle.rules.specs.Questions.{verdict}
 use Rattle.rules.specs.Scripts.{Script, BlankFrom, scriptOf, envOf, treeOf, Legal}
-use Rattle.rules.specs.Calls.{Judged, judgedBy}
+use Rattle.rules.specs.Calls.{Judged, judgedBy, pricesOf}
 use Rattle.survey.specs.declared.Figures.{Figures}
 use Rattle.survey.specs.Whole.{SurveyOf}
 
@@ -19,11 +18,11 @@ pub record Given (ranges : List (List ℤ)) (vars : ℕ) (rows : List Row) (coun
   pub few : vars ≤ 16
   pub blank : BlankFrom vars ranges
 
--- the questions 8 to 13 of a script
-abbrev pub judgedScript : Script → Judged
-judgedScript script = judgedBy script (verdict ones (length (script .rows)) (envOf (script .ranges)) (treeOf (script .rows)))
+-- the questions 8 to 13 of a script under lent prices
+abbrev pub judgedScript : List ℕ → Script → Judged
+judgedScript prices script = judgedBy script (verdict (pricesOf prices) (length (script .rows)) (envOf (script .ranges)) (treeOf (script .rows)))
 
 -- what the survey found of a script of `count` rows
-pub record Found (script : Script) (count : ℕ) (s : Figures) (lines : List (List ℕ)) : Type 0 where
+pub record Found (prices : List ℕ) (script : Script) (count : ℕ) (s : Figures) (lines : List (List ℕ)) : Type 0 where
   pub long : length (script .rows) ≡ count
-  pub figures : SurveyOf script count s lines
+  pub figures : SurveyOf (pricesOf prices) script count s lines

@@ -5,6 +5,7 @@ use Prim.Native.Nat.{ℕ, _≤_}
 use lib.IntN.{ℤ}
 use lib.ListN.{length, take}
 use Rattle.rules.specs.declared.Row.{Row}
+use Rattle.rules.specs.declared.Prices.{Prices}
 use Rattle.rules.specs.declared.Ending.the-variants.{Ended}
 use Rattle.rules.specs.declared.LoopCount.{LoopCount}
 use Rattle.rules.specs.declared.Verdict.the-variants.{Passed, Refused}
@@ -46,14 +47,15 @@ pub record Ran (reply : RunReply) (old new : List ℤ) (o : Outcome) : Type 0 wh
   pub told : Told o reply
   pub store : new ≡ storeAfter reply old
 
--- the rows of an accepted script, and an allowance that is no more than its ticks
-pub record Runs (rows : List Row) (count : ℕ) (store : List ℤ) (allowance : ℕ) : Type 0 where
+-- the rows of an accepted script, a price for each test, and an allowance that is no more than its ticks
+pub record Runs (π : Prices) (rows : List Row) (count : ℕ) (store : List ℤ) (allowance : ℕ) : Type 0 where
   pub size : count ≤ 256
+  pub price : 1 ≤ π .test
   pub runs : Runnable (length store) (take count (kindsOf rows))
   pub ticks : allowance ≤ 1_000_000_000_000
 
 -- the run of rows, with its counts
-abbrev pub ranRows : List Row → ℕ → List ℤ → List ℕ → ℕ → RunReply
-ranRows rows count store picks allowance =
-    let a : Answer = runOf (take count (kindsOf rows)) store picks allowance in
+abbrev pub ranRows : Prices → List Row → ℕ → List ℤ → List ℕ → ℕ → RunReply
+ranRows π rows count store picks allowance =
+    let a : Answer = runOf π (take count (kindsOf rows)) store picks allowance in
     ran a (countsAt (a .entries) (loopRows 0 (take count (kindsOf rows))))

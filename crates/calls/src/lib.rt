@@ -1,7 +1,9 @@
 // The two calls on a script that has been read: its report, and its run.
 use loops::NO_COUNT;
+use prices::prices_of;
 use rules::Ending;
 use rules::LoopCount;
+use rules::Prices;
 use rules::Reply;
 use rules::Row;
 use rules::Verdict;
@@ -11,9 +13,8 @@ ghost use mathlib.Core.Bool.{_&&_};
 ghost use Prim.Native.Nat.{_≤_, min};
 ghost use lib.Signed.{leZ};
 ghost use lib.ListN.{length, take};
-ghost use Rattle.rules.specs.Figures.{ones};
 ghost use Rattle.rules.specs.Scripts.{pairRanges, scriptOf};
-ghost use Rattle.rules.specs.Calls.{replyOf, bufferOf, storeVerdict, runReply};
+ghost use Rattle.rules.specs.Calls.{Priced, replyOf, bufferOf, storeVerdict, runReply};
 ghost use Rattle.rules.specs.Claim.{Demand3Of};
 ghost use Rattle.calls.specs.Held.{Given, judgedScript};
 ghost use Rattle.calls.specs.Told.{ToldNo, Ran, Runs, ranRows};
@@ -24,17 +25,19 @@ pub fn report_script(
     count: usize,
     ranges: [[i32; 2]; 16],
     vars: usize,
+    prices: &[u32],
     buffer: &mut [u8],
 ) -> Reply
-    requires { ⌜ Given ranges vars rows count ⌝ }
-    ensures { λ r. ⌜ (r ≡ replyOf ones (judgedScript (scriptOf ranges vars rows count)) (length (now (buffer .entry)))) × (now (buffer .exit) ≡ bufferOf ones (judgedScript (scriptOf ranges vars rows count)) (now (buffer .entry))) ⌝ }
+    requires { ⌜ Given ranges vars rows count × Priced (now prices) ⌝ }
+    ensures { λ r. ⌜ (r ≡ replyOf (now (prices .entry)) (judgedScript (now (prices .entry)) (scriptOf ranges vars rows count)) (length (now (buffer .entry)))) × (now (buffer .exit) ≡ bufferOf (now (prices .entry)) (judgedScript (now (prices .entry)) (scriptOf ranges vars rows count)) (now (buffer .entry))) ⌝ }
 {
     let none: [u64; 7] = [0; 7];
     let mut lines = [none; 16];
     let zero: [u32; 9] = [0; 9];
     let mut table = [zero; 256];
     put_rows(&mut table, rows, count);
-    let figures = survey::survey(&table, count, ranges, vars, &mut lines);
+    let by_kind = prices_of(prices);
+    let figures = survey::survey(&table, count, ranges, vars, by_kind, &mut lines);
     if figures.number != 0 {
         return Reply::Refused(figures.number, figures.place);
     }
@@ -103,15 +106,16 @@ pub fn refusal(number: u32, place: usize) -> Outcome
 fn run_accepted(
     rows: [Row; 256],
     count: usize,
+    prices: Prices,
     store: &mut [i32],
     picks: &[u8],
     allowance: u64,
 ) -> Outcome
-    requires { ⌜ Runs rows count (now store) allowance ⌝ }
-    ensures { λ r. ⌜ Ran (ranRows rows count (now (store .entry)) (now (picks .entry)) allowance) (now (store .entry)) (now (store .exit)) r ⌝ }
+    requires { ⌜ Runs prices rows count (now store) allowance ⌝ }
+    ensures { λ r. ⌜ Ran (ranRows prices rows count (now (store .entry)) (now (picks .entry)) allowance) (now (store .entry)) (now (store .exit)) r ⌝ }
 {
     let mut table: [[u64; 3]; 256] = [[0; 3]; 256];
-    let ran = runner::run_rows(rows, count, store, picks, allowance, &mut table);
+    let ran = runner::run_rows(rows, count, prices, store, picks, allowance, &mut table);
     let loops = loops::loops_of(rows, count, &table);
     let counts = loops.counts;
     let ending = ran.ending;
@@ -139,20 +143,22 @@ pub fn run_script(
     count: usize,
     ranges: [[i32; 2]; 16],
     vars: usize,
+    prices: &[u32],
     store: &mut [i32],
     picks: &[u8],
     allowance: u64,
 ) -> Outcome
-    requires { ⌜ Given ranges vars rows count ⌝ }
-    ensures run { λ r. ⌜ Ran (runReply ones (judgedScript (scriptOf ranges vars rows count)) (now (store .entry)) (now (picks .entry)) allowance) (now (store .entry)) (now (store .exit)) r ⌝ }
-    ensures demand3 { λ r. ⌜ Demand3Of (judgedScript (scriptOf ranges vars rows count)) (now (store .entry)) (now (picks .entry)) allowance (r .ending) (r .ticks) (take (r .loops) (r .counts)) ⌝ }
+    requires { ⌜ Given ranges vars rows count × Priced (now prices) ⌝ }
+    ensures run { λ r. ⌜ Ran (runReply (now (prices .entry)) (judgedScript (now (prices .entry)) (scriptOf ranges vars rows count)) (now (store .entry)) (now (picks .entry)) allowance) (now (store .entry)) (now (store .exit)) r ⌝ }
+    ensures demand3 { λ r. ⌜ Demand3Of (now (prices .entry)) (judgedScript (now (prices .entry)) (scriptOf ranges vars rows count)) (now (store .entry)) (now (picks .entry)) allowance (r .ending) (r .ticks) (take (r .loops) (r .counts)) ⌝ }
 {
     let none: [u64; 7] = [0; 7];
     let mut lines = [none; 16];
     let zero: [u32; 9] = [0; 9];
     let mut table = [zero; 256];
     put_rows(&mut table, rows, count);
-    let figures = survey::survey(&table, count, ranges, vars, &mut lines);
+    let by_kind = prices_of(prices);
+    let figures = survey::survey(&table, count, ranges, vars, by_kind, &mut lines);
     if figures.number != 0 {
         return refusal(figures.number, figures.place);
     }
@@ -161,6 +167,7 @@ pub fn run_script(
         Verdict::Passed => run_accepted(
             rows,
             count,
+            by_kind,
             store,
             picks,
             smaller(allowance, figures.ticks),

@@ -1,11 +1,15 @@
 // What the programs share: the words of a person at the desk, files by name, lists of lines, and what is printed.
 mod lines;
+mod prices;
 mod print;
 mod script;
 
 pub use lines::Line;
 pub use lines::answer_input;
+pub use prices::Lent;
+pub use prices::read_prices;
 pub use print::print_text;
+pub use print::print_wrong_prices;
 pub use script::Values;
 pub use script::rehearse_file;
 pub use script::report_input;

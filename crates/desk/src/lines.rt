@@ -1,5 +1,8 @@
 // Lists on standard input, one file or one run a line.
+use crate::prices::Lent;
+use crate::prices::read_prices;
 use crate::print::print_text;
+use crate::print::print_wrong_prices;
 use crate::script::Values;
 use crate::script::rehearse_file;
 use crate::script::report_file;
@@ -9,7 +12,7 @@ use words::keep_value;
 ghost use Prim.Native.Nat.{_≤_};
 ghost use lib.ListN.{length};
 
-// What a line is: the name of a file to report, or a run, `NAME ALLOWANCE PICKS VALUE ..`.
+// What a line is: the name of a file to report, or a run, `[prices=A,C,P,T] NAME ALLOWANCE PICKS VALUE ..`.
 pub enum Line {
     File,
     Run,
@@ -38,15 +41,15 @@ fn read_values(words: &[u8], store: &mut [i32]) -> Values {
     Values::Count(count)
 }
 
-// Makes the run of a line from its name, allowance, picks and values.
-fn run_words(name: &[u8], allowance: &[u8], picks: &[u8], words: &[u8]) {
+// Makes the run of a line under prices, from its name, allowance, picks and values.
+fn run_words(name: &[u8], prices: &[u32], allowance: &[u8], picks: &[u8], words: &[u8]) {
     let mut store = [0i32; 17];
     let values = read_values(words, &mut store);
-    rehearse_file(name, allowance, picks, values, &mut store);
+    rehearse_file(name, prices, allowance, picks, values, &mut store);
 }
 
-// Takes a run's line apart at its first three spaces.
-fn run_line(line: &[u8]) {
+// Takes a run's line, from the name on, apart at its first three spaces.
+fn run_line(line: &[u8], prices: &[u32]) {
     let all = line.len();
     let a = find(line, 0, all, b' ');
     let b = next(line, a);
@@ -54,7 +57,20 @@ fn run_line(line: &[u8]) {
     let d = next(line, c);
     let e = find(line, d, all, b' ');
     let f = next(line, e);
-    run_words(&line[0..a], &line[b..c], &line[d..e], &line[f..]);
+    run_words(&line[0..a], prices, &line[b..c], &line[d..e], &line[f..]);
+}
+
+// Reads the prices that may stand before a run's name.
+fn priced_line(line: &[u8]) {
+    let mut prices = [1u32; 4];
+    let a = find(line, 0, line.len(), b' ');
+    let b = next(line, a);
+    let lent = read_prices(&line[0..a], &mut prices);
+    match lent {
+        Lent::Nothing => run_line(line, &prices),
+        Lent::Four => run_line(&line[b..], &prices),
+        Lent::Malformed => print_wrong_prices(),
+    }
 }
 
 // Prints a line, and the report or the run that it asks for.
@@ -63,7 +79,7 @@ fn answer_line(kind: Line, line: &[u8]) {
     print_text(b"\n");
     match kind {
         Line::File => report_file(line),
-        Line::Run => run_line(line),
+        Line::Run => priced_line(line),
     }
 }
 

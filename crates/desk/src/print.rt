@@ -35,6 +35,10 @@ pub fn print_wrong_value(at: usize) {
     print_text(b" is not a number\n");
 }
 
+pub fn print_wrong_prices() {
+    print_text(b"error=prices are not four numbers\n");
+}
+
 // The report, at the front of its buffer.
 pub fn print_front(buffer: &[u8], length: usize) {
     let n = within(length, buffer);

@@ -76,11 +76,12 @@ fn cannot_read() {
     print_text(b"error=cannot read the file\n");
 }
 
-// Prints the report of a file's bytes, or its refusal.
+// Prints the report of a file's bytes under four ones, or its refusal.
 fn print_report(file: &[u8]) {
+    let ones = [1u32; 4];
     let mut scratch = [0u32; SCRATCH];
     let mut buffer = [0u8; REPORT];
-    let reply = loader::report(file, &mut scratch, &mut buffer);
+    let reply = loader::report(file, &ones, &mut scratch, &mut buffer);
     match reply {
         Reply::Accepted(length) => print_front(&buffer, length),
         Reply::Refused(number, place) => print_refusal(number, place),
@@ -112,14 +113,14 @@ pub fn report_file(path: &[u8]) {
 }
 
 // Runs a file's bytes and prints the outcome.
-fn print_run(file: &[u8], allowed: u64, picks: &[u8], store: &mut [i32]) {
+fn print_run(file: &[u8], prices: &[u32], allowed: u64, picks: &[u8], store: &mut [i32]) {
     let mut scratch = [0u32; SCRATCH];
-    let outcome = loader::run(file, &mut scratch, store, picks, allowed);
+    let outcome = loader::run(file, prices, &mut scratch, store, picks, allowed);
     print_outcome(outcome, store);
 }
 
 // Runs the file of that name and prints the outcome.
-fn run_file(path: &[u8], allowed: u64, picks: &[u8], store: &mut [i32]) {
+fn run_file(path: &[u8], prices: &[u32], allowed: u64, picks: &[u8], store: &mut [i32]) {
     let mut file = [0u8; 16385];
     let input = read_file(path, &mut file);
     let length = input.length;
@@ -127,41 +128,55 @@ fn run_file(path: &[u8], allowed: u64, picks: &[u8], store: &mut [i32]) {
         cannot_read();
         return;
     }
-    print_run(&file[..length], allowed, picks, store);
+    print_run(&file[..length], prices, allowed, picks, store);
 }
 
 // Runs the file of that name by a word of picks, whose bytes go into picks.
-fn run_word(path: &[u8], allowed: u64, word: &[u8], picks: &mut [u8], store: &mut [i32]) {
+fn run_word(
+    path: &[u8],
+    prices: &[u32],
+    allowed: u64,
+    word: &[u8],
+    picks: &mut [u8],
+    store: &mut [i32],
+) {
     if put_picks(word, picks) {
-        run_file(path, allowed, picks, store);
+        run_file(path, prices, allowed, picks, store);
     } else {
         print_text(b"error=picks are not 0 and 1\n");
     }
 }
 
 // The same with room for as many picks as an argument of a program can have.
-fn run_picks(path: &[u8], allowed: u64, word: &[u8], store: &mut [i32]) {
+fn run_picks(path: &[u8], prices: &[u32], allowed: u64, word: &[u8], store: &mut [i32]) {
     let mut room = [0u8; 131072];
     let count = pick_count(word, &room);
-    run_word(path, allowed, word, &mut room[..count], store);
+    run_word(path, prices, allowed, word, &mut room[..count], store);
 }
 
 // The same by a word of allowance.
-fn run_allowed(path: &[u8], allowed: &[u8], word: &[u8], store: &mut [i32]) {
+fn run_allowed(path: &[u8], prices: &[u32], allowed: &[u8], word: &[u8], store: &mut [i32]) {
     let n = allowance(allowed);
     match n {
-        Number::Is(ticks) => run_picks(path, ticks, word, store),
+        Number::Is(ticks) => run_picks(path, prices, ticks, word, store),
         Number::Malformed => print_text(b"error=allowance is not a number or plan\n"),
     }
 }
 
-// Runs the file of that name by a word of allowance, a word of picks and the values in a store, and prints the outcome or what is wrong.
+// Runs the file of that name under prices, by a word of allowance, a word of picks and the values in a store, and prints the outcome or what is wrong.
 // The store's 17 places do: a script has at most 16 variables, and a store of 17 is refused at the place where a longer one would be.
-pub fn rehearse_file(path: &[u8], allowed: &[u8], word: &[u8], values: Values, store: &mut [i32]) {
+pub fn rehearse_file(
+    path: &[u8],
+    prices: &[u32],
+    allowed: &[u8],
+    word: &[u8],
+    values: Values,
+    store: &mut [i32],
+) {
     match values {
         Values::Count(count) => {
             let kept = least(count, store.len());
-            run_allowed(path, allowed, word, &mut store[..kept]);
+            run_allowed(path, prices, allowed, word, &mut store[..kept]);
         }
         Values::Wrong(at) => print_wrong_value(at),
     }

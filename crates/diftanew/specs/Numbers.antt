@@ -12,9 +12,9 @@ use Rattle.loops.specs.Loops.{noCount}
 use Rattle.loader.specs.Kept.{numberOf, placeOf, verdictNumber, firstBy, Reported, KeptCall}
 
 -- a report call in numbers
-pub record Reported-in-numbers (judgement : Judged) (old new : List ℕ) (r at : ℕ) : Type 0 where
+pub record Reported-in-numbers (prices : List ℕ) (judgement : Judged) (old new : List ℕ) (r at : ℕ) : Type 0 where
   pub reply : Reply
-  pub reported : Reported judgement old new reply
+  pub reported : Reported prices judgement old new reply
   pub number : r ≡ numberOf reply
   pub place : at ≡ placeOf reply
 
@@ -37,8 +37,8 @@ unfoldable pub numbersOf : Outcome → List ℕ
 numbersOf o = upTo (min (o .loops) 16) (o .counts) (headOf o)
 
 -- a run call's answer in numbers: those of an outcome that is document 01's, and that keeps within the report
-pub record Told-in-numbers (judgement : Judged) (store new : List ℤ) (picks : List ℕ) (allowance r : ℕ) (answer : List ℕ) : Type 0 where
+pub record Told-in-numbers (prices : List ℕ) (judgement : Judged) (store new : List ℤ) (picks : List ℕ) (allowance r : ℕ) (answer : List ℕ) : Type 0 where
   pub outcome : Outcome
-  pub kept : KeptCall judgement store new picks allowance outcome
+  pub kept : KeptCall prices judgement store new picks allowance outcome
   pub number : r ≡ verdictNumber (outcome .verdict)
   pub numbers : answer ≡ numbersOf outcome

@@ -9,18 +9,19 @@ ghost use Rattle.rules.specs.Calls.{endingNumber};
 ghost use Rattle.loader.specs.Kept.{judgement, verdictNumber};
 ghost use Rattle.diftanew.specs.Numbers.{Reported-in-numbers, firstOf, numbersOf, Told-in-numbers};
 
-// The report of a file. Answers 0 for an accepted file, with the report's length in place, or the refusal's number with its place.
+// The report of a file under four lent prices. Answers 0 for an accepted file, with the report's length in place, or the refusal's number with its place.
 #[no_mangle]
 pub extern "C" fn diftanew_report(
     file: &[u8],
+    prices: &[u32],
     scratch: &mut [u32],
     buffer: &mut [u8],
     place: &mut u64,
 ) -> u32
-    ensures answer { λ r. ⌜ Reported-in-numbers (judgement (now (scratch .entry)) (now (file .entry))) (now (buffer .entry)) (now (buffer .exit)) r (now (place .exit)) ⌝ }
+    ensures answer { λ r. ⌜ Reported-in-numbers (now (prices .entry)) (judgement (now (prices .entry)) (now (scratch .entry)) (now (file .entry))) (now (buffer .entry)) (now (buffer .exit)) r (now (place .exit)) ⌝ }
     ensures scratch { λ _. ⌜ now (scratch .exit) ≡ now (scratch .entry) ⌝ }
 {
-    let r = loader::report(file, scratch, buffer);
+    let r = loader::report(file, prices, scratch, buffer);
     match r {
         Reply::Accepted(n) => {
             *place = n as u64;
@@ -98,20 +99,21 @@ fn numbers(o: Outcome) -> [u64; 53]
     a
 }
 
-// The run of a file. Answers 0, with the answer's numbers as the header lays them out, or the refusal's number, with its place first.
+// The run of a file under four lent prices. Answers 0, with the answer's numbers as the header lays them out, or the refusal's number, with its place first.
 #[no_mangle]
 pub extern "C" fn diftanew_run(
     file: &[u8],
+    prices: &[u32],
     scratch: &mut [u32],
     store: &mut [i32],
     picks: &[u8],
     allowance: u64,
     answer: &mut [u64; 53],
 ) -> u32
-    ensures answer { λ r. ⌜ Told-in-numbers (judgement (now (scratch .entry)) (now (file .entry))) (now (store .entry)) (now (store .exit)) (now (picks .entry)) allowance r (now (answer .exit)) ⌝ }
+    ensures answer { λ r. ⌜ Told-in-numbers (now (prices .entry)) (judgement (now (prices .entry)) (now (scratch .entry)) (now (file .entry))) (now (store .entry)) (now (store .exit)) (now (picks .entry)) allowance r (now (answer .exit)) ⌝ }
     ensures scratch { λ _. ⌜ now (scratch .exit) ≡ now (scratch .entry) ⌝ }
 {
-    let o = loader::run(file, scratch, store, picks, allowance);
+    let o = loader::run(file, prices, scratch, store, picks, allowance);
     let n = numbers(o);
     *answer = n;
     let verdict = o.verdict;

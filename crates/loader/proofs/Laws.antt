@@ -1,19 +1,19 @@
 -- From a loaded file to the judgement of the call. Assumes nothing.
 use mathlib.Core.Path.{_≡_, refl, sym, _∙_, ap, subst}
+use mathlib.Core.Bool.{Bool, true, false, cond}
 use mathlib.Core.List.{List, []}
-use Prim.Native.Nat.{ℕ, _≤_, _<_}
+use Prim.Native.Nat.{ℕ}
 use native.Mathlib.Omega.{arith}
 use lib.IntN.{ℤ}
 use lib.ListN.{length, take}
-use borrow.Author.Tests.{le-leb, lt-leb}
+use lib.Dec.{leb}
 use Rattle.rules.specs.declared.Verdict.{Verdict}
 use Rattle.rules.specs.declared.Verdict.the-variants.{Passed, Refused}
 use Rattle.rules.specs.declared.Reply.{Reply}
-use Rattle.rules.specs.Figures.{ones}
 use Rattle.rules.specs.Scripts.{Script, scriptOf, Legal}
 use Rattle.rules.specs.File
 use Rattle.rules.specs.File.{Reading, fileScript}
-use Rattle.rules.specs.Calls.{Judged, refuses, scratchSize, judgedFile, judged, replyOf, bufferOf, RunReply, ran, runReply, storeAfter}
+use Rattle.rules.specs.Calls.{Judged, refuses, pricesOf, pricesVerdict, Priced, judgedPriced, scratchSize, judgedFile, judged, replyOf, bufferOf, RunReply, ran, runReply, storeAfter}
 use Rattle.rules.proofs.Reading.{read-legal}
 use Rattle.rules.proofs.FromBytes.{demand3-call}
 use Rattle.reader.specs.declared.Loaded.{Loaded}
@@ -22,23 +22,46 @@ use Rattle.calls.specs.Held.{Given, judgedScript}
 use Rattle.calls.specs.Told.{Told, Ran, ToldNo}
 use Rattle.calls.specs.declared.Outcome.{Outcome}
 use Rattle.calls.proofs.Runs.{told-says}
-use Rattle.loader.specs.Kept.{numberOf, placeOf, verdictNumber, firstBy, runNumber, runFirst, Reported, KeptCall}
+use Rattle.loader.specs.Kept.{numberOf, placeOf, verdictNumber, firstBy, runNumber, runFirst, lentVerdict, Reported, KeptCall}
 
--- question 1
-pub scratch-short : (scratch : ℕ) (file : List ℕ) → scratch < scratchSize → judged ones scratch file ≡ refuses 1 scratchSize
-unfolding judged
-scratch-short scratch file h = rw (lt-leb scratchSize scratch h)
+-- the questions 1 and 16
+module _ (prices : List ℕ) (scratch : ℕ) where
+  judged-lent : (file : List ℕ) → judged prices scratch file ≡ judgedPriced prices (lentVerdict prices scratch) file
+  unfolding judged judgedPriced
+  judged-lent file = by (leb scratchSize scratch)
+    where
+      by : (b : Bool) → cond b (judgedPriced prices (pricesVerdict 4 0 prices) file) (refuses 1 scratchSize) ≡ judgedPriced prices (cond b (pricesVerdict 4 0 prices) (Refused 1 scratchSize)) file
+      by true = refl
+      by false = refl
 
-module _ (scratch : ℕ) (file : List ℕ) (l : Loaded) (ranges : List (List ℤ)) (room : scratchSize ≤ scratch) (e : LoadedAs (fileScript file) l ranges) where
+  -- refused
+  pub lent-no : (file : List ℕ) {q p : ℕ} → lentVerdict prices scratch ≡ Refused q p → judged prices scratch file ≡ refuses q p
+  unfolding judgedPriced
+  lent-no file e = judged-lent file ∙ ap (λ v. judgedPriced prices v file) e
+
+  -- passed: the file's questions come next
+  module _ (e : lentVerdict prices scratch ≡ Passed) where
+    pub lent-yes : (file : List ℕ) → judged prices scratch file ≡ judgedFile (pricesOf prices) (fileScript file)
+    unfolding judgedPriced
+    lent-yes file = judged-lent file ∙ ap (λ v. judgedPriced prices v file) e
+
+    pub lent-priced : Priced prices
+    lent-priced = by (leb scratchSize scratch) e
+      where
+        by : (b : Bool) → cond b (pricesVerdict 4 0 prices) (Refused 1 scratchSize) ≡ Passed → Priced prices
+        by true e = e
+        by false e = absurd (let z : _≡_ {A = ℕ} 0 1 = cc in omega arith)
+
+module _ (prices : List ℕ) (file : List ℕ) (l : Loaded) (ranges : List (List ℤ)) (e : LoadedAs (fileScript file) l ranges) where
   abbrev script : Script
   script = scriptOf ranges (l .vars) (l .rows) (l .count)
 
   -- the file is refused
-  pub file-refused : {q p : ℕ} → l .verdict ≡ Refused q p → judged ones scratch file ≡ refuses q p
-  unfolding judged judgedFile answerOf
-  file-refused {q} {p} z = rw (le-leb scratchSize scratch room) (go (fileScript file) (e .answer))
+  pub file-refused : {q p : ℕ} → l .verdict ≡ Refused q p → judgedFile (pricesOf prices) (fileScript file) ≡ refuses q p
+  unfolding judgedFile answerOf
+  file-refused {q} {p} z = go (fileScript file) (e .answer)
     where
-      go : (r : Reading Script) → loadedAnswer l ranges ≡ answerOf r → judgedFile ones r ≡ refuses q p
+      go : (r : Reading Script) → loadedAnswer l ranges ≡ answerOf r → judgedFile (pricesOf prices) r ≡ refuses q p
       go (File.read s rest) a =
           let v : l .verdict ≡ Passed = ap (λ (x : Answer). x .verdict) a in
           absurd (let y : _≡_ {A = ℕ} 0 1 = cc in omega arith)
@@ -61,22 +84,26 @@ module _ (scratch : ℕ) (file : List ℕ) (l : Loaded) (ranges : List (List ℤ
             absurd (let y : _≡_ {A = ℕ} 0 1 = cc in omega arith)
 
     -- the file is read
-    pub file-read : judged ones scratch file ≡ judgedScript script
-    unfolding judged judgedFile
-    file-read = rw (le-leb scratchSize scratch room, loaded .1)
+    pub file-read : judgedFile (pricesOf prices) (fileScript file) ≡ judgedScript prices script
+    unfolding judgedFile
+    file-read = rw (loaded .1)
 
     pub file-given : Given ranges (l .vars) (l .rows) (l .count)
     file-given =
         let legal : Legal script = read-legal file script (loaded .0) (loaded .1) in
         record { legal = legal; long = sym (loaded .3); few = omega (arith, legal .sizes .0, loaded .2); blank = e .blank z }
 
--- a report that is refused, and one of a file that is judged as its script is
-pub reported-no : {j : Judged} {q p : ℕ} {old : List ℕ} → j ≡ refuses q p → Reported j old old (Reply.Refused q p)
-unfolding replyOf bufferOf
-reported-no e = rw e (record { answer = refl; number = refl; place = refl; buffer = refl })
+-- a report that is refused, one that is judged as another is, and one of a file that is judged as its script is
+module _ {prices : List ℕ} {j : Judged} {old : List ℕ} where
+  pub reported-no : {q p : ℕ} → j ≡ refuses q p → Reported prices j old old (Reply.Refused q p)
+  unfolding replyOf bufferOf
+  reported-no e = rw e (record { answer = refl; number = refl; place = refl; buffer = refl })
 
-pub reported-same : {j k : Judged} {old new : List ℕ} {r : Reply} → j ≡ k → (r ≡ replyOf ones k (length old)) × (new ≡ bufferOf ones k old) → Reported j old new r
-reported-same e (a, b) = rw e (record { answer = a; number = ap numberOf a; place = ap placeOf a; buffer = b })
+  pub reported-same : {k : Judged} {new : List ℕ} {r : Reply} → j ≡ k → Reported prices k old new r → Reported prices j old new r
+  reported-same e h = rw e h
+
+  pub reported-as : {k : Judged} {new : List ℕ} {r : Reply} → j ≡ k → (r ≡ replyOf prices k (length old)) × (new ≡ bufferOf prices k old) → Reported prices j old new r
+  reported-as e (a, b) = rw e (record { answer = a; number = ap numberOf a; place = ap placeOf a; buffer = b })
 
 -- the numbers of an answer that tells a reply
 told-number : (o : Outcome) (reply : RunReply) → Told o reply → verdictNumber (o .verdict) ≡ runNumber reply
@@ -87,19 +114,23 @@ told-first : (o : Outcome) (reply : RunReply) → Told o reply → firstBy (o .v
 told-first o (ran a cs) t = λ j. firstBy (t .verdict j) (t .ending j)
 told-first o (RunReply.refuses q p) t = ap (λ v. firstBy v (o .ending)) (t .verdict)
 
-module _ (scratch : ℕ) (file : List ℕ) {store : List ℤ} {picks : List ℕ} {allowance : ℕ} {o : Outcome} where
-  kept : {new : List ℤ} → Ran (runReply ones (judged ones scratch file) store picks allowance) store new o → KeptCall (judged ones scratch file) store new picks allowance o
-  kept r = record {
-    answer = r;
-    number = told-number o (runReply ones (judged ones scratch file) store picks allowance) (r .told);
-    first = told-first o (runReply ones (judged ones scratch file) store picks allowance) (r .told);
-    demand3 = demand3-call store picks allowance (o .ending) (o .ticks) (take (o .loops) (o .counts)) scratch file (told-says o (runReply ones (judged ones scratch file) store picks allowance) (r .told));
-  }
-
-  -- a run that is refused, and one of a file that is judged as its script is
-  pub kept-no : {q p : ℕ} → judged ones scratch file ≡ refuses q p → ToldNo o q p → KeptCall (judged ones scratch file) store store picks allowance o
+-- a run that is refused, and one that is judged as another is
+module _ (prices : List ℕ) {store : List ℤ} (picks : List ℕ) (allowance : ℕ) {o : Outcome} {j : Judged} where
+  pub ran-no : {q p : ℕ} → j ≡ refuses q p → ToldNo o q p → Ran (runReply prices j store picks allowance) store store o
   unfolding runReply storeAfter
-  kept-no e t = kept (rw e (record { told = t; store = refl }))
+  ran-no e t = rw e (record { told = t; store = refl })
 
-  pub kept-same : {k : Judged} {new : List ℤ} → judged ones scratch file ≡ k → Ran (runReply ones k store picks allowance) store new o → KeptCall (judged ones scratch file) store new picks allowance o
-  kept-same e r = kept (rw e r)
+  pub ran-same : {k : Judged} {new : List ℤ} → j ≡ k → Ran (runReply prices k store picks allowance) store new o → Ran (runReply prices j store picks allowance) store new o
+  ran-same e r = rw e r
+
+-- its numbers, and demand 3
+pub kept : (prices : List ℕ) (scratch : ℕ) (file : List ℕ) {store new : List ℤ} (picks : List ℕ) (allowance : ℕ) {o : Outcome}
+    → Ran (runReply prices (judged prices scratch file) store picks allowance) store new o → KeptCall prices (judged prices scratch file) store new picks allowance o
+kept prices scratch file {store} picks allowance {o} r =
+    let reply = runReply prices (judged prices scratch file) store picks allowance in
+    record {
+      answer = r;
+      number = told-number o reply (r .told);
+      first = told-first o reply (r .told);
+      demand3 = demand3-call prices store picks allowance (o .ending) (o .ticks) (take (o .loops) (o .counts)) scratch file (told-says o reply (r .told));
+    }

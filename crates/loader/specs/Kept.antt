@@ -1,7 +1,9 @@
 -- What the two calls promise.
 use mathlib.Core.Path.{_≡_}
+use mathlib.Core.Bool.{cond}
 use mathlib.Core.List.{List}
 use Prim.Native.Nat.{ℕ}
+use lib.Dec.{leb}
 use lib.IntN.{ℤ}
 use lib.ListN.{length, take}
 use Rattle.rules.specs.declared.Reply.{Reply}
@@ -9,15 +11,18 @@ use Rattle.rules.specs.declared.Reply.the-variants.{Accepted}
 use Rattle.rules.specs.declared.Verdict.{Verdict}
 use Rattle.rules.specs.declared.Verdict.the-variants.{Passed}
 use Rattle.rules.specs.declared.Ending.{Ending}
-use Rattle.rules.specs.Figures.{ones}
-use Rattle.rules.specs.Calls.{Judged, judged, replyOf, bufferOf, RunReply, ran, refuses, runReply, endingNumber}
+use Rattle.rules.specs.Calls.{Judged, pricesVerdict, scratchSize, judged, replyOf, bufferOf, RunReply, ran, refuses, runReply, endingNumber}
 use Rattle.rules.specs.Claim.{Demand3Of}
 use Rattle.calls.specs.declared.Outcome.{Outcome}
 use Rattle.calls.specs.Told.{Ran}
 
--- the questions 1 to 13 of a call, with document 01's prices
-abbrev pub judgement : List ℕ → List ℕ → Judged
-judgement scratch file = judged ones (length scratch) file
+-- the questions 1 and 16, of a scratch of that length and the prices
+abbrev pub lentVerdict : List ℕ → ℕ → Verdict
+lentVerdict prices scratch = cond (leb scratchSize scratch) (pricesVerdict 4 0 prices) (Verdict.Refused 1 scratchSize)
+
+-- the questions 1, 16 and 2 to 13 of a call
+abbrev pub judgement : List ℕ → List ℕ → List ℕ → Judged
+judgement prices scratch file = judged prices (length scratch) file
 
 -- a report's answer by document 01's numbers: 0 and the length, or a refusal's number and place
 abbrev pub numberOf : Reply → ℕ
@@ -47,16 +52,16 @@ runFirst (ran a counts) = endingNumber (a .ending)
 runFirst (refuses q p) = p
 
 -- a report call: its answer, also by its numbers, and every byte of the buffer
-pub record Reported (judgement : Judged) (old new : List ℕ) (r : Reply) : Type 0 where
-  pub answer : r ≡ replyOf ones judgement (length old)
-  pub number : numberOf r ≡ numberOf (replyOf ones judgement (length old))
-  pub place : placeOf r ≡ placeOf (replyOf ones judgement (length old))
-  pub buffer : new ≡ bufferOf ones judgement old
+pub record Reported (prices : List ℕ) (judgement : Judged) (old new : List ℕ) (r : Reply) : Type 0 where
+  pub answer : r ≡ replyOf prices judgement (length old)
+  pub number : numberOf r ≡ numberOf (replyOf prices judgement (length old))
+  pub place : placeOf r ≡ placeOf (replyOf prices judgement (length old))
+  pub buffer : new ≡ bufferOf prices judgement old
 
--- a run call: its answer, also by its numbers, and the store are document 01's; and for an accepted file, a store inside its ranges and an allowance of the report's ticks
--- or more, this answer keeps within the report: not spent, its ticks, turns and totals at most the report's, exact loops exactly
-pub record KeptCall (judgement : Judged) (store new : List ℤ) (picks : List ℕ) (allowance : ℕ) (o : Outcome) : Type 0 where
-  pub answer : Ran (runReply ones judgement store picks allowance) store new o
-  pub number : verdictNumber (o .verdict) ≡ runNumber (runReply ones judgement store picks allowance)
-  pub first : firstBy (o .verdict) (o .ending) ≡ runFirst (runReply ones judgement store picks allowance)
-  pub demand3 : Demand3Of judgement store picks allowance (o .ending) (o .ticks) (take (o .loops) (o .counts))
+-- a run call: its answer, also by its numbers, and the store are document 01's; and for an accepted file, a store inside its ranges and an allowance of the ticks of the
+-- report under the same prices or more, this answer keeps within the report: not spent, its ticks, turns and totals at most the report's, exact loops exactly
+pub record KeptCall (prices : List ℕ) (judgement : Judged) (store new : List ℤ) (picks : List ℕ) (allowance : ℕ) (o : Outcome) : Type 0 where
+  pub answer : Ran (runReply prices judgement store picks allowance) store new o
+  pub number : verdictNumber (o .verdict) ≡ runNumber (runReply prices judgement store picks allowance)
+  pub first : firstBy (o .verdict) (o .ending) ≡ runFirst (runReply prices judgement store picks allowance)
+  pub demand3 : Demand3Of prices judgement store picks allowance (o .ending) (o .ticks) (take (o .loops) (o .counts))

@@ -1,10 +1,14 @@
 // The public calls: the report of a script file, and its run. They take all inputs, always end, and refuse by number and place.
 use calls::Outcome;
+use prices::ask_prices;
 use reader::load;
 use rules::Reply;
 use rules::Verdict;
 ghost use mathlib.Core.Path.{_≡_};
-ghost use Rattle.loader.specs.Kept.{judgement, Reported, KeptCall};
+ghost use Rattle.rules.specs.File.{fileScript};
+ghost use Rattle.rules.specs.Calls.{pricesOf, Priced, judgedFile, runReply};
+ghost use Rattle.calls.specs.Told.{Ran};
+ghost use Rattle.loader.specs.Kept.{lentVerdict, judgement, Reported, KeptCall};
 
 // How many numbers the lent scratch has at least: question 1.
 pub const SCRATCH: usize = 8_192;
@@ -12,15 +16,21 @@ pub const SCRATCH: usize = 8_192;
 // The bytes of the longest report, by `longest-report`: a buffer of that many never meets question 14.
 pub const REPORT: usize = 2_089;
 
-// The report of a file: the questions 1 to 14. Accepted, the report is at the front of the buffer, and the answer is its length. Refused, the
-// buffer is untouched. The scratch is measured, and never touched.
-pub fn report(file: &[u8], scratch: &mut [u32], buffer: &mut [u8]) -> Reply
-    ensures answer { λ r. ⌜ Reported (judgement (now (scratch .entry)) (now (file .entry))) (now (buffer .entry)) (now (buffer .exit)) r ⌝ }
-    ensures scratch { λ _. ⌜ now (scratch .exit) ≡ now (scratch .entry) ⌝ }
+// The questions of what is lent beside the file: 1 of the scratch, by its length, then 16 of the prices.
+fn ask_lent(prices: &[u32], scratch: usize) -> Verdict
+    ensures { λ r. ⌜ r ≡ lentVerdict (now (prices .entry)) scratch ⌝ }
 {
-    if scratch.len() < SCRATCH {
-        return Reply::Refused(1, SCRATCH);
+    if scratch < SCRATCH {
+        return Verdict::Refused(1, SCRATCH);
     }
+    ask_prices(prices)
+}
+
+// The report of a file under prices that 16 has passed: the questions 2 to 14.
+fn report_file(file: &[u8], prices: &[u32], buffer: &mut [u8]) -> Reply
+    requires { ⌜ Priced (now prices) ⌝ }
+    ensures { λ r. ⌜ Reported (now (prices .entry)) (judgedFile (pricesOf (now (prices .entry))) (fileScript (now (file .entry)))) (now (buffer .entry)) (now (buffer .exit)) r ⌝ }
+{
     let none: [i32; 2] = [0; 2];
     let mut ranges = [none; 16];
     let l = load(file, &mut ranges);
@@ -28,27 +38,30 @@ pub fn report(file: &[u8], scratch: &mut [u32], buffer: &mut [u8]) -> Reply
     match verdict {
         Verdict::Passed => {
             let rows = l.rows;
-            calls::report_script(rows, l.count, ranges, l.vars, buffer)
+            calls::report_script(rows, l.count, ranges, l.vars, prices, buffer)
         }
         Verdict::Refused(q, p) => Reply::Refused(q, p),
     }
 }
 
-// The run of a file: the questions 1 to 13 and 15. The store is overwritten with the final one; refused, it is untouched. With the ticks of
-// the file's report as allowance, the run keeps within its report: demand 3.
-pub fn run(
-    file: &[u8],
-    scratch: &mut [u32],
-    store: &mut [i32],
-    picks: &[u8],
-    allowance: u64,
-) -> Outcome
-    ensures answer { λ r. ⌜ KeptCall (judgement (now (scratch .entry)) (now (file .entry))) (now (store .entry)) (now (store .exit)) (now (picks .entry)) allowance r ⌝ }
+// The report of a file under four lent prices: the questions 1, 16 and 2 to 14. Accepted, the report is at the front of the buffer, and the answer
+// is its length. Refused, the buffer is untouched. The scratch is measured, and never touched.
+pub fn report(file: &[u8], prices: &[u32], scratch: &mut [u32], buffer: &mut [u8]) -> Reply
+    ensures answer { λ r. ⌜ Reported (now (prices .entry)) (judgement (now (prices .entry)) (now (scratch .entry)) (now (file .entry))) (now (buffer .entry)) (now (buffer .exit)) r ⌝ }
     ensures scratch { λ _. ⌜ now (scratch .exit) ≡ now (scratch .entry) ⌝ }
 {
-    if scratch.len() < SCRATCH {
-        return calls::refusal(1, SCRATCH);
+    let lent = ask_lent(prices, scratch.len());
+    match lent {
+        Verdict::Passed => report_file(file, prices, buffer),
+        Verdict::Refused(q, p) => Reply::Refused(q, p),
     }
+}
+
+// The run of a file under prices that 16 has passed: the questions 2 to 13 and 15.
+fn run_file(file: &[u8], prices: &[u32], store: &mut [i32], picks: &[u8], allowance: u64) -> Outcome
+    requires { ⌜ Priced (now prices) ⌝ }
+    ensures { λ r. ⌜ Ran (runReply (now (prices .entry)) (judgedFile (pricesOf (now (prices .entry))) (fileScript (now (file .entry)))) (now (store .entry)) (now (picks .entry)) allowance) (now (store .entry)) (now (store .exit)) r ⌝ }
+{
     let none: [i32; 2] = [0; 2];
     let mut ranges = [none; 16];
     let l = load(file, &mut ranges);
@@ -56,8 +69,37 @@ pub fn run(
     match verdict {
         Verdict::Passed => {
             let rows = l.rows;
-            calls::run_script(rows, l.count, ranges, l.vars, store, picks, allowance)
+            calls::run_script(
+                rows,
+                l.count,
+                ranges,
+                l.vars,
+                prices,
+                store,
+                picks,
+                allowance,
+            )
         }
+        Verdict::Refused(q, p) => calls::refusal(q, p),
+    }
+}
+
+// The run of a file under four lent prices: the questions 1, 16, 2 to 13 and 15. The store is overwritten with the final one; refused, it is untouched.
+// With the ticks of the file's report under the same prices as allowance, the run keeps within that report: demand 3.
+pub fn run(
+    file: &[u8],
+    prices: &[u32],
+    scratch: &mut [u32],
+    store: &mut [i32],
+    picks: &[u8],
+    allowance: u64,
+) -> Outcome
+    ensures answer { λ r. ⌜ KeptCall (now (prices .entry)) (judgement (now (prices .entry)) (now (scratch .entry)) (now (file .entry))) (now (store .entry)) (now (store .exit)) (now (picks .entry)) allowance r ⌝ }
+    ensures scratch { λ _. ⌜ now (scratch .exit) ≡ now (scratch .entry) ⌝ }
+{
+    let lent = ask_lent(prices, scratch.len());
+    match lent {
+        Verdict::Passed => run_file(file, prices, store, picks, allowance),
         Verdict::Refused(q, p) => calls::refusal(q, p),
     }
 }

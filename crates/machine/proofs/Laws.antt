@@ -14,7 +14,7 @@ use Rattle.rules.specs.declared.Comparison.{Comparison}
 use Rattle.rules.specs.declared.Change.{Change}
 use Rattle.rules.specs.Blocks.{from, assign, Plain, Test, test, while, do-while, for, Last, View, is-plain, is-pick, is-else, is-end, is-loop, viewAt}
 use Rattle.rules.specs.Run.{State}
-use Rattle.rules.specs.Figures.{ones}
+use Rattle.rules.specs.declared.Prices.{Prices}
 use Rattle.rules.specs.RowMachine.{Tally, Next, begin, turn, fresh, to, tests, onRow}
 use Rattle.rules.specs.Scripts.{OperandBelow}
 use Rattle.actions.specs.declared.Machine.{Machine}
@@ -58,35 +58,35 @@ pub steps-row : {m r : Machine} {store store′ : List ℤ} {picks : List ℕ} {
     → Steps m r store store′ picks c c′ f → ((s : State) (d : Tally) → f s d ≡ g s d) → Steps m r store store′ picks c c′ g
 steps-row a e = record { same = a .same ∙ e _ _; left = a .left; used = a .used }
 
-module _ (rows : List Kind) (shut opener : ℕ → ℕ) (i e h : ℕ) (w : View) (fit : Fitting rows shut opener i e h w) (s : State) (c : Tally) where
+module _ (π : Prices) (rows : List Kind) (shut opener : ℕ → ℕ) (i e h : ℕ) (w : View) (fit : Fitting rows shut opener i e h w) (s : State) (c : Tally) where
   -- row i, by its view
   abbrev at-row : View → Bool → Next
-  at-row v b = rowTo rows shut opener v i (phaseOf b) s c
+  at-row v b = rowTo π rows shut opener v i (phaseOf b) s c
 
-  pub at-end : (b : Bool) → endTo rows shut opener w h i (phaseOf b) s c ≡ at-row is-end b
-  at-end b = sym ((λ t. endTo rows shut opener (viewAt rows (fit .opens t)) (fit .opens t) i (phaseOf b) s c) ∙ ap (λ v. endTo rows shut opener v h i (phaseOf b) s c) (fit .head))
+  pub at-end : (b : Bool) → endTo π rows shut opener w h i (phaseOf b) s c ≡ at-row is-end b
+  at-end b = sym ((λ t. endTo π rows shut opener (viewAt rows (fit .opens t)) (fit .opens t) i (phaseOf b) s c) ∙ ap (λ v. endTo π rows shut opener v h i (phaseOf b) s c) (fit .head))
 
   pub at-else : (b : Bool) → to (suc e) fresh s c ≡ at-row is-else b
   unfolding onRow
   at-else b = ap (λ z. to (suc z) fresh s c) (sym (fit .shuts))
 
-  pub at-pick : (b : Bool) → pickTo i (e + 1) s c ≡ at-row is-pick b
+  pub at-pick : (b : Bool) → pickTo π i (e + 1) s c ≡ at-row is-pick b
   unfolding onRow
-  at-pick b = ap (λ z. pickTo i z s c) (add-one e ∙ ap suc (sym (fit .shuts)))
+  at-pick b = ap (λ z. pickTo π i z s c) (add-one e ∙ ap suc (sym (fit .shuts)))
 
-  pub at-plain : (p : Plain) (b : Bool) → plainTo i p (i + 1) false s c ≡ at-row (is-plain p) b
+  pub at-plain : (p : Plain) (b : Bool) → plainTo π i p (i + 1) false s c ≡ at-row (is-plain p) b
   unfolding onRow
-  at-plain p b = ap (λ z. plainTo i p z false s c) (add-one i)
+  at-plain p b = ap (λ z. plainTo π i p z false s c) (add-one i)
 
-  pub at-while : (t : Test) (l : Last) (b : Bool) → tests ones i e t s (begin i c) ≡ at-row (is-loop while t l) b
+  pub at-while : (t : Test) (l : Last) (b : Bool) → tests π i e t s (begin i c) ≡ at-row (is-loop while t l) b
   unfolding onRow
-  at-while t l b = ap (λ z. tests ones i z t s (begin i c)) (sym (fit .shuts))
+  at-while t l b = ap (λ z. tests π i z t s (begin i c)) (sym (fit .shuts))
 
   pub at-do : (t : Test) (l : Last) (b : Bool) → to (suc i) fresh s (turn i (begin i c)) ≡ at-row (is-loop do-while t l) b
   unfolding onRow
   at-do t l b = refl
 
-  pub at-for : (v : ℕ) (y : Operand) (d : Comparison) (x : Operand) (l : Last) (b : Bool) → forTo i e v y d x b s c ≡ at-row (is-loop (for y) (test v d x) l) b
+  pub at-for : (v : ℕ) (y : Operand) (d : Comparison) (x : Operand) (l : Last) (b : Bool) → forTo π i e v y d x b s c ≡ at-row (is-loop (for y) (test v d x) l) b
   unfolding onRow
-  at-for v y d x l true = ap (λ j. tests ones i j (test v d x) s c) (sym (fit .shuts))
-  at-for v y d x l false = ap (λ j. andTests i j (test v d x) (plainTo i (assign v (from y)) i true s (begin i c))) (sym (fit .shuts))
+  at-for v y d x l true = ap (λ j. tests π i j (test v d x) s c) (sym (fit .shuts))
+  at-for v y d x l false = ap (λ j. andTests π i j (test v d x) (plainTo π i (assign v (from y)) i true s (begin i c))) (sym (fit .shuts))

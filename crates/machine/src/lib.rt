@@ -1,8 +1,9 @@
-// The run of a script as a machine over its rows: one row a step. It is over before any tick that is not left.
+// The run of a script as a machine over its rows: one row a step. It is over before any price that does not fit what is left.
 use actions::Machine;
 use rules::Comparison;
 use rules::Kind;
 use rules::Operand;
+use rules::Prices;
 use rules::Row;
 ghost use mathlib.Core.Path.{_≡_};
 ghost use mathlib.Core.List.{List};
@@ -19,11 +20,12 @@ fn end_row(
     m: Machine,
     head: Row,
     h: usize,
+    prices: Prices,
     store: &mut [i32],
     counts: &mut [[u64; 3]; 256],
 ) -> Machine
     requires { ⌜ Doable (m .row) h (head .kind) (now store) (now counts) ⌝ }
-    ensures { λ r. ⌜ (((rows : List Kind) (shut opener : ℕ → ℕ) → Acts m r (now (store .entry)) (now (store .exit)) (tallyOf (now (counts .entry))) (tallyOf (now (counts .exit))) (endTo rows shut opener (viewOf (head .kind)) h (m .row) (phaseOf (m .testing)))) × (length (now (counts .exit)) ≡ 256)) ⌝ }
+    ensures { λ r. ⌜ (((rows : List Kind) (shut opener : ℕ → ℕ) → Acts m r (now (store .entry)) (now (store .exit)) (tallyOf (now (counts .entry))) (tallyOf (now (counts .exit))) (endTo prices rows shut opener (viewOf (head .kind)) h (m .row) (phaseOf (m .testing)))) × (length (now (counts .exit)) ≡ 256)) ⌝ }
 {
     let kind = head.kind;
     let e = m.row;
@@ -34,15 +36,15 @@ fn end_row(
         Kind::Set(_, _) => actions::on(m, m.left, e + 1, false),
         Kind::Move(_, _) => actions::on(m, m.left, e + 1, false),
         Kind::Cue(_) => actions::on(m, m.left, e + 1, false),
-        Kind::While(v, c, x) => actions::test_row(m, h, e, v, c, x, store, counts),
-        Kind::Do(v, c, x) => actions::test_row(m, h, e, v, c, x, store, counts),
+        Kind::While(v, c, x) => actions::test_row(m, prices, h, e, v, c, x, store, counts),
+        Kind::Do(v, c, x) => actions::test_row(m, prices, h, e, v, c, x, store, counts),
         Kind::For(v, _, c, x, change) => {
             if m.testing {
-                actions::test_row(m, h, e, v, c, x, store, counts)
+                actions::test_row(m, prices, h, e, v, c, x, store, counts)
             } else {
-                let n = actions::move_row(m, h, v, change, e, true, store);
+                let n = actions::move_row(m, prices, h, v, change, e, true, store);
                 if actions::waits(n) {
-                    actions::test_row(n, h, e, v, c, x, store, counts)
+                    actions::test_row(n, prices, h, e, v, c, x, store, counts)
                 } else {
                     n
                 }
@@ -59,20 +61,21 @@ fn for_row(
     y: Operand,
     c: Comparison,
     x: Operand,
+    prices: Prices,
     store: &mut [i32],
     counts: &mut [[u64; 3]; 256],
 ) -> Machine
     requires { ⌜ Testable (m .row) e v x (now store) (now counts) × OperandBelow (length (now store)) y ⌝ }
-    ensures { λ r. ⌜ Acts m r (now (store .entry)) (now (store .exit)) (tallyOf (now (counts .entry))) (tallyOf (now (counts .exit))) (forTo (m .row) e v y c x (m .testing)) × (length (now (counts .exit)) ≡ 256) ⌝ }
+    ensures { λ r. ⌜ Acts m r (now (store .entry)) (now (store .exit)) (tallyOf (now (counts .entry))) (tallyOf (now (counts .exit))) (forTo prices (m .row) e v y c x (m .testing)) × (length (now (counts .exit)) ≡ 256) ⌝ }
 {
     let h = m.row;
     if m.testing {
-        return actions::test_row(m, h, e, v, c, x, store, counts);
+        return actions::test_row(m, prices, h, e, v, c, x, store, counts);
     }
     actions::begin(h, counts);
-    let n = actions::set_row(m, h, v, y, h, true, store);
+    let n = actions::set_row(m, prices, h, v, y, h, true, store);
     if actions::waits(n) {
-        actions::test_row(n, h, e, v, c, x, store, counts)
+        actions::test_row(n, prices, h, e, v, c, x, store, counts)
     } else {
         n
     }
@@ -85,31 +88,32 @@ pub fn step(
     e: usize,
     head: Row,
     h: usize,
+    prices: Prices,
     store: &mut [i32],
     picks: &[u8],
     counts: &mut [[u64; 3]; 256],
 ) -> Machine
     requires { ⌜ Doable e (m .row) (row .kind) (now store) (now counts) × Doable (m .row) h (head .kind) (now store) (now counts) ⌝ }
-    ensures { λ r. ⌜ (((rows : List Kind) (shut opener : ℕ → ℕ) → Fitting rows shut opener (m .row) e h (viewOf (head .kind)) → Steps m r (now (store .entry)) (now (store .exit)) (now (picks .entry)) (tallyOf (now (counts .entry))) (tallyOf (now (counts .exit))) (rowTo rows shut opener (viewOf (row .kind)) (m .row) (phaseOf (m .testing)))) × (length (now (counts .exit)) ≡ 256)) ⌝ }
+    ensures { λ r. ⌜ (((rows : List Kind) (shut opener : ℕ → ℕ) → Fitting rows shut opener (m .row) e h (viewOf (head .kind)) → Steps m r (now (store .entry)) (now (store .exit)) (now (picks .entry)) (tallyOf (now (counts .entry))) (tallyOf (now (counts .exit))) (rowTo prices rows shut opener (viewOf (row .kind)) (m .row) (phaseOf (m .testing)))) × (length (now (counts .exit)) ≡ 256)) ⌝ }
 {
     let kind = row.kind;
     let i = m.row;
     match kind {
-        Kind::End => end_row(m, head, h, store, counts),
+        Kind::End => end_row(m, head, h, prices, store, counts),
         Kind::Else => actions::on(m, m.left, e + 1, false),
-        Kind::Pick => actions::pick_row(m, e + 1, picks),
-        Kind::Set(v, x) => actions::set_row(m, i, v, x, i + 1, false, store),
-        Kind::Move(v, change) => actions::move_row(m, i, v, change, i + 1, false, store),
-        Kind::Cue(_) => actions::cue_row(m),
+        Kind::Pick => actions::pick_row(m, prices, e + 1, picks),
+        Kind::Set(v, x) => actions::set_row(m, prices, i, v, x, i + 1, false, store),
+        Kind::Move(v, change) => actions::move_row(m, prices, i, v, change, i + 1, false, store),
+        Kind::Cue(_) => actions::cue_row(m, prices),
         Kind::While(v, c, x) => {
             actions::begin(i, counts);
-            actions::test_row(m, i, e, v, c, x, store, counts)
+            actions::test_row(m, prices, i, e, v, c, x, store, counts)
         }
         Kind::Do(_, _, _) => {
             actions::begin(i, counts);
             actions::count_turn(i, counts);
             actions::on(m, m.left, i + 1, false)
         }
-        Kind::For(v, y, c, x, _) => for_row(m, e, v, y, c, x, store, counts),
+        Kind::For(v, y, c, x, _) => for_row(m, e, v, y, c, x, prices, store, counts),
     }
 }

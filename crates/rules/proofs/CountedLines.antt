@@ -34,7 +34,7 @@ counted-lines outer (loop i e form test body rest) ρ h =
 
 pub lines-counted : LinesCounted
 unfolding LinesCounted verdict
-lines-counted π scratch file script e =
-    let ok = file-accepted π scratch file script e .script-accepted in
+lines-counted prices scratch file script e =
+    let ok = file-accepted prices scratch file script e .script-accepted in
     let (passes, _) = then-yes (loopsVerdict (envOf (script .ranges)) (treeOf (script .rows))) _ (ok .loops) in
     counted-lines 1 (treeOf (script .rows)) (envOf (script .ranges)) passes

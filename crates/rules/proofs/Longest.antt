@@ -10,10 +10,10 @@ use lib.ListN.{length, length-append}
 use Rattle.ints.proofs.Diffs.{cond-elim}
 use Rattle.rules.specs.declared.Step.{Step}
 use Rattle.rules.specs.declared.Step.the-variants.{Add, Grow, Shrink, Unknown}
-use Rattle.rules.specs.Figures.{Prices, Line}
+use Rattle.rules.specs.Figures.{Line}
 use Rattle.rules.specs.Scripts.{Script}
 use Rattle.rules.specs.Report.{decimalIn, decimal, sign, size, joined, stepName, firstEnd, secondEnd, exactName, reportKey, rowsKey, loopsKey, ticksKey, keyLine, loopLine, loopLines, reportText, scriptReport, longestReport}
-use Rattle.rules.specs.Calls.{accepted, judged}
+use Rattle.rules.specs.Calls.{accepted, pricesOf, judged}
 use Rattle.rules.proofs.Heads.{lines-few}
 use Rattle.rules.proofs.FromBytes.{file-accepted}
 
@@ -90,6 +90,7 @@ report-short rows ls ticks few =
     ))
 
 -- the report of every accepted file
-pub longest-report : (π : Prices) (scratch : ℕ) (file : List ℕ) (script : Script) → judged π scratch file ≡ accepted script → length (scriptReport π script) ≤ longestReport
+pub longest-report : (prices : List ℕ) (scratch : ℕ) (file : List ℕ) (script : Script) → judged prices scratch file ≡ accepted script
+    → length (scriptReport (pricesOf prices) script) ≤ longestReport
 unfolding scriptReport
-longest-report π scratch file script e = report-short _ _ _ (lines-few script (file-accepted π scratch file script e .script-accepted .legal))
+longest-report prices scratch file script e = report-short _ _ _ (lines-few script (file-accepted prices scratch file script e .script-accepted .legal))

@@ -1,11 +1,12 @@
--- The two calls, report and run: the questions 1 to 15 in their order, and what is answered.
+-- The two calls, report and run: the questions 1 to 16 in their order (1, 16, 2 to 15), and what is answered.
+use mathlib.Core.Path.{_≡_}
 use mathlib.Core.Bool.{Bool, true, false, cond, _&&_}
 use mathlib.Core.List.{List, [], _∷_, _++_}
-use Prim.Native.Nat.{ℕ, suc}
+use Prim.Native.Nat.{ℕ, zero, suc}
 use lib.Dec.{leb}
 use lib.IntN.{ℤ}
 use lib.Signed.{leZ}
-use lib.ListN.{length, drop}
+use lib.ListN.{length, getD, drop}
 use Rattle.rules.specs.declared.Kind.{Kind}
 use Rattle.rules.specs.Blocks.{View, is-plain, is-pick, is-else, is-end, is-loop, viewOf}
 use Rattle.rules.specs.declared.Reply.{Reply}
@@ -37,12 +38,37 @@ unfoldable pub judgedFile : Prices → Reading Script → Judged
 judgedFile π (read script ls) = judgedBy script (verdict π (length (script .rows)) (envOf (script .ranges)) (treeOf (script .rows)))
 judgedFile π (Reading.refused q p) = refuses q p
 
+-- "The caller lends four prices, 1 to 1,000 each: arithmetic (set, for starts and for steps with it), cue, pick, test"
+abbrev pub pricesOf : List ℕ → Prices
+pricesOf l = record { arithmetic = getD l 0 0; cue = getD l 1 0; pick = getD l 2 0; test = getD l 3 0 }
+
+-- "With four ones the old figures return, and the printing program uses these"
+abbrev pub fourOnes : List ℕ
+fourOnes = 1 ∷ (1 ∷ (1 ∷ (1 ∷ [])))
+
+-- 16: "the first price (from 0) wrong, missing or extra"; n more are due, from index i on
+unfoldable pub pricesVerdict : ℕ → ℕ → List ℕ → Verdict
+pricesVerdict zero i [] = passed
+pricesVerdict zero i (p ∷ ps) = refused 16 i
+pricesVerdict (suc n) i [] = refused 16 i
+pricesVerdict (suc n) i (p ∷ ps) = cond (leb 1 p && leb p 1_000) (pricesVerdict n (suc i) ps) (refused 16 i)
+
+-- four prices that 16 passes
+abbrev pub Priced : List ℕ → Type 0
+Priced prices = pricesVerdict 4 0 prices ≡ passed
+
+-- 2 to 13, after 16
+unfoldable pub judgedPriced : List ℕ → Verdict → List ℕ → Judged
+judgedPriced prices passed file = judgedFile (pricesOf prices) (fileScript file)
+judgedPriced prices (refused q p) file = refuses q p
+
 -- 1: "Is the lent scratch at least 8,192 32-bit numbers?"
 abbrev pub scratchSize : ℕ
 scratchSize = 8_192
 
-unfoldable pub judged : Prices → ℕ → List ℕ → Judged
-judged π scratch file = cond (leb scratchSize scratch) (judgedFile π (fileScript file)) (refuses 1 scratchSize)
+-- 1, then 16, "between questions 1 and 2", then the file's
+unfoldable pub judged : List ℕ → ℕ → List ℕ → Judged
+judged prices scratch file = cond (leb scratchSize scratch) (judgedPriced prices (pricesVerdict 4 0 prices) file) (refuses 1 scratchSize)
 
 -- 14: "is the buffer at least as long as the report?"
 unfoldable pub fitting : List ℕ → ℕ → Reply
@@ -57,14 +83,14 @@ unfoldable pub written : List ℕ → List ℕ → List ℕ
 written text old = cond (leb (length text) (length old)) (over text old) old
 
 -- what the report call answers: "the report's length, which an accepted report call answers too", or number and place
-unfoldable pub replyOf : Prices → Judged → ℕ → Reply
-replyOf π (accepted script) room = fitting (scriptReport π script) room
-replyOf π (refuses q p) room = Refused q p
+unfoldable pub replyOf : List ℕ → Judged → ℕ → Reply
+replyOf prices (accepted script) room = fitting (scriptReport (pricesOf prices) script) room
+replyOf prices (refuses q p) room = Refused q p
 
 -- the buffer after it
-unfoldable pub bufferOf : Prices → Judged → List ℕ → List ℕ
-bufferOf π (accepted script) old = written (scriptReport π script) old
-bufferOf π (refuses q p) old = old
+unfoldable pub bufferOf : List ℕ → Judged → List ℕ → List ℕ
+bufferOf prices (accepted script) old = written (scriptReport (pricesOf prices) script) old
+bufferOf prices (refuses q p) old = old
 
 -- 15: "has the store V numbers, each in its range? (15, first index wrong, missing or extra)"; from index i on
 unfoldable pub storeVerdict : ℕ → List Range → List ℤ → Verdict
@@ -111,9 +137,9 @@ stored π script passed store picks allowance = ranScript π script store picks 
 stored π script (refused q p) store picks allowance = refuses q p
 
 -- what the run call answers
-unfoldable pub runReply : Prices → Judged → List ℤ → List ℕ → ℕ → RunReply
-runReply π (accepted script) store picks allowance = stored π script (storeVerdict 0 (script .ranges) store) store picks allowance
-runReply π (Judged.refuses q p) store picks allowance = refuses q p
+unfoldable pub runReply : List ℕ → Judged → List ℤ → List ℕ → ℕ → RunReply
+runReply prices (accepted script) store picks allowance = stored (pricesOf prices) script (storeVerdict 0 (script .ranges) store) store picks allowance
+runReply prices (Judged.refuses q p) store picks allowance = refuses q p
 
 -- "The store is overwritten with the final one"; a refused call leaves it
 unfoldable pub storeAfter : RunReply → List ℤ → List ℤ

@@ -1,4 +1,4 @@
-// Reads runs from standard input, one a line, `NAME ALLOWANCE PICKS VALUE ..`, and prints for each its line and what `rehearse` prints.
+// Reads runs from standard input, one a line, `[prices=A,C,P,T] NAME ALLOWANCE PICKS VALUE ..`, and prints for each its line and what `rehearse` prints.
 use desk::Line;
 
 fn main() {

@@ -14,7 +14,7 @@ use Rattle.rules.specs.declared.Ending.{Ending}
 use Rattle.rules.specs.declared.Ending.the-variants.{Ended}
 use Rattle.rules.specs.Values.{put}
 use Rattle.rules.specs.Blocks.{Test, Form, while, do-while, for, Last, no-step, step-by, View, is-plain, is-pick, is-else, is-end, is-loop, viewOf, viewAt, kindsOf}
-use Rattle.rules.specs.Figures.{Prices, ones}
+use Rattle.rules.specs.declared.Prices.{Prices}
 use Rattle.rules.specs.Run.{State, Out, go, halt, holds}
 use Rattle.rules.specs.RowMachine.{Tally, tallyOf, begin, turn, Phase, fresh, testing, Place, Next, more, over, to, chosen, outcome, paid, picked, tests, onEnd, onRow, next, steps, Partners, pairs, rank}
 use Rattle.rules.specs.Scripts.{All, some, RowLimits, RowBelow}
@@ -127,42 +127,42 @@ abbrev pub weight : ℕ → Next → ℕ
 weight R (more m) = suc (rank R m)
 weight R (over e i s c) = 0
 
-module _ (rows : List Kind) (shut opener : ℕ → ℕ) where
+module _ (π : Prices) (rows : List Kind) (shut opener : ℕ → ℕ) where
   abbrev R : ℕ
   R = length rows
 
   -- one step more
-  step-more : (n : ℕ) (a : Next) (m : Place) → steps ones rows shut opener n a ≡ more m → steps ones rows shut opener (suc n) a ≡ next ones rows shut opener m
+  step-more : (n : ℕ) (a : Next) (m : Place) → steps π rows shut opener n a ≡ more m → steps π rows shut opener (suc n) a ≡ next π rows shut opener m
   unfolding steps
-  step-more zero a m e = ap (steps ones rows shut opener 1) e
-  step-more (suc n) (more p) m e = step-more n (next ones rows shut opener p) m e
+  step-more zero a m e = ap (steps π rows shut opener 1) e
+  step-more (suc n) (more p) m e = step-more n (next π rows shut opener p) m e
   step-more (suc n) (over f i s c) m e = absurd (let z : _≡_ {A = ℕ} 0 1 = cc in omega arith)
 
   -- a step of the code: one step, or two
   pub data Onto (m : Place) : Next → Type 0 where
-    one : {x : Next} → x ≡ next ones rows shut opener m → Onto m x
-    two : {x : Next} (p : Place) → next ones rows shut opener m ≡ more p → x ≡ next ones rows shut opener p → Onto m x
+    one : {x : Next} → x ≡ next π rows shut opener m → Onto m x
+    two : {x : Next} (p : Place) → next π rows shut opener m ≡ more p → x ≡ next π rows shut opener p → Onto m x
 
   -- a for's start or step, and then its test
-  onto-tests : (m : Place) (h e i : ℕ) (t : Test) (c : Tally) (o : Out) → next ones rows shut opener m ≡ outcome o c (λ u. to i testing u c)
-      → ((u : State) → tests ones h e t u c ≡ next ones rows shut opener (record { row = i; phase = testing; now = u; tally = c }))
-      → Onto m (andTests h e t (outcome o c (λ u. to i testing u c)))
+  onto-tests : (m : Place) (h e i : ℕ) (t : Test) (c : Tally) (o : Out) → next π rows shut opener m ≡ outcome o c (λ u. to i testing u c)
+      → ((u : State) → tests π h e t u c ≡ next π rows shut opener (record { row = i; phase = testing; now = u; tally = c }))
+      → Onto m (andTests π h e t (outcome o c (λ u. to i testing u c)))
   unfolding outcome
   onto-tests m h e i t c (go u es) q f = two _ q (f u)
   onto-tests m h e i t c (halt a j u es) q f = one (sym q)
 
   module _ (i : ℕ) (l : i < length rows) where
     -- row i, and an `end` of a block, by their views
-    at-row : (w : View) → viewAt rows i ≡ w → (ph : Phase) (s : State) (c : Tally) → onRow ones rows shut opener w i ph s c ≡ next ones rows shut opener (record { row = i; phase = ph; now = s; tally = c })
-    at-row w e ph s c = sym (next-row ones rows shut opener i w ph s c l e)
+    at-row : (w : View) → viewAt rows i ≡ w → (ph : Phase) (s : State) (c : Tally) → onRow π rows shut opener w i ph s c ≡ next π rows shut opener (record { row = i; phase = ph; now = s; tally = c })
+    at-row w e ph s c = sym (next-row π rows shut opener i w ph s c l e)
 
     at-end : (w : View) → viewAt rows i ≡ is-end → viewAt rows (opener i) ≡ w → (ph : Phase) (s : State) (c : Tally)
-        → onEnd ones rows shut opener w (opener i) i ph s c ≡ next ones rows shut opener (record { row = i; phase = ph; now = s; tally = c })
+        → onEnd π rows shut opener w (opener i) i ph s c ≡ next π rows shut opener (record { row = i; phase = ph; now = s; tally = c })
     unfolding onRow
-    at-end w e q ph s c = ap (λ z. onEnd ones rows shut opener z (opener i) i ph s c) (sym q) ∙ at-row is-end e ph s c
+    at-end w e q ph s c = ap (λ z. onEnd π rows shut opener z (opener i) i ph s c) (sym q) ∙ at-row is-end e ph s c
 
     onto-end : (w : View) → viewAt rows i ≡ is-end → viewAt rows (opener i) ≡ w → (ph : Phase) (s : State) (c : Tally)
-        → Onto (record { row = i; phase = ph; now = s; tally = c }) (endTo rows shut opener w (opener i) i ph s c)
+        → Onto (record { row = i; phase = ph; now = s; tally = c }) (endTo π rows shut opener w (opener i) i ph s c)
     unfolding onEnd
     onto-end (is-plain p) e q ph s c = one (at-end _ e q ph s c)
     onto-end is-pick e q ph s c = one (at-end _ e q ph s c)
@@ -172,7 +172,7 @@ module _ (rows : List Kind) (shut opener : ℕ → ℕ) where
     onto-end (is-loop form t (step-by p)) e q fresh s c = onto-tests _ (opener i) i i t c _ (sym (at-end _ e q fresh s c)) (λ u. at-end _ e q testing u c)
     onto-end (is-loop form t (step-by p)) e q testing s c = one (at-end _ e q testing s c)
 
-    onto-row : (w : View) → viewAt rows i ≡ w → (ph : Phase) (s : State) (c : Tally) → Onto (record { row = i; phase = ph; now = s; tally = c }) (rowTo rows shut opener w i ph s c)
+    onto-row : (w : View) → viewAt rows i ≡ w → (ph : Phase) (s : State) (c : Tally) → Onto (record { row = i; phase = ph; now = s; tally = c }) (rowTo π rows shut opener w i ph s c)
     unfolding onRow
     onto-row (is-plain p) e ph s c = one (at-row _ e ph s c)
     onto-row is-pick e ph s c = one (at-row _ e ph s c)
@@ -186,24 +186,24 @@ module _ (rows : List Kind) (shut opener : ℕ → ℕ) where
   -- the state x is reached from the start, with room
   pub record Held (start x : Next) : Type 0 where
     pub n : ℕ
-    pub same : steps ones rows shut opener n start ≡ x
+    pub same : steps π rows shut opener n start ≡ x
     pub room : Roomy R x
 
   held-start : (start : Next) → Roomy R start → Held start start
   unfolding steps
   held-start start r = record { n = 0; same = refl; room = r }
 
-  module _ (fit : Partners rows shut opener) where
-    roomy-next : (m : Place) (x : Next) → Roomy R (more m) → x ≡ next ones rows shut opener m → Roomy R x × (weight R x < suc (rank R m))
+  module _ (fit : Partners rows shut opener) (price : 1 ≤ π .test) where
+    roomy-next : (m : Place) (x : Next) → Roomy R (more m) → x ≡ next π rows shut opener m → Roomy R x × (weight R x < suc (rank R m))
     roomy-next m (over e i s c) r q = (roomy-over, omega arith)
     roomy-next m (more m′) (roomy-more r) q =
-        let (_, l) = falls-more ones (omega arith) rows shut opener fit m m′ (sym q) in
-        (by (subst (Near (m .tally)) (sym q) (near-next ones rows shut opener m)) l, omega arith)
+        let (_, l) = falls-more π price rows shut opener fit m m′ (sym q) in
+        (by (subst (Near (m .tally)) (sym q) (near-next π rows shut opener m)) l, omega arith)
       where
         by : Near (m .tally) (more m′) → rank R m′ < rank R m → Roomy R (more m′)
         by (near-more f) l = roomy-more {m = m′} λ p. let (a, b) = f p in let (u, v) = r p in (omega arith, omega arith)
 
-    held-next : (start : Next) (m : Place) (x : Next) → Held start (more m) → x ≡ next ones rows shut opener m → Held start x × (weight R x < suc (rank R m))
+    held-next : (start : Next) (m : Place) (x : Next) → Held start (more m) → x ≡ next π rows shut opener m → Held start x × (weight R x < suc (rank R m))
     held-next start m x h q =
         let (r, l) = roomy-next m x (h .room) q in
         (record { n = suc (h .n); same = step-more (h .n) start m (h .same) ∙ sym q; room = r }, l)
@@ -227,9 +227,9 @@ abbrev kinds : List Row → ℕ → List Kind
 kinds rows count = take count (kindsOf rows)
 
 -- what the loop keeps
-pub record Runs (rows : List Row) (count : ℕ) (t : Tables) (picks : List ℕ) (m₀ : Machine) (store₀ : List ℤ) (counts₀ : List (List ℕ)) (m : Machine) (store : List ℤ) (counts : List (List ℕ)) : Type 0 where
+pub record Runs (π : Prices) (rows : List Row) (count : ℕ) (t : Tables) (picks : List ℕ) (m₀ : Machine) (store₀ : List ℤ) (counts₀ : List (List ℕ)) (m : Machine) (store : List ℤ) (counts : List (List ℕ)) : Type 0 where
   pub lengths : (length store ≡ length store₀) × (length counts ≡ 256)
-  pub held : Held (kinds rows count) (tableOf (t .shut)) (tableOf (t .opener)) (nextOf m₀ store₀ picks (tallyOf counts₀)) (nextOf m store picks (tallyOf counts))
+  pub held : Held π (kinds rows count) (tableOf (t .shut)) (tableOf (t .opener)) (nextOf m₀ store₀ picks (tallyOf counts₀)) (nextOf m store picks (tallyOf counts))
   pub left : m .left ≤ m₀ .left
   pub used : m .used ≤ length picks
 
@@ -238,8 +238,8 @@ going-is : (s : Status) → isGoing s ≡ true → s ≡ Going
 going-is Going e = refl
 going-is (Over x i) e = absurd (let z : _≡_ {A = ℕ} 0 1 = cc in omega arith)
 
-module _ (rows : List Row) (count : ℕ) (t : Tables) (picks : List ℕ) (m₀ : Machine) (store₀ : List ℤ) (counts₀ : List (List ℕ)) (full : length rows ≡ 256)
-    (ready : Ready rows count t m₀ store₀ picks counts₀) where
+module _ (π : Prices) (rows : List Row) (count : ℕ) (t : Tables) (picks : List ℕ) (m₀ : Machine) (store₀ : List ℤ) (counts₀ : List (List ℕ)) (full : length rows ≡ 256)
+    (ready : Ready π rows count t m₀ store₀ picks counts₀) where
   abbrev ks : List Kind
   ks = kinds rows count
 
@@ -261,18 +261,18 @@ module _ (rows : List Row) (count : ℕ) (t : Tables) (picks : List ℕ) (m₀ :
       let q = pairs-in ks (omega arith) (length ks) (omega arith) in
       subst (λ n. opener i < n) e (subst (λ (g : ℕ → ℕ). g i < length ks) (sym (ready .found .openers)) (q .opener-in i))
 
-  pub runs-start : Runs rows count t picks m₀ store₀ counts₀ m₀ store₀ counts₀
-  runs-start = record { lengths = (refl, ready .long); held = held-start ks shut opener _ (ready .room); left = omega arith; used = ready .used }
+  pub runs-start : Runs π rows count t picks m₀ store₀ counts₀ m₀ store₀ counts₀
+  runs-start = record { lengths = (refl, ready .long); held = held-start π ks shut opener _ (ready .room); left = omega arith; used = ready .used }
 
-  module _ (m : Machine) (store : List ℤ) (counts : List (List ℕ)) (now : Runs rows count t picks m₀ store₀ counts₀ m store counts) (on : isGoing (m .status) ≡ true) where
+  module _ (m : Machine) (store : List ℤ) (counts : List (List ℕ)) (now : Runs π rows count t picks m₀ store₀ counts₀ m store counts) (on : isGoing (m .status) ≡ true) where
     abbrev here : Place
     here = placeOf m store picks (tallyOf counts)
 
     is-here : nextOf m store picks (tallyOf counts) ≡ more here
     is-here = ap (λ z. byStatus z m store picks (tallyOf counts)) (going-is (m .status) on)
 
-    held-here : Held ks shut opener (nextOf m₀ store₀ picks (tallyOf counts₀)) (more here)
-    held-here = subst (λ x. Held ks shut opener (nextOf m₀ store₀ picks (tallyOf counts₀)) x) is-here (now .held)
+    held-here : Held π ks shut opener (nextOf m₀ store₀ picks (tallyOf counts₀)) (more here)
+    held-here = subst (λ x. Held π ks shut opener (nextOf m₀ store₀ picks (tallyOf counts₀)) x) is-here (now .held)
 
     room-here : Room counts
     room-here = by (held-here .room)
@@ -299,10 +299,10 @@ module _ (rows : List Row) (count : ℕ) (t : Tables) (picks : List ℕ) (m₀ :
 
     -- another state that is a step of the code on
     runs-on : (r : Machine) (store′ : List ℤ) (counts′ : List (List ℕ)) → (length store′ ≡ length store) × (length counts′ ≡ 256)
-        → Onto ks shut opener here (nextOf r store′ picks (tallyOf counts′)) → r .left ≤ m .left → r .used ≤ length picks
-        → Runs rows count t picks m₀ store₀ counts₀ r store′ counts′ × (weight (length ks) (nextOf r store′ picks (tallyOf counts′)) < weight (length ks) (nextOf m store picks (tallyOf counts)))
+        → Onto π ks shut opener here (nextOf r store′ picks (tallyOf counts′)) → r .left ≤ m .left → r .used ≤ length picks
+        → Runs π rows count t picks m₀ store₀ counts₀ r store′ counts′ × (weight (length ks) (nextOf r store′ picks (tallyOf counts′)) < weight (length ks) (nextOf m store picks (tallyOf counts)))
     runs-on r store′ counts′ (a, b) q l u =
-        let (h, w) = held-onto ks shut opener fit _ here _ held-here q in (
+        let (h, w) = held-onto π ks shut opener fit (ready .price) _ here _ held-here q in (
           record { lengths = (a ∙ now .lengths .0, b); held = h; left = omega (arith, now .left); used = u },
           subst (λ x. weight (length ks) (nextOf r store′ picks (tallyOf counts′)) < weight (length ks) x) (sym is-here) w,
         )
@@ -310,23 +310,23 @@ module _ (rows : List Row) (count : ℕ) (t : Tables) (picks : List ℕ) (m₀ :
     -- a row
     pub runs-step : (r : Machine) (store′ : List ℤ) (counts′ : List (List ℕ)) → (length store′ ≡ length store) × (length counts′ ≡ 256)
         → m .row < count
-        → Steps m r store store′ picks (tallyOf counts) (tallyOf counts′) (rowTo ks shut opener (viewOf (getD rows (m .row) (record { kind = End }) .kind)) (m .row) (phaseOf (m .testing)))
-        → Runs rows count t picks m₀ store₀ counts₀ r store′ counts′ × (weight (length ks) (nextOf r store′ picks (tallyOf counts′)) < weight (length ks) (nextOf m store picks (tallyOf counts)))
+        → Steps m r store store′ picks (tallyOf counts) (tallyOf counts′) (rowTo π ks shut opener (viewOf (getD rows (m .row) (record { kind = End }) .kind)) (m .row) (phaseOf (m .testing)))
+        → Runs π rows count t picks m₀ store₀ counts₀ r store′ counts′ × (weight (length ks) (nextOf r store′ picks (tallyOf counts′)) < weight (length ks) (nextOf m store picks (tallyOf counts)))
     runs-step r store′ counts′ same l s =
         let n = size-is in
         runs-on r store′ counts′ same
-        (subst (Onto ks shut opener here) (sym (s .same)) (onto-row ks shut opener (m .row) (omega arith) _ (ap viewOf (kind-of count rows (m .row) l)) _ _ _)) (s .left) (s .used (now .used))
+        (subst (Onto π ks shut opener here) (sym (s .same)) (onto-row π ks shut opener (m .row) (omega arith) _ (ap viewOf (kind-of count rows (m .row) l)) _ _ _)) (s .left) (s .used (now .used))
 
     -- past the last row
     pub runs-past : count ≤ m .row
-        → Runs rows count t picks m₀ store₀ counts₀ (overAt m (m .left) Ended count) store counts
+        → Runs π rows count t picks m₀ store₀ counts₀ (overAt m (m .left) Ended count) store counts
         × (weight (length ks) (over Ended count (stateOf m store picks) (tallyOf counts)) < weight (length ks) (nextOf m store picks (tallyOf counts)))
     runs-past l =
         let n = size-is in
         runs-on (overAt m (m .left) Ended count) store counts (refl, now .lengths .1)
-        (one (sym (next-past ones ks shut opener (m .row) _ _ _ (omega arith) ∙ ap (λ k. over Ended k (stateOf m store picks) (tallyOf counts)) n))) (omega arith) (now .used)
+        (one (sym (next-past π ks shut opener (m .row) _ _ _ (omega arith) ∙ ap (λ k. over Ended k (stateOf m store picks) (tallyOf counts)) n))) (omega arith) (now .used)
 
   -- it is over
-  pub runs-over : (m : Machine) (store : List ℤ) (counts : List (List ℕ)) → Runs rows count t picks m₀ store₀ counts₀ m store counts → isGoing (m .status) ≡ false
-      → Finished ks t m₀ m store₀ store picks (tallyOf counts₀) (tallyOf counts)
+  pub runs-over : (m : Machine) (store : List ℤ) (counts : List (List ℕ)) → Runs π rows count t picks m₀ store₀ counts₀ m store counts → isGoing (m .status) ≡ false
+      → Finished π ks t m₀ m store₀ store picks (tallyOf counts₀) (tallyOf counts)
   runs-over m store counts now off = record { n = now .held .n; same = now .held .same; over = off; left = now .left; used = now .used }

@@ -12,7 +12,7 @@ use lib.Seq.{getD-set-same, getD-set-other}
 use lib.IntN.{ℤ}
 use Rattle.rules.specs.declared.Row.{Row}
 use Rattle.rules.specs.Blocks.{kindsOf}
-use Rattle.rules.specs.Figures.{ones}
+use Rattle.rules.specs.declared.Prices.{Prices}
 use Rattle.rules.specs.Answers.{storeList}
 use Rattle.rules.specs.RowMachine.{Tally, tallyOf, more, over, steps, start, rank}
 use Rattle.rules.specs.Scripts.{Script, Legal, storeOf}
@@ -71,9 +71,9 @@ zeros-all l h z = record { zero = λ i. record { turns = λ p. at p 0 i; sum = �
 abbrev pub startOf : ℕ → Machine
 startOf allowance = record { row = 0; testing = false; left = allowance; used = 0; status = Going }
 
-module _ (rows : List Row) (count : ℕ) (full : length rows ≡ 256) (store : List ℤ) (picks : List ℕ) (allowance : ℕ) (given : Given rows count store allowance)
+module _ (π : Prices) (rows : List Row) (count : ℕ) (full : length rows ≡ 256) (store : List ℤ) (picks : List ℕ) (allowance : ℕ) (given : Given π rows count store allowance)
     (t : Tables) (found : Found (take count (kindsOf rows)) t) (counts : List (List ℕ)) (clear : Cleared counts) where
-  pub ready : Ready rows count t (startOf allowance) store picks counts
+  pub ready : Ready π rows count t (startOf allowance) store picks counts
   unfolding rank
   ready =
       let n = kinds-first count rows (omega (arith, given .size)) in
@@ -82,6 +82,7 @@ module _ (rows : List Row) (count : ℕ) (full : length rows ≡ 256) (store : L
       let most-steps = mul-le-mul (given .ticks) small in
       record {
         size = given .size;
+        price = given .price;
         runs = given .runs;
         found = found;
         long = clear .long;
@@ -94,9 +95,9 @@ module _ (rows : List Row) (count : ℕ) (full : length rows ≡ 256) (store : L
   begins = ap (λ c. more (placeOf (startOf allowance) store picks c)) (clear .zero)
 
   module _ (r : Machine) (store′ : List ℤ) (counts′ : List (List ℕ)) (same : length store′ ≡ length store)
-      (done : Finished (take count (kindsOf rows)) t (startOf allowance) r store store′ picks (tallyOf counts) (tallyOf counts′)) where
+      (done : Finished π (take count (kindsOf rows)) t (startOf allowance) r store store′ picks (tallyOf counts) (tallyOf counts′)) where
     abbrev answered : Status → Type 0
-    answered s = Answered (runOf (take count (kindsOf rows)) store picks allowance) (ranBy s r allowance) (length store) store′ (tallyOf counts′)
+    answered s = Answered (runOf π (take count (kindsOf rows)) store picks allowance) (ranBy s r allowance) (length store) store′ (tallyOf counts′)
 
     by-status : (s : Status) → r .status ≡ s → isGoing s ≡ false → answered s
     by-status Going e f = absurd (let z : _≡_ {A = ℕ} 0 1 = cc in omega arith)
@@ -107,9 +108,9 @@ module _ (rows : List Row) (count : ℕ) (full : length rows ≡ 256) (store : L
         let (n, closed) = given .runs .closed in
         let (tree, whole) = tree-of ks n closed in
         let fit = partners-of ks n closed t found in
-        let over-at : steps ones ks shut opener (done .n) (more (start (record { store = storeOf store; left = allowance; picks = picks }))) ≡ over x i (stateOf r store′ picks) (tallyOf counts′)
-        = ap (steps ones ks shut opener (done .n)) (sym begins) ∙ done .same ∙ ap (λ z. byStatus z r store′ picks (tallyOf counts′)) e in
-        let a = row-answer ones (omega arith) ks shut opener fit tree whole (storeOf store) picks allowance (done .n) x i (stateOf r store′ picks) (tallyOf counts′) over-at in
+        let over-at : steps π ks shut opener (done .n) (more (start (record { store = storeOf store; left = allowance; picks = picks }))) ≡ over x i (stateOf r store′ picks) (tallyOf counts′)
+        = ap (steps π ks shut opener (done .n)) (sym begins) ∙ done .same ∙ ap (λ z. byStatus z r store′ picks (tallyOf counts′)) e in
+        let a = row-answer π (given .price) ks shut opener fit tree whole (storeOf store) picks allowance (done .n) x i (stateOf r store′ picks) (tallyOf counts′) over-at in
         record {
           ending = a .ending;
           row = a .row;

@@ -8,7 +8,7 @@ use Rattle.rules.specs.declared.Kind.{Kind}
 use Rattle.rules.specs.declared.Row.{Row}
 use Rattle.rules.specs.declared.Ending.the-variants.{Spent}
 use Rattle.rules.specs.Blocks.{kindsOf}
-use Rattle.rules.specs.Figures.{ones}
+use Rattle.rules.specs.declared.Prices.{Prices}
 use Rattle.rules.specs.RowMachine.{Tally, tallyOf}
 use Rattle.rules.specs.Answers.{Answer, runTree, storeList, sumAt, mostAt}
 use Rattle.rules.specs.Scripts.{storeOf, treeOf}
@@ -18,9 +18,9 @@ use Rattle.actions.specs.declared.Status.the-variants.{Going, Over}
 use Rattle.runner.specs.declared.Ran.{Ran}
 use Rattle.runner.specs.Runs.{Runnable}
 
--- document 01's run of the rows from a store, with its prices
-abbrev pub runOf : List Kind → List ℤ → List ℕ → ℕ → Answer
-runOf rows store picks allowance = runTree ones (length rows) (treeOf rows) (storeOf store) picks allowance
+-- the run of the rows from a store
+abbrev pub runOf : Prices → List Kind → List ℤ → List ℕ → ℕ → Answer
+runOf π rows store picks allowance = runTree π (length rows) (treeOf rows) (storeOf store) picks allowance
 
 -- every count is 0
 pub record Cleared (counts : List (List ℕ)) : Type 0 where
@@ -35,9 +35,10 @@ ranBy (Over e i) m allowance = record { ending = e; row = i; ticks = allowance -
 abbrev pub ranOf : Machine → ℕ → Ran
 ranOf m allowance = ranBy (m .status) m allowance
 
--- rows that pass the questions 4 to 7 over the store's variables, and at most 1,000,000,000,000 ticks
-pub record Given (rows : List Row) (count : ℕ) (store : List ℤ) (allowance : ℕ) : Type 0 where
+-- rows that pass the questions 4 to 7 over the store's variables, a price for each test, and at most 1,000,000,000,000 ticks
+pub record Given (π : Prices) (rows : List Row) (count : ℕ) (store : List ℤ) (allowance : ℕ) : Type 0 where
   pub size : count ≤ 256
+  pub price : 1 ≤ π .test
   pub runs : Runnable (length store) (take count (kindsOf rows))
   pub ticks : allowance ≤ 1_000_000_000_000
 

@@ -10,7 +10,7 @@ use Rattle.rules.specs.declared.Row.{Row}
 use Rattle.rules.specs.declared.Ending.{Ending}
 use Rattle.rules.specs.Blocks.{kindsOf}
 use Rattle.rules.specs.Nesting.{nest, nestRows}
-use Rattle.rules.specs.Figures.{ones}
+use Rattle.rules.specs.declared.Prices.{Prices}
 use Rattle.rules.specs.Run.{State}
 use Rattle.rules.specs.RowMachine.{Tally, tallyOf, Place, Next, more, over, steps, rank}
 use Rattle.rules.specs.Scripts.{All, RowLimits, RowBelow}
@@ -31,8 +31,9 @@ pub data Roomy (R : ℕ) : Next → Type 0 where
   roomy-more : {m : Place} → ((p : ℕ) → (m .tally .turns p + rank R m < 2 ^ 63) × (m .tally .sum p + rank R m < 2 ^ 63)) → Roomy R (more m)
 
 -- the loop may begin
-pub record Ready (rows : List Row) (count : ℕ) (t : Tables) (m : Machine) (store : List ℤ) (picks : List ℕ) (counts : List (List ℕ)) : Type 0 where
+pub record Ready (π : Prices) (rows : List Row) (count : ℕ) (t : Tables) (m : Machine) (store : List ℤ) (picks : List ℕ) (counts : List (List ℕ)) : Type 0 where
   pub size : count ≤ 256
+  pub price : 1 ≤ π .test
   pub runs : Runnable (length store) (take count (kindsOf rows))
   pub found : Found (take count (kindsOf rows)) t
   pub long : length counts ≡ 256
@@ -40,9 +41,9 @@ pub record Ready (rows : List Row) (count : ℕ) (t : Tables) (m : Machine) (sto
   pub used : m .used ≤ length picks
 
 -- some steps of `rules`' machine lead from m to r, and r is over
-pub record Finished (rows : List Kind) (t : Tables) (m r : Machine) (store store′ : List ℤ) (picks : List ℕ) (c c′ : Tally) : Type 0 where
+pub record Finished (π : Prices) (rows : List Kind) (t : Tables) (m r : Machine) (store store′ : List ℤ) (picks : List ℕ) (c c′ : Tally) : Type 0 where
   pub n : ℕ
-  pub same : steps ones rows (tableOf (t .shut)) (tableOf (t .opener)) n (nextOf m store picks c) ≡ nextOf r store′ picks c′
+  pub same : steps π rows (tableOf (t .shut)) (tableOf (t .opener)) n (nextOf m store picks c) ≡ nextOf r store′ picks c′
   pub over : isGoing (r .status) ≡ false
   pub left : r .left ≤ m .left
   pub used : r .used ≤ length picks

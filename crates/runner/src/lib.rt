@@ -3,6 +3,7 @@ use actions::Machine;
 use actions::Status;
 use pairs::Tables;
 use rules::Ending;
+use rules::Prices;
 use rules::Row;
 ghost use mathlib.Core.Path.{_≡_};
 ghost use Prim.Native.Nat.{_≤_};
@@ -29,13 +30,14 @@ pub fn resume(
     rows: [Row; 256],
     count: usize,
     tables: Tables,
+    prices: Prices,
     from: Machine,
     store: &mut [i32],
     picks: &[u8],
     counts: &mut [[u64; 3]; 256],
 ) -> Machine
-    requires { ⌜ Ready rows count tables from (now store) (now picks) (now counts) ⌝ }
-    ensures { λ r. ⌜ Finished (take count (kindsOf rows)) tables from r (now (store .entry)) (now (store .exit)) (now (picks .entry)) (tallyOf (now (counts .entry))) (tallyOf (now (counts .exit))) ⌝ }
+    requires { ⌜ Ready prices rows count tables from (now store) (now picks) (now counts) ⌝ }
+    ensures { λ r. ⌜ Finished prices (take count (kindsOf rows)) tables from r (now (store .entry)) (now (store .exit)) (now (picks .entry)) (tallyOf (now (counts .entry))) (tallyOf (now (counts .exit))) ⌝ }
 {
     let mut m = from;
     while going(m) {
@@ -45,7 +47,7 @@ pub fn resume(
             let e = tables.shut[i] as usize;
             let h = tables.opener[i] as usize;
             let head = rows[h];
-            m = machine::step(m, row, e, head, h, store, picks, counts);
+            m = machine::step(m, row, e, head, h, prices, store, picks, counts);
         } else {
             m = actions::ended(m, m.left, Ending::Ended, count);
         }
@@ -95,17 +97,18 @@ fn answer(m: Machine, allowance: u64) -> Ran
     }
 }
 
-// The run of the first `count` rows: document 01's, with the turns of the loops by their head rows.
+// The run of the first `count` rows, with the turns of the loops by their head rows.
 pub fn run_rows(
     rows: [Row; 256],
     count: usize,
+    prices: Prices,
     store: &mut [i32],
     picks: &[u8],
     allowance: u64,
     counts: &mut [[u64; 3]; 256],
 ) -> Ran
-    requires { ⌜ Given rows count (now store) allowance × (length (now counts) ≡ 256) ⌝ }
-    ensures { λ r. ⌜ Answered (runOf (take count (kindsOf rows)) (now (store .entry)) (now (picks .entry)) allowance) r (length (now (store .entry))) (now (store .exit)) (tallyOf (now (counts .exit))) ⌝ }
+    requires { ⌜ Given prices rows count (now store) allowance × (length (now counts) ≡ 256) ⌝ }
+    ensures { λ r. ⌜ Answered (runOf prices (take count (kindsOf rows)) (now (store .entry)) (now (picks .entry)) allowance) r (length (now (store .entry))) (now (store .exit)) (tallyOf (now (counts .exit))) ⌝ }
 {
     clear(counts);
     let tables = pairs::partners(rows, count);
@@ -116,6 +119,6 @@ pub fn run_rows(
         used: 0,
         status: Status::Going,
     };
-    let end = resume(rows, count, tables, start, store, picks, counts);
+    let end = resume(rows, count, tables, prices, start, store, picks, counts);
     answer(end, allowance)
 }

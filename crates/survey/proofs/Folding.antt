@@ -5,16 +5,17 @@ use mathlib.Core.List.{List, [], _∷_, _++_}
 use Prim.Native.Nat.{ℕ, _+_, _*_, _≤_, max}
 use native.Mathlib.Omega.{arith}
 use lib.Dec.{leb}
-use Rattle.rules.specs.Blocks.{Plain, assign, cue, Test, Form, Last, no-step, step-by, withLast, Block, done, plain, pick, loop, snoc}
+use Rattle.rules.specs.Blocks.{Plain, Test, Form, Last, no-step, step-by, withLast, Block, done, plain, pick, loop, snoc}
 use Rattle.rules.specs.Ranges.{Env, afterRow, join, atStart}
 use Rattle.rules.specs.Trips.{trip, turns, inside, outside, after}
-use Rattle.rules.specs.Figures.{ones, price, loopTicks, ticks, Line, line, lines}
+use Rattle.rules.specs.declared.Prices.{Prices}
+use Rattle.rules.specs.Figures.{price, loopTicks, ticks, Line, line, lines}
 use Rattle.rules.specs.declared.Verdict.{Verdict}
 use Rattle.rules.specs.declared.Verdict.the-variants.{Passed as passed, Refused as refused}
 use Rattle.rules.specs.Questions.{andThen, asked, tickLimit, ofTrip, loopsVerdict, blocksVerdict}
 use Rattle.ticks.specs.Capped.{capped}
 use Rattle.ticks.proofs.Caps.{cap-mul}
-use Rattle.survey.specs.Fold.{loopCount, cut, cuts, State, folded, rowsIn}
+use Rattle.survey.specs.Fold.{loopCount, cut, cuts, State, folded, lastPrice}
 
 -- ---- verdicts one after the other
 pub then-passed : (v : Verdict) → andThen v passed ≡ v
@@ -77,49 +78,44 @@ cap-lines o ρ (loop i e form test body rest) =
 pub state-is : {x y : State} → x .env ≡ y .env → x .verdict ≡ y .verdict → x .spent ≡ y .spent → x .over ≡ y .over → x .lines ≡ y .lines → x .loops ≡ y .loops → x ≡ y
 state-is a b c d e f = λ j. record { env = a j; verdict = b j; spent = c j; over = d j; lines = e j; loops = f j }
 
-module _ (outer : ℕ) (x : State) where
-  pub fold-none : x .spent ≤ 1_000_000_000_001 → folded outer x done ≡ x
+module _ (π : Prices) (outer : ℕ) (x : State) where
+  pub fold-none : x .spent ≤ 1_000_000_000_001 → folded π outer x done ≡ x
   unfolding folded after loopsVerdict ticks blocksVerdict lines cuts loopCount
   fold-none h = state-is refl (then-passed (x .verdict)) (omega arith) (then-passed (x .over)) (append-none (x .lines)) (omega arith)
 
   -- past a plain row
   abbrev pub pastPlain : Plain → State
-  pastPlain p = record { env = afterRow (x .env) p; verdict = x .verdict; spent = capped (x .spent + 1); over = x .over; lines = x .lines; loops = x .loops }
+  pastPlain p = record { env = afterRow (x .env) p; verdict = x .verdict; spent = capped (x .spent + price π p); over = x .over; lines = x .lines; loops = x .loops }
 
-  one : (p : Plain) → price ones p ≡ 1
-  unfolding price
-  one (assign v y) = refl
-  one (cue n) = refl
-
-  pub fold-plain : (i : ℕ) (p : Plain) (rest : Block) → folded outer x (plain i p rest) ≡ folded outer (pastPlain p) rest
+  pub fold-plain : (i : ℕ) (p : Plain) (rest : Block) → folded π outer x (plain i p rest) ≡ folded π outer (pastPlain p) rest
   unfolding folded after loopsVerdict ticks blocksVerdict lines loopCount
-  fold-plain i p rest = state-is refl refl (omega (arith, one p)) refl refl refl
+  fold-plain i p rest = state-is refl refl (omega arith) refl refl refl
 
   -- past a pick
   abbrev pickTicks : Block → Block → ℕ
-  pickTicks a b = 1 + max (ticks ones (x .env) a) (ticks ones (x .env) b)
+  pickTicks a b = π .pick + max (ticks π (x .env) a) (ticks π (x .env) b)
 
   abbrev pub pastPick : ℕ → Block → Block → State
   pastPick e a b = record {
     env = join (after (x .env) a) (after (x .env) b);
     verdict = andThen (andThen (x .verdict) (loopsVerdict (x .env) a)) (loopsVerdict (x .env) b);
-    spent = capped (x .spent + (1 + max (ticks ones (x .env) a) (ticks ones (x .env) b)));
-    over = andThen (andThen (andThen (x .over) (blocksVerdict ones (x .env) a)) (blocksVerdict ones (x .env) b)) (asked 13 e (leb (1 + max (ticks ones (x .env) a) (ticks ones (x .env) b)) tickLimit) passed);
+    spent = capped (x .spent + (π .pick + max (ticks π (x .env) a) (ticks π (x .env) b)));
+    over = andThen (andThen (andThen (x .over) (blocksVerdict π (x .env) a)) (blocksVerdict π (x .env) b)) (asked 13 e (leb (π .pick + max (ticks π (x .env) a) (ticks π (x .env) b)) tickLimit) passed);
     lines = (x .lines ++ cuts (lines outer (x .env) a)) ++ cuts (lines outer (x .env) b);
     loops = x .loops + loopCount a + loopCount b;
   }
 
-  pub fold-pick : (i e : ℕ) (a b rest : Block) → folded outer x (pick i e a b rest) ≡ folded outer (pastPick e a b) rest
+  pub fold-pick : (i e : ℕ) (a b rest : Block) → folded π outer x (pick i e a b rest) ≡ folded π outer (pastPick e a b) rest
   unfolding folded after loopsVerdict ticks blocksVerdict lines loopCount
   fold-pick i e a b rest =
       let ρ = x .env in
       let σ = join (after ρ a) (after ρ b) in
-      let F = 1 + max (ticks ones ρ a) (ticks ones ρ b) in
+      let F = π .pick + max (ticks π ρ a) (ticks π ρ b) in
       let q = asked 13 e (leb F tickLimit) passed in
       state-is refl
       (sym (then-assoc (x .verdict) _ _) ∙ sym (then-assoc _ _ _))
       (omega arith)
-      (ap (λ v. andThen (x .over) (andThen (blocksVerdict ones ρ a) (andThen (blocksVerdict ones ρ b) v))) (asked-then 13 e (leb F tickLimit) _)
+      (ap (λ v. andThen (x .over) (andThen (blocksVerdict π ρ a) (andThen (blocksVerdict π ρ b) v))) (asked-then 13 e (leb F tickLimit) _)
       ∙ sym (then-assoc (x .over) _ _) ∙ sym (then-assoc _ _ _) ∙ sym (then-assoc _ q _))
       (lines-pick (x .lines) (lines outer ρ a) (lines outer ρ b) (lines outer σ rest))
       (omega arith)
@@ -139,37 +135,32 @@ module _ (outer : ℕ) (x : State) where
     pastLoop = record {
       env = outside form σ test body;
       verdict = andThen (andThen (x .verdict) (ofTrip i (trip form σ test body))) (loopsVerdict β body);
-      spent = capped (x .spent + loopTicks ones form n (ticks ones β body));
-      over = andThen (andThen (x .over) (blocksVerdict ones β body)) (asked 13 e (leb (loopTicks ones form n (ticks ones β body)) tickLimit) passed);
+      spent = capped (x .spent + loopTicks π form n (ticks π β body));
+      over = andThen (andThen (x .over) (blocksVerdict π β body)) (asked 13 e (leb (loopTicks π form n (ticks π β body)) tickLimit) passed);
       lines = (x .lines ++ (cut (line outer i form σ test body) ∷ [])) ++ cuts (lines (n * outer) β body);
       loops = x .loops + 1 + loopCount body;
     }
 
-    pub fold-loop : (rest : Block) → folded outer x (loop i e form test body rest) ≡ folded outer pastLoop rest
+    pub fold-loop : (rest : Block) → folded π outer x (loop i e form test body rest) ≡ folded π outer pastLoop rest
     unfolding folded after loopsVerdict ticks blocksVerdict lines cuts loopCount
     fold-loop rest =
-        let F = loopTicks ones form n (ticks ones β body) in
+        let F = loopTicks π form n (ticks π β body) in
         let q = asked 13 e (leb F tickLimit) passed in
         state-is refl
         (sym (then-assoc (x .verdict) _ _) ∙ sym (then-assoc _ _ _))
         (omega arith)
-        (ap (λ v. andThen (x .over) (andThen (blocksVerdict ones β body) v)) (asked-then 13 e (leb F tickLimit) _)
+        (ap (λ v. andThen (x .over) (andThen (blocksVerdict π β body) v)) (asked-then 13 e (leb F tickLimit) _)
         ∙ sym (then-assoc (x .over) _ _) ∙ sym (then-assoc _ q _))
         (lines-loop (x .lines) (line outer i form σ test body) (lines (n * outer) β body) (lines outer (outside form σ test body) rest))
         (omega arith)
 
--- ---- a for's step row adds a tick to its body, and nothing else
-pub record SameBody (l : Last) (b c : Block) : Type 0 where
+-- ---- a for's step row adds its price to its body, and nothing else
+pub record SameBody (π : Prices) (l : Last) (b c : Block) : Type 0 where
   pub loops : (β : Env) → loopsVerdict β c ≡ loopsVerdict β b
-  pub over : (β : Env) → blocksVerdict ones β c ≡ blocksVerdict ones β b
+  pub over : (β : Env) → blocksVerdict π β c ≡ blocksVerdict π β b
   pub lined : (o : ℕ) (β : Env) → lines o β c ≡ lines o β b
   pub count : loopCount c ≡ loopCount b
-  pub ticked : (β : Env) → ticks ones β c ≡ rowsIn l + ticks ones β b
-
-price-one : (p : Plain) → price ones p ≡ 1
-unfolding price
-price-one (assign v y) = refl
-price-one (cue n) = refl
+  pub ticked : (β : Env) → ticks π β c ≡ lastPrice π l + ticks π β b
 
 module _ (i : ℕ) (p : Plain) where
   loops-snoc : (b : Block) (β : Env) → loopsVerdict β (snoc b i p) ≡ loopsVerdict β b
@@ -179,12 +170,12 @@ module _ (i : ℕ) (p : Plain) where
   loops-snoc (pick j e a b rest) β = ap (λ v. andThen (loopsVerdict β a) (andThen (loopsVerdict β b) v)) (loops-snoc rest _)
   loops-snoc (loop j e form test body rest) β = ap (λ v. andThen (ofTrip j (trip form (atStart form test β) test body)) (andThen (loopsVerdict (inside form (atStart form test β) test body) body) v)) (loops-snoc rest _)
 
-  over-snoc : (b : Block) (β : Env) → blocksVerdict ones β (snoc b i p) ≡ blocksVerdict ones β b
+  over-snoc : (π : Prices) (b : Block) (β : Env) → blocksVerdict π β (snoc b i p) ≡ blocksVerdict π β b
   unfolding blocksVerdict snoc
-  over-snoc done β = refl
-  over-snoc (plain j q rest) β = over-snoc rest (afterRow β q)
-  over-snoc (pick j e a b rest) β = ap (λ v. andThen (blocksVerdict ones β a) (andThen (blocksVerdict ones β b) (asked 13 e (leb (1 + max (ticks ones β a) (ticks ones β b)) tickLimit) v))) (over-snoc rest (join (after β a) (after β b)))
-  over-snoc (loop j e form test body rest) β = ap (λ v. andThen (blocksVerdict ones (inside form (atStart form test β) test body) body) (asked 13 e (leb (loopTicks ones form (turns form (atStart form test β) test body) (ticks ones (inside form (atStart form test β) test body) body)) tickLimit) v)) (over-snoc rest (outside form (atStart form test β) test body))
+  over-snoc π done β = refl
+  over-snoc π (plain j q rest) β = over-snoc π rest (afterRow β q)
+  over-snoc π (pick j e a b rest) β = ap (λ v. andThen (blocksVerdict π β a) (andThen (blocksVerdict π β b) (asked 13 e (leb (π .pick + max (ticks π β a) (ticks π β b)) tickLimit) v))) (over-snoc π rest (join (after β a) (after β b)))
+  over-snoc π (loop j e form test body rest) β = ap (λ v. andThen (blocksVerdict π (inside form (atStart form test β) test body) body) (asked 13 e (leb (loopTicks π form (turns form (atStart form test β) test body) (ticks π (inside form (atStart form test β) test body) body)) tickLimit) v)) (over-snoc π rest (outside form (atStart form test β) test body))
 
   lines-snoc : (b : Block) (o : ℕ) (β : Env) → lines o β (snoc b i p) ≡ lines o β b
   unfolding lines snoc
@@ -200,14 +191,14 @@ module _ (i : ℕ) (p : Plain) where
   count-snoc (pick j e a b rest) = omega (arith, count-snoc rest)
   count-snoc (loop j e form test body rest) = omega (arith, count-snoc rest)
 
-  ticks-snoc : (b : Block) (β : Env) → ticks ones β (snoc b i p) ≡ 1 + ticks ones β b
+  ticks-snoc : (π : Prices) (b : Block) (β : Env) → ticks π β (snoc b i p) ≡ price π p + ticks π β b
   unfolding ticks snoc
-  ticks-snoc done β = omega (arith, price-one p)
-  ticks-snoc (plain j q rest) β = omega (arith, ticks-snoc rest (afterRow β q))
-  ticks-snoc (pick j e a b rest) β = omega (arith, ticks-snoc rest (join (after β a) (after β b)))
-  ticks-snoc (loop j e form test body rest) β = omega (arith, ticks-snoc rest (outside form (atStart form test β) test body))
+  ticks-snoc π done β = omega arith
+  ticks-snoc π (plain j q rest) β = omega (arith, ticks-snoc π rest (afterRow β q))
+  ticks-snoc π (pick j e a b rest) β = omega (arith, ticks-snoc π rest (join (after β a) (after β b)))
+  ticks-snoc π (loop j e form test body rest) β = omega (arith, ticks-snoc π rest (outside form (atStart form test β) test body))
 
-pub same-body : (l : Last) (i : ℕ) (b : Block) → SameBody l b (withLast l i b)
+pub same-body : (π : Prices) (l : Last) (i : ℕ) (b : Block) → SameBody π l b (withLast l i b)
 unfolding withLast
-same-body no-step i b = record { loops = λ β. refl; over = λ β. refl; lined = λ o β. refl; count = refl; ticked = λ β. omega arith }
-same-body (step-by p) i b = record { loops = loops-snoc i p b; over = over-snoc i p b; lined = lines-snoc i p b; count = count-snoc i p b; ticked = ticks-snoc i p b }
+same-body π no-step i b = record { loops = λ β. refl; over = λ β. refl; lined = λ o β. refl; count = refl; ticked = λ β. omega arith }
+same-body π (step-by p) i b = record { loops = loops-snoc i p b; over = over-snoc i p π b; lined = lines-snoc i p b; count = count-snoc i p b; ticked = ticks-snoc i p π b }

@@ -11,10 +11,12 @@ use Rattle.rules.specs.declared.Kind.the-variants.{Set, Move, Cue, Pick, Else, 
 use Rattle.rules.proofs.Kind.{the-type}
 use types.Run.{OneOf, miss}
 use denote.Enum.Declared.{tagOf}
-use Rattle.rules.specs.Blocks.{Test, Form, Last, no-step, step-by, viewOf, Block, pick, loop}
+use Rattle.rules.specs.Blocks.{Plain, assign, cue, Test, Form, Last, no-step, step-by, viewOf, Block, pick, loop}
 use Rattle.rules.specs.Ranges.{Env, full, afterRow, join, atStart}
 use Rattle.rules.specs.Trips.{Trip, trip, turns, inside, outside, after}
-use Rattle.rules.specs.Figures.{ones, loopTicks, ticks, Line, line, lines}
+use Rattle.rules.specs.Bounds.{FinePrices}
+use Rattle.rules.specs.declared.Prices.{Prices}
+use Rattle.rules.specs.Figures.{price, loopTicks, ticks, Line, line, lines}
 use Rattle.rules.specs.declared.Verdict.{Verdict}
 use Rattle.rules.specs.declared.Verdict.the-variants.{Passed as passed, Refused as refused}
 use Rattle.rules.specs.Questions.{andThen, asked, tickLimit, ofTrip, loopsVerdict, blocksVerdict, loopVerdict}
@@ -30,14 +32,14 @@ use Rattle.steps.proofs.Walking.{Walking, plain-row, pick-row, loop-row}
 use Rattle.ticks.specs.Capped.{capped, overOf}
 use Rattle.survey.specs.declared.Entered.{Entered}
 use Rattle.survey.specs.Enter.{Entry}
-use Rattle.survey.specs.Fold.{loopCount, cut, cuts, State, TallyLines, folded, tallied, rowsIn, lastTicks, lineFor, Restarted, Lined, Closed, EndedAt, Walkable, Passed, Surveyed}
+use Rattle.survey.specs.Fold.{loopCount, cut, cuts, State, TallyLines, folded, tallied, lastPrice, lastTicks, lineFor, Restarted, Lined, Closed, EndedAt, Walkable, Passed, Surveyed}
 use Rattle.survey.proofs.Folding.{state-is, cap-lines, fold-plain, fold-pick, fold-loop, pastPlain, pastPick, pastLoop, SameBody, same-body}
 
 -- what a walk over a block found, part by part, from a tally with these parts
-pub record Part (outer : ℕ) (ρ : Env) (s : ℕ) (o : Verdict) (ls : List Line) (n : ℕ) (b : Block) (r : TallyLines) : Type 0 where
+pub record Part (π : Prices) (outer : ℕ) (ρ : Env) (s : ℕ) (o : Verdict) (ls : List Line) (n : ℕ) (b : Block) (r : TallyLines) : Type 0 where
   pub verdict : loopsVerdict ρ b ≡ passed
-  pub spent : r .spent ≡ capped (s + ticks ones ρ b)
-  pub over : overOf (r .over) ≡ andThen o (blocksVerdict ones ρ b)
+  pub spent : r .spent ≡ capped (s + ticks π ρ b)
+  pub over : overOf (r .over) ≡ andThen o (blocksVerdict π ρ b)
   pub lined : firstLines (r .lines) (r .loops) ≡ ls ++ cuts (lines outer ρ b)
   pub count : r .loops ≡ n + loopCount b
   pub long : length (r .lines) ≡ 16
@@ -45,12 +47,12 @@ pub record Part (outer : ℕ) (ρ : Env) (s : ℕ) (o : Verdict) (ls : List Line
 abbrev pub from-parts : Env → ℕ → Verdict → List Line → ℕ → State
 from-parts ρ s o ls n = record { env = ρ; verdict = passed; spent = s; over = o; lines = ls; loops = n }
 
-pub part-of : {rows : List Row} {count at outer : ℕ} {ρ : Env} {t r : TallyLines} (s : ℕ) (o : Verdict) (ls : List Line) (n : ℕ) → tallied t ρ ≡ from-parts ρ s o ls n
-    → Passed rows count at ρ outer t r → Part outer ρ s o ls n (blockAt rows count at) r
+pub part-of : {π : Prices} {rows : List Row} {count at outer : ℕ} {ρ : Env} {t r : TallyLines} (s : ℕ) (o : Verdict) (ls : List Line) (n : ℕ) → tallied t ρ ≡ from-parts ρ s o ls n
+    → Passed π rows count at ρ outer t r → Part π outer ρ s o ls n (blockAt rows count at) r
 unfolding folded andThen
-part-of {rows} {count} {at} {outer} {ρ} {t} {r} s o ls n e p =
+part-of {π} {rows} {count} {at} {outer} {ρ} {t} {r} s o ls n e p =
     let b = blockAt rows count at in
-    let v : tallied r (after ρ b) ≡ folded outer (from-parts ρ s o ls n) b = p .value ∙ ap (λ x. folded outer x b) e in
+    let v : tallied r (after ρ b) ≡ folded π outer (from-parts ρ s o ls n) b = p .value ∙ ap (λ x. folded π outer x b) e in
     record {
       verdict = sym (ap (λ (x : State). x .verdict) v);
       spent = ap (λ (x : State). x .spent) v;
@@ -61,39 +63,46 @@ part-of {rows} {count} {at} {outer} {ρ} {t} {r} s o ls n e p =
     }
 
 -- or which loop it refused
-pub refused-in : {rows : List Row} {count at outer : ℕ} {ρ : Env} {t r : TallyLines} → Surveyed rows count at ρ outer t r → (r .number ≡ 0 → ⊥)
+pub refused-in : {π : Prices} {rows : List Row} {count at outer : ℕ} {ρ : Env} {t r : TallyLines} → Surveyed π rows count at ρ outer t r → (r .number ≡ 0 → ⊥)
     → loopsVerdict ρ (blockAt rows count at) ≡ refused (r .number) (r .place)
 unfolding folded andThen
 refused-in s h = s .stopped h
 
-rows-small : (l : Last) → rowsIn l ≤ 1
-rows-small no-step = omega arith
-rows-small (step-by p) = omega arith
+-- what a row and a body's last row take is small
+module _ {π : Prices} (fine : FinePrices π) where
+  pub price-small : (p : Plain) → price π p ≤ 1_000
+  unfolding price
+  price-small (assign v x) = fine .arithmetic .small
+  price-small (cue n) = fine .cue .small
 
-pub last-small : (k : Kind) → lastTicks k ≤ 1
-last-small k = rows-small (headOf k .last)
+  last-price-small : (l : Last) → lastPrice π l ≤ 1_000
+  last-price-small no-step = omega arith
+  last-price-small (step-by p) = price-small p
+
+  pub last-small : (k : Kind) → lastTicks π k ≤ 1_000
+  last-small k = last-price-small (headOf k .last)
 
 -- any row but a for
 abbrev no-for : List ℕ
 no-for = 0 ∷ 1 ∷ 2 ∷ 3 ∷ 4 ∷ 5 ∷ 6 ∷ 7 ∷ []
 
-pub no-last : (k : Kind) → OneOf no-for (tagOf the-type k) → 0 ≡ lastTicks k
+pub no-last : (π : Prices) (k : Kind) → OneOf no-for (tagOf the-type k) → 0 ≡ lastTicks π k
 unfolding headOf viewOf
-no-last End o = refl
-no-last Else o = refl
-no-last Pick o = refl
-no-last (Set v x) o = refl
-no-last (Move v c) o = refl
-no-last (Cue n) o = refl
-no-last (While v c x) o = refl
-no-last (Do v c x) o = refl
-no-last (For v s c x d) o = absurd (miss no-for 8 tt o)
+no-last π End o = refl
+no-last π Else o = refl
+no-last π Pick o = refl
+no-last π (Set v x) o = refl
+no-last π (Move v c) o = refl
+no-last π (Cue n) o = refl
+no-last π (While v c x) o = refl
+no-last π (Do v c x) o = refl
+no-last π (For v s c x d) o = absurd (miss no-for 8 tt o)
 
 -- the walk is over
-pub closing : {rows : List Row} {count at outer i : ℕ} {ρ ρ₀ : Env} {t t₀ r : TallyLines} → Walked rows count at i (tallied t ρ) (folded outer (tallied t₀ ρ₀)) → t .spent ≤ 1_000_000_000_001 → length (t .lines) ≡ 16 → EndedAt t i r
-    → Passed rows count at ρ₀ outer t₀ r
+pub closing : {π : Prices} {rows : List Row} {count at outer i : ℕ} {ρ ρ₀ : Env} {t t₀ r : TallyLines} → Walked rows count at i (tallied t ρ) (folded π outer (tallied t₀ ρ₀)) → t .spent ≤ 1_000_000_000_001 → length (t .lines) ≡ 16 → EndedAt t i r
+    → Passed π rows count at ρ₀ outer t₀ r
 unfolding folded
-closing {rows} {count} {at} {outer} {i} {ρ} {ρ₀} {t} {t₀} {r} w s m h =
+closing {π} {rows} {count} {at} {outer} {i} {ρ} {ρ₀} {t} {t₀} {r} w s m h =
     let b = blockAt rows count at in
     let e : ρ ≡ after ρ₀ b = ap (λ (x : State). x .env) (w .value) in
     let q : r .spent ≡ t .spent = ap (λ (x : State). x .spent) (h .value ρ) in
@@ -110,38 +119,38 @@ nowhere : Env
 nowhere w = full
 
 -- a tally that a walk may start from
-pub restart-walkable : {rows : List Row} {count a outer s : ℕ} {t r : TallyLines} → Ready rows count a → Restarted t s r → length (t .lines) ≡ 16 → s ≤ 1_000_000_000_001 → outer ≤ 1_000_000_000_001
-    → t .loops + loopCount (blockAt rows count a) ≤ 16 → Walkable rows count a outer r
-restart-walkable {t} {r} k h g l o m =
+pub restart-walkable : {π : Prices} {rows : List Row} {count a outer s : ℕ} {t r : TallyLines} → Ready rows count a → FinePrices π → Restarted t s r → length (t .lines) ≡ 16 → s ≤ 1_000_000_000_001 → outer ≤ 1_000_000_000_001
+    → t .loops + loopCount (blockAt rows count a) ≤ 16 → Walkable π rows count a outer r
+restart-walkable {t} {r} k fine h g l o m =
     let p = ap (λ (x : State). x .spent) (h .value nowhere) in
     let q = ap (λ (x : State). x .loops) (h .value nowhere) in
-    record { ready = k; small = omega arith; times = o; room = omega arith; long = ap length (h .same) ∙ g }
+    record { ready = k; prices = fine; small = omega arith; times = o; room = omega arith; long = ap length (h .same) ∙ g }
 
-pub lined-walkable : {rows : List Row} {count a outer i turns total s : ℕ} {τ : Trip} {t r : TallyLines} → Ready rows count a → Lined t i τ turns total s r → s ≤ 1_000_000_000_001 → outer ≤ 1_000_000_000_001
-    → t .loops + 1 + loopCount (blockAt rows count a) ≤ 16 → Walkable rows count a outer r
-lined-walkable {t} {r} k h l o m =
+pub lined-walkable : {π : Prices} {rows : List Row} {count a outer i turns total s : ℕ} {τ : Trip} {t r : TallyLines} → Ready rows count a → FinePrices π → Lined t i τ turns total s r → s ≤ 1_000_000_000_001 → outer ≤ 1_000_000_000_001
+    → t .loops + 1 + loopCount (blockAt rows count a) ≤ 16 → Walkable π rows count a outer r
+lined-walkable {t} {r} k fine h l o m =
     let p = ap (λ (x : State). x .spent) (h .value nowhere) in
     let q = ap (λ (x : State). x .loops) (h .value nowhere) in
-    record { ready = k; small = omega arith; times = o; room = omega arith; long = h .long }
+    record { ready = k; prices = fine; small = omega arith; times = o; room = omega arith; long = h .long }
 
-module _ (rows : List Row) (count outer at : ℕ) (x₀ : State) where
+module _ (π : Prices) (rows : List Row) (count outer at : ℕ) (x₀ : State) where
   pub record Going (i : ℕ) (ρ : Env) (t : TallyLines) : Type 0 where
-    pub walk : Walking rows count (folded outer) at x₀ i (tallied t ρ)
+    pub walk : Walking rows count (folded π outer) at x₀ i (tallied t ρ)
     pub small : t .spent ≤ 1_000_000_000_001
     pub long : length (t .lines) ≡ 16
 
   module _ {i : ℕ} {ρ : Env} {t : TallyLines} (k : Going i ρ t) where
     -- the loops that are left
-    pub room : folded outer x₀ (blockAt rows count at) .loops ≡ t .loops + loopCount (blockAt rows count i)
+    pub room : folded π outer x₀ (blockAt rows count at) .loops ≡ t .loops + loopCount (blockAt rows count i)
     unfolding folded
     room = ap (λ (x : State). x .loops) (k .walk .value)
 
     module _ (l : i < count) (built : Whole rows count) where
-      pub go-plain : shapeOf (kindAt rows i) ≡ Shape.Plain → {σ : Env} {p : ℕ} {r : TallyLines} → σ ≡ afterRow ρ (plainOf (kindAt rows i)) → p ≡ capped (t .spent + 1) → Restarted t p r → Going (i + 1) σ r
+      pub go-plain : shapeOf (kindAt rows i) ≡ Shape.Plain → {σ : Env} {p : ℕ} {r : TallyLines} → σ ≡ afterRow ρ (plainOf (kindAt rows i)) → p ≡ capped (t .spent + price π (plainOf (kindAt rows i))) → Restarted t p r → Going (i + 1) σ r
       go-plain h {σ} {p} {r} a b c =
-          let e : tallied r σ ≡ pastPlain outer (tallied t ρ) (plainOf (kindAt rows i)) = c .value σ ∙ state-is a refl b refl refl refl in
+          let e : tallied r σ ≡ pastPlain π outer (tallied t ρ) (plainOf (kindAt rows i)) = c .value σ ∙ state-is a refl b refl refl refl in
           record {
-            walk = plain-row rows count (folded outer) at x₀ (k .walk) l built h (λ rest. fold-plain outer (tallied t ρ) i (plainOf (kindAt rows i)) rest ∙ ap (λ y. folded outer y rest) (sym e));
+            walk = plain-row rows count (folded π outer) at x₀ (k .walk) l built h (λ rest. fold-plain π outer (tallied t ρ) i (plainOf (kindAt rows i)) rest ∙ ap (λ y. folded π outer y rest) (sym e));
             small = let z : r .spent ≡ p = ap (λ (x : State). x .spent) (c .value σ) in omega arith;
             long = ap length (c .same) ∙ k .long;
           }
@@ -158,34 +167,34 @@ module _ (rows : List Row) (count outer at : ℕ) (x₀ : State) where
         unfolding folded loopCount
         pick-room h = omega (arith, room, ap loopCount (u .block))
 
-        verdict-pick : folded outer x₀ (blockAt rows count at) .verdict ≡ andThen (andThen (andThen passed (loopsVerdict ρ A)) (loopsVerdict ρ B)) (loopsVerdict (join (after ρ A) (after ρ B)) (blockAt rows count (e + 1)))
+        verdict-pick : folded π outer x₀ (blockAt rows count at) .verdict ≡ andThen (andThen (andThen passed (loopsVerdict ρ A)) (loopsVerdict ρ B)) (loopsVerdict (join (after ρ A) (after ρ B)) (blockAt rows count (e + 1)))
         unfolding folded
-        verdict-pick = ap (λ (x : State). x .verdict) (k .walk .value ∙ ap (folded outer (tallied t ρ)) (u .block) ∙ fold-pick outer (tallied t ρ) i e A B _)
+        verdict-pick = ap (λ (x : State). x .verdict) (k .walk .value ∙ ap (folded π outer (tallied t ρ)) (u .block) ∙ fold-pick π outer (tallied t ρ) i e A B _)
 
-        pub pick-first : (n p : ℕ) → loopsVerdict ρ A ≡ refused n p → folded outer x₀ (blockAt rows count at) .verdict ≡ refused n p
+        pub pick-first : (n p : ℕ) → loopsVerdict ρ A ≡ refused n p → folded π outer x₀ (blockAt rows count at) .verdict ≡ refused n p
         unfolding andThen
         pick-first n p h = verdict-pick ∙ ap (λ v. andThen (andThen v (loopsVerdict ρ B)) (loopsVerdict (join (after ρ A) (after ρ B)) (blockAt rows count (e + 1)))) h
 
-        pub pick-second : (n p : ℕ) → loopsVerdict ρ A ≡ passed → loopsVerdict ρ B ≡ refused n p → folded outer x₀ (blockAt rows count at) .verdict ≡ refused n p
+        pub pick-second : (n p : ℕ) → loopsVerdict ρ A ≡ passed → loopsVerdict ρ B ≡ refused n p → folded π outer x₀ (blockAt rows count at) .verdict ≡ refused n p
         unfolding andThen
         pick-second n p g h = verdict-pick ∙ ap₂ (λ v w. andThen (andThen v w) (loopsVerdict (join (after ρ A) (after ρ B)) (blockAt rows count (e + 1)))) g h
 
         pub go-pick : {a b : TallyLines} {F : ℕ} {σ : Env} {r : TallyLines}
-            → Part outer ρ 0 (overOf (t .over)) (firstLines (t .lines) (t .loops)) (t .loops) A a
-            → Part outer ρ 0 (overOf (a .over)) (firstLines (a .lines) (a .loops)) (a .loops) B b
-            → F ≡ capped (1 + max (a .spent) (b .spent)) → Closed t b e F r → σ ≡ join (after ρ A) (after ρ B) → Going (e + 1) σ r
+            → Part π outer ρ 0 (overOf (t .over)) (firstLines (t .lines) (t .loops)) (t .loops) A a
+            → Part π outer ρ 0 (overOf (a .over)) (firstLines (a .lines) (a .loops)) (a .loops) B b
+            → F ≡ capped (π .pick + max (a .spent) (b .spent)) → Closed t b e F r → σ ≡ join (after ρ A) (after ρ B) → Going (e + 1) σ r
         unfolding andThen
         go-pick {a} {b} {F} {σ} {r} pa pb f c s =
-            let G = 1 + max (ticks ones ρ A) (ticks ones ρ B) in
+            let G = π .pick + max (ticks π ρ A) (ticks π ρ B) in
             let fg : F ≡ capped G = omega (arith, pa .spent, pb .spent) in
-            let z : tallied r σ ≡ pastPick outer (tallied t ρ) e A B = state-is s
+            let z : tallied r σ ≡ pastPick π outer (tallied t ρ) e A B = state-is s
             (sym (ap₂ (λ v w. andThen v w) (pa .verdict) (pb .verdict)))
             (omega (arith, c .spent))
-            (c .over .value G fg ∙ ap (λ v. andThen v (asked 13 e (leb G tickLimit) passed)) (pb .over ∙ ap (λ v. andThen v (blocksVerdict ones ρ B)) (pa .over)))
+            (c .over .value G fg ∙ ap (λ v. andThen v (asked 13 e (leb G tickLimit) passed)) (pb .over ∙ ap (λ v. andThen v (blocksVerdict π ρ B)) (pa .over)))
             (ap₂ firstLines (c .same) (c .loops) ∙ pb .lined ∙ ap (λ x. x ++ cuts (lines outer ρ B)) (pa .lined))
             (c .loops ∙ pb .count ∙ ap (λ x. x + loopCount B) (pa .count)) in
             record {
-              walk = pick-row rows count (folded outer) at x₀ (k .walk) l built u (λ rest. fold-pick outer (tallied t ρ) i e A B rest ∙ ap (λ y. folded outer y rest) (sym z));
+              walk = pick-row rows count (folded π outer) at x₀ (k .walk) l built u (λ rest. fold-pick π outer (tallied t ρ) i e A B rest ∙ ap (λ y. folded π outer y rest) (sym z));
               small = omega (arith, c .spent);
               long = ap length (c .same) ∙ pb .long;
             }
@@ -207,47 +216,47 @@ module _ (rows : List Row) (count outer at : ℕ) (x₀ : State) where
         abbrev β : Env
         β = inside form σ test body
 
-        same : SameBody (headOf (kindAt rows i) .last) (blockAt rows count (i + 1)) body
-        same = same-body (headOf (kindAt rows i) .last) i (blockAt rows count (i + 1))
+        same : SameBody π (headOf (kindAt rows i) .last) (blockAt rows count (i + 1)) body
+        same = same-body π (headOf (kindAt rows i) .last) i (blockAt rows count (i + 1))
 
         pub loop-room : x₀ .loops + loopCount (blockAt rows count at) ≤ 16 → t .loops + 1 + loopCount (blockAt rows count (i + 1)) ≤ 16
         unfolding folded loopCount
         loop-room h = omega (arith, room, ap loopCount (u .block), same .count)
 
-        verdict-loop : folded outer x₀ (blockAt rows count at) .verdict ≡ andThen (andThen (andThen passed (ofTrip i (trip form σ test body))) (loopsVerdict β body)) (loopsVerdict (outside form σ test body) (blockAt rows count (e + 1)))
+        verdict-loop : folded π outer x₀ (blockAt rows count at) .verdict ≡ andThen (andThen (andThen passed (ofTrip i (trip form σ test body))) (loopsVerdict β body)) (loopsVerdict (outside form σ test body) (blockAt rows count (e + 1)))
         unfolding folded
-        verdict-loop = ap (λ (x : State). x .verdict) (k .walk .value ∙ ap (folded outer (tallied t ρ)) (u .block) ∙ fold-loop outer (tallied t ρ) i e form test body _)
+        verdict-loop = ap (λ (x : State). x .verdict) (k .walk .value ∙ ap (folded π outer (tallied t ρ)) (u .block) ∙ fold-loop π outer (tallied t ρ) i e form test body _)
 
-        pub loop-refused : (n p : ℕ) → ofTrip i (trip form σ test body) ≡ refused n p → folded outer x₀ (blockAt rows count at) .verdict ≡ refused n p
+        pub loop-refused : (n p : ℕ) → ofTrip i (trip form σ test body) ≡ refused n p → folded π outer x₀ (blockAt rows count at) .verdict ≡ refused n p
         unfolding andThen
         loop-refused n p g = verdict-loop ∙ ap (λ v. andThen (andThen v (loopsVerdict β body)) (loopsVerdict (outside form σ test body) (blockAt rows count (e + 1)))) g
 
-        pub body-refused : (n p : ℕ) → ofTrip i (trip form σ test body) ≡ passed → loopsVerdict β (blockAt rows count (i + 1)) ≡ refused n p → folded outer x₀ (blockAt rows count at) .verdict ≡ refused n p
+        pub body-refused : (n p : ℕ) → ofTrip i (trip form σ test body) ≡ passed → loopsVerdict β (blockAt rows count (i + 1)) ≡ refused n p → folded π outer x₀ (blockAt rows count at) .verdict ≡ refused n p
         unfolding andThen
         body-refused n p g h = verdict-loop ∙ ap₂ (λ v w. andThen (andThen v w) (loopsVerdict (outside form σ test body) (blockAt rows count (e + 1)))) g (same .loops β ∙ h)
 
         pub go-loop : {x : Entered} {first : TallyLines} {α : Env} {b r : TallyLines}
-            → Entry i outer (kindAt rows i) (trip form σ test body) t x first
-            → Part (x .total) β (lastTicks (kindAt rows i)) (overOf (t .over)) (firstLines (t .lines) (t .loops) ++ (lineFor i (trip form σ test body) (x .turns) (x .total) ∷ [])) (t .loops + 1) (blockAt rows count (i + 1)) b
-            → ((G : ℕ) → b .spent ≡ capped G → Closed t b e (capped (loopTicks ones form (x .turns) G)) r) → α ≡ outside form σ test body → Going (e + 1) α r
+            → Entry π i outer (kindAt rows i) (trip form σ test body) t x first
+            → Part π (x .total) β (lastTicks π (kindAt rows i)) (overOf (t .over)) (firstLines (t .lines) (t .loops) ++ (lineFor i (trip form σ test body) (x .turns) (x .total) ∷ [])) (t .loops + 1) (blockAt rows count (i + 1)) b
+            → ((G : ℕ) → b .spent ≡ capped G → Closed t b e (capped (loopTicks π form (x .turns) G)) r) → α ≡ outside form σ test body → Going (e + 1) α r
         unfolding andThen
         go-loop {x} {first} {α} {b} {r} en p f s =
             let n = turns form σ test body in
-            let G = ticks ones β body in
+            let G = ticks π β body in
             let c = f G (p .spent ∙ ap capped (sym (same .ticked β))) in
-            let fg : capped (loopTicks ones form (x .turns) G) ≡ capped (loopTicks ones form n G) = ap (λ m. capped (loopTicks ones form m G)) (en .turns) in
+            let fg : capped (loopTicks π form (x .turns) G) ≡ capped (loopTicks π form n G) = ap (λ m. capped (loopTicks π form m G)) (en .turns) in
             let ht : x .total ≡ capped (n * outer) = en .total ∙ ap (λ m. capped (m * outer)) (en .turns) in
             let L : lineFor i (trip form σ test body) (x .turns) (x .total) ≡ cut (line outer i form σ test body) = (λ j. lineFor i (trip form σ test body) (en .turns j) (ht j)) in
             let inner : cuts (lines (x .total) β (blockAt rows count (i + 1))) ≡ cuts (lines (n * outer) β body) =
             ap (λ m. cuts (lines m β (blockAt rows count (i + 1)))) ht ∙ cap-lines (n * outer) β (blockAt rows count (i + 1)) ∙ ap cuts (sym (same .lined (n * outer) β)) in
-            let y : tallied r α ≡ pastLoop outer (tallied t ρ) i e form test body = state-is s
+            let y : tallied r α ≡ pastLoop π outer (tallied t ρ) i e form test body = state-is s
             (sym (ap₂ (λ a w. andThen a w) (en .verdict) (same .loops β ∙ p .verdict)))
             (omega (arith, c .spent))
-            (c .over .value (loopTicks ones form n G) fg ∙ ap (λ w. andThen w (asked 13 e (leb (loopTicks ones form n G) tickLimit) passed)) (p .over ∙ ap (andThen (overOf (t .over))) (sym (same .over β))))
+            (c .over .value (loopTicks π form n G) fg ∙ ap (λ w. andThen w (asked 13 e (leb (loopTicks π form n G) tickLimit) passed)) (p .over ∙ ap (andThen (overOf (t .over))) (sym (same .over β))))
             (ap₂ firstLines (c .same) (c .loops) ∙ p .lined ∙ ap₂ (λ a w. (firstLines (t .lines) (t .loops) ++ (a ∷ [])) ++ w) L inner)
             (c .loops ∙ p .count ∙ ap (λ m. t .loops + 1 + m) (sym (same .count))) in
             record {
-              walk = loop-row rows count (folded outer) at x₀ (k .walk) l built u (λ rest. fold-loop outer (tallied t ρ) i e form test body rest ∙ ap (λ w. folded outer w rest) (sym y));
+              walk = loop-row rows count (folded π outer) at x₀ (k .walk) l built u (λ rest. fold-loop π outer (tallied t ρ) i e form test body rest ∙ ap (λ w. folded π outer w rest) (sym y));
               small = omega (arith, c .spent);
               long = ap length (c .same) ∙ p .long;
             }

@@ -1,6 +1,7 @@
 -- The laws that belong to no one function.
 pub mod Folding
 pub mod Parts
+pub mod Priced
 pub mod Going
 pub mod Totals
 pub mod Verdicts

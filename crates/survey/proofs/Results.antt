@@ -8,7 +8,9 @@ use lib.ListN.{length, take}
 use Rattle.rules.specs.declared.Row.{Row}
 use Rattle.rules.specs.Blocks.{Block}
 use Rattle.rules.specs.Ranges.{Env}
-use Rattle.rules.specs.Figures.{ones, ticks, lines}
+use Rattle.rules.specs.Bounds.{FinePrices}
+use Rattle.rules.specs.declared.Prices.{Prices}
+use Rattle.rules.specs.Figures.{ticks, lines}
 use Rattle.rules.specs.declared.Verdict.the-variants.{Passed as passed}
 use Rattle.rules.specs.Questions.{andThen, verdict}
 use Rattle.rules.specs.Scripts as scripts
@@ -30,7 +32,7 @@ use Rattle.survey.proofs.Legals.{env-is, long, file-is, few-in}
 no-number : {A : Type 0} {n : ℕ} → n ≡ 13 → n ≡ 0 → A
 no-number p q = absurd (let z : ⊥ = omega arith in z)
 
-module _ (ranges : List (List ℤ)) (vars : ℕ) (rows : List Row) (count : ℕ) (legal : Legal (scriptOf ranges vars rows count)) (few : count ≤ 256) (all : count ≤ length rows) (blank : BlankFrom vars ranges) where
+module _ (π : Prices) (fine : FinePrices π) (ranges : List (List ℤ)) (vars : ℕ) (rows : List Row) (count : ℕ) (legal : Legal (scriptOf ranges vars rows count)) (few : count ≤ 256) (all : count ≤ length rows) (blank : BlankFrom vars ranges) where
   abbrev ρ : Env
   ρ = envOf ranges
 
@@ -41,12 +43,12 @@ module _ (ranges : List (List ℤ)) (vars : ℕ) (rows : List Row) (count : ℕ)
   moved : {A : Type 0} (f : Env → Block → A) → f (scripts.envOf (take vars (pairRanges ranges))) (treeOf (kinds rows count)) ≡ f ρ b
   moved f = λ j. f (env-is ranges vars blank j) (sym (file-is ranges vars rows count legal few all) j)
 
-  pub result : (t₀ : TallyLines) (t : Tally) (ls : List (List ℕ)) → tallied t₀ ρ ≡ from-parts ρ 0 passed [] 0 → Surveyed rows count 0 ρ 1 t₀ (withLines t ls) → (f : Refusal) → FirstNo t count f
+  pub result : (t₀ : TallyLines) (t : Tally) (ls : List (List ℕ)) → tallied t₀ ρ ≡ from-parts ρ 0 passed [] 0 → Surveyed π rows count 0 ρ 1 t₀ (withLines t ls) → (f : Refusal) → FirstNo t count f
       → (n : ℕ) → (f .number ≡ 0 → n ≡ t .spent) → (k : ℕ) → (f .number ≡ 0 → k ≡ t .loops) → ((f .number ≡ 0 → ⊥) → (n ≡ 0) × (k ≡ 0))
-      → SurveyOf (scriptOf ranges vars rows count) count (record { number = f .number; place = f .place; ticks = n; loops = k }) ls
+      → SurveyOf π (scriptOf ranges vars rows count) count (record { number = f .number; place = f .place; ticks = n; loops = k }) ls
   unfolding scriptOf andThen
   result t₀ t ls e s f (of-loop h p q) m u k v free = record {
-    verdict = moved (verdict ones count) ∙ verdict-loop count ρ b (t .number) (t .place) h (refused-in s h) ∙ (λ j. answer (sym p j) (sym q j));
+    verdict = moved (verdict π count) ∙ verdict-loop π count ρ b (t .number) (t .place) h (refused-in s h) ∙ (λ j. answer (sym p j) (sym q j));
     ticks = λ z. absurd (h (sym p ∙ z));
     loops = λ z. absurd (h (sym p ∙ z));
     long = λ z. absurd (h (sym p ∙ z));
@@ -56,7 +58,7 @@ module _ (ranges : List (List ℤ)) (vars : ℕ) (rows : List Row) (count : ℕ)
   result t₀ t ls e s f (of-block z l p q) m u k v free =
       let part = part-of 0 passed [] 0 e (s .whole z) in
       record {
-        verdict = moved (verdict ones count) ∙ verdict-block count ρ b (part .verdict) (t .over) (part .over) l ∙ (λ j. answer (sym p j) (sym q j));
+        verdict = moved (verdict π count) ∙ verdict-block π count ρ b (part .verdict) (t .over) (part .over) l ∙ (λ j. answer (sym p j) (sym q j));
         ticks = λ w. no-number p w;
         loops = λ w. no-number p w;
         long = λ w. no-number p w;
@@ -66,7 +68,7 @@ module _ (ranges : List (List ℤ)) (vars : ℕ) (rows : List Row) (count : ℕ)
   result t₀ t ls e s f (of-file z l o p q) m u k v free =
       let part = part-of 0 passed [] 0 e (s .whole z) in
       record {
-        verdict = moved (verdict ones count) ∙ verdict-file count ρ b (part .verdict) (t .over) (part .over) l (omega (arith, part .spent)) ∙ (λ j. answer (sym p j) (sym q j));
+        verdict = moved (verdict π count) ∙ verdict-file π count ρ b (part .verdict) (t .over) (part .over) l (omega (arith, part .spent)) ∙ (λ j. answer (sym p j) (sym q j));
         ticks = λ w. no-number p w;
         loops = λ w. no-number p w;
         long = λ w. no-number p w;
@@ -75,21 +77,21 @@ module _ (ranges : List (List ℤ)) (vars : ℕ) (rows : List Row) (count : ℕ)
       }
   result t₀ t ls e s f (none z l o p) j u k v free =
       let part = part-of 0 passed [] 0 e (s .whole z) in
-      let m : ticks ones ρ b ≤ 1_000_000_000_000 = omega (arith, part .spent) in
-      let n : t .spent ≡ ticks ones ρ b = omega (arith, part .spent) in
+      let m : ticks π ρ b ≤ 1_000_000_000_000 = omega (arith, part .spent) in
+      let n : t .spent ≡ ticks π ρ b = omega (arith, part .spent) in
       record {
-        verdict = moved (verdict ones count) ∙ verdict-passed count ρ b (part .verdict) (t .over) (part .over) l (f .place) m ∙ (λ d. answer (sym p d) (f .place));
-        ticks = λ w. u w ∙ n ∙ sym (moved (ticks ones));
+        verdict = moved (verdict π count) ∙ verdict-passed π count ρ b (part .verdict) (t .over) (part .over) l (f .place) m ∙ (λ d. answer (sym p d) (f .place));
+        ticks = λ w. u w ∙ n ∙ sym (moved (ticks π));
         loops = λ w. omega (arith, v w, part .count, few-in ranges vars rows count legal few all);
         long = λ w. part .long;
-        lines = λ w. ap (firstLines ls) (v w) ∙ part .lined ∙ lines-true b ρ m ∙ sym (moved (lines 1));
+        lines = λ w. ap (firstLines ls) (v w) ∙ part .lined ∙ lines-true π (fine .test .some) b ρ m ∙ sym (moved (lines 1));
         none = free;
       }
 
   -- a file that passes here is accepted
-  pub accepted : (s : Figures) (ls : List (List ℕ)) → SurveyOf (scriptOf ranges vars rows count) count s ls → s .number ≡ 0 → Accepted ones (scriptOf ranges vars rows count)
+  pub accepted : (s : Figures) (ls : List (List ℕ)) → SurveyOf π (scriptOf ranges vars rows count) count s ls → s .number ≡ 0 → Accepted π (scriptOf ranges vars rows count)
   unfolding scriptOf answer
   accepted s ls h z = record {
     legal = legal;
-    loops = ap (λ n. verdict ones n (scripts.envOf (take vars (pairRanges ranges))) (treeOf (kinds rows count))) (long ranges vars rows count legal few all) ∙ h .verdict ∙ ap (λ n. answer n (s .place)) z;
+    loops = ap (λ n. verdict π n (scripts.envOf (take vars (pairRanges ranges))) (treeOf (kinds rows count))) (long ranges vars rows count legal few all) ∙ h .verdict ∙ ap (λ n. answer n (s .place)) z;
   }

@@ -4,32 +4,33 @@ use Prim.Native.Nat.{ℕ, zero, suc, _≤_, _<_}
 use borrow.Author.Tests.{lt-ltb, le-ltb, le-leb, lt-leb}
 use Rattle.rules.specs.Blocks.{Block}
 use Rattle.rules.specs.Ranges.{Env}
-use Rattle.rules.specs.Figures.{ones, ticks}
+use Rattle.rules.specs.declared.Prices.{Prices}
+use Rattle.rules.specs.Figures.{ticks}
 use Rattle.rules.specs.declared.Verdict.the-variants.{Passed as passed, Refused as refused}
 use Rattle.rules.specs.Questions.{andThen, asked, tickLimit, loopsVerdict, blocksVerdict, verdict}
 use Rattle.turns.specs.Needs.{answer}
 use Rattle.ticks.specs.Capped.{overOf}
 
-module _ (count : ℕ) (ρ : Env) (b : Block) where
-  pub verdict-loop : (n p : ℕ) → (n ≡ 0 → ⊥) → loopsVerdict ρ b ≡ refused n p → verdict ones count ρ b ≡ answer n p
+module _ (π : Prices) (count : ℕ) (ρ : Env) (b : Block) where
+  pub verdict-loop : (n p : ℕ) → (n ≡ 0 → ⊥) → loopsVerdict ρ b ≡ refused n p → verdict π count ρ b ≡ answer n p
   unfolding verdict andThen answer
   verdict-loop zero p h e = absurd (h refl)
   verdict-loop (suc n) p h e = rw e
 
-  module _ (l : loopsVerdict ρ b ≡ passed) (o : ℕ) (e : overOf o ≡ blocksVerdict ones ρ b) where
-    pub verdict-block : o < 256 → verdict ones count ρ b ≡ answer 13 o
+  module _ (l : loopsVerdict ρ b ≡ passed) (o : ℕ) (e : overOf o ≡ blocksVerdict π ρ b) where
+    pub verdict-block : o < 256 → verdict π count ρ b ≡ answer 13 o
     unfolding verdict andThen answer overOf
-    verdict-block h = let z : blocksVerdict ones ρ b ≡ refused 13 o = sym e ∙ (rw (lt-ltb o 256 h)) in rw (l, z)
+    verdict-block h = let z : blocksVerdict π ρ b ≡ refused 13 o = sym e ∙ (rw (lt-ltb o 256 h)) in rw (l, z)
 
     module _ (h : 256 ≤ o) where
-      blocks : blocksVerdict ones ρ b ≡ passed
+      blocks : blocksVerdict π ρ b ≡ passed
       unfolding overOf
       blocks = sym e ∙ (rw (le-ltb o 256 h))
 
-      pub verdict-file : 1_000_000_000_000 < ticks ones ρ b → verdict ones count ρ b ≡ answer 13 count
+      pub verdict-file : 1_000_000_000_000 < ticks π ρ b → verdict π count ρ b ≡ answer 13 count
       unfolding verdict andThen answer asked tickLimit
-      verdict-file k = rw (l, blocks, lt-leb (ticks ones ρ b) 1_000_000_000_000 k)
+      verdict-file k = rw (l, blocks, lt-leb (ticks π ρ b) 1_000_000_000_000 k)
 
-      pub verdict-passed : (p : ℕ) → ticks ones ρ b ≤ 1_000_000_000_000 → verdict ones count ρ b ≡ answer 0 p
+      pub verdict-passed : (p : ℕ) → ticks π ρ b ≤ 1_000_000_000_000 → verdict π count ρ b ≡ answer 0 p
       unfolding verdict andThen answer asked tickLimit
-      verdict-passed p k = rw (l, blocks, le-leb (ticks ones ρ b) 1_000_000_000_000 k)
+      verdict-passed p k = rw (l, blocks, le-leb (ticks π ρ b) 1_000_000_000_000 k)

@@ -9,7 +9,8 @@ use Rattle.rules.specs.declared.Verdict.the-variants.{Passed as passed, Refused
 use Rattle.rules.specs.Ranges.{Env, atStart}
 use Rattle.rules.specs.Trips as trips
 use Rattle.rules.specs.Trips.{Trip, turnsOf, outerOf}
-use Rattle.rules.specs.Figures.{ones, loopTicks}
+use Rattle.rules.specs.declared.Prices.{Prices}
+use Rattle.rules.specs.Figures.{loopTicks}
 use Rattle.rules.specs.Questions.{ofTrip}
 use Rattle.table.specs.Code.{kindAt}
 use Rattle.steps.specs.Tree.{formOf, testOf}
@@ -30,20 +31,20 @@ abbrev pub tripAt : List Row → ℕ → ℕ → Env → Trip
 tripAt rows count i ρ = trips.trip (formOf (kindAt rows i)) (startAt rows i ρ) (testOf (kindAt rows i)) (bodyAt rows count i)
 
 -- the trip τ of the loop at row i has passed: its turns, its total, its line
-pub record Entry (i outer : ℕ) (k : Kind) (τ : Trip) (t : TallyLines) (e : Entered) (first : TallyLines) : Type 0 where
+pub record Entry (π : Prices) (i outer : ℕ) (k : Kind) (τ : Trip) (t : TallyLines) (e : Entered) (first : TallyLines) : Type 0 where
   pub verdict : ofTrip i τ ≡ passed
   pub turns : e .turns ≡ turnsOf τ
   pub total : e .total ≡ capped (e .turns * outer)
-  pub lined : Lined t i τ (e .turns) (e .total) (lastTicks k) first
+  pub lined : Lined t i τ (e .turns) (e .total) (lastTicks π k) first
 
 -- the loop at row i has been entered from the ranges ρ: r holds those at its start
-pub record EnteredAt (rows : List Row) (count i outer : ℕ) (ρ : Env) (t : TallyLines) (r : List (List ℤ)) (e : Entered) (first : TallyLines) : Type 0 where
+pub record EnteredAt (π : Prices) (rows : List Row) (count i outer : ℕ) (ρ : Env) (t : TallyLines) (r : List (List ℤ)) (e : Entered) (first : TallyLines) : Type 0 where
   pub begun : EnvIs r (startAt rows i ρ)
   pub one : LoopAt rows count i (startAt rows i ρ) (e .one)
   pub stopped : (first .number ≡ 0 → ⊥) → ofTrip i (tripAt rows count i ρ) ≡ refused (first .number) (first .place)
-  pub whole : first .number ≡ 0 → Entry i outer (kindAt rows i) (tripAt rows count i ρ) t e first
+  pub whole : first .number ≡ 0 → Entry π i outer (kindAt rows i) (tripAt rows count i ρ) t e first
 
 -- a loop has been left, ρ the ranges at its start: r holds those after it
-pub record LeftLoop (k : Kind) (one : Loop) (turns : ℕ) (t body : Tally) (ρ : Env) (r : List (List ℤ)) (x : Tally) : Type 0 where
+pub record LeftLoop (π : Prices) (k : Kind) (one : Loop) (turns : ℕ) (t body : Tally) (ρ : Env) (r : List (List ℤ)) (x : Tally) : Type 0 where
   pub env : EnvIs r (widened one (outerOf (tripOf (one .trip))) ρ)
-  pub closed : (B : ℕ) → body .spent ≡ capped B → (ks ls : List (List ℕ)) → Closed (withLines t ks) (withLines body ls) (one .next) (capped (loopTicks ones (formOf k) turns B)) (withLines x ls)
+  pub closed : (B : ℕ) → body .spent ≡ capped B → (ks ls : List (List ℕ)) → Closed (withLines t ks) (withLines body ls) (one .next) (capped (loopTicks π (formOf k) turns B)) (withLines x ls)

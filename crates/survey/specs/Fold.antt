@@ -8,7 +8,9 @@ use Rattle.rules.specs.declared.Kind.{Kind}
 use Rattle.rules.specs.Blocks.{Last, no-step, step-by, Block, done, plain, pick, loop}
 use Rattle.rules.specs.Ranges.{Env}
 use Rattle.rules.specs.Trips.{Trip, isExact, after}
-use Rattle.rules.specs.Figures.{ones, ticks, Line, lines}
+use Rattle.rules.specs.Bounds.{FinePrices}
+use Rattle.rules.specs.declared.Prices.{Prices}
+use Rattle.rules.specs.Figures.{price, ticks, Line, lines}
 use Rattle.rules.specs.declared.Verdict.{Verdict}
 use Rattle.rules.specs.declared.Verdict.the-variants.{Passed as passed, Refused as refused}
 use Rattle.rules.specs.Questions.{andThen, loopsVerdict, blocksVerdict}
@@ -41,12 +43,12 @@ pub record State : Type 0 where
   pub lines : List Line
   pub loops : ℕ
 
-unfoldable pub folded : ℕ → State → Block → State
-folded outer x b = record {
+unfoldable pub folded : Prices → ℕ → State → Block → State
+folded π outer x b = record {
   env = after (x .env) b;
   verdict = andThen (x .verdict) (loopsVerdict (x .env) b);
-  spent = capped (x .spent + ticks ones (x .env) b);
-  over = andThen (x .over) (blocksVerdict ones (x .env) b);
+  spent = capped (x .spent + ticks π (x .env) b);
+  over = andThen (x .over) (blocksVerdict π (x .env) b);
   lines = x .lines ++ cuts (lines outer (x .env) b);
   loops = x .loops + loopCount b;
 }
@@ -69,12 +71,12 @@ abbrev pub tallied : TallyLines → Env → State
 tallied t ρ = record { env = ρ; verdict = passed; spent = t .spent; over = overOf (t .over); lines = firstLines (t .lines) (t .loops); loops = t .loops }
 
 -- a for's step row is the last row of its body
-abbrev pub rowsIn : Last → ℕ
-rowsIn no-step = 0
-rowsIn (step-by p) = 1
+abbrev pub lastPrice : Prices → Last → ℕ
+lastPrice π no-step = 0
+lastPrice π (step-by p) = price π p
 
-abbrev pub lastTicks : Kind → ℕ
-lastTicks k = rowsIn (headOf k .last)
+abbrev pub lastTicks : Prices → Kind → ℕ
+lastTicks π k = lastPrice π (headOf k .last)
 
 pub record Restarted (t : TallyLines) (spent : ℕ) (r : TallyLines) : Type 0 where
   pub same : r .lines ≡ t .lines
@@ -109,16 +111,17 @@ pub record EndedAt (t : TallyLines) (i : ℕ) (r : TallyLines) : Type 0 where
   pub next : r .next ≡ i
 
 -- what the walk asks
-pub record Walkable (rows : List Row) (count at outer : ℕ) (t : TallyLines) : Type 0 where
+pub record Walkable (π : Prices) (rows : List Row) (count at outer : ℕ) (t : TallyLines) : Type 0 where
   pub ready : Ready rows count at
+  pub prices : FinePrices π
   pub small : t .spent ≤ 1_000_000_000_001
   pub times : outer ≤ 1_000_000_000_001
   pub room : t .loops + loopCount (blockAt rows count at) ≤ 16
   pub long : length (t .lines) ≡ 16
 
 -- what it gives: no loop refused
-pub record Passed (rows : List Row) (count at : ℕ) (ρ : Env) (outer : ℕ) (t r : TallyLines) : Type 0 where
-  pub value : tallied r (after ρ (blockAt rows count at)) ≡ folded outer (tallied t ρ) (blockAt rows count at)
+pub record Passed (π : Prices) (rows : List Row) (count at : ℕ) (ρ : Env) (outer : ℕ) (t r : TallyLines) : Type 0 where
+  pub value : tallied r (after ρ (blockAt rows count at)) ≡ folded π outer (tallied t ρ) (blockAt rows count at)
   pub place : r .next ≡ endAt rows count at
   pub low : at ≤ r .next
   pub high : r .next ≤ count
@@ -126,6 +129,6 @@ pub record Passed (rows : List Row) (count at : ℕ) (ρ : Env) (outer : ℕ) (t
   pub long : length (r .lines) ≡ 16
 
 -- or the first loop refused
-pub record Surveyed (rows : List Row) (count at : ℕ) (ρ : Env) (outer : ℕ) (t r : TallyLines) : Type 0 where
-  pub stopped : (r .number ≡ 0 → ⊥) → folded outer (tallied t ρ) (blockAt rows count at) .verdict ≡ refused (r .number) (r .place)
-  pub whole : r .number ≡ 0 → Passed rows count at ρ outer t r
+pub record Surveyed (π : Prices) (rows : List Row) (count at : ℕ) (ρ : Env) (outer : ℕ) (t r : TallyLines) : Type 0 where
+  pub stopped : (r .number ≡ 0 → ⊥) → folded π outer (tallied t ρ) (blockAt rows count at) .verdict ≡ refused (r .number) (r .place)
+  pub whole : r .number ≡ 0 → Passed π rows count at ρ outer t r

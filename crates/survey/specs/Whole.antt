@@ -3,7 +3,7 @@ use mathlib.Core.Path.{_≡_}
 use mathlib.Core.List.{List}
 use Prim.Native.Nat.{ℕ, _≤_, _<_}
 use lib.ListN.{length}
-use Rattle.rules.specs.Figures.{ones}
+use Rattle.rules.specs.declared.Prices.{Prices}
 use Rattle.rules.specs.Questions.{verdict}
 use Rattle.rules.specs.Scripts.{Script, envOf, treeOf, reportTicks, reportLines}
 use Rattle.lines.specs.Coded.{firstLines}
@@ -20,9 +20,9 @@ pub data FirstNo (t : Tally) (count : ℕ) (r : Refusal) : Type 0 where
   none : t .number ≡ 0 → 256 ≤ t .over → t .spent ≤ 1_000_000_000_000 → r .number ≡ 0 → FirstNo t count r
 
 -- number and place are the verdict; of an accepted file, the ticks and the lines are the report's, and of a refused one there are none
-pub record SurveyOf (script : Script) (rows : ℕ) (s : Figures) (table : List (List ℕ)) : Type 0 where
-  pub verdict : verdict ones rows (envOf (script .ranges)) (treeOf (script .rows)) ≡ answer (s .number) (s .place)
-  pub ticks : s .number ≡ 0 → s .ticks ≡ reportTicks ones script
+pub record SurveyOf (π : Prices) (script : Script) (rows : ℕ) (s : Figures) (table : List (List ℕ)) : Type 0 where
+  pub verdict : verdict π rows (envOf (script .ranges)) (treeOf (script .rows)) ≡ answer (s .number) (s .place)
+  pub ticks : s .number ≡ 0 → s .ticks ≡ reportTicks π script
   pub loops : s .number ≡ 0 → s .loops ≤ 16
   pub long : s .number ≡ 0 → length table ≡ 16
   pub lines : s .number ≡ 0 → firstLines table (s .loops) ≡ reportLines script

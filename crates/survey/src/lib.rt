@@ -8,10 +8,13 @@ use ranges::outside;
 use ranges::step_row;
 use rules::Kind;
 use rules::LoopLine;
+use rules::Prices;
 use table::Shape;
+use table::Tag;
 use table::kind_at;
 use table::past_else;
 use table::shape_at;
+use table::tag_at;
 use ticks::LIMIT;
 use ticks::first_over;
 use ticks::loop_ticks;
@@ -27,11 +30,13 @@ ghost use mathlib.Core.Path.{_≡_};
 ghost use mathlib.Core.List.{List};
 ghost use Prim.Native.Nat.{ℕ, _+_, _≤_, _<_, max};
 ghost use lib.ListN.{length};
-ghost use Rattle.rules.specs.Bounds.{Ends};
+ghost use Rattle.rules.specs.Bounds.{Ends, FinePrices};
+ghost use Rattle.rules.specs.Figures.{price};
 ghost use Rattle.rules.specs.Ranges.{join};
 ghost use Rattle.rules.specs.Trips.{after};
 ghost use Rattle.rules.specs.Scripts.{scriptOf, BlankFrom, Legal};
 ghost use Rattle.table.specs.Code.{kindAt, rowsOf};
+ghost use Rattle.table.specs.Shapes.{shapeOf, plainOf};
 ghost use Rattle.steps.specs.Tree.{blockAt, Ready};
 ghost use Rattle.steps.specs.Body.{AtLoop};
 ghost use Rattle.trips.specs.Env.{envOf};
@@ -76,12 +81,23 @@ fn larger(x: u64, y: u64) -> u64
     if x <= y { y } else { x }
 }
 
+// The price of the plain row i.
+fn plain_price(rows: &[[u32; 9]; 256], i: usize, prices: Prices) -> u64
+    requires { ⌜ (i < 256) × (shapeOf (kindAt (rowsOf (now rows)) i) ≡ Shape.Plain) ⌝ }
+    ensures { λ r. ⌜ r ≡ price prices (plainOf (kindAt (rowsOf (now (rows .entry))) i)) ⌝ }
+{
+    match tag_at(rows, i) {
+        Tag::Cue => prices.cue,
+        _ => prices.arithmetic,
+    }
+}
+
 // A for's step row is the last row of its body.
-fn last_ticks(kind: Kind) -> u64
-    ensures { λ r. ⌜ r ≡ lastTicks kind ⌝ }
+fn last_ticks(kind: Kind, prices: Prices) -> u64
+    ensures { λ r. ⌜ r ≡ lastTicks prices kind ⌝ }
 {
     match kind {
-        Kind::For(_, _, _, _, _) => 1,
+        Kind::For(_, _, _, _, _) => prices.arithmetic,
         _ => 0,
     }
 }
@@ -190,12 +206,13 @@ fn enter_loop(
     count: usize,
     i: usize,
     outer: u64,
+    prices: Prices,
     lines: &mut [[u64; 7]; 16],
     t: Tally,
     r: &mut [[i32; 2]; 16],
 ) -> Entered
     requires { ⌜ AtLoop (rowsOf (now rows)) count i × (outer ≤ 1_000_000_000_001) × (t .loops < 16) × (length (now lines) ≡ 16) × (length (now r) ≡ 16) ⌝ }
-    ensures { λ e. ⌜ EnteredAt (rowsOf (now (rows .entry))) count i outer (envOf (now (r .entry))) (withLines t (now (lines .entry))) (now (r .exit)) e (withLines (e .first) (now (lines .exit))) ⌝ }
+    ensures { λ e. ⌜ EnteredAt prices (rowsOf (now (rows .entry))) count i outer (envOf (now (r .entry))) (withLines t (now (lines .entry))) (now (r .exit)) e (withLines (e .first) (now (lines .exit))) ⌝ }
 {
     let kind = kind_at(rows, i);
     at_start(r, kind);
@@ -210,7 +227,7 @@ fn enter_loop(
         },
         Figure::Turns(turns) => {
             let total = times(turns, outer);
-            let first = lined(lines, t, i, trip, turns, total, last_ticks(kind));
+            let first = lined(lines, t, i, trip, turns, total, last_ticks(kind, prices));
             Entered {
                 one: one,
                 turns: turns,
@@ -227,27 +244,28 @@ fn leave_loop(
     i: usize,
     one: Loop,
     turns: u64,
+    prices: Prices,
     t: Tally,
     body: Tally,
     r: &mut [[i32; 2]; 16],
 ) -> Tally
-    requires { ⌜ (i < 256) × (one .tested < 16) × (one .next < 256) × (t .spent ≤ 1_000_000_000_001) × (body .spent ≤ 1_000_000_000_001) × (length (now r) ≡ 16) ⌝ }
-    ensures { λ x. ⌜ LeftLoop (kindAt (rowsOf (now (rows .entry))) i) one turns t body (envOf (now (r .entry))) (now (r .exit)) x ⌝ }
+    requires { ⌜ (i < 256) × (one .tested < 16) × (one .next < 256) × (t .spent ≤ 1_000_000_000_001) × (body .spent ≤ 1_000_000_000_001) × (length (now r) ≡ 16) × FinePrices prices ⌝ }
+    ensures { λ x. ⌜ LeftLoop prices (kindAt (rowsOf (now (rows .entry))) i) one turns t body (envOf (now (r .entry))) (now (r .exit)) x ⌝ }
 {
     outside(r, one);
     let e = one.next;
-    let ticks = loop_ticks(kind_at(rows, i), turns, body.spent);
+    let ticks = loop_ticks(kind_at(rows, i), prices, turns, body.spent);
     closed(t, body, e, ticks)
 }
 
 // What is found after a pick whose parts found a and b.
-fn leave_pick(t: Tally, a: Tally, b: Tally) -> Tally
-    requires { ⌜ (b .next < 256) × (t .spent ≤ 1_000_000_000_001) × (a .spent ≤ 1_000_000_000_001) × (b .spent ≤ 1_000_000_000_001) ⌝ }
-    ensures { λ r. ⌜ ((ks ls : List (List ℕ)) → Closed (withLines t ks) (withLines b ls) (b .next) (capped (1 + max (a .spent) (b .spent))) (withLines r ls)) ⌝ }
+fn leave_pick(price: u64, t: Tally, a: Tally, b: Tally) -> Tally
+    requires { ⌜ (price ≤ 1_000) × (b .next < 256) × (t .spent ≤ 1_000_000_000_001) × (a .spent ≤ 1_000_000_000_001) × (b .spent ≤ 1_000_000_000_001) ⌝ }
+    ensures { λ r. ⌜ ((ks ls : List (List ℕ)) → Closed (withLines t ks) (withLines b ls) (b .next) (capped (price + max (a .spent) (b .spent))) (withLines r ls)) ⌝ }
 {
     let e = b.next;
     let both = larger(a.spent, b.spent);
-    closed(t, b, e, plus(1, both))
+    closed(t, b, e, plus(price, both))
 }
 
 // The block that starts at row `at`: its rows from the first, nested blocks by the same walk.
@@ -257,11 +275,12 @@ fn walk(
     at: usize,
     start: [[i32; 2]; 16],
     outer: u64,
+    prices: Prices,
     lines: &mut [[u64; 7]; 16],
     from: Tally,
 ) -> Tally
-    requires { ⌜ Walkable (rowsOf (now rows)) count at outer (withLines from (now lines)) ⌝ }
-    ensures { λ r. ⌜ Surveyed (rowsOf (now (rows .entry))) count at (envOf start) outer (withLines from (now (lines .entry))) (withLines r (now (lines .exit))) ⌝ }
+    requires { ⌜ Walkable prices (rowsOf (now rows)) count at outer (withLines from (now lines)) ⌝ }
+    ensures { λ r. ⌜ Surveyed prices (rowsOf (now (rows .entry))) count at (envOf start) outer (withLines from (now (lines .entry))) (withLines r (now (lines .exit))) ⌝ }
 {
     let mut r = start;
     let mut t = from;
@@ -270,26 +289,35 @@ fn walk(
         match shape_at(rows, i) {
             Shape::Plain => {
                 step_row(&mut r, rows, i);
-                t.spent = plus(t.spent, 1);
+                t.spent = plus(t.spent, plain_price(rows, i, prices));
                 i = i + 1;
             }
             Shape::Branch => {
-                let a = walk(rows, count, i + 1, r, outer, lines, restarted(t, 0));
+                let a = walk(rows, count, i + 1, r, outer, prices, lines, restarted(t, 0));
                 if a.number != 0 {
                     return a;
                 }
                 let second = past_else(rows, a.next);
-                let b = walk(rows, count, second, r, outer, lines, restarted(a, 0));
+                let b = walk(
+                    rows,
+                    count,
+                    second,
+                    r,
+                    outer,
+                    prices,
+                    lines,
+                    restarted(a, 0),
+                );
                 if b.number != 0 {
                     return b;
                 }
                 let x = after_pick(rows, count, i + 1, second, r);
                 r = x;
-                t = leave_pick(t, a, b);
+                t = leave_pick(prices.pick, t, a, b);
                 i = b.next + 1;
             }
             Shape::Loop => {
-                let entered = enter_loop(rows, count, i, outer, lines, t, &mut r);
+                let entered = enter_loop(rows, count, i, outer, prices, lines, t, &mut r);
                 let one = entered.one;
                 let first = entered.first;
                 if first.number != 0 {
@@ -297,11 +325,20 @@ fn walk(
                 }
                 let mut begun = r;
                 inside(&mut begun, one);
-                let body = walk(rows, count, i + 1, begun, entered.total, lines, first);
+                let body = walk(
+                    rows,
+                    count,
+                    i + 1,
+                    begun,
+                    entered.total,
+                    prices,
+                    lines,
+                    first,
+                );
                 if body.number != 0 {
                     return body;
                 }
-                t = leave_loop(rows, i, one, entered.turns, t, body, &mut r);
+                t = leave_loop(rows, i, one, entered.turns, prices, t, body, &mut r);
                 i = one.next + 1;
             }
             Shape::Close => {
@@ -360,10 +397,11 @@ pub fn survey(
     count: usize,
     ranges: [[i32; 2]; 16],
     vars: usize,
+    prices: Prices,
     lines: &mut [[u64; 7]; 16],
 ) -> Figures
-    requires { ⌜ Legal (scriptOf ranges vars (rowsOf (now rows)) count) × (count ≤ 256) × (count ≤ length (now rows)) × BlankFrom vars ranges × (length (now lines) ≡ 16) ⌝ }
-    ensures { λ r. ⌜ SurveyOf (scriptOf ranges vars (rowsOf (now (rows .entry))) count) count r (now (lines .exit)) ⌝ }
+    requires { ⌜ Legal (scriptOf ranges vars (rowsOf (now rows)) count) × (count ≤ 256) × (count ≤ length (now rows)) × BlankFrom vars ranges × FinePrices prices × (length (now lines) ≡ 16) ⌝ }
+    ensures { λ r. ⌜ SurveyOf prices (scriptOf ranges vars (rowsOf (now (rows .entry))) count) count r (now (lines .exit)) ⌝ }
 {
     let empty = Tally {
         number: 0,
@@ -373,7 +411,7 @@ pub fn survey(
         loops: 0,
         next: 0,
     };
-    let t = walk(rows, count, 0, ranges, 1, lines, empty);
+    let t = walk(rows, count, 0, ranges, 1, prices, lines, empty);
     let no = first_no(t, count);
     if no.number != 0 {
         return Figures {

@@ -13,7 +13,9 @@ use lib.Dec.{leb}
 use Rattle.rules.specs.declared.Kind.{Kind}
 use Rattle.rules.specs.declared.Kind.the-variants.{Set, Move, Cue, Pick, Else, End, While, Do, For}
 use Rattle.rules.specs.Blocks.{Form, while, do-while, for, viewOf}
-use Rattle.rules.specs.Figures.{ones, loopTicks}
+use Rattle.rules.specs.Bounds.{FinePrices}
+use Rattle.rules.specs.declared.Prices.{Prices}
+use Rattle.rules.specs.Figures.{loopTicks}
 use Rattle.rules.specs.declared.Verdict.the-variants.{Passed as passed}
 use Rattle.rules.specs.Questions.{andThen, asked, tickLimit}
 use Rattle.steps.specs.Tree.{formOf, headOf}
@@ -38,36 +40,36 @@ cap-mul (suc n) b = go (leb b most) refl
         rw h (omega (arith, past (suc n) most (omega arith) (omega arith), past (suc n) b (omega arith) (omega arith)))
 
 -- the turns of a body, from capped figures
-pub turns-of : (n b B p x : ℕ) → b ≡ capped B → p ≡ capped (b + 1) → x ≡ capped (n * p) → x ≡ capped (n * (B + 1))
-turns-of n b B p x h k l = let q : p ≡ capped (B + 1) = omega arith in l ∙ (rw q (cap-mul n (B + 1)))
+pub turns-of : (t n b B p x : ℕ) → b ≡ capped B → p ≡ capped (b + t) → x ≡ capped (n * p) → x ≡ capped (n * (B + t))
+turns-of t n b B p x h k l = let q : p ≡ capped (B + t) = omega arith in l ∙ (rw q (cap-mul n (B + t)))
 
 -- the ticks of a loop: its turns, and what an entry takes beside them
-pub loop-ticks-is : (form : Form) (n b : ℕ) → loopTicks ones form n b ≡ n * (b + 1) + once form
+pub loop-ticks-is : (π : Prices) (form : Form) (n b : ℕ) → loopTicks π form n b ≡ n * (b + π .test) + once π form
 unfolding loopTicks
-loop-ticks-is while n b = refl
-loop-ticks-is do-while n b = omega arith
-loop-ticks-is (for x) n b = omega arith
+loop-ticks-is π while n b = refl
+loop-ticks-is π do-while n b = omega arith
+loop-ticks-is π (for x) n b = omega arith
 
 -- any row but a do or a for
 abbrev one-test : List ℕ
 one-test = 0 ∷ 1 ∷ 2 ∷ 3 ∷ 4 ∷ 5 ∷ 6 ∷ []
 
-pub once-one : (k : Kind) → OneOf one-test (tagOf the-type k) → 1 ≡ once (formOf k)
+pub once-one : (π : Prices) (k : Kind) → OneOf one-test (tagOf the-type k) → π .test ≡ once π (formOf k)
 unfolding headOf viewOf
-once-one (Set v x) o = refl
-once-one (Move v c) o = refl
-once-one (Cue n) o = refl
-once-one Pick o = refl
-once-one Else o = refl
-once-one End o = refl
-once-one (While v c x) o = refl
-once-one (Do v c x) o = absurd (miss one-test 7 tt o)
-once-one (For v s c x d) o = absurd (miss one-test 8 tt o)
+once-one π (Set v x) o = refl
+once-one π (Move v c) o = refl
+once-one π (Cue n) o = refl
+once-one π Pick o = refl
+once-one π Else o = refl
+once-one π End o = refl
+once-one π (While v c x) o = refl
+once-one π (Do v c x) o = absurd (miss one-test 7 tt o)
+once-one π (For v s c x d) o = absurd (miss one-test 8 tt o)
 
-pub once-small : (form : Form) → once form ≤ 2
-once-small while = omega arith
-once-small do-while = omega arith
-once-small (for x) = omega arith
+pub once-small : {π : Prices} → FinePrices π → (form : Form) → once π form ≤ 2_000
+once-small fine while = omega arith
+once-small fine do-while = omega arith
+once-small fine (for x) = omega arith
 
 -- ---- the first block over the limit
 module _ (over e ticks F : ℕ) (h : ticks ≡ capped F) where

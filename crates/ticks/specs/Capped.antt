@@ -1,9 +1,10 @@
 -- Ticks in the code: a number above the limit of question 13 counts as the first one above it.
 use mathlib.Core.Path.{_≡_}
 use mathlib.Core.Bool.{cond}
-use Prim.Native.Nat.{ℕ, min}
+use Prim.Native.Nat.{ℕ, _+_, min}
 use lib.Dec.{ltb, leb}
 use Rattle.rules.specs.Blocks.{Form, while, do-while, for}
+use Rattle.rules.specs.declared.Prices.{Prices}
 use Rattle.rules.specs.declared.Verdict.{Verdict}
 use Rattle.rules.specs.declared.Verdict.the-variants.{Passed as passed, Refused as refused}
 use Rattle.rules.specs.Questions.{andThen, asked, tickLimit}
@@ -12,10 +13,10 @@ abbrev pub capped : ℕ → ℕ
 capped n = min n 1_000_000_000_001
 
 -- what an entry takes beside its turns
-abbrev pub once : Form → ℕ
-once while = 1
-once do-while = 0
-once (for x) = 2
+abbrev pub once : Prices → Form → ℕ
+once π while = π .test
+once π do-while = 0
+once π (for x) = π .arithmetic + π .test
 
 -- the first block over the limit, as a verdict; 256 and more: none
 unfoldable pub overOf : ℕ → Verdict

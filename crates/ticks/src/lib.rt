@@ -1,8 +1,10 @@
 // Ticks: sums and products that stop just past the limit of question 13, the ticks of a loop, the first block over the limit.
 use rules::Kind;
+use rules::Prices;
 ghost use mathlib.Core.Path.{_≡_};
 ghost use Prim.Native.Nat.{ℕ, _+_, _*_, _≤_, _<_};
-ghost use Rattle.rules.specs.Figures.{ones, loopTicks};
+ghost use Rattle.rules.specs.Bounds.{FinePrices};
+ghost use Rattle.rules.specs.Figures.{loopTicks};
 ghost use Rattle.steps.specs.Tree.{formOf};
 ghost use Rattle.ticks.specs.Capped.{capped, once, OverOf};
 
@@ -28,23 +30,24 @@ pub fn times(n: u64, b: u64) -> u64
 }
 
 // What an entry takes beside its turns: a while its last test, a for its start too, a do nothing.
-fn besides(kind: Kind) -> u64
-    ensures { λ r. ⌜ r ≡ once (formOf kind) ⌝ }
+fn besides(kind: Kind, prices: Prices) -> u64
+    requires { ⌜ FinePrices prices ⌝ }
+    ensures { λ r. ⌜ r ≡ once prices (formOf kind) ⌝ }
 {
     match kind {
         Kind::Do(_, _, _) => 0,
-        Kind::For(_, _, _, _, _) => 2,
-        _ => 1,
+        Kind::For(_, _, _, _, _) => prices.arithmetic + prices.test,
+        _ => prices.test,
     }
 }
 
 // The ticks of a loop of n turns, b those of its body.
-pub fn loop_ticks(kind: Kind, n: u64, b: u64) -> u64
-    requires { ⌜ b ≤ 1_000_000_000_001 ⌝ }
-    ensures { λ r. ⌜ ((B : ℕ) → b ≡ capped B → r ≡ capped (loopTicks ones (formOf kind) n B)) ⌝ }
+pub fn loop_ticks(kind: Kind, prices: Prices, n: u64, b: u64) -> u64
+    requires { ⌜ FinePrices prices × (b ≤ 1_000_000_000_001) ⌝ }
+    ensures { λ r. ⌜ ((B : ℕ) → b ≡ capped B → r ≡ capped (loopTicks prices (formOf kind) n B)) ⌝ }
 {
-    let all = times(n, plus(b, 1));
-    plus(all, besides(kind))
+    let all = times(n, plus(b, prices.test));
+    plus(all, besides(kind, prices))
 }
 
 // The limit of question 13.

@@ -1,4 +1,4 @@
--- The words of a person at the desk: numbers, values of the store, an allowance, picks. A number is written as in a script.
+-- The words of a person at the desk: numbers, values of the store, prices, an allowance, picks. A number is written as in a script.
 use mathlib.Core.Path.{_≡_}
 use mathlib.Core.Bool.{Bool, true, false, not, cond, _&&_}
 use mathlib.Core.List.{List, [], _∷_}
@@ -51,6 +51,16 @@ keptIn values.the-variants.Malformed store at = store
 abbrev pub isValue : values.Value → Bool
 isValue (values.the-variants.Is x) = true
 isValue values.the-variants.Malformed = false
+
+-- a number of 32 bits, as a price is lent
+abbrev pub isPrice : numbers.Number → Bool
+isPrice (numbers.the-variants.Is n) = leb n 4_294_967_295
+isPrice numbers.the-variants.Malformed = false
+
+-- prices with that one at a place
+abbrev pub pricedIn : numbers.Number → List ℕ → ℕ → List ℕ
+pricedIn (numbers.the-variants.Is n) prices at = cond (leb n 4_294_967_295) (set prices at n) prices
+pricedIn numbers.the-variants.Malformed prices at = prices
 
 -- `plan`
 abbrev pub planWord : List ℕ

@@ -1,11 +1,11 @@
-// Numbers and picks as words. A number is written as in a script: no plus, no leading zeros, `-` only before a non-zero number.
+// Numbers, prices and picks as words. A number is written as in a script: no plus, no leading zeros, `-` only before a non-zero number.
 use text::starts_with;
 ghost use mathlib.Core.Path.{_≡_};
 ghost use mathlib.Core.Bool.{true, cond};
-ghost use Prim.Native.Nat.{_≤_, min};
+ghost use Prim.Native.Nat.{_≤_, _<_, min};
 ghost use lib.ListN.{length};
 ghost use Rattle.rules.specs.Text.{equals};
-ghost use Rattle.words.specs.Words.{digitOf, spelledIn, numberIn, upwardOf, downwardOf, valueIn, keptIn, isValue, planWord, allowanceIn, isNone, allBits, bitsOf, PutPicks};
+ghost use Rattle.words.specs.Words.{digitOf, spelledIn, numberIn, upwardOf, downwardOf, valueIn, keptIn, isValue, isPrice, pricedIn, planWord, allowanceIn, isNone, allBits, bitsOf, PutPicks};
 
 // A word that is a number, or is none.
 pub enum Number {
@@ -130,8 +130,26 @@ pub fn keep_value(word: &[u8], store: &mut [i32], at: usize) -> bool
     }
 }
 
+// Keeps the price that the word is at its place; false if the word is no number of 32 bits.
+pub fn keep_price(word: &[u8], prices: &mut [u32], at: usize) -> bool
+    requires { ⌜ at < length (now prices) ⌝ }
+    ensures { λ r. ⌜ (r ≡ isPrice (numberIn (now (word .entry)))) × (now (prices .exit) ≡ pricedIn (numberIn (now (word .entry))) (now (prices .entry)) at) ⌝ }
+{
+    let n = read_number(word);
+    match n {
+        Number::Is(p) => {
+            if p > 4_294_967_295 {
+                return false;
+            }
+            prices[at] = p as u32;
+            true
+        }
+        Number::Malformed => false,
+    }
+}
+
 // Whether a word is this one.
-fn is_word(word: &[u8], one: &[u8]) -> bool
+pub fn is_word(word: &[u8], one: &[u8]) -> bool
     ensures { λ r. ⌜ r ≡ equals (now (one .entry)) (now (word .entry)) ⌝ }
 {
     if word.len() == one.len() {

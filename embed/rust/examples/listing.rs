@@ -6,10 +6,10 @@ fn main() {
     std::io::stdin().read_to_end(&mut file).unwrap();
     let mut scratch = vec![0; diftanew::SCRATCH];
     let mut buffer = [0; diftanew::REPORT];
-    let length = diftanew::report(&file, &mut scratch, &mut buffer).expect("refused");
+    let length = diftanew::report(&file, &diftanew::ONES, &mut scratch, &mut buffer).expect("refused");
     std::io::stdout().write_all(&buffer[..length]).unwrap();
     let mut store = [0, 1];
-    let run = diftanew::run(&file, &mut scratch, &mut store, &[], 65).expect("refused");
+    let run = diftanew::run(&file, &diftanew::ONES, &mut scratch, &mut store, &[], 65).expect("refused");
     println!("ending={} {}\nticks={}\nused={}\nstore={} {}", run.ending as u8, run.row, run.ticks, run.used, store[0], store[1]);
     for l in run.loops {
         println!("loop={} {} {}", l.row, l.all, l.most);

@@ -10,6 +10,10 @@ pub const SCRATCH: usize = 8_192;
 /// The longest file that is taken.
 pub const FILE: usize = 16_384;
 
+/// Four ones: every row takes one tick. A list of prices has the ticks of arithmetic (set, for starts and for steps with it), cue, pick and
+/// test, each 1 to 1,000.
+pub const ONES: [u32; 4] = [1; 4];
+
 /// No report is longer: a buffer of so many bytes holds every one.
 pub const REPORT: usize = 2_089;
 
@@ -50,10 +54,12 @@ pub enum Question {
     Buffer = 14,
     /// The store does not fit the ranges.
     Store = 15,
+    /// A price is wrong, missing or extra; asked after the scratch and before the file.
+    Price = 16,
 }
 
 impl Question {
-    const ALL: [Question; 15] = [
+    const ALL: [Question; 16] = [
         Question::Scratch,
         Question::File,
         Question::Shape,
@@ -69,6 +75,7 @@ impl Question {
         Question::Ticks,
         Question::Buffer,
         Question::Store,
+        Question::Price,
     ];
 
     /// The question's number.
@@ -132,19 +139,19 @@ impl Run {
     }
 }
 
-/// Writes the report of `file` to the front of `buffer` and answers its length. Refused, the buffer is untouched.
-pub fn report(file: &[u8], scratch: &mut [u32], buffer: &mut [u8]) -> Result<usize, Refused> {
+/// Writes the report of `file` with these prices to the front of `buffer` and answers its length. Refused, the buffer is untouched.
+pub fn report(file: &[u8], prices: &[u32], scratch: &mut [u32], buffer: &mut [u8]) -> Result<usize, Refused> {
     let mut place = 0;
-    match numbers::report(file, scratch, buffer, &mut place) {
+    match numbers::report(file, prices, scratch, buffer, &mut place) {
         0 => Ok(place as usize),
         number => Err(Refused::of(number, place)),
     }
 }
 
-/// Runs `file` on `store`. Refused, the store is untouched.
-pub fn run(file: &[u8], scratch: &mut [u32], store: &mut [i32], picks: &[u8], allowance: u64) -> Result<Run, Refused> {
+/// Runs `file` with these prices on `store`. Refused, the store is untouched.
+pub fn run(file: &[u8], prices: &[u32], scratch: &mut [u32], store: &mut [i32], picks: &[u8], allowance: u64) -> Result<Run, Refused> {
     let mut answer = [0; ANSWER];
-    match numbers::run(file, scratch, store, picks, allowance, &mut answer) {
+    match numbers::run(file, prices, scratch, store, picks, allowance, &mut answer) {
         0 => Ok(Run::of(&answer)),
         number => Err(Refused::of(number, answer[0])),
     }

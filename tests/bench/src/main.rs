@@ -2,7 +2,7 @@
 //! input; the answers are compared before anything is timed.
 
 use diftanew::numbers::{self, ANSWER};
-use oracle::{Ending, SCRATCH};
+use oracle::{Ending, ONES, SCRATCH};
 use std::hint::black_box;
 use std::time::{Duration, Instant};
 
@@ -129,18 +129,18 @@ impl Bench {
     fn report(&mut self, name: &str, file: &[u8]) {
         let (mut ours, mut theirs) = (vec![0; 2_048], vec![0; 2_048]);
         let mut place = 0;
-        let number = numbers::report(file, &mut self.scratch, &mut theirs, &mut place);
-        let expected = oracle::report_into(file, SCRATCH, &mut ours).map_or_else(|r| r, |length| (0, length));
+        let number = numbers::report(file, &ONES, &mut self.scratch, &mut theirs, &mut place);
+        let expected = oracle::report_into(file, &ONES, SCRATCH, &mut ours).map_or_else(|r| r, |length| (0, length));
         assert_eq!((number, place), expected, "{name}");
         assert!(ours == theirs, "{name}");
         let scratch = &mut self.scratch;
         let (library, oracle) = time(
             self.quick,
             || {
-                black_box(numbers::report(black_box(file), scratch, &mut theirs, &mut place));
+                black_box(numbers::report(black_box(file), &ONES, scratch, &mut theirs, &mut place));
             },
             || {
-                let _ = black_box(oracle::report_into(black_box(file), SCRATCH, &mut ours));
+                let _ = black_box(oracle::report_into(black_box(file), &ONES, SCRATCH, &mut ours));
             },
         );
         let (bytes, answer) = (file.len(), if number == 0 { "accepted".into() } else { format!("refused {number}") });
@@ -150,8 +150,8 @@ impl Bench {
     fn run(&mut self, name: &str, file: &[u8], store: &[i32], picks: &[u8]) {
         let mut answer = [0; ANSWER];
         let (mut ours, mut theirs) = (store.to_vec(), store.to_vec());
-        let number = numbers::run(file, &mut self.scratch, &mut theirs, picks, u64::MAX, &mut answer);
-        let (counts, loops) = oracle::run_counts(file, SCRATCH, &mut ours, picks, u64::MAX).expect(name);
+        let number = numbers::run(file, &ONES, &mut self.scratch, &mut theirs, picks, u64::MAX, &mut answer);
+        let (counts, loops) = oracle::run_counts(file, &ONES, SCRATCH, &mut ours, picks, u64::MAX).expect(name);
         assert_eq!(counts.ending, Ending::Ended, "{name}");
         let first = [0, counts.row as u64, counts.ticks, counts.used as u64, loops as u64, 0, counts.all[0], counts.most[0]];
         assert_eq!((number, &answer[..8]), (0, &first[..]), "{name}");
@@ -161,11 +161,11 @@ impl Bench {
             self.quick,
             || {
                 theirs.copy_from_slice(store);
-                black_box(numbers::run(black_box(file), scratch, &mut theirs, picks, u64::MAX, &mut answer));
+                black_box(numbers::run(black_box(file), &ONES, scratch, &mut theirs, picks, u64::MAX, &mut answer));
             },
             || {
                 ours.copy_from_slice(store);
-                let _ = black_box(oracle::run_counts(black_box(file), SCRATCH, &mut ours, picks, u64::MAX));
+                let _ = black_box(oracle::run_counts(black_box(file), &ONES, SCRATCH, &mut ours, picks, u64::MAX));
             },
         );
         self.line(&format!("run: {name}, {} ticks", counts.ticks), library, oracle);

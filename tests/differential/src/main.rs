@@ -7,15 +7,15 @@ mod stack;
 mod vectors;
 
 use diftanew::numbers::{self, ANSWER};
-use generate::{allowance, any_store, case, picks, store, Rng, SEED};
-use oracle::{Ending, Plan, Refusal, Run, SCRATCH};
+use generate::{allowance, any_store, case, picks, store, wrong_prices, Case, Rng, SEED};
+use oracle::{Ending, Plan, Refusal, Run, ONES, SCRATCH};
 use stack::Stack;
 use std::path::Path;
 use std::process::exit;
 use std::time::Instant;
-use vectors::Call;
+use vectors::{Call, Kind};
 
-/// The longest run that is waited for where the plan is longer.
+/// The longest run, in rows, that is waited for where the plan is longer.
 const LONGEST: u64 = 30_000;
 /// Bytes and numbers before and after everything lent, which must keep their values.
 const GUARD: usize = 64;
@@ -49,7 +49,7 @@ impl<T: Copy + PartialEq> Room<T> {
 #[derive(Default)]
 struct Tally {
     accepted: u64,
-    refused: [u64; 16],
+    refused: [u64; 17],
     reports: u64,
     runs: u64,
     endings: [u64; 4],
@@ -63,6 +63,7 @@ struct Checker {
     file: Vec<u8>,
     /// The file's name in what is printed.
     name: String,
+    prices: Vec<u32>,
     scratch: Vec<u32>,
     rng: Rng,
     tally: Tally,
@@ -135,17 +136,20 @@ impl Checker {
 
     fn report(&mut self, scratch_len: usize, buffer_len: usize, expected: &Result<Vec<u8>, Refusal>) {
         self.tally.reports += 1;
-        let call = &format!("report with {scratch_len} scratch numbers and a buffer of {buffer_len}");
+        let call = &format!("report with prices {:?}, {scratch_len} scratch numbers and a buffer of {buffer_len}", self.prices);
         let mut scratch = self.scratch(scratch_len);
         let before = (scratch_len < SCRATCH).then(|| scratch.clone());
         let salt = self.rng.next() as u8;
         let pattern = |i: usize| (i as u8).wrapping_mul(31) ^ salt;
         let mut buffer = Room::new((0..buffer_len).map(pattern), 0x5a);
         let mut place = [0x1122_3344_5566_7788u64; 3];
-        let file = self.file.clone();
+        let (file, prices) = (self.file.clone(), self.prices.clone());
         let mut number = 0;
-        self.stacks[0].call(|| number = numbers::report(&file, &mut scratch[..scratch_len], buffer.lent(), &mut place[1]));
+        self.stacks[0].call(|| {
+            number = numbers::report(&file, &prices, &mut scratch[..scratch_len], buffer.lent(), &mut place[1])
+        });
         self.same(call, "file after the call", &self.file, &file);
+        self.same(call, "prices after the call", &self.prices, &prices);
         let place_kept = place[0] == 0x1122_3344_5566_7788 && place[2] == place[0];
         if !buffer.guarded() || !place_kept {
             self.differ(call, &"bytes round the buffer and the place kept", &"changed");
@@ -171,7 +175,8 @@ impl Checker {
     fn run(&mut self, scratch_len: usize, store: &[i32], picks: &[u8], allowance: u64, expected: &Result<Run, Refusal>) {
         self.tally.runs += 1;
         let call = &format!(
-            "run with {scratch_len} scratch numbers, store {store:?}, allowance {allowance}, {} picks {:?}..",
+            "run with prices {:?}, {scratch_len} scratch numbers, store {store:?}, allowance {allowance}, {} picks {:?}..",
+            self.prices,
             picks.len(),
             &picks[..picks.len().min(40)]
         );
@@ -179,14 +184,16 @@ impl Checker {
         let before = (scratch_len < SCRATCH).then(|| scratch.clone());
         let mut lent_store = Room::new(store.iter().copied(), 0x5a5a_5a5a);
         let mut answer = Room::new((0..ANSWER as u64).map(|i| !i), 0x5a5a);
-        let file = self.file.clone();
+        let (file, prices) = (self.file.clone(), self.prices.clone());
         let lent_picks = picks.to_vec();
         let numbers: &mut [u64; ANSWER] = answer.lent().try_into().unwrap();
         let mut number = 0;
         self.stacks[1].call(|| {
-            number = numbers::run(&file, &mut scratch[..scratch_len], lent_store.lent(), &lent_picks, allowance, numbers)
+            let scratch = &mut scratch[..scratch_len];
+            number = numbers::run(&file, &prices, scratch, lent_store.lent(), &lent_picks, allowance, numbers)
         });
         self.same(call, "file after the call", &self.file, &file);
+        self.same(call, "prices after the call", &self.prices, &prices);
         self.same(call, "picks after the call", picks, &lent_picks);
         if !lent_store.guarded() || !answer.guarded() {
             self.differ(call, &"numbers round store and answer kept", &"changed");
@@ -232,13 +239,14 @@ impl Checker {
         let more = SCRATCH + 1 + self.rng.below(500);
         self.report(more, length, &Ok(text));
 
+        let longest = LONGEST * *self.prices.iter().min().unwrap() as u64;
         for _ in 0..5 {
             let store = store(&mut self.rng, &plan.script);
             let picks = picks(&mut self.rng);
             // Demand 3, on the oracle's own list, where the run is short enough to be made.
-            let first = oracle::run_planned(plan, &store, &picks, plan.ticks.min(LONGEST));
+            let first = oracle::run_planned(plan, &store, &picks, plan.ticks.min(longest));
             let short = match &first {
-                Ok(run) => plan.ticks <= LONGEST || run.ending != Ending::Spent,
+                Ok(run) => plan.ticks <= longest || run.ending != Ending::Spent,
                 Err(_) => true,
             };
             if let (Ok(run), true) = (&first, short) {
@@ -249,7 +257,7 @@ impl Checker {
                     self.differ(&call, &run, &"not asked");
                 }
             }
-            let allowance = allowance(&mut self.rng, plan, short, LONGEST);
+            let allowance = allowance(&mut self.rng, plan, short, longest);
             let expected = oracle::run_planned(plan, &store, &picks, allowance);
             self.run(SCRATCH, &store, &picks, allowance, &expected);
             if short && self.rng.chance(40) {
@@ -269,9 +277,20 @@ impl Checker {
     }
 
     fn case(&mut self) {
-        match oracle::plan(&self.file, SCRATCH) {
+        if let Err(refusal) = oracle::prices::prices(&self.prices) {
+            self.refused(refusal);
+            self.prices = ONES.to_vec();
+        }
+        match oracle::plan(&self.file, &self.prices, SCRATCH) {
             Ok(plan) => self.accepted(&plan),
             Err(refusal) => self.refused(refusal),
+        }
+        // Question 16 comes before 2, and 1 before 16.
+        if self.file.len() > 16_384 || self.rng.chance(30) {
+            self.prices = wrong_prices(&mut self.rng);
+            if let Err(refusal) = oracle::plan(&self.file, &self.prices, SCRATCH) {
+                self.refused(refusal);
+            }
         }
         let little = if self.rng.chance(80) { SCRATCH - 1 } else { self.rng.below(SCRATCH) };
         self.report(little, 500, &Err((1, SCRATCH as u64)));
@@ -281,17 +300,20 @@ impl Checker {
 
     /// A stored call. The oracle's answer must be the same, with all entries, and then the library's.
     fn stored(&mut self, call: &Call) {
-        let plan = oracle::plan(&self.file, SCRATCH);
-        match call {
-            Call::Report(answer) => {
+        self.prices = call.prices.clone();
+        let plan = oracle::plan(&self.file, &self.prices, SCRATCH);
+        match &call.kind {
+            Kind::Report(answer) => {
                 let oracle = plan.map(|plan| oracle::report_text(&plan));
-                self.same("the oracle's report", "stored answer", answer, &oracle);
+                let what = format!("the oracle's report with prices {:?}", self.prices);
+                self.same(&what, "stored answer", answer, &oracle);
                 self.report(SCRATCH, 4_096, answer);
             }
-            Call::Run { store, picks, allowance, answer } => {
+            Kind::Run { store, picks, allowance, answer } => {
                 let allowance = allowance.unwrap_or(plan.as_ref().map_or(0, |plan| plan.ticks));
                 let oracle = plan.and_then(|plan| oracle::run_planned(&plan, store, picks, allowance));
-                self.same(&format!("the oracle's run from {store:?} with {allowance}"), "stored answer", answer, &oracle);
+                let what = format!("the oracle's run with prices {:?}, store {store:?}, allowance {allowance}", self.prices);
+                self.same(&what, "stored answer", answer, &oracle);
                 self.run(SCRATCH, store, picks, allowance, answer);
             }
         }
@@ -306,14 +328,15 @@ fn generated(checker: &mut Checker, count: u64, seed: u64, first: u64) {
     checker.name = "accepted-worst.script".into();
     checker.case();
     for index in first..first + count {
-        let (file, rng) = case(seed, index);
+        let Case { file, prices, rng } = case(seed, index);
         checker.file = file;
         checker.name = format!("file {index} of seed {seed}");
+        checker.prices = prices;
         checker.rng = rng;
         checker.case();
     }
     let t = &checker.tally;
-    let refused: Vec<String> = (2..=13).map(|number| format!("{number}:{}", t.refused[number])).collect();
+    let refused: Vec<String> = (2..=13).chain([16]).map(|number| format!("{number}:{}", t.refused[number])).collect();
     println!(
         "no difference: {count} files of seed {seed}, {} accepted, refused {}; {} report calls; {} run calls ({} refused, \
          ended {}, spent {}, range {}, no pick {}, {} ticks); demand 3 held in {} runs with {} entries; \
@@ -362,6 +385,7 @@ fn main() {
     let mut checker = Checker {
         file: Vec::new(),
         name: String::new(),
+        prices: ONES.to_vec(),
         scratch: vec![0xdead_beef; SCRATCH],
         rng: Rng::new(SEED, 0),
         tally: Tally::default(),

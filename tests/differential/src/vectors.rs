@@ -4,7 +4,12 @@
 use oracle::{Ending, Entry, Refusal, Run};
 use std::path::{Path, PathBuf};
 
-pub enum Call {
+pub struct Call {
+    pub prices: Vec<u32>,
+    pub kind: Kind,
+}
+
+pub enum Kind {
     Report(Result<Vec<u8>, Refusal>),
     Run {
         store: Vec<i32>,
@@ -76,22 +81,22 @@ fn run(answer: &[&str]) -> Option<Run> {
 fn call(head: &str, answer: &[&str]) -> Option<Call> {
     let refused = refusal(answer);
     let words: Vec<&str> = head.split(' ').collect();
-    match words[..] {
-        ["report", "1,1,1,1"] => {
+    let (prices, kind) = match words[..] {
+        ["report", prices] => {
             let text = answer.iter().flat_map(|line| [line, "\n"]).collect::<String>();
-            Some(Call::Report(refused.map_or(Ok(text.into_bytes()), Err)))
+            (prices, Kind::Report(refused.map_or(Ok(text.into_bytes()), Err)))
         }
-        ["run", "1,1,1,1", store, picks, allowance] => Some(Call::Run {
-            store: list(store)?,
-            picks: bytes(picks)?,
-            allowance: if allowance == "T" { None } else { Some(allowance.parse().ok()?) },
-            answer: match refused {
+        ["run", prices, store, picks, allowance] => {
+            let answer = match refused {
                 Some(refusal) => Err(refusal),
                 None => Ok(run(answer)?),
-            },
-        }),
-        _ => None,
-    }
+            };
+            let allowance = if allowance == "T" { None } else { Some(allowance.parse().ok()?) };
+            (prices, Kind::Run { store: list(store)?, picks: bytes(picks)?, allowance, answer })
+        }
+        _ => return None,
+    };
+    Some(Call { prices: list(prices)?, kind })
 }
 
 /// The calls of a .out file, or the line of a call that cannot be read.

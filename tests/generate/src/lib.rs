@@ -15,8 +15,15 @@ use oracle::{Plan, Script};
 /// The seed that is used when none is given.
 pub const SEED: u64 = 20_260_115;
 
-/// The file number `index` of a seed, and the generator that goes on with its stores, picks and allowances.
-pub fn case(seed: u64, index: u64) -> (Vec<u8>, Rng) {
+pub struct Case {
+    pub file: Vec<u8>,
+    pub prices: Vec<u32>,
+    /// Goes on with stores, picks and allowances.
+    pub rng: Rng,
+}
+
+/// The case number `index` of a seed.
+pub fn case(seed: u64, index: u64) -> Case {
     let mut rng = Rng::new(seed, index);
     let file = match rng.below(100) {
         0..=55 => script::likely(&mut rng),
@@ -27,7 +34,41 @@ pub fn case(seed: u64, index: u64) -> (Vec<u8>, Rng) {
             damage::damaged(&mut rng, file)
         }
     };
-    (file, rng)
+    let prices = prices(&mut rng);
+    Case { file, prices, rng }
+}
+
+/// A price inside its limits, often at one of them.
+fn price(rng: &mut Rng) -> u32 {
+    match rng.below(6) {
+        0 => 1,
+        1 => 1_000,
+        2 | 3 => rng.between(1, 10) as u32,
+        4 => rng.one_of(&[2, 3, 7, 250, 999]),
+        _ => rng.between(1, 1_000) as u32,
+    }
+}
+
+/// About half are four ones, and one in ten is wrong.
+fn prices(rng: &mut Rng) -> Vec<u32> {
+    match rng.below(20) {
+        0..=9 => vec![1; 4],
+        10..=17 => (0..4).map(|_| price(rng)).collect(),
+        _ => wrong_prices(rng),
+    }
+}
+
+/// Too short, too long, or with a price past its limits.
+pub fn wrong_prices(rng: &mut Rng) -> Vec<u32> {
+    let length = rng.one_of(&[0, 1, 2, 3, 3, 4, 4, 4, 4, 5, 5, 6, 40]);
+    let mut prices: Vec<u32> = (0..length).map(|_| price(rng)).collect();
+    if length == 4 || length > 0 && rng.chance(30) {
+        for _ in 0..1 + rng.below(2) {
+            let i = rng.below(length);
+            prices[i] = rng.one_of(&[0, 0, 1_001, 1_001, u32::MAX, 65_537, 1 << 31]);
+        }
+    }
+    prices
 }
 
 /// A store for an accepted file: mostly inside its ranges, often at an end, sometimes wrong or of another length.

@@ -8,16 +8,16 @@ fn main() {
     let arguments: Vec<String> = std::env::args().skip(1).collect();
     let number = |at: usize, default: u64| arguments.get(at).map_or(default, |word| word.parse().expect("a number"));
     if arguments.first().is_some_and(|word| word == "file") {
-        let (file, _) = case(number(2, SEED), number(1, 0));
-        std::io::stdout().write_all(&file).expect("standard output");
+        let case = case(number(2, SEED), number(1, 0));
+        std::io::stdout().write_all(&case.file).expect("standard output");
         return;
     }
     let (count, seed) = (number(0, 20_000), number(1, SEED));
     let spread = Spread::of(count, seed);
     let (mut loops, mut most_loops, mut full, mut deep, mut short) = (0, 0, 0, 0, 0u64);
     for index in 0..count {
-        let (file, _) = case(seed, index);
-        let Ok(plan) = oracle::plan(&file, oracle::SCRATCH) else { continue };
+        let case = case(seed, index);
+        let Ok(plan) = oracle::plan(&case.file, &oracle::ONES, oracle::SCRATCH) else { continue };
         loops += plan.lines.len();
         most_loops += (plan.lines.len() == 16) as u64;
         full += (plan.script.rows.len() == 256) as u64;

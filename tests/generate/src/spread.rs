@@ -1,15 +1,16 @@
 //! How the generated files are answered, and how many of them use each change request.
 
-use crate::case;
+use crate::{case, Case};
 use oracle::analyse::{copied, Term};
+use oracle::prices::prices;
 use oracle::read::{self, Loop, Operand};
-use oracle::{Counted, Line, Plan, Refusal, Row};
+use oracle::{Counted, Line, Plan, Refusal, Row, ONES, SCRATCH};
 use std::collections::{BTreeMap, BTreeSet};
 
 #[derive(Default)]
 pub struct Spread {
     pub files: u64,
-    /// Files by their refusal's number; 0 is accepted.
+    /// Files by their refusal's number with four ones; 0 is accepted.
     pub answers: [u64; 17],
     /// Files by what they use: a change's word, a colon and what it comes to. `WORD:` counts each file once.
     pub uses: BTreeMap<String, u64>,
@@ -19,11 +20,11 @@ impl Spread {
     pub fn of(count: u64, seed: u64) -> Spread {
         let mut spread = Spread { files: count, ..Spread::default() };
         for index in 0..count {
-            let (file, _) = case(seed, index);
-            let plan = oracle::plan(&file, oracle::SCRATCH);
+            let Case { file, prices, .. } = case(seed, index);
+            let plan = oracle::plan(&file, &ONES, SCRATCH);
             let number = plan.as_ref().map_or_else(|refusal| refusal.0, |_| 0);
             spread.answers[number as usize] += 1;
-            for label in labels(&file, &plan) {
+            for label in labels(&file, &prices, &plan) {
                 *spread.uses.entry(label).or_default() += 1;
             }
         }
@@ -36,8 +37,20 @@ impl Spread {
 }
 
 /// What a file uses. A refused file counts if it is refused for that use.
-fn labels(file: &[u8], plan: &Result<Plan, Refusal>) -> BTreeSet<String> {
+fn labels(file: &[u8], lent: &[u32], plan: &Result<Plan, Refusal>) -> BTreeSet<String> {
     let mut labels = BTreeSet::new();
+    match prices(lent) {
+        Ok(_) if lent == ONES => {}
+        Ok(_) => {
+            labels.insert("prices: good".into());
+            labels.extend(lent.iter().filter(|price| [1, 1_000].contains(*price)).map(|price| format!("prices: {price}")));
+        }
+        Err((_, place)) => {
+            labels.insert(format!("prices: refused at {}", place.min(5)));
+            labels.insert(format!("prices: {} prices", lent.len().min(6)));
+            labels.extend(lent.iter().filter(|price| [0, 1_001, u32::MAX].contains(*price)).map(|price| format!("prices: {price}")));
+        }
+    }
     match plan {
         Ok(plan) => {
             for line in &plan.lines {

@@ -4,7 +4,7 @@ use generate::{Spread, SEED};
 use std::path::Path;
 
 fn answer(file: &[u8]) -> Vec<u8> {
-    match oracle::plan(file, oracle::SCRATCH) {
+    match oracle::plan(file, &oracle::ONES, oracle::SCRATCH) {
         Ok(plan) => oracle::report_text(&plan),
         Err((number, place)) => format!("refused={number} {place}\n").into_bytes(),
     }
@@ -69,6 +69,15 @@ fn files_have_their_answers() {
         count += 1;
     }
     assert!(count >= 70);
+}
+
+#[test]
+fn a_tenth_has_other_prices() {
+    let refused = ["refused at 0", "refused at 1", "refused at 2", "refused at 3", "refused at 4", "0", "1001", "4294967295"];
+    let lengths = ["0 prices", "1 prices", "2 prices", "3 prices", "4 prices", "5 prices", "6 prices"];
+    let mut least = vec![("good", 2_000), ("1", 1_000), ("1000", 1_000)];
+    least.extend(refused.iter().chain(&lengths).map(|label| (*label, 50)));
+    uses("prices", &least);
 }
 
 /// The lines of the program run_files and what it prints; only that there is an error is compared, not its words.

@@ -1,7 +1,7 @@
 //! The loop analysis: questions 8 to 13.
 
 use crate::read::{Change, Compare, Kind, Loop, Op, Operand, Row, Script, L};
-use crate::Refusal;
+use crate::{Prices, Refusal};
 
 /// Question 13's limit.
 pub const TICK_LIMIT: u128 = 1_000_000_000_000;
@@ -221,6 +221,7 @@ pub struct Line {
 #[derive(Clone, Debug)]
 pub struct Plan {
     pub script: Script,
+    pub prices: Prices,
     pub lines: Vec<Line>,
     pub ticks: u64,
 }
@@ -394,6 +395,7 @@ fn tested_ranges(l: &Loop, step: Step, s: Range, n: Range) -> (Range, Range) {
 
 struct Walk<'a> {
     rows: &'a [Row],
+    prices: Prices,
     lines: Vec<Line>,
     /// The first `end` row whose block is over the tick limit.
     over: Option<usize>,
@@ -405,20 +407,21 @@ impl Walk<'_> {
     ///
     /// Ticks and totals are exact up to u128::MAX and stay there, unless a loop of 0 turns makes them 0.
     fn block(&mut self, from: usize, to: usize, ranges: &mut Ranges, round: u128) -> Result<u128, Refusal> {
+        let prices = self.prices;
         let mut ticks = 0u128;
         let mut r = from;
         while r < to {
             let (part, end) = match self.rows[r] {
                 Row::Set { v, x } => {
                     ranges[v as usize] = range_of(x, ranges);
-                    (1, r)
+                    (prices.arithmetic as u128, r)
                 }
                 Row::Change { v, by } => {
                     let [lo, hi] = ranges[v as usize];
                     ranges[v as usize] = [draw_back(by.apply(lo)), draw_back(by.apply(hi))];
-                    (1, r)
+                    (prices.arithmetic as u128, r)
                 }
-                Row::Cue { .. } => (1, r),
+                Row::Cue { .. } => (prices.cue as u128, r),
                 Row::Pick { middle, end } => {
                     let (middle, end) = (middle as usize, end as usize);
                     let mut other = *ranges;
@@ -427,7 +430,8 @@ impl Walk<'_> {
                     for (range, other) in ranges.iter_mut().zip(other) {
                         *range = [range[0].min(other[0]), range[1].max(other[1])];
                     }
-                    (self.limited(first.max(second).saturating_add(1), end), end)
+                    let ticks = first.max(second).saturating_add(prices.pick as u128);
+                    (self.limited(ticks, end), end)
                 }
                 Row::Loop(l) => {
                     let ticks = self.looped(r, &l, ranges, round)?;
@@ -517,18 +521,20 @@ impl Walk<'_> {
         body_ranges[v] = at_body;
         ranges[v] = after;
         let body = self.block(head + 1, end, &mut body_ranges, total)?;
+        let (test, arithmetic) = (self.prices.test as u128, self.prices.arithmetic as u128);
         let times = |extra: u128| body.saturating_add(extra).saturating_mul(turns as u128);
         Ok(match l.kind {
-            Kind::While => times(1).saturating_add(1),
-            Kind::For { .. } => times(2).saturating_add(2),
-            Kind::Do => times(1),
+            Kind::While => times(test).saturating_add(test),
+            // The step and the test of each turn; the start and the last test.
+            Kind::For { .. } => times(arithmetic + test).saturating_add(arithmetic + test),
+            Kind::Do => times(test),
         })
     }
 }
 
 /// Questions 8 to 13.
-pub fn analyse(script: Script) -> Result<Plan, Refusal> {
-    let mut walk = Walk { rows: &script.rows, lines: Vec::with_capacity(script.loops), over: None };
+pub fn analyse(script: Script, prices: Prices) -> Result<Plan, Refusal> {
+    let mut walk = Walk { rows: &script.rows, prices, lines: Vec::with_capacity(script.loops), over: None };
     let mut ranges = script.ranges;
     let count = script.rows.len();
     let ticks = walk.block(0, count, &mut ranges, 1)?;
@@ -539,5 +545,5 @@ pub fn analyse(script: Script) -> Result<Plan, Refusal> {
         return Err((13, count as u64));
     }
     let lines = walk.lines;
-    Ok(Plan { script, lines, ticks: ticks as u64 })
+    Ok(Plan { script, prices, lines, ticks: ticks as u64 })
 }

@@ -1,6 +1,6 @@
 //! A run at the desk: its words and what is printed.
 
-use crate::{plan, run_planned, Ending, Refusal, SCRATCH};
+use crate::{plan, run_planned, Ending, Refusal, ONES, SCRATCH};
 
 pub fn refused((number, place): Refusal) -> Vec<u8> {
     format!("refused={number} {place}\n").into_bytes()
@@ -11,8 +11,18 @@ fn number<N: std::str::FromStr + ToString>(word: &str) -> Option<N> {
     word.parse::<N>().ok().filter(|n| n.to_string() == word)
 }
 
-/// The words FILE ALLOWANCE PICKS [VALUE ..]; `read` gives the bytes of a file.
+/// Four prices, of which question 16 is asked later.
+fn priced(list: &str) -> Result<Vec<u32>, String> {
+    let prices = list.split(',').map(number::<u32>).collect::<Option<Vec<_>>>();
+    prices.filter(|prices| prices.len() == 4).ok_or("prices are not four numbers".into())
+}
+
+/// The words [prices=A,C,P,T] FILE ALLOWANCE PICKS [VALUE ..]; `read` gives the bytes of a file.
 pub fn rehearse(words: &[&str], read: impl Fn(&str) -> Option<Vec<u8>>) -> Result<Vec<u8>, String> {
+    let (prices, words) = match words {
+        [first, rest @ ..] if first.starts_with("prices=") => (priced(&first["prices=".len()..])?, rest),
+        _ => (ONES.to_vec(), words),
+    };
     let [file, allowance, picks, values @ ..] = words else {
         return Err("FILE, ALLOWANCE and PICKS are wanted".into());
     };
@@ -35,7 +45,7 @@ pub fn rehearse(words: &[&str], read: impl Fn(&str) -> Option<Vec<u8>>) -> Resul
         .collect::<Option<_>>()
         .ok_or("a value is no 32-bit number")?;
     let file = read(file).ok_or("the file cannot be read")?;
-    let run = plan(&file, SCRATCH).and_then(|plan| run_planned(&plan, &store, &picks, allowance.unwrap_or(plan.ticks)));
+    let run = plan(&file, &prices, SCRATCH).and_then(|plan| run_planned(&plan, &store, &picks, allowance.unwrap_or(plan.ticks)));
     let run = match run {
         Ok(run) => run,
         Err(refusal) => return Ok(refused(refusal)),

@@ -4,11 +4,13 @@
 
 pub mod analyse;
 pub mod desk;
+pub mod prices;
 pub mod read;
 pub mod run;
 pub mod write;
 
 pub use analyse::{Counted, Line, Plan, Step};
+pub use prices::{Prices, ONES};
 pub use read::{Row, Script};
 pub use run::{Counts, Ending, Entry};
 
@@ -17,12 +19,13 @@ pub type Refusal = (u32, u64);
 /// Question 1's number.
 pub const SCRATCH: usize = 8_192;
 
-/// Everything that both calls ask, 1 to 13.
-pub fn plan(file: &[u8], scratch_len: usize) -> Result<Plan, Refusal> {
+/// Everything that both calls ask, 1 to 13 and 16.
+pub fn plan(file: &[u8], prices: &[u32], scratch_len: usize) -> Result<Plan, Refusal> {
     if scratch_len < SCRATCH {
         return Err((1, SCRATCH as u64));
     }
-    analyse::analyse(read::script(file)?)
+    let prices = prices::prices(prices)?;
+    analyse::analyse(read::script(file)?, prices)
 }
 
 /// The report of an accepted file, as the call would write it without a limit.
@@ -33,8 +36,8 @@ pub fn report_text(plan: &Plan) -> Vec<u8> {
 }
 
 /// The report call; the buffer gets the report, and the answer is its length.
-pub fn report_into(file: &[u8], scratch_len: usize, buffer: &mut [u8]) -> Result<u64, Refusal> {
-    let plan = plan(file, scratch_len)?;
+pub fn report_into(file: &[u8], prices: &[u32], scratch_len: usize, buffer: &mut [u8]) -> Result<u64, Refusal> {
+    let plan = plan(file, prices, scratch_len)?;
     let mut text = [0; write::REPORT_LIMIT];
     let length = write::report(&plan, &mut text);
     if buffer.len() < length {
@@ -45,8 +48,8 @@ pub fn report_into(file: &[u8], scratch_len: usize, buffer: &mut [u8]) -> Result
 }
 
 /// The report call for a buffer of a length; the answer is the report itself.
-pub fn report(file: &[u8], scratch_len: usize, buffer_len: usize) -> Result<Vec<u8>, Refusal> {
-    let text = report_text(&plan(file, scratch_len)?);
+pub fn report(file: &[u8], prices: &[u32], scratch_len: usize, buffer_len: usize) -> Result<Vec<u8>, Refusal> {
+    let text = report_text(&plan(file, prices, scratch_len)?);
     if buffer_len < text.len() {
         return Err((14, text.len() as u64));
     }
@@ -56,16 +59,17 @@ pub fn report(file: &[u8], scratch_len: usize, buffer_len: usize) -> Result<Vec<
 /// The run call, counts only: what the library's own call keeps. The second answer is the number of loops.
 pub fn run_counts(
     file: &[u8],
+    prices: &[u32],
     scratch_len: usize,
     store: &mut [i32],
     picks: &[u8],
     allowance: u64,
 ) -> Result<(Counts, usize), Refusal> {
-    let script = plan(file, scratch_len)?.script;
+    let Plan { script, prices, .. } = plan(file, prices, scratch_len)?;
     run::check_store(&script, store)?;
     let mut values = [0; 16];
     values[..store.len()].copy_from_slice(store);
-    let counts = run::run(&script, &mut values, picks, allowance, &mut run::Deaf);
+    let counts = run::run(&script, &prices, &mut values, picks, allowance, &mut run::Deaf);
     store.copy_from_slice(&values[..store.len()]);
     Ok((counts, script.loops))
 }
@@ -90,7 +94,7 @@ pub fn run_planned(plan: &Plan, store: &[i32], picks: &[u8], allowance: u64) -> 
     let mut values = [0; 16];
     values[..store.len()].copy_from_slice(store);
     let mut list = run::List::default();
-    let counts = run::run(&plan.script, &mut values, picks, allowance, &mut list);
+    let counts = run::run(&plan.script, &plan.prices, &mut values, picks, allowance, &mut list);
     let heads = plan.lines.iter().map(|line| line.row);
     Ok(Run {
         ending: counts.ending,
@@ -104,8 +108,15 @@ pub fn run_planned(plan: &Plan, store: &[i32], picks: &[u8], allowance: u64) -> 
 }
 
 /// The run call.
-pub fn run(file: &[u8], scratch_len: usize, store: &[i32], picks: &[u8], allowance: u64) -> Result<Run, Refusal> {
-    run_planned(&plan(file, scratch_len)?, store, picks, allowance)
+pub fn run(
+    file: &[u8],
+    prices: &[u32],
+    scratch_len: usize,
+    store: &[i32],
+    picks: &[u8],
+    allowance: u64,
+) -> Result<Run, Refusal> {
+    run_planned(&plan(file, prices, scratch_len)?, store, picks, allowance)
 }
 
 /// Whether a run with an allowance of T or more keeps within its report's figures: it is not spent, takes

@@ -1,7 +1,7 @@
 //! oracle report < FILE
-//! oracle rehearse FILE ALLOWANCE PICKS [VALUE ..]
+//! oracle rehearse [prices=A,C,P,T] FILE ALLOWANCE PICKS [VALUE ..]
 
-use oracle::{desk, plan, report_text, SCRATCH};
+use oracle::{desk, plan, report_text, ONES, SCRATCH};
 use std::io::{Read, Write};
 use std::process::ExitCode;
 
@@ -11,7 +11,7 @@ fn main() -> ExitCode {
     let answer = match words[..] {
         ["report"] => report(),
         ["rehearse", ref words @ ..] if words.len() > 2 => desk::rehearse(words, |name| std::fs::read(name).ok()),
-        _ => Err("use: oracle report < FILE | oracle rehearse FILE ALLOWANCE PICKS [VALUE ..]".into()),
+        _ => Err("use: oracle report < FILE | oracle rehearse [prices=A,C,P,T] FILE ALLOWANCE PICKS [VALUE ..]".into()),
     };
     let (text, code) = match answer {
         Ok(text) => (text, ExitCode::SUCCESS),
@@ -26,5 +26,5 @@ fn main() -> ExitCode {
 fn report() -> Result<Vec<u8>, String> {
     let mut file = Vec::new();
     std::io::stdin().read_to_end(&mut file).map_err(|_| "standard input cannot be read".to_string())?;
-    Ok(plan(&file, SCRATCH).map_or_else(desk::refused, |plan| report_text(&plan)))
+    Ok(plan(&file, &ONES, SCRATCH).map_or_else(desk::refused, |plan| report_text(&plan)))
 }

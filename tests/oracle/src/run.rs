@@ -1,7 +1,7 @@
 //! The script runner.
 
 use crate::read::{Kind, Loop, Operand, Row, Script, L};
-use crate::Refusal;
+use crate::{Prices, Refusal};
 
 #[derive(Clone, Copy, Debug, PartialEq, Eq)]
 pub enum Ending {
@@ -89,6 +89,7 @@ pub fn check_store(script: &Script, store: &[i32]) -> Result<(), Refusal> {
 /// The run of an accepted script from a store inside its ranges.
 pub fn run<E: Listener>(
     script: &Script,
+    prices: &Prices,
     store: &mut [i32; 16],
     picks: &[u8],
     allowance: u64,
@@ -109,11 +110,11 @@ pub fn run<E: Listener>(
         };
     }
     macro_rules! tick {
-        ($row:expr) => {
-            if ticks == allowance {
+        ($price:ident, $row:expr) => {
+            if prices.$price > allowance - ticks {
                 end!(Ending::Spent, $row);
             }
-            ticks += 1;
+            ticks += prices.$price;
         };
     }
     macro_rules! turn {
@@ -138,7 +139,7 @@ pub fn run<E: Listener>(
     }
     macro_rules! test {
         ($l:expr, $head:expr) => {
-            tick!($head);
+            tick!(test, $head);
             if $l.compare.holds(store[$l.v as usize], value(store, $l.limit)) {
                 turn!($l);
                 r = $head + 1;
@@ -155,21 +156,21 @@ pub fn run<E: Listener>(
         };
         match row {
             Row::Set { v, x } => {
-                tick!(r);
+                tick!(arithmetic, r);
                 store[*v as usize] = value(store, *x);
                 r += 1;
             }
             Row::Change { v, by } => {
-                tick!(r);
+                tick!(arithmetic, r);
                 change!(*v, by, r);
                 r += 1;
             }
             Row::Cue { .. } => {
-                tick!(r);
+                tick!(cue, r);
                 r += 1;
             }
             Row::Pick { middle, .. } => {
-                tick!(r);
+                tick!(pick, r);
                 let Some(&byte) = picks.get(used) else {
                     end!(Ending::NoPick, r);
                 };
@@ -187,7 +188,7 @@ pub fn run<E: Listener>(
                         continue;
                     }
                     Kind::For { start, .. } => {
-                        tick!(r);
+                        tick!(arithmetic, r);
                         store[l.v as usize] = value(store, start);
                     }
                     Kind::While => {}
@@ -198,7 +199,7 @@ pub fn run<E: Listener>(
                 let head = *head as usize;
                 if let Row::Loop(l) = &rows[head] {
                     if let Kind::For { step, .. } = l.kind {
-                        tick!(head);
+                        tick!(arithmetic, head);
                         change!(l.v, step, head);
                     }
                     test!(*l, head);

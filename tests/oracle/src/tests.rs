@@ -14,7 +14,7 @@ fn file(ranges: &[(i64, i64)], rows: &[&str]) -> Vec<u8> {
 }
 
 fn text(ranges: &[(i64, i64)], rows: &[&str]) -> Result<String, Refusal> {
-    report(&file(ranges, rows), SCRATCH, usize::MAX).map(|text| String::from_utf8(text).unwrap())
+    report(&file(ranges, rows), &ONES, SCRATCH, usize::MAX).map(|text| String::from_utf8(text).unwrap())
 }
 
 /// The turns of the one loop with this head and body, started from one number.
@@ -22,7 +22,7 @@ fn turns(head: &str, start: i64, body: &[&str]) -> Result<u64, u32> {
     let mut rows = vec![head];
     rows.extend(body);
     rows.push("end");
-    match plan(&file(&[(start, start)], &rows), SCRATCH) {
+    match plan(&file(&[(start, start)], &rows), &ONES, SCRATCH) {
         Ok(plan) => {
             assert_eq!(plan.lines.len(), 1);
             Ok(plan.lines[0].turns)
@@ -79,36 +79,36 @@ fn checked_figures() {
 fn the_listing() {
     let listing = file(LISTING_RANGES, LISTING);
     assert_eq!(text(LISTING_RANGES, LISTING).unwrap(), LISTING_REPORT);
-    let run = run(&listing, SCRATCH, &[0, 1], &[], 65).unwrap();
+    let run = run(&listing, &ONES, SCRATCH, &[0, 1], &[], 65).unwrap();
     assert_eq!((run.ending, run.row, run.ticks, run.used), (Ending::Ended, 6, 32, 0));
     assert_eq!(run.store, [11, 6]);
     assert_eq!(run.loops, [(0, 2, 2), (1, 7, 6)]);
     let entry = |row, turns| Entry { row, turns, tested: true };
     assert_eq!(run.entries, [entry(0, 2), entry(1, 1), entry(1, 6)]);
     let mut store = [0, 1];
-    let (counts, loops) = run_counts(&listing, SCRATCH, &mut store, &[], 32).unwrap();
+    let (counts, loops) = run_counts(&listing, &ONES, SCRATCH, &mut store, &[], 32).unwrap();
     assert_eq!((counts.ending, counts.row, counts.ticks, loops, store), (Ending::Ended, 6, 32, 2, [11, 6]));
-    let (counts, _) = run_counts(&listing, SCRATCH, &mut [0, 1], &[], 31).unwrap();
+    let (counts, _) = run_counts(&listing, &ONES, SCRATCH, &mut [0, 1], &[], 31).unwrap();
     assert_eq!((counts.ending, counts.row, counts.ticks), (Ending::Spent, 5, 31));
 }
 
 #[test]
 fn questions_1_2_14_15() {
     let listing = file(LISTING_RANGES, LISTING);
-    assert_eq!(report(b"", 8191, 0), Err((1, 8192)));
-    assert_eq!(run(b"", 8191, &[7], &[], 0).unwrap_err(), (1, 8192));
-    assert_eq!(report(&[b'x'; 16_384], SCRATCH, 0), Err((3, 1)));
-    assert_eq!(report(&[b'x'; 16_385], SCRATCH, 0), Err((2, 16_384)));
+    assert_eq!(report(b"", &ONES, 8191, 0), Err((1, 8192)));
+    assert_eq!(run(b"", &ONES, 8191, &[7], &[], 0).unwrap_err(), (1, 8192));
+    assert_eq!(report(&[b'x'; 16_384], &ONES, SCRATCH, 0), Err((3, 1)));
+    assert_eq!(report(&[b'x'; 16_385], &ONES, SCRATCH, 0), Err((2, 16_384)));
     let length = LISTING_REPORT.len() as u64;
-    assert_eq!(report(&listing, SCRATCH, length as usize - 1), Err((14, length)));
-    assert!(report(&listing, SCRATCH, length as usize).is_ok());
+    assert_eq!(report(&listing, &ONES, SCRATCH, length as usize - 1), Err((14, length)));
+    assert!(report(&listing, &ONES, SCRATCH, length as usize).is_ok());
     let mut buffer = [7u8; 200];
-    assert_eq!(report_into(&listing, SCRATCH, &mut buffer[..10]), Err((14, length)));
+    assert_eq!(report_into(&listing, &ONES, SCRATCH, &mut buffer[..10]), Err((14, length)));
     assert_eq!(buffer, [7; 200]);
-    assert_eq!(report_into(&listing, SCRATCH, &mut buffer), Ok(length));
+    assert_eq!(report_into(&listing, &ONES, SCRATCH, &mut buffer), Ok(length));
     assert_eq!(&buffer[..length as usize], LISTING_REPORT.as_bytes());
     assert!(buffer[length as usize..].iter().all(|&b| b == 7));
-    let place = |store: &[i32]| run(&listing, SCRATCH, store, &[], 99).err();
+    let place = |store: &[i32]| run(&listing, &ONES, SCRATCH, store, &[], 99).err();
     assert_eq!(place(&[]), Some((15, 0)));
     assert_eq!(place(&[0]), Some((15, 1)));
     assert_eq!(place(&[1]), Some((15, 0)));
@@ -121,7 +121,7 @@ fn questions_1_2_14_15() {
 
 #[test]
 fn question_3_lines() {
-    let refused = |text: &str| plan(text.as_bytes(), SCRATCH).err();
+    let refused = |text: &str| plan(text.as_bytes(), &ONES, SCRATCH).err();
     assert_eq!(refused(""), Some((3, 1)));
     assert_eq!(refused("script=1"), Some((3, 1)));
     assert_eq!(refused("script=1\n"), Some((3, 2)));
@@ -156,7 +156,7 @@ fn question_3_lines() {
 
 /// The refusal of one row as the first of a file with two variables; the row has line 6.
 fn row_refused(row: &str) -> Option<u32> {
-    match plan(&file(&[(0, 0), (0, 0)], &[row]), SCRATCH) {
+    match plan(&file(&[(0, 0), (0, 0)], &[row]), &ONES, SCRATCH) {
         Ok(_) => None,
         Err((number, 6)) => Some(number),
         Err((6, 7)) => Some(67),
@@ -203,7 +203,7 @@ fn rows() {
 
 #[test]
 fn blocks() {
-    let refused = |rows: &[&str]| plan(&file(&[], rows), SCRATCH).err();
+    let refused = |rows: &[&str]| plan(&file(&[], rows), &ONES, SCRATCH).err();
     assert_eq!(refused(&["pick", "else", "end"]), None);
     assert_eq!(refused(&["pick", "end"]), None);
     assert_eq!(refused(&["pick", "else", "else", "end"]), Some((6, 6)));
@@ -212,17 +212,17 @@ fn blocks() {
     assert_eq!(refused(&["pick", "else"]), Some((6, 6)));
     assert_eq!(refused(&["pick"; 8]), Some((6, 12)));
     assert_eq!(refused(&["pick"; 9]), Some((7, 12)));
-    let loops = |count| plan(&file(&[(0, 0)], &["for v0 1 < 9 add 1", "end"].repeat(count)), SCRATCH).err();
+    let loops = |count| plan(&file(&[(0, 0)], &["for v0 1 < 9 add 1", "end"].repeat(count)), &ONES, SCRATCH).err();
     assert_eq!(loops(16), None);
     assert_eq!(loops(17), Some((7, 5 + 32)));
-    let inside = |row| plan(&file(&[(0, 0)], &["while v0 < 1", row, "end"]), SCRATCH).err();
+    let inside = |row| plan(&file(&[(0, 0)], &["while v0 < 1", row, "end"]), &ONES, SCRATCH).err();
     assert_eq!(inside("else"), Some((6, 6)));
     assert_eq!(inside("add v0 1"), None);
     assert_eq!(inside("cue 1"), Some((9, 0)));
     // An open block with bytes after the last row: question 3 comes first.
     let mut open = file(&[], &["pick"]);
     open.push(b'\n');
-    assert_eq!(plan(&open, SCRATCH).err(), Some((3, 5)));
+    assert_eq!(plan(&open, &ONES, SCRATCH).err(), Some((3, 5)));
     // A pick counts for the depth and not for the loops; else opens no depth.
     let mut rows = vec!["pick"; 8];
     for _ in 0..8 {
@@ -233,7 +233,7 @@ fn blocks() {
 
 #[test]
 fn questions_8_to_12() {
-    let refused = |ranges: &[(i64, i64)], rows: &[&str]| plan(&file(ranges, rows), SCRATCH).err();
+    let refused = |ranges: &[(i64, i64)], rows: &[&str]| plan(&file(ranges, rows), &ONES, SCRATCH).err();
     assert_eq!(turns("while v0 < 5", 0, &["set v0 1"]), Err(8));
     assert_eq!(turns("while v0 < 5", 0, &["add v0 1", "mul v0 2"]), Err(8));
     assert_eq!(turns("while v0 < 5", 0, &["div v0 2", "mul v0 3"]), Err(8));
@@ -268,7 +268,7 @@ fn questions_8_to_12() {
 
 #[test]
 fn question_13() {
-    let refused = |ranges: &[(i64, i64)], rows: &[&str]| plan(&file(ranges, rows), SCRATCH).err();
+    let refused = |ranges: &[(i64, i64)], rows: &[&str]| plan(&file(ranges, rows), &ONES, SCRATCH).err();
     let nested = |inner: &str, outer: &str, cues: usize| {
         let outer = format!("for v0 1 <= {outer} add 1");
         let inner = format!("for v1 1 <= {inner} add 1");
@@ -352,7 +352,7 @@ fn reports() {
 #[test]
 fn runs() {
     let go = |ranges: &[(i64, i64)], rows: &[&str], store: &[i32], picks: &[u8], allowance| {
-        let run = run(&file(ranges, rows), SCRATCH, store, picks, allowance).unwrap();
+        let run = run(&file(ranges, rows), &ONES, SCRATCH, store, picks, allowance).unwrap();
         (run.ending, run.row, run.ticks, run.used, run.store)
     };
     use Ending::*;
@@ -367,7 +367,7 @@ fn runs() {
     assert_eq!(go(&[(-7, 7)], &["div v0 2"], &[-7], &[], 9), (Ended, 1, 1, 0, vec![-3]));
     // A do: no tick at its head, its test at the head's row; the turn counts though the tick lacks.
     let rows = ["do v0 < 2", "add v0 1", "end"];
-    let run_of = |allowance| run(&file(&[(0, 0)], &rows), SCRATCH, &[0], &[], allowance).unwrap();
+    let run_of = |allowance| run(&file(&[(0, 0)], &rows), &ONES, SCRATCH, &[0], &[], allowance).unwrap();
     let first = run_of(0);
     assert_eq!((first.ending, first.row, first.ticks), (Spent, 1, 0));
     assert_eq!(first.loops, [(0, 1, 1)]);
@@ -380,7 +380,7 @@ fn runs() {
     assert_eq!(run_of(4).entries, [Entry { row: 0, turns: 2, tested: true }]);
     // A for: its start, test and step at the head's row; an entry without a turn.
     let rows = ["cue 1", "for v0 999999999 <= 1000000000 add 1", "end", "cue 2"];
-    let run_of = |allowance| run(&file(&[(0, 0)], &rows), SCRATCH, &[0], &[], allowance).unwrap();
+    let run_of = |allowance| run(&file(&[(0, 0)], &rows), &ONES, SCRATCH, &[0], &[], allowance).unwrap();
     let start = run_of(1);
     assert_eq!((start.ending, start.row, start.ticks, &start.store[..]), (Spent, 1, 1, &[0][..]));
     assert_eq!(start.entries, [Entry { row: 1, turns: 0, tested: false }]);
@@ -390,7 +390,117 @@ fn runs() {
     assert_eq!((past.ending, past.row, past.ticks, past.loops[0]), (Range, 1, 6, (1, 2, 2)));
     assert_eq!(past.store, [1_000_000_000]);
     assert!(!past.entries[0].tested);
-    assert_eq!(breach(&plan(&file(&[(0, 0)], &rows), SCRATCH).unwrap(), &past), None);
+    assert_eq!(breach(&plan(&file(&[(0, 0)], &rows), &ONES, SCRATCH).unwrap(), &past), None);
+}
+
+/// Change 3: question 16 and its place, after 1 and before 2.
+#[test]
+fn question_16() {
+    let long = [b'x'; 16_385];
+    let asked = |prices: &[u32]| {
+        let report = report(&long, prices, SCRATCH, 0).unwrap_err();
+        assert_eq!(run(&long, prices, SCRATCH, &[7], &[], 0).unwrap_err(), report);
+        report
+    };
+    assert_eq!(asked(&[1, 1, 1, 1]), (2, 16_384));
+    assert_eq!(asked(&[1, 1_000, 1_000, 1]), (2, 16_384));
+    assert_eq!(asked(&[]), (16, 0));
+    assert_eq!(asked(&[1]), (16, 1));
+    assert_eq!(asked(&[1, 1, 1]), (16, 3));
+    assert_eq!(asked(&[1, 1, 1, 1, 1]), (16, 4));
+    assert_eq!(asked(&[1; 9]), (16, 4));
+    assert_eq!(asked(&[0, 1, 1, 1]), (16, 0));
+    assert_eq!(asked(&[1, 1_001, 0, 1]), (16, 1));
+    assert_eq!(asked(&[1, 1, 1, u32::MAX]), (16, 3));
+    assert_eq!(asked(&[1, 1, 0]), (16, 2));
+    assert_eq!(asked(&[1, 1, 1, 0, 1]), (16, 3));
+    assert_eq!(report(b"", &[], SCRATCH - 1, 0), Err((1, SCRATCH as u64)));
+    assert_eq!(run(b"", &[0], SCRATCH - 1, &[], &[], 0).unwrap_err(), (1, SCRATCH as u64));
+}
+
+const PRICES: [u32; 4] = [3, 10, 50, 700];
+
+/// Change 3: the figures, each kind of row by itself.
+#[test]
+fn ticks_by_kind_of_row() {
+    let ticks = |rows: &[&str]| plan(&file(&[(0, 0), (0, 0)], rows), &PRICES, SCRATCH).unwrap().ticks;
+    for row in ["set v0 1", "set v0 v1", "add v0 1", "sub v0 1", "mul v0 1", "div v0 1"] {
+        assert_eq!(ticks(&[row]), 3, "{row}");
+    }
+    assert_eq!(ticks(&["cue 1"]), 10);
+    assert_eq!(ticks(&["pick", "end"]), 50);
+    assert_eq!(ticks(&["pick", "else", "end"]), 50);
+    // The larger branch is the dearer one, not the one of more rows.
+    assert_eq!(ticks(&["pick", "add v0 1", "add v0 1", "else", "cue 1", "end"]), 60);
+    // Without a turn: a test; a start and a test. With two: 2(B + test) + test, 2(B + step + test) + start + test, 2(B + test).
+    assert_eq!(ticks(&["while v0 > 5", "sub v0 1", "end"]), 700);
+    assert_eq!(ticks(&["for v0 0 > 5 sub 1", "end"]), 703);
+    assert_eq!(ticks(&["while v0 < 2", "add v0 1", "end"]), 2 * 703 + 700);
+    assert_eq!(ticks(&["for v0 0 < 2 add 1", "cue 1", "end"]), 2 * 713 + 703);
+    assert_eq!(ticks(&["do v0 < 2", "add v0 1", "end"]), 2 * 703);
+    // The listing: inside 9(10 + 703) + 703 = 7120, outside 2(7120 + 703) + 703, and the last cue.
+    let listing = file(LISTING_RANGES, LISTING);
+    let text = String::from_utf8(report(&listing, &PRICES, SCRATCH, 999).unwrap()).unwrap();
+    assert_eq!(text, LISTING_REPORT.replace("ticks=65", "ticks=16359"));
+}
+
+/// Change 3: the run, and when it is spent.
+#[test]
+fn runs_by_kind_of_row() {
+    let listing = file(LISTING_RANGES, LISTING);
+    let go = |allowance| run(&listing, &PRICES, SCRATCH, &[0, 1], &[], allowance).unwrap();
+    // Start and test of the outer; 1 and 6 turns inside, each entry with its start and test; two steps and tests; a cue.
+    let whole = 703 + (703 + 713) + (703 + 6 * 713) + 2 * 703 + 10;
+    let run_of = go(whole);
+    assert_eq!((run_of.ending, run_of.ticks, &run_of.store[..]), (Ending::Ended, whole, &[11, 6][..]));
+    // The last price does not fit: no tick of it is taken.
+    for left in 0..10 {
+        let run = go(whole - 10 + left);
+        assert_eq!((run.ending, run.row, run.ticks), (Ending::Spent, 5, whole - 10), "{left}");
+    }
+    // A for's start, its test and its step have their own prices.
+    for allowance in 0..716 {
+        let run = go(allowance);
+        let (ticks, store) = match allowance {
+            0..=2 => (0, [0, 1]),
+            3..=702 => (3, [1, 1]),
+            703..=705 => (703, [1, 1]),
+            _ => (706, [1, 0]),
+        };
+        let row = if allowance < 703 { 0 } else { 1 };
+        assert_eq!((run.ending, run.row, run.ticks, &run.store[..]), (Ending::Spent, row, ticks, &store[..]), "{allowance}");
+    }
+    // A pick is paid before its byte is asked for.
+    let rows = file(&[(0, 0)], &["pick", "add v0 1", "end", "set v0 7"]);
+    let go = |picks: &[u8], allowance| {
+        let run = run(&rows, &PRICES, SCRATCH, &[0], picks, allowance).unwrap();
+        (run.ending, run.row, run.ticks, run.used, run.store[0])
+    };
+    assert_eq!(go(&[], 49), (Ending::Spent, 0, 0, 0, 0));
+    assert_eq!(go(&[], 50), (Ending::NoPick, 0, 50, 0, 0));
+    assert_eq!(go(&[1], 52), (Ending::Spent, 1, 50, 1, 0));
+    assert_eq!(go(&[1], 55), (Ending::Spent, 3, 53, 1, 1));
+    assert_eq!(go(&[0], u64::MAX), (Ending::Ended, 4, 53, 1, 7));
+    // A do: no price at its head.
+    let rows = file(&[(0, 0)], &["do v0 < 1", "add v0 1", "end"]);
+    let run = run(&rows, &PRICES, SCRATCH, &[0], &[], 702).unwrap();
+    assert_eq!((run.ending, run.row, run.ticks, run.loops[0]), (Ending::Spent, 0, 3, (0, 1, 1)));
+}
+
+/// Change 3: question 13's limit is not scaled, and turns and totals do not depend on prices.
+#[test]
+fn question_13_with_prices() {
+    // Inside 499(1000 + 1000) + 2000 = 10^6, outside 998003(10^6 + 2000) + 2000, and 495·2000 + 2000: 10^12.
+    let mut rows = vec!["for v0 1 <= 998003 add 1", "for v1 1 <= 499 add 1", "end", "end", "for v2 1 <= 495 add 1", "end"];
+    let ticks = |rows: &[&str], prices: &[u32]| plan(&file(&[(0, 0); 3], rows), prices, SCRATCH).map(|plan| plan.ticks);
+    assert_eq!(ticks(&rows, &[1_000, 1, 1, 1_000]), Ok(1_000_000_000_000));
+    rows.extend(["pick", "end"]);
+    assert_eq!(ticks(&rows, &[1_000, 1, 1, 1_000]), Err((13, 8)));
+    assert_eq!(ticks(&rows, &[999, 1, 1, 1_000]), Ok(999_500_000_001));
+    rows[0] = "for v0 1 <= 998004 add 1";
+    assert_eq!(ticks(&rows, &[1_000, 1, 1, 1_000]), Err((13, 3)));
+    let plan_of = |prices| plan(&file(LISTING_RANGES, LISTING), prices, SCRATCH).unwrap();
+    assert_eq!(plan_of(&PRICES).lines, plan_of(&ONES).lines);
 }
 
 /// The most turns that the first loop takes in one entry, from any store inside the ranges, without picks.
@@ -401,9 +511,9 @@ fn longest(ranges: &[(i64, i64)], rows: &[&str]) -> u64 {
         stores = stores.iter().flat_map(|s: &Vec<i32>| (lo..=hi).map(|n| [&s[..], &[n as i32]].concat())).collect();
     }
     let most = |store: &Vec<i32>| {
-        let run = run(&file, SCRATCH, store, &[], 1_000_000).unwrap();
+        let run = run(&file, &ONES, SCRATCH, store, &[], 1_000_000).unwrap();
         assert_eq!(run.ending, Ending::Ended);
-        assert_eq!(breach(&plan(&file, SCRATCH).unwrap(), &run), None);
+        assert_eq!(breach(&plan(&file, &ONES, SCRATCH).unwrap(), &run), None);
         run.loops[0].2
     };
     stores.iter().map(most).max().unwrap()
@@ -413,7 +523,7 @@ fn longest(ranges: &[(i64, i64)], rows: &[&str]) -> u64 {
 #[test]
 fn copied_counters() {
     let case: &[(i64, i64)] = &[(0, 0), (3, 3)];
-    let line = |ranges: &[(i64, i64)], rows: &[&str]| plan(&file(ranges, rows), SCRATCH).map(|plan| (plan.lines[0].turns, plan.lines[0].exact));
+    let line = |ranges: &[(i64, i64)], rows: &[&str]| plan(&file(ranges, rows), &ONES, SCRATCH).map(|plan| (plan.lines[0].turns, plan.lines[0].exact));
     // Document 02's case: 1 + c, from w's start moved by one turn; the copy first, it is not moved.
     assert_eq!(
         text(case, &["while v0 < 10", "add v1 1", "set v0 v1", "end"]).unwrap(),
@@ -438,7 +548,7 @@ fn copied_counters() {
     assert_eq!(line(&[(0, 0), (3, 3), (9, 10)], &rows), Ok((7, false)));
     assert_eq!(line(case, &["while v0 < 10", "pick", "add v1 1", "else", "add v1 2", "end", "set v0 v1", "end"]), Ok((7, false)));
     // v's range is kept neither inside nor after.
-    let plan_of = |rows: &[&str]| plan(&file(&[(0, 0), (0, 0), (0, 0)], rows), SCRATCH).unwrap();
+    let plan_of = |rows: &[&str]| plan(&file(&[(0, 0), (0, 0), (0, 0)], rows), &ONES, SCRATCH).unwrap();
     let inside = plan_of(&["while v0 < 3", "for v2 0 < v0 add 1", "end", "add v1 1", "set v0 v1", "end"]);
     assert_eq!(inside.lines[1].turns, 1_000_000_000);
     let after = plan_of(&["while v0 < 3", "add v1 1", "set v0 v1", "end", "for v2 0 < v0 add 1", "end"]);
@@ -453,7 +563,7 @@ fn copied_counters() {
 fn broken_copies() {
     let refused = |rows: &[&str]| {
         let rows = [rows, &["end"]].concat();
-        plan(&file(&[(0, 0), (3, 3), (0, 0)], &rows), SCRATCH).err()
+        plan(&file(&[(0, 0), (3, 3), (0, 0)], &rows), &ONES, SCRATCH).err()
     };
     for rows in [
         &["while v0 < 10", "add v1 1", "pick", "set v0 v1", "end"][..],
@@ -497,12 +607,12 @@ fn copied_counters_counted() {
             for head in ["while v0 < v2", "while v0 <= v2", "do v0 < v2", "do v0 <= v2"] {
                 for rows in [[head, "add v1 2", "set v0 v1", "end"], [head, "set v0 v1", "add v1 2", "end"]] {
                     let starts = [v, w, limit];
-                    assert_eq!(plan(&file(&starts, &rows), SCRATCH).unwrap().lines[0].turns, longest(&starts, &rows), "{starts:?} {rows:?}");
+                    assert_eq!(plan(&file(&starts, &rows), &ONES, SCRATCH).unwrap().lines[0].turns, longest(&starts, &rows), "{starts:?} {rows:?}");
                     // Turned round.
                     let starts = starts.map(|(lo, hi)| (-hi, -lo));
                     let rows = rows.map(|row| row.replace('<', ">").replace("add", "sub"));
                     let rows = [&rows[0][..], &rows[1], &rows[2], &rows[3]];
-                    assert_eq!(plan(&file(&starts, &rows), SCRATCH).unwrap().lines[0].turns, longest(&starts, &rows), "{starts:?} {rows:?}");
+                    assert_eq!(plan(&file(&starts, &rows), &ONES, SCRATCH).unwrap().lines[0].turns, longest(&starts, &rows), "{starts:?} {rows:?}");
                 }
             }
         }

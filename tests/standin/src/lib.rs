@@ -2,7 +2,7 @@
 //! N-th of the mistakes below, so that the harness can be seen to find them.
 
 use oracle::analyse::{copied, Term};
-use oracle::{read, report_into, report_text, run_counts, Counted, Ending, Plan, Refusal, Row};
+use oracle::{read, report_into, report_text, run_counts, Counted, Ending, Plan, Refusal, Row, ONES};
 use std::slice;
 use std::sync::OnceLock;
 
@@ -38,6 +38,8 @@ fn misread(file: &[u8], plan: &Result<Plan, Refusal>) -> Option<Result<Vec<u8>, 
 pub unsafe extern "C" fn diftanew_report(
     file: *const u8,
     file_len: usize,
+    prices: *const u32,
+    prices_len: usize,
     scratch: *mut u32,
     scratch_len: usize,
     buffer: *mut u8,
@@ -45,10 +47,11 @@ pub unsafe extern "C" fn diftanew_report(
     place: *mut u64,
 ) -> u32 {
     let file = slice::from_raw_parts(file, file_len);
+    let prices = slice::from_raw_parts(prices, prices_len);
     let scratch = slice::from_raw_parts_mut(scratch, scratch_len);
     let buffer = slice::from_raw_parts_mut(buffer, buffer_len);
-    let mut answer = report_into(file, scratch_len, buffer);
-    match misread(file, &oracle::plan(file, scratch_len)) {
+    let mut answer = report_into(file, prices, scratch_len, buffer);
+    match misread(file, &oracle::plan(file, prices, scratch_len)) {
         Some(Ok(text)) if text.len() <= buffer_len => {
             buffer[..text.len()].copy_from_slice(&text);
             answer = Ok(text.len() as u64);
@@ -63,6 +66,8 @@ pub unsafe extern "C" fn diftanew_report(
         Err((14, _)) if wrong(2) && buffer_len > 0 => buffer[0] = b'r',
         // 3: the scratch is used before it is measured.
         Err((1, _)) if wrong(3) && scratch_len > 0 => scratch[scratch_len - 1] = 0,
+        // 15: 2 before 16.
+        Err((16, _)) if wrong(15) && file_len > 16_384 => answer = Err((2, 16_384)),
         // 4: one number past the scratch.
         _ if wrong(4) => *scratch.as_mut_ptr().add(scratch_len) = 0,
         // 5: a wrong digit, if the report has 16 loops.
@@ -84,6 +89,8 @@ pub unsafe extern "C" fn diftanew_report(
 pub unsafe extern "C" fn diftanew_run(
     file: *const u8,
     file_len: usize,
+    prices: *const u32,
+    prices_len: usize,
     scratch: *mut u32,
     scratch_len: usize,
     store: *mut i32,
@@ -95,6 +102,11 @@ pub unsafe extern "C" fn diftanew_run(
 ) -> u32 {
     let file = slice::from_raw_parts(file, file_len);
     let _ = scratch;
+    let mut prices = slice::from_raw_parts(prices, prices_len);
+    // 16: every row takes one tick, whatever is lent.
+    if wrong(16) && oracle::prices::prices(prices).is_ok() {
+        prices = &ONES;
+    }
     let store = slice::from_raw_parts_mut(store, store_len);
     let picks = slice::from_raw_parts(picks, picks_len);
     let answer = slice::from_raw_parts_mut(answer, 53);
@@ -105,7 +117,7 @@ pub unsafe extern "C" fn diftanew_run(
     if wrong(8) {
         answer[52] = last;
     }
-    match run_counts(file, scratch_len, store, picks, allowance) {
+    match run_counts(file, prices, scratch_len, store, picks, allowance) {
         Err((number, place)) => {
             answer[0] = place;
             // 9: a refused run has touched the store.
@@ -125,7 +137,7 @@ pub unsafe extern "C" fn diftanew_run(
             answer[2] = counts.ticks;
             answer[3] = counts.used as u64;
             answer[4] = loops as u64;
-            let heads = oracle::plan(file, scratch_len).map(|plan| plan.lines).unwrap_or_default();
+            let heads = oracle::plan(file, prices, scratch_len).map(|plan| plan.lines).unwrap_or_default();
             for (k, line) in heads.iter().enumerate() {
                 answer[5 + 3 * k] = line.row as u64;
                 answer[6 + 3 * k] = counts.all[k];

@@ -20,7 +20,7 @@ returns c =
     let z = c .before .before .before .changed in
     let f : SFits w32 (x .result) = sfits-of (x .ok) in
     let g : SFits w64 (z .result) = sfits-of (z .ok) in
-    λ d. put-plain (a .at) (a .v) (a .row) (a .testing) (changed (a .change)) (simp (toZ-ofZ g) (simp (toZ-ofZ f) at (z .ensures) ∙ ap (applied (a .change)) (x .ensures))) (c .before .put .ensures d)
+    λ d. put-plain (a .prices) (a .at) (a .v) (a .row) (a .testing) (changed (a .change)) (simp (toZ-ofZ g) (simp (toZ-ofZ f) at (z .ensures) ∙ ap (applied (a .change)) (x .ensures))) (c .before .put .ensures d)
 
 pub move-row-spec : {M : Type 1} → statement M
 move-row-spec =

@@ -10,7 +10,7 @@ use Rattle.actions.proofs.put.Statement.{statement}
 use Rattle.actions.proofs.put.Tie as tie
 
 returns : tie.Need-returns
-returns c = λ d. rw (c .ended .ensures) (put-spent _ _ _ _ _ _ _ (c .before .before .args .testing) (c .before .if1 .taken))
+returns c = λ d. rw (c .ended .ensures) (put-spent _ _ _ _ _ _ _ _ (c .before .before .args .testing) (c .before .if1 .taken))
 
 cast-store : tie.Need-cast-store
 cast-store c =
@@ -22,14 +22,14 @@ returns-2 c =
     let s = c .before .before .before .before in
     let f = s .fits .z in
     let yes : inLimits (s .args .z) ≡ true = simp (toZ-ofZ f) at (sym (c .before .before .within-limits .ensures) ∙ c .before .if2 .taken) in
-    λ d. rw (c .on .ensures, toZ-ofZ f, toZ-ofZ (limits-fit _ yes)) (put-done _ _ _ _ _ _ _ (s .args .testing) (c .before .before .before .if1 .left) yes (s .pre))
+    λ d. rw (c .on .ensures, toZ-ofZ f, toZ-ofZ (limits-fit _ yes)) (put-done _ _ _ _ _ _ _ _ (s .args .testing) (c .before .before .before .if1 .left) yes (s .pre))
 
 returns-3 : tie.Need-returns-3
 returns-3 c =
     let s = c .before .before .before .before in
     let f = s .fits .z in
     let no : inLimits (s .args .z) ≡ false = simp (toZ-ofZ f) at (sym (c .before .before .within-limits .ensures) ∙ c .before .if2 .left) in
-    λ d. rw (c .ended2 .ensures) (put-range _ _ _ _ _ _ _ (s .args .testing) (c .before .before .before .if1 .left) no)
+    λ d. rw (c .ended2 .ensures) (put-range _ _ _ _ _ _ _ _ (s .args .testing) (c .before .before .before .if1 .left) no)
 
 pub put-spec : {M : Type 1} → statement M
 put-spec =
@@ -41,9 +41,7 @@ put-spec =
     cast-store
     (λ c. search needs)
     (λ c. search needs)
-    (λ c. search needs)
     (λ c κs. search needs)
-    (λ c. search needs)
     (λ c κs. search needs)
     (λ c. search needs)
     returns-2

@@ -20,7 +20,7 @@ returns c =
     let x = c .before .before .before .value-of in
     let f : SFits w32 (x .result) = sfits-of (x .ok) in
     let g : SFits w64 (x .result) = sfits-widen tt f in
-    λ d. put-plain (a .at) (a .v) (a .row) (a .testing) (from (a .x)) (simp (toZ-ofZ f, toZ-ofZ g) (x .ensures)) (c .before .put .ensures d)
+    λ d. put-plain (a .prices) (a .at) (a .v) (a .row) (a .testing) (from (a .x)) (simp (toZ-ofZ f, toZ-ofZ g) (x .ensures)) (c .before .put .ensures d)
 
 pub set-row-spec : {M : Type 1} → statement M
 set-row-spec = tie.close (tie.spec (λ c κs. search needs) cast-put (λ c κs. search needs) (λ c. search needs) returns)

@@ -16,7 +16,7 @@ returns c =
     let r = c .before .before .before .before .run-rows in
     let l = c .before .loops-of in
     let ks = take (s .args .count) (kindsOf (s .args .rows)) in
-    let a = runOf ks (s .args .store .now) (s .args .picks .now) (s .args .allowance) in
+    let a = runOf (s .args .prices) ks (s .args .store .now) (s .args .picks .now) (s .args .allowance) in
     let counts = counts-are (a .entries) _ (r .ensures .sums) (r .ensures .mosts) ks (l .result) (l .ensures) in
     let number = counts-number (a .entries) _ (r .ensures .sums) (r .ensures .mosts) ks (l .result) (l .ensures) in
     record {

@@ -2,17 +2,16 @@
 use mathlib.Core.Path.{_≡_}
 use mathlib.Core.List.{List}
 use lib.IntN.{ℤ}
-use lib.ListN.{take}
+use lib.ListN.{length, take}
 use native.Mathlib.Omega.{arith}
 use Rattle.rules.specs.Scripts.{Script, scriptOf}
-use Rattle.rules.specs.Figures.{ones}
 use Rattle.rules.specs.Calls.{runReply}
 use Rattle.rules.specs.Claim.{Demand3Of}
 use Rattle.rules.proofs.FromBytes.{demand3-script}
 use Rattle.calls.specs.declared.Outcome.{Outcome}
 use Rattle.calls.specs.Held.{judgedScript, Found}
 use Rattle.calls.specs.Told.{Ran}
-use Rattle.calls.proofs.Tables.{few-rows, fine-rows, survey-asks, survey-found}
+use Rattle.calls.proofs.Tables.{four, fine, few-rows, fine-rows, survey-asks, survey-found}
 use Rattle.calls.proofs.Judging.{ticks-few}
 use Rattle.calls.proofs.Runs.{told-says, ran-no, ran-out, may-run, ran-all}
 use borrow.Author.Needs.{needs}
@@ -23,77 +22,86 @@ use Rattle.calls.proofs.run_script.Tie as tie
 abbrev script : tie.Start → Script
 script s = scriptOf (s .args .t3) (s .args .vars) (s .args .rows) (s .args .count)
 
+-- the ranges are a whole array
+full-ranges : (s : tie.Start) → length (s .args .t3) ≡ 16
+full-ranges s = search needs
+
 put-rows-requires : tie.Need-put-rows-requires
-put-rows-requires c κs = let s = c .before .before in (search needs, few-rows _ _ _ _ (s .pre), fine-rows _ _ _ _ (s .pre))
+put-rows-requires c κs = let s = c .before .before .before in (search needs, few-rows _ _ _ _ (s .pre .0), fine-rows _ _ _ _ (s .pre .0))
+
+prices-of-requires : tie.Need-prices-of-requires
+prices-of-requires c κs = four _ (c .before .before .before .before .pre .1)
 
 survey-requires : tie.Need-survey-requires
 survey-requires c κs =
-    let s = c .before .before .before .before .before in
-    let p = c .before .before .put-rows in
-    survey-asks (s .args .t3) (s .args .vars) (s .args .rows) (s .args .count) (s .pre) (p .last .0) (p .ensures .1) (p .ensures .0) (search needs)
+    let s = c .before .before .before .before .before .before .before in
+    let p = c .before .before .before .put-rows in
+    survey-asks (s .args .t3) (s .args .vars) (s .args .rows) (s .args .count) (s .pre .0) (p .last .0) (p .ensures .1) (p .ensures .0) (fine (s .args .prices .now) (s .pre .1) (c .before .before .prices-of .ensures)) (search needs)
 
 -- what the survey found of it
-found : (c : tie.After-survey) → Found (script (c .before .before .before .before .before .before)) (c .before .before .before .before .before .before .args .count) (c .survey .result) (c .survey .last .1 .1 .1 .1 .0)
+found : (c : tie.After-survey) → Found (c .before .before .before .before .before .before .before .before .args .prices .now) (script (c .before .before .before .before .before .before .before .before)) (c .before .before .before .before .before .before .before .before .args .count) (c .survey .result) (c .survey .last .1 .1 .1 .1 .1 .0)
 found c =
-    let s = c .before .before .before .before .before .before in
-    let p = c .before .before .before .put-rows in
-    survey-found (s .args .t3) (s .args .vars) (s .args .rows) (s .args .count) (s .pre) (p .last .0) (p .ensures .1) (c .survey .result) _ (c .survey .ensures)
+    let s = c .before .before .before .before .before .before .before .before in
+    let p = c .before .before .before .before .put-rows in
+    survey-found (s .args .t3) (s .args .vars) (s .args .rows) (s .args .count) (s .pre .0) (p .last .0) (p .ensures .1) (s .args .prices .now) (c .before .before .before .prices-of .ensures) (c .survey .result) _ (c .survey .ensures)
 
 -- demand 3 of that answer
 with-kept : (s : tie.Start) (o : Outcome) (new : List ℤ)
-    → Ran (runReply ones (judgedScript (script s)) (s .args .store .now) (s .args .picks .now) (s .args .allowance)) (s .args .store .now) new o
-    → Ran (runReply ones (judgedScript (script s)) (s .args .store .now) (s .args .picks .now) (s .args .allowance)) (s .args .store .now) new o
-    × Demand3Of (judgedScript (script s)) (s .args .store .now) (s .args .picks .now) (s .args .allowance) (o .ending) (o .ticks) (take (o .loops) (o .counts))
+    → Ran (runReply (s .args .prices .now) (judgedScript (s .args .prices .now) (script s)) (s .args .store .now) (s .args .picks .now) (s .args .allowance)) (s .args .store .now) new o
+    → Ran (runReply (s .args .prices .now) (judgedScript (s .args .prices .now) (script s)) (s .args .store .now) (s .args .picks .now) (s .args .allowance)) (s .args .store .now) new o
+    × Demand3Of (s .args .prices .now) (judgedScript (s .args .prices .now) (script s)) (s .args .store .now) (s .args .picks .now) (s .args .allowance) (o .ending) (o .ticks) (take (o .loops) (o .counts))
 with-kept s o new r =
-    (r, demand3-script (s .args .store .now) (s .args .picks .now) (s .args .allowance) (o .ending) (o .ticks) (take (o .loops) (o .counts)) (script s) (s .pre .legal) (told-says o (runReply ones (judgedScript (script s)) (s .args .store .now) (s .args .picks .now) (s .args .allowance)) (r .told)))
+    (r, demand3-script (s .args .prices .now) (s .args .store .now) (s .args .picks .now) (s .args .allowance) (o .ending) (o .ticks) (take (o .loops) (o .counts)) (s .pre .1) (script s) (s .pre .0 .legal) (told-says o (runReply (s .args .prices .now) (judgedScript (s .args .prices .now) (script s)) (s .args .store .now) (s .args .picks .now) (s .args .allowance)) (r .told)))
 
 returns : tie.Need-returns
 returns c =
-    let s = c .before .before .before .before .before .before .before .before .before in
+    let s = c .before .before .before .before .before .before .before .before .before .before .before in
     let f = c .before .before .before .survey in
     let h : f .result .number ≡ 0 → ⊥ = search needs in
-    with-kept s _ _ (ran-no (script s) (s .args .count) (f .result) _ (found (c .before .before .before)) (s .args .store .now) (s .args .picks .now) (s .args .allowance) h _ (c .refusal .ensures))
+    with-kept s _ _ (ran-no (s .args .prices .now) (script s) (s .args .count) (f .result) _ (found (c .before .before .before)) (s .args .store .now) (s .args .picks .now) (s .args .allowance) h _ (c .refusal .ensures))
 
 ask-store-requires : tie.Need-ask-store-requires
-ask-store-requires c κs = (c .before .before .before .before .before .before .before .before .before .before .pre .few, search needs)
+ask-store-requires c κs = (c .before .before .before .before .before .before .before .before .before .before .before .before .pre .0 .few, full-ranges (c .before .before .before .before .before .before .before .before .before .before .before .before))
 
 run-accepted-requires : tie.Need-run-accepted-requires
 unfolding scriptOf
 run-accepted-requires c κs =
-    let s = c .before .before .before .before .before .before .before .before .before .before .before .before .before .before .before in
+    let s = c .before .before .before .before .before .before .before .before .before .before .before .before .before .before .before .before .before in
     let f = c .before .before .before .before .before .before .before .before .before .survey in
     let q = c .before .before .before .before .ask-store in
     let z : f .result .number ≡ 0 = search needs in
-    let few = ticks-few (script s) (s .args .count) (f .result) _ (found (c .before .before .before .before .before .before .before .before .before)) z in
+    let few = ticks-few (s .args .prices .now) (script s) (s .args .count) (f .result) _ (found (c .before .before .before .before .before .before .before .before .before)) z in
     record {
-      size = few-rows _ _ _ _ (s .pre);
-      runs = may-run (script s) (s .args .count) (f .result) _ (found (c .before .before .before .before .before .before .before .before .before)) (s .args .store .now) (s .args .picks .now) (s .args .allowance) z (q .result) (q .ensures) (c .before .before .enum-told .given .1) (s .pre .legal);
+      size = few-rows _ _ _ _ (s .pre .0);
+      price = fine (s .args .prices .now) (s .pre .1) (c .before .before .before .before .before .before .before .before .before .before .before .before .prices-of .ensures) .test .some;
+      runs = may-run (s .args .prices .now) (script s) (s .args .count) (f .result) _ (found (c .before .before .before .before .before .before .before .before .before)) (s .args .store .now) (s .args .picks .now) (s .args .allowance) z (q .result) (q .ensures) (c .before .before .enum-told .given .1) (s .pre .0 .legal);
       ticks = omega (arith, c .smaller .ensures);
     }
 
 returns-2 : tie.Need-returns-2
 unfolding scriptOf
 returns-2 c =
-    let s = c .before .before .before .before .before .before .before .before .before .before .before .before .before .before .before .before .before in
+    let s = c .before .before .before .before .before .before .before .before .before .before .before .before .before .before .before .before .before .before .before in
     let f = c .before .before .before .before .before .before .before .before .before .before .before .survey in
     let q = c .before .before .before .before .before .before .ask-store in
     let z : f .result .number ≡ 0 = omega (arith, c .before .before .before .before .before .before .before .before .before .if1 .left) in
-    with-kept s _ _ (ran-all (s .args .t3) (s .args .vars) (s .args .rows) (s .args .count) (f .result) _ (found (c .before .before .before .before .before .before .before .before .before .before .before)) (s .args .store .now) (s .args .picks .now) (s .args .allowance) z (q .result) (q .ensures) (c .before .before .before .before .enum-told .given .1) (s .pre .legal) _ (c .before .before .smaller .ensures) _ _ (c .before .run-accepted .ensures))
+    with-kept s _ _ (ran-all (s .args .prices .now) (s .pre .1) _ (c .before .before .before .before .before .before .before .before .before .before .before .before .before .before .prices-of .ensures) (s .args .t3) (s .args .vars) (s .args .rows) (s .args .count) (f .result) _ (found (c .before .before .before .before .before .before .before .before .before .before .before)) (s .args .store .now) (s .args .picks .now) (s .args .allowance) z (q .result) (q .ensures) (c .before .before .before .before .enum-told .given .1) (s .pre .0 .legal) _ (c .before .before .smaller .ensures) _ _ (c .before .run-accepted .ensures))
 
 returns-3 : tie.Need-returns-3
 unfolding scriptOf
 returns-3 c =
-    let s = c .before .before .before .before .before .before .before .before .before .before .before .before .before .before .before in
+    let s = c .before .before .before .before .before .before .before .before .before .before .before .before .before .before .before .before .before in
     let f = c .before .before .before .before .before .before .before .before .before .survey in
     let q = c .before .before .before .before .ask-store in
     let z : f .result .number ≡ 0 = omega (arith, c .before .before .before .before .before .before .before .if1 .left) in
-    with-kept s _ _ (ran-out (script s) (s .args .count) (f .result) _ (found (c .before .before .before .before .before .before .before .before .before)) (s .args .store .now) (s .args .picks .now) (s .args .allowance) z (q .result) (q .ensures) _ _ (c .before .before .asked .given .1) _ (c .refusal2 .ensures))
+    with-kept s _ _ (ran-out (s .args .prices .now) (script s) (s .args .count) (f .result) _ (found (c .before .before .before .before .before .before .before .before .before)) (s .args .store .now) (s .args .picks .now) (s .args .allowance) z (q .result) (q .ensures) _ _ (c .before .before .asked .given .1) _ (c .refusal2 .ensures))
 
 pub run-script-spec : {M : Type 1} → statement M
 run-script-spec =
     tie.close
     (tie.spec
     put-rows-requires
+    prices-of-requires
     survey-requires
     (λ c κs. search needs)
     returns

@@ -67,7 +67,7 @@ unfolding viewOf onEnd
 returns-9 c =
     let s = c .before .before .before .before .before .before .before .args in (
       λ rows shut opener.
-          by-flag (s .m .testing) (λ z. endTo rows shut opener (viewOf (s .head .kind)) (s .h) (s .m .row) (phaseOf z)) true (c .before .before .before .if1 .taken) (rw (c .before .before .before .before .before .kind3 .given .1) (c .test-row3 .ensures .0)),
+          by-flag (s .m .testing) (λ z. endTo (s .prices) rows shut opener (viewOf (s .head .kind)) (s .h) (s .m .row) (phaseOf z)) true (c .before .before .before .if1 .taken) (rw (c .before .before .before .before .before .kind3 .given .1) (c .test-row3 .ensures .0)),
       search needs,
     )
 
@@ -76,8 +76,8 @@ unfolding viewOf onEnd
 returns-10 c =
     let s = c .before .before .before .before .before .before .before .before .before .before .before .before .args in (
       λ rows shut opener.
-          by-flag (s .m .testing) (λ z. endTo rows shut opener (viewOf (s .head .kind)) (s .h) (s .m .row) (phaseOf z)) false (c .before .before .before .before .before .before .before .before .if1 .left)
-          (rw (c .before .before .before .before .before .before .before .before .before .before .kind3 .given .1) (then-tests (s .h) (s .m .row) (test _ _ _) _ (c .before .before .before .before .before .before .move-row .ensures _) (sym (c .before .before .before .before .waits .ensures) ∙ c .before .before .before .if2 .taken) (c .test-row4 .ensures .0))),
+          by-flag (s .m .testing) (λ z. endTo (s .prices) rows shut opener (viewOf (s .head .kind)) (s .h) (s .m .row) (phaseOf z)) false (c .before .before .before .before .before .before .before .before .if1 .left)
+          (rw (c .before .before .before .before .before .before .before .before .before .before .kind3 .given .1) (then-tests (s .prices) (s .h) (s .m .row) (test _ _ _) _ (c .before .before .before .before .before .before .move-row .ensures _) (sym (c .before .before .before .before .waits .ensures) ∙ c .before .before .before .if2 .taken) (c .test-row4 .ensures .0))),
       search needs,
     )
 
@@ -86,8 +86,8 @@ unfolding viewOf onEnd
 returns-11 c =
     let s = c .before .before .before .before .before .before .before .before .before .args in (
       λ rows shut opener.
-          by-flag (s .m .testing) (λ z. endTo rows shut opener (viewOf (s .head .kind)) (s .h) (s .m .row) (phaseOf z)) false (c .before .before .before .before .before .if1 .left)
-          (rw (c .before .before .before .before .before .before .before .kind3 .given .1) (no-tests (s .h) (s .m .row) (test _ _ _) _ (c .before .before .before .move-row .ensures _) (sym (c .before .waits .ensures) ∙ c .if2 .left))),
+          by-flag (s .m .testing) (λ z. endTo (s .prices) rows shut opener (viewOf (s .head .kind)) (s .h) (s .m .row) (phaseOf z)) false (c .before .before .before .before .before .if1 .left)
+          (rw (c .before .before .before .before .before .before .before .kind3 .given .1) (no-tests (s .prices) (s .h) (s .m .row) (test _ _ _) _ (c .before .before .before .move-row .ensures _) (sym (c .before .waits .ensures) ∙ c .if2 .left))),
       search needs,
     )
 

@@ -16,13 +16,13 @@ test-row-requires-2 c κs = tests-later (search needs) (c .before .before .befor
 returns : tie.Need-returns
 returns c =
     let a = c .before .before .before .before .args in
-    (by-flag (a .m .testing) (forTo (a .m .row) (a .e) (a .v) (a .y) (a .c) (a .x)) true (c .before .before .before .if1 .taken) (c .test-row .ensures .0), search needs)
+    (by-flag (a .m .testing) (forTo (a .prices) (a .m .row) (a .e) (a .v) (a .y) (a .c) (a .x)) true (c .before .before .before .if1 .taken) (c .test-row .ensures .0), search needs)
 
 returns-2 : tie.Need-returns-2
 returns-2 c =
     let a = c .before .before .before .before .before .before .before .before .before .before .before .args in (
-      by-flag (a .m .testing) (forTo (a .m .row) (a .e) (a .v) (a .y) (a .c) (a .x)) false (c .before .before .before .before .before .before .before .before .before .before .if1 .left)
-          (then-tests (a .m .row) (a .e) (test (a .v) (a .c) (a .x)) _ (after (plainTo (a .m .row) (assign (a .v) (from (a .y))) (a .m .row) true) (begin (a .m .row)) (c .before .before .before .before .before .before .before .before .begin .ensures .same) (c .before .before .before .before .before .before .set-row .ensures _))
+      by-flag (a .m .testing) (forTo (a .prices) (a .m .row) (a .e) (a .v) (a .y) (a .c) (a .x)) false (c .before .before .before .before .before .before .before .before .before .before .if1 .left)
+          (then-tests (a .prices) (a .m .row) (a .e) (test (a .v) (a .c) (a .x)) _ (after (plainTo (a .prices) (a .m .row) (assign (a .v) (from (a .y))) (a .m .row) true) (begin (a .m .row)) (c .before .before .before .before .before .before .before .before .begin .ensures .same) (c .before .before .before .before .before .before .set-row .ensures _))
           (sym (c .before .before .before .before .waits .ensures) ∙ c .before .before .before .if2 .taken) (c .test-row2 .ensures .0)),
       search needs,
     )
@@ -30,8 +30,8 @@ returns-2 c =
 returns-3 : tie.Need-returns-3
 returns-3 c =
     let a = c .before .before .before .before .before .before .before .before .args in (
-      by-flag (a .m .testing) (forTo (a .m .row) (a .e) (a .v) (a .y) (a .c) (a .x)) false (c .before .before .before .before .before .before .before .if1 .left)
-          (no-tests (a .m .row) (a .e) (test (a .v) (a .c) (a .x)) _ (after (plainTo (a .m .row) (assign (a .v) (from (a .y))) (a .m .row) true) (begin (a .m .row)) (c .before .before .before .before .before .begin .ensures .same) (c .before .before .before .set-row .ensures _)) (sym (c .before .waits .ensures) ∙ c .if2 .left)),
+      by-flag (a .m .testing) (forTo (a .prices) (a .m .row) (a .e) (a .v) (a .y) (a .c) (a .x)) false (c .before .before .before .before .before .before .before .if1 .left)
+          (no-tests (a .prices) (a .m .row) (a .e) (test (a .v) (a .c) (a .x)) _ (after (plainTo (a .prices) (a .m .row) (assign (a .v) (from (a .y))) (a .m .row) true) (begin (a .m .row)) (c .before .before .before .before .before .begin .ensures .same) (c .before .before .before .set-row .ensures _)) (sym (c .before .waits .ensures) ∙ c .if2 .left)),
       search needs,
     )
 

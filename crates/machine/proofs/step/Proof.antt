@@ -3,7 +3,6 @@ use Rattle.machine.proofs.Laws.{passed, after, tests-while, tests-for, 
 use Rattle.actions.specs.States.{Doable}
 use Rattle.rules.specs.Blocks.{test, viewOf}
 use Rattle.rules.specs.RowMachine.{begin, turn, tests}
-use Rattle.rules.specs.Figures.{ones}
 use Rattle.rules.specs.declared.Kind.{Kind}
 use mathlib.Core.Path.{_≡_, refl, _∙_, ap, subst}
 use borrow.Author.Needs.{needs}
@@ -30,14 +29,14 @@ returns : tie.Need-returns
 unfolding viewOf
 returns c =
     let s = c .before .before .before .before .before .before .before .args in
-    (λ rows shut opener f. rw (c .before .before .before .before .enum-told .given .1) (acts-row _ (c .before .end-row .ensures .0 rows shut opener) (λ t d. at-end rows shut opener (s .m .row) (s .e) (s .h) (viewOf (s .head .kind)) f t d (s .m .testing))), search needs)
+    (λ rows shut opener f. rw (c .before .before .before .before .enum-told .given .1) (acts-row _ (c .before .end-row .ensures .0 rows shut opener) (λ t d. at-end (s .prices) rows shut opener (s .m .row) (s .e) (s .h) (viewOf (s .head .kind)) f t d (s .m .testing))), search needs)
 
 returns-2 : tie.Need-returns-2
 unfolding viewOf
 returns-2 c =
     let s = c .before .before .before .before .args in (
       λ rows shut opener f.
-          rw (c .before .enum-told2 .given .1, c .on .ensures) (acts-row _ (passed _ _ _ _ _ (λ d. d) refl) (λ t d. at-else rows shut opener (s .m .row) (s .e) (s .h) (viewOf (s .head .kind)) f t d (s .m .testing))),
+          rw (c .before .enum-told2 .given .1, c .on .ensures) (acts-row _ (passed _ _ _ _ _ (λ d. d) refl) (λ t d. at-else (s .prices) rows shut opener (s .m .row) (s .e) (s .h) (viewOf (s .head .kind)) f t d (s .m .testing))),
       search needs,
     )
 
@@ -45,25 +44,25 @@ returns-3 : tie.Need-returns-3
 unfolding viewOf
 returns-3 c =
     let s = c .before .before .before .before .args in
-    (λ rows shut opener f. rw (c .before .enum-told3 .given .1) (steps-row (c .pick-row .ensures _ _) (λ t d. at-pick rows shut opener (s .m .row) (s .e) (s .h) (viewOf (s .head .kind)) f t d (s .m .testing))), search needs)
+    (λ rows shut opener f. rw (c .before .enum-told3 .given .1) (steps-row (c .pick-row .ensures _ _) (λ t d. at-pick (s .prices) rows shut opener (s .m .row) (s .e) (s .h) (viewOf (s .head .kind)) f t d (s .m .testing))), search needs)
 
 returns-4 : tie.Need-returns-4
 unfolding viewOf
 returns-4 c =
     let s = c .before .before .before .before .before .before .before .args in
-    (λ rows shut opener f. rw (c .before .before .before .before .kind .given .1) (acts-row _ (c .before .set-row .ensures _) (λ t d. at-plain rows shut opener (s .m .row) (s .e) (s .h) (viewOf (s .head .kind)) f t d _ (s .m .testing))), search needs)
+    (λ rows shut opener f. rw (c .before .before .before .before .kind .given .1) (acts-row _ (c .before .set-row .ensures _) (λ t d. at-plain (s .prices) rows shut opener (s .m .row) (s .e) (s .h) (viewOf (s .head .kind)) f t d _ (s .m .testing))), search needs)
 
 returns-5 : tie.Need-returns-5
 unfolding viewOf
 returns-5 c =
     let s = c .before .before .before .before .before .before .before .args in
-    (λ rows shut opener f. rw (c .before .before .before .before .kind2 .given .1) (acts-row _ (c .before .move-row .ensures _) (λ t d. at-plain rows shut opener (s .m .row) (s .e) (s .h) (viewOf (s .head .kind)) f t d _ (s .m .testing))), search needs)
+    (λ rows shut opener f. rw (c .before .before .before .before .kind2 .given .1) (acts-row _ (c .before .move-row .ensures _) (λ t d. at-plain (s .prices) rows shut opener (s .m .row) (s .e) (s .h) (viewOf (s .head .kind)) f t d _ (s .m .testing))), search needs)
 
 returns-6 : tie.Need-returns-6
 unfolding viewOf
 returns-6 c =
     let s = c .before .before .before .before .args in
-    (λ rows shut opener f. rw (c .before .enum-told4 .given .1) (acts-row _ (c .cue-row .ensures _ _ _) (λ t d. at-plain rows shut opener (s .m .row) (s .e) (s .h) (viewOf (s .head .kind)) f t d _ (s .m .testing))), search needs)
+    (λ rows shut opener f. rw (c .before .enum-told4 .given .1) (acts-row _ (c .cue-row .ensures _ _ _) (λ t d. at-plain (s .prices) rows shut opener (s .m .row) (s .e) (s .h) (viewOf (s .head .kind)) f t d _ (s .m .testing))), search needs)
 
 returns-7 : tie.Need-returns-7
 unfolding viewOf
@@ -71,7 +70,7 @@ returns-7 c =
     let a = c .before .before .before .before .before .before .before .before .before .args in (
       λ rows shut opener f.
           rw (c .before .before .before .before .before .before .kind3 .given .1)
-          (acts-row _ (after (tests ones (a .m .row) (a .e) (test _ _ _)) (begin (a .m .row)) (c .before .before .before .begin .ensures .same) (c .test-row .ensures .0)) (λ t d. at-while rows shut opener (a .m .row) (a .e) (a .h) (viewOf (a .head .kind)) f t d _ _ (a .m .testing))),
+          (acts-row _ (after (tests (a .prices) (a .m .row) (a .e) (test _ _ _)) (begin (a .m .row)) (c .before .before .before .begin .ensures .same) (c .test-row .ensures .0)) (λ t d. at-while (a .prices) rows shut opener (a .m .row) (a .e) (a .h) (viewOf (a .head .kind)) f t d _ _ (a .m .testing))),
       search needs,
     )
 
@@ -82,7 +81,7 @@ returns-8 c =
     let i = a .m .row in (
       λ rows shut opener f.
           rw (c .before .before .before .before .before .enum-told5 .given .1, c .on2 .ensures)
-          (acts-row _ (passed _ _ _ _ _ (λ d. turn i (begin i d)) (c .before .count-turn .ensures .0 ∙ ap (turn i) (c .before .before .before .begin2 .ensures .same))) (λ t d. at-do rows shut opener i (a .e) (a .h) (viewOf (a .head .kind)) f t d _ _ (a .m .testing))),
+          (acts-row _ (passed _ _ _ _ _ (λ d. turn i (begin i d)) (c .before .count-turn .ensures .0 ∙ ap (turn i) (c .before .before .before .begin2 .ensures .same))) (λ t d. at-do (a .prices) rows shut opener i (a .e) (a .h) (viewOf (a .head .kind)) f t d _ _ (a .m .testing))),
       search needs,
     )
 
@@ -90,7 +89,7 @@ returns-9 : tie.Need-returns-9
 unfolding viewOf
 returns-9 c =
     let s = c .before .before .before .before .before .before .before .before .args in
-    (λ rows shut opener f. rw (c .before .before .before .before .before .kind4 .given .1) (acts-row _ (c .before .for-row .ensures .0) (λ t d. at-for rows shut opener (s .m .row) (s .e) (s .h) (viewOf (s .head .kind)) f t d _ _ _ _ _ (s .m .testing))), search needs)
+    (λ rows shut opener f. rw (c .before .before .before .before .before .kind4 .given .1) (acts-row _ (c .before .for-row .ensures .0) (λ t d. at-for (s .prices) rows shut opener (s .m .row) (s .e) (s .h) (viewOf (s .head .kind)) f t d _ _ _ _ _ (s .m .testing))), search needs)
 
 pub step-spec : {M : Type 1} → statement M
 step-spec =

@@ -7,10 +7,10 @@ use Rattle.rehearse.proofs.read_values.Statement.{statement}
 use Rattle.rehearse.proofs.read_values.Tie as tie
 
 abbrev Inv-loop : tie.InvT-loop
-Inv-loop arguments store₀ i₀ store i = (4 ≤ i) × (length store ≡ length store₀)
+Inv-loop first arguments store₀ i₀ store i = (first ≤ i) × (length store ≡ length store₀)
 
 abbrev μ-loop : tie.MeasureT-loop
-μ-loop arguments store₀ i₀ store i = arguments - i
+μ-loop first arguments store₀ i₀ store i = arguments - i
 
 pub read-values-spec : {M : Type 1} → statement M
 read-values-spec =

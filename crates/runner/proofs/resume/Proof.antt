@@ -14,10 +14,10 @@ use Rattle.runner.proofs.resume.Statement.{statement}
 use Rattle.runner.proofs.resume.Tie as tie
 
 abbrev Inv-loop : tie.InvT-loop
-Inv-loop count store₀ picks counts₀ rows tables m₀ store counts m = Runs rows count tables picks m₀ store₀ counts₀ m store counts
+Inv-loop count prices store₀ picks counts₀ rows tables m₀ store counts m = Runs prices rows count tables picks m₀ store₀ counts₀ m store counts
 
 abbrev μ-loop : tie.MeasureT-loop
-μ-loop count store₀ picks counts₀ rows tables m₀ store counts m = weight (length (take count (kindsOf rows))) (nextOf m store picks (tallyOf counts))
+μ-loop count prices store₀ picks counts₀ rows tables m₀ store counts m = weight (length (take count (kindsOf rows))) (nextOf m store picks (tallyOf counts))
 
 -- the rows and the tables are whole arrays
 full-rows : (s : tie.Start Inv-loop μ-loop) → length (s .args .t1) ≡ 256
@@ -34,9 +34,9 @@ turned : (c : tie.After-store Inv-loop μ-loop)
     → let a = c .before .before .before .before .before .before .before .before .before .before .before .before .before .args in
     let l = c .before .before .before .before .before .before .before .before .before .before .before .loop in
     let z = c .before .step in
-    let store = z .last .1 .1 .1 .1 .1 .0 in
-    let counts = z .last .1 .1 .1 .1 .1 .1 .1 .0 in
-    Runs (a .t1) (a .count) (a .t3) (a .picks .now) (a .from) (a .store .now) (a .counts .now) (z .result) store counts
+    let store = z .last .1 .1 .1 .1 .1 .1 .0 in
+    let counts = z .last .1 .1 .1 .1 .1 .1 .1 .1 .0 in
+    Runs (a .prices) (a .t1) (a .count) (a .t3) (a .picks .now) (a .from) (a .store .now) (a .counts .now) (z .result) store counts
     × (weight (length (take (a .count) (kindsOf (a .t1)))) (nextOf (z .result) store (a .picks .now) (tallyOf counts)) < weight (length (take (a .count) (kindsOf (a .t1)))) (nextOf (l .m) (l .store) (a .picks .now) (tallyOf (l .counts))))
 turned c =
     let s = c .before .before .before .before .before .before .before .before .before .before .before .before .before in
@@ -45,10 +45,10 @@ turned c =
     let z = c .before .step in
     let go = sym (c .before .before .before .before .before .before .before .before .before .before .going .ensures) ∙ c .before .before .before .before .before .before .before .before .before .if1 .taken in
     let i = c .before .before .before .before .before .before .before .before .if2 .taken in
-    runs-step (a .t1) (a .count) (a .t3) (a .picks .now) (a .from) (a .store .now) (a .counts .now) (full-rows s) (s .pre) (l .m) (l .store) (l .counts) (l .inv) go (z .result) _ _ (z .kept .1 .1 .1 .1 .1 .0, z .ensures .1) i (z .ensures .0 _ _ _ (fitting (a .t1) (a .count) (a .t3) (a .picks .now) (a .from) (a .store .now) (a .counts .now) (full-rows s) (s .pre) (l .m) (l .store) (l .counts) (l .inv) go i))
+    runs-step (a .prices) (a .t1) (a .count) (a .t3) (a .picks .now) (a .from) (a .store .now) (a .counts .now) (full-rows s) (s .pre) (l .m) (l .store) (l .counts) (l .inv) go (z .result) _ _ (z .kept .1 .1 .1 .1 .1 .1 .0, z .ensures .1) i (z .ensures .0 _ _ _ (fitting (a .prices) (a .t1) (a .count) (a .t3) (a .picks .now) (a .from) (a .store .now) (a .counts .now) (full-rows s) (s .pre) (l .m) (l .store) (l .counts) (l .inv) go i))
 
 loop-holds : tie.Need-loop-holds Inv-loop μ-loop
-loop-holds c = let s = c .before in let a = s .args in runs-start (a .t1) (a .count) (a .t3) (a .picks .now) (a .from) (a .store .now) (a .counts .now) (full-rows s) (s .pre)
+loop-holds c = let s = c .before in let a = s .args in runs-start (a .prices) (a .t1) (a .count) (a .t3) (a .picks .now) (a .from) (a .store .now) (a .counts .now) (full-rows s) (s .pre)
 
 cast-e : tie.Need-cast-e Inv-loop μ-loop
 cast-e c = omega (arith, shut-fits (c .before .before .before .before .before .before .before) (c .before .before .before .before .before .loop .m .row))
@@ -70,7 +70,7 @@ step-requires c κs =
     let f = shut-fits s (l .m .row) in
     let go = sym (c .before .before .before .before .before .before .before .before .going .ensures) ∙ c .before .before .before .before .before .before .before .if1 .taken in
     let i = c .before .before .before .before .before .before .if2 .taken in
-    (doable (a .t1) (a .count) (a .t3) (a .picks .now) (a .from) (a .store .now) (a .counts .now) (full-rows s) (s .pre) (l .m) (l .store) (l .counts) (l .inv) go _ _ i (omega arith), doable (a .t1) (a .count) (a .t3) (a .picks .now) (a .from) (a .store .now) (a .counts .now) (full-rows s) (s .pre) (l .m) (l .store) (l .counts) (l .inv) go _ _ (head-in (a .t1) (a .count) (a .t3) (a .picks .now) (a .from) (a .store .now) (a .counts .now) (full-rows s) (s .pre) (l .m) (l .store) (l .counts) (l .inv) go i) (omega (arith, s .pre .size)))
+    (doable (a .prices) (a .t1) (a .count) (a .t3) (a .picks .now) (a .from) (a .store .now) (a .counts .now) (full-rows s) (s .pre) (l .m) (l .store) (l .counts) (l .inv) go _ _ i (omega arith), doable (a .prices) (a .t1) (a .count) (a .t3) (a .picks .now) (a .from) (a .store .now) (a .counts .now) (full-rows s) (s .pre) (l .m) (l .store) (l .counts) (l .inv) go _ _ (head-in (a .prices) (a .t1) (a .count) (a .t3) (a .picks .now) (a .from) (a .store .now) (a .counts .now) (full-rows s) (s .pre) (l .m) (l .store) (l .counts) (l .inv) go i) (omega (arith, s .pre .size)))
 
 loop-less : tie.Need-loop-less Inv-loop μ-loop
 loop-less c = turned c .1
@@ -83,14 +83,14 @@ loop-less-2 c =
     let s = c .before .before .before .before .before .before in
     let a = s .args in
     let l = c .before .before .before .before .loop in
-    rw (c .ended .ensures) (runs-past (a .t1) (a .count) (a .t3) (a .picks .now) (a .from) (a .store .now) (a .counts .now) (full-rows s) (s .pre) (l .m) (l .store) (l .counts) (l .inv) (sym (c .before .before .before .going .ensures) ∙ c .before .before .if1 .taken) (c .before .if2 .left) .1)
+    rw (c .ended .ensures) (runs-past (a .prices) (a .t1) (a .count) (a .t3) (a .picks .now) (a .from) (a .store .now) (a .counts .now) (full-rows s) (s .pre) (l .m) (l .store) (l .counts) (l .inv) (sym (c .before .before .before .going .ensures) ∙ c .before .before .if1 .taken) (c .before .if2 .left) .1)
 
 loop-again-2 : tie.Need-loop-again-2 Inv-loop μ-loop
 loop-again-2 c =
     let s = c .before .before .before .before .before .before in
     let a = s .args in
     let l = c .before .before .before .before .loop in
-    rw (c .ended .ensures) (runs-past (a .t1) (a .count) (a .t3) (a .picks .now) (a .from) (a .store .now) (a .counts .now) (full-rows s) (s .pre) (l .m) (l .store) (l .counts) (l .inv) (sym (c .before .before .before .going .ensures) ∙ c .before .before .if1 .taken) (c .before .if2 .left) .0)
+    rw (c .ended .ensures) (runs-past (a .prices) (a .t1) (a .count) (a .t3) (a .picks .now) (a .from) (a .store .now) (a .counts .now) (full-rows s) (s .pre) (l .m) (l .store) (l .counts) (l .inv) (sym (c .before .before .before .going .ensures) ∙ c .before .before .if1 .taken) (c .before .if2 .left) .0)
 
 same-length : tie.Need-same-length Inv-loop μ-loop
 same-length c = c .before .before .loop .inv .lengths .0
@@ -100,7 +100,7 @@ returns c =
     let s = c .before .before .before .before in
     let a = s .args in
     let l = c .before .before .loop in
-    runs-over (a .t1) (a .count) (a .t3) (a .picks .now) (a .from) (a .store .now) (a .counts .now) (full-rows s) (s .pre) (l .m) (l .store) (l .counts) (l .inv) (sym (c .before .going .ensures) ∙ c .if1 .left)
+    runs-over (a .prices) (a .t1) (a .count) (a .t3) (a .picks .now) (a .from) (a .store .now) (a .counts .now) (full-rows s) (s .pre) (l .m) (l .store) (l .counts) (l .inv) (sym (c .before .going .ensures) ∙ c .if1 .left)
 
 pub resume-spec : {M : Type 1} → statement M
 resume-spec =

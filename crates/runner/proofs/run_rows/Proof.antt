@@ -15,7 +15,7 @@ resume-requires c κs =
     let s = c .before .before .before .before .before .before in
     let a = s .args in
     let p = c .before .before .partners in
-    ready (a .rows) (a .count) (full-rows s) (a .store .now) (a .picks .now) (a .allowance) (s .pre .0) (p .result) (p .ensures) _ (c .before .before .before .clear .ensures)
+    ready (a .prices) (a .rows) (a .count) (full-rows s) (a .store .now) (a .picks .now) (a .allowance) (s .pre .0) (p .result) (p .ensures) _ (c .before .before .before .clear .ensures)
 
 returns : tie.Need-returns
 returns c =
@@ -24,7 +24,7 @@ returns c =
     let p = c .before .before .before .before .before .partners in
     let e = c .before .before .resume in
     rw (c .answer .ensures)
-    (answers (a .rows) (a .count) (full-rows s) (a .store .now) (a .picks .now) (a .allowance) (s .pre .0) (p .result) (p .ensures) _ (c .before .before .before .before .before .before .clear .ensures) (e .result) _ (e .last .1 .1 .1 .1 .1 .1 .0) (e .kept .1 .1 .1 .1 .0) (e .ensures))
+    (answers (a .prices) (a .rows) (a .count) (full-rows s) (a .store .now) (a .picks .now) (a .allowance) (s .pre .0) (p .result) (p .ensures) _ (c .before .before .before .before .before .before .clear .ensures) (e .result) _ (e .last .1 .1 .1 .1 .1 .1 .1 .0) (e .kept .1 .1 .1 .1 .1 .0) (e .ensures))
 
 pub run-rows-spec : {M : Type 1} → statement M
 run-rows-spec =

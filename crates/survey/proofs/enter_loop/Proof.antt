@@ -50,7 +50,7 @@ returns-2 c =
         verdict = ap (ofTrip i) (sym (one-is (c .before .before .before .before .before .before .before .before .before) .trip)) ∙ f .0 i;
         turns = f .1 ∙ ap turnsOf (one-is (c .before .before .before .before .before .before .before .before .before) .trip);
         total = c .before .before .before .times .ensures;
-        lined = lined-is (one-is (c .before .before .before .before .before .before .before .before .before) .trip) (c .before .last-ticks .ensures ∙ ap lastTicks (c .before .before .before .before .before .before .before .before .before .before .before .before .before .kind-at .ensures)) l;
+        lined = lined-is (one-is (c .before .before .before .before .before .before .before .before .before) .trip) (c .before .last-ticks .ensures ∙ ap (lastTicks (c .before .before .before .before .before .before .before .before .before .before .before .before .before .before .args .prices)) (c .before .before .before .before .before .before .before .before .before .before .before .before .before .kind-at .ensures)) l;
       };
     }
 

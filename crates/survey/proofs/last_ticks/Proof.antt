@@ -2,6 +2,7 @@
 use mathlib.Core.Path.{sym, ap}
 use borrow.Author.Needs.{needs}
 use Rattle.rules.specs.Blocks.{viewOf}
+use Rattle.rules.specs.Figures.{price}
 use Rattle.steps.specs.Tree.{headOf}
 use Rattle.survey.specs.Fold.{lastTicks}
 use Rattle.survey.proofs.Going.{no-last}
@@ -9,11 +10,11 @@ use Rattle.survey.proofs.last_ticks.Statement.{statement}
 use Rattle.survey.proofs.last_ticks.Tie as tie
 
 returns : tie.Need-returns
-unfolding headOf viewOf
-returns c = sym (ap lastTicks (c .enum-told .given .1))
+unfolding headOf viewOf price
+returns c = sym (ap (lastTicks (c .before .before .args .prices)) (c .enum-told .given .1))
 
 returns-2 : tie.Need-returns-2
-returns-2 c = no-last (c .before .args .kind) (c .match .keys2)
+returns-2 c = no-last (c .before .args .prices) (c .before .args .kind) (c .match .keys2)
 
 pub last-ticks-spec : {M : Type 1} → statement M
 last-ticks-spec = tie.close (tie.spec (λ c. search needs) returns returns-2)

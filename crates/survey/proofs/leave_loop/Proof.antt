@@ -2,7 +2,7 @@
 use mathlib.Core.Path.{ap, subst, _∙_}
 use borrow.Author.Needs.{needs}
 use native.Mathlib.Omega.{arith}
-use Rattle.rules.specs.Figures.{ones, loopTicks}
+use Rattle.rules.specs.Figures.{loopTicks}
 use Rattle.steps.specs.Tree.{formOf}
 use Rattle.ticks.specs.Capped.{capped}
 use Rattle.survey.specs.Fold.{withLines, Closed}
@@ -16,7 +16,7 @@ returns : tie.Need-returns
 returns c = record {
   env = c .before .before .before .outside .ensures;
   closed = λ B h ks ls. subst (λ F. Closed (withLines (c .before .before .before .before .before .args .t) ks) (withLines (c .before .before .before .before .before .args .body) ls) (c .before .before .before .before .before .args .one .next) F (withLines (c .closed .result) ls))
-      (c .before .loop-ticks .ensures B h ∙ ap (λ k. capped (loopTicks ones (formOf k) (c .before .before .before .before .before .args .turns) B)) (c .before .before .kind-at .ensures)) (c .closed .ensures ks ls);
+      (c .before .loop-ticks .ensures B h ∙ ap (λ k. capped (loopTicks (c .before .before .before .before .before .args .prices) (formOf k) (c .before .before .before .before .before .args .turns) B)) (c .before .before .kind-at .ensures)) (c .closed .ensures ks ls);
 }
 
 pub leave-loop-spec : {M : Type 1} → statement M

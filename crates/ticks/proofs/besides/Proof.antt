@@ -10,14 +10,14 @@ use Rattle.ticks.proofs.besides.Tie as tie
 
 returns : tie.Need-returns
 unfolding headOf viewOf
-returns c = sym (ap (λ k. once (formOf k)) (c .enum-told .given .1))
+returns c = sym (ap (λ k. once (c .before .before .args .prices) (formOf k)) (c .enum-told .given .1))
 
 returns-2 : tie.Need-returns-2
 unfolding headOf viewOf
-returns-2 c = sym (ap (λ k. once (formOf k)) (c .enum-told2 .given .1))
+returns-2 c = sym (ap (λ k. once (c .before .before .before .args .prices) (formOf k)) (c .before .enum-told2 .given .1))
 
 returns-3 : tie.Need-returns-3
-returns-3 c = once-one (c .before .args .kind) (c .match .keys3)
+returns-3 c = once-one (c .before .args .prices) (c .before .args .kind) (c .match .keys3)
 
 pub besides-spec : {M : Type 1} → statement M
-besides-spec = tie.close (tie.spec (λ c. search needs) (λ c. search needs) returns returns-2 returns-3)
+besides-spec = tie.close (tie.spec (λ c. search needs) (λ c. search needs) (λ c. search needs) returns returns-2 returns-3)

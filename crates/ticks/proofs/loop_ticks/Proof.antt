@@ -8,13 +8,13 @@ use Rattle.ticks.proofs.loop_ticks.Statement.{statement}
 use Rattle.ticks.proofs.loop_ticks.Tie as tie
 
 plus-requires-2 : tie.Need-plus-requires-2
-plus-requires-2 c κs = omega (arith, c .besides .ensures, c .before .times .ensures, once-small (formOf (c .before .before .before .args .kind)))
+plus-requires-2 c κs = omega (arith, c .besides .ensures, c .before .times .ensures, once-small (c .before .before .before .pre .0) (formOf (c .before .before .before .args .kind)))
 
 returns : tie.Need-returns
 returns c = λ B e.
     let s = c .before .before .before .before in
-    let k = turns-of (s .args .n) (s .args .b) B (c .before .before .before .plus .result) (c .before .before .times .result) e (c .before .before .before .plus .ensures) (c .before .before .times .ensures) in
-    rw (loop-ticks-is (formOf (s .args .kind)) (s .args .n) B) (omega (arith, c .plus2 .ensures, c .before .besides .ensures))
+    let k = turns-of (s .args .prices .test) (s .args .n) (s .args .b) B (c .before .before .before .plus .result) (c .before .before .times .result) e (c .before .before .before .plus .ensures) (c .before .before .times .ensures) in
+    rw (loop-ticks-is (s .args .prices) (formOf (s .args .kind)) (s .args .n) B) (omega (arith, c .plus2 .ensures, c .before .besides .ensures))
 
 pub loop-ticks-spec : {M : Type 1} → statement M
 loop-ticks-spec = tie.close (tie.spec (λ c κs. search needs) (λ c κs. search needs) (λ c κs. search needs) plus-requires-2 returns)

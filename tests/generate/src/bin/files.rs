@@ -28,7 +28,7 @@ fn text(ranges: &[(i64, i64)], rows: &[&str]) -> Vec<u8> {
 
 impl Files<'_> {
     fn bytes(&mut self, name: &str, file: &[u8], thought: &str) {
-        let answer = match oracle::plan(file, oracle::SCRATCH) {
+        let answer = match oracle::plan(file, &oracle::ONES, oracle::SCRATCH) {
             Ok(plan) => String::from_utf8(oracle::report_text(&plan)).unwrap(),
             Err((number, place)) => format!("refused={number} {place}\n"),
         };

@@ -1,0 +1,27 @@
+-- `loader::report_file` meets its contract. Assumes nothing.
+use denote.Ref.{now}
+use borrow.Author.Needs.{needs}
+use Rattle.loader.proofs.Laws.{file-refused, file-read, file-given, reported-no, reported-as}
+use Rattle.loader.proofs.report_file.Statement.{statement}
+use Rattle.loader.proofs.report_file.Tie as tie
+
+report-script-requires : tie.Need-report-script-requires
+report-script-requires c κs = (file-given (now (c .before .before .before .before .before .before .before .before .before .args .prices)) (now (c .before .before .before .before .before .before .before .before .before .args .file)) _ _ (c .before .before .before .before .load .ensures) (c .before .before .enum-told .given .1), c .before .before .before .before .before .before .before .before .before .pre)
+
+returns : tie.Need-returns
+returns c = reported-as (file-read (now (c .before .before .before .before .before .before .before .before .before .before .before .before .args .prices)) (now (c .before .before .before .before .before .before .before .before .before .before .before .before .args .file)) _ _ (c .before .before .before .before .before .before .before .load .ensures) (c .before .before .before .before .before .enum-told .given .1)) (c .before .before .report-script .ensures)
+
+returns-2 : tie.Need-returns-2
+returns-2 c = reported-no (file-refused (now (c .before .before .before .before .before .before .before .before .args .prices)) (now (c .before .before .before .before .before .before .before .before .args .file)) _ _ (c .before .before .before .load .ensures) (c .before .verdict .given .1))
+
+pub report-file-spec : {M : Type 1} → statement M
+report-file-spec =
+    tie.close
+    (tie.spec
+    (λ c κs. search needs)
+    (λ c. search needs)
+    report-script-requires
+    (λ c. search needs)
+    (λ c. search needs)
+    returns
+    returns-2)
