@@ -41,7 +41,7 @@ enum {
     DIFTANEW_LIMIT_CHANGES = 10,
     DIFTANEW_COMPARISON = 11,
     DIFTANEW_NO_FIGURE = 12,
-    DIFTANEW_TICKS = 13,          /* place: the first end row over the limit, or the number of rows */
+    DIFTANEW_TICKS = 13,          /* place: the first end row, in row order, whose block is over the limit; the number of rows only if no block is */
     DIFTANEW_BUFFER_SHORT = 14,   /* place: the report's length */
     DIFTANEW_STORE = 15,          /* place: the first index wrong, missing or extra */
     DIFTANEW_PRICE = 16           /* place: the first price, from 0, that is wrong, missing or extra */

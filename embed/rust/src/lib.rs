@@ -48,7 +48,7 @@ pub enum Question {
     Comparison = 11,
     /// The loop has no figure.
     NoFigure = 12,
-    /// Too many ticks.
+    /// Too many ticks. The place is the first `end` row, in row order, whose block is over the limit; the number of rows only if no block is.
     Ticks = 13,
     /// The report's buffer is too short.
     Buffer = 14,

@@ -1,7 +1,7 @@
 //! How the generated files are answered, and how many of them use each change request.
 
 use crate::{case, Case};
-use oracle::analyse::{copied, Term};
+use oracle::analyse::{blocks_over, copied, Term};
 use oracle::prices::prices;
 use oracle::read::{self, Loop, Operand};
 use oracle::{Counted, Line, Plan, Refusal, Row, ONES, SCRATCH};
@@ -62,6 +62,15 @@ fn labels(file: &[u8], lent: &[u32], plan: &Result<Plan, Refusal>) -> BTreeSet<S
             let rows = read::script(file).expect("questions 2 to 7 have passed").rows;
             let Row::Loop(l) = rows[*head as usize] else { unreachable!("a head row") };
             refused(&rows, *number, *head as usize, &l, &mut labels);
+        }
+        Err((13, _)) => {
+            let script = read::script(file).expect("questions 2 to 7 have passed");
+            let over = blocks_over(&script, prices(&ONES).expect("four ones")).expect("questions 8 to 12 have passed");
+            labels.insert(match over.len() {
+                0 => "over: the file".into(),
+                1 => "over: one block".into(),
+                _ => "over: several blocks".into(),
+            });
         }
         Err(_) => {}
     }

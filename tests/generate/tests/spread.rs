@@ -80,6 +80,14 @@ fn a_tenth_has_other_prices() {
     uses("prices", &least);
 }
 
+#[test]
+fn blocks_are_over_the_limit_alone_and_together() {
+    let spread = Spread::of(20_000, SEED);
+    for (label, files) in [("over: the file", 40), ("over: one block", 100), ("over: several blocks", 60)] {
+        assert!(spread.used(label) >= files, "{label}: {:?}", spread.uses);
+    }
+}
+
 /// The lines of the program run_files and what it prints; only that there is an error is compared, not its words.
 #[test]
 fn runs_have_their_answers() {

@@ -397,8 +397,8 @@ struct Walk<'a> {
     rows: &'a [Row],
     prices: Prices,
     lines: Vec<Line>,
-    /// The first `end` row whose block is over the tick limit.
-    over: Option<usize>,
+    /// The `end` rows of the blocks over the tick limit, in row order.
+    over: Vec<usize>,
 }
 
 impl Walk<'_> {
@@ -448,7 +448,7 @@ impl Walk<'_> {
     /// Blocks come here in the order of their `end` rows.
     fn limited(&mut self, ticks: u128, end: usize) -> u128 {
         if ticks > TICK_LIMIT {
-            self.over.get_or_insert(end);
+            self.over.push(end);
         }
         ticks
     }
@@ -532,14 +532,25 @@ impl Walk<'_> {
     }
 }
 
+fn walk(script: &Script, prices: Prices) -> Walk<'_> {
+    Walk { rows: &script.rows, prices, lines: Vec::with_capacity(script.loops), over: Vec::new() }
+}
+
+/// The `end` rows of the blocks over the tick limit, in row order; questions 8 to 12 come first.
+pub fn blocks_over(script: &Script, prices: Prices) -> Result<Vec<usize>, Refusal> {
+    let mut walk = walk(script, prices);
+    walk.block(0, script.rows.len(), &mut script.ranges.clone(), 1)?;
+    Ok(walk.over)
+}
+
 /// Questions 8 to 13.
 pub fn analyse(script: Script, prices: Prices) -> Result<Plan, Refusal> {
-    let mut walk = Walk { rows: &script.rows, prices, lines: Vec::with_capacity(script.loops), over: None };
+    let mut walk = walk(&script, prices);
     let mut ranges = script.ranges;
     let count = script.rows.len();
     let ticks = walk.block(0, count, &mut ranges, 1)?;
-    if let Some(end) = walk.over {
-        return Err((13, end as u64));
+    if let Some(end) = walk.over.first() {
+        return Err((13, *end as u64));
     }
     if ticks > TICK_LIMIT {
         return Err((13, count as u64));

@@ -393,6 +393,37 @@ fn runs() {
     assert_eq!(breach(&plan(&file(&[(0, 0)], &rows), &ONES, SCRATCH).unwrap(), &past), None);
 }
 
+/// Change 4: of the blocks over the limit the one whose `end` row comes first; R only if no block is over.
+#[test]
+fn first_block_over() {
+    let block = |head| [head, "for v1 1 <= 499999 add 1", "end", "end"];
+    let over = block("for v0 1 <= 999999 add 1");
+    let part = block("for v0 1 <= 600000 add 1");
+    let full = block("for v0 1 <= 999998 add 1");
+    let refused = |parts: &[&[&str]]| plan(&file(&[(0, 0); 3], &parts.concat()), &ONES, SCRATCH).err();
+    let (twice, never, end) = (&["for v2 1 <= 2 add 1"][..], &["for v2 1 <= 0 add 1"][..], &["end"][..]);
+    let (pick, other, cue) = (&["pick"][..], &["else"][..], &["cue 1"][..]);
+    // Nested: the inner, neither the outermost nor the one whose head comes first.
+    assert_eq!(refused(&[twice, &over, end]), Some((13, 4)));
+    assert_eq!(refused(&[twice, &part, end]), Some((13, 5)));
+    assert_eq!(refused(&[pick, twice, &part, end, end]), Some((13, 6)));
+    // Side by side: the first, not the last.
+    assert_eq!(refused(&[&over, cue, &over]), Some((13, 3)));
+    assert_eq!(refused(&[&part, &over, cue]), Some((13, 7)));
+    // Only the file.
+    assert_eq!(refused(&[&part, cue, &part]), Some((13, 9)));
+    assert_eq!(refused(&[&over, &part, cue]), Some((13, 3)));
+    // A pick whose branches are within: 10^12 and the pick's own tick.
+    assert_eq!(refused(&[pick, &full, cue, cue, end]), Some((13, 7)));
+    assert_eq!(refused(&[pick, &full, cue, end]), None);
+    assert_eq!(refused(&[pick, cue, other, &over, end]), Some((13, 6)));
+    // A loop without a turn is within the limit, but not what is in it.
+    assert_eq!(refused(&[never, &part, &part, end, &over]), Some((13, 13)));
+    assert_eq!(refused(&[never, &over, end, &over]), Some((13, 4)));
+    assert_eq!(refused(&[never, pick, &part, &part, end, end]), Some((13, 10)));
+    assert_eq!(refused(&[never, &part, &part, end]), None);
+}
+
 /// Change 3: question 16 and its place, after 1 and before 2.
 #[test]
 fn question_16() {

@@ -32,6 +32,18 @@ fn misread(file: &[u8], plan: &Result<Plan, Refusal>) -> Option<Result<Vec<u8>, 
     }
 }
 
+/// The `end` row of the outermost block round a row.
+fn outermost(file: &[u8], row: u64) -> u64 {
+    let rows = read::script(file).map(|script| script.rows).unwrap_or_default();
+    let mut ends = rows.iter().filter_map(|r| match r {
+        Row::Pick { end, .. } => Some(*end as u64),
+        Row::Loop(l) => Some(l.end as u64),
+        _ => None,
+    });
+    // The heads come in row order, so the first block that ends at the row or behind it is the outermost.
+    ends.find(|end| *end >= row).unwrap_or(row)
+}
+
 /// # Safety
 /// As the C interface says: every pointer is good for its length.
 #[no_mangle]
@@ -78,8 +90,11 @@ pub unsafe extern "C" fn diftanew_report(
         Ok(length) => (0, length),
         Err(refusal) => refusal,
     };
-    // 6: the place of 13 is another block.  7: 5 before 4.
+    // 6: the place of 13 is another block.  7: 5 before 4.  17: 13 names the outermost block.
     *place = at + (wrong(6) && number == 13) as u64;
+    if wrong(17) && number == 13 {
+        *place = outermost(file, at);
+    }
     if wrong(7) && number == 4 && file.windows(3).any(|w| w == b"v99") { 5 } else { number }
 }
 

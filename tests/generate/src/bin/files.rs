@@ -85,6 +85,7 @@ fn main() {
     questions_8_to_12(&mut f);
     question_13(&mut f);
     copied_counters(&mut f);
+    first_block_over(&mut f);
     f.written.sort();
     let names: String = f.written.iter().map(|(name, _)| format!("{name}\n")).collect();
     let printed: String = f.written.iter().map(|(name, answer)| format!("{name}\n{answer}")).collect();
@@ -596,4 +597,26 @@ fn copied_counters(f: &mut Files) {
     f.brief("refused-10-copied-limit-assigned", three, "while v0 < v2, add v1 1, set v0 v1, cue 1, sub v2 0, end", "refused 10 0");
     f.brief("refused-11-copied-falling", case, "while v0 < 10, sub v1 1, set v0 v1, end", "refused 11 0");
     f.brief("refused-11-copied-rising", case, "do v0 >= 10, set v0 v1, add v1 1, end", "refused 11 0");
+}
+
+/// Change 4: of the blocks over the limit the one whose `end` row comes first.
+fn first_block_over(f: &mut Files) {
+    // 999999(10^6 + 2) + 2, 10^12 - 2, and 600000(10^6 + 2) + 2.
+    let over = "for v0 1 <= 999999 add 1, for v1 1 <= 499999 add 1, end, end";
+    let full = "for v0 1 <= 999998 add 1, for v1 1 <= 499999 add 1, end, end";
+    let part = "for v0 1 <= 600000 add 1, for v1 1 <= 499999 add 1, end, end";
+    let never = "for v2 1 <= 0 add 1";
+    let three: &[(i64, i64)] = &[(0, 0); 3];
+    f.brief("refused-13-inner-of-two-nested", three, &format!("for v2 1 <= 2 add 1, {over}, end"), "refused 13 4");
+    f.brief("refused-13-inner-pick-of-two-nested", three, &format!("pick, pick, {part}, {part}, end, else, cue 1, end"), "refused 13 10");
+    f.brief("refused-13-outer-of-two-nested", three, &format!("for v2 1 <= 2 add 1, {part}, end"), "refused 13 5");
+    f.brief("refused-13-first-of-two-side-by-side", three, &format!("{over}, cue 1, {over}"), "refused 13 3");
+    f.brief("refused-13-second-of-two-side-by-side", three, &format!("{full}, {over}"), "refused 13 7");
+    f.brief("refused-13-only-the-file", three, &format!("pick, cue 1, end, {full}, {full}, cue 1"), "refused 13 12");
+    // Each branch has at most 10^12 ticks, and the pick one more.
+    f.brief("refused-13-pick-with-both-branches-within", three, &format!("pick, {full}, cue 1, cue 2, else, {full}, end, cue 3"), "refused 13 12");
+    f.brief("refused-13-in-the-else-before-its-pick", three, &format!("pick, cue 1, else, {over}, end"), "refused 13 6");
+    // A loop without a turn is within the limit, whatever is in it; a block in it can be over by itself.
+    f.brief("refused-13-behind-a-loop-without-a-turn", three, &format!("{never}, {part}, {part}, end, {over}"), "refused 13 13");
+    f.brief("refused-13-in-a-loop-without-a-turn-first", three, &format!("{never}, {over}, end, {over}"), "refused 13 4");
 }
