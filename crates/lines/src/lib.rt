@@ -82,7 +82,7 @@ pub fn line_at(table: &[[u64; 7]; 16], k: usize) -> LoopLine
 
 // The number that stands for an end.
 fn shifted(a: i64) -> u64
-    requires { ⌜ Near 256 a ⌝ }
+    requires { ⌜ Near 512 a ⌝ }
     ensures { λ r. ⌜ endIn r ≡ a ⌝ }
 {
     (a + MIDDLE) as u64
@@ -96,7 +96,7 @@ struct Code {
 }
 
 fn step_code(step: Step) -> Code
-    requires { ⌜ Ends 256 step ⌝ }
+    requires { ⌜ Ends 512 step ⌝ }
     ensures { λ r. ⌜ lineStep (r .tag) (r .first) (r .second) ≡ step ⌝ }
 {
     match step {
@@ -131,7 +131,7 @@ fn flag(b: bool) -> u64
 
 // The line becomes line k.
 pub fn put_line(table: &mut [[u64; 7]; 16], k: usize, line: LoopLine)
-    requires { ⌜ (k < 16) × (length (now table) ≡ 16) × Ends 256 (line .step) ⌝ }
+    requires { ⌜ (k < 16) × (length (now table) ≡ 16) × Ends 512 (line .step) ⌝ }
     ensures { λ _. ⌜ (linesIn (now (table .exit)) ≡ set (linesIn (now (table .entry))) k line) × (length (now (table .exit)) ≡ 16) ⌝ }
 {
     let step = line.step;

@@ -13,6 +13,7 @@ use table::past_else;
 use table::shape_at;
 use table::tag_at;
 use table::variable_at;
+use trips::Counter;
 use trips::Loop;
 use trips::Span;
 use trips::Trip;
@@ -227,13 +228,15 @@ fn inside_span(late: bool, comparison: Comparison, s: Span, n: Span) -> Span
 fn inner(trip: Trip) -> Span
     ensures { λ r. ⌜ rangeOf r ≡ innerOf (tripOf trip) ⌝ }
 {
-    if trip.free {
-        return FULL;
-    }
     let comparison = trip.comparison;
     let start = trip.start;
     let limit = trip.limit;
-    inside_span(trip.late, comparison, start, limit)
+    let counter = trip.counter;
+    match counter {
+        Counter::Own => inside_span(trip.late, comparison, start, limit),
+        Counter::Copy => FULL,
+        Counter::Difference => FULL,
+    }
 }
 
 // From the ranges at a loop's start to those at its body's start.
@@ -296,13 +299,15 @@ fn outside_span(step: Step, comparison: Comparison, s: Span) -> Span
 fn outer(trip: Trip) -> Span
     ensures { λ r. ⌜ rangeOf r ≡ outerOf (tripOf trip) ⌝ }
 {
-    if trip.free {
-        return FULL;
-    }
     let step = trip.step;
     let comparison = trip.comparison;
     let start = trip.start;
-    outside_span(step, comparison, start)
+    let counter = trip.counter;
+    match counter {
+        Counter::Own => outside_span(step, comparison, start),
+        Counter::Copy => FULL,
+        Counter::Difference => FULL,
+    }
 }
 
 // From the ranges at a loop's start to those after it.

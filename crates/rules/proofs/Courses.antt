@@ -1,21 +1,26 @@
 -- A loop as a course of stores: what its tests see of a trip, turn by turn. On stores only; the runs are in Ranges and Main.
-use mathlib.Core.Path.{_≡_, refl, sym}
+use mathlib.Core.Path.{_≡_, refl, sym, subst}
 use mathlib.Core.Bool.{Bool, true, false, not, cond, _&&_}
 use Prim.Native.Nat.{ℕ, zero, suc, _≤_, _<_}
 use native.Mathlib.Omega.{arith}
-use lib.Dec.{T}
-use lib.IntN.{ℤ}
-use Rattle.ints.proofs.Parts.{ltZ-yes!, ltZ-no! }
-use Rattle.ints.proofs.Diffs.{of, eq-yes, tests, cond-elim, both, max-ge, min-le}
+use lib.Dec.{T, eqb}
+use lib.IntN.{ℤ, pos, _-ℤ_}
+use lib.Signed.{leZ, ltZ}
+use Rattle.ints.specs.Ints.{eqZ}
+use Rattle.ints.proofs.Parts.{minus-parts, eq-out, leZ-yes!, leZ-no!, ltZ-yes!, ltZ-no! }
+use Rattle.ints.proofs.Diffs.{of, eq-yes, eq-refl, tests, cond-elim, both, max-ge, min-le}
 use Rattle.rules.specs.declared.Operand.{Operand}
 use Rattle.rules.specs.declared.Operand.the-variants.{Constant, Variable}
+use Rattle.rules.specs.declared.Comparison.{Comparison}
+use Rattle.rules.specs.declared.Comparison.the-variants.{Less, AtMost, Greater, AtLeast, Equal, Different}
 use Rattle.rules.specs.declared.Step.{Step}
+use Rattle.rules.specs.declared.Step.the-variants.{Add, Grow, Shrink, Unknown}
 use Rattle.rules.specs.Values.{Store, value, compares}
 use Rattle.rules.specs.Blocks.{Test, Form, while, do-while, for, Block}
-use Rattle.rules.specs.Steps.{assigns, step, moving, even, isAdd, Sole, other, sole, soleOf}
+use Rattle.rules.specs.Steps.{assigns, step, moving, even, isAdd, difference, Sole, other, sole, soleOf}
 use Rattle.rules.specs.Ranges.{Range, Env, full, single, bounds, edge, ordered, Sort, rising, falling, same, differ, sort, isDo, isFor, insideRange}
 use Rattle.rules.specs.Turns.{whileTurns, atTest}
-use Rattle.rules.specs.Trips.{nothing, untested, tries, Trip, misses, edgeOf, firstOf, led, turnsOf, isExact, innerOf, outerOf, keeps, ownTrip, copyTrip, Way, own, copied, copies, soleWay, wayOf, tripBy, trip}
+use Rattle.rules.specs.Trips.{nothing, untested, tries, Trip, misses, edgeOf, firstOf, led, turnsOf, isExact, innerOf, outerOf, keeps, ownTrip, chaseTrip, copyTrip, Way, own, copied, chase, chases, limitWay, copies, soleWay, wayOf, tripBy, trip}
 use Rattle.rules.specs.Run.{holds}
 use Rattle.rules.proofs.Steps.{Moved}
 use Rattle.rules.proofs.Sole.{Alone}
@@ -199,22 +204,70 @@ all-miss differ o s e x h one p = absurd o
 abbrev Says : Way → Form → Test → Block → Type 0
 Says own form test body = Unit {0}
 Says (copied w ahead) form test body = T (not (isFor form)) × T (isAdd (step w body)) × T (ordered (sort (test .comparison))) × ((g h : Store) → Turn body g h → h (test .tested) ≡ at-row ahead w g h)
+Says (chase w) form test body = (test .limit ≡ Variable w) × T (isAdd (step (test .tested) body)) × T (isAdd (step w body)) × T (ordered (sort (test .comparison)))
 
 way-says : (form : Form) (test : Test) (body : Block) → Says (wayOf form test body) form test body
-unfolding soleWay
+unfolding soleWay limitWay
 way-says form test body = by-sole (soleOf (test .tested) body) (λ g h t. t .alone (test .tested))
   where
     one-side : (before after : Bool) (w : ℕ) (g h : Store) → T (not (before && after)) → Alone (test .tested) g h (sole w before after) → h (test .tested) ≡ at-row before w g h
     one-side true after w g h n (a, b) = a n
     one-side false after w g h n (a, b) = b tt
 
+    by : (o : Operand) → test .limit ≡ o → Says (limitWay test body o) form test body
+    by (Constant k) e = tt
+    by (Variable w) e =
+        cond-elim (λ way. Says way form test body) (chases test body w) (chase w) own
+        (λ h. let (_, h₁) = both (not (eqb w (test .tested))) _ h in let (_, h₂) = both (assigns w body) _ h₁ in
+        let (a, h₃) = both (isAdd (step w body)) _ h₂ in let (b, o) = both (isAdd (step (test .tested) body)) _ h₃ in (e, b, a, o))
+        (λ _. tt)
+
     by-sole : (so : Sole) → ((g h : Store) → Turn body g h → Alone (test .tested) g h so) → Says (soleWay form test body so) form test body
-    by-sole other _ = tt
+    by-sole other _ = by (test .limit) refl
     by-sole (sole w before after) a =
         cond-elim (λ way. Says way form test body) (copies form test body w before after) (copied w before) own
         (λ h. let (n, h₁) = both (not (isFor form)) _ h in let (m, h₂) = both (not (before && after)) _ h₁ in
         let (p, h₃) = both (isAdd (step w body)) _ h₂ in let (_, o) = both (moving (step w body)) _ h₃ in (n, p, o, λ g h t. one-side before after w g h m (a g h t)))
         (λ _. tt)
+
+-- ---- a difference
+-- compared with 0
+same-bool : (a b : Bool) → (T a → b ≡ true) → (T (not a) → b ≡ false) → a ≡ b
+same-bool true b f g = sym (f tt)
+same-bool false b f g = sym (g tt)
+
+compares-apart : (c : Comparison) → T (ordered (sort c)) → (x y : ℤ) → compares c x y ≡ compares c (x -ℤ y) (pos 0)
+unfolding compares
+compares-apart Less o x y = same-bool (ltZ x y) _ (λ h. ltZ-yes! (x -ℤ y) (pos 0) (omega (tests, minus-parts x y))) (λ h. ltZ-no! (x -ℤ y) (pos 0) (omega (tests, minus-parts x y)))
+compares-apart AtMost o x y = same-bool (leZ x y) _ (λ h. leZ-yes! (x -ℤ y) (pos 0) (omega (tests, minus-parts x y))) (λ h. leZ-no! (x -ℤ y) (pos 0) (omega (tests, minus-parts x y)))
+compares-apart Greater o x y = same-bool (ltZ y x) _ (λ h. ltZ-yes! (pos 0) (x -ℤ y) (omega (tests, minus-parts x y))) (λ h. ltZ-no! (pos 0) (x -ℤ y) (omega (tests, minus-parts x y)))
+compares-apart AtLeast o x y = same-bool (leZ y x) _ (λ h. leZ-yes! (pos 0) (x -ℤ y) (omega (tests, minus-parts x y))) (λ h. leZ-no! (pos 0) (x -ℤ y) (omega (tests, minus-parts x y)))
+compares-apart Equal o x y = absurd o
+compares-apart Different o x y = absurd o
+
+apart-add : (p q : Step) → T (isAdd p) → T (isAdd q) → T (isAdd (difference p q))
+unfolding isAdd difference
+apart-add (Add a b) (Add c d) h k = tt
+apart-add (Add a b) (Grow f g) h k = absurd k
+apart-add (Add a b) (Shrink f g) h k = absurd k
+apart-add (Add a b) Unknown h k = absurd k
+apart-add (Grow f g) q h k = absurd h
+apart-add (Shrink f g) q h k = absurd h
+apart-add Unknown q h k = absurd h
+
+moved-apart : (p q : Step) → T (isAdd p) → T (isAdd q) → (x y z u : ℤ) → Moved p (of x) (of y) → Moved q (of z) (of u) → Moved (difference p q) (of (x -ℤ z)) (of (y -ℤ u))
+unfolding isAdd difference
+moved-apart (Add a b) (Add c d) h k x y z u m n = omega (arith, minus-parts a d, minus-parts b c, minus-parts x z, minus-parts y u)
+moved-apart (Add a b) (Grow f g) h k x y z u m n = absurd k
+moved-apart (Add a b) (Shrink f g) h k x y z u m n = absurd k
+moved-apart (Add a b) Unknown h k x y z u m n = absurd k
+moved-apart (Grow f g) q h k x y z u m n = absurd h
+moved-apart (Shrink f g) q h k x y z u m n = absurd h
+moved-apart Unknown q h k x y z u m n = absurd h
+
+single-apart : (r s : Range) → T (single r) → T (single s) → T (eqZ (r .lo -ℤ s .hi) (r .hi -ℤ s .lo))
+single-apart r s h k =
+    subst (λ z. T (eqZ (r .lo -ℤ s .hi) z)) (eq-out _ _ (omega (arith, eq-yes (r .lo) (r .hi) h, eq-yes (s .lo) (s .hi) k, minus-parts (r .lo) (s .hi), minus-parts (r .hi) (s .lo)))) (eq-refl (r .lo -ℤ s .hi))
 
 module _ (form : Form) (ρ : Env) (test : Test) (body : Block) (f : Store) (enters : In ρ f) where
   -- the limit is as at the start
@@ -245,6 +298,24 @@ module _ (form : Form) (ρ : Env) (test : Test) (body : Block) (f : Store) (ente
       first while c = absurd c
       first (for o) c = absurd c
       first do-while _ = first-inside (sort (test .comparison)) (ρ (test .tested)) _ _ (enters (test .tested))
+
+  chase-course : (w : ℕ) → Says (chase w) form test body → Good-trip (chaseTrip form ρ test body w) → CourseOf form ρ test body f (chaseTrip form ρ test body w)
+  unfolding turnsOf innerOf outerOf value
+  chase-course w (is, add-v, add-w, o) good =
+      let v = test .tested in
+      let τ = chaseTrip form ρ test body w in
+      let p = step v body in
+      let q = step w body in
+      by-form test body f (isExact τ) _ _ (τ .start) (λ x g. x ≡ g v -ℤ g w)
+      (λ x g a e. rw (e, is) (compares-apart (test .comparison) o (g v) (g w)))
+      (λ x g h a b e t. (h v -ℤ h w, refl, rw e (moved-apart p q add-v add-w (g v) (h v) (g w) (h w) (t .moved v) (t .moved w))))
+      (f v -ℤ f w) refl (omega (arith, enters v .low, enters v .high, enters w .low, enters w .high, minus-parts (f v) (f w), minus-parts (ρ v .lo) (ρ w .hi), minus-parts (ρ v .hi) (ρ w .lo)))
+      (at-start ρ body f enters) form _ _
+      (add-chain (isDo form) (test .comparison) (τ .start) (τ .limit) (pos 0) (isExact τ) (omega arith) (λ x y. Moved (τ .step) (of x) (of y)) (τ .step) (λ x y m. m) (apart-add p q add-v add-w) o (good .fit)
+      (λ ex. let (a, b) = both (even (τ .step)) (τ .sure) ex in let (c, d) = both (single (ρ v)) (single (ρ w)) b in (a, single-apart (ρ v) (ρ w) c d, tt)))
+      (λ k x g a e q p. inside-full (a .limited v))
+      (λ k x g a e q. inside-full (a .limited v))
+      (λ _. inside-full (within-full (enters v)))
 
   copy-course : (w : ℕ) (ahead : Bool) → Says (copied w ahead) form test body → Good-trip (copyTrip form ρ test body w ahead) → CourseOf form ρ test body f (copyTrip form ρ test body w ahead)
   unfolding turnsOf innerOf outerOf led
@@ -324,3 +395,4 @@ module _ (form : Form) (ρ : Env) (test : Test) (body : Block) (f : Store) (ente
       by : (way : Way) → Says way form test body → Good-trip (tripBy way form ρ test body) → CourseOf form ρ test body f (tripBy way form ρ test body)
       by own says good = own-course good
       by (copied w ahead) says good = copy-course w ahead says good
+      by (chase w) says good = chase-course w says good

@@ -2,15 +2,17 @@
 use mathlib.Core.Path.{_≡_, refl, sym, ap, _∙_}
 use mathlib.Core.Bool.{Bool, true, false, not, cond, _||_}
 use Prim.Native.Nat.{ℕ}
+use native.Mathlib.Omega.{arith}
 use lib.Dec.{T, eqb}
-use Rattle.ints.proofs.Diffs.{cond-elim, cond-true, nor}
+use Rattle.ints.proofs.Diffs.{cond-elim, cond-true, both, nor}
+use Rattle.rules.specs.declared.Operand.{Operand}
 use Rattle.rules.specs.declared.Operand.the-variants.{Constant, Variable}
 use Rattle.rules.specs.declared.Step.{Step}
 use Rattle.rules.specs.declared.Step.the-variants.{Add, Grow, Shrink, Unknown}
 use Rattle.rules.specs.Values.{Store, value}
 use Rattle.rules.specs.Blocks.{Test, Form, from, changed, Plain, assign, cue, Block, done, plain, pick, loop}
 use Rattle.rules.specs.Steps.{sets, starts, assigns, rowStep, sourceStep, then, stepFrom, step, still, Sole, other, sole, behind, soleRow, soleOf}
-use Rattle.rules.specs.Trips.{own, soleWay, wayOf}
+use Rattle.rules.specs.Trips.{own, chase, chases, keeps, limitWay, soleWay, wayOf}
 use Rattle.rules.specs.Questions.{known}
 use Rattle.rules.specs.Figures.{Prices}
 use Rattle.rules.specs.Run.{State, result, exec, run, bind}
@@ -145,11 +147,26 @@ stepless acc v (loop i e form test body rest) = behind-stepless _ v _ (soleOf v 
 pub sole-unknown : (v : ℕ) (b : Block) {w : ℕ} {before after : Bool} → soleOf v b ≡ sole w before after → step v b ≡ Unknown
 sole-unknown v b e = rw e at (stepless still v b)
 
--- so a loop whose tested variable's own step is known goes its own way: code looks for the sole copy only if that step is Unknown
-pub known-own : (form : Form) (test : Test) (body : Block) → known (step (test .tested) body) ≡ true → own ≡ wayOf form test body
+-- so a loop whose tested variable's own step is known goes by its limit: code looks for the sole copy only if that step is Unknown
+pub known-limit : (form : Form) (test : Test) (body : Block) → known (step (test .tested) body) ≡ true → limitWay test body (test .limit) ≡ wayOf form test body
 unfolding soleWay known
-known-own form test body k = by (soleOf (test .tested) body) _ (stepless _ (test .tested) body) k
+known-limit form test body k = by (soleOf (test .tested) body) _ (stepless _ (test .tested) body) k
   where
-    by : (so : Sole) (st : Step) → Stepless so st → known st ≡ true → own ≡ soleWay form test body so
+    by : (so : Sole) (st : Step) → Stepless so st → known st ≡ true → limitWay test body (test .limit) ≡ soleWay form test body so
     by other st h k = refl
     by (sole w before after) st h k = let z : true ≡ false = sym k ∙ ap known h in cc
+
+-- and its own way, if question 10 has yes of that limit: code looks for the limit's step only if the body assigns it
+pub known-own : (form : Form) (test : Test) (body : Block) → known (step (test .tested) body) ≡ true → keeps (test .limit) body ≡ true → own ≡ wayOf form test body
+unfolding limitWay keeps
+known-own form test body k kept = by (test .limit) kept ∙ known-limit form test body k
+  where
+    not-both : (b : Bool) → T b → not b ≡ true → ⊥
+    not-both true h n = let z : _≡_ {A = ℕ} 0 1 = cc in omega arith
+    not-both false h n = h
+
+    by : (o : Operand) → keeps o body ≡ true → own ≡ limitWay test body o
+    by (Constant k) n = refl
+    by (Variable w) n =
+        cond-elim (λ way. own ≡ way) (chases test body w) (chase w) own
+        (λ h. let (_, h₁) = both (not (eqb w (test .tested))) _ h in absurd (not-both (assigns w body) (both (assigns w body) _ h₁ .0) n)) (λ _. refl)

@@ -2,14 +2,14 @@
 use mathlib.Core.Bool.{Bool, true, false, not, cond, _&&_}
 use Prim.Native.Nat.{ℕ, suc}
 use lib.Dec.{eqb}
-use lib.IntN.{ℤ}
+use lib.IntN.{ℤ, pos, _-ℤ_}
 use lib.Signed.{ltZ}
 use Rattle.rules.specs.declared.Operand.{Operand}
 use Rattle.rules.specs.declared.Operand.the-variants.{Constant, Variable}
 use Rattle.rules.specs.declared.Comparison.{Comparison}
 use Rattle.rules.specs.declared.Step.{Step}
 use Rattle.rules.specs.Blocks.{Test, Form, Block, done, plain, pick, loop}
-use Rattle.rules.specs.Steps.{assigns, step, moving, even, isAdd, Sole, other, sole, soleOf}
+use Rattle.rules.specs.Steps.{assigns, step, moving, even, isAdd, difference, Sole, other, sole, soleOf}
 use Rattle.rules.specs.Ranges.{Range, Env, full, single, bounds, afterRow, join, atStart, edge, Sort, rising, falling, same, differ, ordered, sort, isDo, isFor, insideRange, outsideRange}
 use Rattle.rules.specs.Turns.{whileTurns, atTest}
 
@@ -93,6 +93,20 @@ ownTrip form ρ test body = record {
   free = false;
 }
 
+-- card 5: "tested against 0 from [s.lo − n.hi, s.hi − n.lo]"
+abbrev pub chaseTrip : Form → Env → Test → Block → ℕ → Trip
+chaseTrip form ρ test body w = record {
+  step = difference (step (test .tested) body) (step w body);
+  comparison = test .comparison;
+  start = record { lo = ρ (test .tested) .lo -ℤ ρ w .hi; hi = ρ (test .tested) .hi -ℤ ρ w .lo };
+  limit = record { lo = pos 0; hi = pos 0 };
+  late = isDo form;
+  lead = cond (isDo form) untested nothing;
+  sure = single (ρ (test .tested)) && single (ρ w);
+  keeps = true;
+  free = true;
+}
+
 -- card 1: "c the while figure from w's start, moved by one turn if w's rows come first": `ahead`
 abbrev pub copyTrip : Form → Env → Test → Block → ℕ → Bool → Trip
 copyTrip form ρ test body w ahead = record {
@@ -107,10 +121,20 @@ copyTrip form ρ test body w ahead = record {
   free = true;
 }
 
--- how the turns are counted: by the tested variable's own step, or (card 1) by that of w, which is copied into it
+-- how the turns are counted: by the tested variable's own step; (card 1) by that of w, which is copied into it; (card 5) by the difference from the limit w
 pub data Way : Type 0 where
   own : Way
   copied : ℕ → Bool → Way
+  chase : ℕ → Way
+
+-- card 5: "a limit variable, other than the tested one, that the body assigns and whose step is Add, with an Add step of its own on the tested one and < <= > or >="
+abbrev pub chases : Test → Block → ℕ → Bool
+chases test body w = not (eqb w (test .tested)) && (assigns w body && (isAdd (step w body) && (isAdd (step (test .tested) body) && ordered (sort (test .comparison)))))
+
+-- by its limit
+unfoldable pub limitWay : Test → Block → Operand → Way
+limitWay test body (Constant k) = own
+limitWay test body (Variable w) = cond (chases test body w) (chase w) own
 
 -- card 1: "directly in a while or do body, where w's step is a moving Add, all of w's rows stand on one side of it, and the comparison is < <= > or >="
 abbrev pub copies : Form → Test → Block → ℕ → Bool → Bool → Bool
@@ -118,7 +142,7 @@ copies form test body w before after = not (isFor form) && (not (before && after
 
 -- by the tested variable's only row, if it has one
 unfoldable pub soleWay : Form → Test → Block → Sole → Way
-soleWay form test body other = own
+soleWay form test body other = limitWay test body (test .limit)
 soleWay form test body (sole w before after) = cond (copies form test body w before after) (copied w before) own
 
 -- which way a loop goes
@@ -129,6 +153,7 @@ wayOf form test body = soleWay form test body (soleOf (test .tested) body)
 unfoldable pub tripBy : Way → Form → Env → Test → Block → Trip
 tripBy own form ρ test body = ownTrip form ρ test body
 tripBy (copied w ahead) form ρ test body = copyTrip form ρ test body w ahead
+tripBy (chase w) form ρ test body = chaseTrip form ρ test body w
 
 -- the trip of a loop
 abbrev pub trip : Form → Env → Test → Block → Trip

@@ -126,7 +126,7 @@ fn lined(
     total: u64,
     spent: u64,
 ) -> Tally
-    requires { ⌜ (t .loops < 16) × (length (now lines) ≡ 16) × Ends 256 (trip .step) ⌝ }
+    requires { ⌜ (t .loops < 16) × (length (now lines) ≡ 16) × Ends 512 (trip .step) ⌝ }
     ensures { λ r. ⌜ Lined (withLines t (now (lines .entry))) i (tripOf trip) turns total spent (withLines r (now (lines .exit))) ⌝ }
 {
     let k = t.loops;

@@ -1,27 +1,59 @@
 -- A way and a trip from its parts are those of the rules.
-use mathlib.Core.Path.{_≡_, refl, ap, _∙_}
+use mathlib.Core.Path.{_≡_, refl, sym, ap, _∙_}
 use mathlib.Core.Bool.{Bool, true, false, not, cond, _&&_}
 use Prim.Native.Nat.{ℕ}
+use native.Mathlib.Omega.{arith}
+use lib.Dec.{eqb}
+use lib.IntN.{ℤ}
+use Rattle.rules.specs.declared.Operand.{Operand}
+use Rattle.rules.specs.declared.Operand.the-variants.{Constant, Variable}
 use Rattle.rules.specs.declared.Comparison.{Comparison}
 use Rattle.rules.specs.declared.Step.{Step}
+use Rattle.rules.specs.declared.Step.the-variants.{Unknown}
 use Rattle.rules.specs.Blocks.{Test, Form, Block}
-use Rattle.rules.specs.Steps.{step, isAdd, moving, Sole, other, sole}
+use Rattle.rules.specs.Steps.{assigns, step, isAdd, moving, Sole, other, sole}
 use Rattle.rules.specs.Ranges.{Range, Env, bounds, isDo, isFor, sort, ordered}
 use Rattle.rules.specs.Bounds.{Ends}
-use Rattle.rules.specs.Trips.{keeps, own, copied, soleWay, wayOf, tripBy, trip}
+use Rattle.rules.specs.Trips as trips
+use Rattle.rules.specs.Trips.{keeps, own, copied, chase, limitWay, soleWay, wayOf, tripBy, trip}
+use Rattle.rules.specs.Questions.{known}
+use Rattle.rules.proofs.Ends.{ends-more}
+use Rattle.rules.proofs.Sole.{known-limit}
 use Rattle.trips.specs.declared.Way.{Way}
-use Rattle.trips.specs.Found.{ownFrom, copyFrom, wayIs, WayStep, tripFrom}
+use Rattle.trips.specs.Found.{ownFrom, copyFrom, chaseFrom, wayIs, WayStep, tripFrom}
+
+never : (a b c : Bool) (x y : trips.Way) → y ≡ cond (a && (b && (c && false))) x y
+never true true true x y = refl
+never true true false x y = refl
+never true false c x y = refl
+never false b c x y = refl
 
 module _ (form : Form) (test : Test) (body : Block) where
-  -- a for goes its own way
-  pub for-way : isFor form ≡ true → (so : Sole) → own ≡ soleWay form test body so
-  unfolding soleWay
-  for-way h other = refl
-  for-way h (sole w before after) = rw h
+  -- a tested variable that has no step of its own does not chase its limit
+  unknown-limit : step (test .tested) body ≡ Unknown → (o : Operand) → own ≡ limitWay test body o
+  unfolding limitWay isAdd
+  unknown-limit u (Constant k) = refl
+  unknown-limit u (Variable w) = rw u (never (not (eqb w (test .tested))) (assigns w body) (isAdd (step w body)) (chase w) own)
 
-  pub other-way : own ≡ soleWay form test body other
+  -- a for goes its own way then
+  pub for-way : step (test .tested) body ≡ Unknown → isFor form ≡ true → (so : Sole) → own ≡ soleWay form test body so
   unfolding soleWay
-  other-way = refl
+  for-way u h other = unknown-limit u (test .limit)
+  for-way u h (sole w before after) = rw h
+
+  pub other-way : step (test .tested) body ≡ Unknown → own ≡ soleWay form test body other
+  unfolding soleWay
+  other-way u = unknown-limit u (test .limit)
+
+  -- by a limit that is a constant, or a variable that the body assigns; p: it is the tested one, q: both steps and the comparison fit
+  pub constant-way : known (step (test .tested) body) ≡ true → {k : ℤ} → test .limit ≡ Constant k → own ≡ wayOf form test body
+  unfolding limitWay
+  constant-way k e = ap (limitWay test body) (sym e) ∙ known-limit form test body k
+
+  pub chase-way : known (step (test .tested) body) ≡ true → {w : ℕ} → test .limit ≡ Variable w → assigns w body ≡ true → {p q : Bool} → p ≡ eqb w (test .tested)
+      → q ≡ (isAdd (step w body) && (isAdd (step (test .tested) body) && ordered (sort (test .comparison)))) → cond (not p && q) (chase w) own ≡ wayOf form test body
+  unfolding limitWay
+  chase-way k {w} e a s d = (λ j. cond (not (s j) && (sym a j && d j)) (chase w) own) ∙ ap (limitWay test body) (sym e) ∙ known-limit form test body k
 
   pub copy-way : isFor form ≡ false → {c : Comparison} → c ≡ test .comparison → (w : ℕ) (before after : Bool)
       → let st = step w body in cond (not (before && after) && (isAdd st && (moving st && ordered (sort c)))) (copied w before) own ≡ soleWay form test body (sole w before after)
@@ -29,12 +61,14 @@ module _ (form : Form) (test : Test) (body : Block) where
   copy-way h e w before after = rw (h, e)
 
 module _ (form : Form) (ρ : Env) (test : Test) (body : Block) {late keep : Bool} {st : Step} {c : Comparison} {s n : Range} where
-  pub trip-is : (way : Way) → wayIs way ≡ wayOf form test body → WayStep body way → late ≡ isDo form → st ≡ step (test .tested) body → c ≡ test .comparison → s ≡ ρ (test .tested) → n ≡ bounds ρ (test .limit) → keep ≡ keeps (test .limit) body
+  pub trip-is : (way : Way) → wayIs way ≡ wayOf form test body → WayStep (test .tested) body way → late ≡ isDo form → st ≡ step (test .tested) body → c ≡ test .comparison → s ≡ ρ (test .tested) → n ≡ bounds ρ (test .limit) → keep ≡ keeps (test .limit) body
       → tripFrom way ρ late st c s n keep ≡ trip form ρ test body
   unfolding tripBy
   trip-is Way.Own e u l a d p q b = (λ j. ownFrom (l j) (a j) (d j) (p j) (q j) (b j)) ∙ ap (λ y. tripBy y form ρ test body) e
   trip-is (Way.Copied w ahead moved) e (u, k) l a d p q b = (λ j. copyFrom (l j) (u j) (d j) (ρ w) (q j) (b j) ahead (p j)) ∙ ap (λ y. tripBy y form ρ test body) e
+  trip-is (Way.Chase w apart) e (u, k) l a d p q b = (λ j. chaseFrom (l j) (u j) (d j) (p j) (ρ w)) ∙ ap (λ y. tripBy y form ρ test body) e
 
-pub near-is : (way : Way) (body : Block) (ρ : Env) (late keep : Bool) (st : Step) (c : Comparison) (s n : Range) → WayStep body way → Ends 256 st → Ends 256 (tripFrom way ρ late st c s n keep .step)
-near-is Way.Own body ρ late keep st c s n u h = h
-near-is (Way.Copied w ahead moved) body ρ late keep st c s n (u, k) h = k
+pub near-is : (way : Way) (v : ℕ) (body : Block) (ρ : Env) (late keep : Bool) (st : Step) (c : Comparison) (s n : Range) → WayStep v body way → Ends 256 st → Ends 512 (tripFrom way ρ late st c s n keep .step)
+near-is Way.Own v body ρ late keep st c s n u h = ends-more 256 512 (omega arith) st h
+near-is (Way.Copied w ahead moved) v body ρ late keep st c s n (u, k) h = k
+near-is (Way.Chase w apart) v body ρ late keep st c s n (u, k) h = k

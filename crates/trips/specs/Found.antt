@@ -3,24 +3,29 @@ use mathlib.Core.Path.{_≡_}
 use mathlib.Core.Bool.{Bool, true, false, not, cond, _&&_}
 use mathlib.Core.List.{List}
 use Prim.Native.Nat.{ℕ, _<_}
+use lib.IntN.{pos, _-ℤ_}
 use Rattle.rules.specs.declared.Row.{Row}
 use Rattle.rules.specs.declared.Step.{Step}
+use Rattle.rules.specs.declared.Operand.the-variants.{Variable}
 use Rattle.rules.specs.declared.Comparison.{Comparison}
 use Rattle.rules.specs.Blocks.{Block}
-use Rattle.rules.specs.Steps.{assigns, step, isAdd, moving}
+use Rattle.rules.specs.Steps.{assigns, step, isAdd, moving, difference}
 use Rattle.rules.specs.Ranges.{Range, Env, single, sort, ordered}
 use Rattle.rules.specs.Bounds.{Ends}
 use Rattle.rules.specs.Trips as trips
-use Rattle.rules.specs.Trips.{nothing, untested, tries, own, copied, wayOf, trip}
+use Rattle.rules.specs.Trips.{nothing, untested, tries, keeps, own, copied, chase, wayOf, trip}
+use Rattle.rules.specs.Questions.{known}
 use Rattle.table.specs.Code.{kindAt}
 use Rattle.steps.specs.Tree.{formOf, testOf}
 use Rattle.steps.specs.Sets.{setOf}
-use Rattle.steps.specs.Body.{bodyAt, EndsAt}
+use Rattle.steps.specs.Body.{AtLoop, bodyAt, EndsAt}
 use Rattle.trips.specs.declared.Lead.{Lead}
+use Rattle.trips.specs.declared.Counter.{Counter}
+use Rattle.trips.specs.declared.Head.{Head}
 use Rattle.trips.specs.declared.Trip.{Trip}
 use Rattle.trips.specs.declared.Way.{Way}
 use Rattle.trips.specs.declared.Loop.{Loop}
-use Rattle.trips.specs.Env.{rangeOf}
+use Rattle.trips.specs.Env.{rangeOf, HeadOf}
 
 -- the lead of the rules
 abbrev pub leadOf : Lead → trips.Lead
@@ -28,17 +33,36 @@ leadOf Lead.Nothing = nothing
 leadOf Lead.Untested = untested
 leadOf (Lead.Tries s) = tries (rangeOf s)
 
+-- what is counted by starts from s, or from its difference from the limit's n
+abbrev pub startOf : Counter → Range → Range → Range
+startOf Counter.Own s n = s
+startOf Counter.Copy s n = s
+startOf Counter.Difference s n = record { lo = s .lo -ℤ n .hi; hi = s .hi -ℤ n .lo }
+
+-- and is tested against the limit, or against 0
+abbrev pub limitOf : Counter → Range → Range
+limitOf Counter.Own n = n
+limitOf Counter.Copy n = n
+limitOf Counter.Difference n = record { lo = pos 0; hi = pos 0 }
+
+-- the tested variable is not what is counted by
+abbrev pub freeOf : Counter → Bool
+freeOf Counter.Own = false
+freeOf Counter.Copy = true
+freeOf Counter.Difference = true
+
+-- the trip of the rules
 abbrev pub tripOf : Trip → trips.Trip
 tripOf t = record {
   step = t .step;
   comparison = t .comparison;
-  start = rangeOf (t .start);
-  limit = rangeOf (t .limit);
+  start = startOf (t .counter) (rangeOf (t .start)) (rangeOf (t .limit));
+  limit = limitOf (t .counter) (rangeOf (t .limit));
   late = t .late;
   lead = leadOf (t .lead);
   sure = t .sure;
   keeps = t .keeps;
-  free = t .free;
+  free = freeOf (t .counter);
 }
 
 -- the tested variable's own trip from its parts
@@ -69,31 +93,49 @@ copyFrom late st c s n keep ahead tested = record {
   free = true;
 }
 
+-- the trip of a difference from its parts
+abbrev pub chaseFrom : Bool → Step → Comparison → Range → Range → trips.Trip
+chaseFrom late st c s n = record {
+  step = st;
+  comparison = c;
+  start = record { lo = s .lo -ℤ n .hi; hi = s .hi -ℤ n .lo };
+  limit = record { lo = pos 0; hi = pos 0 };
+  late = late;
+  lead = cond late untested nothing;
+  sure = single s && single n;
+  keeps = true;
+  free = true;
+}
+
 -- the way of the rules
 abbrev pub wayIs : Way → trips.Way
 wayIs Way.Own = own
 wayIs (Way.Copied w ahead moved) = copied w ahead
+wayIs (Way.Chase w apart) = chase w
 
--- a copied variable is one of the 16
+-- the other variable is one of the 16
 abbrev pub SmallWay : Way → Type 0
 SmallWay Way.Own = Unit {0}
 SmallWay (Way.Copied w ahead moved) = w < 16
+SmallWay (Way.Chase w apart) = w < 16
 
--- and has its own step over the body
-abbrev pub WayStep : Block → Way → Type 0
-WayStep body Way.Own = Unit {0}
-WayStep body (Way.Copied w ahead moved) = (moved ≡ step w body) × Ends 256 moved
+-- and its step, or the step of the difference from v's, is that over the body
+abbrev pub WayStep : ℕ → Block → Way → Type 0
+WayStep v body Way.Own = Unit {0}
+WayStep v body (Way.Copied w ahead moved) = (moved ≡ step w body) × Ends 512 moved
+WayStep v body (Way.Chase w apart) = (apart ≡ difference (step v body) (step w body)) × Ends 512 apart
 
 -- the trip by a way, ρ the ranges at the loop's start
 abbrev pub tripFrom : Way → Env → Bool → Step → Comparison → Range → Range → Bool → trips.Trip
 tripFrom Way.Own ρ late st c s n keep = ownFrom late st c s n keep
 tripFrom (Way.Copied w ahead moved) ρ late st c s n keep = copyFrom late moved c (ρ w) n keep ahead s
+tripFrom (Way.Chase w apart) ρ late st c s n keep = chaseFrom late apart c s (ρ w)
 
 -- the way of a loop at row i whose tested variable's only row copies w
 pub record CopiedAt (rows : List Row) (count i : ℕ) (c : Comparison) (w : ℕ) (before after : Bool) (r : Way) : Type 0 where
   pub value : let st = step w (bodyAt rows count i) in wayIs r ≡ cond (not (before && after) && (isAdd st && (moving st && ordered (sort c)))) (copied w before) own
   pub small : SmallWay r
-  pub moves : WayStep (bodyAt rows count i) r
+  pub moves : WayStep (testOf (kindAt rows i) .tested) (bodyAt rows count i) r
 
 -- the own step of the tested variable of the loop at row i
 abbrev pub ownStep : List Row → ℕ → ℕ → Step
@@ -103,7 +145,33 @@ ownStep rows count i = step (testOf (kindAt rows i) .tested) (bodyAt rows count 
 pub record WayAt (rows : List Row) (count i : ℕ) (r : Way) : Type 0 where
   pub value : wayIs r ≡ wayOf (formOf (kindAt rows i)) (testOf (kindAt rows i)) (bodyAt rows count i)
   pub small : SmallWay r
-  pub moves : WayStep (bodyAt rows count i) r
+  pub moves : WayStep (testOf (kindAt rows i) .tested) (bodyAt rows count i) r
+
+-- its limit is the variable w, which the body assigns; st: the tested variable's own step, which is known
+pub record ChaseAt (rows : List Row) (count i : ℕ) (h : Head) (st : Step) (w : ℕ) : Type 0 where
+  pub loop : AtLoop rows count i
+  pub head : HeadOf (kindAt rows i) h
+  pub own : st ≡ ownStep rows count i
+  pub near : Ends 256 st
+  pub sure : known st ≡ true
+  pub small : w < 16
+  pub limit : testOf (kindAt rows i) .limit ≡ Variable w
+  pub changed : assigns w (bodyAt rows count i) ≡ true
+
+-- question 10 has no; st as before
+pub record LimitAt (rows : List Row) (count i : ℕ) (st : Step) : Type 0 where
+  pub loop : AtLoop rows count i
+  pub own : st ≡ ownStep rows count i
+  pub near : Ends 256 st
+  pub sure : known st ≡ true
+  pub changed : keeps (testOf (kindAt rows i) .limit) (bodyAt rows count i) ≡ false
+
+-- st the tested variable's own step, kept question 10's answer
+pub record WayFrom (rows : List Row) (count i : ℕ) (st : Step) (kept : Bool) : Type 0 where
+  pub loop : AtLoop rows count i
+  pub own : st ≡ ownStep rows count i
+  pub near : Ends 256 st
+  pub limit : kept ≡ keeps (testOf (kindAt rows i) .limit) (bodyAt rows count i)
 
 -- the loop at row i, ρ the ranges at its start
 pub record LoopAt (rows : List Row) (count i : ℕ) (ρ : Env) (r : Loop) : Type 0 where
@@ -111,5 +179,5 @@ pub record LoopAt (rows : List Row) (count i : ℕ) (ρ : Env) (r : Loop) : Type
   pub tested : r .tested ≡ testOf (kindAt rows i) .tested
   pub small : r .tested < 16
   pub sets : (w : ℕ) → setOf (r .set) w ≡ assigns w (bodyAt rows count i)
-  pub near : Ends 256 (r .trip .step)
+  pub near : Ends 512 (r .trip .step)
   pub ends : EndsAt rows count i (r .next)

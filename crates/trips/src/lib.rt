@@ -12,16 +12,17 @@ ghost use mathlib.Core.Path.{_≡_};
 ghost use mathlib.Core.Bool.{not, cond, _&&_};
 ghost use Prim.Native.Nat.{ℕ, _<_};
 ghost use Rattle.rules.specs.Blocks.{Block};
-ghost use Rattle.rules.specs.Steps.{assigns, isAdd, moving};
+ghost use Rattle.rules.specs.Steps.{assigns, isAdd, moving, difference};
+ghost use Rattle.rules.specs.Questions.{known};
 ghost use Rattle.rules.specs.Ranges.{bounds, isDo, isFor, single, sort, ordered};
 ghost use Rattle.rules.specs.Trips as trips;
-ghost use Rattle.rules.specs.Bounds.{Fine, FineOperand};
+ghost use Rattle.rules.specs.Bounds.{Fine, FineOperand, Ends};
 ghost use Rattle.table.specs.Code.{rowsOf};
 ghost use Rattle.steps.specs.Tree.{formOf};
 ghost use Rattle.steps.specs.Sets.{setOf};
 ghost use Rattle.steps.specs.Body.{AtLoop};
 ghost use Rattle.trips.specs.Env.{envOf, rangeOf, HeadOf};
-ghost use Rattle.trips.specs.Found.{leadOf, tripOf, ownFrom, copyFrom, SmallWay, tripFrom, CopiedAt, ownStep, WayAt, LoopAt};
+ghost use Rattle.trips.specs.Found.{leadOf, tripOf, ownFrom, copyFrom, chaseFrom, SmallWay, tripFrom, CopiedAt, ownStep, ChaseAt, LimitAt, WayFrom, WayAt, LoopAt};
 
 // A pair of ends.
 pub struct Span {
@@ -139,9 +140,17 @@ fn lead_of(untested: bool, first: Lead) -> Lead
     if untested { Lead::Untested } else { first }
 }
 
-// What is stepped and tested: the step that is read and its comparison, the ranges of its start and its limit; whether the first counted
-// test sees the start moved by one turn, and what comes before that test; whether all starts are single numbers, question 10 has yes,
-// and the tested variable is [-L, L] at the body's start and after the loop.
+// What is counted by: the tested variable's own value; that of a variable copied into it; or the difference of the tested variable and the
+// limit. The tested variable is [-L, L] at the body's start and after the loop where it is not its own.
+pub enum Counter {
+    Own,
+    Copy,
+    Difference,
+}
+
+// What is stepped and tested: the step that is read and its comparison, the ranges of its start and its limit (of a difference, those of
+// the two variables); whether the first counted test sees the start moved by one turn, and what comes before that test; whether all starts
+// are single numbers, question 10 has yes, and what is counted by.
 pub struct Trip {
     pub step: Step,
     pub comparison: Comparison,
@@ -151,7 +160,7 @@ pub struct Trip {
     pub lead: Lead,
     pub sure: bool,
     pub keeps: bool,
-    pub free: bool,
+    pub counter: Counter,
 }
 
 // The tested variable's own step, from its start range to the limit's.
@@ -176,7 +185,7 @@ fn own_trip(
         lead: lead,
         sure: sure,
         keeps: keeps,
-        free: false,
+        counter: Counter::Own,
     }
 }
 
@@ -204,7 +213,26 @@ fn copy_trip(
         lead: lead,
         sure: sure,
         keeps: keeps,
-        free: true,
+        counter: Counter::Copy,
+    }
+}
+
+// The difference of the tested variable and the limit, from their ranges.
+fn chase_trip(untested: bool, step: Step, comparison: Comparison, start: Span, other: Span) -> Trip
+    ensures { λ r. ⌜ tripOf r ≡ chaseFrom untested step comparison (rangeOf start) (rangeOf other) ⌝ }
+{
+    let lead = lead_of(untested, Lead::Nothing);
+    let sure = both(single(start), single(other));
+    Trip {
+        step: step,
+        comparison: comparison,
+        start: start,
+        limit: other,
+        late: untested,
+        lead: lead,
+        sure: sure,
+        keeps: true,
+        counter: Counter::Difference,
     }
 }
 
@@ -225,6 +253,18 @@ fn is_add(step: Step) -> bool
         Step::Add(_, _) => true,
         Step::Grow(_, _) => false,
         Step::Shrink(_, _) => false,
+        Step::Unknown => false,
+    }
+}
+
+// 8: is the step known?
+pub fn known(step: Step) -> bool
+    ensures { λ r. ⌜ r ≡ known step ⌝ }
+{
+    match step {
+        Step::Add(_, _) => true,
+        Step::Grow(_, _) => true,
+        Step::Shrink(_, _) => true,
         Step::Unknown => false,
     }
 }
@@ -255,10 +295,12 @@ fn ordered(comparison: Comparison) -> bool
     }
 }
 
-// How turns are counted: by the tested variable's own step, or by that of a variable copied into it, whose rows come before the copy or not.
+// How turns are counted: by the tested variable's own step; by that of a variable copied into it, whose rows come before the copy or not;
+// or by that of its difference from the limit.
 enum Way {
     Own,
     Copied(u8, bool, Step),
+    Chase(u8, Step),
 }
 
 // A copied variable counts: its rows stand on one side, it moves by Add, and the comparison is ordered.
@@ -292,9 +334,9 @@ fn copied_way(
     Way::Own
 }
 
-// Which way the loop at row i goes, by the only row of its tested variable.
+// Which way the loop at row i goes, by the only row of its tested variable, which has no step of its own.
 fn sole_way(rows: &[[u32; 9]; 256], count: usize, i: usize) -> Way
-    requires { ⌜ AtLoop (rowsOf (now rows)) count i ⌝ }
+    requires { ⌜ AtLoop (rowsOf (now rows)) count i × (ownStep (rowsOf (now rows)) count i ≡ Step.Unknown) ⌝ }
     ensures { λ r. ⌜ WayAt (rowsOf (now (rows .entry))) count i r ⌝ }
 {
     let kind = kind_at(rows, i);
@@ -309,15 +351,70 @@ fn sole_way(rows: &[[u32; 9]; 256], count: usize, i: usize) -> Way
     }
 }
 
-// Which way the loop at row i goes; step: its tested variable's own.
-fn way_of(rows: &[[u32; 9]; 256], count: usize, i: usize, step: Step) -> Way
-    requires { ⌜ AtLoop (rowsOf (now rows)) count i × (step ≡ ownStep (rowsOf (now rows)) count i) ⌝ }
+// The step of the difference of two variables, from their steps.
+fn difference(x: Step, y: Step) -> Step
+    requires { ⌜ Ends 256 x × Ends 256 y ⌝ }
+    ensures { λ r. ⌜ r ≡ difference x y ⌝ }
+{
+    match x {
+        Step::Add(a, b) => match y {
+            Step::Add(c, d) => Step::Add(a - d, b - c),
+            _ => Step::Unknown,
+        },
+        _ => Step::Unknown,
+    }
+}
+
+// Two variables that move by Add close on each other under an ordered comparison.
+fn chases(comparison: Comparison, step: Step, other: Step) -> bool
+    ensures { λ r. ⌜ r ≡ isAdd other && (isAdd step && ordered (sort comparison)) ⌝ }
+{
+    both(is_add(other), both(is_add(step), ordered(comparison)))
+}
+
+// The limit is the variable w, which the body assigns; step: the tested variable's own.
+fn chased_way(rows: &[[u32; 9]; 256], count: usize, i: usize, head: Head, step: Step, w: u8) -> Way
+    requires { ⌜ ChaseAt (rowsOf (now rows)) count i head step w ⌝ }
     ensures { λ r. ⌜ WayAt (rowsOf (now (rows .entry))) count i r ⌝ }
 {
-    match step {
-        Step::Unknown => sole_way(rows, count, i),
-        _ => Way::Own,
+    if w == head.tested {
+        return Way::Own;
     }
+    let body = body_moves(rows, count, i, w);
+    let other = body.step;
+    let comparison = head.comparison;
+    if chases(comparison, step, other) {
+        return Way::Chase(w, difference(step, other));
+    }
+    Way::Own
+}
+
+// Which way the loop at row i goes, by its limit, which the body assigns; step: the tested variable's own, which is known.
+fn limit_way(rows: &[[u32; 9]; 256], count: usize, i: usize, step: Step) -> Way
+    requires { ⌜ LimitAt (rowsOf (now rows)) count i step ⌝ }
+    ensures { λ r. ⌜ WayAt (rowsOf (now (rows .entry))) count i r ⌝ }
+{
+    let kind = kind_at(rows, i);
+    let head = head_of(kind);
+    let limit = head.limit;
+    match limit {
+        Operand::Constant(_) => Way::Own,
+        Operand::Variable(w) => chased_way(rows, count, i, head, step, w),
+    }
+}
+
+// Which way the loop at row i goes; step: its tested variable's own; kept: the answer to question 10.
+fn way_of(rows: &[[u32; 9]; 256], count: usize, i: usize, step: Step, kept: bool) -> Way
+    requires { ⌜ WayFrom (rowsOf (now rows)) count i step kept ⌝ }
+    ensures { λ r. ⌜ WayAt (rowsOf (now (rows .entry))) count i r ⌝ }
+{
+    if !known(step) {
+        return sole_way(rows, count, i);
+    }
+    if kept {
+        return Way::Own;
+    }
+    limit_way(rows, count, i, step)
 }
 
 // The trip by that way, from the ranges at the loop's start and the tested variable's own.
@@ -346,6 +443,7 @@ fn trip_by(
             ahead,
             start,
         ),
+        Way::Chase(w, apart) => chase_trip(untested, apart, comparison, start, span_at(begun, w)),
     }
 }
 
@@ -374,7 +472,7 @@ pub fn loop_at(rows: &[[u32; 9]; 256], count: usize, i: usize, begun: &[[i32; 2]
     let s = span_at(begun, v);
     let n = bounds(begun, limit);
     let kept = keeps(limit, set);
-    let way = way_of(rows, count, i, step);
+    let way = way_of(rows, count, i, step, kept);
     let trip = trip_by(way, begun, is_do(kind), step, comparison, s, n, kept);
     Loop {
         trip: trip,

@@ -40,10 +40,10 @@ not-still a b m e z =
     let q : a ≡ b = eqZ-true a b e in
     or-cases (leZ (pos 1) a) (leZ b (negsuc 0)) m (λ l. omega ints) (λ l. omega ints)
 
-near-more : (z : ℤ) → Near 4 z → Near 512 z
+near-more : (z : ℤ) → Near 5 z → Near 1024 z
 near-more z h = omega ints
 
-pub near-step : (z : ℤ) → Near 256 z → Near 512 z
+pub near-step : (z : ℤ) → Near 512 z → Near 1024 z
 near-step z h = omega ints
 
 up : (z : ℤ) (f : ℕ) → pos 1 ≤ℤ z → 2 ≤ f → pos 1 ≤ℤ (z *ℤ pos f)
@@ -57,7 +57,7 @@ unfolding atTest moved
 grow-start false f g s r e h k = subst (λ z. pos 1 ≤ℤ z) (sym (ap (λ (x : Range). x .lo) e)) k
 grow-start true f g s r e h k = subst (λ z. pos 1 ≤ℤ z) (sym (ap (λ (x : Range). x .lo) e)) (up (s .lo) f k h)
 
-pub countable : (late : Bool) (st : Step) (d : Sort) (s : Range) (r n : Wide) (e : ℤ) → Ends 256 st → Near 4 e → Ranged n → rangeOf r ≡ atTest late st s → Begun st r
+pub countable : (late : Bool) (st : Step) (d : Sort) (s : Range) (r n : Wide) (e : ℤ) → Ends 512 st → Near 5 e → Ranged n → rangeOf r ≡ atTest late st s → Begun st r
     → moving st ≡ true → suits st d ≡ true → hasFigure st d s (rangeOf r) (rangeOf n) e ≡ true → Countable st d r n e
 unfolding moving suits hasFigure cap
 countable late (Add a b) rising s r n e (na, nb) ne rn q rr m u h = let l : pos 1 ≤ℤ a = omega ints in (rr, near-more e ne, near-step a na, l)
@@ -84,7 +84,7 @@ countable late Unknown d s r n e en ne rn q rr m u h = tt
 abbrev few : ℕ
 few = 2_048_000_000_001
 
-gap-few : (x y : ℤ) → Near 512 x → Near 512 y → natAbs (x -ℤ y) < few
+gap-few : (x y : ℤ) → Near 1024 x → Near 1024 y → natAbs (x -ℤ y) < few
 gap-few x y h k = omega (ints, minus-parts x y, abs-parts (x -ℤ y))
 
 by-test : (t : Bool) (x y : ℕ) → x ≤ few → y ≤ few → cond t x y ≤ few
@@ -100,24 +100,21 @@ unfolding powers
 powers-few zero t e f = omega arith
 powers-few (suc fuel) t e f = one-more (leb t e) (powers fuel (t * f) e f) fuel (powers-few fuel (t * f) e f)
 
-scale-few : (t e : ℤ) (f : ℕ) → Near 4 e → scale t e f ≤ few
+scale-few : (t e : ℤ) (f : ℕ) → Near 5 e → scale t e f ≤ few
 unfolding scale
-scale-few t e f h = by-test (ltZ e t) _ _ (omega arith) (let k : natAbs e ≤ 4_000_000_000 = omega (ints, abs-parts e) in omega (arith, powers-few (suc (natAbs e)) (natAbs t) (natAbs e) f))
+scale-few t e f h = by-test (ltZ e t) _ _ (omega arith) (let k : natAbs e ≤ 5_000_000_000 = omega (ints, abs-parts e) in omega (arith, powers-few (suc (natAbs e)) (natAbs t) (natAbs e) f))
 
-pub apart-few : (a : ℤ) (s n : Range) → Near 512 (s .lo) → Near 512 (s .hi) → Near 512 (n .lo) → Near 512 (n .hi) → apart a s n ≤ few
+pub apart-few : (a : ℤ) (s n : Range) → Near 1024 (s .lo) → Near 1024 (s .hi) → Near 1024 (n .lo) → Near 1024 (n .hi) → apart a s n ≤ few
 unfolding apart
 apart-few a s n sl sh nl nh =
     by-test (eqZ a (pos 1)) _ _ (omega (arith, gap-few (n .hi) (s .lo) nh sl))
     (by-test (eqZ a (negsuc 0)) _ _ (omega (arith, gap-few (s .hi) (n .lo) sh nl))
     (omega (arith, gap-few (n .lo) (s .lo) nl sl, div-le-self (natAbs (n .lo -ℤ s .lo)) (natAbs a))))
 
-pub wider : (z : ℤ) → Near 512 z → Near 1024 z
-wider z h = omega ints
-
 pub turns-few : (st : Step) (d : Sort) (s n : Wide) (e : ℤ) → Countable st d s n e → whileTurns st d (rangeOf s) (rangeOf n) e ≤ few
 unfolding whileTurns
-turns-few (Add a b) rising s n e (r, ne, na, l) = climb-few _ (wider _ (r .low)) (wider e ne)
-turns-few (Add a b) falling s n e (r, ne, nb, l) = climb-few _ (wider e ne) (wider _ (r .high))
+turns-few (Add a b) rising s n e (r, ne, na, l) = climb-few _ (r .low) ne
+turns-few (Add a b) falling s n e (r, ne, nb, l) = climb-few _ ne (r .high)
 turns-few (Add a b) same s n e h = by-test (share (rangeOf s) (rangeOf n)) 1 0 (omega arith) (omega arith)
 turns-few (Add a b) differ s n e (na, z, r, q) = apart-few a (rangeOf s) (rangeOf n) (r .low) (r .high) (q .low) (q .high)
 turns-few (Grow f g) d s n e (l, ne, k, m) = scale-few (s .lo) e f ne

@@ -8,20 +8,24 @@ use lib.Signed.{leZ}
 use Rattle.ints.specs.Ints.{eqZ}
 use Rattle.rules.specs.declared.Step.{Step}
 use Rattle.rules.specs.declared.Step.the-variants.{Add, Grow, Shrink, Unknown}
-use Rattle.rules.specs.Bounds.{Near}
 use Rattle.rules.specs.Ranges.{Range, Sort, rising, falling, same, differ}
 use Rattle.rules.specs.Questions.{suits, hasFigure}
 use Rattle.turns.specs.declared.Wide.{Wide}
-use Rattle.turns.specs.Needs.{Ranged, Begun, isRising, isFalling, isDiffer, meeting}
+use Rattle.turns.proofs.Small.{small}
+use Rattle.turns.specs.Needs.{Ranged, Unmoved, Begun, isRising, isFalling, isDiffer, meeting}
 
 not-both : {A : Type 0} {b : Bool} → b ≡ true → b ≡ false → A
 not-both p q = absurd (let z : _≡_ {A = ℕ} 0 1 = cc in omega arith)
 
-pub whole-begun : (st : Step) (r : Wide) → Ranged r → Near 4 (r .hi) → Begun st r
-whole-begun (Add a b) r h k = h
-whole-begun (Grow f g) r h k = tt
-whole-begun (Shrink f g) r h k = k
-whole-begun Unknown r h k = tt
+pub ranged : (r : Wide) → Unmoved r → Ranged r
+ranged r u = record { low = small _ (u .low) .far; high = small _ (u .high) .far }
+
+-- what the first test sees where no turn comes before it
+pub unmoved-begun : (st : Step) (r : Wide) → Unmoved r → Begun st r
+unmoved-begun (Add a b) r u = ranged r u
+unmoved-begun (Grow f g) r u = tt
+unmoved-begun (Shrink f g) r u = small _ (u .high) .near
+unmoved-begun Unknown r u = tt
 
 -- question 11, by the sort of test
 pub suits-up : (a b : ℤ) (d : Sort) → isRising d ≡ true → leZ (pos 1) a ≡ suits (Add a b) d

@@ -23,7 +23,7 @@ split : (a : ℤ) (k : ℕ) → P a * k + N a * k ≡ natAbs a * k
 split (pos n) k = omega arith
 split (negsuc n) k = omega arith
 
-small : (a lo : ℤ) (k d : ℕ) → Near 512 lo → k ≤ 2_048_000_000_001 → natAbs a * k ≤ d → d < 2_048_000_000_001 → Product a lo k
+small : (a lo : ℤ) (k d : ℕ) → Near 1024 lo → k ≤ 2_048_000_000_001 → natAbs a * k ≤ d → d < 2_048_000_000_001 → Product a lo k
 small a lo k d h l m e =
     let q : P a * k + N a * k < 2_048_000_000_001 = omega (arith, split a k) in
     record {
@@ -32,10 +32,10 @@ small a lo k d h l m e =
       sum = omega (ints, mul-P a k, mul-N a k, add-parts lo (a *ℤ pos k));
     }
 
-gap : (x y : ℤ) → Near 512 x → Near 512 y → natAbs (x -ℤ y) < 2_048_000_000_001
+gap : (x y : ℤ) → Near 1024 x → Near 1024 y → natAbs (x -ℤ y) < 2_048_000_000_001
 gap x y h k = omega (ints, minus-parts x y, abs-parts (x -ℤ y))
 
-pub product : (a : ℤ) (r n : Range) → eqZ a (pos 1) ≡ false → eqZ a (negsuc 0) ≡ false → Near 512 (r .lo) → Near 512 (n .lo) → apart a r n ≤ 2_048_000_000_001 → Product a (r .lo) (apart a r n)
+pub product : (a : ℤ) (r n : Range) → eqZ a (pos 1) ≡ false → eqZ a (negsuc 0) ≡ false → Near 1024 (r .lo) → Near 1024 (n .lo) → apart a r n ≤ 2_048_000_000_001 → Product a (r .lo) (apart a r n)
 unfolding apart
 product a r n e f h k l =
     let d = natAbs (n .lo -ℤ r .lo) in

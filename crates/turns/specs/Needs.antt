@@ -2,7 +2,7 @@
 use mathlib.Core.Path.{_≡_}
 use mathlib.Core.Bool.{Bool, true, false, cond, _&&_}
 use Prim.Native.Nat.{ℕ, zero, suc, _≤_}
-use lib.IntN.{ℤ, pos, negsuc, _+ℤ_, _*ℤ_}
+use lib.IntN.{ℤ, pos, negsuc, negℤ, _+ℤ_, _*ℤ_}
 use lib.Signed.{_≤ℤ_, leZ}
 use Rattle.ints.specs.Ints.{eqZ}
 use Rattle.rules.specs.declared.Step.{Step}
@@ -21,24 +21,34 @@ abbrev pub rangeOf : Wide → Range
 rangeOf w = record { lo = w .lo; hi = w .hi }
 
 pub record Ranged (w : Wide) : Type 0 where
-  pub low : Near 512 (w .lo)
-  pub high : Near 512 (w .hi)
+  pub low : Near 1024 (w .lo)
+  pub high : Near 1024 (w .hi)
+
+-- as small as a difference of two numbers of 32 bits
+pub record Short (z : ℤ) : Type 0 where
+  pub low : negℤ (pos 4_294_967_296) ≤ℤ z
+  pub high : z ≤ℤ pos 4_294_967_296
+
+-- a range that no turn has moved
+pub record Unmoved (w : Wide) : Type 0 where
+  pub low : Short (w .lo)
+  pub high : Short (w .hi)
 
 -- how large what the first test sees is
 abbrev pub Begun : Step → Wide → Type 0
 Begun (Step.Add a b) r = Ranged r
 Begun (Step.Grow f g) r = Unit {0}
-Begun (Step.Shrink f g) r = Near 4 (r .hi)
+Begun (Step.Shrink f g) r = Near 5 (r .hi)
 Begun Step.Unknown r = Unit {0}
 
 -- what the figure of a step and a sort of test asks: the answers to questions 8 to 12
 abbrev pub Countable : Step → Sort → Wide → Wide → ℤ → Type 0
-Countable (Step.Add a b) rising s n e = Ranged s × Near 512 e × Near 512 a × (pos 1 ≤ℤ a)
-Countable (Step.Add a b) falling s n e = Ranged s × Near 512 e × Near 512 b × (b ≤ℤ negsuc 0)
+Countable (Step.Add a b) rising s n e = Ranged s × Near 1024 e × Near 1024 a × (pos 1 ≤ℤ a)
+Countable (Step.Add a b) falling s n e = Ranged s × Near 1024 e × Near 1024 b × (b ≤ℤ negsuc 0)
 Countable (Step.Add a b) same s n e = Unit {0}
-Countable (Step.Add a b) differ s n e = Near 512 a × (a ≡ pos 0 → ⊥) × Ranged s × Ranged n
-Countable (Step.Grow f g) d s n e = (pos 1 ≤ℤ s .lo) × Near 4 e × (2 ≤ f) × (f ≤ 2_000_000_001)
-Countable (Step.Shrink f g) d s n e = (pos 1 ≤ℤ e) × Near 4 (s .hi) × (2 ≤ f) × (f ≤ 2_000_000_001)
+Countable (Step.Add a b) differ s n e = Near 1024 a × (a ≡ pos 0 → ⊥) × Ranged s × Ranged n
+Countable (Step.Grow f g) d s n e = (pos 1 ≤ℤ s .lo) × Near 5 e × (2 ≤ f) × (f ≤ 2_000_000_001)
+Countable (Step.Shrink f g) d s n e = (pos 1 ≤ℤ e) × Near 5 (s .hi) × (2 ≤ f) × (f ≤ 2_000_000_001)
 Countable Step.Unknown d s n e = Unit {0}
 
 -- the sorts of tests, as answers

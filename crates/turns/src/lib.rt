@@ -4,11 +4,13 @@ use moves::turned_up;
 use rules::AddLoop;
 use rules::Comparison;
 use rules::Step;
+use trips::Counter;
 use trips::Lead;
 use trips::Span;
 use trips::Trip;
+use trips::known;
 use trips::moving;
-use values::quotient_of;
+use values::quotient;
 ghost use mathlib.Core.Path.{_≡_};
 ghost use mathlib.Core.Bool.{true, cond};
 ghost use Prim.Native.Nat.{suc, _≤_};
@@ -19,14 +21,15 @@ ghost use Rattle.rules.specs.Steps.{moving, even};
 ghost use Rattle.rules.specs.Ranges.{edge, sort};
 ghost use Rattle.rules.specs.Turns.{powers, scale, share, apart, whileTurns, moved, atTest};
 ghost use Rattle.rules.specs.Trips.{misses, led, isExact};
-ghost use Rattle.rules.specs.Questions.{known, suits, hasFigure};
+ghost use Rattle.rules.specs.Questions.{suits, hasFigure};
 ghost use Rattle.trips.specs.Env as env;
-ghost use Rattle.trips.specs.Found.{leadOf, tripOf};
-ghost use Rattle.turns.specs.Needs.{rangeOf, Ranged, Begun, Countable, isRising, isFalling, isDiffer, meeting, FigureOf};
+ghost use Rattle.trips.specs.declared.Counter.{Counter};
+ghost use Rattle.trips.specs.Found.{startOf, limitOf, leadOf, tripOf};
+ghost use Rattle.turns.specs.Needs.{rangeOf, Ranged, Unmoved, Begun, Countable, isRising, isFalling, isDiffer, meeting, FigureOf};
 
 // How many k have t times f to the k at most e.
 fn powers(t: u64, e: u64, f: u64) -> u64
-    requires { ⌜ (1 ≤ t) × (e ≤ 4_000_000_000) × (2 ≤ f) × (f ≤ 2_000_000_001) ⌝ }
+    requires { ⌜ (1 ≤ t) × (e ≤ 5_000_000_000) × (2 ≤ f) × (f ≤ 2_000_000_001) ⌝ }
     ensures { λ r. ⌜ r ≡ powers (suc e) t e f ⌝ }
 {
     let mut at = t;
@@ -40,7 +43,7 @@ fn powers(t: u64, e: u64, f: u64) -> u64
 
 // Grow: from t times f, while at most e.
 fn scale(t: i64, e: i64, f: u64) -> u64
-    requires { ⌜ (pos 1 ≤ℤ t) × Near 4 e × (2 ≤ f) × (f ≤ 2_000_000_001) ⌝ }
+    requires { ⌜ (pos 1 ≤ℤ t) × Near 5 e × (2 ≤ f) × (f ≤ 2_000_000_001) ⌝ }
     ensures { λ r. ⌜ r ≡ scale t e f ⌝ }
 {
     if e < t {
@@ -57,7 +60,7 @@ pub struct Wide {
 
 // The distance of two numbers.
 fn distance(x: i64, y: i64) -> u64
-    requires { ⌜ Near 512 x × Near 512 y ⌝ }
+    requires { ⌜ Near 1024 x × Near 1024 y ⌝ }
     ensures { λ r. ⌜ r ≡ natAbs (x -ℤ y) ⌝ }
 {
     if x < y {
@@ -86,7 +89,7 @@ fn one_if(t: bool) -> u64
 
 // The turns under !=.
 fn apart(a: i64, s: Wide, n: Wide) -> u64
-    requires { ⌜ Near 512 a × (a ≡ pos 0 → ⊥) × Ranged s × Ranged n ⌝ }
+    requires { ⌜ Near 1024 a × (a ≡ pos 0 → ⊥) × Ranged s × Ranged n ⌝ }
     ensures { λ r. ⌜ r ≡ apart a (rangeOf s) (rangeOf n) ⌝ }
 {
     if a == 1 {
@@ -139,11 +142,12 @@ fn while_turns(step: Step, comparison: Comparison, s: Wide, n: Wide, e: i64) -> 
 }
 
 // The limit's end that the test reads, E.
-fn edge(comparison: Comparison, n: Span) -> i64
-    ensures { λ r. ⌜ (r ≡ edge comparison (env.rangeOf n)) × Near 4 r ⌝ }
+fn edge(comparison: Comparison, n: Wide) -> i64
+    requires { ⌜ Unmoved n ⌝ }
+    ensures { λ r. ⌜ (r ≡ edge comparison (rangeOf n)) × Near 5 r ⌝ }
 {
-    let lo = n.lo as i64;
-    let hi = n.hi as i64;
+    let lo = n.lo;
+    let hi = n.hi;
     match comparison {
         Comparison::Less => hi - 1,
         Comparison::AtMost => hi,
@@ -154,8 +158,9 @@ fn edge(comparison: Comparison, n: Span) -> i64
     }
 }
 
+// A range of 32 bits.
 fn whole(s: Span) -> Wide
-    ensures { λ r. ⌜ (rangeOf r ≡ env.rangeOf s) × Ranged r × Near 4 (r .hi) ⌝ }
+    ensures { λ r. ⌜ (rangeOf r ≡ env.rangeOf s) × Unmoved r ⌝ }
 {
     Wide {
         lo: s.lo as i64,
@@ -163,13 +168,46 @@ fn whole(s: Span) -> Wide
     }
 }
 
-// The start moved by one turn, not drawn back.
-fn moved(step: Step, s: Span) -> Wide
-    requires { ⌜ Ends 256 step × (moving step ≡ true) ⌝ }
-    ensures { λ r. ⌜ (rangeOf r ≡ moved step (env.rangeOf s)) × Begun step r ⌝ }
+// The range of the difference of two numbers.
+fn gap(s: Span, n: Span) -> Wide
+    ensures { λ r. ⌜ (rangeOf r ≡ startOf Counter.Difference (env.rangeOf s) (env.rangeOf n)) × Unmoved r ⌝ }
 {
-    let lo = s.lo as i64;
-    let hi = s.hi as i64;
+    Wide {
+        lo: s.lo as i64 - n.hi as i64,
+        hi: s.hi as i64 - n.lo as i64,
+    }
+}
+
+// The range that a trip starts from, and the limit's.
+fn start_of(counter: Counter, s: Span, n: Span) -> Wide
+    ensures { λ r. ⌜ (rangeOf r ≡ startOf counter (env.rangeOf s) (env.rangeOf n)) × Unmoved r ⌝ }
+{
+    match counter {
+        Counter::Own => whole(s),
+        Counter::Copy => whole(s),
+        Counter::Difference => gap(s, n),
+    }
+}
+
+const NONE: Wide = Wide { lo: 0, hi: 0 };
+
+fn limit_of(counter: Counter, n: Span) -> Wide
+    ensures { λ r. ⌜ (rangeOf r ≡ limitOf counter (env.rangeOf n)) × Unmoved r ⌝ }
+{
+    match counter {
+        Counter::Own => whole(n),
+        Counter::Copy => whole(n),
+        Counter::Difference => NONE,
+    }
+}
+
+// The start moved by one turn, not drawn back.
+fn moved(step: Step, s: Wide) -> Wide
+    requires { ⌜ Ends 512 step × (moving step ≡ true) × Unmoved s ⌝ }
+    ensures { λ r. ⌜ (rangeOf r ≡ moved step (rangeOf s)) × Begun step r ⌝ }
+{
+    let lo = s.lo;
+    let hi = s.hi;
     match step {
         Step::Add(a, b) => Wide {
             lo: lo + a,
@@ -180,34 +218,22 @@ fn moved(step: Step, s: Span) -> Wide
             hi: hi * f as i64,
         },
         Step::Shrink(f, _) => Wide {
-            lo: quotient_of(s.lo, f as u32),
-            hi: quotient_of(s.hi, f as u32),
+            lo: quotient(lo, f),
+            hi: quotient(hi, f),
         },
-        Step::Unknown => Wide { lo: lo, hi: hi },
+        Step::Unknown => s,
     }
 }
 
 // What the first counted test sees.
-fn at_test(late: bool, step: Step, s: Span) -> Wide
-    requires { ⌜ Ends 256 step × (moving step ≡ true) ⌝ }
-    ensures { λ r. ⌜ (rangeOf r ≡ atTest late step (env.rangeOf s)) × Begun step r ⌝ }
+fn at_test(late: bool, step: Step, s: Wide) -> Wide
+    requires { ⌜ Ends 512 step × (moving step ≡ true) × Unmoved s ⌝ }
+    ensures { λ r. ⌜ (rangeOf r ≡ atTest late step (rangeOf s)) × Begun step r ⌝ }
 {
     if late {
         return moved(step, s);
     }
-    whole(s)
-}
-
-// 8: is the step known?
-fn known(step: Step) -> bool
-    ensures { λ r. ⌜ r ≡ known step ⌝ }
-{
-    match step {
-        Step::Add(_, _) => true,
-        Step::Grow(_, _) => true,
-        Step::Shrink(_, _) => true,
-        Step::Unknown => false,
-    }
+    s
 }
 
 fn rises(comparison: Comparison) -> bool
@@ -258,7 +284,7 @@ fn suits(step: Step, comparison: Comparison) -> bool
 
 // The terms of the figure under !=, a the step, r what the first test sees.
 fn meets(a: i64, r: Wide, n: Wide) -> bool
-    requires { ⌜ Near 512 a × (a ≡ pos 0 → ⊥) × Ranged r × Ranged n ⌝ }
+    requires { ⌜ Near 1024 a × (a ≡ pos 0 → ⊥) × Ranged r × Ranged n ⌝ }
     ensures { λ t. ⌜ t ≡ meeting a (rangeOf r) (rangeOf n) ⌝ }
 {
     let low = r.lo;
@@ -295,9 +321,9 @@ fn is_differ(comparison: Comparison) -> bool
 }
 
 // 12: s the start, r what the first test sees, n the limit's range, e its end.
-fn has_figure(step: Step, comparison: Comparison, s: Span, r: Wide, n: Wide, e: i64) -> bool
-    requires { ⌜ Ends 256 step × (moving step ≡ true) × Begun step r × Ranged n ⌝ }
-    ensures { λ t. ⌜ t ≡ hasFigure step (sort comparison) (env.rangeOf s) (rangeOf r) (rangeOf n) e ⌝ }
+fn has_figure(step: Step, comparison: Comparison, s: Wide, r: Wide, n: Wide, e: i64) -> bool
+    requires { ⌜ Ends 512 step × (moving step ≡ true) × Begun step r × Ranged n ⌝ }
+    ensures { λ t. ⌜ t ≡ hasFigure step (sort comparison) (rangeOf s) (rangeOf r) (rangeOf n) e ⌝ }
 {
     let start = s.lo;
     match step {
@@ -356,7 +382,7 @@ fn led(lead: Lead, comparison: Comparison, e: i64, more: u64) -> u64
 
 // The questions 8 to 12 of a trip in their order, then its turns.
 pub fn ask(trip: Trip) -> Figure
-    requires { ⌜ Ends 256 (trip .step) ⌝ }
+    requires { ⌜ Ends 512 (trip .step) ⌝ }
     ensures { λ r. ⌜ FigureOf (tripOf trip) r ⌝ }
 {
     let step = trip.step;
@@ -374,11 +400,13 @@ pub fn ask(trip: Trip) -> Figure
     if !suits(step, comparison) {
         return Figure::Refused(11);
     }
-    let start = trip.start;
+    let counter = trip.counter;
+    let s = trip.start;
     let n = trip.limit;
-    let e = edge(comparison, n);
+    let start = start_of(counter, s, n);
+    let limit = limit_of(counter, n);
+    let e = edge(comparison, limit);
     let r = at_test(trip.late, step, start);
-    let limit = whole(n);
     if !has_figure(step, comparison, start, r, limit, e) {
         return Figure::Refused(12);
     }

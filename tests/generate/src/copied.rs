@@ -88,23 +88,17 @@ impl Builder<'_> {
             (_, false) => &[Part::Copy, Part::Master],
         };
         for part in parts {
-            self.few(depth - 1, body_locked);
+            self.few(depth - 1, body_locked, &[v, w]);
             match part {
                 Part::Copy => self.copy(depth - 1, body_locked, v, w, broken),
                 Part::Master => self.master(depth - 1, w, way, broken),
                 Part::Standing => self.rows.push(format!("add v{w} 0")),
             }
         }
-        self.few(depth - 1, body_locked);
+        self.few(depth - 1, body_locked, &[v, w]);
         self.rows.push("end".into());
         self.left = most - self.rows.len();
-    }
-
-    /// No item or one.
-    fn few(&mut self, depth: usize, locked: u32) {
-        if self.left > 0 && self.rng.chance(25) {
-            self.block(depth, locked, 1);
-        }
+        self.reader(depth, body_locked, &[v, w]);
     }
 
     /// The rows before the loop, and its limit. The master starts before the limit; the counter before it, at it or past it.

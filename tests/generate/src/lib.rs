@@ -1,6 +1,7 @@
 //! Seeded random cases. Most files are built so that they are likely to be accepted; some are careless,
 //! some are aimed at one question, some are damaged afterwards.
 
+mod closing;
 mod copied;
 mod damage;
 mod rng;

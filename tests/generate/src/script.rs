@@ -1,6 +1,6 @@
 //! Whole script files.
 
-use crate::copied;
+use crate::{closing, copied};
 use crate::rng::Rng;
 
 const L: i64 = 1_000_000_000;
@@ -238,15 +238,27 @@ impl Builder<'_> {
         }
     }
 
+    /// A loop of one of the change requests, if there is room for it.
+    fn requested(&mut self, depth: usize, locked: u32) -> bool {
+        if depth == 0 || self.loops == 0 || self.left < copied::ROWS.max(closing::ROWS) {
+            return false;
+        }
+        let Some(v) = self.free(locked) else { return false };
+        let Some(w) = self.free(locked | 1 << v).filter(|&w| w != v) else { return false };
+        match self.rng.below(2) {
+            0 => self.copied(depth, locked, v, w),
+            _ => self.closing(depth, locked, v, w),
+        }
+        true
+    }
+
     fn looped(&mut self, depth: usize, locked: u32) {
+        if self.rng.chance(25) && self.requested(depth, locked) {
+            return;
+        }
         let Some(v) = self.free(locked) else {
             return self.plain(locked);
         };
-        if self.left >= copied::ROWS && self.rng.chance(30) {
-            if let Some(w) = self.free(locked | 1 << v).filter(|&w| w != v) {
-                return self.copied(depth, locked, v, w);
-            }
-        }
         self.loops -= 1;
         self.left -= 3;
         let mut spare = 1;
@@ -339,6 +351,32 @@ impl Builder<'_> {
         self.rows.push("end".into());
     }
 
+    /// No item or one, or a loop that shows what is known of one of these variables.
+    pub fn few(&mut self, depth: usize, locked: u32, known: &[usize]) {
+        if self.left > 0 && self.rng.chance(25) {
+            self.block(depth, locked, 1);
+        }
+        self.reader(depth, locked, known);
+    }
+
+    /// Now and then a loop whose figure is read from what is known of one of these variables.
+    pub fn reader(&mut self, depth: usize, locked: u32, known: &[usize]) {
+        if depth == 0 || self.loops == 0 || self.left < 2 || !self.rng.chance(5) {
+            return;
+        }
+        if let Some(u) = self.free(locked) {
+            self.loops -= 1;
+            self.left -= 2;
+            let from = self.rng.one_of(known);
+            let head = match self.rng.below(3) {
+                0 => format!("for v{u} v{from} < 9 add 100000000"),
+                1 => format!("for v{u} 9 < v{from} add 100000000"),
+                _ => format!("for v{u} v{from} > -9 sub 100000000"),
+            };
+            self.rows.extend([head, "end".into()]);
+        }
+    }
+
     pub fn block(&mut self, depth: usize, locked: u32, items: usize) {
         for _ in 0..items {
             let roll = self.rng.below(100);
@@ -371,7 +409,14 @@ fn build(rng: &mut Rng, careless: usize) -> Text {
     let loops = if rng.chance(15) { 16 } else { 1 + rng.below(6) };
     let depth = if rng.chance(30) { 8 } else { 1 + rng.below(4) };
     let mut builder = Builder { rng, vars, rows: Vec::new(), left, loops, careless };
+    let requested = builder.rng.below(10);
+    if requested < 3 {
+        builder.requested(depth, 0);
+    }
     builder.block(depth, 0, items);
+    if requested == 3 {
+        builder.requested(depth, 0);
+    }
     if left == 256 {
         while builder.rows.len() < 256 {
             builder.left = 1;

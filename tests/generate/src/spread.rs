@@ -1,10 +1,10 @@
 //! How the generated files are answered, and how many of them use each change request.
 
 use crate::{case, Case};
-use oracle::analyse::{blocks_over, copied, Term};
+use oracle::analyse::{blocks_over, closing, copied, own_step, ClosingTerm, Term};
 use oracle::prices::prices;
-use oracle::read::{self, Loop, Operand};
-use oracle::{Counted, Line, Plan, Refusal, Row, ONES, SCRATCH};
+use oracle::read::{self, Kind, Loop, Operand};
+use oracle::{Counted, Line, Plan, Refusal, Row, Step, ONES, SCRATCH};
 use std::collections::{BTreeMap, BTreeSet};
 
 #[derive(Default)]
@@ -79,18 +79,32 @@ fn labels(file: &[u8], lent: &[u32], plan: &Result<Plan, Refusal>) -> BTreeSet<S
     labels
 }
 
+fn form(l: &Loop) -> &'static str {
+    match l.kind {
+        Kind::While => "while",
+        Kind::Do => "do",
+        Kind::For { .. } => "for",
+    }
+}
+
 fn accepted(rows: &[Row], line: &Line, l: &Loop, labels: &mut BTreeSet<String>) {
-    if line.counted == Counted::Copied {
-        let order = match copied(rows, line.row, l) {
-            Ok(copy) if copy.rows_first => "rows first",
-            _ => "copy first",
-        };
-        labels.insert(format!("copied: {:?}, {order}", l.kind));
-        labels.insert(format!("copied: {:?}", l.compare));
-        labels.insert(format!("copied: {}", if line.exact { "exact" } else { "most" }));
-        if line.turns < 2 {
-            labels.insert(format!("copied: {:?} of {} turns", l.kind, line.turns));
-        }
+    let (word, kind) = match line.counted {
+        Counted::Tested => return,
+        Counted::Copied => match copied(rows, line.row, l) {
+            Ok(copy) if copy.rows_first => ("copied", "rows first"),
+            _ => ("copied", "copy first"),
+        },
+        Counted::Closing => match own_step(rows, line.row, l) {
+            Step::STILL => ("closing", "the tested stands"),
+            step if step == line.step => ("closing", "the limit stands"),
+            _ => ("closing", "both move"),
+        },
+    };
+    labels.insert(format!("{word}: {}, {kind}", form(l)));
+    labels.insert(format!("{word}: {:?}", l.compare));
+    labels.insert(format!("{word}: {}", if line.exact { "exact" } else { "most" }));
+    if line.turns < 2 {
+        labels.insert(format!("{word}: {} of {} turns", form(l), line.turns));
     }
 }
 
@@ -108,5 +122,14 @@ fn refused(rows: &[Row], number: u32, head: usize, l: &Loop, labels: &mut BTreeS
             labels.insert(format!("copied: 8 for {term:?}"));
         }
         Err(_) => {}
+    }
+    match closing(rows, head, l) {
+        Ok(_) => {
+            labels.insert(format!("closing: refused by {number}"));
+        }
+        Err(ClosingTerm::Limit) => {}
+        Err(term) => {
+            labels.insert(format!("closing: {number} for {term:?}"));
+        }
     }
 }

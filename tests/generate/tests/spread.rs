@@ -31,19 +31,19 @@ fn a_tenth_copies_a_counter() {
     uses(
         "copied",
         &[
-            ("While, rows first", 300),
-            ("While, copy first", 300),
-            ("Do, rows first", 200),
-            ("Do, copy first", 200),
+            ("while, rows first", 300),
+            ("while, copy first", 300),
+            ("do, rows first", 200),
+            ("do, copy first", 200),
             ("Lt", 200),
             ("Le", 200),
             ("Gt", 200),
             ("Ge", 200),
             ("exact", 300),
             ("most", 300),
-            ("While of 0 turns", 100),
-            ("While of 1 turns", 50),
-            ("Do of 1 turns", 50),
+            ("while of 0 turns", 100),
+            ("while of 1 turns", 50),
+            ("do of 1 turns", 50),
             ("8 for Form", 20),
             ("8 for Copy", 20),
             ("8 for Only", 20),
@@ -69,6 +69,41 @@ fn files_have_their_answers() {
         count += 1;
     }
     assert!(count >= 70);
+}
+
+#[test]
+fn a_tenth_closes_on_its_limit() {
+    uses(
+        "closing",
+        &[
+            ("while, both move", 200),
+            ("while, the tested stands", 50),
+            ("while, the limit stands", 50),
+            ("do, both move", 100),
+            ("do, the tested stands", 30),
+            ("do, the limit stands", 20),
+            ("for, both move", 100),
+            ("for, the tested stands", 30),
+            ("for, the limit stands", 20),
+            ("Lt", 200),
+            ("Le", 200),
+            ("Gt", 200),
+            ("Ge", 200),
+            ("exact", 300),
+            ("most", 300),
+            ("while of 0 turns", 50),
+            ("while of 1 turns", 50),
+            ("do of 1 turns", 50),
+            ("for of 0 turns", 30),
+            ("10 for Comparison", 30),
+            ("10 for Tested", 50),
+            ("10 for LimitStep", 50),
+            ("9 for LimitStep", 10),
+            ("8 for Tested", 20),
+            ("refused by 9", 50),
+            ("refused by 11", 30),
+        ],
+    );
 }
 
 #[test]

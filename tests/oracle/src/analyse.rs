@@ -180,6 +180,47 @@ pub fn copied(rows: &[Row], head: usize, l: &Loop) -> Result<Copied, Term> {
     Ok(Copied { w, step, rows_first })
 }
 
+/// The tested variable's own step over the body; a for's step row is its end.
+pub fn own_step(rows: &[Row], head: usize, l: &Loop) -> Step {
+    let body = step(rows, head + 1, l.end as usize, l.v);
+    match l.kind {
+        Kind::For { step: by, .. } => body.then(Step::of(by)),
+        Kind::While | Kind::Do => body,
+    }
+}
+
+/// Change 5's terms; the first broken one of a loop leaves it to question 10.
+#[derive(Clone, Copy, Debug, PartialEq, Eq)]
+pub enum ClosingTerm {
+    /// The limit is a variable, other than the tested one, that the body assigns.
+    Limit,
+    /// < <= > or >=.
+    Comparison,
+    /// The tested variable's own step is Add.
+    Tested,
+    /// The limit's step is Add.
+    LimitStep,
+}
+
+/// Change 5: the step of the difference of tested variable and limit, or the first term that is broken.
+pub fn closing(rows: &[Row], head: usize, l: &Loop) -> Result<Step, ClosingTerm> {
+    let body = head + 1..l.end as usize;
+    let w = match l.limit {
+        Operand::Variable(w) if w != l.v && assign(&rows[body.clone()], w) => w,
+        _ => return Err(ClosingTerm::Limit),
+    };
+    if matches!(l.compare, Compare::Eq | Compare::Ne) {
+        return Err(ClosingTerm::Comparison);
+    }
+    let Step::Add(a, b) = own_step(rows, head, l) else {
+        return Err(ClosingTerm::Tested);
+    };
+    let Step::Add(least, most) = step(rows, body.start, body.end, w) else {
+        return Err(ClosingTerm::LimitStep);
+    };
+    Ok(Step::Add(a - most, b - least))
+}
+
 /// A known range, low end and high end.
 type Range = [i32; 2];
 type Ranges = [Range; 16];
@@ -203,6 +244,8 @@ pub enum Counted {
     Tested,
     /// The one that it is copied from.
     Copied,
+    /// The difference between it and its limit.
+    Closing,
 }
 
 /// A loop's line of the report.
@@ -353,7 +396,7 @@ fn turns(l: &Loop, counter: &Counter, assigned: u16) -> Result<u64, u32> {
         return Err(9);
     }
     if let Operand::Variable(w) = l.limit {
-        if assigned & (1 << w) != 0 {
+        if counter.counted != Counted::Closing && assigned & (1 << w) != 0 {
             return Err(10);
         }
     }
@@ -476,19 +519,22 @@ impl Walk<'_> {
                 single: single(s) && single(from) && single(n),
             };
         }
-        let mut step = step(self.rows, head + 1, l.end as usize, l.v);
-        if let Kind::For { step: by, .. } = l.kind {
-            step = step.then(Step::of(by));
-        }
-        Counter {
+        let counter = Counter {
             counted: Counted::Tested,
-            step,
+            step: own_step(self.rows, head, l),
             s: wide(s),
             n: wide(n),
             moved: is_do,
             before: is_do as u64,
             never: false,
             single: single(s) && single(n),
+        };
+        match closing(self.rows, head, l) {
+            Ok(step) => {
+                let (s, n) = (wide(s), wide(n));
+                Counter { counted: Counted::Closing, step, s: [s[0] - n[1], s[1] - n[0]], n: [0, 0], ..counter }
+            }
+            Err(_) => counter,
         }
     }
 
@@ -510,7 +556,7 @@ impl Walk<'_> {
 
         let (at_body, after) = match counter.counted {
             Counted::Tested => tested_ranges(l, step, ranges[v], range_of(l.limit, ranges)),
-            Counted::Copied => (ALL, ALL),
+            Counted::Copied | Counted::Closing => (ALL, ALL),
         };
         for (w, range) in ranges.iter_mut().enumerate() {
             if assigned & (1 << w) != 0 {

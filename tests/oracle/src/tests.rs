@@ -250,7 +250,7 @@ fn questions_8_to_12() {
     assert_eq!(turns("for v0 0 < 5 add 1", 1, &["sub v0 1"]), Err(9));
     assert_eq!(turns("while v0 != 5", 1, &["pick", "add v0 1", "else", "add v0 2", "end"]), Err(12));
     // A standing row assigns.
-    assert_eq!(refused(&[(0, 0), (9, 9)], &["while v0 < v1", "add v1 0", "add v0 1", "end"]), Some((10, 0)));
+    assert_eq!(refused(&[(0, 0), (9, 9)], &["while v0 != v1", "add v1 0", "add v0 1", "end"]), Some((10, 0)));
     assert_eq!(
         refused(&[(0, 0), (9, 9)], &["cue 0", "while v0 < 9", "while v1 < 5", "mul v0 1", "add v1 1", "end", "add v0 1", "end"]),
         Some((8, 1))
@@ -644,6 +644,122 @@ fn copied_counters_counted() {
                     let rows = rows.map(|row| row.replace('<', ">").replace("add", "sub"));
                     let rows = [&rows[0][..], &rows[1], &rows[2], &rows[3]];
                     assert_eq!(plan(&file(&starts, &rows), &ONES, SCRATCH).unwrap().lines[0].turns, longest(&starts, &rows), "{starts:?} {rows:?}");
+                }
+            }
+        }
+    }
+}
+
+/// Change 5.
+#[test]
+fn closing_chases() {
+    let case: &[(i64, i64)] = &[(0, 0), (10, 10)];
+    let line = |ranges: &[(i64, i64)], rows: &[&str]| {
+        let rows = [rows, &["end"]].concat();
+        plan(&file(ranges, &rows), &ONES, SCRATCH).map(|plan| (plan.lines[0].step, plan.lines[0].turns, plan.lines[0].exact))
+    };
+    let two = Step::Add(2, 2);
+    // Document 02's case; the report line shows the difference's step.
+    assert_eq!(
+        text(case, &["while v0 < v1", "add v0 1", "sub v1 1", "end"]).unwrap(),
+        "report=1\nrows=4\nloops=1\nloop=0 add 2 2 5 5 exact\nticks=16\n"
+    );
+    // E of < is -1, of <= 0, of > 1, of >= 0.
+    assert_eq!(line(&[(10, 10), (10, 10)], &["while v0 < v1", "add v0 1", "sub v1 1"]), Ok((two, 0, true)));
+    assert_eq!(line(&[(10, 10), (10, 10)], &["while v0 <= v1", "add v0 1", "sub v1 1"]), Ok((two, 1, true)));
+    assert_eq!(line(&[(10, 10), (10, 10)], &["while v0 > v1", "sub v0 1", "add v1 1"]), Ok((Step::Add(-2, -2), 0, true)));
+    assert_eq!(line(&[(10, 10), (10, 10)], &["while v0 >= v1", "sub v0 1", "add v1 1"]), Ok((Step::Add(-2, -2), 1, true)));
+    // The ends are a - b' and b - a'.
+    let picks = ["while v0 < v1", "pick", "add v0 4", "else", "add v0 6", "end", "pick", "add v1 1", "else", "sub v1 2", "end"];
+    assert_eq!(line(case, &picks), Ok((Step::Add(3, 8), 4, false)));
+    // The limit's worst end is its far one, and the tested variable's too.
+    assert_eq!(line(&[(0, 5), (7, 10)], &["while v0 < v1", "add v0 1", "sub v1 1"]), Ok((two, 5, false)));
+    assert_eq!(line(&[(7, 10), (0, 5)], &["while v0 > v1", "sub v0 1", "add v1 1"]), Ok((Step::Add(-2, -2), 5, false)));
+    // Exact needs single starts.
+    assert_eq!(line(&[(0, 0), (9, 10)], &["while v0 < v1", "add v0 1", "sub v1 1"]), Ok((two, 5, false)));
+    assert_eq!(line(&[(0, 1), (10, 10)], &["while v0 < v1", "add v0 1", "sub v1 1"]), Ok((two, 5, false)));
+    // A do's start is moved by one turn of the difference; a for's step row counts.
+    assert_eq!(line(case, &["do v0 < v1", "add v0 1", "sub v1 1"]), Ok((two, 5, true)));
+    assert_eq!(line(&[(9, 9), (10, 10)], &["do v0 < v1", "add v0 1", "sub v1 1"]), Ok((two, 1, true)));
+    assert_eq!(line(&[(9, 9), (10, 10)], &["for v0 0 < v1 add 1", "sub v1 1"]), Ok((two, 5, true)));
+    // One of the two may stand, in a row of its own or without.
+    assert_eq!(line(case, &["while v0 < v1", "sub v1 1"]), Ok((Step::Add(1, 1), 10, true)));
+    assert_eq!(line(case, &["while v0 < v1", "mul v0 1", "sub v1 1"]), Ok((Step::Add(1, 1), 10, true)));
+    assert_eq!(line(case, &["while v0 < v1", "add v0 1", "div v1 1"]), Ok((Step::Add(1, 1), 10, true)));
+    assert_eq!(line(case, &["for v0 0 < v1 add 0", "sub v1 1"]), Ok((Step::Add(1, 1), 10, true)));
+    // Both one way.
+    assert_eq!(line(case, &["while v0 < v1", "add v0 3", "add v1 1"]), Ok((two, 5, true)));
+    assert_eq!(line(case, &["while v0 < v1", "sub v0 1", "sub v1 3"]), Ok((two, 5, true)));
+    // 2L apart.
+    let far = 1_000_000_000;
+    assert_eq!(line(&[(-far, -far), (far, far)], &["while v0 <= v1", "sub v1 1"]), Ok((Step::Add(1, 1), 2_000_000_001, true)));
+    // Neither range is kept, also of a variable that the body does not assign.
+    let plan_of = |rows: &[&str]| plan(&file(&[(0, 0), (3, 3), (0, 0)], rows), &ONES, SCRATCH).unwrap();
+    for (v, moved) in [("v0", "sub v1 1"), ("v1", "sub v1 1"), ("v0", "add v0 1")] {
+        let inner = format!("for v2 0 < {v} add 1");
+        let standing = if moved == "add v0 1" { "sub v1 0" } else { "cue 1" };
+        let inside = plan_of(&["while v0 < v1", &inner, "end", moved, standing, "end"]);
+        assert_eq!((inside.lines[0].turns, inside.lines[1].turns), (3, 1_000_000_000));
+        let after = plan_of(&["while v0 < v1", moved, standing, "end", &inner, "end"]);
+        assert_eq!((after.lines[0].turns, after.lines[1].turns), (3, 1_000_000_000));
+    }
+}
+
+/// Change 5: what the questions answer where the limit is assigned.
+#[test]
+fn closing_chases_refused() {
+    let refused = |rows: &[&str]| {
+        let rows = [rows, &["end"]].concat();
+        plan(&file(&[(0, 0), (10, 10), (0, 0)], &rows), &ONES, SCRATCH).err()
+    };
+    for (number, rows) in [
+        (8, &["while v0 < v1", "set v0 5", "sub v1 1"][..]),
+        // Question 9 reads the difference.
+        (9, &["while v0 < v1", "add v0 1", "add v1 1"]),
+        (9, &["while v0 < v1", "add v0 0", "add v1 0"]),
+        (9, &["while v0 < v1", "pick", "add v0 1", "else", "add v0 2", "end", "pick", "add v1 1", "end"]),
+        // A term fails: question 9 reads the tested variable's own step, and 10 refuses.
+        (9, &["while v0 < v1", "mul v1 2"]),
+        (9, &["while v0 == v1", "sub v1 1"]),
+        (10, &["while v0 < v1", "add v0 1", "mul v1 2"]),
+        (10, &["while v0 < v1", "add v0 1", "div v1 2"]),
+        (10, &["while v0 < v1", "add v0 1", "set v1 5"]),
+        (10, &["while v0 < v1", "add v0 1", "for v1 1 < 2 add 1", "end"]),
+        (10, &["while v0 < v1", "mul v0 2", "sub v1 1"]),
+        (10, &["while v0 == v1", "add v0 1", "sub v1 1"]),
+        (10, &["do v0 != v1", "add v0 1", "add v1 0"]),
+        (10, &["while v0 < v0", "add v0 1"]),
+        (10, &["for v0 0 < v0 add 1", "sub v1 1"]),
+        // A copied counter closes on nothing.
+        (10, &["while v0 < v1", "add v2 1", "set v0 v2", "sub v1 1"]),
+        (10, &["while v0 < v2", "add v2 1", "set v0 v2"]),
+        (11, &["while v0 < v1", "sub v0 1", "add v1 1"]),
+        (11, &["while v0 < v1", "add v0 1", "add v1 3"]),
+        (11, &["while v0 >= v1", "add v0 3", "add v1 1"]),
+    ] {
+        assert_eq!(refused(rows), Some((number, 0)), "{rows:?}");
+    }
+}
+
+/// Change 5: the figure is the longest entry of all runs.
+#[test]
+fn closing_chases_counted() {
+    let ranges = [(0, 0), (-1, 1), (2, 2), (4, 7), (12, 12)];
+    let moves = [["add v0 1", "sub v1 1"], ["add v0 2", "sub v1 1"], ["add v0 3", "add v1 1"], ["sub v0 1", "sub v1 3"], ["sub v1 2", "cue 1"]];
+    for (v, w) in ranges.iter().flat_map(|v| ranges.iter().map(move |w| (*v, *w))) {
+        for head in ["while v0 < v1", "while v0 <= v1", "do v0 < v1", "do v0 <= v1", "for v0 0 < v1 add 1"] {
+            for [first, second] in moves {
+                let starts = [v, w];
+                let rows = [head, first, second, "end"];
+                if let Ok(plan) = plan(&file(&starts, &rows), &ONES, SCRATCH) {
+                    assert_eq!(plan.lines[0].turns, longest(&starts, &rows), "{starts:?} {rows:?}");
+                }
+                // Turned round.
+                let starts = starts.map(|(lo, hi)| (-hi, -lo));
+                let rows = rows.map(|row| row.replace('<', ">").replace("add", "ADD").replace("sub", "add").replace("ADD", "sub"));
+                let rows = [&rows[0][..], &rows[1], &rows[2], &rows[3]];
+                if let Ok(plan) = plan(&file(&starts, &rows), &ONES, SCRATCH) {
+                    assert_eq!(plan.lines[0].turns, longest(&starts, &rows), "{starts:?} {rows:?}");
                 }
             }
         }

@@ -1,7 +1,7 @@
 //! The oracle behind the library's C interface. With STANDIN_WRONG=N in the environment it makes the
 //! N-th of the mistakes below, so that the harness can be seen to find them.
 
-use oracle::analyse::{copied, Term};
+use oracle::analyse::{copied, own_step, Term};
 use oracle::{read, report_into, report_text, run_counts, Counted, Ending, Plan, Refusal, Row, ONES};
 use std::slice;
 use std::sync::OnceLock;
@@ -21,6 +21,20 @@ fn misread(file: &[u8], plan: &Result<Plan, Refusal>) -> Option<Result<Vec<u8>, 
                 line.turns = line.turns.saturating_sub(1);
             }
             Some(Ok(report_text(&plan)))
+        }
+        // 18: a closing chase's line shows the tested variable's own step.
+        Ok(plan) if wrong(18) => {
+            let mut plan = plan.clone();
+            for line in plan.lines.iter_mut().filter(|line| line.counted == Counted::Closing) {
+                let Row::Loop(l) = plan.script.rows[line.row] else { return None };
+                line.step = own_step(&plan.script.rows, line.row, &l);
+            }
+            Some(Ok(report_text(&plan)))
+        }
+        // 19: question 10 passes no limit that moves.
+        Ok(plan) if wrong(19) => {
+            let line = plan.lines.iter().find(|line| line.counted == Counted::Closing)?;
+            Some(Err((10, line.row as u64)))
         }
         // 14: a master's rows on both sides of its copy are not seen.
         Err((8, head)) if wrong(14) => {

@@ -8,7 +8,7 @@ use Rattle.lines.proofs.shifted.Statement.{statement}
 use Rattle.lines.proofs.shifted.Tie as tie
 
 wide : (c : tie.Start) → Shifted 1_099_511_627_776 (c .args .a)
-wide c = let n = neg-parts (pos 256_000_000_000) in let m = neg-parts (pos 1_099_511_627_776) in let h = c .pre in shifted _ _ (omega ints) (omega (ints, n, m)) (omega (ints, n, m))
+wide c = let n = neg-parts (pos 512_000_000_000) in let m = neg-parts (pos 1_099_511_627_776) in let h = c .pre in shifted _ _ (omega ints) (omega (ints, n, m)) (omega (ints, n, m))
 
 under : (x : ℕ) → x < 2_199_023_255_552 → min x 2_199_023_255_552 ≡ x
 under x h = omega ints

@@ -20,8 +20,16 @@ head-of-requires c κs = rw (c .kind-at .ensures) (c .before .pre .ready .fine _
 way-of-requires : tie.Need-way-of-requires
 way-of-requires c κs =
     let s = c .before .before .before .before .before .before .before in
+    let rows = rowsOf (now (s .args .rows)) in
+    let body = bodyAt rows (s .args .count) (s .args .i) in
     let h = rw (c .before .before .before .before .before .before .kind-at .ensures) at (c .before .before .before .before .before .head-of .ensures) in
-    (s .pre, c .before .before .before .before .body-moves .ensures .moves ∙ ap (λ v. step v (bodyAt (rowsOf (now (s .args .rows))) (s .args .count) (s .args .i))) (h .tested))
+    let b = c .before .before .before .before .body-moves .ensures in
+    record {
+      loop = s .pre;
+      own = b .moves ∙ ap (λ v. step v body) (h .tested);
+      near = b .near;
+      limit = c .keeps .ensures body (b .sets) ∙ ap (λ x. keeps x body) (h .limit);
+    }
 
 trip-by-requires : tie.Need-trip-by-requires
 trip-by-requires c κs = c .before .way-of .ensures .small
@@ -44,7 +52,7 @@ returns c =
       tested = h .tested;
       small = h .small;
       sets = b .sets;
-      near = subst (Ends 256) (sym (ap (λ (τ : Trip). τ .step) r)) (near-is (c .before .before .way-of .result) body ρ _ _ _ _ _ _ (way .moves) (b .near));
+      near = subst (Ends 512) (sym (ap (λ (τ : Trip). τ .step) r)) (near-is (c .before .before .way-of .result) (testOf k .tested) body ρ _ _ _ _ _ _ (way .moves) (b .near));
       ends = b .ends;
     }
 

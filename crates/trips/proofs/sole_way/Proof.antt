@@ -31,23 +31,23 @@ sole-is c =
     c .sole-of .ensures .value ∙ ap (λ v. soleOf v b) (h .tested) ∙ ap (soleOf (testOf k .tested)) (sym (no-last k (sym (for-is (c .before .before .before)) ∙ c .before .before .if1 .left) (c .before .before .before .before .before .args .i) b))
 
 head-of-requires : tie.Need-head-of-requires
-head-of-requires c κs = rw (c .before .before .kind-at .ensures) (c .before .before .before .pre .ready .fine _ (c .before .before .before .pre .inside))
+head-of-requires c κs = rw (c .before .before .kind-at .ensures) (c .before .before .before .pre .0 .ready .fine _ (c .before .before .before .pre .0 .inside))
 
 sole-of-requires : tie.Need-sole-of-requires
-sole-of-requires c κs = (ready (c .before .before .before .before .pre .ready) (search needs), c .head-of .ensures .small)
+sole-of-requires c κs = (ready (c .before .before .before .before .pre .0 .ready) (search needs), c .head-of .ensures .small)
 
 copied-way-requires : tie.Need-copied-way-requires
-copied-way-requires c κs = (c .before .before .before .before .before .before .before .before .pre, rw (c .before .w .given .1) at (c .before .before .before .sole-of .ensures .small))
+copied-way-requires c κs = (c .before .before .before .before .before .before .before .before .pre .0, rw (c .before .w .given .1) at (c .before .before .before .sole-of .ensures .small))
 
 returns : tie.Need-returns
-returns c = record { value = for-way _ _ _ (sym (for-is (c .before)) ∙ c .if1 .taken) _; small = tt; moves = tt }
+returns c = record { value = for-way _ _ _ (c .before .before .before .pre .1) (sym (for-is (c .before)) ∙ c .if1 .taken) _; small = tt; moves = tt }
 
 returns-2 : tie.Need-returns-2
 returns-2 c =
     let rows = rowsOf (now (c .before .before .before .before .before .before .before .args .rows)) in
     let k = kindAt rows (c .before .before .before .before .before .before .before .args .i) in
     let body = bodyAt rows (c .before .before .before .before .before .before .before .args .count) (c .before .before .before .before .before .before .before .args .i) in
-    record { value = other-way (formOf k) (testOf k) body ∙ ap (soleWay (formOf k) (testOf k) body) (ap soleIs (sym (c .enum-told .given .1)) ∙ sole-is (c .before .before)); small = tt; moves = tt }
+    record { value = other-way (formOf k) (testOf k) body (c .before .before .before .before .before .before .before .pre .1) ∙ ap (soleWay (formOf k) (testOf k) body) (ap soleIs (sym (c .enum-told .given .1)) ∙ sole-is (c .before .before)); small = tt; moves = tt }
 
 returns-3 : tie.Need-returns-3
 returns-3 c =

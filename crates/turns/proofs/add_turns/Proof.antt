@@ -10,13 +10,12 @@ use Rattle.ints.proofs.Parts.{ints, neg-parts}
 use Rattle.rules.specs.Bounds.{Near}
 use Rattle.rules.specs.Ranges.{sort, rising, falling, same, differ}
 use Rattle.rules.specs.Turns.{whileTurns}
-use Rattle.turns.proofs.Answers.{wider}
 use Rattle.turns.proofs.Sorts.{is-rising, is-falling, is-differ, is-same}
 use Rattle.turns.proofs.add_turns.Statement.{statement}
 use Rattle.turns.proofs.add_turns.Tie as tie
 
 -- a falling step, turned up
-up : (b : ℤ) → Near 512 b → b ≤ℤ negsuc 0 → Near 1024 (negℤ b) × (pos 1 ≤ℤ negℤ b)
+up : (b : ℤ) → Near 1024 b → b ≤ℤ negsuc 0 → Near 1024 (negℤ b) × (pos 1 ≤ℤ negℤ b)
 up b n h = omega (ints, neg-parts b)
 
 -- the sort of the test in each branch
@@ -37,7 +36,7 @@ climb-requires c κs =
     let s = c .before .before .before in
     let h = rw (rises (c .before)) at (s .pre) in
     let f : SFits w64 (s .args .s .lo) = search needs in
-    simp (toZ-ofZ f, toZ-ofZ (s .fits .e), toZ-ofZ (s .fits .a)) (wider _ (h .0 .low), wider _ (h .1), wider _ (h .2), h .3)
+    simp (toZ-ofZ f, toZ-ofZ (s .fits .e), toZ-ofZ (s .fits .a)) (h .0 .low, h .1, h .2, h .3)
 
 returns : tie.Need-returns
 unfolding whileTurns
@@ -50,7 +49,7 @@ turned-up-requires : tie.Need-turned-up-requires
 turned-up-requires c κs =
     let s = c .before .before .before .before .before in
     let h = rw (falls (c .before)) at (s .pre) in
-    simp (toZ-ofZ (s .fits .b)) (wider _ (h .2))
+    simp (toZ-ofZ (s .fits .b)) (h .2)
 
 climb-requires-2 : tie.Need-climb-requires-2
 climb-requires-2 c κs =
@@ -58,7 +57,7 @@ climb-requires-2 c κs =
     let h = rw (falls (c .before .before)) at (s .pre) in
     let f : SFits w64 (s .args .s .hi) = search needs in
     let u = up _ (h .2) (h .3) in
-    rw (c .turned-up .ensures) (simp (toZ-ofZ f, toZ-ofZ (s .fits .e), toZ-ofZ (s .fits .b)) (wider _ (h .1), wider _ (h .0 .high), u .0, u .1))
+    rw (c .turned-up .ensures) (simp (toZ-ofZ f, toZ-ofZ (s .fits .e), toZ-ofZ (s .fits .b)) (h .1, h .0 .high, u .0, u .1))
 
 returns-2 : tie.Need-returns-2
 unfolding whileTurns

@@ -22,7 +22,7 @@ some (pos zero) h = absurd (h refl)
 some (pos (suc n)) h = omega arith
 some (negsuc n) h = omega arith
 
-near-none : Near 512 (pos 0)
+near-none : Near 1024 (pos 0)
 near-none = omega ints
 
 distance-requires : tie.Need-distance-requires

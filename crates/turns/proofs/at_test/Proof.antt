@@ -1,7 +1,8 @@
 -- `turns::at_test` meets its contract.
 use borrow.Author.Needs.{needs}
+use mathlib.Core.Path.{refl}
 use Rattle.rules.specs.Turns.{atTest}
-use Rattle.turns.proofs.Moves.{whole-begun}
+use Rattle.turns.proofs.Moves.{unmoved-begun}
 use Rattle.turns.proofs.at_test.Statement.{statement}
 use Rattle.turns.proofs.at_test.Tie as tie
 
@@ -11,13 +12,7 @@ returns c = (rw (c .before .if1 .taken) (c .moved .ensures .0), c .moved .ensure
 
 returns-2 : tie.Need-returns-2
 unfolding atTest
-returns-2 c = (rw (c .before .if1 .left) (c .whole .ensures .0), whole-begun (c .before .before .args .step) (c .whole .result) (c .whole .ensures .1) (c .whole .ensures .2))
+returns-2 c = (rw (c .if1 .left), unmoved-begun (c .before .args .step) (c .before .args .s) (c .before .pre .2))
 
 pub at-test-spec : {M : Type 1} → statement M
-at-test-spec =
-    tie.close
-    (tie.spec
-    (λ c κs. search needs)
-    returns
-    (λ c κs. search needs)
-    returns-2)
+at-test-spec = tie.close (tie.spec (λ c κs. search needs) returns returns-2)

@@ -20,7 +20,7 @@ pub record Known (x y : ℤ) : Type 0 where
   pub up : T (nonNeg (y -ℤ x)) × Fits w64 (natAbs (y -ℤ x))
   pub same : natAbs (y -ℤ x) ≡ natAbs (x -ℤ y)
 
-known : (x y : ℤ) → Near 512 x → Near 512 y → ltZ y x ≡ false → Known x y
+known : (x y : ℤ) → Near 1024 x → Near 1024 y → ltZ y x ≡ false → Known x y
 known x y p q l = record {
   x64 = omega ints;
   y64 = omega ints;

@@ -1,7 +1,7 @@
 -- `turns::has_figure` meets its contract.
 use borrow.Author.Needs.{needs, sfits-of}
 use mathlib.Core.Path.{sym, _∙_}
-use mir.Syntax.{w32, w64}
+use mir.Syntax.{w64}
 use mir.Val.{SFits}
 use mir.Facts.{toZ-ofZ}
 use Rattle.ints.proofs.Parts.{eqZ-yes, eqZ-no}
@@ -38,7 +38,7 @@ returns-3 c = rw (c .before .before .before .step .given .1) (add-other _ _ _ _ 
 
 returns-4 : tie.Need-returns-4
 unfolding hasFigure
-returns-4 c = let f : SFits w32 (c .before .before .before .args .s .lo) = search needs in rw (c .enum-told .given .1) (simp (toZ-ofZ f))
+returns-4 c = let f : SFits w64 (c .before .before .before .args .s .lo) = search needs in rw (c .enum-told .given .1) (simp (toZ-ofZ f))
 
 returns-5 : tie.Need-returns-5
 unfolding hasFigure

@@ -32,11 +32,11 @@ more k at e f h l =
 
 pub record Turn (e f at k : ℕ) : Type 0 where
   pub twice : at * 2 ≤ at * f
-  pub fits : at * f ≤ 4_000_000_000 * 2_000_000_001
+  pub fits : at * f ≤ 5_000_000_000 * 2_000_000_001
 
 in-turn : (c : tie.In-loop Inv-loop μ-loop) → Turn (c .before .before .args .e) (c .before .before .args .f) (c .before .loop .at) (c .before .loop .k)
 in-turn c =
-    let l : c .before .loop .at ≤ 4_000_000_000 = omega arith in
+    let l : c .before .loop .at ≤ 5_000_000_000 = omega arith in
     record { twice = mul-le-mul-left (c .before .loop .at) (c .before .before .pre .2); fits = mul-le-mul l (c .before .before .pre .3) }
 
 loop-holds : tie.Need-loop-holds Inv-loop μ-loop

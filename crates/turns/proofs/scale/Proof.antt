@@ -19,7 +19,7 @@ pub record Known (t e : ℤ) (f : ℕ) : Type 0 where
   pub after : ltZ e t ≡ false
   pub start : T (nonNeg t) × Fits w64 (natAbs t)
   pub limit : T (nonNeg e) × Fits w64 (natAbs e)
-  pub asked : (1 ≤ natAbs t) × (natAbs e ≤ 4_000_000_000) × (2 ≤ f) × (f ≤ 2_000_000_001)
+  pub asked : (1 ≤ natAbs t) × (natAbs e ≤ 5_000_000_000) × (2 ≤ f) × (f ≤ 2_000_000_001)
 
 known : (c : tie.Else1) → Known (c .before .args .t) (c .before .args .e) (c .before .args .f)
 known c =

@@ -86,6 +86,7 @@ fn main() {
     question_13(&mut f);
     copied_counters(&mut f);
     first_block_over(&mut f);
+    closing_chases(&mut f);
     f.written.sort();
     let names: String = f.written.iter().map(|(name, _)| format!("{name}\n")).collect();
     let printed: String = f.written.iter().map(|(name, answer)| format!("{name}\n{answer}")).collect();
@@ -450,8 +451,7 @@ fn questions_8_to_12(f: &mut Files) {
     f.brief("refused-9-inner-after-the-outer", two, "while v0 < 5, add v0 1, while v1 < 5, end, end", "refused 9 2");
     f.brief("refused-9-in-the-then-before-8-in-the-else", two, "pick, do v0 < 5, end, else, do v0 < 5, set v0 1, end, end", "refused 9 1");
     f.rows("refused-9-head-row-254", one, &[&["cue 1"; 254][..], &["while v0 < 5", "end"]].concat(), "refused 9 254");
-    f.brief("refused-10-limit-assigned", two, "while v0 < v1, add v0 1, add v1 1, end", "refused 10 0");
-    f.brief("refused-10-limit-in-a-standing-row", two, "while v0 < v1, add v0 1, sub v1 0, end", "refused 10 0");
+    f.brief("refused-10-limit-assigned", two, "while v0 < v1, add v0 1, mul v1 2, end", "refused 10 0");
     f.brief("refused-10-limit-is-the-tested", one, "while v0 <= v0, add v0 1, end", "refused 10 0");
     f.brief("refused-10-limit-is-the-for-s-own", one, "for v0 1 < v0 add 1, end", "refused 10 0");
     f.brief("refused-10-limit-of-an-inner-for", two, "while v0 < v1, add v0 1, for v1 1 < 2 add 1, end, end", "refused 10 0");
@@ -619,4 +619,93 @@ fn first_block_over(f: &mut Files) {
     // A loop without a turn is within the limit, whatever is in it; a block in it can be over by itself.
     f.brief("refused-13-behind-a-loop-without-a-turn", three, &format!("{never}, {part}, {part}, end, {over}"), "refused 13 13");
     f.brief("refused-13-in-a-loop-without-a-turn-first", three, &format!("{never}, {over}, end, {over}"), "refused 13 4");
+}
+
+/// Change 5. With a row each a turn has 3 ticks.
+fn closing_chases(f: &mut Files) {
+    let case: &[(i64, i64)] = &[(0, 0), (10, 10)];
+    let turned: &[(i64, i64)] = &[(10, 10), (0, 0)];
+    let three: &[(i64, i64)] = &[(0, 0), (3, 3), (0, 0)];
+    // The difference goes from -10 to below 0 by twos: -10, -8, -6, -4, -2.
+    f.brief("accepted-closing-case", case, "while v0 < v1, add v0 1, sub v1 1, end", "0 add 2 2 5 5 exact, 16");
+    f.brief("accepted-closing-le", case, "while v0 <= v1, sub v1 1, add v0 1, end", "0 add 2 2 6 6 exact, 19");
+    f.brief("accepted-closing-do", case, "do v0 < v1, add v0 1, sub v1 1, end", "0 add 2 2 5 5 exact, 15");
+    f.brief("accepted-closing-do-once", &[(9, 9), (10, 10)], "do v0 < v1, add v0 1, sub v1 1, end", "0 add 2 2 1 1 exact, 3");
+    f.brief("accepted-closing-for", &[(7, 7), (10, 10)], "for v0 0 < v1 add 1, sub v1 1, end", "0 add 2 2 5 5 exact, 17");
+    // 10, 7, 4, 1 and 10, 8, 6, 4, 2, 0.
+    f.brief("accepted-closing-falling", turned, "while v0 > v1, sub v0 1, add v1 2, end", "0 add -3 -3 4 4 exact, 13");
+    f.brief("accepted-closing-ge", turned, "while v0 >= v1, sub v0 1, add v1 1, end", "0 add -2 -2 6 6 exact, 19");
+    f.brief("accepted-closing-without-a-turn", &[(10, 10), (10, 10)], "while v0 < v1, add v0 1, sub v1 1, end", "0 add 2 2 0 0 exact, 1");
+    f.brief("accepted-closing-tested-stands", case, "while v0 < v1, sub v1 1, end", "0 add 1 1 10 10 exact, 21");
+    f.brief("accepted-closing-limit-stands", &[(1, 1), (9, 9)], "while v0 < v1, add v0 1, sub v1 0, end", "0 add 1 1 8 8 exact, 25");
+    f.brief("accepted-closing-chased", case, "while v0 < v1, add v0 3, add v1 1, end", "0 add 2 2 5 5 exact, 16");
+    f.brief("accepted-closing-met", case, "while v0 < v1, sub v0 1, sub v1 3, end", "0 add 2 2 5 5 exact, 16");
+    // Steps 1 to 2 and -3 to -1: the difference 2 to 5.
+    f.brief(
+        "accepted-closing-slowest-step",
+        case,
+        "while v0 < v1, pick, add v0 1, else, add v0 2, end, pick, sub v1 1, else, sub v1 3, end, end",
+        "0 add 2 5 5 5 most, 26",
+    );
+    // The worst starts: 0 and 10, 10 and 0.
+    f.brief("accepted-closing-ranges", &[(0, 3), (8, 10)], "while v0 < v1, add v0 1, sub v1 1, end", "0 add 2 2 5 5 most, 16");
+    f.brief("accepted-closing-ranges-falling", &[(8, 10), (0, 3)], "while v0 > v1, sub v0 1, add v1 1, end", "0 add -2 -2 5 5 most, 16");
+    f.brief("accepted-closing-tested-not-single", &[(0, 1), (10, 10)], "while v0 < v1, add v0 1, sub v1 1, end", "0 add 2 2 5 5 most, 16");
+    f.brief("accepted-closing-limit-not-single", &[(0, 0), (9, 10)], "while v0 < v1, add v0 1, sub v1 1, end", "0 add 2 2 5 5 most, 16");
+    // The tested variable is not assigned in the body, and yet not known there, nor after the loop.
+    f.brief(
+        "accepted-closing-not-known-in-the-body",
+        three,
+        "while v0 < v1, for v2 0 < v0 add 1, end, sub v1 1, end",
+        "0 add 1 1 3 3 exact, 1 add 1 1 1000000000 3000000000 most, 6000000013",
+    );
+    f.brief(
+        "accepted-closing-not-known-after",
+        three,
+        "while v0 < v1, sub v1 1, end, for v2 0 < v0 add 1, end, for v2 0 > v1 sub 1, end",
+        "0 add 1 1 3 3 exact, 3 add 1 1 1000000000 1000000000 most, 5 add -1 -1 1000000000 1000000000 most, 4000000011",
+    );
+    // From one limit to the other: 2L apart.
+    f.brief("accepted-closing-at-the-limits", &[(-L, -L), (L, L)], "while v0 <= v1, add v0 1, sub v1 1, end", "0 add 2 2 1000000001 1000000001 exact, 3000000004");
+    f.brief("accepted-closing-by-ones", &[(L, L), (-L, -L)], "do v0 >= v1, add v1 1, end", "0 add -1 -1 2000000001 2000000001 exact, 4000000002");
+    // 120 rows each: the difference's step is 240L.
+    let rows = |first, up, down| [&[first][..], &[up; 120], &[down; 120], &["end"]].concat();
+    f.rows(
+        "accepted-closing-longest-steps",
+        &[(-L, -L), (L, L)],
+        &rows("while v0 < v1", "add v0 1000000000", "sub v1 1000000000"),
+        "0 add 240000000000 240000000000 1 1 exact, 242",
+    );
+    f.rows(
+        "accepted-closing-longest-steps-of-a-do",
+        &[(L, L), (-L, -L)],
+        &rows("do v0 > v1", "sub v0 1000000000", "add v1 1000000000"),
+        "0 add -240000000000 -240000000000 1 1 exact, 241",
+    );
+    // One in the other. Nothing assigns v2, so it is 0 at the inner loop; v3 is not known: from -L to -1 by ones.
+    f.brief(
+        "accepted-closing-in-a-closing",
+        &[(0, 0), (10, 10), (0, 0), (0, 0)],
+        "while v0 < v1, add v0 1, sub v1 1, while v2 < v3, sub v3 1, end, end",
+        // Inside 2·10^9 + 1, outside 5(2 + 2·10^9 + 1 + 1) + 1.
+        "0 add 2 2 5 5 exact, 3 add 1 1 1000000000 5000000000 most, 10000000021",
+    );
+    f.brief("refused-8-closing-tested-set", case, "while v0 < v1, set v0 5, sub v1 1, end", "refused 8 0");
+    f.brief("refused-9-closing-same-speed", case, "while v0 < v1, add v0 1, add v1 1, end", "refused 9 0");
+    f.brief("refused-9-closing-both-stand", case, "while v0 < v1, add v0 0, add v1 0, end", "refused 9 0");
+    f.brief("refused-9-closing-may-stand", case, "while v0 < v1, pick, add v0 1, end, add v1 0, end", "refused 9 0");
+    // Steps 1 to 2 and 0 to 1: the difference 0 to 2.
+    f.brief("refused-9-closing-ends-meet", case, "while v0 < v1, pick, add v0 1, else, add v0 2, end, pick, add v1 1, end, end", "refused 9 0");
+    // A term fails: question 9 reads the tested variable's own step.
+    f.brief("refused-9-closing-own-step", case, "while v0 < v1, mul v1 2, end", "refused 9 0");
+    f.brief("refused-10-closing-limit-grows", case, "while v0 < v1, add v0 1, mul v1 2, end", "refused 10 0");
+    f.brief("refused-10-closing-limit-shrinks", case, "while v0 < v1, add v0 1, div v1 2, end", "refused 10 0");
+    f.brief("refused-10-closing-limit-set", case, "do v0 < v1, add v0 1, set v1 5, end", "refused 10 0");
+    f.brief("refused-10-closing-limit-in-an-inner-loop", three, "while v0 < v1, add v0 1, for v2 0 < 1 add 1, sub v1 1, end, end", "refused 10 0");
+    f.brief("refused-10-closing-tested-grows", case, "while v0 < v1, mul v0 2, sub v1 1, end", "refused 10 0");
+    f.brief("refused-10-closing-for-shrinks", turned, "for v0 9 > v1 div 2, add v1 1, end", "refused 10 0");
+    f.brief("refused-10-closing-equal", case, "while v0 == v1, add v0 1, sub v1 1, end", "refused 10 0");
+    f.brief("refused-10-closing-unequal", case, "while v0 != v1, add v0 1, sub v1 1, end", "refused 10 0");
+    f.brief("refused-11-closing-apart", case, "while v0 < v1, sub v0 1, add v1 1, end", "refused 11 0");
+    f.brief("refused-11-closing-left-behind", case, "while v0 < v1, add v0 1, add v1 3, end", "refused 11 0");
 }

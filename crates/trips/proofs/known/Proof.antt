@@ -1,8 +1,8 @@
--- `turns::known` meets its contract.
+-- `trips::known` meets its contract.
 use borrow.Author.Needs.{needs}
 use Rattle.rules.specs.Questions.{known}
-use Rattle.turns.proofs.known.Statement.{statement}
-use Rattle.turns.proofs.known.Tie as tie
+use Rattle.trips.proofs.known.Statement.{statement}
+use Rattle.trips.proofs.known.Tie as tie
 
 returns : tie.Need-returns
 unfolding known

@@ -1,0 +1,51 @@
+-- `trips::limit_way` meets its contract.
+use borrow.Author.Needs.{needs}
+use mathlib.Core.Path.{_≡_, refl, sym, ap, _∙_}
+use mathlib.Core.Bool.{Bool, true, false, not}
+use Rattle.rules.specs.declared.Operand.{Operand}
+use Rattle.rules.specs.declared.Operand.the-variants.{Variable}
+use Prim.Native.Nat.{ℕ}
+use Rattle.rules.specs.Blocks.{Block}
+use Rattle.rules.specs.Steps.{assigns}
+use Rattle.rules.specs.Trips.{keeps}
+use Rattle.rules.specs.Questions.{known}
+use Rattle.trips.proofs.Filling.{constant-way}
+use Rattle.trips.proofs.limit_way.Statement.{statement}
+use Rattle.trips.proofs.limit_way.Tie as tie
+
+-- question 10 has no of a variable: the body assigns it
+not-kept : {o : Operand} (body : Block) {w : ℕ} → o ≡ Variable w → keeps o body ≡ false → assigns w body ≡ true
+unfolding keeps
+not-kept body {w} e h = by (assigns w body) (rw e at h)
+  where
+    by : (b : Bool) → not b ≡ false → b ≡ true
+    by true h = refl
+    by false h = sym h
+
+head-of-requires : tie.Need-head-of-requires
+head-of-requires c κs = rw (c .kind-at .ensures) (c .before .pre .loop .ready .fine _ (c .before .pre .loop .inside))
+
+chased-way-requires : tie.Need-chased-way-requires
+chased-way-requires c κs =
+    let p = c .before .before .before .before .before .pre in
+    let h = rw (c .before .before .before .before .kind-at .ensures) at (c .before .before .before .head-of .ensures) in
+    let e = sym (h .limit) ∙ c .before .limit .given .1 in
+    record {
+      loop = p .loop;
+      head = h;
+      own = p .own;
+      near = p .near;
+      sure = p .sure;
+      small = rw (c .before .limit .given .1) at (h .fine);
+      limit = e;
+      changed = not-kept _ e (p .changed);
+    }
+
+returns : tie.Need-returns
+returns c =
+    let p = c .before .before .before .before .pre in
+    let h = rw (c .before .before .before .kind-at .ensures) at (c .before .before .head-of .ensures) in
+    record { value = constant-way _ _ _ (ap known (sym (p .own)) ∙ p .sure) (sym (h .limit) ∙ c .enum-told .given .1); small = tt; moves = tt }
+
+pub limit-way-spec : {M : Type 1} → statement M
+limit-way-spec = tie.close (tie.spec (λ c κs. search needs) head-of-requires (λ c. search needs) (λ c. search needs) chased-way-requires returns (λ c. c .chased-way .ensures))
