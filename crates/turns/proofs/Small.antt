@@ -2,11 +2,11 @@
 use Prim.Native.Nat.{ℕ, _≤_}
 use native.Mathlib.Nat.{mul-le-mul}
 use lib.IntN.{ℤ, pos, negℤ, _+ℤ_, _-ℤ_, _*ℤ_}
-use lib.Signed.{quotZ}
+use Rattle.ints.specs.Ints.{floorZ}
 use mir.Syntax.{w32, w64}
 use mir.Val.{SFits}
 use Rattle.ints.proofs.Parts.{P, N, ints, add-parts, minus-parts, neg-parts, lone}
-use Rattle.ints.proofs.Scale.{mul-P, mul-N, quot-near}
+use Rattle.ints.proofs.Scale.{mul-P, mul-N, floor-within}
 use Rattle.rules.specs.Bounds.{Near}
 use Rattle.turns.specs.Needs.{Short}
 
@@ -55,7 +55,7 @@ summed z a f h = let n = neg-parts (pos 4_294_967_296) in record { a64 = omega i
 pub record Scaled (z : ℤ) (f : ℕ) : Type 0 where
   pub f64 : SFits w64 (pos f)
   pub product : SFits w64 (z *ℤ pos f)
-  pub near : Near 5 (quotZ z (pos f))
+  pub near : Near 5 (floorZ z f)
 
 pub scaled : (z : ℤ) (f : ℕ) → Short z → f ≤ 2_000_000_001 → Scaled z f
 scaled z f h l =
@@ -65,5 +65,5 @@ scaled z f h l =
     record {
       f64 = omega ints;
       product = omega (ints, mul-P z f, mul-N z f, mul-le-mul p l, mul-le-mul q l);
-      near = omega (ints, quot-near z f);
+      near = omega (ints, floor-within z f);
     }

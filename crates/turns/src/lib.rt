@@ -10,7 +10,7 @@ use trips::Span;
 use trips::Trip;
 use trips::known;
 use trips::moving;
-use values::quotient;
+use values::floor;
 ghost use mathlib.Core.Path.{_≡_};
 ghost use mathlib.Core.Bool.{true, cond};
 ghost use Prim.Native.Nat.{suc, _≤_};
@@ -218,8 +218,8 @@ fn moved(step: Step, s: Wide) -> Wide
             hi: hi * f as i64,
         },
         Step::Shrink(f, _) => Wide {
-            lo: quotient(lo, f),
-            hi: quotient(hi, f),
+            lo: floor(lo, f),
+            hi: floor(hi, f),
         },
         Step::Unknown => s,
     }

@@ -37,20 +37,12 @@ pub fn floor(z: i64, k: u64) -> i64
     z / d
 }
 
-// z over k, cut toward zero.
-pub fn quotient(z: i64, k: u64) -> i64
-    requires { ⌜ (1 ≤ k) × (k ≤ 4_000_000_000_000) ⌝ }
-    ensures { λ r. ⌜ r ≡ quotient z k ⌝ }
-{
-    z / k as i64
-}
-
-// The quotient of a `div` row.
+// The quotient of a `div` row: the next lower whole number.
 fn quotient_of(x: i32, c: u32) -> i64
     requires { ⌜ 1 ≤ c ⌝ }
     ensures { λ r. ⌜ r ≡ quotient x c ⌝ }
 {
-    quotient(x as i64, c as u64)
+    floor(x as i64, c as u64)
 }
 
 // An arithmetic row, applied to a value.

@@ -4,6 +4,7 @@
 mod closing;
 mod copied;
 mod damage;
+mod levels;
 mod rng;
 mod script;
 mod spread;

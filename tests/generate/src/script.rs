@@ -1,6 +1,6 @@
 //! Whole script files.
 
-use crate::{closing, copied};
+use crate::{closing, copied, levels};
 use crate::rng::Rng;
 
 const L: i64 = 1_000_000_000;
@@ -240,14 +240,15 @@ impl Builder<'_> {
 
     /// A loop of one of the change requests, if there is room for it.
     fn requested(&mut self, depth: usize, locked: u32) -> bool {
-        if depth == 0 || self.loops == 0 || self.left < copied::ROWS.max(closing::ROWS) {
+        if depth == 0 || self.loops == 0 || self.left < copied::ROWS.max(closing::ROWS).max(levels::ROWS) {
             return false;
         }
         let Some(v) = self.free(locked) else { return false };
         let Some(w) = self.free(locked | 1 << v).filter(|&w| w != v) else { return false };
-        match self.rng.below(2) {
-            0 => self.copied(depth, locked, v, w),
-            _ => self.closing(depth, locked, v, w),
+        match self.rng.below(9) {
+            0..=3 => self.copied(depth, locked, v, w),
+            4..=7 => self.closing(depth, locked, v, w),
+            _ => self.levels(depth, locked, v, w),
         }
         true
     }
@@ -410,11 +411,11 @@ fn build(rng: &mut Rng, careless: usize) -> Text {
     let depth = if rng.chance(30) { 8 } else { 1 + rng.below(4) };
     let mut builder = Builder { rng, vars, rows: Vec::new(), left, loops, careless };
     let requested = builder.rng.below(10);
-    if requested < 3 {
+    if requested < 5 {
         builder.requested(depth, 0);
     }
     builder.block(depth, 0, items);
-    if requested == 3 {
+    if requested == 5 {
         builder.requested(depth, 0);
     }
     if left == 256 {

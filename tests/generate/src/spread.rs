@@ -57,6 +57,9 @@ fn labels(file: &[u8], lent: &[u32], plan: &Result<Plan, Refusal>) -> BTreeSet<S
                 let Row::Loop(l) = plan.script.rows[line.row] else { unreachable!("a head row") };
                 accepted(&plan.script.rows, line, &l, &mut labels);
             }
+            if plan.rounded {
+                labels.insert("level: rounded down".into());
+            }
         }
         Err((number @ 8..=12, head)) => {
             let rows = read::script(file).expect("questions 2 to 7 have passed").rows;

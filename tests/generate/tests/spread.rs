@@ -107,6 +107,11 @@ fn a_tenth_closes_on_its_limit() {
 }
 
 #[test]
+fn a_tenth_rounds_a_level_down() {
+    uses("level", &[("rounded down", 2_000)]);
+}
+
+#[test]
 fn a_tenth_has_other_prices() {
     let refused = ["refused at 0", "refused at 1", "refused at 2", "refused at 3", "refused at 4", "0", "1001", "4294967295"];
     let lengths = ["0 prices", "1 prices", "2 prices", "3 prices", "4 prices", "5 prices", "6 prices"];

@@ -1,6 +1,6 @@
 //! The loop analysis: questions 8 to 13.
 
-use crate::read::{Change, Compare, Kind, Loop, Op, Operand, Row, Script, L};
+use crate::read::{quotient, Change, Compare, Kind, Loop, Op, Operand, Row, Script, L};
 use crate::{Prices, Refusal};
 
 /// Question 13's limit.
@@ -267,6 +267,8 @@ pub struct Plan {
     pub prices: Prices,
     pub lines: Vec<Line>,
     pub ticks: u64,
+    /// Whether an end of a range was rounded down below 0.
+    pub rounded: bool,
 }
 
 /// A range of a figure, which can be past ±L.
@@ -375,7 +377,7 @@ impl Counter {
                 if e < 1 {
                     return Err(12);
                 }
-                powers(e, f, if self.moved { hi / f } else { hi })
+                powers(e, f, if self.moved { quotient(hi, f) } else { hi })
             }
             Step::Unknown => unreachable!("question 8"),
         };
@@ -442,6 +444,7 @@ struct Walk<'a> {
     lines: Vec<Line>,
     /// The `end` rows of the blocks over the tick limit, in row order.
     over: Vec<usize>,
+    rounded: bool,
 }
 
 impl Walk<'_> {
@@ -460,8 +463,9 @@ impl Walk<'_> {
                     (prices.arithmetic as u128, r)
                 }
                 Row::Change { v, by } => {
-                    let [lo, hi] = ranges[v as usize];
-                    ranges[v as usize] = [draw_back(by.apply(lo)), draw_back(by.apply(hi))];
+                    let ends = ranges[v as usize];
+                    self.rounded |= by.op == Op::Div && ends.iter().any(|end| *end < 0 && end % by.c != 0);
+                    ranges[v as usize] = ends.map(|end| draw_back(by.apply(end)));
                     (prices.arithmetic as u128, r)
                 }
                 Row::Cue { .. } => (prices.cue as u128, r),
@@ -579,7 +583,7 @@ impl Walk<'_> {
 }
 
 fn walk(script: &Script, prices: Prices) -> Walk<'_> {
-    Walk { rows: &script.rows, prices, lines: Vec::with_capacity(script.loops), over: Vec::new() }
+    Walk { rows: &script.rows, prices, lines: Vec::with_capacity(script.loops), over: Vec::new(), rounded: false }
 }
 
 /// The `end` rows of the blocks over the tick limit, in row order; questions 8 to 12 come first.
@@ -601,6 +605,6 @@ pub fn analyse(script: Script, prices: Prices) -> Result<Plan, Refusal> {
     if ticks > TICK_LIMIT {
         return Err((13, count as u64));
     }
-    let lines = walk.lines;
-    Ok(Plan { script, prices, lines, ticks: ticks as u64 })
+    let (lines, rounded) = (walk.lines, walk.rounded);
+    Ok(Plan { script, prices, lines, ticks: ticks as u64, rounded })
 }

@@ -87,6 +87,12 @@ pub struct Script {
     pub loops: usize,
 }
 
+/// Change 6: the next lower whole number; c is at least 1.
+#[inline]
+pub fn quotient(value: i64, c: i64) -> i64 {
+    value.div_euclid(c)
+}
+
 impl Change {
     /// The value after the row, before anything is drawn back.
     #[inline]
@@ -96,7 +102,7 @@ impl Change {
             Op::Add => value + c,
             Op::Sub => value - c,
             Op::Mul => value * c,
-            Op::Div => value / c,
+            Op::Div => quotient(value, c),
         }
     }
 

@@ -364,7 +364,7 @@ fn runs() {
     assert_eq!(go(&[(0, 1)], &rows, &[0], &[255, 1], 9), (Ended, 7, 4, 1, vec![1_000_000_000]));
     assert_eq!(go(&[(0, 1)], &rows, &[1], &[1], 9), (Range, 6, 4, 1, vec![2]));
     assert_eq!(go(&[(0, 1)], &rows, &[0], &[0, 1], 9), (Ended, 7, 4, 1, vec![-1_000_000_000]));
-    assert_eq!(go(&[(-7, 7)], &["div v0 2"], &[-7], &[], 9), (Ended, 1, 1, 0, vec![-3]));
+    assert_eq!(go(&[(-7, 7)], &["div v0 2"], &[-7], &[], 9), (Ended, 1, 1, 0, vec![-4]));
     // A do: no tick at its head, its test at the head's row; the turn counts though the tick lacks.
     let rows = ["do v0 < 2", "add v0 1", "end"];
     let run_of = |allowance| run(&file(&[(0, 0)], &rows), &ONES, SCRATCH, &[0], &[], allowance).unwrap();
@@ -762,6 +762,55 @@ fn closing_chases_counted() {
                     assert_eq!(plan.lines[0].turns, longest(&starts, &rows), "{starts:?} {rows:?}");
                 }
             }
+        }
+    }
+}
+
+/// Change 6: the quotient, in runs and in ranges.
+#[test]
+fn levels_round_down() {
+    for (value, c, level) in [
+        (-5, 2, -3),
+        (-6, 2, -3),
+        (-1, 2, -1),
+        (-1, 1_000_000_000, -1),
+        (-1_000_000_000, 3, -333_333_334),
+        (-1_000_000_000, 1_000_000_000, -1),
+        (-999_999_999, 1_000_000_000, -1),
+        (-7, 1, -7),
+        (0, 9, 0),
+        (5, 2, 2),
+        (1_000_000_000, 3, 333_333_333),
+    ] {
+        let row = format!("div v0 {c}");
+        let divided = file(&[(value, value)], &[&row]);
+        assert_eq!(run(&divided, &ONES, SCRATCH, &[value as i32], &[], 1).unwrap().store, [level as i32], "{value} {row}");
+        // The range is the run's value: as a limit it is one turn from the number below, and met from itself.
+        for (x, turns) in [(level - 1, 1), (level, 0)] {
+            let start = format!("set v1 {x}");
+            let rows = [&row[..], &start, "while v1 < v0", "add v1 1", "end"];
+            let plan = plan(&file(&[(value, value), (0, 0)], &rows), &ONES, SCRATCH).unwrap();
+            assert_eq!((plan.lines[0].turns, plan.lines[0].exact), (turns, true), "{value} {row}");
+        }
+    }
+    // Both ends of a range: -4 and 3.
+    let rows = ["div v0 2", "for v1 v0 < 0 add 1", "end", "for v1 0 < v0 add 1", "end"];
+    let plan_of = plan(&file(&[(-7, 7), (0, 0)], &rows), &ONES, SCRATCH).unwrap();
+    assert_eq!((plan_of.lines[0].turns, plan_of.lines[1].turns), (4, 3));
+    // A do's moved start is below 1: its first turn alone.
+    assert_eq!(turns("do v0 >= 1", -1, &["div v0 2"]), Ok(1));
+    assert_eq!(turns("do v0 >= 1", -9, &["div v0 2"]), Ok(1));
+    assert_eq!(turns("do v0 >= 1", 9, &["div v0 2"]), Ok(4));
+}
+
+/// Change 6: factors in sequence multiply.
+#[test]
+fn quotients_multiply() {
+    for value in -200..=200 {
+        for (first, second) in (1..12).flat_map(|first| (1..12).map(move |second| (first, second))) {
+            let one = read::quotient(read::quotient(value, first), second);
+            assert_eq!(one, read::quotient(value, first * second), "{value} {first} {second}");
+            assert!(one * first * second <= value && value < (one + 1) * first * second);
         }
     }
 }

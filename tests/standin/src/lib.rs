@@ -176,6 +176,13 @@ pub unsafe extern "C" fn diftanew_run(
                     answer[7 + 3 * k] = counts.all[k];
                 }
             }
+            // 20: the last row's quotient is cut toward zero.
+            if wrong(20) && counts.ending == Ending::Ended {
+                let rows = read::script(file).map(|script| script.rows).unwrap_or_default();
+                if let Some(Row::Change { v, by }) = rows.last() {
+                    store[*v as usize] += (by.op == read::Op::Div && by.c > 1 && store[*v as usize] < 0) as i32;
+                }
+            }
             // 11: the store is left alone.
             if wrong(11) {
                 store.copy_from_slice(&before);

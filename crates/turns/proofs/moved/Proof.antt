@@ -58,11 +58,11 @@ shrunk c =
     let m = rw (c .before .step3 .given .1) at (s .pre .1) in
     (scaled _ _ (s .pre .2 .high) (e .first), leb-true _ _ m, e .first)
 
-quotient-requires : tie.Need-quotient-requires
-quotient-requires c κs = let k = shrunk c in omega (arith, k .1, k .2)
+floor-requires : tie.Need-floor-requires
+floor-requires c κs = let k = shrunk c in omega (arith, k .1, k .2)
 
-quotient-requires-2 : tie.Need-quotient-requires-2
-quotient-requires-2 c κs = let k = shrunk (c .before) in omega (arith, k .1, k .2)
+floor-requires-2 : tie.Need-floor-requires-2
+floor-requires-2 c κs = let k = shrunk (c .before) in omega (arith, k .1, k .2)
 
 returns : tie.Need-returns
 unfolding moved
@@ -83,10 +83,10 @@ unfolding moved
 returns-3 c =
     let s = c .before .before .before .before .before .before .before in
     let k = shrunk (c .before .before) in
-    let p : SFits w64 (c .before .quotient .result) = sfits-of (c .before .quotient .ok) in
-    let q : SFits w64 (c .quotient2 .result) = sfits-of (c .quotient2 .ok) in
-    let a = simp (toZ-ofZ (low s .a64)) at (c .before .quotient .ensures) in
-    let b = simp (toZ-ofZ (high s .a64)) at (c .quotient2 .ensures) in
+    let p : SFits w64 (c .before .floor .result) = sfits-of (c .before .floor .ok) in
+    let q : SFits w64 (c .floor2 .result) = sfits-of (c .floor2 .ok) in
+    let a = simp (toZ-ofZ (low s .a64)) at (c .before .floor .ensures) in
+    let b = simp (toZ-ofZ (high s .a64)) at (c .floor2 .ensures) in
     rw (c .before .before .before .step3 .given .1) (simp (toZ-ofZ p, toZ-ofZ q) (simp (a, b) (refl, k .0 .near)))
 
 returns-4 : tie.Need-returns-4
@@ -106,8 +106,8 @@ moved-spec =
     cast-t14
     mul-t15
     (λ c. search needs)
-    quotient-requires
-    quotient-requires-2
+    floor-requires
+    floor-requires-2
     (λ c. search needs)
     returns
     returns-2

@@ -87,6 +87,7 @@ fn main() {
     copied_counters(&mut f);
     first_block_over(&mut f);
     closing_chases(&mut f);
+    levels_below_zero(&mut f);
     f.written.sort();
     let names: String = f.written.iter().map(|(name, _)| format!("{name}\n")).collect();
     let printed: String = f.written.iter().map(|(name, answer)| format!("{name}\n{answer}")).collect();
@@ -708,4 +709,42 @@ fn closing_chases(f: &mut Files) {
     f.brief("refused-10-closing-unequal", case, "while v0 != v1, add v0 1, sub v1 1, end", "refused 10 0");
     f.brief("refused-11-closing-apart", case, "while v0 < v1, sub v0 1, add v1 1, end", "refused 11 0");
     f.brief("refused-11-closing-left-behind", case, "while v0 < v1, add v0 1, add v1 3, end", "refused 11 0");
+}
+
+/// Change 6: the quotient is the next lower whole number. The loop turns once for each number from the level up to -1.
+fn levels_below_zero(f: &mut Files) {
+    let mut up = |name: &str, range: (i64, i64), rows: &str, thought: &str| {
+        f.brief(&format!("accepted-level-{name}"), &[range, (0, 0)], &format!("{rows}, while v0 < 0, add v0 1, end"), thought)
+    };
+    up("minus-5-div-2", (-5, -5), "div v0 2", "1 add 1 1 3 3 exact, 8");
+    up("minus-6-div-2", (-6, -6), "div v0 2", "1 add 1 1 3 3 exact, 8");
+    up("minus-1-div-1000000000", (-1, -1), "div v0 1000000000", "1 add 1 1 1 1 exact, 4");
+    up("minus-7-div-1", (-7, -7), "div v0 1", "1 add 1 1 7 7 exact, 16");
+    up("5-div-2", (5, 5), "sub v0 10, div v0 2", "2 add 1 1 3 3 exact, 9");
+    // [-7, 7] becomes [-4, 3].
+    up("both-ends", (-7, 7), "div v0 2", "1 add 1 1 4 4 most, 10");
+    // -4 and then -2, which is -7 div 6.
+    up("twice", (-7, -7), "div v0 2, div v0 3", "2 add 1 1 2 2 exact, 7");
+    up("at-once", (-7, -7), "div v0 6", "1 add 1 1 2 2 exact, 6");
+    // A third of -L is -333333334.
+    f.brief("accepted-level-third", &[(-L, -L)], "div v0 3, while v0 < -333333333, add v0 1, end", "1 add 1 1 1 1 exact, 4");
+    f.brief("accepted-level-third-drawn-back", &[(-L, 0)], "mul v0 7, div v0 3, while v0 < -333333333, add v0 1, end", "2 add 1 1 1 1 most, 5");
+    // As a start and as a limit; E is -2.
+    f.brief("accepted-level-as-a-start", &[(-5, -5), (0, 0)], "div v0 2, for v1 v0 <= 0 add 1, end", "1 add 1 1 4 4 exact, 11");
+    f.brief("accepted-level-as-a-limit", &[(-5, -5), (0, 0)], "div v0 2, for v1 0 > v0 sub 1, end", "1 add -1 -1 3 3 exact, 9");
+    // Of the two branches the larger high end is -1 div 2.
+    f.brief("accepted-level-in-a-pick", &[(-1, -1), (0, 0)], "pick, div v0 2, else, sub v0 5, end, for v1 0 < v0 add 1, end, for v1 v0 < 0 add 1, end", "5 add 1 1 0 0 most, 7 add 1 1 6 6 most, 18");
+    // In a body and behind it.
+    f.brief(
+        "accepted-level-in-a-body",
+        &[(0, 0), (-5, -5), (0, 0)],
+        "while v0 < 2, add v0 1, set v2 -9, div v2 4, while v2 < 0, add v2 1, end, end",
+        // -9 div 4 is -3: 3 turns, 7 ticks; 2(3 + 7 + 1) + 1.
+        "0 add 1 1 2 2 exact, 4 add 1 1 3 6 exact, 23",
+    );
+    // A do's moved start: -1 div 2 is -1, and no turn more.
+    f.brief("accepted-level-do-start", &[(-1, -1)], "do v0 > 0, div v0 2, end", "0 shrink 2 2 1 1 exact, 2");
+    f.brief("accepted-level-do-start-range", &[(-9, 9)], "do v0 >= 2, div v0 2, end, for v0 v0 < 0 add 1, end", "0 shrink 2 2 3 3 most, 3 add 1 1 9 9 most, 26");
+    // Factors in sequence still multiply.
+    f.brief("accepted-level-factors-multiply", &[(-9, 100)], "while v0 > 0, div v0 2, div v0 5, end", "0 shrink 10 10 3 3 most, 10");
 }
