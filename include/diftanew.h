@@ -2,7 +2,10 @@
  *
  * Every input is taken or refused by number. The caller guarantees valid pointers: each pointer is to at least as many elements as the length
  * beside it says (a length of 0 may come with any non-null pointer), `place` to one number, `answer` to DIFTANEW_ANSWER numbers, and no two
- * of the lent parts overlap. Nothing else is asked. The calls keep no state and use no heap. They need a stack of DIFTANEW_STACK bytes. */
+ * of the lent parts overlap. Nothing else is asked.
+ *
+ * A call needs a scratch of 1,024 numbers and a stack of 32 KB (a report) or 40 KB (a run), no heap, and nothing else; it keeps no state. The
+ * scratch is measured and never touched: every number of it keeps its value, also past the first 1,024, where a patch list may lie. */
 #ifndef DIFTANEW_H
 #define DIFTANEW_H
 
@@ -14,22 +17,23 @@ extern "C" {
 #endif
 
 /* The 32-bit numbers of scratch that a call wants (question 1). */
-#define DIFTANEW_SCRATCH 8192
+#define DIFTANEW_SCRATCH 1024
 /* The longest file that is taken (question 2). */
 #define DIFTANEW_FILE 16384
 /* The prices that a call is lent (question 16): ticks of arithmetic (set, for starts and for steps with it), cue, pick and test, each 1 to 1,000. */
 #define DIFTANEW_PRICES 4
 /* No report is longer: a buffer of so many bytes holds every one. */
 #define DIFTANEW_REPORT 2089
-/* The bytes of stack that a call needs, with a margin: on the worst file a report took 29 KB and a run 45 KB. */
-#define DIFTANEW_STACK 57344
+/* The bytes of stack that a report and a run need at most. */
+#define DIFTANEW_REPORT_STACK 32768
+#define DIFTANEW_RUN_STACK 40960
 /* The numbers of a run's answer. */
 #define DIFTANEW_ANSWER 53
 
 /* Refusal numbers, in the words of document 01's questions; 16, which is asked after 1 and before 2, is document 02's. */
 enum {
     DIFTANEW_ACCEPTED = 0,
-    DIFTANEW_SCRATCH_SHORT = 1,   /* place: 8192 */
+    DIFTANEW_SCRATCH_SHORT = 1,   /* place: 1024 */
     DIFTANEW_FILE_LONG = 2,       /* place: 16384 */
     DIFTANEW_SHAPE = 3,           /* place: the line, from 1 */
     DIFTANEW_NUMBER = 4,          /* place: the line */
@@ -51,7 +55,7 @@ enum {
 enum { DIFTANEW_ENDED = 0, DIFTANEW_SPENT = 1, DIFTANEW_RANGE = 2, DIFTANEW_NO_PICK = 3 };
 
 /* Writes the report of `file`, whose rows take the ticks that `prices` says, to the front of `buffer`. Answers 0, with the report's length in *place; or a refusal's number, with its place in
- * *place and the buffer untouched. The scratch is measured and never touched. */
+ * *place and the buffer untouched. */
 uint32_t diftanew_report(const uint8_t *file, size_t file_len, const uint32_t *prices, size_t prices_len,
                          uint32_t *scratch, size_t scratch_len, uint8_t *buffer, size_t buffer_len, uint64_t *place);
 

@@ -49,5 +49,9 @@ module _ (ranges : List (List ℤ)) (vars : ℕ) (rows : List Row) (count : ℕ)
     pub survey-asks : {π : Prices} {L : Type 0} → length t ≡ 256 → FinePrices π → L → Legal (scriptOf ranges vars (rowsOf t) count) × (count ≤ 256) × (count ≤ length t) × BlankFrom vars ranges × FinePrices π × L
     survey-asks l f n = (subst Legal (sym same) (g .legal), few-rows, omega (arith, few-rows), g .blank, f, n)
 
-    pub survey-found : (prices : List ℕ) {π : Prices} → π ≡ pricesOf prices → (s : Figures) (lines : List (List ℕ)) → SurveyOf π (scriptOf ranges vars (rowsOf t) count) count s lines → Found prices (scriptOf ranges vars rows count) count s lines
-    survey-found prices {π} e s lines f = record { long = g .long; figures = subst (λ ρ. SurveyOf ρ (scriptOf ranges vars rows count) count s lines) e (subst (λ x. SurveyOf π x count s lines) same f) }
+    pub survey-same : {π : Prices} {s : Figures} {lines : List (List ℕ)} → SurveyOf π (scriptOf ranges vars (rowsOf t) count) count s lines → SurveyOf π (scriptOf ranges vars rows count) count s lines
+    survey-same {π} {s} {lines} f = subst (λ x. SurveyOf π x count s lines) same f
+
+  -- what the analysis found, under the lent prices
+  pub found-by : (prices : List ℕ) {π : Prices} → π ≡ pricesOf prices → (s : Figures) (lines : List (List ℕ)) → SurveyOf π (scriptOf ranges vars rows count) count s lines → Found prices (scriptOf ranges vars rows count) count s lines
+  found-by prices e s lines f = record { long = g .long; figures = subst (λ ρ. SurveyOf ρ (scriptOf ranges vars rows count) count s lines) e f }

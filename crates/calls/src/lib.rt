@@ -7,15 +7,19 @@ use rules::Prices;
 use rules::Reply;
 use rules::Row;
 use rules::Verdict;
+use survey::Figures;
 use table::put_rows;
 ghost use mathlib.Core.Path.{_≡_};
 ghost use mathlib.Core.Bool.{_&&_};
-ghost use Prim.Native.Nat.{_≤_, min};
+ghost use mathlib.Core.List.{List};
+ghost use Prim.Native.Nat.{ℕ, _≤_, min};
 ghost use lib.Signed.{leZ};
 ghost use lib.ListN.{length, take};
+ghost use Rattle.rules.specs.Bounds.{FinePrices};
 ghost use Rattle.rules.specs.Scripts.{pairRanges, scriptOf};
 ghost use Rattle.rules.specs.Calls.{Priced, replyOf, bufferOf, storeVerdict, runReply};
 ghost use Rattle.rules.specs.Claim.{Demand3Of};
+ghost use Rattle.survey.specs.Whole.{SurveyOf};
 ghost use Rattle.calls.specs.Held.{Given, judgedScript};
 ghost use Rattle.calls.specs.Told.{ToldNo, Ran, Runs, ranRows};
 
@@ -137,6 +141,25 @@ fn smaller(x: u64, y: u64) -> u64
     if x <= y { x } else { y }
 }
 
+// The questions 8 to 13 of a script, and its ticks. The table of its rows and the report's lines are gone when it is done.
+fn ticks_of(
+    rows: [Row; 256],
+    count: usize,
+    ranges: [[i32; 2]; 16],
+    vars: usize,
+    prices: Prices,
+) -> Figures
+    requires { ⌜ Given ranges vars rows count × FinePrices prices ⌝ }
+    ensures { λ r. ⌜ ((lines : List (List ℕ)) × SurveyOf prices (scriptOf ranges vars rows count) count r lines) ⌝ }
+{
+    let none: [u64; 7] = [0; 7];
+    let mut lines = [none; 16];
+    let zero: [u32; 9] = [0; 9];
+    let mut table = [zero; 256];
+    put_rows(&mut table, rows, count);
+    survey::survey(&table, count, ranges, vars, prices, &mut lines)
+}
+
 // The run call: the questions 8 to 13 and 15, and the run. A refusal leaves the store as it was.
 pub fn run_script(
     rows: [Row; 256],
@@ -152,13 +175,8 @@ pub fn run_script(
     ensures run { λ r. ⌜ Ran (runReply (now (prices .entry)) (judgedScript (now (prices .entry)) (scriptOf ranges vars rows count)) (now (store .entry)) (now (picks .entry)) allowance) (now (store .entry)) (now (store .exit)) r ⌝ }
     ensures demand3 { λ r. ⌜ Demand3Of (now (prices .entry)) (judgedScript (now (prices .entry)) (scriptOf ranges vars rows count)) (now (store .entry)) (now (picks .entry)) allowance (r .ending) (r .ticks) (take (r .loops) (r .counts)) ⌝ }
 {
-    let none: [u64; 7] = [0; 7];
-    let mut lines = [none; 16];
-    let zero: [u32; 9] = [0; 9];
-    let mut table = [zero; 256];
-    put_rows(&mut table, rows, count);
     let by_kind = prices_of(prices);
-    let figures = survey::survey(&table, count, ranges, vars, by_kind, &mut lines);
+    let figures = ticks_of(rows, count, ranges, vars, by_kind);
     if figures.number != 0 {
         return refusal(figures.number, figures.place);
     }

@@ -11,7 +11,7 @@ ghost use Rattle.calls.specs.Told.{Ran};
 ghost use Rattle.loader.specs.Kept.{lentVerdict, judgement, Reported, KeptCall};
 
 // How many numbers the lent scratch has at least: question 1.
-pub const SCRATCH: usize = 8_192;
+pub const SCRATCH: usize = 1_024;
 
 // The bytes of the longest report, by `longest-report`: a buffer of that many never meets question 14.
 pub const REPORT: usize = 2_089;

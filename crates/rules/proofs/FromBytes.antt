@@ -4,11 +4,11 @@ use mathlib.Core.Bool.{Bool, true, false, cond, _&&_}
 use mathlib.Core.List.{List, [], _∷_}
 use Prim.Native.Nat.{ℕ, zero, suc, _≤_, _<_}
 use native.Mathlib.Omega.{arith}
-use lib.Dec.{T, leb, leb→le}
+use lib.Dec.{T, leb, leb→le, le→leb}
 use lib.IntN.{ℤ}
 use lib.Signed.{leZ, leZ-yes, _≤ℤ_}
 use lib.ListN.{length, getD}
-use Rattle.ints.proofs.Diffs.{both}
+use Rattle.ints.proofs.Diffs.{cond-true, both}
 use Rattle.rules.specs.declared.Ending.{Ending}
 use Rattle.rules.specs.declared.LoopCount.{LoopCount}
 use Rattle.rules.specs.Bounds.{FinePrice, FinePrices}
@@ -17,7 +17,7 @@ use Rattle.rules.specs.Figures.{Prices}
 use Rattle.rules.specs.Questions.{Verdict, passed, refused, verdict}
 use Rattle.rules.specs.Scripts.{Pairwise, Script, envOf, storeOf, treeOf, Legal, Accepted, StoreIn}
 use Rattle.rules.specs.File
-use Rattle.rules.specs.Calls.{Judged, accepted, refuses, judgedBy, judgedFile, pricesOf, pricesVerdict, Priced, judgedPriced, scratchSize, judged, storeVerdict, RunReply, ran, runScript, ranScript, stored, runReply}
+use Rattle.rules.specs.Calls.{Judged, accepted, refuses, judgedBy, judgedFile, pricesOf, pricesVerdict, Priced, judgedPriced, scratchSize, judged, SameFromAnyScratch, storeVerdict, RunReply, ran, runScript, ranScript, stored, runReply}
 use Rattle.rules.specs.Claim.{Unspent, Counts-fit, Demand3, Demand3File, Demand3Of}
 use Rattle.rules.proofs.Accepted.{refused-not}
 use Rattle.rules.proofs.Demand.{demand3}
@@ -63,6 +63,11 @@ module _ (prices : List ℕ) (scratch : ℕ) (file : List ℕ) (script : Script)
       go : (b : Bool) → (T b → T (leb scratchSize scratch)) → cond b (judgedPriced prices (pricesVerdict 4 0 prices) file) (refuses 1 scratchSize) ≡ accepted script → FileAccepted prices scratch file script
       go true f h = by-prices (pricesVerdict 4 0 prices) (f tt) refl h
       go false f h = no 1 scratchSize script h
+
+-- one answer from every scratch that is long enough
+pub same-from-any-scratch : SameFromAnyScratch
+unfolding SameFromAnyScratch judged
+same-from-any-scratch prices a b file h k = cond-true (leb scratchSize a) _ _ (le→leb scratchSize a h) ∙ sym (cond-true (leb scratchSize b) _ _ (le→leb scratchSize b k))
 
 -- prices that pass question 16: n of them, each 1 to 1,000
 pub prices-pass : (n i : ℕ) (l : List ℕ) → pricesVerdict n i l ≡ passed → (length l ≡ n) × ((k : ℕ) → k < n → (1 ≤ getD l k 0) × (getD l k 0 ≤ 1_000))

@@ -2,7 +2,7 @@
 use mathlib.Core.Path.{_≡_}
 use mathlib.Core.Bool.{Bool, true, false, cond, _&&_}
 use mathlib.Core.List.{List, [], _∷_, _++_}
-use Prim.Native.Nat.{ℕ, zero, suc}
+use Prim.Native.Nat.{ℕ, zero, suc, _≤_}
 use lib.Dec.{leb}
 use lib.IntN.{ℤ}
 use lib.Signed.{leZ}
@@ -62,13 +62,17 @@ unfoldable pub judgedPriced : List ℕ → Verdict → List ℕ → Judged
 judgedPriced prices passed file = judgedFile (pricesOf prices) (fileScript file)
 judgedPriced prices (refused q p) file = refuses q p
 
--- 1: "Is the lent scratch at least 8,192 32-bit numbers?"
+-- 1: is the lent scratch at least 1,024 32-bit numbers? "Question 1 and its place read 1,024."
 abbrev pub scratchSize : ℕ
-scratchSize = 8_192
+scratchSize = 1_024
 
 -- 1, then 16, "between questions 1 and 2", then the file's
 unfoldable pub judged : List ℕ → ℕ → List ℕ → Judged
 judged prices scratch file = cond (leb scratchSize scratch) (judgedPriced prices (pricesVerdict 4 0 prices) file) (refuses 1 scratchSize)
+
+-- "Every report and run must come out identical from 1,024 numbers": from any two scratches that question 1 passes
+unfoldable pub SameFromAnyScratch : Type 0
+SameFromAnyScratch = (prices : List ℕ) (a b : ℕ) (file : List ℕ) → scratchSize ≤ a → scratchSize ≤ b → judged prices a file ≡ judged prices b file
 
 -- 14: "is the buffer at least as long as the report?"
 unfoldable pub fitting : List ℕ → ℕ → Reply

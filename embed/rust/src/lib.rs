@@ -1,11 +1,15 @@
 //! Safe Rust calls over the proved loader of effect scripts.
+//!
+//! A call of the library needs a scratch of 1,024 numbers and a stack of 32 KB (a report) or 40 KB (a run), no heap, and nothing else. The
+//! scratch is measured and never touched: every number of it keeps its value, also past the first 1,024, where a patch list may lie. Only
+//! this crate's [`run`] takes heap, for the list of loops; [`numbers::run`] takes none.
 
 pub mod numbers;
 
 use numbers::ANSWER;
 
 /// The 32-bit numbers of scratch that a call wants.
-pub const SCRATCH: usize = 8_192;
+pub const SCRATCH: usize = 1_024;
 
 /// The longest file that is taken.
 pub const FILE: usize = 16_384;
@@ -17,8 +21,11 @@ pub const ONES: [u32; 4] = [1; 4];
 /// No report is longer: a buffer of so many bytes holds every one.
 pub const REPORT: usize = 2_089;
 
-/// The bytes of stack that a call needs, with a margin.
-pub const STACK: usize = 57_344;
+/// The bytes of stack that a report needs at most.
+pub const REPORT_STACK: usize = 32 * 1_024;
+
+/// The bytes of stack that a run needs at most.
+pub const RUN_STACK: usize = 40 * 1_024;
 
 /// The questions that can refuse a call, by their numbers.
 #[derive(Clone, Copy, Debug, PartialEq, Eq)]

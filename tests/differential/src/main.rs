@@ -64,10 +64,9 @@ struct Checker {
     /// The file's name in what is printed.
     name: String,
     prices: Vec<u32>,
-    scratch: Vec<u32>,
     rng: Rng,
     tally: Tally,
-    /// For report and run calls.
+    /// For report and run calls; each has as much stack as its call may use.
     stacks: [Stack; 2],
 }
 
@@ -107,38 +106,35 @@ impl Checker {
         }
     }
 
-    /// The scratch for the next call, with a guard behind it: as the last call left it, or filled.
-    fn scratch(&mut self, length: usize) -> Vec<u32> {
-        let mut scratch = std::mem::take(&mut self.scratch);
-        scratch.resize(length + GUARD, 0xa5a5_a5a5);
+    /// A length that question 1 takes. Past the first 1,024 numbers lies a patch list.
+    fn enough(&mut self) -> usize {
         match self.rng.below(8) {
-            0 => scratch.fill(0),
-            1 => scratch.fill(u32::MAX),
-            2 => {
-                let n = self.rng.next() as u32;
-                scratch.fill(n);
-            }
-            _ => {}
+            0..=2 => SCRATCH,
+            3 => SCRATCH + 1,
+            4 | 5 => SCRATCH + self.rng.below(200),
+            6 => 2 * SCRATCH + self.rng.below(3) - 1,
+            // The scratch of old, and round it.
+            _ => 8_192 + self.rng.below(3) - 1,
         }
-        scratch[length..].fill(0xa5a5_a5a5);
-        scratch
     }
 
-    fn scratch_back(&mut self, call: &str, scratch: Vec<u32>, length: usize, before: Option<Vec<u32>>) {
-        self.same(call, "numbers past the scratch", &[0xa5a5_a5a5; GUARD][..], &scratch[length..]);
-        if let Some(before) = before {
-            if before != scratch {
-                self.differ(&format!("{call}: scratch touched under question 1"), &"untouched", &"touched");
-            }
+    /// A scratch of random numbers.
+    fn scratch(&mut self, length: usize) -> Room<u32> {
+        Room::new((0..length).map(|_| self.rng.next() as u32), 0xa5a5_a5a5)
+    }
+
+    /// Every number of the scratch must be as before the call, and what lies round it too.
+    fn scratch_kept(&self, call: &str, before: &[u32], after: &Room<u32>) {
+        if let Some(at) = (0..before.len()).find(|&at| before[at] != after.all[at]) {
+            self.differ(&format!("{call}: scratch number {}", at as isize - GUARD as isize), &before[at], &after.all[at]);
         }
-        self.scratch = scratch;
     }
 
     fn report(&mut self, scratch_len: usize, buffer_len: usize, expected: &Result<Vec<u8>, Refusal>) {
         self.tally.reports += 1;
         let call = &format!("report with prices {:?}, {scratch_len} scratch numbers and a buffer of {buffer_len}", self.prices);
         let mut scratch = self.scratch(scratch_len);
-        let before = (scratch_len < SCRATCH).then(|| scratch.clone());
+        let before = scratch.all.clone();
         let salt = self.rng.next() as u8;
         let pattern = |i: usize| (i as u8).wrapping_mul(31) ^ salt;
         let mut buffer = Room::new((0..buffer_len).map(pattern), 0x5a);
@@ -146,7 +142,7 @@ impl Checker {
         let (file, prices) = (self.file.clone(), self.prices.clone());
         let mut number = 0;
         self.stacks[0].call(|| {
-            number = numbers::report(&file, &prices, &mut scratch[..scratch_len], buffer.lent(), &mut place[1])
+            number = numbers::report(&file, &prices, scratch.lent(), buffer.lent(), &mut place[1])
         });
         self.same(call, "file after the call", &self.file, &file);
         self.same(call, "prices after the call", &self.prices, &prices);
@@ -169,7 +165,7 @@ impl Checker {
             let (full, got) = (full.escape_ascii().to_string(), buffer.lent().escape_ascii().to_string());
             self.differ(&format!("buffer of {call}"), &full, &got);
         }
-        self.scratch_back(call, scratch, scratch_len, before);
+        self.scratch_kept(call, &before, &scratch);
     }
 
     fn run(&mut self, scratch_len: usize, store: &[i32], picks: &[u8], allowance: u64, expected: &Result<Run, Refusal>) {
@@ -181,7 +177,7 @@ impl Checker {
             &picks[..picks.len().min(40)]
         );
         let mut scratch = self.scratch(scratch_len);
-        let before = (scratch_len < SCRATCH).then(|| scratch.clone());
+        let before = scratch.all.clone();
         let mut lent_store = Room::new(store.iter().copied(), 0x5a5a_5a5a);
         let mut answer = Room::new((0..ANSWER as u64).map(|i| !i), 0x5a5a);
         let (file, prices) = (self.file.clone(), self.prices.clone());
@@ -189,8 +185,7 @@ impl Checker {
         let numbers: &mut [u64; ANSWER] = answer.lent().try_into().unwrap();
         let mut number = 0;
         self.stacks[1].call(|| {
-            let scratch = &mut scratch[..scratch_len];
-            number = numbers::run(&file, &prices, scratch, lent_store.lent(), &lent_picks, allowance, numbers)
+            number = numbers::run(&file, &prices, scratch.lent(), lent_store.lent(), &lent_picks, allowance, numbers)
         });
         self.same(call, "file after the call", &self.file, &file);
         self.same(call, "prices after the call", &self.prices, &prices);
@@ -225,7 +220,7 @@ impl Checker {
             }
         }
         self.same(call, "answer", &numbers[..], answer.lent());
-        self.scratch_back(call, scratch, scratch_len, before);
+        self.scratch_kept(call, &before, &scratch);
     }
 
     fn accepted(&mut self, plan: &Plan) {
@@ -236,8 +231,9 @@ impl Checker {
             let expected = if buffer_len < length { Err((14, length as u64)) } else { Ok(text.clone()) };
             self.report(SCRATCH, buffer_len, &expected);
         }
-        let more = SCRATCH + 1 + self.rng.below(500);
-        self.report(more, length, &Ok(text));
+        for scratch_len in [SCRATCH + 1, self.enough()] {
+            self.report(scratch_len, length, &Ok(text.clone()));
+        }
 
         let longest = LONGEST * *self.prices.iter().min().unwrap() as u64;
         for _ in 0..5 {
@@ -259,7 +255,8 @@ impl Checker {
             }
             let allowance = allowance(&mut self.rng, plan, short, longest);
             let expected = oracle::run_planned(plan, &store, &picks, allowance);
-            self.run(SCRATCH, &store, &picks, allowance, &expected);
+            let scratch_len = self.enough();
+            self.run(scratch_len, &store, &picks, allowance, &expected);
             if short && self.rng.chance(40) {
                 self.run(SCRATCH, &store, &picks, plan.ticks, &first);
             }
@@ -269,11 +266,13 @@ impl Checker {
     fn refused(&mut self, refusal: Refusal) {
         self.tally.refused[refusal.0 as usize] += 1;
         for buffer_len in [0, 300] {
-            self.report(SCRATCH, buffer_len, &Err(refusal));
+            let scratch_len = self.enough();
+            self.report(scratch_len, buffer_len, &Err(refusal));
         }
         let (store, picks) = (any_store(&mut self.rng), picks(&mut self.rng));
         let allowance = self.rng.next();
-        self.run(SCRATCH, &store, &picks, allowance, &Err(refusal));
+        let scratch_len = self.enough();
+        self.run(scratch_len, &store, &picks, allowance, &Err(refusal));
     }
 
     fn case(&mut self) {
@@ -292,10 +291,11 @@ impl Checker {
                 self.refused(refusal);
             }
         }
-        let little = if self.rng.chance(80) { SCRATCH - 1 } else { self.rng.below(SCRATCH) };
-        self.report(little, 500, &Err((1, SCRATCH as u64)));
-        let (store, picks) = (any_store(&mut self.rng), picks(&mut self.rng));
-        self.run(little, &store, &picks, 100, &Err((1, SCRATCH as u64)));
+        for little in [0, SCRATCH - 1, self.rng.below(SCRATCH)] {
+            self.report(little, 500, &Err((1, SCRATCH as u64)));
+            let (store, picks) = (any_store(&mut self.rng), picks(&mut self.rng));
+            self.run(little, &store, &picks, 100, &Err((1, SCRATCH as u64)));
+        }
     }
 
     /// A stored call. The oracle's answer must be the same, with all entries, and then the library's.
@@ -340,7 +340,7 @@ fn generated(checker: &mut Checker, count: u64, seed: u64, first: u64) {
     println!(
         "no difference: {count} files of seed {seed}, {} accepted, refused {}; {} report calls; {} run calls ({} refused, \
          ended {}, spent {}, range {}, no pick {}, {} ticks); demand 3 held in {} runs with {} entries; \
-         stack of {} bytes, report {}, run {}; {:.1} s",
+         stack: report {} bytes of {}, run {} of {}; {:.1} s",
         t.accepted,
         refused.join(" "),
         t.reports,
@@ -353,9 +353,10 @@ fn generated(checker: &mut Checker, count: u64, seed: u64, first: u64) {
         t.ticks,
         t.demands,
         t.entries,
-        diftanew::STACK,
         checker.stacks[0].used(),
+        diftanew::REPORT_STACK,
         checker.stacks[1].used(),
+        diftanew::RUN_STACK,
         begin.elapsed().as_secs_f64()
     );
 }
@@ -386,10 +387,9 @@ fn main() {
         file: Vec::new(),
         name: String::new(),
         prices: ONES.to_vec(),
-        scratch: vec![0xdead_beef; SCRATCH],
         rng: Rng::new(SEED, 0),
         tally: Tally::default(),
-        stacks: [Stack::new(diftanew::STACK), Stack::new(diftanew::STACK)],
+        stacks: [Stack::new(diftanew::REPORT_STACK), Stack::new(diftanew::RUN_STACK)],
     };
     if let [word, folder] = &arguments[..] {
         if word == "vectors" {

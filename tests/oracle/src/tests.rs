@@ -95,8 +95,14 @@ fn the_listing() {
 #[test]
 fn questions_1_2_14_15() {
     let listing = file(LISTING_RANGES, LISTING);
-    assert_eq!(report(b"", &ONES, 8191, 0), Err((1, 8192)));
-    assert_eq!(run(b"", &ONES, 8191, &[7], &[], 0).unwrap_err(), (1, 8192));
+    for little in [0, 1, 1023] {
+        assert_eq!(report(b"", &ONES, little, 0), Err((1, 1024)));
+        assert_eq!(run(b"", &ONES, little, &[7], &[], 0).unwrap_err(), (1, 1024));
+    }
+    for enough in [1024, 1025, 8191, 8192] {
+        assert_eq!(report(b"", &ONES, enough, 0), Err((3, 1)));
+        assert_eq!(run(b"", &ONES, enough, &[7], &[], 0).unwrap_err(), (3, 1));
+    }
     assert_eq!(report(&[b'x'; 16_384], &ONES, SCRATCH, 0), Err((3, 1)));
     assert_eq!(report(&[b'x'; 16_385], &ONES, SCRATCH, 0), Err((2, 16_384)));
     let length = LISTING_REPORT.len() as u64;

@@ -11,6 +11,28 @@ fn wrong(mistake: u32) -> bool {
     *WRONG.get_or_init(|| std::env::var("STANDIN_WRONG").ok().and_then(|word| word.parse().ok()).unwrap_or(0)) == mistake
 }
 
+/// The length that question 1 reads.
+fn measured(scratch_len: usize) -> usize {
+    match scratch_len {
+        // 21: 1,023 numbers are enough.
+        1_023 if wrong(21) => 1_024,
+        // 22: 1,024 are not.
+        1_024 if wrong(22) => 1_023,
+        _ => scratch_len,
+    }
+}
+
+/// What a call does to a scratch that it should only measure.
+fn scribble(scratch: &mut [u32], run: bool) {
+    // 24: the first number past the 1,024 is changed.  25: a run works in the first ones.
+    if wrong(24) && scratch.len() > 1_024 {
+        scratch[1_024] ^= 1;
+    }
+    if wrong(25) && run && scratch.len() >= 1_024 {
+        scratch[0] ^= 1;
+    }
+}
+
 /// What a report answers by a mistake of the analysis; None if there is none.
 fn misread(file: &[u8], plan: &Result<Plan, Refusal>) -> Option<Result<Vec<u8>, Refusal>> {
     match plan {
@@ -76,8 +98,10 @@ pub unsafe extern "C" fn diftanew_report(
     let prices = slice::from_raw_parts(prices, prices_len);
     let scratch = slice::from_raw_parts_mut(scratch, scratch_len);
     let buffer = slice::from_raw_parts_mut(buffer, buffer_len);
-    let mut answer = report_into(file, prices, scratch_len, buffer);
-    match misread(file, &oracle::plan(file, prices, scratch_len)) {
+    let length = measured(scratch_len);
+    scribble(scratch, false);
+    let mut answer = report_into(file, prices, length, buffer);
+    match misread(file, &oracle::plan(file, prices, length)) {
         Some(Ok(text)) if text.len() <= buffer_len => {
             buffer[..text.len()].copy_from_slice(&text);
             answer = Ok(text.len() as u64);
@@ -109,6 +133,10 @@ pub unsafe extern "C" fn diftanew_report(
     if wrong(17) && number == 13 {
         *place = outermost(file, at);
     }
+    // 23: the place of 1 is the scratch of old.
+    if wrong(23) && number == 1 {
+        *place = 8_192;
+    }
     if wrong(7) && number == 4 && file.windows(3).any(|w| w == b"v99") { 5 } else { number }
 }
 
@@ -130,7 +158,9 @@ pub unsafe extern "C" fn diftanew_run(
     answer: *mut u64,
 ) -> u32 {
     let file = slice::from_raw_parts(file, file_len);
-    let _ = scratch;
+    let scratch = slice::from_raw_parts_mut(scratch, scratch_len);
+    let length = measured(scratch_len);
+    scribble(scratch, true);
     let mut prices = slice::from_raw_parts(prices, prices_len);
     // 16: every row takes one tick, whatever is lent.
     if wrong(16) && oracle::prices::prices(prices).is_ok() {
@@ -146,7 +176,7 @@ pub unsafe extern "C" fn diftanew_run(
     if wrong(8) {
         answer[52] = last;
     }
-    match run_counts(file, prices, scratch_len, store, picks, allowance) {
+    match run_counts(file, prices, length, store, picks, allowance) {
         Err((number, place)) => {
             answer[0] = place;
             // 9: a refused run has touched the store.
@@ -166,7 +196,7 @@ pub unsafe extern "C" fn diftanew_run(
             answer[2] = counts.ticks;
             answer[3] = counts.used as u64;
             answer[4] = loops as u64;
-            let heads = oracle::plan(file, prices, scratch_len).map(|plan| plan.lines).unwrap_or_default();
+            let heads = oracle::plan(file, prices, length).map(|plan| plan.lines).unwrap_or_default();
             for (k, line) in heads.iter().enumerate() {
                 answer[5 + 3 * k] = line.row as u64;
                 answer[6 + 3 * k] = counts.all[k];

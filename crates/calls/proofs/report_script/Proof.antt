@@ -2,7 +2,7 @@
 use mathlib.Core.Path.{_≡_}
 use Rattle.rules.specs.Scripts.{Script, scriptOf}
 use Rattle.calls.specs.Held.{Found}
-use Rattle.calls.proofs.Tables.{four, fine, few-rows, fine-rows, survey-asks, survey-found}
+use Rattle.calls.proofs.Tables.{four, fine, few-rows, fine-rows, survey-asks, survey-same, found-by}
 use Rattle.calls.proofs.Judging.{reported, not-reported}
 use borrow.Author.Needs.{needs}
 use Rattle.calls.proofs.report_script.Statement.{statement}
@@ -29,7 +29,7 @@ found : (c : tie.After-survey) → Found (c .before .before .before .before .bef
 found c =
     let s = c .before .before .before .before .before .before .before .before in
     let p = c .before .before .before .before .put-rows in
-    survey-found (s .args .ranges) (s .args .vars) (s .args .rows) (s .args .count) (s .pre .0) (p .last .0) (p .ensures .1) (s .args .prices .now) (c .before .before .before .prices-of .ensures) (c .survey .result) _ (c .survey .ensures)
+    found-by _ _ _ _ (s .pre .0) (s .args .prices .now) (c .before .before .before .prices-of .ensures) (c .survey .result) _ (survey-same _ _ _ _ (s .pre .0) (p .last .0) (p .ensures .1) (c .survey .ensures))
 
 returns : tie.Need-returns
 returns c =

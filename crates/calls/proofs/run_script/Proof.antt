@@ -11,7 +11,7 @@ use Rattle.rules.proofs.FromBytes.{demand3-script}
 use Rattle.calls.specs.declared.Outcome.{Outcome}
 use Rattle.calls.specs.Held.{judgedScript, Found}
 use Rattle.calls.specs.Told.{Ran}
-use Rattle.calls.proofs.Tables.{four, fine, few-rows, fine-rows, survey-asks, survey-found}
+use Rattle.calls.proofs.Tables.{four, fine, few-rows, found-by}
 use Rattle.calls.proofs.Judging.{ticks-few}
 use Rattle.calls.proofs.Runs.{told-says, ran-no, ran-out, may-run, ran-all}
 use borrow.Author.Needs.{needs}
@@ -26,24 +26,15 @@ script s = scriptOf (s .args .t3) (s .args .vars) (s .args .rows) (s .args .coun
 full-ranges : (s : tie.Start) → length (s .args .t3) ≡ 16
 full-ranges s = search needs
 
-put-rows-requires : tie.Need-put-rows-requires
-put-rows-requires c κs = let s = c .before .before .before in (search needs, few-rows _ _ _ _ (s .pre .0), fine-rows _ _ _ _ (s .pre .0))
-
 prices-of-requires : tie.Need-prices-of-requires
-prices-of-requires c κs = four _ (c .before .before .before .before .pre .1)
+prices-of-requires c κs = four _ (c .before .before .pre .1)
 
-survey-requires : tie.Need-survey-requires
-survey-requires c κs =
-    let s = c .before .before .before .before .before .before .before in
-    let p = c .before .before .before .put-rows in
-    survey-asks (s .args .t3) (s .args .vars) (s .args .rows) (s .args .count) (s .pre .0) (p .last .0) (p .ensures .1) (p .ensures .0) (fine (s .args .prices .now) (s .pre .1) (c .before .before .prices-of .ensures)) (search needs)
+ticks-of-requires : tie.Need-ticks-of-requires
+ticks-of-requires c κs = let s = c .before .before .before in (s .pre .0, fine (s .args .prices .now) (s .pre .1) (c .prices-of .ensures))
 
--- what the survey found of it
-found : (c : tie.After-survey) → Found (c .before .before .before .before .before .before .before .before .args .prices .now) (script (c .before .before .before .before .before .before .before .before)) (c .before .before .before .before .before .before .before .before .args .count) (c .survey .result) (c .survey .last .1 .1 .1 .1 .1 .0)
-found c =
-    let s = c .before .before .before .before .before .before .before .before in
-    let p = c .before .before .before .before .put-rows in
-    survey-found (s .args .t3) (s .args .vars) (s .args .rows) (s .args .count) (s .pre .0) (p .last .0) (p .ensures .1) (s .args .prices .now) (c .before .before .before .prices-of .ensures) (c .survey .result) _ (c .survey .ensures)
+-- what the analysis found of it
+found : (c : tie.After-ticks-of) → let s = c .before .before .before .before in Found (s .args .prices .now) (script s) (s .args .count) (c .ticks-of .result) (c .ticks-of .ensures .0)
+found c = let s = c .before .before .before .before in found-by _ _ _ _ (s .pre .0) (s .args .prices .now) (c .before .prices-of .ensures) (c .ticks-of .result) _ (c .ticks-of .ensures .1)
 
 -- demand 3 of that answer
 with-kept : (s : tie.Start) (o : Outcome) (new : List ℤ)
@@ -55,25 +46,25 @@ with-kept s o new r =
 
 returns : tie.Need-returns
 returns c =
-    let s = c .before .before .before .before .before .before .before .before .before .before .before in
-    let f = c .before .before .before .survey in
+    let s = c .before .before .before .before .before .before .before in
+    let f = c .before .before .before .ticks-of in
     let h : f .result .number ≡ 0 → ⊥ = search needs in
     with-kept s _ _ (ran-no (s .args .prices .now) (script s) (s .args .count) (f .result) _ (found (c .before .before .before)) (s .args .store .now) (s .args .picks .now) (s .args .allowance) h _ (c .refusal .ensures))
 
 ask-store-requires : tie.Need-ask-store-requires
-ask-store-requires c κs = (c .before .before .before .before .before .before .before .before .before .before .before .before .pre .0 .few, full-ranges (c .before .before .before .before .before .before .before .before .before .before .before .before))
+ask-store-requires c κs = (c .before .before .before .before .before .before .before .before .pre .0 .few, full-ranges (c .before .before .before .before .before .before .before .before))
 
 run-accepted-requires : tie.Need-run-accepted-requires
 unfolding scriptOf
 run-accepted-requires c κs =
-    let s = c .before .before .before .before .before .before .before .before .before .before .before .before .before .before .before .before .before in
-    let f = c .before .before .before .before .before .before .before .before .before .survey in
+    let s = c .before .before .before .before .before .before .before .before .before .before .before .before .before in
+    let f = c .before .before .before .before .before .before .before .before .before .ticks-of in
     let q = c .before .before .before .before .ask-store in
     let z : f .result .number ≡ 0 = search needs in
     let few = ticks-few (s .args .prices .now) (script s) (s .args .count) (f .result) _ (found (c .before .before .before .before .before .before .before .before .before)) z in
     record {
       size = few-rows _ _ _ _ (s .pre .0);
-      price = fine (s .args .prices .now) (s .pre .1) (c .before .before .before .before .before .before .before .before .before .before .before .before .prices-of .ensures) .test .some;
+      price = fine (s .args .prices .now) (s .pre .1) (c .before .before .before .before .before .before .before .before .before .before .prices-of .ensures) .test .some;
       runs = may-run (s .args .prices .now) (script s) (s .args .count) (f .result) _ (found (c .before .before .before .before .before .before .before .before .before)) (s .args .store .now) (s .args .picks .now) (s .args .allowance) z (q .result) (q .ensures) (c .before .before .enum-told .given .1) (s .pre .0 .legal);
       ticks = omega (arith, c .smaller .ensures);
     }
@@ -81,17 +72,17 @@ run-accepted-requires c κs =
 returns-2 : tie.Need-returns-2
 unfolding scriptOf
 returns-2 c =
-    let s = c .before .before .before .before .before .before .before .before .before .before .before .before .before .before .before .before .before .before .before in
-    let f = c .before .before .before .before .before .before .before .before .before .before .before .survey in
+    let s = c .before .before .before .before .before .before .before .before .before .before .before .before .before .before .before in
+    let f = c .before .before .before .before .before .before .before .before .before .before .before .ticks-of in
     let q = c .before .before .before .before .before .before .ask-store in
     let z : f .result .number ≡ 0 = omega (arith, c .before .before .before .before .before .before .before .before .before .if1 .left) in
-    with-kept s _ _ (ran-all (s .args .prices .now) (s .pre .1) _ (c .before .before .before .before .before .before .before .before .before .before .before .before .before .before .prices-of .ensures) (s .args .t3) (s .args .vars) (s .args .rows) (s .args .count) (f .result) _ (found (c .before .before .before .before .before .before .before .before .before .before .before)) (s .args .store .now) (s .args .picks .now) (s .args .allowance) z (q .result) (q .ensures) (c .before .before .before .before .enum-told .given .1) (s .pre .0 .legal) _ (c .before .before .smaller .ensures) _ _ (c .before .run-accepted .ensures))
+    with-kept s _ _ (ran-all (s .args .prices .now) (s .pre .1) _ (c .before .before .before .before .before .before .before .before .before .before .before .before .prices-of .ensures) (s .args .t3) (s .args .vars) (s .args .rows) (s .args .count) (f .result) _ (found (c .before .before .before .before .before .before .before .before .before .before .before)) (s .args .store .now) (s .args .picks .now) (s .args .allowance) z (q .result) (q .ensures) (c .before .before .before .before .enum-told .given .1) (s .pre .0 .legal) _ (c .before .before .smaller .ensures) _ _ (c .before .run-accepted .ensures))
 
 returns-3 : tie.Need-returns-3
 unfolding scriptOf
 returns-3 c =
-    let s = c .before .before .before .before .before .before .before .before .before .before .before .before .before .before .before .before .before in
-    let f = c .before .before .before .before .before .before .before .before .before .survey in
+    let s = c .before .before .before .before .before .before .before .before .before .before .before .before .before in
+    let f = c .before .before .before .before .before .before .before .before .before .ticks-of in
     let q = c .before .before .before .before .ask-store in
     let z : f .result .number ≡ 0 = omega (arith, c .before .before .before .before .before .before .before .if1 .left) in
     with-kept s _ _ (ran-out (s .args .prices .now) (script s) (s .args .count) (f .result) _ (found (c .before .before .before .before .before .before .before .before .before)) (s .args .store .now) (s .args .picks .now) (s .args .allowance) z (q .result) (q .ensures) _ _ (c .before .before .asked .given .1) _ (c .refusal2 .ensures))
@@ -100,9 +91,8 @@ pub run-script-spec : {M : Type 1} → statement M
 run-script-spec =
     tie.close
     (tie.spec
-    put-rows-requires
     prices-of-requires
-    survey-requires
+    ticks-of-requires
     (λ c κs. search needs)
     returns
     ask-store-requires
