@@ -30,7 +30,7 @@ extern "C" {
 /* The numbers of a run's answer. */
 #define DIFTANEW_ANSWER 53
 
-/* Refusal numbers, in the words of document 01's questions; 16, which is asked after 1 and before 2, is document 02's. */
+/* Refusal numbers, in the words of document 01's questions; document 02's are 16, which is asked after 1 and before 2, and 17, after 3 on its line. */
 enum {
     DIFTANEW_ACCEPTED = 0,
     DIFTANEW_SCRATCH_SHORT = 1,   /* place: 1024 */
@@ -48,7 +48,8 @@ enum {
     DIFTANEW_TICKS = 13,          /* place: the first end row, in row order, whose block is over the limit; the number of rows only if no block is */
     DIFTANEW_BUFFER_SHORT = 14,   /* place: the report's length */
     DIFTANEW_STORE = 15,          /* place: the first index wrong, missing or extra */
-    DIFTANEW_PRICE = 16           /* place: the first price, from 0, that is wrong, missing or extra */
+    DIFTANEW_PRICE = 16,          /* place: the first price, from 0, that is wrong, missing or extra */
+    DIFTANEW_EXPRESSION = 17      /* place: the line; more than 8 parentheses open together or more than 15 operators in one expression */
 };
 
 /* How a run ends: answer[0]. */

@@ -13,10 +13,13 @@ use lib.IntN.{ℤ, pos}
 use lib.Signed.{leZ}
 use mir.Syntax.{w32}
 use mir.Val.{SFits}
-use Rattle.ints.proofs.Parts.{ints}
+use Rattle.ints.specs.Ints.{eqZ}
+use Rattle.ints.proofs.Parts.{ints, eqZ-true}
 use Rattle.rules.specs.declared.Ending.{Ending}
+use Rattle.rules.specs.declared.Comparison.{Comparison}
 use Rattle.rules.specs.declared.Ending.the-variants.{Spent, NoPick}
-use Rattle.rules.specs.Values.{lowest, highest, inLimits, put}
+use Rattle.rules.specs.Values.{lowest, highest, inLimits, put, Result, number, past, compares, tried, passes, fails, beyond, decide}
+use Rattle.values.specs.Results.{resultIn}
 use Rattle.rules.specs.Blocks.{Source, assign, cue, Test}
 use Rattle.rules.specs.Run.{State, choose, charge, write, result, exec, holds}
 use Rattle.rules.specs.declared.Prices.{Prices}
@@ -56,13 +59,28 @@ module _ (m : Machine) (store : List ℤ) (c : Tally) (p at v : ℕ) (z : ℤ) (
     used = refl;
   }
 
+-- a number past ±L is written as a result past ±L is
+far : (i v : ℕ) (s : State) → write i v (number (pos 4_000_000_000)) s ≡ write i v past s
+unfolding write choose lowest highest
+far i v s = refl
+
+pub write-in : (i v : ℕ) (z : ℤ) (s : State) → write i v (number z) s ≡ write i v (resultIn z) s
+unfolding resultIn
+write-in i v z s = by (eqZ z (pos 4_000_000_000)) (eqZ-true z (pos 4_000_000_000))
+  where
+    by : (b : Bool) → (b ≡ true → z ≡ pos 4_000_000_000) → write i v (number z) s ≡ write i v (cond b past (number z)) s
+    by false e = refl
+    by true e = ap (λ y. write i v (number y) s) (e refl) ∙ far i v s
+
 -- the result of a plain row
-module _ (π : Prices) {m r : Machine} {store store′ : List ℤ} {c c′ : Tally} {z : ℤ} (at v j : ℕ) (b : Bool) where
-  pub put-plain : (source : Source) → z ≡ result source (storeOf store v) (storeOf store) → Acts m r store store′ c c′ (putTo (π .arithmetic) at v z j b)
-      → Acts m r store store′ c c′ (plainTo π at (assign v source) j b)
+module _ (π : Prices) {m r : Machine} {store store′ : List ℤ} {c c′ : Tally} (at v j : ℕ) (b : Bool) where
+  pub put-plain : (source : Source) (z : ℤ) (y : Result) → ((s : State) → write at v (number z) s ≡ write at v y s) → y ≡ result source (storeOf store v) (storeOf store)
+      → Acts m r store store′ c c′ (putTo (π .arithmetic) at v z j b) → Acts m r store store′ c c′ (plainTo π at (assign v source) j b)
   unfolding exec charge
-  put-plain source e a = record {
-    same = λ picks. a .same picks ∙ ap (λ y. putTo (π .arithmetic) at v y j b (stateOf m store picks) c) e;
+  put-plain source z y w e a = record {
+    same = λ picks.
+        let s = stateOf m store picks in
+        a .same picks ∙ (λ i. outcome (charge (π .arithmetic) at [] s (λ t. w t i)) c (λ u. to j (phaseOf b) u c)) ∙ (λ i. outcome (charge (π .arithmetic) at [] s (λ t. write at v (e i) t)) c (λ u. to j (phaseOf b) u c));
     left = a .left;
     used = a .used;
   }
@@ -161,13 +179,26 @@ module _ (π : Prices) (m : Machine) (store : List ℤ) (c : Tally) (h e : ℕ) 
   unfolding tests paid chosen
   test-spent q = record { same = λ picks. rw (lt-leb (π .test) (m .left) q); left = omega arith; used = refl }
 
-  pub test-passed : (c′ : Tally) → π .test ≤ m .left → holds t (storeOf store) ≡ true → c′ ≡ turn h c → Acts m (onAt m (m .left - π .test) (h + 1) false) store store c c′ (tests π h e t)
-  unfolding tests paid chosen
+  pub test-passed : (c′ : Tally) → π .test ≤ m .left → holds t (storeOf store) ≡ passes → c′ ≡ turn h c → Acts m (onAt m (m .left - π .test) (h + 1) false) store store c c′ (tests π h e t)
+  unfolding tests paid chosen decide
   test-passed c′ q y f = record { same = λ picks. rw (le-leb (π .test) (m .left) q, y, f, add-one); left = omega arith; used = refl }
 
-  pub test-failed : π .test ≤ m .left → holds t (storeOf store) ≡ false → Acts m (onAt m (m .left - π .test) (e + 1) false) store store c c (tests π h e t)
-  unfolding tests paid chosen
+  pub test-failed : π .test ≤ m .left → holds t (storeOf store) ≡ fails → Acts m (onAt m (m .left - π .test) (e + 1) false) store store c c (tests π h e t)
+  unfolding tests paid chosen decide
   test-failed q n = record { same = λ picks. rw (le-leb (π .test) (m .left) q, n, add-one); left = omega arith; used = refl }
+
+  pub test-beyond : π .test ≤ m .left → holds t (storeOf store) ≡ beyond → Acts m (overAt m (m .left - π .test) Ending.Range h) store store c c (tests π h e t)
+  unfolding tests paid chosen decide
+  test-beyond q n = record { same = λ picks. rw (le-leb (π .test) (m .left) q, n); left = omega arith; used = refl }
+
+-- by its limit as one number
+pub tried-past : (k : Comparison) (x z : ℤ) (y : Result) → eqZ z (pos 4_000_000_000) ≡ true → resultIn z ≡ y → tried k x y ≡ beyond
+unfolding tried resultIn
+tried-past k x z y n e = rw (← e, n)
+
+pub tried-number : (k : Comparison) (x z : ℤ) (y : Result) (b : Bool) → eqZ z (pos 4_000_000_000) ≡ false → resultIn z ≡ y → b ≡ compares k x z → tried k x y ≡ choose b passes fails
+unfolding tried resultIn
+tried-number k x z y b n e q = rw (← e, n, q)
 
 -- ---- a for's test after its start or step
 -- the test that follows, or nothing

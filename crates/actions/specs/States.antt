@@ -9,11 +9,14 @@ use Rattle.rules.specs.declared.Kind.{Kind}
 use Rattle.rules.specs.declared.Operand.{Operand}
 use Rattle.rules.specs.declared.Comparison.{Comparison}
 use Rattle.rules.specs.declared.Ending.{Ending}
-use Rattle.rules.specs.Blocks.{from, Plain, assign, Test, test, Form, while, do-while, for, Last, no-step, step-by, View, is-plain, is-pick, is-else, is-end, is-loop, viewAt}
+use Rattle.rules.specs.Blocks.{exprOf, kindOf, RowKind, from, Plain, assign, Test, test, Form, while, do-while, for, Last, no-step, step-by, View, is-plain, is-pick, is-else, is-end, is-loop, viewAt}
 use Rattle.rules.specs.declared.Prices.{Prices}
 use Rattle.rules.specs.Run.{State, charge, write, exec}
 use Rattle.rules.specs.RowMachine.{Tally, tallyOf, begin, Phase, fresh, testing, Place, Next, more, over, to, outcome, paid, picked, tests, onEnd, onRow}
-use Rattle.rules.specs.Scripts.{storeOf, OperandBelow, RowLimits, RowBelow}
+use Rattle.rules.specs.Scripts.{storeOf, ExprBelow, RowLimits, RowBelow}
+use Rattle.rules.specs.Expressions.{Expr}
+use Rattle.rules.specs.Values.{number}
+use Rattle.rules.specs.Written.{WrittenOperand, Written}
 use Rattle.actions.specs.declared.Status.{Status}
 use Rattle.actions.specs.declared.Status.the-variants.{Going, Over}
 use Rattle.actions.specs.declared.Machine.{Machine}
@@ -64,7 +67,7 @@ plainTo π i p j b s c = outcome (exec π i p s) c (λ u. to j (phaseOf b) u c)
 
 -- the same of a known result z for v, at the price p
 abbrev pub putTo : ℕ → ℕ → ℕ → ℤ → ℕ → Bool → State → Tally → Next
-putTo p i v z j b s c = outcome (charge p i [] s (λ t. write i v z t)) c (λ u. to j (phaseOf b) u c)
+putTo p i v z j b s c = outcome (charge p i [] s (λ t. write i v (number z) t)) c (λ u. to j (phaseOf b) u c)
 
 -- a pick at row i: byte 0 to row j
 abbrev pub pickTo : Prices → ℕ → ℕ → State → Tally → Next
@@ -80,7 +83,7 @@ andTests π h e t (more p) = testedBy π (p .phase) h e t p
 andTests π h e t (over a i s c) = over a i s c
 
 -- a for's head at row i, whose `end` is row e: its start and its first test, or the test alone
-abbrev pub forTo : Prices → ℕ → ℕ → ℕ → Operand → Comparison → Operand → Bool → State → Tally → Next
+abbrev pub forTo : Prices → ℕ → ℕ → ℕ → Expr → Comparison → Expr → Bool → State → Tally → Next
 forTo π i e v y d x true s c = tests π i e (test v d x) s c
 forTo π i e v y d x false s c = andTests π i e (test v d x) (plainTo π i (assign v (from y)) i true s (begin i c))
 
@@ -98,7 +101,7 @@ stepped π (step-by p) fresh h e t n = andTests π h e t n
 stepped π (step-by p) testing h e t n = n
 
 -- the `end` at row e of the block that row h begins, and row i: one step of `rules`' machine, or two where a for's test follows its start or step
-module _ (π : Prices) (rows : List Kind) (shut opener : ℕ → ℕ) where
+module _ (π : Prices) (rows : List RowKind) (shut opener : ℕ → ℕ) where
   abbrev pub endTo : View → ℕ → ℕ → Phase → State → Tally → Next
   endTo (is-plain p) h e ph s c = onEnd π rows shut opener (is-plain p) h e ph s c
   endTo is-pick h e ph s c = onEnd π rows shut opener is-pick h e ph s c
@@ -141,21 +144,23 @@ pub record Begun (h : ℕ) (counts counts′ : List (List ℕ)) : Type 0 where
   pub room : Room counts′
 
 -- the loop at row h tests v against x
-pub record Testable (h e v : ℕ) (x : Operand) (store : List ℤ) (counts : List (List ℕ)) : Type 0 where
+pub record Testable (text : List ℕ) (h e v : ℕ) (x : Operand) (store : List ℤ) (counts : List (List ℕ)) : Type 0 where
   pub rows : (h < 256) × (e < 256)
   pub tested : v < length store
-  pub limit : OperandBelow (length store) x
+  pub written : WrittenOperand text x
+  pub limit : ExprBelow (length store) (exprOf text x)
   pub room : Room counts
 
 -- row i, of kind k, may be done; row e is its partner
-pub record Doable (e i : ℕ) (k : Kind) (store : List ℤ) (counts : List (List ℕ)) : Type 0 where
+pub record Doable (text : List ℕ) (e i : ℕ) (k : Kind) (store : List ℤ) (counts : List (List ℕ)) : Type 0 where
   pub rows : (i < 256) × (e < 256)
-  pub limits : RowLimits k
-  pub below : RowBelow (length store) k
+  pub written : Written text k
+  pub limits : RowLimits (kindOf text k)
+  pub below : RowBelow (length store) (kindOf text k)
   pub room : Room counts
 
 -- in the rows and tables row i has the partners e and h, row h of view w
-pub record Fitting (rows : List Kind) (shut opener : ℕ → ℕ) (i e h : ℕ) (w : View) : Type 0 where
+pub record Fitting (rows : List RowKind) (shut opener : ℕ → ℕ) (i e h : ℕ) (w : View) : Type 0 where
   pub shuts : shut i ≡ e
   pub opens : opener i ≡ h
   pub head : viewAt rows h ≡ w

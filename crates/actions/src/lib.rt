@@ -14,10 +14,11 @@ ghost use mathlib.Core.List.{List};
 ghost use Prim.Native.Nat.{ℕ, _+_, _≤_, _<_, _^_, max};
 ghost use lib.ListN.{length};
 ghost use lib.IntN.{ℤ};
-ghost use Rattle.rules.specs.Blocks.{from, changed, assign, cue, test};
-ghost use Rattle.rules.specs.Run.{holds};
+ghost use Rattle.rules.specs.Values.{compares};
+ghost use Rattle.rules.specs.Blocks.{from, changed, assign, cue, test, exprOf};
+ghost use Rattle.rules.specs.Written.{WrittenOperand};
 ghost use Rattle.rules.specs.RowMachine.{Tally, tallyOf, turn, tests};
-ghost use Rattle.rules.specs.Scripts.{storeOf, OperandBelow, ChangeLimits};
+ghost use Rattle.rules.specs.Scripts.{storeOf, ExprBelow, ChangeLimits};
 ghost use Rattle.actions.specs.States.{waitsOf, stoppedAt, overAt, onAt, putTo, plainTo, pickTo, AfterByte, Acts, Steps, Testable, Begun, Room};
 
 // Going, or over: the ending and its row.
@@ -97,13 +98,12 @@ fn put(
     if left < price {
         return ended(m, left, Ending::Spent, at);
     }
-    if values::within_limits(z) {
-        let i = v as usize;
-        store[i] = z as i32;
-        on(m, left - price, row, testing)
-    } else {
-        ended(m, left - price, Ending::Range, at)
+    if !values::within_limits(z) {
+        return ended(m, left - price, Ending::Range, at);
     }
+    let i = v as usize;
+    store[i] = z as i32;
+    on(m, left - price, row, testing)
 }
 
 // `set`, and a for's start.
@@ -115,13 +115,14 @@ pub fn set_row(
     x: Operand,
     row: usize,
     testing: bool,
+    text: &[u8],
     store: &mut [i32],
 ) -> Machine
-    requires { ⌜ (v < length (now store)) × OperandBelow (length (now store)) x ⌝ }
-    ensures { λ r. ⌜ ((c : Tally) → Acts m r (now (store .entry)) (now (store .exit)) c c (plainTo prices at (assign v (from x)) row testing)) ⌝ }
+    requires { ⌜ (v < length (now store)) × WrittenOperand (now text) x × ExprBelow (length (now store)) (exprOf (now text) x) ⌝ }
+    ensures { λ r. ⌜ ((c : Tally) → Acts m r (now (store .entry)) (now (store .exit)) c c (plainTo prices at (assign v (from (exprOf (now (text .entry)) x))) row testing)) ⌝ }
 {
-    let z = values::value_of(x, store);
-    put(m, prices.arithmetic, at, v, z as i64, row, testing, store)
+    let z = values::value_of(text, x, store);
+    put(m, prices.arithmetic, at, v, z, row, testing, store)
 }
 
 // An arithmetic row, and a for's step.
@@ -138,7 +139,7 @@ pub fn move_row(
     requires { ⌜ (v < length (now store)) × ChangeLimits change ⌝ }
     ensures { λ r. ⌜ ((c : Tally) → Acts m r (now (store .entry)) (now (store .exit)) c c (plainTo prices at (assign v (changed change)) row testing)) ⌝ }
 {
-    let x = values::value_of(Operand::Variable(v), store);
+    let x = values::stored(v, store);
     let z = values::changed(change, x);
     put(m, prices.arithmetic, at, v, z, row, testing, store)
 }
@@ -222,17 +223,16 @@ pub fn count_turn(h: usize, counts: &mut [[u64; 3]; 256])
     counts[h] = [turns, all, most];
 }
 
-// Does the test hold?
-fn passes(v: u8, comparison: Comparison, x: Operand, store: &[i32]) -> bool
-    requires { ⌜ (v < length (now store)) × OperandBelow (length (now store)) x ⌝ }
-    ensures { λ r. ⌜ r ≡ holds (test v comparison x) (storeOf (now (store .entry))) ⌝ }
+// Does the test hold of a limit?
+fn passes(v: u8, comparison: Comparison, limit: i64, store: &[i32]) -> bool
+    requires { ⌜ v < length (now store) ⌝ }
+    ensures { λ r. ⌜ r ≡ compares comparison (storeOf (now (store .entry)) v) limit ⌝ }
 {
-    let a = values::value_of(Operand::Variable(v), store);
-    let b = values::value_of(x, store);
-    values::holds(comparison, a, b)
+    let x = values::stored(v, store);
+    values::holds(comparison, x as i64, limit)
 }
 
-// The test of the loop at row h, whose `end` is row e.
+// The test of the loop at row h, whose `end` is row e. The limit comes first, so that few numbers are alive beside the evaluator.
 pub fn test_row(
     m: Machine,
     prices: Prices,
@@ -241,17 +241,24 @@ pub fn test_row(
     v: u8,
     comparison: Comparison,
     x: Operand,
+    text: &[u8],
     store: &[i32],
     counts: &mut [[u64; 3]; 256],
 ) -> Machine
-    requires { ⌜ Testable h e v x (now store) (now counts) ⌝ }
-    ensures { λ r. ⌜ Acts m r (now (store .entry)) (now (store .entry)) (tallyOf (now (counts .entry))) (tallyOf (now (counts .exit))) (tests prices h e (test v comparison x)) × (length (now (counts .exit)) ≡ 256) ⌝ }
+    requires { ⌜ Testable (now text) h e v x (now store) (now counts) ⌝ }
+    ensures { λ r. ⌜ Acts m r (now (store .entry)) (now (store .entry)) (tallyOf (now (counts .entry))) (tallyOf (now (counts .exit))) (tests prices h e (test v comparison (exprOf (now (text .entry)) x))) × (length (now (counts .exit)) ≡ 256) ⌝ }
 {
+    let limit = values::value_of(text, x, store);
     let price = prices.test;
+    if limit == values::PAST {
+        if price <= m.left {
+            return ended(m, m.left - price, Ending::Range, h);
+        }
+    }
     if m.left < price {
         return ended(m, m.left, Ending::Spent, h);
     }
-    if passes(v, comparison, x, store) {
+    if passes(v, comparison, limit, store) {
         count_turn(h, counts);
         on(m, m.left - price, h + 1, false)
     } else {

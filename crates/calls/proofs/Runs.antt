@@ -67,11 +67,11 @@ module _ (prices : List ℕ) (script : Script) (count : ℕ) (s : Figures) (ls :
       replied-run q = replied Passed y ∙ ap (λ (a : Answer). ran a (countsAt (a .entries) (loopRows 0 (script .rows)))) (same-run q)
 
 -- the run of the rows is the answer
-pub ran-all : (prices : List ℕ) → Priced prices → (π : Prices) → π ≡ pricesOf prices → (ranges : List (List ℤ)) (vars : ℕ) (rows : List Row) (count : ℕ) (s : Figures) (ls : List (List ℕ)) → Found prices (scriptOf ranges vars rows count) count s ls
-    → (store : List ℤ) (picks : List ℕ) (allowance : ℕ) → s .number ≡ 0 → (v : Verdict) → v ≡ storeVerdict 0 (scriptOf ranges vars rows count .ranges) store → v ≡ Passed → Legal (scriptOf ranges vars rows count)
+pub ran-all : (prices : List ℕ) → Priced prices → (π : Prices) → π ≡ pricesOf prices → (text : List ℕ) (ranges : List (List ℤ)) (vars : ℕ) (rows : List Row) (count : ℕ) (s : Figures) (ls : List (List ℕ)) → Found prices (scriptOf text ranges vars rows count) count s ls
+    → (store : List ℤ) (picks : List ℕ) (allowance : ℕ) → s .number ≡ 0 → (v : Verdict) → v ≡ storeVerdict 0 (scriptOf text ranges vars rows count .ranges) store → v ≡ Passed → Legal (scriptOf text ranges vars rows count)
     → (least : ℕ) → least ≡ min allowance (s .ticks) → (new : List ℤ) (o : Outcome)
-    → Ran (ranRows π rows count store picks least) store new o → Ran (runReply prices (judgedScript prices (scriptOf ranges vars rows count)) store picks allowance) store new o
+    → Ran (ranRows text π rows count store picks least) store new o → Ran (runReply prices (judgedScript prices (scriptOf text ranges vars rows count)) store picks allowance) store new o
 unfolding ranScript runScript scriptOf
-ran-all prices q π f ranges vars rows count s ls found store picks allowance z v asked y legal least e new o =
+ran-all prices q π f text ranges vars rows count s ls found store picks allowance z v asked y legal least e new o =
     subst (λ r. Ran r store new o)
-    ((λ j. ranRows (f j) rows count store picks (e j)) ∙ sym (replied-run prices (scriptOf ranges vars rows count) count s ls found store picks allowance z v asked y legal q))
+    ((λ j. ranRows text (f j) rows count store picks (e j)) ∙ sym (replied-run prices (scriptOf text ranges vars rows count) count s ls found store picks allowance z v asked y legal q))

@@ -7,16 +7,16 @@ use lib.IntN.{ℤ}
 use lib.ListN.{length, getD, take}
 use Rattle.rules.specs.declared.Row.{Row}
 use Rattle.rules.specs.declared.Prices.{Prices}
-use Rattle.rules.specs.declared.Kind.{Kind}
-use Rattle.rules.specs.declared.Kind.the-variants.{End}
-use Rattle.rules.specs.Blocks.{kindsOf}
+use Rattle.rules.specs.Blocks.{RowKind, End, kindsOf}
+use Rattle.rules.specs.Written.{Written}
 use Rattle.rules.specs.Bounds.{Fine, FinePrices}
 use Rattle.rules.specs.Calls.{pricesOf, Priced}
-use Rattle.rules.specs.Scripts.{Script, pairRanges, BlankFrom, scriptOf, Legal}
+use Rattle.rules.specs.Scripts.{Script, pairRanges, BlankFrom, scriptOf, RowLimits, RowBelow, Legal}
 use Rattle.rules.proofs.Laws.{kind-of}
 use Rattle.rules.proofs.FromBytes.{prices-pass, fine-prices}
 use Rattle.table.specs.Code.{rowsOf, kindAt, Packed}
 use Rattle.table.proofs.Limits.{row-fine}
+use Rattle.table.proofs.Whole.{packed-kinds, packed-at}
 use Rattle.survey.specs.declared.Figures.{Figures}
 use Rattle.survey.specs.Whole.{SurveyOf}
 use Rattle.survey.proofs.Legals.{all-get}
@@ -29,7 +29,7 @@ four prices q = prices-pass 4 0 prices q .0
 pub fine : (prices : List ℕ) → Priced prices → {π : Prices} → π ≡ pricesOf prices → FinePrices π
 fine prices q e = subst FinePrices (sym e) (fine-prices prices q)
 
-module _ (ranges : List (List ℤ)) (vars : ℕ) (rows : List Row) (count : ℕ) (g : Given ranges vars rows count) where
+module _ (text : List ℕ) (ranges : List (List ℤ)) (vars : ℕ) (rows : List Row) (count : ℕ) (g : Given text ranges vars rows count) where
   pub few-rows : count ≤ 256
   few-rows = omega (arith, g .legal .sizes .1, g .long)
 
@@ -37,21 +37,24 @@ module _ (ranges : List (List ℤ)) (vars : ℕ) (rows : List Row) (count : ℕ)
   pub fine-rows : (i : ℕ) → i < count → Fine (kindAt rows i)
   unfolding scriptOf
   fine-rows i h =
-      let ks : List Kind = take count (kindsOf rows) in
-      let k : i < length (take count (kindsOf rows)) = omega (arith, g .long) in
-      subst Fine (kind-of count rows i h) (row-fine _ (g .legal .sizes .0) (getD ks i End) (all-get ks (g .legal .numbers .1) i k End) (all-get ks (g .legal .variables) i k End))
+      let ks : List RowKind = take count (kindsOf text rows) in
+      let k : i < length (take count (kindsOf text rows)) = omega (arith, g .long) in
+      let e = kind-of text count rows i h in
+      row-fine text (g .short) _ (g .legal .sizes .0) (kindAt rows i) (subst RowLimits e (all-get ks (g .legal .numbers .1) i k End)) (subst (RowBelow _) e (all-get ks (g .legal .variables) i k End)) (g .written i h)
 
   module _ (t : List (List ℕ)) (p : Packed count rows t) where
-    same : scriptOf ranges vars (rowsOf t) count ≡ scriptOf ranges vars rows count
+    same : scriptOf text ranges vars (rowsOf t) count ≡ scriptOf text ranges vars rows count
     unfolding scriptOf
-    same = ap {B = Script} (λ ks. record { ranges = take vars (pairRanges ranges); rows = ks }) p
+    same = ap {B = Script} (λ ks. record { ranges = take vars (pairRanges ranges); rows = ks }) (packed-kinds text count rows t p)
 
-    pub survey-asks : {π : Prices} {L : Type 0} → length t ≡ 256 → FinePrices π → L → Legal (scriptOf ranges vars (rowsOf t) count) × (count ≤ 256) × (count ≤ length t) × BlankFrom vars ranges × FinePrices π × L
-    survey-asks l f n = (subst Legal (sym same) (g .legal), few-rows, omega (arith, few-rows), g .blank, f, n)
+    pub survey-asks : {π : Prices} {L : Type 0} → length t ≡ 256 → FinePrices π → L
+        → Legal (scriptOf text ranges vars (rowsOf t) count) × (count ≤ 256) × (count ≤ length t) × BlankFrom vars ranges × FinePrices π × L × (length text ≤ 16_384) × ((i : ℕ) → i < count → Written text (kindAt (rowsOf t) i))
+    survey-asks l f n =
+        (subst Legal (sym same) (g .legal), few-rows, omega (arith, few-rows), g .blank, f, n, g .short, λ i h. subst (Written text) (sym (packed-at count rows t p i h)) (g .written i h))
 
-    pub survey-same : {π : Prices} {s : Figures} {lines : List (List ℕ)} → SurveyOf π (scriptOf ranges vars (rowsOf t) count) count s lines → SurveyOf π (scriptOf ranges vars rows count) count s lines
+    pub survey-same : {π : Prices} {s : Figures} {lines : List (List ℕ)} → SurveyOf π (scriptOf text ranges vars (rowsOf t) count) count s lines → SurveyOf π (scriptOf text ranges vars rows count) count s lines
     survey-same {π} {s} {lines} f = subst (λ x. SurveyOf π x count s lines) same f
 
   -- what the analysis found, under the lent prices
-  pub found-by : (prices : List ℕ) {π : Prices} → π ≡ pricesOf prices → (s : Figures) (lines : List (List ℕ)) → SurveyOf π (scriptOf ranges vars rows count) count s lines → Found prices (scriptOf ranges vars rows count) count s lines
-  found-by prices e s lines f = record { long = g .long; figures = subst (λ ρ. SurveyOf ρ (scriptOf ranges vars rows count) count s lines) e f }
+  pub found-by : (prices : List ℕ) {π : Prices} → π ≡ pricesOf prices → (s : Figures) (lines : List (List ℕ)) → SurveyOf π (scriptOf text ranges vars rows count) count s lines → Found prices (scriptOf text ranges vars rows count) count s lines
+  found-by prices e s lines f = record { long = g .long; figures = subst (λ ρ. SurveyOf ρ (scriptOf text ranges vars rows count) count s lines) e f }

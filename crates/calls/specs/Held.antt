@@ -1,20 +1,24 @@
--- A script that has been read, as code holds it: the ranges in an array of pairs, the rows in another.
+-- A script that has been read, as code holds it: the ranges in an array of pairs, the rows in another, beside the file's text.
 use mathlib.Core.Path.{_≡_}
 use mathlib.Core.List.{List}
-use Prim.Native.Nat.{ℕ, _≤_}
+use Prim.Native.Nat.{ℕ, _≤_, _<_}
 use lib.IntN.{ℤ}
 use lib.ListN.{length}
 use Rattle.rules.specs.declared.Row.{Row}
+use Rattle.rules.specs.Written.{Written}
 use Rattle.rules.specs.Questions.{verdict}
 use Rattle.rules.specs.Scripts.{Script, BlankFrom, scriptOf, envOf, treeOf, Legal}
 use Rattle.rules.specs.Calls.{Judged, judgedBy, pricesOf}
+use Rattle.table.specs.Code.{kindAt}
 use Rattle.survey.specs.declared.Figures.{Figures}
 use Rattle.survey.specs.Whole.{SurveyOf}
 
--- it has passed the questions 4 to 7, and has `count` rows
-pub record Given (ranges : List (List ℤ)) (vars : ℕ) (rows : List Row) (count : ℕ) : Type 0 where
-  pub legal : Legal (scriptOf ranges vars rows count)
-  pub long : length (scriptOf ranges vars rows count .rows) ≡ count
+-- it has passed the questions 2 to 7, has `count` rows, and its expressions stand in the text
+pub record Given (text : List ℕ) (ranges : List (List ℤ)) (vars : ℕ) (rows : List Row) (count : ℕ) : Type 0 where
+  pub legal : Legal (scriptOf text ranges vars rows count)
+  pub long : length (scriptOf text ranges vars rows count .rows) ≡ count
+  pub short : length text ≤ 16_384
+  pub written : (i : ℕ) → i < count → Written text (kindAt rows i)
   pub few : vars ≤ 16
   pub blank : BlankFrom vars ranges
 

@@ -1,7 +1,7 @@
 -- What a run call answers, as code holds it.
 use mathlib.Core.Path.{_≡_}
 use mathlib.Core.List.{List}
-use Prim.Native.Nat.{ℕ, _≤_}
+use Prim.Native.Nat.{ℕ, _≤_, _<_}
 use lib.IntN.{ℤ}
 use lib.ListN.{length, take}
 use Rattle.rules.specs.declared.Row.{Row}
@@ -10,6 +10,8 @@ use Rattle.rules.specs.declared.Ending.the-variants.{Ended}
 use Rattle.rules.specs.declared.LoopCount.{LoopCount}
 use Rattle.rules.specs.declared.Verdict.the-variants.{Passed, Refused}
 use Rattle.rules.specs.Blocks.{kindsOf}
+use Rattle.rules.specs.Written.{Written}
+use Rattle.table.specs.Code.{kindAt}
 use Rattle.rules.specs.Answers.{Answer}
 use Rattle.rules.specs.Calls.{RunReply, ran, refuses, loopRows, countsAt, storeAfter}
 use Rattle.loops.specs.Loops.{NoneFrom}
@@ -48,14 +50,15 @@ pub record Ran (reply : RunReply) (old new : List ℤ) (o : Outcome) : Type 0 wh
   pub store : new ≡ storeAfter reply old
 
 -- the rows of an accepted script, a price for each test, and an allowance that is no more than its ticks
-pub record Runs (π : Prices) (rows : List Row) (count : ℕ) (store : List ℤ) (allowance : ℕ) : Type 0 where
+pub record Runs (text : List ℕ) (π : Prices) (rows : List Row) (count : ℕ) (store : List ℤ) (allowance : ℕ) : Type 0 where
   pub size : count ≤ 256
   pub price : 1 ≤ π .test
-  pub runs : Runnable (length store) (take count (kindsOf rows))
+  pub runs : Runnable (length store) (take count (kindsOf text rows))
+  pub written : (i : ℕ) → i < count → Written text (kindAt rows i)
   pub ticks : allowance ≤ 1_000_000_000_000
 
 -- the run of rows, with its counts
-abbrev pub ranRows : Prices → List Row → ℕ → List ℤ → List ℕ → ℕ → RunReply
-ranRows π rows count store picks allowance =
-    let a : Answer = runOf π (take count (kindsOf rows)) store picks allowance in
-    ran a (countsAt (a .entries) (loopRows 0 (take count (kindsOf rows))))
+abbrev pub ranRows : List ℕ → Prices → List Row → ℕ → List ℤ → List ℕ → ℕ → RunReply
+ranRows text π rows count store picks allowance =
+    let a : Answer = runOf π (take count (kindsOf text rows)) store picks allowance in
+    ran a (countsAt (a .entries) (loopRows 0 (take count (kindsOf text rows))))

@@ -25,6 +25,7 @@ ghost use Rattle.calls.specs.Told.{ToldNo, Ran, Runs, ranRows};
 
 // The report call: the questions 8 to 14, and the report in the buffer.
 pub fn report_script(
+    text: &[u8],
     rows: [Row; 256],
     count: usize,
     ranges: [[i32; 2]; 16],
@@ -32,8 +33,8 @@ pub fn report_script(
     prices: &[u32],
     buffer: &mut [u8],
 ) -> Reply
-    requires { ⌜ Given ranges vars rows count × Priced (now prices) ⌝ }
-    ensures { λ r. ⌜ (r ≡ replyOf (now (prices .entry)) (judgedScript (now (prices .entry)) (scriptOf ranges vars rows count)) (length (now (buffer .entry)))) × (now (buffer .exit) ≡ bufferOf (now (prices .entry)) (judgedScript (now (prices .entry)) (scriptOf ranges vars rows count)) (now (buffer .entry))) ⌝ }
+    requires { ⌜ Given (now text) ranges vars rows count × Priced (now prices) ⌝ }
+    ensures { λ r. ⌜ (r ≡ replyOf (now (prices .entry)) (judgedScript (now (prices .entry)) (scriptOf (now (text .entry)) ranges vars rows count)) (length (now (buffer .entry)))) × (now (buffer .exit) ≡ bufferOf (now (prices .entry)) (judgedScript (now (prices .entry)) (scriptOf (now (text .entry)) ranges vars rows count)) (now (buffer .entry))) ⌝ }
 {
     let none: [u64; 7] = [0; 7];
     let mut lines = [none; 16];
@@ -41,7 +42,7 @@ pub fn report_script(
     let mut table = [zero; 256];
     put_rows(&mut table, rows, count);
     let by_kind = prices_of(prices);
-    let figures = survey::survey(&table, count, ranges, vars, by_kind, &mut lines);
+    let figures = survey::survey(text, &table, count, ranges, vars, by_kind, &mut lines);
     if figures.number != 0 {
         return Reply::Refused(figures.number, figures.place);
     }
@@ -108,6 +109,7 @@ pub fn refusal(number: u32, place: usize) -> Outcome
 
 // The run of an accepted script's rows from a store inside its ranges.
 fn run_accepted(
+    text: &[u8],
     rows: [Row; 256],
     count: usize,
     prices: Prices,
@@ -115,12 +117,22 @@ fn run_accepted(
     picks: &[u8],
     allowance: u64,
 ) -> Outcome
-    requires { ⌜ Runs prices rows count (now store) allowance ⌝ }
-    ensures { λ r. ⌜ Ran (ranRows prices rows count (now (store .entry)) (now (picks .entry)) allowance) (now (store .entry)) (now (store .exit)) r ⌝ }
+    requires { ⌜ Runs (now text) prices rows count (now store) allowance ⌝ }
+    ensures { λ r. ⌜ Ran (ranRows (now (text .entry)) prices rows count (now (store .entry)) (now (picks .entry)) allowance) (now (store .entry)) (now (store .exit)) r ⌝ }
 {
+    let heads = loops::heads_of(rows, count);
     let mut table: [[u64; 3]; 256] = [[0; 3]; 256];
-    let ran = runner::run_rows(rows, count, prices, store, picks, allowance, &mut table);
-    let loops = loops::loops_of(rows, count, &table);
+    let ran = runner::run_rows(
+        text,
+        rows,
+        count,
+        prices,
+        store,
+        picks,
+        allowance,
+        &mut table,
+    );
+    let loops = loops::loops_of(heads, &table);
     let counts = loops.counts;
     let ending = ran.ending;
     let verdict = Verdict::Passed;
@@ -143,25 +155,27 @@ fn smaller(x: u64, y: u64) -> u64
 
 // The questions 8 to 13 of a script, and its ticks. The table of its rows and the report's lines are gone when it is done.
 fn ticks_of(
+    text: &[u8],
     rows: [Row; 256],
     count: usize,
     ranges: [[i32; 2]; 16],
     vars: usize,
     prices: Prices,
 ) -> Figures
-    requires { ⌜ Given ranges vars rows count × FinePrices prices ⌝ }
-    ensures { λ r. ⌜ ((lines : List (List ℕ)) × SurveyOf prices (scriptOf ranges vars rows count) count r lines) ⌝ }
+    requires { ⌜ Given (now text) ranges vars rows count × FinePrices prices ⌝ }
+    ensures { λ r. ⌜ ((lines : List (List ℕ)) × SurveyOf prices (scriptOf (now (text .entry)) ranges vars rows count) count r lines) ⌝ }
 {
     let none: [u64; 7] = [0; 7];
     let mut lines = [none; 16];
     let zero: [u32; 9] = [0; 9];
     let mut table = [zero; 256];
     put_rows(&mut table, rows, count);
-    survey::survey(&table, count, ranges, vars, prices, &mut lines)
+    survey::survey(text, &table, count, ranges, vars, prices, &mut lines)
 }
 
 // The run call: the questions 8 to 13 and 15, and the run. A refusal leaves the store as it was.
 pub fn run_script(
+    text: &[u8],
     rows: [Row; 256],
     count: usize,
     ranges: [[i32; 2]; 16],
@@ -171,18 +185,19 @@ pub fn run_script(
     picks: &[u8],
     allowance: u64,
 ) -> Outcome
-    requires { ⌜ Given ranges vars rows count × Priced (now prices) ⌝ }
-    ensures run { λ r. ⌜ Ran (runReply (now (prices .entry)) (judgedScript (now (prices .entry)) (scriptOf ranges vars rows count)) (now (store .entry)) (now (picks .entry)) allowance) (now (store .entry)) (now (store .exit)) r ⌝ }
-    ensures demand3 { λ r. ⌜ Demand3Of (now (prices .entry)) (judgedScript (now (prices .entry)) (scriptOf ranges vars rows count)) (now (store .entry)) (now (picks .entry)) allowance (r .ending) (r .ticks) (take (r .loops) (r .counts)) ⌝ }
+    requires { ⌜ Given (now text) ranges vars rows count × Priced (now prices) ⌝ }
+    ensures run { λ r. ⌜ Ran (runReply (now (prices .entry)) (judgedScript (now (prices .entry)) (scriptOf (now (text .entry)) ranges vars rows count)) (now (store .entry)) (now (picks .entry)) allowance) (now (store .entry)) (now (store .exit)) r ⌝ }
+    ensures demand3 { λ r. ⌜ Demand3Of (now (prices .entry)) (judgedScript (now (prices .entry)) (scriptOf (now (text .entry)) ranges vars rows count)) (now (store .entry)) (now (picks .entry)) allowance (r .ending) (r .ticks) (take (r .loops) (r .counts)) ⌝ }
 {
     let by_kind = prices_of(prices);
-    let figures = ticks_of(rows, count, ranges, vars, by_kind);
+    let figures = ticks_of(text, rows, count, ranges, vars, by_kind);
     if figures.number != 0 {
         return refusal(figures.number, figures.place);
     }
     let asked = ask_store(vars, &ranges, &store[..]);
     match asked {
         Verdict::Passed => run_accepted(
+            text,
             rows,
             count,
             by_kind,

@@ -14,7 +14,7 @@ use Rattle.rules.specs.Scripts.{Script, scriptOf, Legal}
 use Rattle.rules.specs.File
 use Rattle.rules.specs.File.{Reading, fileScript}
 use Rattle.rules.specs.Calls.{Judged, refuses, pricesOf, pricesVerdict, Priced, judgedPriced, scratchSize, judgedFile, judged, replyOf, bufferOf, RunReply, ran, runReply, storeAfter}
-use Rattle.rules.proofs.Reading.{read-legal}
+use Rattle.rules.proofs.Reading.{read-legal, read-short}
 use Rattle.rules.proofs.FromBytes.{demand3-call}
 use Rattle.reader.specs.declared.Loaded.{Loaded}
 use Rattle.reader.specs.Read.{Answer, answerOf, loadedAnswer, LoadedAs}
@@ -52,16 +52,16 @@ module _ (prices : List ℕ) (scratch : ℕ) where
         by true e = e
         by false e = absurd (let z : _≡_ {A = ℕ} 0 1 = cc in omega arith)
 
-module _ (prices : List ℕ) (file : List ℕ) (l : Loaded) (ranges : List (List ℤ)) (e : LoadedAs (fileScript file) l ranges) where
+module _ (prices : List ℕ) (file : List ℕ) (l : Loaded) (ranges : List (List ℤ)) (e : LoadedAs file (fileScript file) l ranges) where
   abbrev script : Script
-  script = scriptOf ranges (l .vars) (l .rows) (l .count)
+  script = scriptOf file ranges (l .vars) (l .rows) (l .count)
 
   -- the file is refused
   pub file-refused : {q p : ℕ} → l .verdict ≡ Refused q p → judgedFile (pricesOf prices) (fileScript file) ≡ refuses q p
   unfolding judgedFile answerOf
   file-refused {q} {p} z = go (fileScript file) (e .answer)
     where
-      go : (r : Reading Script) → loadedAnswer l ranges ≡ answerOf r → judgedFile (pricesOf prices) r ≡ refuses q p
+      go : (r : Reading Script) → loadedAnswer file l ranges ≡ answerOf r → judgedFile (pricesOf prices) r ≡ refuses q p
       go (File.read s rest) a =
           let v : l .verdict ≡ Passed = ap (λ (x : Answer). x .verdict) a in
           absurd (let y : _≡_ {A = ℕ} 0 1 = cc in omega arith)
@@ -74,7 +74,7 @@ module _ (prices : List ℕ) (file : List ℕ) (l : Loaded) (ranges : List (List
     unfolding answerOf
     loaded = go (fileScript file) refl (e .answer)
       where
-        go : (r : Reading Script) → fileScript file ≡ r → loadedAnswer l ranges ≡ answerOf r
+        go : (r : Reading Script) → fileScript file ≡ r → loadedAnswer file l ranges ≡ answerOf r
             → (rest : List (List ℕ)) × (fileScript file ≡ File.read script rest) × (l .vars ≡ length (script .ranges)) × (l .count ≡ length (script .rows))
         go (File.read s rest) f a =
             let g : script ≡ s = ap (λ (x : Answer). x .script) a in
@@ -88,10 +88,10 @@ module _ (prices : List ℕ) (file : List ℕ) (l : Loaded) (ranges : List (List
     unfolding judgedFile
     file-read = rw (loaded .1)
 
-    pub file-given : Given ranges (l .vars) (l .rows) (l .count)
+    pub file-given : Given file ranges (l .vars) (l .rows) (l .count)
     file-given =
         let legal : Legal script = read-legal file script (loaded .0) (loaded .1) in
-        record { legal = legal; long = sym (loaded .3); few = omega (arith, legal .sizes .0, loaded .2); blank = e .blank z }
+        record { legal = legal; long = sym (loaded .3); few = omega (arith, legal .sizes .0, loaded .2); blank = e .blank z; short = read-short file script (loaded .0) (loaded .1); written = e .written }
 
 -- a report that is refused, one that is judged as another is, and one of a file that is judged as its script is
 module _ {prices : List ℕ} {j : Judged} {old : List ℕ} where

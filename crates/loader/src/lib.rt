@@ -38,7 +38,7 @@ fn report_file(file: &[u8], prices: &[u32], buffer: &mut [u8]) -> Reply
     match verdict {
         Verdict::Passed => {
             let rows = l.rows;
-            calls::report_script(rows, l.count, ranges, l.vars, prices, buffer)
+            calls::report_script(file, rows, l.count, ranges, l.vars, prices, buffer)
         }
         Verdict::Refused(q, p) => Reply::Refused(q, p),
     }
@@ -70,6 +70,7 @@ fn run_file(file: &[u8], prices: &[u32], store: &mut [i32], picks: &[u8], allowa
         Verdict::Passed => {
             let rows = l.rows;
             calls::run_script(
+                file,
                 rows,
                 l.count,
                 ranges,

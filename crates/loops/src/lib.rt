@@ -6,12 +6,13 @@ use rules::MOST;
 use rules::Row;
 ghost use mathlib.Core.Path.{_≡_};
 ghost use mathlib.Core.Bool.{true};
-ghost use Prim.Native.Nat.{_<_};
+ghost use mathlib.Core.List.{List};
+ghost use Prim.Native.Nat.{ℕ, _<_};
 ghost use lib.ListN.{take};
-ghost use Rattle.rules.specs.Blocks.{viewOf, kindsOf};
+ghost use Rattle.rules.specs.Blocks.{viewOf, kindOf, kindsOf};
 ghost use Rattle.rules.specs.RowMachine.{tallyOf};
 ghost use Rattle.rules.specs.Calls.{isLoop};
-ghost use Rattle.loops.specs.Loops.{withRow, Listable, Listed};
+ghost use Rattle.loops.specs.Loops.{withHead, Listable, Placed, Headed, Counted};
 
 // What stands past the last loop.
 pub const NO_COUNT: LoopCount = LoopCount {
@@ -19,6 +20,12 @@ pub const NO_COUNT: LoopCount = LoopCount {
     all: 0,
     most: 0,
 };
+
+// The head rows of at most 16 loops, in row order.
+pub struct Heads {
+    pub count: usize,
+    pub rows: [u8; 16],
+}
 
 // At most 16 loops, with their counts in row order.
 pub struct Loops {
@@ -28,7 +35,7 @@ pub struct Loops {
 
 // Does a row begin a loop?
 fn is_loop(kind: Kind) -> bool
-    ensures { λ r. ⌜ r ≡ isLoop (viewOf kind) ⌝ }
+    ensures { λ r. ⌜ ((text : List ℕ) → r ≡ isLoop (viewOf (kindOf text kind))) ⌝ }
 {
     match kind {
         Kind::End => false,
@@ -43,43 +50,60 @@ fn is_loop(kind: Kind) -> bool
     }
 }
 
-// One row more: a loop's head is listed with its counts.
-fn with_row(loops: Loops, kind: Kind, row: usize, all: u64, most: u64) -> Loops
-    requires { ⌜ (isLoop (viewOf kind) ≡ true → loops .count < 16) ⌝ }
-    ensures { λ r. ⌜ r ≡ withRow (isLoop (viewOf kind)) row all most loops ⌝ }
+// One row more: a loop's head is listed.
+fn with_head(heads: Heads, kind: Kind, row: u8) -> Heads
+    requires { ⌜ ((text : List ℕ) → isLoop (viewOf (kindOf text kind)) ≡ true → heads .count < 16) ⌝ }
+    ensures { λ r. ⌜ ((text : List ℕ) → r ≡ withHead (isLoop (viewOf (kindOf text kind))) row heads) ⌝ }
 {
     if is_loop(kind) {
-        let at = loops.count;
-        let mut counts = loops.counts;
-        counts[at] = LoopCount {
-            row: row,
-            all: all,
-            most: most,
-        };
-        return Loops {
+        let at = heads.count;
+        let mut rows = heads.rows;
+        rows[at] = row;
+        return Heads {
             count: at + 1,
-            counts: counts,
+            rows: rows,
         };
     }
-    loops
+    heads
 }
 
-// The loops of the first `count` rows, with the counts by row.
-pub fn loops_of(rows: [Row; 256], count: usize, counts: &[[u64; 3]; 256]) -> Loops
+// The loops of the first `count` rows.
+pub fn heads_of(rows: [Row; 256], count: usize) -> Heads
     requires { ⌜ Listable rows count ⌝ }
-    ensures { λ r. ⌜ Listed (take count (kindsOf rows)) (tallyOf (now (counts .entry))) r ⌝ }
+    ensures { λ r. ⌜ ((text : List ℕ) → Headed (take count (kindsOf text rows)) r) ⌝ }
 {
-    let none = [NO_COUNT; 16];
-    let mut loops = Loops {
+    let mut heads = Heads {
         count: 0,
-        counts: none,
+        rows: [0; 16],
     };
     let mut j = 0;
     while j < count {
         let row = rows[j];
         let kind = row.kind;
-        loops = with_row(loops, kind, j, counts[j][ALL], counts[j][MOST]);
+        heads = with_head(heads, kind, j as u8);
         j += 1;
     }
-    loops
+    heads
+}
+
+// These loops, with the counts by row.
+pub fn loops_of(heads: Heads, counts: &[[u64; 3]; 256]) -> Loops
+    requires { ⌜ Placed heads ⌝ }
+    ensures { λ r. ⌜ Counted (take (heads .count) (heads .rows)) (tallyOf (now (counts .entry))) r ⌝ }
+{
+    let mut listed = [NO_COUNT; 16];
+    let mut k = 0;
+    while k < heads.count {
+        let row = heads.rows[k] as usize;
+        listed[k] = LoopCount {
+            row: row,
+            all: counts[row][ALL],
+            most: counts[row][MOST],
+        };
+        k += 1;
+    }
+    Loops {
+        count: k,
+        counts: listed,
+    }
 }

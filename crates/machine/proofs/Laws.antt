@@ -7,16 +7,16 @@ use native.Mathlib.Numerals.{add-one}
 use native.Mathlib.Omega.{arith}
 use lib.ListN.{length, getD, set}
 use lib.IntN.{ℤ}
-use Rattle.rules.specs.declared.Kind.{Kind}
 use Rattle.rules.specs.declared.Kind.the-variants.{While, Do, For}
 use Rattle.rules.specs.declared.Operand.{Operand}
 use Rattle.rules.specs.declared.Comparison.{Comparison}
 use Rattle.rules.specs.declared.Change.{Change}
-use Rattle.rules.specs.Blocks.{from, assign, Plain, Test, test, while, do-while, for, Last, View, is-plain, is-pick, is-else, is-end, is-loop, viewAt}
+use Rattle.rules.specs.Blocks.{RowKind, exprOf, kindOf, from, assign, Plain, Test, test, while, do-while, for, Last, View, is-plain, is-pick, is-else, is-end, is-loop, viewAt}
 use Rattle.rules.specs.Run.{State}
 use Rattle.rules.specs.declared.Prices.{Prices}
 use Rattle.rules.specs.RowMachine.{Tally, Next, begin, turn, fresh, to, tests, onRow}
-use Rattle.rules.specs.Scripts.{OperandBelow}
+use Rattle.rules.specs.Scripts.{ExprBelow}
+use Rattle.rules.specs.Expressions.{Expr}
 use Rattle.actions.specs.declared.Machine.{Machine}
 use Rattle.actions.specs.States.{phaseOf, stateOf, onAt, plainTo, pickTo, forTo, andTests, endTo, rowTo, Acts, Steps, Room, Testable, Doable, Fitting}
 
@@ -26,19 +26,22 @@ pub passed : (m : Machine) (store : List ℤ) (c c′ : Tally) (n : ℕ) (g : Ta
 passed m store c c′ n g e = record { same = λ picks. rw (e, add-one); left = omega arith; used = refl }
 
 -- the tests of the three loops
-module _ {e h : ℕ} {store : List ℤ} {counts : List (List ℕ)} where
-  pub tests-while : {v : ℕ} {d : Comparison} {x : Operand} → Doable e h (While v d x) store counts → Testable h e v x store counts
-  tests-while q = record { rows = q .rows; tested = q .below .0; limit = q .below .1; room = q .room }
+module _ {text : List ℕ} {e h : ℕ} {store : List ℤ} {counts : List (List ℕ)} where
+  pub tests-while : {v : ℕ} {d : Comparison} {x : Operand} → Doable text e h (While v d x) store counts → Testable text h e v x store counts
+  unfolding kindOf
+  tests-while q = record { rows = q .rows; tested = q .below .0; written = q .written; limit = q .below .1; room = q .room }
 
-  pub tests-do : {v : ℕ} {d : Comparison} {x : Operand} → Doable e h (Do v d x) store counts → Testable h e v x store counts
-  tests-do q = record { rows = q .rows; tested = q .below .0; limit = q .below .1; room = q .room }
+  pub tests-do : {v : ℕ} {d : Comparison} {x : Operand} → Doable text e h (Do v d x) store counts → Testable text h e v x store counts
+  unfolding kindOf
+  tests-do q = record { rows = q .rows; tested = q .below .0; written = q .written; limit = q .below .1; room = q .room }
 
-  pub tests-for : {v : ℕ} {d : Comparison} {x y : Operand} {k : Change} → Doable e h (For v y d x k) store counts → Testable h e v x store counts
-  tests-for q = record { rows = q .rows; tested = q .below .0; limit = q .below .2; room = q .room }
+  pub tests-for : {v : ℕ} {d : Comparison} {x y : Operand} {k : Change} → Doable text e h (For v y d x k) store counts → Testable text h e v x store counts
+  unfolding kindOf
+  tests-for q = record { rows = q .rows; tested = q .below .0; written = q .written .1; limit = q .below .2; room = q .room }
 
 -- the same with another store of the same length and other counts
-pub tests-later : {h e v : ℕ} {x : Operand} {store store′ : List ℤ} {counts counts′ : List (List ℕ)} → length store′ ≡ length store → Room counts′ → Testable h e v x store counts → Testable h e v x store′ counts′
-tests-later {x} e r q = record { rows = q .rows; tested = omega (arith, q .tested); limit = subst (λ n. OperandBelow n x) (sym e) (q .limit); room = r }
+pub tests-later : {text : List ℕ} {h e v : ℕ} {x : Operand} {store store′ : List ℤ} {counts counts′ : List (List ℕ)} → length store′ ≡ length store → Room counts′ → Testable text h e v x store counts → Testable text h e v x store′ counts′
+tests-later {text} {x} e r q = record { rows = q .rows; tested = omega (arith, q .tested); written = q .written; limit = subst (λ n. ExprBelow n (exprOf text x)) (sym e) (q .limit); room = r }
 
 -- by a flag
 pub by-flag : {m r : Machine} {store store′ : List ℤ} {c c′ : Tally} (b : Bool) (g : Bool → State → Tally → Next) (v : Bool) → b ≡ v → Acts m r store store′ c c′ (g v) → Acts m r store store′ c c′ (g b)
@@ -58,7 +61,7 @@ pub steps-row : {m r : Machine} {store store′ : List ℤ} {picks : List ℕ} {
     → Steps m r store store′ picks c c′ f → ((s : State) (d : Tally) → f s d ≡ g s d) → Steps m r store store′ picks c c′ g
 steps-row a e = record { same = a .same ∙ e _ _; left = a .left; used = a .used }
 
-module _ (π : Prices) (rows : List Kind) (shut opener : ℕ → ℕ) (i e h : ℕ) (w : View) (fit : Fitting rows shut opener i e h w) (s : State) (c : Tally) where
+module _ (π : Prices) (rows : List RowKind) (shut opener : ℕ → ℕ) (i e h : ℕ) (w : View) (fit : Fitting rows shut opener i e h w) (s : State) (c : Tally) where
   -- row i, by its view
   abbrev at-row : View → Bool → Next
   at-row v b = rowTo π rows shut opener v i (phaseOf b) s c
@@ -86,7 +89,7 @@ module _ (π : Prices) (rows : List Kind) (shut opener : ℕ → ℕ) (i e h : �
   unfolding onRow
   at-do t l b = refl
 
-  pub at-for : (v : ℕ) (y : Operand) (d : Comparison) (x : Operand) (l : Last) (b : Bool) → forTo π i e v y d x b s c ≡ at-row (is-loop (for y) (test v d x) l) b
+  pub at-for : (v : ℕ) (y : Expr) (d : Comparison) (x : Expr) (l : Last) (b : Bool) → forTo π i e v y d x b s c ≡ at-row (is-loop (for y) (test v d x) l) b
   unfolding onRow
   at-for v y d x l true = ap (λ j. tests π i j (test v d x) s c) (sym (fit .shuts))
   at-for v y d x l false = ap (λ j. andTests π i j (test v d x) (plainTo π i (assign v (from y)) i true s (begin i c))) (sym (fit .shuts))

@@ -9,9 +9,9 @@ ghost use mathlib.Core.Path.{_≡_};
 ghost use mathlib.Core.List.{List};
 ghost use Prim.Native.Nat.{ℕ};
 ghost use lib.ListN.{length};
-ghost use Rattle.rules.specs.declared.Kind.{Kind};
-ghost use Rattle.rules.specs.Scripts.{OperandBelow};
-ghost use Rattle.rules.specs.Blocks.{viewOf};
+ghost use Rattle.rules.specs.Scripts.{ExprBelow};
+ghost use Rattle.rules.specs.Blocks.{RowKind, viewOf, exprOf, kindOf};
+ghost use Rattle.rules.specs.Written.{WrittenOperand};
 ghost use Rattle.rules.specs.RowMachine.{tallyOf};
 ghost use Rattle.actions.specs.States.{endTo, forTo, rowTo, phaseOf, Acts, Steps, Testable, Doable, Fitting};
 
@@ -21,11 +21,12 @@ fn end_row(
     head: Row,
     h: usize,
     prices: Prices,
+    text: &[u8],
     store: &mut [i32],
     counts: &mut [[u64; 3]; 256],
 ) -> Machine
-    requires { ⌜ Doable (m .row) h (head .kind) (now store) (now counts) ⌝ }
-    ensures { λ r. ⌜ (((rows : List Kind) (shut opener : ℕ → ℕ) → Acts m r (now (store .entry)) (now (store .exit)) (tallyOf (now (counts .entry))) (tallyOf (now (counts .exit))) (endTo prices rows shut opener (viewOf (head .kind)) h (m .row) (phaseOf (m .testing)))) × (length (now (counts .exit)) ≡ 256)) ⌝ }
+    requires { ⌜ Doable (now text) (m .row) h (head .kind) (now store) (now counts) ⌝ }
+    ensures { λ r. ⌜ (((rows : List RowKind) (shut opener : ℕ → ℕ) → Acts m r (now (store .entry)) (now (store .exit)) (tallyOf (now (counts .entry))) (tallyOf (now (counts .exit))) (endTo prices rows shut opener (viewOf (kindOf (now (text .entry)) (head .kind))) h (m .row) (phaseOf (m .testing)))) × (length (now (counts .exit)) ≡ 256)) ⌝ }
 {
     let kind = head.kind;
     let e = m.row;
@@ -36,20 +37,20 @@ fn end_row(
         Kind::Set(_, _) => actions::on(m, m.left, e + 1, false),
         Kind::Move(_, _) => actions::on(m, m.left, e + 1, false),
         Kind::Cue(_) => actions::on(m, m.left, e + 1, false),
-        Kind::While(v, c, x) => actions::test_row(m, prices, h, e, v, c, x, store, counts),
-        Kind::Do(v, c, x) => actions::test_row(m, prices, h, e, v, c, x, store, counts),
         Kind::For(v, _, c, x, change) => {
             if m.testing {
-                actions::test_row(m, prices, h, e, v, c, x, store, counts)
+                actions::test_row(m, prices, h, e, v, c, x, text, store, counts)
             } else {
                 let n = actions::move_row(m, prices, h, v, change, e, true, store);
                 if actions::waits(n) {
-                    actions::test_row(n, prices, h, e, v, c, x, store, counts)
+                    actions::test_row(n, prices, h, e, v, c, x, text, store, counts)
                 } else {
                     n
                 }
             }
         }
+        Kind::Do(v, c, x) => actions::test_row(m, prices, h, e, v, c, x, text, store, counts),
+        Kind::While(v, c, x) => actions::test_row(m, prices, h, e, v, c, x, text, store, counts),
     }
 }
 
@@ -62,20 +63,21 @@ fn for_row(
     c: Comparison,
     x: Operand,
     prices: Prices,
+    text: &[u8],
     store: &mut [i32],
     counts: &mut [[u64; 3]; 256],
 ) -> Machine
-    requires { ⌜ Testable (m .row) e v x (now store) (now counts) × OperandBelow (length (now store)) y ⌝ }
-    ensures { λ r. ⌜ Acts m r (now (store .entry)) (now (store .exit)) (tallyOf (now (counts .entry))) (tallyOf (now (counts .exit))) (forTo prices (m .row) e v y c x (m .testing)) × (length (now (counts .exit)) ≡ 256) ⌝ }
+    requires { ⌜ Testable (now text) (m .row) e v x (now store) (now counts) × WrittenOperand (now text) y × ExprBelow (length (now store)) (exprOf (now text) y) ⌝ }
+    ensures { λ r. ⌜ Acts m r (now (store .entry)) (now (store .exit)) (tallyOf (now (counts .entry))) (tallyOf (now (counts .exit))) (forTo prices (m .row) e v (exprOf (now (text .entry)) y) c (exprOf (now (text .entry)) x) (m .testing)) × (length (now (counts .exit)) ≡ 256) ⌝ }
 {
     let h = m.row;
     if m.testing {
-        return actions::test_row(m, prices, h, e, v, c, x, store, counts);
+        return actions::test_row(m, prices, h, e, v, c, x, text, store, counts);
     }
     actions::begin(h, counts);
-    let n = actions::set_row(m, prices, h, v, y, h, true, store);
+    let n = actions::set_row(m, prices, h, v, y, h, true, text, store);
     if actions::waits(n) {
-        actions::test_row(n, prices, h, e, v, c, x, store, counts)
+        actions::test_row(n, prices, h, e, v, c, x, text, store, counts)
     } else {
         n
     }
@@ -89,31 +91,32 @@ pub fn step(
     head: Row,
     h: usize,
     prices: Prices,
+    text: &[u8],
     store: &mut [i32],
     picks: &[u8],
     counts: &mut [[u64; 3]; 256],
 ) -> Machine
-    requires { ⌜ Doable e (m .row) (row .kind) (now store) (now counts) × Doable (m .row) h (head .kind) (now store) (now counts) ⌝ }
-    ensures { λ r. ⌜ (((rows : List Kind) (shut opener : ℕ → ℕ) → Fitting rows shut opener (m .row) e h (viewOf (head .kind)) → Steps m r (now (store .entry)) (now (store .exit)) (now (picks .entry)) (tallyOf (now (counts .entry))) (tallyOf (now (counts .exit))) (rowTo prices rows shut opener (viewOf (row .kind)) (m .row) (phaseOf (m .testing)))) × (length (now (counts .exit)) ≡ 256)) ⌝ }
+    requires { ⌜ Doable (now text) e (m .row) (row .kind) (now store) (now counts) × Doable (now text) (m .row) h (head .kind) (now store) (now counts) ⌝ }
+    ensures { λ r. ⌜ (((rows : List RowKind) (shut opener : ℕ → ℕ) → Fitting rows shut opener (m .row) e h (viewOf (kindOf (now (text .entry)) (head .kind))) → Steps m r (now (store .entry)) (now (store .exit)) (now (picks .entry)) (tallyOf (now (counts .entry))) (tallyOf (now (counts .exit))) (rowTo prices rows shut opener (viewOf (kindOf (now (text .entry)) (row .kind))) (m .row) (phaseOf (m .testing)))) × (length (now (counts .exit)) ≡ 256)) ⌝ }
 {
     let kind = row.kind;
     let i = m.row;
     match kind {
-        Kind::End => end_row(m, head, h, prices, store, counts),
+        Kind::End => end_row(m, head, h, prices, text, store, counts),
         Kind::Else => actions::on(m, m.left, e + 1, false),
         Kind::Pick => actions::pick_row(m, prices, e + 1, picks),
-        Kind::Set(v, x) => actions::set_row(m, prices, i, v, x, i + 1, false, store),
+        Kind::Set(v, x) => actions::set_row(m, prices, i, v, x, i + 1, false, text, store),
         Kind::Move(v, change) => actions::move_row(m, prices, i, v, change, i + 1, false, store),
         Kind::Cue(_) => actions::cue_row(m, prices),
         Kind::While(v, c, x) => {
             actions::begin(i, counts);
-            actions::test_row(m, prices, i, e, v, c, x, store, counts)
+            actions::test_row(m, prices, i, e, v, c, x, text, store, counts)
         }
         Kind::Do(_, _, _) => {
             actions::begin(i, counts);
             actions::count_turn(i, counts);
             actions::on(m, m.left, i + 1, false)
         }
-        Kind::For(v, y, c, x, _) => for_row(m, e, v, y, c, x, prices, store, counts),
+        Kind::For(v, y, c, x, _) => for_row(m, e, v, y, c, x, prices, text, store, counts),
     }
 }

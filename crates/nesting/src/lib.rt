@@ -2,7 +2,8 @@
 use rules::Kind;
 ghost use mathlib.Core.Path.{_≡_};
 ghost use Prim.Native.Nat.{ℕ, _+_, _≤_, _<_};
-ghost use Rattle.rules.specs.Blocks.{viewOf};
+ghost use mathlib.Core.List.{List};
+ghost use Rattle.rules.specs.Blocks.{viewOf, kindOf};
 ghost use Rattle.rules.specs.Nesting.{nestRow, in-loop, in-pick};
 ghost use Rattle.rules.specs.Nesting.{opens as opensBlock, elses, ends as endsBlock};
 ghost use Rattle.nesting.specs.Open.{nestOf, nestedOf, Shallow};
@@ -147,7 +148,7 @@ fn end_block(b: Blocks) -> Placed
 // Questions 6 and 7 of a row.
 pub fn nest_row(kind: Kind, b: Blocks) -> Placed
     requires { ⌜ Shallow b ⌝ }
-    ensures { λ r. ⌜ (nestedOf r ≡ nestRow (viewOf kind) (nestOf b)) × Shallow (r .blocks) ⌝ }
+    ensures { λ r. ⌜ ((text : List ℕ) → nestedOf r ≡ nestRow (viewOf (kindOf text kind)) (nestOf b)) × Shallow (r .blocks) ⌝ }
 {
     match kind {
         Kind::End => end_block(b),

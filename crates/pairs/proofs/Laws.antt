@@ -6,7 +6,7 @@ use native.Mathlib.Numerals.{add-one}
 use native.Mathlib.Omega.{arith}
 use lib.ListN.{length, getD, set, replicate}
 use lib.Seq.{getD-set-same, getD-set-other}
-use Rattle.rules.specs.declared.Kind.{Kind}
+use Rattle.rules.specs.Blocks.{RowKind}
 use Rattle.rules.specs.RowMachine.{Pairs, push, closing, pairs}
 use Rattle.rules.proofs.Laws.{put-set}
 use Rattle.pairs.specs.Tables.{stackOf, tableOf}
@@ -53,6 +53,6 @@ zero-at zero i = refl
 zero-at (suc n) zero = refl
 zero-at (suc n) (suc i) = zero-at n i
 
-pub none-yet : (n : ℕ) (st : List ℕ) (rows : List Kind) → table (stackOf st 0) (tableOf (replicate n 0)) (tableOf (replicate n 0)) ≡ pairs rows 0
+pub none-yet : (n : ℕ) (st : List ℕ) (rows : List RowKind) → table (stackOf st 0) (tableOf (replicate n 0)) (tableOf (replicate n 0)) ≡ pairs rows 0
 unfolding pairs stackOf
 none-yet n st rows = λ t. table [] (λ i. zero-at n i t) (λ i. zero-at n i t)

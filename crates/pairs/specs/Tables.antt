@@ -4,7 +4,7 @@ use mathlib.Core.List.{List, [], _∷_}
 use Prim.Native.Nat.{ℕ, zero, suc, _≤_}
 use lib.ListN.{length, getD}
 use Rattle.rules.specs.declared.Kind.{Kind}
-use Rattle.rules.specs.Blocks.{viewOf}
+use Rattle.rules.specs.Blocks.{RowKind, viewOf, kindOf}
 use Rattle.rules.specs.RowMachine.{Pairs, push, closing, pairRow, pairs}
 use Rattle.pairs.specs.declared.Tables.{Tables}
 
@@ -37,10 +37,10 @@ pub record Closed (j depth : ℕ) (shut opener stack : List ℕ) (r : ℕ) (shut
 
 -- row j, of kind k
 pub record Paired (k : Kind) (j depth : ℕ) (shut opener stack : List ℕ) (r : ℕ) (shut′ opener′ stack′ : List ℕ) : Type 0 where
-  pub same : pairsOf shut′ opener′ stack′ r ≡ pairRow (viewOf k) j (pairsOf shut opener stack depth)
+  pub same : (text : List ℕ) → pairsOf shut′ opener′ stack′ r ≡ pairRow (viewOf (kindOf text k)) j (pairsOf shut opener stack depth)
   pub deep : r ≤ suc j
 
 -- all rows: the tables are those of the pass of `rules`
-pub record Found (rows : List Kind) (t : Tables) : Type 0 where
+pub record Found (rows : List RowKind) (t : Tables) : Type 0 where
   pub shuts : tableOf (t .shut) ≡ pairs rows (length rows) .shut
   pub openers : tableOf (t .opener) ≡ pairs rows (length rows) .opener

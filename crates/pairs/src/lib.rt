@@ -2,7 +2,8 @@
 use rules::Kind;
 use rules::Row;
 ghost use mathlib.Core.Path.{_≡_};
-ghost use Prim.Native.Nat.{_≤_, _<_};
+ghost use mathlib.Core.List.{List};
+ghost use Prim.Native.Nat.{ℕ, _≤_, _<_};
 ghost use lib.ListN.{length, take};
 ghost use Rattle.rules.specs.Blocks.{kindsOf};
 ghost use Rattle.pairs.specs.Tables.{Sized, Pushed, Closed, Paired, Found};
@@ -69,7 +70,7 @@ fn pair_row(
 // The tables of the first `count` rows.
 pub fn partners(rows: [Row; 256], count: usize) -> Tables
     requires { ⌜ count ≤ 256 ⌝ }
-    ensures { λ r. ⌜ Found (take count (kindsOf rows)) r ⌝ }
+    ensures { λ r. ⌜ ((text : List ℕ) → Found (take count (kindsOf text rows)) r) ⌝ }
 {
     let mut shut = [0u8; 256];
     let mut opener = [0u8; 256];

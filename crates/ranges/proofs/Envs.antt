@@ -14,7 +14,7 @@ use Rattle.ints.specs.Ints.{minZ, maxZ}
 use Rattle.rules.specs.Ranges.{Range, Env, bounds, join, afterRow, sourceRange}
 use Rattle.rules.specs.declared.Change.{Change}
 use Rattle.rules.specs.declared.Operand.{Operand}
-use Rattle.rules.specs.Blocks.{viewOf}
+use Rattle.rules.specs.Blocks.{viewOf, exprOf, kindOf}
 use types.Run.{OneOf, miss}
 use denote.Enum.Declared.{tagOf}
 use Rattle.table.specs.declared.Shape.{Shape}
@@ -89,20 +89,20 @@ module _ (a b : List (List ℤ)) where
   join-far p q w h = rw (env-far a w (omega arith), env-far b w (omega arith))
 
 -- a plain row by its tag: a set, a change, any other
-module _ (ρ : Env) (e : List ℕ) where
-  pub after-set : {v : ℕ} {x : Operand} {s : Range} → v ≡ variableIn e → x ≡ startIn e → s ≡ bounds ρ x → put ρ v s ≡ afterRow ρ (plainOf (kindBy Tag.Set e))
-  unfolding afterRow sourceRange kindBy viewOf
+module _ (text : List ℕ) (ρ : Env) (e : List ℕ) where
+  pub after-set : {v : ℕ} {x : Operand} {s : Range} → v ≡ variableIn e → x ≡ startIn e → s ≡ bounds ρ (exprOf text x) → put ρ v s ≡ afterRow ρ (plainOf text (kindBy Tag.Set e))
+  unfolding afterRow sourceRange kindBy viewOf kindOf
   after-set p q r = rw (r, p, q)
 
-  pub after-move : {v : ℕ} {c : Change} {s x : Range} → v ≡ variableIn e → c ≡ stepIn e → s ≡ ρ v → x ≡ changedRange c s → put ρ v x ≡ afterRow ρ (plainOf (kindBy Tag.Move e))
-  unfolding afterRow sourceRange changedRange kindBy viewOf
+  pub after-move : {v : ℕ} {c : Change} {s x : Range} → v ≡ variableIn e → c ≡ stepIn e → s ≡ ρ v → x ≡ changedRange c s → put ρ v x ≡ afterRow ρ (plainOf text (kindBy Tag.Move e))
+  unfolding afterRow sourceRange changedRange kindBy viewOf kindOf
   after-move p q r u = rw (u, r, p, q)
 
   abbrev other : List ℕ
   other = 0 ∷ 1 ∷ 2 ∷ 5 ∷ 6 ∷ 7 ∷ 8 ∷ []
 
-  pub after-other : (g : Tag) → OneOf other (tagOf the-type g) → shapeOf (kindBy g e) ≡ Shape.Plain → ρ ≡ afterRow ρ (plainOf (kindBy g e))
-  unfolding afterRow kindBy viewOf
+  pub after-other : (g : Tag) → OneOf other (tagOf the-type g) → shapeOf (kindBy g e) ≡ Shape.Plain → ρ ≡ afterRow ρ (plainOf text (kindBy g e))
+  unfolding afterRow kindBy viewOf kindOf
   after-other Tag.End o h = refl
   after-other Tag.Else o h = refl
   after-other Tag.Pick o h = refl

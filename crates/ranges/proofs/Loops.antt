@@ -13,7 +13,7 @@ use Rattle.rules.proofs.Kind.{the-type}
 use Rattle.rules.specs.declared.Row.{Row}
 use Rattle.rules.specs.declared.Kind.{Kind}
 use Rattle.rules.specs.declared.Kind.the-variants.{Set, Move, Cue, Pick, Else, End, While, Do, For}
-use Rattle.rules.specs.Blocks.{Test, viewOf, Block}
+use Rattle.rules.specs.Blocks.{Test, viewOf, kindOf, Block}
 use Rattle.rules.specs.Steps.{assigns}
 use Rattle.rules.specs.Ranges.{Range, Env, full, atStart}
 use Rattle.rules.specs.Trips.{innerOf, outerOf, loopEnv, inside, outside}
@@ -43,25 +43,25 @@ unfolding widenedEnv loopEnv
 wide-is one mine test ρ body q h = λ d w. cond (eqb w (q d)) mine (cond (h w d) full (ρ w))
 
 -- the ranges at the body's start and after the loop at row i
-module _ {rows : List Row} {count i : ℕ} {ρ : Env} {one : Loop} (l : LoopAt rows count i ρ one) where
-  pub inside-is : widened one (innerOf (tripOf (one .trip))) ρ ≡ inside (formOf (kindAt rows i)) ρ (testOf (kindAt rows i)) (bodyAt rows count i)
-  inside-is = ap (λ τ. widened one (innerOf τ) ρ) (l .trip) ∙ wide-is one _ (testOf (kindAt rows i)) ρ (bodyAt rows count i) (l .tested) (l .sets)
+module _ {text : List ℕ} {rows : List Row} {count i : ℕ} {ρ : Env} {one : Loop} (l : LoopAt text rows count i ρ one) where
+  pub inside-is : widened one (innerOf (tripOf (one .trip))) ρ ≡ inside (formOf text (kindAt rows i)) ρ (testOf text (kindAt rows i)) (bodyAt text rows count i)
+  inside-is = ap (λ τ. widened one (innerOf τ) ρ) (l .trip) ∙ wide-is one _ (testOf text (kindAt rows i)) ρ (bodyAt text rows count i) (l .tested) (l .sets)
 
-  pub outside-is : widened one (outerOf (tripOf (one .trip))) ρ ≡ outside (formOf (kindAt rows i)) ρ (testOf (kindAt rows i)) (bodyAt rows count i)
-  outside-is = ap (λ τ. widened one (outerOf τ) ρ) (l .trip) ∙ wide-is one _ (testOf (kindAt rows i)) ρ (bodyAt rows count i) (l .tested) (l .sets)
+  pub outside-is : widened one (outerOf (tripOf (one .trip))) ρ ≡ outside (formOf text (kindAt rows i)) ρ (testOf text (kindAt rows i)) (bodyAt text rows count i)
+  outside-is = ap (λ τ. widened one (outerOf τ) ρ) (l .trip) ∙ wide-is one _ (testOf text (kindAt rows i)) ρ (bodyAt text rows count i) (l .tested) (l .sets)
 
 -- any row but a for
 abbrev no-for : List ℕ
 no-for = 0 ∷ 1 ∷ 2 ∷ 3 ∷ 4 ∷ 5 ∷ 6 ∷ 7 ∷ []
 
-pub no-start : (ρ : Env) (k : Kind) → OneOf no-for (tagOf the-type k) → ρ ≡ atStart (formOf k) (testOf k) ρ
-unfolding atStart headOf viewOf
-no-start ρ End o = refl
-no-start ρ Else o = refl
-no-start ρ Pick o = refl
-no-start ρ (Set v x) o = refl
-no-start ρ (Move v c) o = refl
-no-start ρ (Cue n) o = refl
-no-start ρ (While v c x) o = refl
-no-start ρ (Do v c x) o = refl
-no-start ρ (For v s c x d) o = absurd (miss no-for 8 tt o)
+pub no-start : (text : List ℕ) (ρ : Env) (k : Kind) → OneOf no-for (tagOf the-type k) → ρ ≡ atStart (formOf text k) (testOf text k) ρ
+unfolding atStart headOf viewOf kindOf
+no-start text ρ End o = refl
+no-start text ρ Else o = refl
+no-start text ρ Pick o = refl
+no-start text ρ (Set v x) o = refl
+no-start text ρ (Move v c) o = refl
+no-start text ρ (Cue n) o = refl
+no-start text ρ (While v c x) o = refl
+no-start text ρ (Do v c x) o = refl
+no-start text ρ (For v s c x d) o = absurd (miss no-for 8 tt o)

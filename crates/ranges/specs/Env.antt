@@ -45,6 +45,6 @@ abbrev pub widened : Loop → Range → Env → Env
 widened one mine ρ = widenedEnv (setOf (one .set)) mine (one .tested) ρ
 
 -- the ranges ρ before the loop at row i, those after it in r, and its end
-pub record AfterLoop (rows : List Row) (count i : ℕ) (ρ : Env) (r : List (List ℤ)) (next : ℕ) : Type 0 where
-  pub value : EnvIs r (outside (formOf (kindAt rows i)) (atStart (formOf (kindAt rows i)) (testOf (kindAt rows i)) ρ) (testOf (kindAt rows i)) (bodyAt rows count i))
-  pub ends : EndsAt rows count i next
+pub record AfterLoop (text : List ℕ) (rows : List Row) (count i : ℕ) (ρ : Env) (r : List (List ℤ)) (next : ℕ) : Type 0 where
+  pub value : EnvIs r (outside (formOf text (kindAt rows i)) (atStart (formOf text (kindAt rows i)) (testOf text (kindAt rows i)) ρ) (testOf text (kindAt rows i)) (bodyAt text rows count i))
+  pub ends : EndsAt text rows count i next

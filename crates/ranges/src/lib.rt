@@ -31,6 +31,7 @@ ghost use Rattle.rules.specs.Values.{lowest, highest, put, applied};
 ghost use Rattle.rules.specs.Ranges.{join, full, afterRow, atStart, edge, sort, insideRange, byStep, outsideRange};
 ghost use Rattle.rules.specs.Trips.{innerOf, outerOf, after};
 ghost use Rattle.rules.specs.Bounds.{Fine, FineChange};
+ghost use Rattle.rules.specs.Written.{Written};
 ghost use Rattle.table.specs.Code.{kindAt, rowsOf};
 ghost use Rattle.table.specs.Shapes.{shapeOf, plainOf};
 ghost use Rattle.steps.specs.Tree.{formOf, testOf, Ready, Walked};
@@ -118,13 +119,13 @@ fn changed_span(s: Span, change: Change) -> Span
 }
 
 // The ranges after the plain row i.
-pub fn step_row(r: &mut [[i32; 2]; 16], rows: &[[u32; 9]; 256], i: usize)
-    requires { ⌜ (i < 256) × Fine (kindAt (rowsOf (now rows)) i) × (shapeOf (kindAt (rowsOf (now rows)) i) ≡ Shape.Plain) × (length (now r) ≡ 16) ⌝ }
-    ensures { λ _. ⌜ EnvIs (now (r .exit)) (afterRow (envOf (now (r .entry))) (plainOf (kindAt (rowsOf (now (rows .entry))) i))) ⌝ }
+pub fn step_row(text: &[u8], r: &mut [[i32; 2]; 16], rows: &[[u32; 9]; 256], i: usize)
+    requires { ⌜ (i < 256) × Fine (kindAt (rowsOf (now rows)) i) × (shapeOf (kindAt (rowsOf (now rows)) i) ≡ Shape.Plain) × (length (now r) ≡ 16) × Written (now text) (kindAt (rowsOf (now rows)) i) ⌝ }
+    ensures { λ _. ⌜ EnvIs (now (r .exit)) (afterRow (envOf (now (r .entry))) (plainOf (now (text .entry)) (kindAt (rowsOf (now (rows .entry))) i))) ⌝ }
 {
     match tag_at(rows, i) {
         Tag::Set => {
-            let s = bounds(r, operand_at(rows, i));
+            let s = bounds(text, r, operand_at(rows, i));
             put(r, variable_at(rows, i), s);
         }
         Tag::Move => {
@@ -137,13 +138,13 @@ pub fn step_row(r: &mut [[i32; 2]; 16], rows: &[[u32; 9]; 256], i: usize)
 }
 
 // From the ranges before a loop to those at its start: a for's start assignment.
-pub fn at_start(r: &mut [[i32; 2]; 16], kind: Kind)
-    requires { ⌜ Fine kind × (length (now r) ≡ 16) ⌝ }
-    ensures { λ _. ⌜ EnvIs (now (r .exit)) (atStart (formOf kind) (testOf kind) (envOf (now (r .entry)))) ⌝ }
+pub fn at_start(text: &[u8], r: &mut [[i32; 2]; 16], kind: Kind)
+    requires { ⌜ Fine kind × (length (now r) ≡ 16) × Written (now text) kind ⌝ }
+    ensures { λ _. ⌜ EnvIs (now (r .exit)) (atStart (formOf (now (text .entry)) kind) (testOf (now (text .entry)) kind) (envOf (now (r .entry)))) ⌝ }
 {
     match kind {
         Kind::For(v, x, _, _, _) => {
-            let s = bounds(r, x);
+            let s = bounds(text, r, x);
             put(r, v, s);
         }
         _ => {}
@@ -323,12 +324,18 @@ pub fn outside(r: &mut [[i32; 2]; 16], one: Loop)
 }
 
 // From the ranges before the loop at row i to those after it; its end.
-fn after_loop(rows: &[[u32; 9]; 256], count: usize, i: usize, r: &mut [[i32; 2]; 16]) -> usize
-    requires { ⌜ AtLoop (rowsOf (now rows)) count i × (length (now r) ≡ 16) ⌝ }
-    ensures { λ e. ⌜ AfterLoop (rowsOf (now (rows .entry))) count i (envOf (now (r .entry))) (now (r .exit)) e ⌝ }
+fn after_loop(
+    text: &[u8],
+    rows: &[[u32; 9]; 256],
+    count: usize,
+    i: usize,
+    r: &mut [[i32; 2]; 16],
+) -> usize
+    requires { ⌜ AtLoop (now text) (rowsOf (now rows)) count i × (length (now r) ≡ 16) ⌝ }
+    ensures { λ e. ⌜ AfterLoop (now (text .entry)) (rowsOf (now (rows .entry))) count i (envOf (now (r .entry))) (now (r .exit)) e ⌝ }
 {
-    at_start(r, kind_at(rows, i));
-    let one = loop_at(rows, count, i, r);
+    at_start(text, r, kind_at(rows, i));
+    let one = loop_at(text, rows, count, i, r);
     let next = one.next;
     outside(r, one);
     next
@@ -336,34 +343,35 @@ fn after_loop(rows: &[[u32; 9]; 256], count: usize, i: usize, r: &mut [[i32; 2];
 
 // The ranges after the block that starts at row `at`; `next` gets the row that closes the block.
 pub fn after(
+    text: &[u8],
     rows: &[[u32; 9]; 256],
     count: usize,
     at: usize,
     start: [[i32; 2]; 16],
     next: &mut usize,
 ) -> [[i32; 2]; 16]
-    requires { ⌜ Ready (rowsOf (now rows)) count at ⌝ }
-    ensures { λ r. ⌜ Walked (rowsOf (now (rows .entry))) count at (now (next .exit)) (envOf r) (after (envOf start)) ⌝ }
+    requires { ⌜ Ready (now text) (rowsOf (now rows)) count at ⌝ }
+    ensures { λ r. ⌜ Walked (now (text .entry)) (rowsOf (now (rows .entry))) count at (now (next .exit)) (envOf r) (after (envOf start)) ⌝ }
 {
     let mut r = start;
     let mut i = at;
     while i < count {
         match shape_at(rows, i) {
             Shape::Plain => {
-                step_row(&mut r, rows, i);
+                step_row(text, &mut r, rows, i);
                 i = i + 1;
             }
             Shape::Branch => {
                 let mut m: usize = 0;
-                let a = after(rows, count, i + 1, r, &mut m);
+                let a = after(text, rows, count, i + 1, r, &mut m);
                 let mut e: usize = 0;
-                let b = after(rows, count, past_else(rows, m), r, &mut e);
+                let b = after(text, rows, count, past_else(rows, m), r, &mut e);
                 let x = joined(a, b);
                 r = x;
                 i = e + 1;
             }
             Shape::Loop => {
-                let e = after_loop(rows, count, i, &mut r);
+                let e = after_loop(text, rows, count, i, &mut r);
                 i = e + 1;
             }
             Shape::Close => {

@@ -1,40 +1,41 @@
 -- What a count line, the script line, a range line and a row line say, from the words that code holds. Assumes nothing.
 use mathlib.Core.Path.{_≡_, refl, sym, ap, _∙_, subst}
 use mathlib.Core.Bool.{Bool, true, false}
-use mathlib.Core.List.{List, [], _∷_}
+use mathlib.Core.List.{List, []}
 use Prim.Native.Nat.{ℕ, zero, suc, _+_, _≤_, _<_}
 use native.Mathlib.Omega.{arith}
 use lib.Dec.{ltb}
-use lib.IntN.{ℤ, pos, negsuc, natAbs}
+use lib.IntN.{ℤ, pos, natAbs}
 use lib.Signed.{_≤ℤ_, yes-nonNeg, pos-natAbs}
-use lib.ListN.{length, getD, drop}
+use lib.ListN.{length, drop}
 use borrow.Author.Tests.{ltb-true, ltb-false}
 use Rattle.ints.proofs.Parts.{ints}
 use Rattle.rules.specs.declared.Word.{Word}
 use Rattle.rules.specs.declared.Word.the-variants.{Missing}
 use Rattle.rules.specs.Values.{lowest, highest}
 use Rattle.rules.specs.Ranges.{Range}
-use Rattle.rules.specs.Text.{nextWords, nextLines}
+use Rattle.rules.specs.Text.{wordsOf, nextTexts, nextWords, nextLines}
 use Rattle.rules.specs.File
-use Rattle.rules.specs.File.{Reading, read, refused, unless, sooner, asksEnd, asksNumber, asksOne, asksOrder, asksRange, numberOf, countLine, scriptLine, scriptKey, rangeKey, rowKey, rowOf}
+use Rattle.rules.specs.File.{Reading, refused, unless, sooner, asksEnd, asksNumber, asksOne, asksOrder, asksRange, numberOf, countLine, scriptLine, scriptKey, rangeKey, rowKey, turnOf, Wrong, wordsRow, rowOf}
 use Rattle.rules.proofs.Reading.{sooner-yes, number-yes, amount-yes}
-use Rattle.text.specs.Words.{before, cut, following}
-use Rattle.text.proofs.Cut.{cut-number, cut-number-of, cut-end, cut-one, range-cut, range-of-cut}
+use Rattle.text.specs.Words.{before, cut, parts}
+use Rattle.text.proofs.Cut.{cut-number, cut-number-of, cut-one, range-cut, range-of-cut}
 use Rattle.reader.specs.declared.Counted.{Counted}
 use Rattle.reader.specs.declared.Ranged.{Ranged}
-use Rattle.reader.specs.Read.{lines, keyed, clean, countOf, Within, CountRead, rangeOf, RangeWithin, RangeRead, lineRead}
+use Rattle.reader.specs.Read.{lines, keyed, clean, countOf, Within, CountRead, rangeOf, RangeRead, LineRead}
 use Rattle.reader.proofs.Lines.{next-none, lines-next, last, Keyed, keyed-at, at-none}
 use Rattle.rows.specs.declared.Line.{Line}
-use Rattle.rows.specs.Words.{lineOf, rowLine}
+use Rattle.rows.specs.Words.{Rowed}
 
 -- a word that passes a question stands on a line
 line-there : (key s : List ℕ) (f : Word → ℕ) → f Missing ≡ 3 → f (nextWords key (lines s) 0) ≡ 0 → before 10 s < length s
+unfolding wordsOf
 line-there key s f m e = go (ltb (before 10 s) (length s)) refl
   where
     go : (t : Bool) → ltb (before 10 s) (length s) ≡ t → before 10 s < length s
     go true p = ltb-true _ _ p
     go false p =
-        let n : nextWords key (lines s) 0 ≡ Missing = ap (λ (w : ℕ → Word). w 0) (next-none key s (ltb-false (before 10 s) (length s) p)) in
+        let n : nextWords key (lines s) 0 ≡ Missing = ap (λ (ts : List (List ℕ)). wordsOf ts 0) (next-none key s (ltb-false (before 10 s) (length s) p)) in
         let z : f Missing ≡ 0 = ap f (sym n) ∙ e in
         absurd (omega arith)
 
@@ -96,8 +97,8 @@ module _ (key s : List ℕ) (F : ℕ → Word) (words : nextWords key (lines s) 
     }
 
 -- no such line
-pub count-none : (key s : List ℕ) (most : ℕ) → nextWords key (lines s) ≡ (λ _. Missing) → CountRead key s most (Counted.Wrong 3)
-unfolding countLine countOf sooner unless
+pub count-none : (key s : List ℕ) (most : ℕ) → nextTexts key (lines s) ≡ [] → CountRead key s most (Counted.Wrong 3)
+unfolding countLine countOf sooner unless wordsOf
 count-none key s most e = record { line = λ p. rw e; within = λ (z : _≡_ {A = ℕ} 3 0). omega arith }
 
 -- `script=1`
@@ -126,8 +127,8 @@ module _ (s : List ℕ) (F : ℕ → Word) (words : nextWords scriptKey (lines s
         let e₂ : nextLines (lines s) ≡ lines (drop (n + 1) s) = lines-next s script-there ∙ ap (λ m. lines (drop (m + 1) s)) (sym script-ended) in
         (rw (← one-truly) (unless-zero q 1 _ z ∙ rw e₂ refl), (omega arith, script-long))
 
-pub script-none : (s : List ℕ) → nextWords scriptKey (lines s) ≡ (λ _. Missing) → (scriptLine (lines s) ≡ countOf s 1 (Counted.Wrong 3)) × Within s 1 (Counted.Wrong 3)
-unfolding scriptLine countOf sooner unless
+pub script-none : (s : List ℕ) → nextTexts scriptKey (lines s) ≡ [] → (scriptLine (lines s) ≡ countOf s 1 (Counted.Wrong 3)) × Within s 1 (Counted.Wrong 3)
+unfolding scriptLine countOf sooner unless wordsOf turnOf
 script-none s e = (rw e, λ (z : _≡_ {A = ℕ} 3 0). omega arith)
 
 -- `range=LO HI`
@@ -162,8 +163,8 @@ module _ (s : List ℕ) (F : ℕ → Word) (words : nextWords rangeKey (lines s)
         let e₂ : nextLines (lines s) ≡ lines (drop (n + 1) s) = lines-next s range-there ∙ ap (λ m. lines (drop (m + 1) s)) (sym range-ended) in
         record { line = λ p g. rw (← range-truly) (unless-zero q p _ z ∙ rw (mine, e₂) refl); within = range-long }
 
-pub range-none : (s : List ℕ) → nextWords rangeKey (lines s) ≡ (λ _. Missing) → RangeRead s (Ranged.Wrong 3)
-unfolding rangeOf asksRange sooner unless asksOrder
+pub range-none : (s : List ℕ) → nextTexts rangeKey (lines s) ≡ [] → RangeRead s (Ranged.Wrong 3)
+unfolding rangeOf asksRange sooner unless asksOrder wordsOf turnOf
 range-none s e = record { line = λ p f. rw e; within = λ (z : _≡_ {A = ℕ} 3 0). omega arith }
 
 -- a row line
@@ -172,9 +173,15 @@ module _ (s : List ℕ) (vars : ℕ) where
   unfolding clean last
   row-there e = keyed-at rowKey s 3 refl refl e
 
-  pub row-yes : (r : Line) → keyed rowKey s ≡ true → r ≡ rowLine s 3 vars → r ≡ lineRead s vars
-  row-yes r e l = l ∙ ap (lineOf (rowOf vars (following (drop 3 s)))) (row-there e .line) ∙ ap (λ w. lineOf (rowOf vars w) (before 10 s)) (sym (row-there e .words))
+  pub row-yes : (base : ℕ) (r : Line) → keyed rowKey s ≡ true → Rowed s base (rowOf vars (parts (drop 3 s))) (3 + before 10 (drop 3 s)) r → LineRead s base vars r
+  row-yes base r e l =
+      let k = row-there e in
+      subst (λ ts. Rowed s base (rowOf vars ts) (before 10 s) r) (sym (k .texts)) (subst (λ n. Rowed s base (rowOf vars (parts (drop 3 s))) n r) (k .line) l)
 
-  pub row-no : keyed rowKey s ≡ false → Line.Wrong 3 ≡ lineRead s vars
-  unfolding clean rowOf
-  row-no e = ap (λ w. lineOf (rowOf vars w) (before 10 s)) (sym (at-none rowKey s refl e))
+  no-row : (ts : List (List ℕ)) → ts ≡ [] → Wrong 3 ≡ rowOf vars ts
+  unfolding rowOf wordsRow wordsOf
+  no-row ts e = rw e
+
+  pub row-no : (base : ℕ) → keyed rowKey s ≡ false → LineRead s base vars (Line.Wrong 3)
+  unfolding clean
+  row-no base e = let n = no-row (nextTexts rowKey (lines s)) (at-none rowKey s refl e) in record { line = λ file d. n; written = λ file d. tt; ends = tt }

@@ -7,21 +7,21 @@ use native.Mathlib.Omega.{arith}
 use native.Mathlib.Numerals.{add-one}
 use lib.Dec.{eqb, ltb}
 use lib.IntN.{ℤ, pos}
-use lib.ListN.{length, getD, take, drop, set, replicate, length-set, length-take, length-drop}
-use lib.Seq.{drop-drop, take-suc-set, getD-set-other}
-use borrow.Author.Tests.{eq-eqb, ne-eqb, ltb-true, ltb-false}
+use lib.ListN.{length, getD, take, drop, set, replicate, length-set, length-drop}
+use lib.Seq.{drop-drop, take-suc-set, getD-set-same, getD-set-other}
+use borrow.Author.Tests.{eq-eqb, ne-eqb, eqb-true, eqb-false, ltb-true, ltb-false}
 use Rattle.rules.specs.declared.Kind.{Kind}
 use Rattle.rules.specs.declared.Name.{Name}
 use Rattle.rules.specs.declared.Word.{Word}
 use Rattle.rules.specs.declared.Word.the-variants.{Missing, Number, Variable, Compares, Keyword, Other}
-use Rattle.rules.specs.declared.RowRead.{RowRead}
-use Rattle.rules.specs.declared.RowRead.the-variants.{Read, Wrong}
 use Rattle.rules.specs.declared.Row.{Row}
-use Rattle.rules.specs.Blocks.{viewOf, kindsOf}
-use Rattle.rules.specs.Nesting.{Nest, Nested, nested, wrong, nestRow}
+use Rattle.rules.specs.Blocks.{RowKind, viewOf, kindOf, kindsOf}
+use Rattle.rules.specs.Parse.{Parsed, parse}
+use Rattle.rules.specs.Written.{Written}
+use Rattle.rules.specs.Nesting.{nestRow}
 use Rattle.rules.specs.Ranges.{Range}
-use Rattle.rules.specs.Text.{nextWords, nextLines}
-use Rattle.rules.specs.File.{Reading, read, refused, Rows, unless, checked, bareRow, setRow, moveRow, cueRow, whileRow, doRow, forRow, namedRow, firstWord, rowOf, rowKey, rangeKey, asksRange, rangeLines, placed, rowLine, rowLines, noRows}
+use Rattle.rules.specs.Text.{wordsOf, nextTexts, nextLines}
+use Rattle.rules.specs.File.{RowRead, Read, Wrong, Reading, read, refused, Rows, checked, bareRow, setRow, moveRow, cueRow, whileRow, doRow, forRow, namedRow, firstWord, wordsRow, rowOf, rowKey, rangeLines, placed, rowLine, rowLines, noRows}
 use Rattle.rules.specs.File
 use Rattle.rules.proofs.Laws.{kinds-more, pairs-length, pairs-set}
 use Rattle.text.specs.Words.{before}
@@ -32,8 +32,7 @@ use Rattle.nesting.proofs.Laws.{nest-none}
 use Rattle.reader.specs.declared.Ranged.{Ranged}
 use Rattle.reader.specs.declared.Ranges.{Ranges}
 use Rattle.rows.specs.declared.Line.{Line}
-use Rattle.rows.specs.Words.{lineOf}
-use Rattle.reader.specs.Read.{lines, rangeOf, RangeWithin, RangeRead, Pairs, rangesOf, RangesRead, lineRead}
+use Rattle.reader.specs.Read.{lines, rangeOf, RangeRead, Pairs, rangesOf, RangesRead, LineRead, WrittenRows}
 use Rattle.rules.specs.Scripts.{pairRange, pairRanges, BlankFrom}
 use Rattle.reader.proofs.Lines.{next-none, lines-next}
 
@@ -93,7 +92,7 @@ ranges-all file at n ranges next i u h =
 
 -- ---- rows
 -- a row that is refused has a number
-nonzero : (Q : ℕ) (k : Kind) (q : ℕ) → checked Q k ≡ Wrong q → q ≡ 0 → ⊥
+nonzero : (Q : ℕ) (k : RowKind) (q : ℕ) → checked Q k ≡ Wrong q → q ≡ 0 → ⊥
 unfolding checked
 nonzero zero k q e z = let y : _≡_ {A = ℕ} 0 1 = cc in omega arith
 nonzero (suc Q) k q e z = let y : suc Q ≡ q = cc in omega arith
@@ -101,43 +100,43 @@ nonzero (suc Q) k q e z = let y : suc Q ≡ q = cc in omega arith
 three : (q : ℕ) → Wrong 3 ≡ Wrong q → q ≡ 0 → ⊥
 three q e z = let y : _≡_ {A = ℕ} 3 q = cc in omega arith
 
-named-wrong : (vars : ℕ) (w : ℕ → Word) (n : Name) (q : ℕ) → namedRow vars w n ≡ Wrong q → q ≡ 0 → ⊥
+named-wrong : (vars : ℕ) (w : ℕ → Word) (x : ℕ → Parsed) (n : Name) (q : ℕ) → namedRow vars w x n ≡ Wrong q → q ≡ 0 → ⊥
 unfolding setRow moveRow cueRow bareRow whileRow doRow forRow
-named-wrong vars w Name.Set q e = nonzero _ _ q e
-named-wrong vars w Name.Add q e = nonzero _ _ q e
-named-wrong vars w Name.Sub q e = nonzero _ _ q e
-named-wrong vars w Name.Mul q e = nonzero _ _ q e
-named-wrong vars w Name.Div q e = nonzero _ _ q e
-named-wrong vars w Name.Cue q e = nonzero _ _ q e
-named-wrong vars w Name.Pick q e = nonzero _ _ q e
-named-wrong vars w Name.Else q e = nonzero _ _ q e
-named-wrong vars w Name.End q e = nonzero _ _ q e
-named-wrong vars w Name.While q e = nonzero _ _ q e
-named-wrong vars w Name.Do q e = nonzero _ _ q e
-named-wrong vars w Name.For q e = nonzero _ _ q e
+named-wrong vars w x Name.Set q e = nonzero _ _ q e
+named-wrong vars w x Name.Add q e = nonzero _ _ q e
+named-wrong vars w x Name.Sub q e = nonzero _ _ q e
+named-wrong vars w x Name.Mul q e = nonzero _ _ q e
+named-wrong vars w x Name.Div q e = nonzero _ _ q e
+named-wrong vars w x Name.Cue q e = nonzero _ _ q e
+named-wrong vars w x Name.Pick q e = nonzero _ _ q e
+named-wrong vars w x Name.Else q e = nonzero _ _ q e
+named-wrong vars w x Name.End q e = nonzero _ _ q e
+named-wrong vars w x Name.While q e = nonzero _ _ q e
+named-wrong vars w x Name.Do q e = nonzero _ _ q e
+named-wrong vars w x Name.For q e = nonzero _ _ q e
 
-first-wrong : (vars : ℕ) (w : ℕ → Word) (x : Word) (q : ℕ) → firstWord vars w x ≡ Wrong q → q ≡ 0 → ⊥
-first-wrong vars w Missing q e = three q e
-first-wrong vars w (Number z) q e = three q e
-first-wrong vars w (Variable v) q e = three q e
-first-wrong vars w (Compares c) q e = three q e
-first-wrong vars w (Keyword n) q e = named-wrong vars w n q e
-first-wrong vars w Other q e = three q e
+first-wrong : (vars : ℕ) (w : ℕ → Word) (x : ℕ → Parsed) (y : Word) (q : ℕ) → firstWord vars w x y ≡ Wrong q → q ≡ 0 → ⊥
+first-wrong vars w x Missing q e = three q e
+first-wrong vars w x (Number z) q e = three q e
+first-wrong vars w x (Variable v) q e = three q e
+first-wrong vars w x (Compares c) q e = three q e
+first-wrong vars w x (Keyword n) q e = named-wrong vars w x n q e
+first-wrong vars w x Other q e = three q e
 
-row-wrong : (vars : ℕ) (w : ℕ → Word) (q : ℕ) → rowOf vars w ≡ Wrong q → q ≡ 0 → ⊥
-unfolding rowOf
-row-wrong vars w q e = first-wrong vars w (w 0) q e
+row-wrong : (vars : ℕ) (ts : List (List ℕ)) (q : ℕ) → rowOf vars ts ≡ Wrong q → q ≡ 0 → ⊥
+unfolding rowOf wordsRow
+row-wrong vars ts q e = first-wrong vars (wordsOf ts) (λ i. parse (getD ts i [])) (wordsOf ts 0) q e
 
 -- a row that is read has a line
-pub row-line : (vars : ℕ) (s : List ℕ) (k : Kind) → rowOf vars (nextWords rowKey (lines s)) ≡ Read k → before 10 s < length s
-unfolding rowOf
+pub row-line : (vars : ℕ) (s : List ℕ) (k : RowKind) → rowOf vars (nextTexts rowKey (lines s)) ≡ Read k → before 10 s < length s
+unfolding rowOf wordsRow wordsOf
 row-line vars s k e = go (ltb (before 10 s) (length s)) refl
   where
     go : (t : Bool) → ltb (before 10 s) (length s) ≡ t → before 10 s < length s
     go true p = ltb-true _ _ p
     go false p =
-        let m : nextWords rowKey (lines s) ≡ (λ _. Missing) = next-none rowKey s (ltb-false (before 10 s) (length s) p) in
-        let f : rowOf vars (λ _. Missing) ≡ Read k = ap (rowOf vars) (sym m) ∙ e in
+        let m : nextTexts rowKey (lines s) ≡ [] = next-none rowKey s (ltb-false (before 10 s) (length s) p) in
+        let f : rowOf vars [] ≡ Read k = ap (rowOf vars) (sym m) ∙ e in
         absurd (let y : _≡_ {A = ℕ} 0 1 = cc in omega arith)
 
 pub ranges-none : (file : List ℕ) (at n : ℕ) → at ≤ length file → RangesUpto file at n (replicate 16 (pos 0 ∷ (pos 0 ∷ []))) at 0
@@ -154,8 +153,9 @@ pub record RowsUpto (file : List ℕ) (at vars n : ℕ) (rows : List Row) (block
   pub within : next ≤ length file
   pub size : length rows ≡ 256
   pub shallow : Shallow blocks
+  pub written : WrittenRows file rows i
   pub same : rowLines vars n (4 + vars) (lines (drop at file)) noRows
-      ≡ rowLines vars (n - i) (4 + vars + i) (lines (drop next file)) (record { kinds = take i (kindsOf rows); nest = nestOf blocks })
+      ≡ rowLines vars (n - i) (4 + vars + i) (lines (drop next file)) (record { kinds = take i (kindsOf file rows); nest = nestOf blocks })
 
 -- where the row lines stop: question 0 for none, or the first no with its line; the next byte; the open blocks; the rows
 pub record Stop : Type 0 where
@@ -168,10 +168,11 @@ pub record Stop : Type 0 where
 -- what they give then, n lines in all
 unfoldable pub given : List ℕ → ℕ → Stop → Reading Rows
 given file n r =
-    cond (eqb (r .number) 0) (read (record { kinds = take n (kindsOf (r .rows)); nest = nestOf (r .blocks) }) (lines (drop (r .at) file))) (refused (r .number) (r .place))
+    cond (eqb (r .number) 0) (read (record { kinds = take n (kindsOf file (r .rows)); nest = nestOf (r .blocks) }) (lines (drop (r .at) file))) (refused (r .number) (r .place))
 
-abbrev pub RowsRead : List ℕ → ℕ → ℕ → ℕ → Stop → Type 0
-RowsRead file at vars n r = rowLines vars n (4 + vars) (lines (drop at file)) noRows ≡ given file n r
+pub record RowsRead (file : List ℕ) (at vars n : ℕ) (r : Stop) : Type 0 where
+  pub same : rowLines vars n (4 + vars) (lines (drop at file)) noRows ≡ given file n r
+  pub written : r .number ≡ 0 → WrittenRows file (r .rows) n
 
 pub rows-none : (file : List ℕ) (at vars n : ℕ) (rows : List Row) (kinds : List ℕ) → at ≤ length file → length rows ≡ 256
     → RowsUpto file at vars n rows (record { kinds = kinds; depth = 0; loops = 0 }) at 0
@@ -180,47 +181,47 @@ rows-none file at vars n rows kinds h l = record {
   within = h;
   size = l;
   shallow = record { deep = omega arith; many = omega arith };
+  written = λ j k. absurd (omega arith);
   same = rw (nest-none kinds) (ap (λ p. rowLines vars n p (lines (drop at file)) noRows) (omega arith) ∙ ap (λ m. rowLines vars m (4 + vars + 0) (lines (drop at file)) noRows) (omega arith));
 }
 
--- what a line that is read says, and one that is not
-line-read : (x : RowRead) (n : ℕ) (k : Kind) (end : ℕ) → Line.Read k end ≡ lineOf x n → (Read k ≡ x) × (end ≡ n)
-line-read (Read j) n k end e = let y : k ≡ j = cc in let z : end ≡ n = cc in (ap Read y, z)
-line-read (Wrong q) n k end e = absurd (let y : _≡_ {A = ℕ} 0 1 = cc in omega arith)
-
-line-wrong : (x : RowRead) (n q : ℕ) → Line.Wrong q ≡ lineOf x n → Wrong q ≡ x
-line-wrong (Read k) n q e = absurd (let y : _≡_ {A = ℕ} 0 1 = cc in omega arith)
-line-wrong (Wrong p) n q e = let y : q ≡ p = cc in ap Wrong y
+-- the rows with one more
+written-more : (file : List ℕ) (rows : List Row) (i : ℕ) (k : Kind) → i < length rows → WrittenRows file rows i → Written file k → WrittenRows file (set rows i (record { kind = k })) (i + 1)
+written-more file rows i k l h w j m = go (eqb j i) refl
+  where
+    go : (t : Bool) → eqb j i ≡ t → Written file (getD (set rows i (record { kind = k })) j (record { kind = Kind.End }) .kind)
+    go true e = let f : j ≡ i = eqb-true j i e in rw (f, getD-set-same rows i (record { kind = k }) (record { kind = Kind.End }) l) w
+    go false e = let f = eqb-false j i e in rw (getD-set-other rows i j (record { kind = k }) (record { kind = Kind.End }) f) (h j (omega arith))
 
 module _ (file : List ℕ) (at vars n : ℕ) (rows : List Row) (blocks : Blocks) (next i len : ℕ) (u : RowsUpto file at vars n rows blocks next i) (h : i < n) where
-  row-step : (r : RowRead) → r ≡ rowOf vars (nextWords rowKey (lines (drop next file)))
-      → rowLines vars n (4 + vars) (lines (drop at file)) noRows ≡ rowLine (4 + vars + i) (record { kinds = take i (kindsOf rows); nest = nestOf blocks }) r (λ x. rowLines vars (n - (i + 1)) (suc (4 + vars + i)) (nextLines (lines (drop next file))) x)
+  row-step : (r : RowRead) → r ≡ rowOf vars (nextTexts rowKey (lines (drop next file)))
+      → rowLines vars n (4 + vars) (lines (drop at file)) noRows ≡ rowLine (4 + vars + i) (record { kinds = take i (kindsOf file rows); nest = nestOf blocks }) r (λ x. rowLines vars (n - (i + 1)) (suc (4 + vars + i)) (nextLines (lines (drop next file))) x)
   unfolding rowLines
-  row-step r e = u .same ∙ ap (λ m. rowLines vars m (4 + vars + i) (lines (drop next file)) (record { kinds = take i (kindsOf rows); nest = nestOf blocks })) (less-one n i h) ∙ rw (sym e) refl
+  row-step r e = u .same ∙ ap (λ m. rowLines vars m (4 + vars + i) (lines (drop next file)) (record { kinds = take i (kindsOf file rows); nest = nestOf blocks })) (less-one n i h) ∙ rw (sym e) refl
 
   -- a no in this line
   stops : (q : ℕ) → (q ≡ 0 → ⊥) → rowLines vars n (4 + vars) (lines (drop at file)) noRows ≡ refused q (4 + vars + i)
       → RowsRead file at vars n (record { number = q; place = 4 + vars + i; at = next; blocks = blocks; rows = rows })
   unfolding given
-  stops q z e = e ∙ rw (ne-eqb q 0 z)
+  stops q z e = record { same = e ∙ rw (ne-eqb q 0 z); written = λ y. absurd (z y) }
 
-  pub rows-wrong : (q : ℕ) → Line.Wrong q ≡ lineRead (drop next file) vars
+  pub rows-wrong : (q : ℕ) → LineRead (drop next file) next vars (Line.Wrong q)
       → RowsRead file at vars n (record { number = q; place = 4 + vars + i; at = next; blocks = blocks; rows = rows })
   unfolding rowLine
   rows-wrong q line =
-      let e = line-wrong (rowOf vars (nextWords rowKey (lines (drop next file)))) (before 10 (drop next file)) q line in
+      let e = line .line file refl in
       stops q (row-wrong vars _ q (sym e)) (row-step (Wrong q) e)
 
-  module _ (k : Kind) (line : Line.Read k len ≡ lineRead (drop next file) vars) (p : Placed) (f : nestedOf p ≡ nestRow (viewOf k) (nestOf blocks)) where
-    said : (Read k ≡ rowOf vars (nextWords rowKey (lines (drop next file)))) × (len ≡ before 10 (drop next file))
-    said = line-read (rowOf vars (nextWords rowKey (lines (drop next file)))) (before 10 (drop next file)) k len line
+  module _ (k : Kind) (line : LineRead (drop next file) next vars (Line.Read k len)) (p : Placed) (f : nestedOf p ≡ nestRow (viewOf (kindOf file k)) (nestOf blocks)) where
+    said : (Read (kindOf file k) ≡ rowOf vars (nextTexts rowKey (lines (drop next file)))) × (len ≡ before 10 (drop next file))
+    said = (line .line file refl, line .ends)
 
     pub rows-misplaced : (p .number ≡ 0 → ⊥) → RowsRead file at vars n (record { number = p .number; place = 4 + vars + i; at = next; blocks = blocks; rows = rows })
     unfolding rowLine placed nestedOf
-    rows-misplaced z = stops (p .number) z (row-step (Read k) (said .0) ∙ rw (← f, ne-eqb (p .number) 0 z) refl)
+    rows-misplaced z = stops (p .number) z (row-step (Read (kindOf file k)) (said .0) ∙ rw (← f, ne-eqb (p .number) 0 z) refl)
 
     there : before 10 (drop next file) < length (drop next file)
-    there = row-line vars (drop next file) k (sym (said .0))
+    there = row-line vars (drop next file) (kindOf file k) (sym (said .0))
 
     pub rows-long : next + len + 1 ≤ length file
     rows-long = omega (arith, said .1, there, length-drop next file, u .within)
@@ -232,10 +233,11 @@ module _ (file : List ℕ) (at vars n : ℕ) (rows : List Row) (blocks : Blocks)
       within = rows-long;
       size = length-set rows i (record { kind = k }) ∙ u .size;
       shallow = s;
-      same = row-step (Read k) (said .0) ∙ rw (← f, eq-eqb (p .number) 0 z) (
-          ap (λ (ls : List (List ℕ)). rowLines vars (n - (i + 1)) (suc (4 + vars + i)) ls (record { kinds = take i (kindsOf rows) ++ (k ∷ []); nest = nestOf (p .blocks) })) onward
-          ∙ ap (λ (ks : List Kind). rowLines vars (n - (i + 1)) (suc (4 + vars + i)) (lines (drop (next + len + 1) file)) (record { kinds = ks; nest = nestOf (p .blocks) })) (sym (kinds-more rows i (record { kind = k }) (omega (arith, u .size))))
-          ∙ rw (add-one i) (ap (λ m. rowLines vars (n - suc i) m (lines (drop (next + len + 1) file)) (record { kinds = take (suc i) (kindsOf (set rows i (record { kind = k }))); nest = nestOf (p .blocks) })) (omega arith)));
+      written = written-more file rows i k (omega (arith, u .size)) (u .written) (line .written file refl);
+      same = row-step (Read (kindOf file k)) (said .0) ∙ rw (← f, eq-eqb (p .number) 0 z) (
+          ap (λ (ls : List (List ℕ)). rowLines vars (n - (i + 1)) (suc (4 + vars + i)) ls (record { kinds = take i (kindsOf file rows) ++ (kindOf file k ∷ []); nest = nestOf (p .blocks) })) onward
+          ∙ ap (λ (ks : List RowKind). rowLines vars (n - (i + 1)) (suc (4 + vars + i)) (lines (drop (next + len + 1) file)) (record { kinds = ks; nest = nestOf (p .blocks) })) (sym (kinds-more file rows i (record { kind = k }) (omega (arith, u .size))))
+          ∙ rw (add-one i) (ap (λ m. rowLines vars (n - suc i) m (lines (drop (next + len + 1) file)) (record { kinds = take (suc i) (kindsOf file (set rows i (record { kind = k }))); nest = nestOf (p .blocks) })) (omega arith)));
     }
       where
         onward : nextLines (lines (drop next file)) ≡ lines (drop (next + len + 1) file)
@@ -249,4 +251,4 @@ unfolding rowLines given
 rows-all file at vars n rows blocks next i u h =
     let e : i ≡ n = omega (arith, u .few) in
     let z : n - i ≡ 0 = omega arith in
-    u .same ∙ rw (z, e)
+    record { same = u .same ∙ rw (z, e); written = λ y. subst (WrittenRows file rows) e (u .written) }

@@ -8,9 +8,7 @@ use native.Mathlib.Numerals.{add-one}
 use lib.Dec.{eqb, ltb}
 use borrow.Author.Tests.{ltb-true, ltb-false, eq-eqb, ne-eqb, eqb-true, eqb-false}
 use lib.ListN.{length, getD, take, drop}
-use Rattle.rules.specs.declared.Word.{Word}
-use Rattle.rules.specs.declared.Word.the-variants.{Missing}
-use Rattle.rules.specs.Text.{prefixed, split, startsWith, wordsOf, lineWords, nextWords, nextLines}
+use Rattle.rules.specs.Text.{prefixed, split, startsWith, wordsOf, lineTexts, nextTexts, nextWords, nextLines}
 use Rattle.text.specs.Words.{before, Ends, parts, following}
 use Rattle.rules.specs.File.{asksEnd}
 use Rattle.text.proofs.Laws.{split-more, split-last}
@@ -28,21 +26,21 @@ split-some b (x ∷ s) = go (eqb x b) (split-some b s)
     go true h = ([], split b s, refl)
     go false (p, ps, e) = (x ∷ p, ps, ap (prefixed x) e)
 
-next-two : (key p q : List ℕ) (qs : List (List ℕ)) → nextWords key (p ∷ (q ∷ qs)) ≡ lineWords key p
-unfolding nextWords
+next-two : (key p q : List ℕ) (qs : List (List ℕ)) → nextTexts key (p ∷ (q ∷ qs)) ≡ lineTexts key p
+unfolding nextTexts
 next-two key p q qs = refl
 
 module _ (key s : List ℕ) where
   -- a line
-  pub next-line : before 10 s < length s → nextWords key (lines s) ≡ lineWords key (take (before 10 s) s)
+  pub next-line : before 10 s < length s → nextTexts key (lines s) ≡ lineTexts key (take (before 10 s) s)
   next-line h =
       let (q, qs, e) = split-some 10 (drop (suc (before 10 s)) s) in
-      ap (nextWords key) (split-more 10 s h ∙ ap (λ (ls : List (List ℕ)). take (before 10 s) s ∷ ls) e) ∙ next-two key _ q qs
+      ap (nextTexts key) (split-more 10 s h ∙ ap (λ (ls : List (List ℕ)). take (before 10 s) s ∷ ls) e) ∙ next-two key _ q qs
 
   -- no line
-  pub next-none : length s ≤ before 10 s → nextWords key (lines s) ≡ (λ _. Missing)
-  unfolding nextWords
-  next-none h = ap (nextWords key) (split-last 10 s h)
+  pub next-none : length s ≤ before 10 s → nextTexts key (lines s) ≡ []
+  unfolding nextTexts
+  next-none h = ap (nextTexts key) (split-last 10 s h)
 
 pub lines-next : (s : List ℕ) → before 10 s < length s → nextLines (lines s) ≡ lines (drop (before 10 s + 1) s)
 unfolding nextLines
@@ -109,17 +107,17 @@ same-start (k ∷ (l ∷ key)) (b ∷ s) e = start-step k b (l ∷ key) s (clean
 
 -- the words of a line with the key follow the key's last byte
 pub record Words (key s : List ℕ) : Type 0 where
-  pub words : wordsOf (split 32 (drop (length key) (take (before 10 s) s))) ≡ following (drop (last key) s)
+  pub texts : split 32 (drop (length key) (take (before 10 s) s)) ≡ parts (drop (last key) s)
   pub line : last key + before 10 (drop (last key) s) ≡ before 10 s
   pub ends : Ends (drop (last key) s)
 
 key-one : (k b : ℕ) (s : List ℕ) → eqb b 10 ≡ false → Ends (b ∷ s) → Words (k ∷ []) (b ∷ s)
-unfolding before Ends following parts last
-key-one k b s n h = record { words = simp n; line = simp n (omega arith); ends = h }
+unfolding before Ends parts last
+key-one k b s n h = record { texts = simp n; line = simp n (omega arith); ends = h }
 
 key-more : (k l b : ℕ) (key s : List ℕ) → eqb b 10 ≡ false → Words (l ∷ key) s → Words (k ∷ (l ∷ key)) (b ∷ s)
 unfolding before last
-key-more k l b key s n w = record { words = simp n (w .words); line = simp n (omega (arith, w .line)); ends = w .ends }
+key-more k l b key s n w = record { texts = simp n (w .texts); line = simp n (omega (arith, w .line)); ends = w .ends }
 
 ends-on : (b : ℕ) (s : List ℕ) → eqb b 10 ≡ false → Ends (b ∷ s) → Ends s
 unfolding before Ends
@@ -148,16 +146,16 @@ module _ (key s : List ℕ) (c : clean key ≡ true) where
     unfolding Ends
     at-words = let (h, f) = keyed-yes key s e in key-words key s c f h
 
-    pub at-next : nextWords key (lines s) ≡ following (drop (last key) s)
-    unfolding lineWords
-    at-next = let (h, f) = keyed-yes key s e in next-line key s h ∙ rw (same-start key s c, f) (at-words .words)
+    pub at-next : nextTexts key (lines s) ≡ parts (drop (last key) s)
+    unfolding lineTexts
+    at-next = let (h, f) = keyed-yes key s e in next-line key s h ∙ rw (same-start key s c, f) (at-words .texts)
 
   -- none
-  pub at-none : keyed key s ≡ false → nextWords key (lines s) ≡ (λ _. Missing)
-  unfolding keyed lineWords
+  pub at-none : keyed key s ≡ false → nextTexts key (lines s) ≡ []
+  unfolding keyed lineTexts
   at-none e = go (ltb (before 10 s) (length s)) refl e
     where
-      go : (t : Bool) → ltb (before 10 s) (length s) ≡ t → cond t (startsWith key s) false ≡ false → nextWords key (lines s) ≡ (λ _. Missing)
+      go : (t : Bool) → ltb (before 10 s) (length s) ≡ t → cond t (startsWith key s) false ≡ false → nextTexts key (lines s) ≡ []
       go true p f = next-line key s (ltb-true _ _ p) ∙ rw (same-start key s c, f)
       go false p f = next-none key s (ltb-false _ _ p)
 
@@ -175,13 +173,18 @@ found-line (x ∷ s) (suc i) h e = go (eqb x 10) (found-line s i (omega arith) e
 -- a line with the key, whose last byte is at p
 pub record Keyed (key s : List ℕ) (p : ℕ) : Type 0 where
   pub ends : Ends (drop p s)
+  pub texts : nextTexts key (lines s) ≡ parts (drop p s)
   pub words : nextWords key (lines s) ≡ following (drop p s)
   pub line : p + before 10 (drop p s) ≡ before 10 s
+
+same-words : (ts : List (List ℕ)) (s : List ℕ) → ts ≡ parts s → wordsOf ts ≡ following s
+unfolding following
+same-words ts s e = ap wordsOf e
 
 pub keyed-at : (key s : List ℕ) (p : ℕ) → clean key ≡ true → last key ≡ p → keyed key s ≡ true → Keyed key s p
 keyed-at key s p c e k =
     let w = at-words key s c k in
-    subst (Keyed key s) e (record { ends = w .ends; words = at-next key s c k; line = w .line })
+    subst (Keyed key s) e (record { ends = w .ends; texts = at-next key s c k; words = same-words _ _ (at-next key s c k); line = w .line })
 
 -- the line ends where its m words do
 pub keyed-end : (key s : List ℕ) (p m n : ℕ) → Keyed key s p → Reached s p m n → asksEnd (following (drop p s) m) ≡ 0 → n ≡ before 10 s

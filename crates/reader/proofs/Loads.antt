@@ -19,14 +19,14 @@ use borrow.Author.Tests.{eq-eqb, ne-eqb, eqb-true, eqb-false, le-leb, lt-leb, lt
 use Rattle.rules.specs.Ranges.{Range}
 use Rattle.rules.specs.Scripts.{Script, pairRanges, BlankFrom, scriptOf}
 use Rattle.rules.specs.Text.{prefixed, split}
-use Rattle.rules.specs.File.{Reading, read, refused, andThen, unless, sooner, asksRest, asksClosed, lastLine, rangeLines, rowLines, noRows, countLine, varsKey, scriptLine, rowsKey, rowPart, rangePart, linesScript, fileScript}
+use Rattle.rules.specs.File.{Reading, read, refused, andThen, unless, turnOf, sooner, asksRest, asksClosed, lastLine, rowLines, noRows, countLine, varsKey, scriptLine, rowsKey, rowPart, rangePart, linesScript, fileScript}
 use Rattle.nesting.specs.Open.{nestOf}
 use Rattle.nesting.proofs.Laws.{closed-depth, open-depth}
 use Rattle.reader.specs.declared.Counted.{Counted}
 use Rattle.reader.specs.declared.Ranges.{Ranges}
 use Rattle.reader.specs.declared.Head.{Head}
 use Rattle.reader.specs.declared.Loaded.{Loaded}
-use Rattle.reader.specs.Read.{lines, countOf, CountRead, Pairs, rangesOf, RangesWithin, RangesRead, noHead, HeadWithin, CountPart, HeadRead, passing, headOf, rowsVerdict, ifRead, answerOf, loadedAnswer, RowsPart, LoadedAs}
+use Rattle.reader.specs.Read.{lines, countOf, CountRead, Pairs, rangesOf, RangesWithin, RangesRead, noHead, HeadWithin, CountPart, HeadRead, Sized, passing, headOf, rowsVerdict, ifRead, answerOf, loadedAnswer, WrittenRows, RowsPart, LoadedAs}
 use Rattle.reader.proofs.Lines.{split-some}
 use Rattle.reader.proofs.Fill.{Stop, given, RowsRead}
 
@@ -48,14 +48,14 @@ rest-none (x ∷ t) h = absurd (omega arith)
 module _ (file : List ℕ) (at vars n : ℕ) (l : Stop) (f : RowsRead file at vars n l) (ranges : List Range) where
   pub rows-refused : (l .number ≡ 0 → ⊥) → andThen (rowLines vars n (4 + vars) (lines (drop at file)) noRows) (lastLine (4 + vars + n) ranges) ≡ refused (l .number) (l .place)
   unfolding andThen given
-  rows-refused z = rw (f, ne-eqb (l .number) 0 z) refl
+  rows-refused z = rw (f .same, ne-eqb (l .number) 0 z) refl
 
   module _ (z : l .number ≡ 0) where
     -- the rows are read: the line after the last
     last : andThen (rowLines vars n (4 + vars) (lines (drop at file)) noRows) (lastLine (4 + vars + n) ranges)
-        ≡ lastLine (4 + vars + n) ranges (record { kinds = take n (kindsOf (l .rows)); nest = nestOf (l .blocks) }) (lines (drop (l .at) file))
+        ≡ lastLine (4 + vars + n) ranges (record { kinds = take n (kindsOf file (l .rows)); nest = nestOf (l .blocks) }) (lines (drop (l .at) file))
     unfolding andThen given
-    last = rw (f, eq-eqb (l .number) 0 z) refl
+    last = rw (f .same, eq-eqb (l .number) 0 z) refl
 
     ends-at : length file ≤ l .at → lines (drop (l .at) file) ≡ [] ∷ []
     ends-at h = rest-none (drop (l .at) file) (omega (arith, length-drop (l .at) file))
@@ -68,7 +68,7 @@ module _ (file : List ℕ) (at vars n : ℕ) (l : Stop) (f : RowsRead file at va
         go false e = g (open-depth (l .blocks) (eqb-false _ _ e))
 
     pub bytes-after : l .at < length file → andThen (rowLines vars n (4 + vars) (lines (drop at file)) noRows) (lastLine (4 + vars + n) ranges) ≡ refused 3 (4 + vars + n)
-    unfolding lastLine unless sooner
+    unfolding lastLine unless sooner turnOf
     bytes-after h =
         let r : asksRest (lines (drop (l .at) file)) ≡ 3 = rest-some (drop (l .at) file) (omega (arith, length-drop (l .at) file)) in
         last ∙ by-depth (λ e. rw (r, e) refl) (λ e. rw (r, e) refl)
@@ -78,7 +78,7 @@ module _ (file : List ℕ) (at vars n : ℕ) (l : Stop) (f : RowsRead file at va
     left-open h o = last ∙ rw (ends-at h, open-depth (l .blocks) o) refl
 
     pub all-read : length file ≤ l .at → l .blocks .depth ≡ 0
-        → andThen (rowLines vars n (4 + vars) (lines (drop at file)) noRows) (lastLine (4 + vars + n) ranges) ≡ read (record { ranges = ranges; rows = take n (kindsOf (l .rows)) }) ([] ∷ [])
+        → andThen (rowLines vars n (4 + vars) (lines (drop at file)) noRows) (lastLine (4 + vars + n) ranges) ≡ read (record { ranges = ranges; rows = take n (kindsOf file (l .rows)) }) ([] ∷ [])
     unfolding lastLine unless sooner asksRest
     all-read h o = last ∙ rw (ends-at h, closed-depth (l .blocks) o) refl
 
@@ -100,6 +100,9 @@ pub head-refused : (file : List ℕ) (ranges : List (List ℤ)) (reading : Readi
 unfolding headOf passing
 head-refused file ranges reading h q p e f =
     rw (e, f) (record { script = refl; pairs = λ z. absurd (let y : _≡_ {A = ℕ} 0 1 = cc in omega arith); within = none-within file q p })
+
+pub none-sized : (file : List ℕ) (h : Head) (q p : ℕ) → h ≡ noHead q p → Sized file h
+none-sized file h q p e n = let z : h .count ≡ 0 = rw e in absurd (omega arith)
 
 pub head-same : {file : List ℕ} {x y : Reading Script} {h : Head} {ranges : List (List ℤ)} → HeadRead file x h ranges → x ≡ y → HeadRead file y h ranges
 head-same r e = record { script = r .script ∙ e; pairs = r .pairs; within = r .within }
@@ -171,7 +174,7 @@ module _ (file : List ℕ) (ranges : List (List ℤ)) (h : Head) (l : Stop) (f :
   later = rowsVerdict (l .number) (l .place) (ltb (l .at) (length file)) (l .blocks .depth) (4 + h .vars + h .count)
 
   abbrev whole : Reading Script
-  whole = read (scriptOf ranges (h .vars) (l .rows) (h .count)) ([] ∷ [])
+  whole = read (scriptOf file ranges (h .vars) (l .rows) (h .count)) ([] ∷ [])
 
   tail-read : passing later whole ≡ tail
   unfolding passing rowsVerdict asked scriptOf
@@ -196,22 +199,37 @@ unfolding Questions.andThen
 then-passed Passed w u e z = refl
 then-passed (Refused q p) w u e z = absurd (let y : _≡_ {A = ℕ} 0 1 = cc in omega arith)
 
--- a loaded file is the reading of its script
-pub loaded : (v : Verdict) (vars count : ℕ) (rows : List Row) (ranges : List (List ℤ)) (reading : Reading Script)
-    → passing v (read (scriptOf ranges vars rows count) ([] ∷ [])) ≡ reading → vars ≤ 16 → (v ≡ Passed → length ranges ≡ 16) → count ≤ length rows
-    → loadedAnswer (record { verdict = v; vars = ifRead v vars; count = ifRead v count; rows = rows }) ranges ≡ answerOf reading
-unfolding passing answerOf scriptOf
-loaded Passed vars count rows ranges reading e small long all =
-    let a : length (take vars (pairRanges ranges)) ≡ vars = length-take-le vars (pairRanges ranges) (omega (arith, long refl, pairs-length ranges)) in
-    let b : length (take count (kindsOf rows)) ≡ count = kinds-first count rows all in
-    rw (← e, a, b) refl
-loaded (Refused q p) vars count rows ranges reading e small long all = rw (← e) refl
+-- the rows have all been read
+pub rows-passed : (v u : Verdict) (q line : ℕ) (more : Bool) (d end : ℕ) → u ≡ Questions.andThen v (rowsVerdict q line more d end) → u ≡ Passed → q ≡ 0
+unfolding Questions.andThen rowsVerdict asked
+rows-passed (Refused p i) u q line more d end e z = absurd (let y : _≡_ {A = ℕ} 0 1 = cc in omega arith)
+rows-passed Passed u q line more d end e z = go (eqb q 0) refl e
+  where
+    go : (t : Bool) → eqb q 0 ≡ t → u ≡ asked q line t (rowsVerdict 0 line more d end) → q ≡ 0
+    go true f g = eqb-true q 0 f
+    go false f g = absurd (let y : _≡_ {A = ℕ} 0 1 = cc in omega arith)
 
-pub loads : (file : List ℕ) (reading : Reading Script) (h : Head) (r : Loaded) (ranges : List (List ℤ)) → HeadRead file reading h ranges → RowsPart file h r → LoadedAs reading r ranges
+-- a loaded file is the reading of its script
+pub loaded : (file : List ℕ) (v : Verdict) (vars count : ℕ) (rows : List Row) (ranges : List (List ℤ)) (reading : Reading Script)
+    → passing v (read (scriptOf file ranges vars rows count) ([] ∷ [])) ≡ reading → vars ≤ 16 → (v ≡ Passed → length ranges ≡ 16) → count ≤ length rows
+    → loadedAnswer file (record { verdict = v; vars = ifRead v vars; count = ifRead v count; rows = rows }) ranges ≡ answerOf reading
+unfolding passing answerOf scriptOf
+loaded file Passed vars count rows ranges reading e small long all =
+    let a : length (take vars (pairRanges ranges)) ≡ vars = length-take-le vars (pairRanges ranges) (omega (arith, long refl, pairs-length ranges)) in
+    let b : length (take count (kindsOf file rows)) ≡ count = kinds-first file count rows all in
+    rw (← e, a, b) refl
+loaded file (Refused q p) vars count rows ranges reading e small long all = rw (← e) refl
+
+pub loads : (file : List ℕ) (reading : Reading Script) (h : Head) (r : Loaded) (ranges : List (List ℤ)) → HeadRead file reading h ranges → RowsPart file h r → LoadedAs file reading r ranges
 loads file reading h r ranges a b = record {
-  answer = same ∙ loaded (r .verdict) (h .vars) (h .count) (r .rows) ranges reading (b .script ranges ∙ a .script) (a .within .vars) (λ z. a .pairs (b .passes z) .long) (omega (arith, b .long, a .within .count));
+  answer = same ∙ loaded file (r .verdict) (h .vars) (h .count) (r .rows) ranges reading (b .script ranges ∙ a .script) (a .within .vars) (λ z. a .pairs (b .passes z) .long) (omega (arith, b .long, a .within .count));
   blank = λ z. subst (λ n. BlankFrom n ranges) (sym (b .vars ∙ ap (λ v. ifRead v (h .vars)) z)) (a .pairs (b .passes z) .blank);
+  written = all (r .verdict) refl;
 }
   where
-    same : loadedAnswer r ranges ≡ loadedAnswer (record { verdict = r .verdict; vars = ifRead (r .verdict) (h .vars); count = ifRead (r .verdict) (h .count); rows = r .rows }) ranges
+    all : (v : Verdict) → r .verdict ≡ v → WrittenRows file (r .rows) (r .count)
+    all Passed e i k = b .written e i (let n : r .count ≡ h .count = b .count ∙ ap (λ v. ifRead v (h .count)) e in omega arith)
+    all (Refused q p) e i k = absurd (let n : r .count ≡ 0 = b .count ∙ ap (λ v. ifRead v (h .count)) e in omega arith)
+
+    same : loadedAnswer file r ranges ≡ loadedAnswer file (record { verdict = r .verdict; vars = ifRead (r .verdict) (h .vars); count = ifRead (r .verdict) (h .count); rows = r .rows }) ranges
     same = rw (b .vars, b .count) refl

@@ -5,10 +5,13 @@ use mathlib.Core.List.{List, [], _∷_, _++_}
 use Prim.Native.Nat.{ℕ, zero, suc, _+_, _≤_, _<_}
 use lib.Dec.{eqb, ltb}
 use lib.IntN.{ℤ}
-use lib.ListN.{length, take, drop}
+use lib.ListN.{length, getD, take, drop}
 use Rattle.rules.specs.Ranges.{Range}
 use Rattle.rules.specs.Scripts.{Script, pairRanges, BlankFrom, scriptOf}
-use Rattle.rules.specs.Text.{split, startsWith, nextWords, nextLines}
+use Rattle.rules.specs.Text.{split, startsWith, nextTexts, nextWords, nextLines}
+use Rattle.rules.specs.declared.Kind.{Kind}
+use Rattle.rules.specs.declared.Row.{Row}
+use Rattle.rules.specs.Written.{Written}
 use Rattle.rules.specs.declared.Verdict.{Verdict}
 use Rattle.rules.specs.declared.Verdict.the-variants.{Passed, Refused}
 use Rattle.rules.specs.Questions.{asked}
@@ -16,7 +19,7 @@ use Rattle.rules.specs.File
 use Rattle.rules.specs.File.{Reading, read, refused, unless, countLine, asksRange, rangeKey, rowKey, rowOf, rangeLines, rowLines, noRows, andThen, lastLine, rowPart}
 use Rattle.text.specs.Words.{before}
 use Rattle.rows.specs.declared.Line.{Line}
-use Rattle.rows.specs.Words.{lineOf}
+use Rattle.rows.specs.Words.{Rowed}
 use Rattle.reader.specs.declared.Counted.{Counted}
 use Rattle.reader.specs.declared.Ranged.{Ranged}
 use Rattle.reader.specs.declared.Ranges.{Ranges}
@@ -65,9 +68,9 @@ pub record RangeRead (rest : List ℕ) (r : Ranged) : Type 0 where
       → unless (asksRange (nextWords rangeKey (lines rest))) p (f (File.rangeOf (nextWords rangeKey (lines rest))) (nextLines (lines rest))) ≡ rangeOf rest p f r
   pub within : RangeWithin rest r
 
--- what a row line reads: the row, and its length without the LF
-abbrev pub lineRead : List ℕ → ℕ → Line
-lineRead rest vars = lineOf (rowOf vars (nextWords rowKey (lines rest))) (before 10 rest)
+-- what a row line reads: the row, and its length without the LF; `rest` begins at the file's byte `base`
+abbrev pub LineRead : List ℕ → ℕ → ℕ → Line → Type 0
+LineRead rest base vars r = Rowed rest base (rowOf vars (nextTexts rowKey (lines rest))) (before 10 rest) r
 
 -- all range lines of a file, n of them: the first n pairs of the array
 unfoldable pub rangesOf : List ℕ → ℕ → Ranges → List (List ℤ) → Reading (List Range)
@@ -119,6 +122,14 @@ pub record HeadRead (file : List ℕ) (reading : Reading Script) (h : Head) (ran
   pub pairs : h .verdict ≡ Passed → Pairs (h .vars) ranges
   pub within : HeadWithin file h
 
+-- a file with rows is not too long
+abbrev pub Sized : List ℕ → Head → Type 0
+Sized file h = 0 < h .count → length file ≤ 16_384
+
+-- the expressions of the first n rows stand in the file
+abbrev pub WrittenRows : List ℕ → List Row → ℕ → Type 0
+WrittenRows file rows n = (i : ℕ) → i < n → Written file (getD rows i (record { kind = Kind.End }) .kind)
+
 -- the questions of the rows in order: the one that stopped them, 3 of bytes after the last row, 6 of blocks that are open there
 unfoldable pub rowsVerdict : ℕ → ℕ → Bool → ℕ → ℕ → Verdict
 rowsVerdict stopped line more depth end = asked stopped line (eqb stopped 0) (asked 3 end (not more) (asked 6 end (eqb depth 0) Passed))
@@ -130,11 +141,12 @@ ifRead (Refused q p) n = 0
 
 -- the rows after a head: its file's script, or the first no
 pub record RowsPart (file : List ℕ) (h : Head) (r : Loaded) : Type 0 where
-  pub script : (ranges : List (List ℤ)) → passing (r .verdict) (read (scriptOf ranges (h .vars) (r .rows) (h .count)) ([] ∷ [])) ≡ headOf file ranges h
+  pub script : (ranges : List (List ℤ)) → passing (r .verdict) (read (scriptOf file ranges (h .vars) (r .rows) (h .count)) ([] ∷ [])) ≡ headOf file ranges h
   pub passes : r .verdict ≡ Passed → h .verdict ≡ Passed
   pub vars : r .vars ≡ ifRead (r .verdict) (h .vars)
   pub count : r .count ≡ ifRead (r .verdict) (h .count)
   pub long : length (r .rows) ≡ 256
+  pub written : r .verdict ≡ Passed → WrittenRows file (r .rows) (h .count)
 
 -- what the reader answers: the verdict, the numbers of variables and rows, and the script; a refused file has none
 pub record Answer : Type 0 where
@@ -147,11 +159,12 @@ unfoldable pub answerOf : Reading Script → Answer
 answerOf (read script rest) = record { verdict = Passed; vars = length (script .ranges); count = length (script .rows); script = script }
 answerOf (refused q p) = record { verdict = Refused q p; vars = 0; count = 0; script = record { ranges = []; rows = [] } }
 
--- the same as code holds it: the first `vars` pairs of the lent array, the first `count` rows
-abbrev pub loadedAnswer : Loaded → List (List ℤ) → Answer
-loadedAnswer r ranges = record { verdict = r .verdict; vars = r .vars; count = r .count; script = scriptOf ranges (r .vars) (r .rows) (r .count) }
+-- the same as code holds it: the first `vars` pairs of the lent array, the first `count` rows, beside the file
+abbrev pub loadedAnswer : List ℕ → Loaded → List (List ℤ) → Answer
+loadedAnswer file r ranges = record { verdict = r .verdict; vars = r .vars; count = r .count; script = scriptOf file ranges (r .vars) (r .rows) (r .count) }
 
 -- a loaded file is this reading
-pub record LoadedAs (reading : Reading Script) (r : Loaded) (ranges : List (List ℤ)) : Type 0 where
-  pub answer : loadedAnswer r ranges ≡ answerOf reading
+pub record LoadedAs (file : List ℕ) (reading : Reading Script) (r : Loaded) (ranges : List (List ℤ)) : Type 0 where
+  pub answer : loadedAnswer file r ranges ≡ answerOf reading
   pub blank : r .verdict ≡ Passed → BlankFrom (r .vars) ranges
+  pub written : WrittenRows file (r .rows) (r .count)

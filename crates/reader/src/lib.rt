@@ -1,4 +1,5 @@
 // Reads a script file line by line: the questions 2 to 7. Each line's reader gets the unread rest of the file.
+use expressions::sooner;
 use nesting::Blocks;
 use nesting::nest_row;
 use rows::Line;
@@ -8,7 +9,6 @@ use rows::asks_one;
 use rows::asks_order;
 use rows::number_of;
 use rows::row_of;
-use rows::sooner;
 use rules::BLANK;
 use rules::Row;
 use rules::Verdict;
@@ -18,7 +18,7 @@ use text::said;
 use text::starts_with;
 ghost use mathlib.Core.Path.{_≡_};
 ghost use mathlib.Core.Bool.{true};
-ghost use Prim.Native.Nat.{_≤_};
+ghost use Prim.Native.Nat.{_+_, _≤_};
 ghost use lib.Dec.{ltb};
 ghost use lib.IntN.{pos, natAbs};
 ghost use lib.Signed.{_≤ℤ_};
@@ -26,7 +26,7 @@ ghost use lib.ListN.{length, drop};
 ghost use Rattle.rules.specs.Questions;
 ghost use Rattle.rules.specs.File.{andThen, varsKey, scriptLine, countLine, rangePart, fileScript};
 ghost use Rattle.text.specs.Words.{before};
-ghost use Rattle.reader.specs.Read.{keyed, clean, lines, countOf, CountRead, Within, RangeRead, lineRead, RangesRead, noHead, HeadWithin, CountPart, HeadRead, rowsVerdict, ifRead, LoadedAs};
+ghost use Rattle.reader.specs.Read.{keyed, clean, lines, countOf, CountRead, Within, RangeRead, LineRead, RangesRead, noHead, HeadWithin, CountPart, HeadRead, Sized, rowsVerdict, ifRead, LoadedAs};
 
 // Whether an LF ends the next line.
 fn has_line(rest: &[u8]) -> bool
@@ -152,13 +152,13 @@ fn read_ranges(file: &[u8], at: usize, n: usize, ranges: &mut [[i32; 2]; 16]) ->
     Ranges::Until(next)
 }
 
-// The next line's row.
-fn row_line(rest: &[u8], vars: u32) -> Line
-    requires { ⌜ vars ≤ 16 ⌝ }
-    ensures { λ r. ⌜ r ≡ lineRead (now (rest .entry)) vars ⌝ }
+// The next line's row. The rest begins at the file's byte `base`.
+fn row_line(rest: &[u8], base: usize, vars: u32) -> Line
+    requires { ⌜ (vars ≤ 16) × (base + length (now rest) ≤ 16_384) ⌝ }
+    ensures { λ r. ⌜ LineRead (now (rest .entry)) base vars r ⌝ }
 {
     if keyed(rest, b"row=") {
-        return row_of(rest, 3, vars);
+        return row_of(rest, 3, base, vars);
     }
     Line::Wrong(3)
 }
@@ -229,7 +229,7 @@ fn load_vars(file: &[u8], at: usize, ranges: &mut [[i32; 2]; 16]) -> Head
 
 // The lines before the rows.
 fn load_head(file: &[u8], ranges: &mut [[i32; 2]; 16]) -> Head
-    ensures { λ r. ⌜ HeadRead (now (file .entry)) (fileScript (now (file .entry))) r (now (ranges .exit)) ⌝ }
+    ensures { λ r. ⌜ HeadRead (now (file .entry)) (fileScript (now (file .entry))) r (now (ranges .exit)) × Sized (now (file .entry)) r ⌝ }
 {
     if 16_384 < file.len() {
         return refused(2, 16_384);
@@ -294,7 +294,7 @@ const NONE_OPEN: Blocks = Blocks {
 
 // A file's script, or its first no. The ranges are the pairs of the lent array. Each file has one array of rows, refused or not: no copy where ways meet.
 pub fn load(file: &[u8], ranges: &mut [[i32; 2]; 16]) -> Loaded
-    ensures { λ r. ⌜ LoadedAs (fileScript (now (file .entry))) r (now (ranges .exit)) ⌝ }
+    ensures { λ r. ⌜ LoadedAs (now (file .entry)) (fileScript (now (file .entry))) r (now (ranges .exit)) ⌝ }
 {
     let head = load_head(file, ranges);
     let mut rows = [BLANK; 256];
@@ -303,7 +303,7 @@ pub fn load(file: &[u8], ranges: &mut [[i32; 2]; 16]) -> Loaded
     let mut stopped: u32 = 0;
     let mut i: usize = 0;
     while i < head.count {
-        let l = row_line(&file[next..], head.vars as u32);
+        let l = row_line(&file[next..], next, head.vars as u32);
         match l {
             Line::Read(kind, end) => {
                 let p = nest_row(kind, blocks);

@@ -1,4 +1,6 @@
-// A row by its words: the questions 3, 4 and 5 of each word, and what the words say.
+// A row by its words: the questions 3, 17, 4 and 5 of each word, and what the words say.
+use expressions::question;
+use expressions::sooner;
 use rules::Change;
 use rules::Comparison;
 use rules::Kind;
@@ -9,26 +11,16 @@ use text::next_word;
 use text::said;
 ghost use mathlib.Core.Path.{_≡_};
 ghost use mathlib.Core.Bool.{cond};
-ghost use Prim.Native.Nat.{_≤_, _<_};
-ghost use lib.ListN.{drop};
+ghost use mathlib.Core.List.{[]};
+ghost use Prim.Native.Nat.{ℕ, _+_, _≤_, _<_};
+ghost use lib.ListN.{length, drop};
 ghost use lib.IntN.{ℤ, pos, natAbs};
 ghost use Rattle.rules.specs.Values.{highest};
-ghost use Rattle.rules.specs.File.{sooner, asksEnd, asksNumber, asksVariable, asksOperand, asksComparison, asksChange, asksStep, asksOne, asksOrder, numberOf, variableOf, operandOf, comparisonOf, changeOf, stepOf, bareRow, setRow, moveRow, cueRow, whileRow, doRow, forRow, namedRow};
-ghost use Rattle.text.specs.Words.{Ends, following};
-ghost use Rattle.rows.specs.Words.{Lined, rowLine};
-
-// The first question of two that has no; 0: both have yes.
-pub fn sooner(p: u32, q: u32) -> u32
-    ensures { λ r. ⌜ r ≡ sooner p q ⌝ }
-{
-    if p == 0 {
-        return q;
-    }
-    if q == 0 {
-        return p;
-    }
-    if p <= q { p } else { q }
-}
+ghost use Rattle.rules.specs.File.{asksEnd, asksNumber, asksVariable, asksExpr, asksComparison, asksChange, asksStep, asksOne, asksOrder, numberOf, variableOf, comparisonOf, changeOf, stepOf, bareRow, setRow, moveRow, cueRow, whileRow, doRow, forRow, namedRow, rowOf};
+ghost use Rattle.rules.specs.Blocks.{kindOf};
+ghost use Rattle.rules.specs.Parse.{parse};
+ghost use Rattle.text.specs.Words.{before, Ends, parts, following};
+ghost use Rattle.rows.specs.Words.{textIn, Means, Small, operandAt, Bare, Lined, Rowed};
 
 // Question 4 of a number.
 fn inside(lo: i32, hi: i32, z: i32) -> u32
@@ -70,14 +62,26 @@ pub fn asks_variable(vars: u32, w: Word) -> u32
     }
 }
 
-// A constant or a variable.
-pub fn asks_operand(vars: u32, w: Word) -> u32
-    ensures { λ r. ⌜ r ≡ asksOperand vars w ⌝ }
+// The questions of a word that is to be an expression: the bytes from `at + 1` to `end`.
+fn asks_text(s: &[u8], at: usize, end: usize, vars: u32) -> u32
+    requires { ⌜ (end ≤ length (now s)) × (vars ≤ 16) ⌝ }
+    ensures { λ r. ⌜ r ≡ asksExpr vars (parse (textIn (now (s .entry)) at end)) ⌝ }
+{
+    if at < end {
+        return question(&s[at + 1..end], vars);
+    }
+    3
+}
+
+// The same of a word that is read: a constant or a variable alone is not read again.
+fn asks_expression(s: &[u8], at: usize, end: usize, vars: u32, w: Word) -> u32
+    requires { ⌜ (end ≤ length (now s)) × (vars ≤ 16) × Means vars w (parse (textIn (now s) at end)) ⌝ }
+    ensures { λ r. ⌜ r ≡ asksExpr vars (parse (textIn (now (s .entry)) at end)) ⌝ }
 {
     match w {
         Word::Number(z) => inside(-1_000_000_000, 1_000_000_000, z),
         Word::Variable(v) => below(vars, v),
-        _ => 3,
+        _ => asks_text(s, at, end, vars),
     }
 }
 
@@ -146,15 +150,18 @@ pub fn variable_of(vars: u32, w: Word) -> u8
     }
 }
 
-// The operand that a word says.
-pub fn operand_of(vars: u32, w: Word) -> Operand
-    requires { ⌜ (vars ≤ 16) × (asksOperand vars w ≡ 0) ⌝ }
-    ensures { λ r. ⌜ r ≡ operandOf w ⌝ }
+// The operand that a word says: an expression by its place and length in the file, where the line's text begins at `base`.
+fn operand_of(base: usize, at: usize, end: usize, w: Word) -> Operand
+    requires { ⌜ (at < end) × (base + end ≤ 16_384) × Small w ⌝ }
+    ensures { λ r. ⌜ r ≡ operandAt base at end w ⌝ }
 {
     match w {
         Word::Number(z) => Operand::Constant(z),
         Word::Variable(v) => Operand::Variable(v as u8),
-        _ => Operand::Constant(0),
+        _ => {
+            let begin = at + 1;
+            Operand::Expression((base + begin) as u16, (end - begin) as u16)
+        }
     }
 }
 
@@ -236,8 +243,8 @@ pub fn asks_last(s: &[u8], at: usize) -> u32
 
 // `pick`, `else`, `end`
 fn bare_row(s: &[u8], at: usize, vars: u32, kind: Kind) -> Line
-    requires { ⌜ Ends (drop at (now s)) ⌝ }
-    ensures { λ r. ⌜ Lined (now (s .entry)) at (λ w. bareRow vars w kind) r ⌝ }
+    requires { ⌜ Ends (drop at (now s)) × Bare kind ⌝ }
+    ensures { λ r. ⌜ ((base : ℕ) → Lined (now (s .entry)) at base (λ w x. bareRow vars w x (kindOf [] kind)) r) ⌝ }
 {
     let q = asks_last(s, at);
     if q == 0 {
@@ -247,19 +254,19 @@ fn bare_row(s: &[u8], at: usize, vars: u32, kind: Kind) -> Line
 }
 
 // `set v0 X`
-fn set_row(s: &[u8], at: usize, vars: u32) -> Line
-    requires { ⌜ Ends (drop at (now s)) × (vars ≤ 16) ⌝ }
-    ensures { λ r. ⌜ Lined (now (s .entry)) at (setRow vars) r ⌝ }
+fn set_row(s: &[u8], at: usize, base: usize, vars: u32) -> Line
+    requires { ⌜ Ends (drop at (now s)) × (vars ≤ 16) × (base + length (now s) ≤ 16_384) ⌝ }
+    ensures { λ r. ⌜ Lined (now (s .entry)) at base (setRow vars) r ⌝ }
 {
     let a = next_word(s, at);
     let v = said(a.tag, a.value);
     let b = next_word(s, a.end);
     let x = said(b.tag, b.value);
     let end = b.end;
-    let last = sooner(asks_operand(vars, x), asks_last(s, end));
+    let last = sooner(asks_expression(s, a.end, end, vars, x), asks_last(s, end));
     let q = sooner(asks_variable(vars, v), last);
     if q == 0 {
-        let kind = Kind::Set(variable_of(vars, v), operand_of(vars, x));
+        let kind = Kind::Set(variable_of(vars, v), operand_of(base, a.end, end, x));
         return Line::Read(kind, end);
     }
     Line::Wrong(q)
@@ -268,7 +275,7 @@ fn set_row(s: &[u8], at: usize, vars: u32) -> Line
 // `add v0 C`, `sub v0 C`, `mul v0 C`, `div v0 C`
 fn move_row(s: &[u8], at: usize, vars: u32, name: Name) -> Line
     requires { ⌜ Ends (drop at (now s)) × (vars ≤ 16) ⌝ }
-    ensures { λ r. ⌜ Lined (now (s .entry)) at (λ w. moveRow vars w name) r ⌝ }
+    ensures { λ r. ⌜ ((base : ℕ) → Lined (now (s .entry)) at base (λ w x. moveRow vars w x name) r) ⌝ }
 {
     let a = next_word(s, at);
     let v = said(a.tag, a.value);
@@ -287,7 +294,7 @@ fn move_row(s: &[u8], at: usize, vars: u32, name: Name) -> Line
 // `cue N`
 fn cue_row(s: &[u8], at: usize, vars: u32) -> Line
     requires { ⌜ Ends (drop at (now s)) ⌝ }
-    ensures { λ r. ⌜ Lined (now (s .entry)) at (cueRow vars) r ⌝ }
+    ensures { λ r. ⌜ ((base : ℕ) → Lined (now (s .entry)) at base (cueRow vars) r) ⌝ }
 {
     let a = next_word(s, at);
     let n = said(a.tag, a.value);
@@ -311,9 +318,9 @@ fn test(after: bool, v: u8, c: Comparison, x: Operand) -> Kind
 }
 
 // `while v0 <= X`, `do v0 <= X`
-fn test_row(s: &[u8], at: usize, vars: u32, after: bool) -> Line
-    requires { ⌜ Ends (drop at (now s)) × (vars ≤ 16) ⌝ }
-    ensures { λ r. ⌜ Lined (now (s .entry)) at (λ w. cond after (doRow vars w) (whileRow vars w)) r ⌝ }
+fn test_row(s: &[u8], at: usize, base: usize, vars: u32, after: bool) -> Line
+    requires { ⌜ Ends (drop at (now s)) × (vars ≤ 16) × (base + length (now s) ≤ 16_384) ⌝ }
+    ensures { λ r. ⌜ Lined (now (s .entry)) at base (λ w x. cond after (doRow vars w x) (whileRow vars w x)) r ⌝ }
 {
     let a = next_word(s, at);
     let v = said(a.tag, a.value);
@@ -322,11 +329,11 @@ fn test_row(s: &[u8], at: usize, vars: u32, after: bool) -> Line
     let c = next_word(s, b.end);
     let x = said(c.tag, c.value);
     let end = c.end;
-    let last = sooner(asks_operand(vars, x), asks_last(s, end));
+    let last = sooner(asks_expression(s, b.end, end, vars, x), asks_last(s, end));
     let rest = sooner(asks_comparison(o), last);
     let q = sooner(asks_variable(vars, v), rest);
     if q == 0 {
-        let limit = operand_of(vars, x);
+        let limit = operand_of(base, b.end, end, x);
         let kind = test(after, variable_of(vars, v), comparison_of(o), limit);
         return Line::Read(kind, end);
     }
@@ -334,9 +341,9 @@ fn test_row(s: &[u8], at: usize, vars: u32, after: bool) -> Line
 }
 
 // `for v0 X <= Y add C`
-fn for_row(s: &[u8], at: usize, vars: u32) -> Line
-    requires { ⌜ Ends (drop at (now s)) × (vars ≤ 16) ⌝ }
-    ensures { λ r. ⌜ Lined (now (s .entry)) at (forRow vars) r ⌝ }
+fn for_row(s: &[u8], at: usize, base: usize, vars: u32) -> Line
+    requires { ⌜ Ends (drop at (now s)) × (vars ≤ 16) × (base + length (now s) ≤ 16_384) ⌝ }
+    ensures { λ r. ⌜ Lined (now (s .entry)) at base (forRow vars) r ⌝ }
 {
     let a = next_word(s, at);
     let v = said(a.tag, a.value);
@@ -352,13 +359,13 @@ fn for_row(s: &[u8], at: usize, vars: u32) -> Line
     let z = said(f.tag, f.value);
     let end = f.end;
     let last = sooner(asks_step(n, z), asks_last(s, end));
-    let limit = sooner(asks_operand(vars, y), last);
+    let limit = sooner(asks_expression(s, c.end, d.end, vars, y), last);
     let test = sooner(asks_comparison(o), limit);
-    let rest = sooner(asks_operand(vars, x), test);
+    let rest = sooner(asks_expression(s, a.end, b.end, vars, x), test);
     let q = sooner(asks_variable(vars, v), rest);
     if q == 0 {
-        let start = operand_of(vars, x);
-        let limit = operand_of(vars, y);
+        let start = operand_of(base, a.end, b.end, x);
+        let limit = operand_of(base, c.end, d.end, y);
         let step = step_of(n, z);
         let kind = Kind::For(variable_of(vars, v), start, comparison_of(o), limit, step);
         return Line::Read(kind, end);
@@ -367,12 +374,12 @@ fn for_row(s: &[u8], at: usize, vars: u32) -> Line
 }
 
 // By the first word, which ends at the byte `at`.
-fn named_row(s: &[u8], at: usize, vars: u32, name: Name) -> Line
-    requires { ⌜ Ends (drop at (now s)) × (vars ≤ 16) ⌝ }
-    ensures { λ r. ⌜ Lined (now (s .entry)) at (λ w. namedRow vars w name) r ⌝ }
+fn named_row(s: &[u8], at: usize, base: usize, vars: u32, name: Name) -> Line
+    requires { ⌜ Ends (drop at (now s)) × (vars ≤ 16) × (base + length (now s) ≤ 16_384) ⌝ }
+    ensures { λ r. ⌜ Lined (now (s .entry)) at base (λ w x. namedRow vars w x name) r ⌝ }
 {
     match name {
-        Name::Set => set_row(s, at, vars),
+        Name::Set => set_row(s, at, base, vars),
         Name::Add => move_row(s, at, vars, name),
         Name::Sub => move_row(s, at, vars, name),
         Name::Mul => move_row(s, at, vars, name),
@@ -381,22 +388,22 @@ fn named_row(s: &[u8], at: usize, vars: u32, name: Name) -> Line
         Name::Pick => bare_row(s, at, vars, Kind::Pick),
         Name::Else => bare_row(s, at, vars, Kind::Else),
         Name::End => bare_row(s, at, vars, Kind::End),
-        Name::While => test_row(s, at, vars, false),
-        Name::Do => test_row(s, at, vars, true),
-        Name::For => for_row(s, at, vars),
+        Name::While => test_row(s, at, base, vars, false),
+        Name::Do => test_row(s, at, base, vars, true),
+        Name::For => for_row(s, at, base, vars),
     }
 }
 
-// The row whose first word begins after the byte `at`, or its first question that has no.
-pub fn row_of(s: &[u8], at: usize, vars: u32) -> Line
-    requires { ⌜ Ends (drop at (now s)) × (vars ≤ 16) ⌝ }
-    ensures { λ r. ⌜ r ≡ rowLine (now (s .entry)) at vars ⌝ }
+// The row whose first word begins after the byte `at`, or its first question that has no. The text s begins at the file's byte `base`.
+pub fn row_of(s: &[u8], at: usize, base: usize, vars: u32) -> Line
+    requires { ⌜ Ends (drop at (now s)) × (vars ≤ 16) × (base + length (now s) ≤ 16_384) ⌝ }
+    ensures { λ r. ⌜ Rowed (now (s .entry)) base (rowOf vars (parts (drop at (now (s .entry))))) (at + before 10 (drop at (now (s .entry)))) r ⌝ }
 {
     let f = next_word(s, at);
     let first = said(f.tag, f.value);
     let end = f.end;
     match first {
-        Word::Keyword(n) => named_row(s, end, vars, n),
+        Word::Keyword(n) => named_row(s, end, base, vars, n),
         _ => Line::Wrong(3),
     }
 }

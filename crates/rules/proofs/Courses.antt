@@ -1,5 +1,5 @@
 -- A loop as a course of stores: what its tests see of a trip, turn by turn. On stores only; the runs are in Ranges and Main.
-use mathlib.Core.Path.{_≡_, refl, sym, subst}
+use mathlib.Core.Path.{_≡_, refl, sym, subst, _∙_, ap}
 use mathlib.Core.Bool.{Bool, true, false, not, cond, _&&_}
 use Prim.Native.Nat.{ℕ, zero, suc, _≤_, _<_}
 use native.Mathlib.Omega.{arith}
@@ -9,23 +9,23 @@ use lib.Signed.{leZ, ltZ}
 use Rattle.ints.specs.Ints.{eqZ}
 use Rattle.ints.proofs.Parts.{minus-parts, eq-out, leZ-yes!, leZ-no!, ltZ-yes!, ltZ-no! }
 use Rattle.ints.proofs.Diffs.{of, eq-yes, eq-refl, tests, cond-elim, both, max-ge, min-le}
-use Rattle.rules.specs.declared.Operand.{Operand}
-use Rattle.rules.specs.declared.Operand.the-variants.{Constant, Variable}
 use Rattle.rules.specs.declared.Comparison.{Comparison}
 use Rattle.rules.specs.declared.Comparison.the-variants.{Less, AtMost, Greater, AtLeast, Equal, Different}
 use Rattle.rules.specs.declared.Step.{Step}
 use Rattle.rules.specs.declared.Step.the-variants.{Add, Grow, Shrink, Unknown}
-use Rattle.rules.specs.Values.{Store, value, compares}
+use Rattle.rules.specs.Values.{Store, value, compares, passes, fails, number}
 use Rattle.rules.specs.Blocks.{Test, Form, while, do-while, for, Block}
 use Rattle.rules.specs.Steps.{assigns, step, moving, even, isAdd, difference, Sole, other, sole, soleOf}
 use Rattle.rules.specs.Ranges.{Range, Env, full, single, bounds, edge, ordered, Sort, rising, falling, same, differ, sort, isDo, isFor, insideRange}
 use Rattle.rules.specs.Turns.{whileTurns, atTest}
 use Rattle.rules.specs.Trips.{nothing, untested, tries, Trip, misses, edgeOf, firstOf, led, turnsOf, isExact, innerOf, outerOf, keeps, ownTrip, chaseTrip, copyTrip, Way, own, copied, chase, chases, limitWay, copies, soleWay, wayOf, tripBy, trip}
+use Rattle.rules.specs.Expressions.{Expr, constant, variable, group, apply, meaning}
 use Rattle.rules.specs.Run.{holds}
 use Rattle.rules.proofs.Steps.{Moved}
 use Rattle.rules.proofs.Sole.{Alone}
 use Rattle.rules.proofs.Links.{Within, within-full, Inside, Fit, Tested, From}
-use Rattle.rules.proofs.Chain.{NotPast, Past, passes, fails, chain, add-chain}
+use Rattle.rules.proofs.Expressions.{Limit, limit-of, value-kept, Agrees, agrees}
+use Rattle.rules.proofs.Chain.{NotPast, Past, passes as passes-edge, fails as fails-edge, chain, add-chain}
 
 abbrev pub In : Env → Store → Type 0
 In ρ f = (w : ℕ) → Within (ρ w) (f w)
@@ -43,10 +43,10 @@ pub record At (body : Block) (f g : Store) : Type 0 where
 
 -- R k g: g may be the store at a test with k turns done; n: the figure; mine, after: the tested variable at the body's start and after the loop
 pub record Tests (test : Test) (body : Block) (f : Store) (n : ℕ) (exact : Bool) (mine after : Range) (R : ℕ → Store → Type 0) : Type 0 where
-  pub onward : (k : ℕ) (g h : Store) → At body f g → At body f h → R k g → T (holds test g) → Turn body g h → R (suc k) h
-  pub count : (k : ℕ) (g : Store) → At body f g → R k g → T (holds test g) → k < n
-  pub settle : T exact → (k : ℕ) (g : Store) → At body f g → R k g → T (not (holds test g)) → n ≤ k
-  pub inner : (k : ℕ) (g : Store) → At body f g → R k g → T (holds test g) → Inside mine (g (test .tested))
+  pub onward : (k : ℕ) (g h : Store) → At body f g → At body f h → R k g → holds test g ≡ passes → Turn body g h → R (suc k) h
+  pub count : (k : ℕ) (g : Store) → At body f g → R k g → holds test g ≡ passes → k < n
+  pub settle : T exact → (k : ℕ) (g : Store) → At body f g → R k g → holds test g ≡ fails → n ≤ k
+  pub inner : (k : ℕ) (g : Store) → At body f g → R k g → holds test g ≡ passes → Inside mine (g (test .tested))
   pub outer : (k : ℕ) (g : Store) → At body f g → R k g → Inside after (g (test .tested))
 
 -- at the loop's start: before its first test, or before a do's first turn
@@ -71,23 +71,23 @@ Led First never R (suc k) g = T (not never) × R k g
 
 module _ (test : Test) (body : Block) (f : Store) (exact : Bool) (mine after : Range) where
   module _ {Start : ℤ → Type 0} {Move : ℤ → ℤ → Type 0} {sees : ℤ → Bool} {n : ℕ} (l : Tested Start Move sees n exact) (J : ℤ → Store → Type 0)
-      (same-test : (x : ℤ) (g : Store) → At body f g → J x g → holds test g ≡ sees x)
-      (goes : (x : ℤ) (g h : Store) → At body f g → At body f h → J x g → T (holds test g) → Turn body g h → (y : ℤ) × J y h × Move x y)
+      (same-test : (x : ℤ) (g : Store) → At body f g → J x g → Agrees (holds test g) (sees x))
+      (goes : (x : ℤ) (g h : Store) → At body f g → At body f h → J x g → holds test g ≡ passes → Turn body g h → (y : ℤ) × J y h × Move x y)
       (inn : (k : ℕ) (x : ℤ) (g : Store) → At body f g → J x g → l .Q k x → T (sees x) → Inside mine (g (test .tested)))
       (out : (k : ℕ) (x : ℤ) (g : Store) → At body f g → J x g → l .Q k x → Inside after (g (test .tested))) where
     shown : Tests test body f n exact mine after (Shown J (l .Q))
     shown = record {
-      onward = λ k g h a b (x, j, q) p t. let (y, i, m) = goes x g h a b j p t in (y, i, l .links .onward k x y q (rw (same-test x g a j) at p) m);
-      count = λ k g a (x, j, q) p. l .links .count k x q (rw (same-test x g a j) at p);
-      settle = λ ex k g a (x, j, q) p. l .links .settle ex k x q (rw (same-test x g a j) at p);
-      inner = λ k g a (x, j, q) p. inn k x g a j q (rw (same-test x g a j) at p);
+      onward = λ k g h a b (x, j, q) p t. let (y, i, m) = goes x g h a b j p t in (y, i, l .links .onward k x y q (rw p at (same-test x g a j)) m);
+      count = λ k g a (x, j, q) p. l .links .count k x q (rw p at (same-test x g a j));
+      settle = λ ex k g a (x, j, q) p. l .links .settle ex k x q (rw p at (same-test x g a j));
+      inner = λ k g a (x, j, q) p. inn k x g a j q (rw p at (same-test x g a j));
       outer = λ k g a (x, j, q). out k x g a j q;
     }
 
   module _ {n : ℕ} {R : ℕ → Store → Type 0} (l : Tests test body f n exact mine after R) (First : Store → Type 0) (never : Bool)
-      (goes : (g h : Store) → At body f g → At body f h → First g → T (holds test g) → Turn body g h → R 0 h)
-      (passes : (g : Store) → At body f g → First g → T (holds test g) → T (not never))
-      (fails : T exact → (g : Store) → At body f g → First g → T (not (holds test g)) → T never)
+      (goes : (g h : Store) → At body f g → At body f h → First g → holds test g ≡ passes → Turn body g h → R 0 h)
+      (passing : (g : Store) → At body f g → First g → holds test g ≡ passes → T (not never))
+      (failing : T exact → (g : Store) → At body f g → First g → holds test g ≡ fails → T never)
       (inn : (g : Store) → At body f g → First g → Inside mine (g (test .tested)))
       (out : (g : Store) → At body f g → First g → Inside after (g (test .tested))) where
     more : (k : ℕ) → T (not never) → k < n → suc k < cond never 0 (suc n)
@@ -96,19 +96,19 @@ module _ (test : Test) (body : Block) (f : Store) (exact : Bool) (mine after : R
     led-tests : Tests test body f (cond never 0 (suc n)) exact mine after (Led First never R)
     led-tests = record { onward = on; count = cnt; settle = set; inner = inr; outer = otr }
       where
-        on : (k : ℕ) (g h : Store) → At body f g → At body f h → Led First never R k g → T (holds test g) → Turn body g h → Led First never R (suc k) h
-        on zero g h a b q p t = (passes g a q p, goes g h a b q p t)
+        on : (k : ℕ) (g h : Store) → At body f g → At body f h → Led First never R k g → holds test g ≡ passes → Turn body g h → Led First never R (suc k) h
+        on zero g h a b q p t = (passing g a q p, goes g h a b q p t)
         on (suc k) g h a b (c, q) p t = (c, l .onward k g h a b q p t)
 
-        cnt : (k : ℕ) (g : Store) → At body f g → Led First never R k g → T (holds test g) → k < cond never 0 (suc n)
-        cnt zero g a q p = cond-elim (λ m. 0 < m) never 0 (suc n) (λ y. absurd (lib.Dec.T-not never (passes g a q p) y)) (λ _. omega arith)
+        cnt : (k : ℕ) (g : Store) → At body f g → Led First never R k g → holds test g ≡ passes → k < cond never 0 (suc n)
+        cnt zero g a q p = cond-elim (λ m. 0 < m) never 0 (suc n) (λ y. absurd (lib.Dec.T-not never (passing g a q p) y)) (λ _. omega arith)
         cnt (suc k) g a (c, q) p = more k c (l .count k g a q p)
 
-        set : T exact → (k : ℕ) (g : Store) → At body f g → Led First never R k g → T (not (holds test g)) → cond never 0 (suc n) ≤ k
-        set ex zero g a q p = cond-elim (λ m. m ≤ 0) never 0 (suc n) (λ _. omega arith) (λ c. absurd (lib.Dec.T-not never c (fails ex g a q p)))
+        set : T exact → (k : ℕ) (g : Store) → At body f g → Led First never R k g → holds test g ≡ fails → cond never 0 (suc n) ≤ k
+        set ex zero g a q p = cond-elim (λ m. m ≤ 0) never 0 (suc n) (λ _. omega arith) (λ c. absurd (lib.Dec.T-not never c (failing ex g a q p)))
         set ex (suc k) g a (c, q) p = cond-elim (λ m. m ≤ suc k) never 0 (suc n) (λ _. omega arith) (λ _. omega (arith, l .settle ex k g a q p))
 
-        inr : (k : ℕ) (g : Store) → At body f g → Led First never R k g → T (holds test g) → Inside mine (g (test .tested))
+        inr : (k : ℕ) (g : Store) → At body f g → Led First never R k g → holds test g ≡ passes → Inside mine (g (test .tested))
         inr zero g a q p = inn g a q
         inr (suc k) g a (c, q) p = l .inner k g a q p
 
@@ -118,7 +118,7 @@ module _ (test : Test) (body : Block) (f : Store) (exact : Bool) (mine after : R
 
   -- a loop whose counted tests are all its tests: a do's first turn has none
   module _ (s : Range) {Move : ℤ → ℤ → Type 0} {sees : ℤ → Bool} {n : ℕ} (J : ℤ → Store → Type 0)
-      (same-test : (x : ℤ) (g : Store) → At body f g → J x g → holds test g ≡ sees x)
+      (same-test : (x : ℤ) (g : Store) → At body f g → J x g → Agrees (holds test g) (sees x))
       (goes : (x : ℤ) (g h : Store) → At body f g → At body f h → J x g → Turn body g h → (y : ℤ) × J y h × Move x y)
       (x : ℤ) (here : J x f) (start : Inside s x) (at : At body f f) where
     by-form : (form : Form) (d : Sort) (e : ℤ) (l : Tested (From Move s (isDo form)) Move sees n exact)
@@ -144,11 +144,6 @@ pub record Good-trip (τ : Trip) : Type 0 where
 
 abbrev pub CourseOf : Form → Env → Test → Block → Store → Trip → Type 1
 CourseOf form ρ test body f τ = Course form test body f (turnsOf τ) (isExact τ) (innerOf τ) (outerOf τ)
-
-pub operand-in : (ρ : Env) (f : Store) → In ρ f → (x : Operand) → Inside (bounds ρ x) (value x f)
-unfolding value bounds
-operand-in ρ f h (Constant c) = omega arith
-operand-in ρ f h (Variable w) = (h w .low, h w .high)
 
 inside-full : {x : ℤ} → Within full x → Inside full x
 inside-full h = (h .low, h .high)
@@ -204,7 +199,7 @@ all-miss differ o s e x h one p = absurd o
 abbrev Says : Way → Form → Test → Block → Type 0
 Says own form test body = Unit {0}
 Says (copied w ahead) form test body = T (not (isFor form)) × T (isAdd (step w body)) × T (ordered (sort (test .comparison))) × ((g h : Store) → Turn body g h → h (test .tested) ≡ at-row ahead w g h)
-Says (chase w) form test body = (test .limit ≡ Variable w) × T (isAdd (step (test .tested) body)) × T (isAdd (step w body)) × T (ordered (sort (test .comparison)))
+Says (chase w) form test body = (test .limit ≡ variable w) × T (isAdd (step (test .tested) body)) × T (isAdd (step w body)) × T (ordered (sort (test .comparison)))
 
 way-says : (form : Form) (test : Test) (body : Block) → Says (wayOf form test body) form test body
 unfolding soleWay limitWay
@@ -214,9 +209,11 @@ way-says form test body = by-sole (soleOf (test .tested) body) (λ g h t. t .alo
     one-side true after w g h n (a, b) = a n
     one-side false after w g h n (a, b) = b tt
 
-    by : (o : Operand) → test .limit ≡ o → Says (limitWay test body o) form test body
-    by (Constant k) e = tt
-    by (Variable w) e =
+    by : (o : Expr) → test .limit ≡ o → Says (limitWay test body o) form test body
+    by (constant k) e = tt
+    by (group x) e = tt
+    by (apply p x y) e = tt
+    by (variable w) e =
         cond-elim (λ way. Says way form test body) (chases test body w) (chase w) own
         (λ h. let (_, h₁) = both (not (eqb w (test .tested))) _ h in let (_, h₂) = both (assigns w body) _ h₁ in
         let (a, h₃) = both (isAdd (step w body)) _ h₂ in let (b, o) = both (isAdd (step (test .tested) body)) _ h₃ in (e, b, a, o))
@@ -270,24 +267,22 @@ single-apart r s h k =
     subst (λ z. T (eqZ (r .lo -ℤ s .hi) z)) (eq-out _ _ (omega (arith, eq-yes (r .lo) (r .hi) h, eq-yes (s .lo) (s .hi) k, minus-parts (r .lo) (s .hi), minus-parts (r .hi) (s .lo)))) (eq-refl (r .lo -ℤ s .hi))
 
 module _ (form : Form) (ρ : Env) (test : Test) (body : Block) (f : Store) (enters : In ρ f) where
-  -- the limit is as at the start
-  limit-same : T (keeps (test .limit) body) → (g : Store) → At body f g → value (test .limit) g ≡ value (test .limit) f
-  unfolding value keeps
-  limit-same keep g a = by (test .limit) keep
-    where
-      by : (o : Operand) → T (keeps o body) → value o g ≡ value o f
-      by (Constant c) h = refl
-      by (Variable w) h = a .kept w h
+  limit : Limit ρ f enters (test .limit)
+  limit = limit-of ρ f enters (test .limit)
+
+  -- the limit is as at the start, so that every test of a value is the comparison with it
+  same-limit : T (keeps (test .limit) body) → (g : Store) → At body f g → Agrees (holds test g) (compares (test .comparison) (g (test .tested)) (limit .at))
+  same-limit keep g a = agrees (test .comparison) _ _ _ (λ z q. limit .reached z (sym (value-kept body f g (a .kept) (test .limit) keep) ∙ q))
 
   own-course : Good-trip (ownTrip form ρ test body) → CourseOf form ρ test body f (ownTrip form ρ test body)
   unfolding turnsOf innerOf outerOf
   own-course good =
       let v = test .tested in
       let τ = ownTrip form ρ test body in
-      let ch = chain (isDo form) (τ .comparison) (τ .start) (τ .limit) (value (test .limit) f) (isExact τ) (operand-in ρ f enters (test .limit)) (τ .step) (good .fit)
+      let ch = chain (isDo form) (τ .comparison) (τ .start) (τ .limit) (limit .at) (isExact τ) (limit .inside) (τ .step) (good .fit)
       (λ ex. let (a, b) = both (even (τ .step)) (τ .sure) ex in let (c, d) = both (single (τ .start)) (single (τ .limit)) b in (a, c, d)) in
       by-form test body f (isExact τ) _ _ (τ .start) (λ x g. x ≡ g v)
-      (λ x g a e. rw (e, limit-same (good .keep) g a))
+      (λ x g a e. rw e (same-limit (good .keep) g a))
       (λ x g h a b e t. (h v, refl, rw e (inside-full (a .limited v), inside-full (b .limited v), t .moved v)))
       (f v) refl (enters v .low, enters v .high) (at-start ρ body f enters) form _ _ (ch .tested)
       (λ k x g a e q p. rw (← e) (ch .sees .inner k x (rw e (inside-full (a .limited v))) q p))
@@ -300,14 +295,14 @@ module _ (form : Form) (ρ : Env) (test : Test) (body : Block) (f : Store) (ente
       first do-while _ = first-inside (sort (test .comparison)) (ρ (test .tested)) _ _ (enters (test .tested))
 
   chase-course : (w : ℕ) → Says (chase w) form test body → Good-trip (chaseTrip form ρ test body w) → CourseOf form ρ test body f (chaseTrip form ρ test body w)
-  unfolding turnsOf innerOf outerOf value
+  unfolding turnsOf innerOf outerOf value meaning
   chase-course w (is, add-v, add-w, o) good =
       let v = test .tested in
       let τ = chaseTrip form ρ test body w in
       let p = step v body in
       let q = step w body in
       by-form test body f (isExact τ) _ _ (τ .start) (λ x g. x ≡ g v -ℤ g w)
-      (λ x g a e. rw (e, is) (compares-apart (test .comparison) o (g v) (g w)))
+      (λ x g a e. subst (Agrees (holds test g)) (compares-apart (test .comparison) o (g v) (g w) ∙ ap (λ y. compares (test .comparison) y (pos 0)) (sym e)) (agrees (test .comparison) (g v) (g w) _ (reached g)))
       (λ x g h a b e t. (h v -ℤ h w, refl, rw e (moved-apart p q add-v add-w (g v) (h v) (g w) (h w) (t .moved v) (t .moved w))))
       (f v -ℤ f w) refl (omega (arith, enters v .low, enters v .high, enters w .low, enters w .high, minus-parts (f v) (f w), minus-parts (ρ v .lo) (ρ w .hi), minus-parts (ρ v .hi) (ρ w .lo)))
       (at-start ρ body f enters) form _ _
@@ -316,6 +311,9 @@ module _ (form : Form) (ρ : Env) (test : Test) (body : Block) (f : Store) (ente
       (λ k x g a e q p. inside-full (a .limited v))
       (λ k x g a e q. inside-full (a .limited v))
       (λ _. inside-full (within-full (enters v)))
+    where
+      reached : (g : Store) (z : ℤ) → value (test .limit) g ≡ number z → z ≡ g w
+      reached g z q = let same : number (g w) ≡ number z = subst (λ l. value l g ≡ number z) is q in cc
 
   copy-course : (w : ℕ) (ahead : Bool) → Says (copied w ahead) form test body → Good-trip (copyTrip form ρ test body w ahead) → CourseOf form ρ test body f (copyTrip form ρ test body w ahead)
   unfolding turnsOf innerOf outerOf led
@@ -328,7 +326,7 @@ module _ (form : Form) (ρ : Env) (test : Test) (body : Block) (f : Store) (ente
       n = bounds ρ (test .limit)
 
       lim : ℤ
-      lim = value (test .limit) f
+      lim = limit .at
 
       exact : Bool
       exact = isExact (copyTrip form ρ test body w ahead)
@@ -346,14 +344,14 @@ module _ (form : Form) (ρ : Env) (test : Test) (body : Block) (f : Store) (ente
       J-next : (g h : Store) → Turn body g h → J (at-row ahead w g h) h
       J-next g h t = (sym (follows g h t), behind-next ahead w body g h t)
 
-      same-test : (g : Store) → At body f g → holds test g ≡ compares (test .comparison) (g v) lim
-      same-test g a = rw (limit-same (good .keep) g a)
+      same-test : (g : Store) → At body f g → Agrees (holds test g) (compares (test .comparison) (g v) lim)
+      same-test g a = same-limit (good .keep) g a
 
       c : ℕ
       c = whileTurns (step w body) (sort (test .comparison)) (atTest ahead (step w body) (ρ w)) n (edge (test .comparison) n)
 
       l : Tested (From Move (ρ w) ahead) Move (λ x. compares (test .comparison) x lim) c exact
-      l = add-chain ahead (test .comparison) (ρ w) n lim exact (operand-in ρ f enters (test .limit)) Move (step w body) (λ x y m. m) add o (good .fit) (λ ex. let (a, _, b, c) = exacts ex in (a, b, c))
+      l = add-chain ahead (test .comparison) (ρ w) n lim exact (limit .inside) Move (step w body) (λ x y m. m) add o (good .fit) (λ ex. let (a, _, b, c) = exacts ex in (a, b, c))
 
       Seen : ℕ → Store → Type 0
       Seen = Shown J (l .Q)
@@ -374,9 +372,9 @@ module _ (form : Form) (ρ : Env) (test : Test) (body : Block) (f : Store) (ente
             begin = (enters v, enters w);
             tests = led-tests test body f exact full full seen (λ g. Within (ρ v) (g v) × Within (ρ w) (g w)) (misses (sort (test .comparison)) (ρ v) e)
                 (λ g h a b (_, i) p t. first g h i t)
-                (λ g a (i, _) p. not-misses (sort (test .comparison)) (ρ v) e (g v) i (passes (test .comparison) n lim (g v) (operand-in ρ f enters (test .limit)) (rw (same-test g a) at p)))
+                (λ g a (i, _) p. not-misses (sort (test .comparison)) (ρ v) e (g v) i (passes-edge (test .comparison) n lim (g v) (limit .inside) (rw p at (same-test g a))))
                 (λ ex g a (i, _) p. let (_, one, _, m) = exacts ex in
-                all-miss (sort (test .comparison)) o (ρ v) e (g v) i one (fails (test .comparison) n lim (g v) (operand-in ρ f enters (test .limit)) m (rw (same-test g a) at p)))
+                all-miss (sort (test .comparison)) o (ρ v) e (g v) i one (fails-edge (test .comparison) n lim (g v) (limit .inside) m (rw p at (same-test g a))))
                 (λ g a (i, _). inside-full (within-full i)) (λ g a (i, _). inside-full (within-full i));
           }
       by do-while _ = record {

@@ -6,7 +6,7 @@ use lib.Dec.{leb, leb→le}
 use Rattle.rules.specs.Blocks.{Plain, assign, cue, Test, Form, while, do-while, for, Block, done, plain, pick, loop}
 use Rattle.rules.specs.Figures.{Prices}
 use Rattle.rules.specs.Run.{State, Entry, Out, charge, exec, holds, iter, starting, turning, enter, run}
-use Rattle.rules.proofs.Outcomes.{Thru, went, ended, at, thru-bind, thru-choose, thru-taken, thru-closing, thru-write}
+use Rattle.rules.proofs.Outcomes.{decide-elim, Thru, went, ended, at, thru-bind, thru-choose, thru-taken, thru-closing, thru-write}
 
 module _ (π : Prices) (l : ℕ) where
   unfoldable pub Fewer : State → Type 0
@@ -19,7 +19,7 @@ module _ (π : Prices) (l : ℕ) where
 
   pub exec-less : (i : ℕ) (p : Plain) (s : State) → s .left ≤ l → Thru Fewer (exec π i p s)
   unfolding exec Fewer
-  exec-less i (assign v x) s h = charge-less _ i _ s _ h λ n e. thru-write i v _ _ λ _. omega arith
+  exec-less i (assign v x) s h = charge-less _ i _ s _ h λ n e. thru-write i v _ _ λ _ _ _. omega arith
   exec-less i (cue m) s h = charge-less _ i _ s _ h λ n e. went (omega arith)
 
   module _ (i : ℕ) (t : Test) (body : State → Out) (ih : (s : State) → s .left ≤ l → Thru Fewer (body s)) where
@@ -28,7 +28,7 @@ module _ (π : Prices) (l : ℕ) where
     iter-less zero k s h = ended
     iter-less (suc fuel) k s h =
         charge-less _ i _ s _ h λ n e.
-        thru-choose (holds t (s .store)) (λ _. thru-bind (thru-closing _ (ih _ (omega arith))) (λ u j. iter-less fuel (suc k) u j)) (λ _. went (omega arith))
+        decide-elim (Thru Fewer) (holds t (s .store)) (λ _. thru-bind (thru-closing _ (ih _ (omega arith))) (λ u j. iter-less fuel (suc k) u j)) (λ _. went (omega arith)) ended
 
     enter-less : (form : Form) (s : State) → s .left ≤ l → Thru Fewer (enter π form i t body s)
     unfolding enter starting turning Fewer

@@ -7,8 +7,7 @@ use native.Mathlib.Omega.{arith}
 use borrow.Author.Tests.{ltb-true}
 use lib.Dec.{ltb}
 use lib.ListN.{length}
-use Rattle.rules.specs.declared.Kind.{Kind}
-use Rattle.rules.specs.Blocks.{Plain, Form, Test, Last, no-step, step-by, View, is-plain, is-pick, is-else, is-end, is-loop, viewOf, Block, done, plain, pick, loop, Part, to-end, to-else, Built, parts, misfit, snoc, inFront, withLast, loopHead, pickHead, plainRow, closes, onRow, build}
+use Rattle.rules.specs.Blocks.{Plain, Form, Test, Last, no-step, step-by, View, is-plain, is-pick, is-else, is-end, is-loop, viewOf, Block, done, plain, pick, loop, Part, to-end, to-else, Built, parts, misfit, snoc, inFront, withLast, loopHead, pickHead, plainRow, closes, onRow, build, RowKind}
 use Rattle.rules.specs.Nesting.{Open, in-loop, in-pick, in-else, Nest, Nested, nested, wrong, nest, opens, elses, ends, nestRow, andRows, nestRows}
 use Rattle.rules.specs.Ranges.{Env, afterRow, join, atStart}
 use Rattle.rules.specs.Trips.{turns, inside, outside, after}
@@ -120,13 +119,13 @@ row-heads is-else i b hs h = close-heads (to-else i done) refl b hs h
 row-heads is-end i b hs h = close-heads (to-end i done) refl b hs h
 row-heads (is-loop form test last) i b hs h = loop-heads i form test last b hs h
 
-build-heads : (rs : List Kind) (i : ℕ) → Heads (loopRows i rs) (build i rs)
+build-heads : (rs : List RowKind) (i : ℕ) → Heads (loopRows i rs) (build i rs)
 unfolding build loopRows Heads partsHeads partHeads heads
 build-heads [] i = refl
 build-heads (r ∷ rs) i = row-heads (viewOf r) i (build (suc i) rs) (loopRows (suc i) rs) (build-heads rs (suc i))
 
 -- the loops of a tree are those of its rows
-pub tree-heads : (rows : List Kind) (n : ℕ) → nestRows rows (record { open-blocks = []; loops = 0 }) ≡ nest [] n → heads (treeOf rows) ≡ loopRows 0 rows
+pub tree-heads : (rows : List RowKind) (n : ℕ) → nestRows rows (record { open-blocks = []; loops = 0 }) ≡ nest [] n → heads (treeOf rows) ≡ loopRows 0 rows
 unfolding treeOf Heads partsHeads partHeads
 tree-heads rows n e =
     let (tree, closed) = tree-of rows n e in
@@ -185,12 +184,12 @@ module _ (last : Nest) where
   few-row is-end s rest i more e ih l = few-end (s .open-blocks) (s .loops) rest (length more) e ih l
   few-row (is-loop form test k) s rest i more e ih l = few-loop (s .open-blocks) (s .loops) rest (length more) e ih
 
-  few-rows : (ks : List Kind) (i : ℕ) (s : Nest) → s .loops ≤ 16 → nestRows ks s ≡ nested last → Few (s .loops) (length (loopRows i ks))
+  few-rows : (ks : List RowKind) (i : ℕ) (s : Nest) → s .loops ≤ 16 → nestRows ks s ≡ nested last → Few (s .loops) (length (loopRows i ks))
   unfolding nestRows loopRows
   few-rows [] i s l e = let q : s ≡ last = cc in let n : s .loops ≡ last .loops = ap (λ (t : Nest). t .loops) q in (omega arith, omega arith)
   few-rows (k ∷ ks) i s l e = few-row (viewOf k) s (λ t. nestRows ks t) i (loopRows (suc i) ks) e (λ t m f. few-rows ks (suc i) t m f) l
 
-pub heads-few : (ks : List Kind) (n : ℕ) → nestRows ks (record { open-blocks = []; loops = 0 }) ≡ nest [] n → length (loopRows 0 ks) ≤ 16
+pub heads-few : (ks : List RowKind) (n : ℕ) → nestRows ks (record { open-blocks = []; loops = 0 }) ≡ nest [] n → length (loopRows 0 ks) ≤ 16
 heads-few ks n e = let (a, b) = few-rows _ ks 0 _ (omega arith) e in omega arith
 
 rows-length : (ls : List Line) → length (lineRows ls) ≡ length ls

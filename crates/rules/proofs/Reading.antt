@@ -6,23 +6,24 @@ use Prim.Native.Nat.{ℕ, zero, suc, _+_, _≤_, _<_}
 use native.Mathlib.Omega.{arith}
 use lib.Dec.{T, leb, ltb, ltb→lt}
 use lib.IntN.{ℤ, pos, natAbs}
+use borrow.Author.Tests.{leb-true}
 use lib.Signed.{leZ, leZ-yes, _≤ℤ_}
-use lib.ListN.{length, length-append}
+use lib.ListN.{length, getD, length-append}
 use Rattle.ints.proofs.Parts.{ints, abs-up}
 use Rattle.ints.proofs.Diffs.{both}
-use Rattle.rules.specs.declared.Kind.{Kind}
+use Rattle.rules.specs.Blocks.{RowKind, viewOf}
 use Rattle.rules.specs.declared.Name.{Name}
 use Rattle.rules.specs.declared.Word.{Word}
 use Rattle.rules.specs.declared.Word.the-variants.{Missing, Number, Variable, Compares, Keyword, Other}
-use Rattle.rules.specs.declared.RowRead.{RowRead}
-use Rattle.rules.specs.declared.RowRead.the-variants.{Read, Wrong}
 use Rattle.rules.specs.Values.{lowest, highest}
-use Rattle.rules.specs.Blocks.{viewOf}
 use Rattle.rules.specs.Nesting.{Open, Nest, Nested, nested, wrong, nest, nestRow, andRows, nestRows}
 use Rattle.rules.specs.Ranges.{Range}
-use Rattle.rules.specs.Scripts.{All, none, some, Script, OperandLimits, ChangeLimits, RowLimits, RangeLimits, OperandBelow, RowBelow, Legal}
-use Rattle.rules.specs.Text.{lf, split, nextWords, nextLines}
+use Rattle.rules.specs.Scripts.{All, none, some, Script, ExprLimits, ChangeLimits, RowLimits, RangeLimits, ExprBelow, RowBelow, Legal}
+use Rattle.rules.specs.Expressions.{Expr, constant, variable, group, apply}
+use Rattle.rules.specs.Text.{lf, split, wordsOf, nextTexts, nextWords, nextLines}
+use Rattle.rules.specs.Parse.{Parsed, parsed, shapeless, parse, exprIn}
 use Rattle.rules.specs.File
+use Rattle.rules.specs.File.{RowRead, Read, Wrong}
 
 -- a number is not 0 and a question too
 no-zero : {A : Type 0} (q : ℕ) → suc q ≡ 0 → A
@@ -33,7 +34,7 @@ pub sooner-yes : (p q : ℕ) → File.sooner p q ≡ 0 → (p ≡ 0) × (q ≡ 0
 unfolding File.sooner
 sooner-yes zero q e = (refl, e)
 sooner-yes (suc p) zero e = no-zero p e
-sooner-yes (suc p) (suc q) e = go (leb p q) e
+sooner-yes (suc p) (suc q) e = go (leb (File.turnOf (suc p)) (File.turnOf (suc q))) e
   where
     go : (b : Bool) → cond b (suc p) (suc q) ≡ 0 → (suc p ≡ 0) × (suc q ≡ 0)
     go true h = no-zero p h
@@ -60,14 +61,21 @@ variable-yes vars (Compares c) e = no-zero _ e
 variable-yes vars (Keyword n) e = no-zero _ e
 variable-yes vars Other e = no-zero _ e
 
-pub operand-yes : (vars : ℕ) (w : Word) → File.asksOperand vars w ≡ 0 → OperandLimits (File.operandOf w) × OperandBelow vars (File.operandOf w)
-operand-yes vars Missing e = no-zero _ e
-operand-yes vars (Number z) e =
+leaves-yes : (vars : ℕ) (x : Expr) → File.asksLeaves vars x ≡ 0 → ExprLimits x × ExprBelow vars x
+unfolding File.asksLeaves ExprLimits ExprBelow
+leaves-yes vars (constant z) e =
     let (a, b) = both (leZ lowest z) (leZ z highest) (yes-of (leZ lowest z && leZ z highest) 3 e) in ((leZ-yes a, leZ-yes b), tt)
-operand-yes vars (Variable v) e = (tt, ltb→lt v vars (yes-of (ltb v vars) 4 e))
-operand-yes vars (Compares c) e = no-zero _ e
-operand-yes vars (Keyword n) e = no-zero _ e
-operand-yes vars Other e = no-zero _ e
+leaves-yes vars (variable v) e = (tt, ltb→lt v vars (yes-of (ltb v vars) 4 e))
+leaves-yes vars (group x) e = leaves-yes vars x e
+leaves-yes vars (apply o x y) e =
+    let (a, b) = sooner-yes _ _ e in
+    let (c, d) = leaves-yes vars x a in
+    let (f, g) = leaves-yes vars y b in
+    ((c, f), (d, g))
+
+pub expr-yes : (vars : ℕ) (p : Parsed) → File.asksExpr vars p ≡ 0 → ExprLimits (exprIn p) × ExprBelow vars (exprIn p)
+expr-yes vars (parsed x s) e = leaves-yes vars x (sooner-yes _ _ e .1)
+expr-yes vars shapeless e = no-zero _ e
 
 -- a number not below k, as a natural number
 pub amount-yes : (k : ℕ) (hi : ℤ) (w : Word) → File.asksNumber (pos k) hi w ≡ 0 → (k ≤ natAbs (File.numberOf w)) × (pos (natAbs (File.numberOf w)) ≤ℤ hi)
@@ -96,54 +104,54 @@ step-yes (Keyword n) w e = change-yes n w e
 step-yes Other w e = no-zero _ e
 
 -- a row inside its limits, with its variables below V
-abbrev Fine : ℕ → Kind → Type 0
+abbrev Fine : ℕ → RowKind → Type 0
 Fine vars k = RowLimits k × RowBelow vars k
 
-wrong-not : {A : Type 0} (q : ℕ) (k : Kind) → Wrong q ≡ Read k → A
+wrong-not : {A : Type 0} (q : ℕ) (k : RowKind) → Wrong q ≡ Read k → A
 wrong-not q k e = absurd (let z : _≡_ {A = ℕ} 0 1 = cc in omega arith)
 
 -- a row that is read: its questions have yes
-pub checked-yes : (Q : Kind → Type 0) (q : ℕ) (r k : Kind) → File.checked q r ≡ Read k → (q ≡ 0 → Q r) → Q k
+pub checked-yes : (Q : RowKind → Type 0) (q : ℕ) (r k : RowKind) → File.checked q r ≡ Read k → (q ≡ 0 → Q r) → Q k
 unfolding File.checked
 checked-yes Q zero r k e f = subst Q (let h : r ≡ k = cc in h) (f refl)
 checked-yes Q (suc q) r k e f = wrong-not _ k e
 
-module _ (vars : ℕ) (w : ℕ → Word) where
-  move-fine : (n : Name) (k : Kind) → File.moveRow vars w n ≡ Read k → Fine vars k
+module _ (vars : ℕ) (w : ℕ → Word) (x : ℕ → Parsed) where
+  move-fine : (n : Name) (k : RowKind) → File.moveRow vars w x n ≡ Read k → Fine vars k
   unfolding File.moveRow
   move-fine n k e = checked-yes (Fine vars) _ _ k e λ h.
       let (a, b) = sooner-yes _ _ h in
       let (c, _) = sooner-yes _ _ b in
       (change-yes n (w 2) c, variable-yes vars (w 1) a)
 
-  test-fine : File.asksTest vars w ≡ 0 → (File.variableOf (w 1) < vars) × OperandLimits (File.operandOf (w 3)) × OperandBelow vars (File.operandOf (w 3))
+  test-fine : File.asksTest vars w x ≡ 0 → (File.variableOf (w 1) < vars) × ExprLimits (exprIn (x 3)) × ExprBelow vars (exprIn (x 3))
   unfolding File.asksTest
   test-fine h =
       let (a, b) = sooner-yes _ _ h in
       let (_, d) = sooner-yes _ _ b in
       let (e, _) = sooner-yes _ _ d in
-      let (f, g) = operand-yes vars (w 3) e in
+      let (f, g) = expr-yes vars (x 3) e in
       (variable-yes vars (w 1) a, f, g)
 
-  bare-fine : (r k : Kind) → Fine vars r → File.bareRow vars w r ≡ Read k → Fine vars k
+  bare-fine : (r k : RowKind) → Fine vars r → File.bareRow vars w x r ≡ Read k → Fine vars k
   unfolding File.bareRow
   bare-fine r k f e = checked-yes (Fine vars) _ r k e (λ _. f)
 
-  named-fine : (n : Name) (k : Kind) → File.namedRow vars w n ≡ Read k → Fine vars k
+  named-fine : (n : Name) (k : RowKind) → File.namedRow vars w x n ≡ Read k → Fine vars k
   unfolding File.setRow File.cueRow File.whileRow File.doRow File.forRow File.asksFor
   named-fine Name.Set k e = checked-yes (Fine vars) _ _ k e λ h.
       let (a, b) = sooner-yes _ _ h in
       let (c, _) = sooner-yes _ _ b in
-      let (f, g) = operand-yes vars (w 2) c in
+      let (f, g) = expr-yes vars (x 2) c in
       (f, (variable-yes vars (w 1) a, g))
   named-fine Name.Add k e = move-fine Name.Add k e
   named-fine Name.Sub k e = move-fine Name.Sub k e
   named-fine Name.Mul k e = move-fine Name.Mul k e
   named-fine Name.Div k e = move-fine Name.Div k e
   named-fine Name.Cue k e = checked-yes (Fine vars) _ _ k e λ h. let (a, _) = sooner-yes _ _ h in (omega (ints, amount-yes 0 (pos 9_999) (w 1) a .1), tt)
-  named-fine Name.Pick k e = bare-fine Kind.Pick k (tt, tt) e
-  named-fine Name.Else k e = bare-fine Kind.Else k (tt, tt) e
-  named-fine Name.End k e = bare-fine Kind.End k (tt, tt) e
+  named-fine Name.Pick k e = bare-fine RowKind.Pick k (tt, tt) e
+  named-fine Name.Else k e = bare-fine RowKind.Else k (tt, tt) e
+  named-fine Name.End k e = bare-fine RowKind.End k (tt, tt) e
   named-fine Name.While k e = checked-yes (Fine vars) _ _ k e λ h. let (a, b, c) = test-fine h in (b, (a, c))
   named-fine Name.Do k e = checked-yes (Fine vars) _ _ k e λ h. let (a, b, c) = test-fine h in (b, (a, c))
   named-fine Name.For k e = checked-yes (Fine vars) _ _ k e λ h.
@@ -152,11 +160,11 @@ module _ (vars : ℕ) (w : ℕ → Word) where
       let (_, f) = sooner-yes _ _ d in
       let (g, i) = sooner-yes _ _ f in
       let (j, _) = sooner-yes _ _ i in
-      let (sl, sb) = operand-yes vars (w 2) c in
-      let (xl, xb) = operand-yes vars (w 4) g in
+      let (sl, sb) = expr-yes vars (x 2) c in
+      let (xl, xb) = expr-yes vars (x 4) g in
       ((sl, xl, step-yes (w 5) (w 6) j), (variable-yes vars (w 1) a, sb, xb))
 
-  first-fine : (x : Word) (k : Kind) → File.firstWord vars w x ≡ Read k → Fine vars k
+  first-fine : (y : Word) (k : RowKind) → File.firstWord vars w x y ≡ Read k → Fine vars k
   first-fine Missing k e = wrong-not 3 k e
   first-fine (Number z) k e = wrong-not 3 k e
   first-fine (Variable v) k e = wrong-not 3 k e
@@ -164,9 +172,9 @@ module _ (vars : ℕ) (w : ℕ → Word) where
   first-fine (Keyword n) k e = named-fine n k e
   first-fine Other k e = wrong-not 3 k e
 
-  pub row-fine : (k : Kind) → File.rowOf vars w ≡ Read k → RowLimits k × RowBelow vars k
-  unfolding File.rowOf
-  row-fine k e = first-fine (w 0) k e
+pub row-fine : (vars : ℕ) (texts : List (List ℕ)) (k : RowKind) → File.rowOf vars texts ≡ Read k → RowLimits k × RowBelow vars k
+unfolding File.rowOf File.wordsRow
+row-fine vars texts k e = first-fine vars (wordsOf texts) (λ i. parse (getD texts i [])) (wordsOf texts 0) k e
 
 refused-not : {A B : Type 0} (q p : ℕ) (x : A) (ls : List (List ℕ)) → File.refused q p ≡ File.read x ls → B
 refused-not q p x ls e = absurd (let z : _≡_ {A = ℕ} 0 1 = cc in omega arith)
@@ -210,7 +218,7 @@ ranges-fine (suc n) p ls done rs ms a e =
     (g, omega (arith, length-append done (File.rangeOf w ∷ [])))
 
 -- the rows
-pub nest-snoc : (ks : List Kind) (k : Kind) (s : Nest) → nestRows (ks ++ (k ∷ [])) s ≡ andRows (nestRows ks s) (nestRow (viewOf k))
+pub nest-snoc : (ks : List RowKind) (k : RowKind) (s : Nest) → nestRows (ks ++ (k ∷ [])) s ≡ andRows (nestRows ks s) (nestRow (viewOf k))
 unfolding nestRows andRows
 nest-snoc [] k s = last (nestRow (viewOf k) s)
   where
@@ -230,7 +238,7 @@ record Sound (vars : ℕ) (rows : File.Rows) : Type 0 where
   below : All (RowBelow vars) (rows .kinds)
   nests : nestRows (rows .kinds) (record { open-blocks = []; loops = 0 }) ≡ nested (rows .nest)
 
-sound-more : (vars : ℕ) (rows : File.Rows) (k : Kind) (s : Nest) → Sound vars rows → RowLimits k × RowBelow vars k → nestRow (viewOf k) (rows .nest) ≡ nested s
+sound-more : (vars : ℕ) (rows : File.Rows) (k : RowKind) (s : Nest) → Sound vars rows → RowLimits k × RowBelow vars k → nestRow (viewOf k) (rows .nest) ≡ nested s
     → Sound vars (record { kinds = rows .kinds ++ (k ∷ []); nest = s })
 unfolding andRows
 sound-more vars rows k s h f e = record {
@@ -243,18 +251,18 @@ rows-fine : (vars n p : ℕ) (ls : List (List ℕ)) (done rows : File.Rows) (ms 
     → File.rowLines vars n p ls done ≡ File.read rows ms → Sound vars rows × (length (rows .kinds) ≡ length (done .kinds) + n)
 unfolding File.rowLines File.rowLine File.placed
 rows-fine vars zero p ls done rows ms h e = let f : done ≡ rows = cc in (subst (Sound vars) f h, omega (arith, ap (λ (r : File.Rows). length (r .kinds)) f))
-rows-fine vars (suc n) p ls done rows ms h e = by (File.rowOf vars (nextWords File.rowKey ls)) refl (λ r a g. rows-fine vars n (suc p) (nextLines ls) r rows ms a g) e
+rows-fine vars (suc n) p ls done rows ms h e = by (File.rowOf vars (nextTexts File.rowKey ls)) refl (λ r a g. rows-fine vars n (suc p) (nextLines ls) r rows ms a g) e
   where
-    more : (k : Kind) → File.rowOf vars (nextWords File.rowKey ls) ≡ Read k → (m : Nested) → nestRow (viewOf k) (done .nest) ≡ m
+    more : (k : RowKind) → File.rowOf vars (nextTexts File.rowKey ls) ≡ Read k → (m : Nested) → nestRow (viewOf k) (done .nest) ≡ m
         → ((r : File.Rows) → Sound vars r → File.rowLines vars n (suc p) (nextLines ls) r ≡ File.read rows ms → Sound vars rows × (length (rows .kinds) ≡ length (r .kinds) + n))
         → File.placed p (done .kinds) k m (λ r. File.rowLines vars n (suc p) (nextLines ls) r) ≡ File.read rows ms
         → Sound vars rows × (length (rows .kinds) ≡ length (done .kinds) + suc n)
     more k r (nested s) q ih f =
-        let (a, b) = ih _ (sound-more vars done k s h (row-fine vars (nextWords File.rowKey ls) k r) q) f in
+        let (a, b) = ih _ (sound-more vars done k s h (row-fine vars (nextTexts File.rowKey ls) k r) q) f in
         (a, omega (arith, length-append (done .kinds) (k ∷ [])))
     more k r (wrong c) q ih f = refused-not c p rows ms f
 
-    by : (r : RowRead) → File.rowOf vars (nextWords File.rowKey ls) ≡ r
+    by : (r : RowRead) → File.rowOf vars (nextTexts File.rowKey ls) ≡ r
         → ((r : File.Rows) → Sound vars r → File.rowLines vars n (suc p) (nextLines ls) r ≡ File.read rows ms → Sound vars rows × (length (rows .kinds) ≡ length (r .kinds) + n))
         → File.rowLine p done r (λ x. File.rowLines vars n (suc p) (nextLines ls) x) ≡ File.read rows ms
         → Sound vars rows × (length (rows .kinds) ≡ length (done .kinds) + suc n)
@@ -321,3 +329,12 @@ read-legal file script ms e = by-size (leb (length file) 16_384) e
     by-size : (b : Bool) → cond b (File.linesScript (split lf file)) (File.refused 2 16_384) ≡ File.read script ms → Legal script
     by-size true h = by-script (then-yes _ _ script ms h)
     by-size false h = refused-not 2 16_384 script ms h
+
+-- and not too long
+pub read-short : (file : List ℕ) (script : Script) (ms : List (List ℕ)) → File.fileScript file ≡ File.read script ms → length file ≤ 16_384
+unfolding File.fileScript
+read-short file script ms e = by-size (leb (length file) 16_384) refl e
+  where
+    by-size : (b : Bool) → leb (length file) 16_384 ≡ b → cond b (File.linesScript (split lf file)) (File.refused 2 16_384) ≡ File.read script ms → length file ≤ 16_384
+    by-size true f h = leb-true (length file) 16_384 f
+    by-size false f h = refused-not 2 16_384 script ms h

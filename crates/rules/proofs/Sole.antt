@@ -14,6 +14,7 @@ use Rattle.rules.specs.Blocks.{Test, Form, from, changed, Plain, assign,
 use Rattle.rules.specs.Steps.{sets, starts, assigns, rowStep, sourceStep, then, stepFrom, step, still, Sole, other, sole, behind, soleRow, soleOf}
 use Rattle.rules.specs.Trips.{own, chase, chases, keeps, limitWay, soleWay, wayOf}
 use Rattle.rules.specs.Questions.{known}
+use Rattle.rules.specs.Expressions.{Expr, constant, variable, group, apply, meaning}
 use Rattle.rules.specs.Figures.{Prices}
 use Rattle.rules.specs.Run.{State, result, exec, run, bind}
 use Rattle.rules.proofs.Outcomes.{Thru, went, at, thru-bind, thru-charge, thru-taken, thru-map, thru-all, thru-write, thru-pi, thru-and}
@@ -38,19 +39,22 @@ behind-alone assigned v f g h keeps (sole w before after) (a, b) =
 module _ (π : Prices) where
   -- the row itself, and the rows after it
   row-alone : (i v : ℕ) (p : Plain) (rest : Block) → T (sets v p) → (s : State) → Thru (λ t. Alone v (s .store) (t .store) (soleRow v p rest)) (bind (exec π i p s) (λ t. run π rest t))
-  unfolding soleRow sets exec result value
-  row-alone i v (assign u (from (Variable w))) rest h s =
-      cond-elim (λ so. Thru (λ t. Alone v (s .store) (t .store) so) (bind (exec π i (assign u (from (Variable w))) s) (λ t. run π rest t)))
+  unfolding soleRow sets exec result value meaning
+  row-alone i v (assign u (from (variable w))) rest h s =
+      cond-elim (λ so. Thru (λ t. Alone v (s .store) (t .store) so) (bind (exec π i (assign u (from (variable w))) s) (λ t. run π rest t)))
       (eqb w v || assigns v rest) other (sole w false (assigns w rest)) (λ _. thru-all _ (λ _. tt))
       (λ n. let (_, nv) = nor (eqb w v) (assigns v rest) n in
       thru-bind {Q = λ t. (t .store v ≡ s .store w) × (t .store w ≡ s .store w)}
-      (thru-charge _ i _ s _ λ m. thru-write i u _ _ λ _. (cond-true (eqb v u) _ _ h, cond-elim (λ z. z ≡ s .store w) (eqb w u) _ _ (λ _. refl) (λ _. refl)))
+      (thru-charge _ i _ s _ λ m. thru-write i u _ _ λ z q _. let same : z ≡ s .store w = cc in
+      (cond-true (eqb v u) _ _ h ∙ same, cond-elim (λ y. y ≡ s .store w) (eqb w u) _ _ (λ _. same) (λ _. refl)))
       (λ t (e, k). thru-map (λ r (x, y). (λ na. x ∙ e ∙ sym (y na ∙ k), λ _. x ∙ e)) (both-kept rest v w nv t)))
     where
       both-kept : (rest : Block) (v w : ℕ) → T (not (assigns v rest)) → (t : State)
           → Thru (λ r. (r .store v ≡ t .store v) × (T (not (assigns w rest)) → r .store w ≡ t .store w)) (run π rest t)
       both-kept rest v w nv t = thru-and (frame π rest v _ nv t refl) (thru-pi _ λ na. frame π rest w _ na t refl)
-  row-alone i v (assign u (from (Constant k))) rest h s = thru-all _ (λ _. tt)
+  row-alone i v (assign u (from (constant k))) rest h s = thru-all _ (λ _. tt)
+  row-alone i v (assign u (from (group x))) rest h s = thru-all _ (λ _. tt)
+  row-alone i v (assign u (from (apply o x y))) rest h s = thru-all _ (λ _. tt)
   row-alone i v (assign u (changed c)) rest h s = thru-all _ (λ _. tt)
   row-alone i v (cue n) rest h s = thru-all _ (λ _. tt)
 
@@ -128,10 +132,12 @@ from-unknown v (loop i e form test body rest) = from-unknown v rest
 
 row-stepless : (acc : Step) (v : ℕ) (p : Plain) (rest : Block) → T (sets v p) → Stepless (soleRow v p rest) (stepFrom (then acc (rowStep v p)) v rest)
 unfolding soleRow sets rowStep sourceStep
-row-stepless acc v (assign u (from (Variable w))) rest h =
+row-stepless acc v (assign u (from (variable w))) rest h =
     cond-elim (λ so. Stepless so (stepFrom (then acc (cond (eqb v u) Unknown still)) v rest)) (eqb w v || assigns v rest) other _ (λ _. tt)
     (λ _. rw (cond-true (eqb v u) Unknown still h, then-unknown acc) (from-unknown v rest))
-row-stepless acc v (assign u (from (Constant k))) rest h = tt
+row-stepless acc v (assign u (from (constant k))) rest h = tt
+row-stepless acc v (assign u (from (group x))) rest h = tt
+row-stepless acc v (assign u (from (apply o x y))) rest h = tt
 row-stepless acc v (assign u (changed c)) rest h = tt
 row-stepless acc v (cue n) rest h = tt
 
@@ -165,8 +171,10 @@ known-own form test body k kept = by (test .limit) kept ∙ known-limit form tes
     not-both true h n = let z : _≡_ {A = ℕ} 0 1 = cc in omega arith
     not-both false h n = h
 
-    by : (o : Operand) → keeps o body ≡ true → own ≡ limitWay test body o
-    by (Constant k) n = refl
-    by (Variable w) n =
+    by : (o : Expr) → keeps o body ≡ true → own ≡ limitWay test body o
+    by (constant k) n = refl
+    by (variable w) n =
         cond-elim (λ way. own ≡ way) (chases test body w) (chase w) own
         (λ h. let (_, h₁) = both (not (eqb w (test .tested))) _ h in absurd (not-both (assigns w body) (both (assigns w body) _ h₁ .0) n)) (λ _. refl)
+    by (group x) n = refl
+    by (apply o x y) n = refl

@@ -7,8 +7,7 @@ use lib.Dec.{leb}
 use lib.IntN.{ℤ}
 use lib.Signed.{leZ}
 use lib.ListN.{length, getD, drop}
-use Rattle.rules.specs.declared.Kind.{Kind}
-use Rattle.rules.specs.Blocks.{View, is-plain, is-pick, is-else, is-end, is-loop, viewOf}
+use Rattle.rules.specs.Blocks.{RowKind, View, is-plain, is-pick, is-else, is-end, is-loop, viewOf}
 use Rattle.rules.specs.declared.Reply.{Reply}
 use Rattle.rules.specs.declared.Reply.the-variants.{Accepted, Refused}
 use Rattle.rules.specs.declared.LoopCount.{LoopCount}
@@ -112,7 +111,7 @@ isLoop is-end = false
 isLoop (is-loop form test last) = true
 
 -- the head rows of the loops, in row order, from row i on
-unfoldable pub loopRows : ℕ → List Kind → List ℕ
+unfoldable pub loopRows : ℕ → List RowKind → List ℕ
 loopRows i [] = []
 loopRows i (k ∷ ks) = cond (isLoop (viewOf k)) (i ∷ loopRows (suc i) ks) (loopRows (suc i) ks)
 

@@ -1,35 +1,36 @@
 -- "The script file" and the questions 2 to 7: from a file's bytes to its script, or to the first no with number and place.
 use mathlib.Core.Bool.{cond, _&&_}
 use mathlib.Core.List.{List, [], _∷_, _++_}
-use Prim.Native.Nat.{ℕ, zero, suc, _+_}
-use lib.Dec.{leb, ltb}
+use Prim.Native.Nat.{ℕ, zero, suc, _+_, _*_}
+use lib.Dec.{leb, ltb, eqb}
 use lib.IntN.{ℤ, pos, natAbs}
 use lib.Signed.{leZ}
-use lib.ListN.{length}
-use Rattle.rules.specs.declared.Operand.{Operand}
-use Rattle.rules.specs.declared.Operand.the-variants.{Constant}
+use lib.ListN.{length, getD}
+use Rattle.rules.specs.Expressions.{Expr, constant, variable, group, apply}
 use Rattle.rules.specs.declared.Comparison.{Comparison}
 use Rattle.rules.specs.declared.Comparison.the-variants.{Less}
 use Rattle.rules.specs.declared.Change.{Change}
-use Rattle.rules.specs.declared.Kind.{Kind}
-use Rattle.rules.specs.declared.Kind.the-variants.{Set, Move, Cue, Pick, Else, End, While, Do, For}
+use Rattle.rules.specs.Blocks.{RowKind, Set, Move, Cue, Pick, Else, End, While, Do, For}
 use Rattle.rules.specs.declared.Name.{Name}
 use Rattle.rules.specs.declared.Word.{Word}
 use Rattle.rules.specs.declared.Word.the-variants.{Missing, Number, Variable, Compares, Keyword, Other}
-use Rattle.rules.specs.declared.RowRead.{RowRead}
-use Rattle.rules.specs.declared.RowRead.the-variants.{Read, Wrong}
 use Rattle.rules.specs.Values.{lowest, highest}
 use Rattle.rules.specs.Blocks.{viewOf}
 use Rattle.rules.specs.Nesting.{Open, Nest, Nested, nested, wrong, nestRow}
 use Rattle.rules.specs.Ranges.{Range}
 use Rattle.rules.specs.Scripts.{Script}
-use Rattle.rules.specs.Text.{lf, split, nextWords, nextLines}
+use Rattle.rules.specs.Text.{lf, split, wordsOf, nextTexts, nextWords, nextLines}
+use Rattle.rules.specs.Parse.{Parsed, parsed, shapeless, parse, exprIn, depth, operators}
 
--- Questions 3, 4 and 5 are asked of each word; 0: all have yes. All of them on one line go in order, so the line's first no is the least.
+-- a question's turn on its line: 17 comes between 3 and 4
+unfoldable pub turnOf : ℕ → ℕ
+turnOf q = cond (eqb q 17) 7 (2 * q)
+
+-- Questions 3, 17, 4 and 5 are asked of each word; 0: all have yes. All of them on one line go in order, so the line's first no has the least turn.
 unfoldable pub sooner : ℕ → ℕ → ℕ
 sooner zero q = q
 sooner (suc p) zero = suc p
-sooner (suc p) (suc q) = cond (leb p q) (suc p) (suc q)
+sooner (suc p) (suc q) = cond (leb (turnOf (suc p)) (turnOf (suc q))) (suc p) (suc q)
 
 -- nothing after the last word
 abbrev pub asksEnd : Word → ℕ
@@ -58,14 +59,21 @@ asksVariable vars (Compares c) = 3
 asksVariable vars (Keyword n) = 3
 asksVariable vars Other = 3
 
--- X: a constant (−L to L) or a variable
-abbrev pub asksOperand : ℕ → Word → ℕ
-asksOperand vars Missing = 3
-asksOperand vars (Number z) = cond (leZ lowest z && leZ z highest) 0 4
-asksOperand vars (Variable v) = cond (ltb v vars) 0 5
-asksOperand vars (Compares c) = 3
-asksOperand vars (Keyword n) = 3
-asksOperand vars Other = 3
+-- 17: "more than 8 parentheses open together or more than 15 operators in one expression"
+unfoldable pub asksSize : Expr → ℕ
+asksSize x = cond (leb (depth x) 8 && leb (operators x) 15) 0 17
+
+-- 4 and 5: each constant from −L to L, each variable below V
+unfoldable pub asksLeaves : ℕ → Expr → ℕ
+asksLeaves vars (constant z) = cond (leZ lowest z && leZ z highest) 0 4
+asksLeaves vars (variable v) = cond (ltb v vars) 0 5
+asksLeaves vars (group x) = asksLeaves vars x
+asksLeaves vars (apply o x y) = sooner (asksLeaves vars x) (asksLeaves vars y)
+
+-- X: an expression
+abbrev pub asksExpr : ℕ → Parsed → ℕ
+asksExpr vars (parsed x s) = sooner (asksSize x) (asksLeaves vars x)
+asksExpr vars shapeless = 3
 
 -- a comparison
 abbrev pub asksComparison : Word → ℕ
@@ -93,15 +101,6 @@ variableOf (Variable v) = v
 variableOf (Compares c) = 0
 variableOf (Keyword n) = 0
 variableOf Other = 0
-
--- likewise the operand
-abbrev pub operandOf : Word → Operand
-operandOf Missing = Constant (pos 0)
-operandOf (Number z) = Constant z
-operandOf (Variable v) = Operand.Variable v
-operandOf (Compares c) = Constant (pos 0)
-operandOf (Keyword n) = Constant (pos 0)
-operandOf Other = Constant (pos 0)
 
 -- likewise the comparison
 abbrev pub comparisonOf : Word → Comparison
@@ -160,50 +159,55 @@ stepOf (Compares c) w = Change.Add 0
 stepOf (Keyword n) w = changeOf n w
 stepOf Other w = Change.Add 0
 
+-- a row's line: its row, or the question that has no
+pub data RowRead : Type 0 where
+  Read : RowKind → RowRead
+  Wrong : ℕ → RowRead
+
 -- the row, if question q is none
-unfoldable pub checked : ℕ → Kind → RowRead
+unfoldable pub checked : ℕ → RowKind → RowRead
 checked zero k = Read k
 checked (suc q) k = Wrong (suc q)
 
--- "Rows": each with its words
-module _ (vars : ℕ) (w : ℕ → Word) where
+-- "Rows": each with its words, and what is read of each word as an expression
+module _ (vars : ℕ) (word : ℕ → Word) (expr : ℕ → Parsed) where
   -- `pick`, `else`, `end`
-  unfoldable pub bareRow : Kind → RowRead
-  bareRow k = checked (asksEnd (w 1)) k
+  unfoldable pub bareRow : RowKind → RowRead
+  bareRow k = checked (asksEnd (word 1)) k
 
   -- `set v0 X`
   unfoldable pub setRow : RowRead
-  setRow = checked (sooner (asksVariable vars (w 1)) (sooner (asksOperand vars (w 2)) (asksEnd (w 3)))) (Set (variableOf (w 1)) (operandOf (w 2)))
+  setRow = checked (sooner (asksVariable vars (word 1)) (sooner (asksExpr vars (expr 2)) (asksEnd (word 3)))) (Set (variableOf (word 1)) (exprIn (expr 2)))
 
   -- `add v0 C`, `sub v0 C`, `mul v0 C`, `div v0 C`
   unfoldable pub moveRow : Name → RowRead
-  moveRow n = checked (sooner (asksVariable vars (w 1)) (sooner (asksChange n (w 2)) (asksEnd (w 3)))) (Move (variableOf (w 1)) (changeOf n (w 2)))
+  moveRow n = checked (sooner (asksVariable vars (word 1)) (sooner (asksChange n (word 2)) (asksEnd (word 3)))) (Move (variableOf (word 1)) (changeOf n (word 2)))
 
   -- `cue N` (0 to 9,999)
   unfoldable pub cueRow : RowRead
-  cueRow = checked (sooner (asksNumber (pos 0) (pos 9_999) (w 1)) (asksEnd (w 2))) (Cue (natAbs (numberOf (w 1))))
+  cueRow = checked (sooner (asksNumber (pos 0) (pos 9_999) (word 1)) (asksEnd (word 2))) (Cue (natAbs (numberOf (word 1))))
 
   -- the test of a `while v0 <= X` or `do v0 <= X`
   unfoldable pub asksTest : ℕ
-  asksTest = sooner (asksVariable vars (w 1)) (sooner (asksComparison (w 2)) (sooner (asksOperand vars (w 3)) (asksEnd (w 4))))
+  asksTest = sooner (asksVariable vars (word 1)) (sooner (asksComparison (word 2)) (sooner (asksExpr vars (expr 3)) (asksEnd (word 4))))
 
   -- `while v0 <= X`
   unfoldable pub whileRow : RowRead
-  whileRow = checked asksTest (While (variableOf (w 1)) (comparisonOf (w 2)) (operandOf (w 3)))
+  whileRow = checked asksTest (While (variableOf (word 1)) (comparisonOf (word 2)) (exprIn (expr 3)))
 
   -- `do v0 <= X`
   unfoldable pub doRow : RowRead
-  doRow = checked asksTest (Do (variableOf (w 1)) (comparisonOf (w 2)) (operandOf (w 3)))
+  doRow = checked asksTest (Do (variableOf (word 1)) (comparisonOf (word 2)) (exprIn (expr 3)))
 
   -- the words of `for v0 X <= Y add C`
   unfoldable pub asksFor : ℕ
   asksFor =
-      sooner (asksVariable vars (w 1)) (sooner (asksOperand vars (w 2)) (sooner (asksComparison (w 3)) (sooner (asksOperand vars (w 4))
-      (sooner (asksStep (w 5) (w 6)) (asksEnd (w 7))))))
+      sooner (asksVariable vars (word 1)) (sooner (asksExpr vars (expr 2)) (sooner (asksComparison (word 3)) (sooner (asksExpr vars (expr 4))
+      (sooner (asksStep (word 5) (word 6)) (asksEnd (word 7))))))
 
   -- "start X, limit Y"
   unfoldable pub forRow : RowRead
-  forRow = checked asksFor (For (variableOf (w 1)) (operandOf (w 2)) (comparisonOf (w 3)) (operandOf (w 4)) (stepOf (w 5) (w 6)))
+  forRow = checked asksFor (For (variableOf (word 1)) (exprIn (expr 2)) (comparisonOf (word 3)) (exprIn (expr 4)) (stepOf (word 5) (word 6)))
 
   -- "Every row is one of these kinds", by its name
   abbrev pub namedRow : Name → RowRead
@@ -230,8 +234,12 @@ module _ (vars : ℕ) (w : ℕ → Word) where
   firstWord Other = Wrong 3
 
   -- the row of a line's words
-  unfoldable pub rowOf : RowRead
-  rowOf = firstWord (w 0)
+  unfoldable pub wordsRow : RowRead
+  wordsRow = firstWord (word 0)
+
+-- by their texts
+unfoldable pub rowOf : ℕ → List (List ℕ) → RowRead
+rowOf vars texts = wordsRow vars (wordsOf texts) (λ i. parse (getD texts i []))
 
 -- what lines read, with the lines after them; or the first no, with number and place
 pub data Reading (A : Type 0) : Type 0 where
@@ -308,11 +316,11 @@ rangeLines (suc n) p ls done =
 
 -- the rows read, and the blocks that are open after them
 pub record Rows : Type 0 where
-  pub kinds : List Kind
+  pub kinds : List RowKind
   pub nest : Nest
 
 -- questions 6 and 7 of a row
-unfoldable pub placed : ℕ → List Kind → Kind → Nested → (Rows → Reading Rows) → Reading Rows
+unfoldable pub placed : ℕ → List RowKind → RowKind → Nested → (Rows → Reading Rows) → Reading Rows
 placed p done k (nested s) next = next (record { kinds = done ++ (k ∷ []); nest = s })
 placed p done k (wrong q) next = refused q p
 
@@ -325,7 +333,7 @@ rowLine p done (Read k) next = placed p (done .kinds) k (nestRow (viewOf k) (don
 unfoldable pub rowLines : ℕ → ℕ → ℕ → List (List ℕ) → Rows → Reading Rows
 rowLines vars zero p ls done = read done ls
 rowLines vars (suc n) p ls done =
-    rowLine p done (rowOf vars (nextWords rowKey ls)) (λ rows. rowLines vars n (suc p) (nextLines ls) rows)
+    rowLine p done (rowOf vars (nextTexts rowKey ls)) (λ rows. rowLines vars n (suc p) (nextLines ls) rows)
 
 -- 3 of the line after the last: "extra bytes"
 unfoldable pub asksRest : List (List ℕ) → ℕ

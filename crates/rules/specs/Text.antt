@@ -126,15 +126,19 @@ wordsOf [] i = Missing
 wordsOf (w ∷ ws) ℕ.zero = wordOf w
 wordsOf (w ∷ ws) (ℕ.suc i) = wordsOf ws i
 
--- "one space between words, nothing after the last": the words after a line's key; of a line with another key there are none
-unfoldable pub lineWords : List ℕ → List ℕ → ℕ → Word
-lineWords key line = cond (startsWith key line) (wordsOf (split space (drop (length key) line))) (λ _. Missing)
+-- "one space between words, nothing after the last": the texts of the words after a line's key; of a line with another key there are none
+unfoldable pub lineTexts : List ℕ → List ℕ → List (List ℕ)
+lineTexts key line = cond (startsWith key line) (split space (drop (length key) line)) []
 
--- the next line's words; a line that is missing, or that no LF ends, has none
-unfoldable pub nextWords : List ℕ → List (List ℕ) → ℕ → Word
-nextWords key [] = λ _. Missing
-nextWords key (l ∷ []) = λ _. Missing
-nextWords key (l ∷ (m ∷ more)) = lineWords key l
+-- those of the next line; a line that is missing, or that no LF ends, has none
+unfoldable pub nextTexts : List ℕ → List (List ℕ) → List (List ℕ)
+nextTexts key [] = []
+nextTexts key (l ∷ []) = []
+nextTexts key (l ∷ (m ∷ more)) = lineTexts key l
+
+-- the next line's words
+abbrev pub nextWords : List ℕ → List (List ℕ) → ℕ → Word
+nextWords key ls = wordsOf (nextTexts key ls)
 
 -- the lines after it
 unfoldable pub nextLines : List (List ℕ) → List (List ℕ)

@@ -3,9 +3,8 @@ use mathlib.Core.Bool.{Bool, true, false, not, cond, _&&_}
 use Prim.Native.Nat.{ℕ, suc}
 use lib.Dec.{eqb}
 use lib.IntN.{ℤ, pos, _-ℤ_}
+use Rattle.rules.specs.Expressions.{Expr, constant, variable, group, apply}
 use lib.Signed.{ltZ}
-use Rattle.rules.specs.declared.Operand.{Operand}
-use Rattle.rules.specs.declared.Operand.the-variants.{Constant, Variable}
 use Rattle.rules.specs.declared.Comparison.{Comparison}
 use Rattle.rules.specs.declared.Step.{Step}
 use Rattle.rules.specs.Blocks.{Test, Form, Block, done, plain, pick, loop}
@@ -74,10 +73,12 @@ innerOf τ = cond (τ .free) full (insideRange (τ .late) (sort (τ .comparison)
 unfoldable pub outerOf : Trip → Range
 outerOf τ = cond (τ .free) full (outsideRange (τ .step) (sort (τ .comparison)) (τ .start))
 
--- 10: is the limit a constant or not assigned in the body?
-unfoldable pub keeps : Operand → Block → Bool
-keeps (Constant k) b = true
-keeps (Variable w) b = not (assigns w b)
+-- 10: "A loop limit is unchanged if none of its variables is assigned in the body"
+unfoldable pub keeps : Expr → Block → Bool
+keeps (constant k) b = true
+keeps (variable w) b = not (assigns w b)
+keeps (group x) b = keeps x b
+keeps (apply o x y) b = keeps x b && keeps y b
 
 -- the tested variable's own step, from its start range to the limit's
 abbrev pub ownTrip : Form → Env → Test → Block → Trip
@@ -132,9 +133,11 @@ abbrev pub chases : Test → Block → ℕ → Bool
 chases test body w = not (eqb w (test .tested)) && (assigns w body && (isAdd (step w body) && (isAdd (step (test .tested) body) && ordered (sort (test .comparison)))))
 
 -- by its limit
-unfoldable pub limitWay : Test → Block → Operand → Way
-limitWay test body (Constant k) = own
-limitWay test body (Variable w) = cond (chases test body w) (chase w) own
+unfoldable pub limitWay : Test → Block → Expr → Way
+limitWay test body (constant k) = own
+limitWay test body (group x) = own
+limitWay test body (apply o x y) = own
+limitWay test body (variable w) = cond (chases test body w) (chase w) own
 
 -- card 1: "directly in a while or do body, where w's step is a moving Add, all of w's rows stand on one side of it, and the comparison is < <= > or >="
 abbrev pub copies : Form → Test → Block → ℕ → Bool → Bool → Bool

@@ -8,15 +8,14 @@ use lib.Dec.{T, eqb, eqb→eq}
 use lib.ListN.{length, getD, take}
 use lib.IntN.{ℤ}
 use Rattle.rules.specs.declared.Kind.{Kind}
-use Rattle.rules.specs.declared.Kind.the-variants.{End}
 use Rattle.rules.specs.declared.Row.{Row}
 use Rattle.rules.specs.declared.Ending.{Ending}
 use Rattle.rules.specs.declared.Ending.the-variants.{Ended}
-use Rattle.rules.specs.Values.{put}
-use Rattle.rules.specs.Blocks.{Test, Form, while, do-while, for, Last, no-step, step-by, View, is-plain, is-pick, is-else, is-end, is-loop, viewOf, viewAt, kindsOf}
+use Rattle.rules.specs.Values.{put, Tried, passes, fails, beyond}
+use Rattle.rules.specs.Blocks.{RowKind, End, kindOf, Test, Form, while, do-while, for, Last, no-step, step-by, View, is-plain, is-pick, is-else, is-end, is-loop, viewOf, viewAt, kindsOf}
 use Rattle.rules.specs.declared.Prices.{Prices}
 use Rattle.rules.specs.Run.{State, Out, go, halt, holds}
-use Rattle.rules.specs.RowMachine.{Tally, tallyOf, begin, turn, Phase, fresh, testing, Place, Next, more, over, to, chosen, outcome, paid, picked, tests, onEnd, onRow, next, steps, Partners, pairs, rank}
+use Rattle.rules.specs.RowMachine.{Tally, tallyOf, begin, turn, Phase, fresh, testing, Place, Next, more, over, to, chosen, decide, outcome, paid, picked, tests, onEnd, onRow, next, steps, Partners, pairs, rank}
 use Rattle.rules.specs.Scripts.{All, some, RowLimits, RowBelow}
 use Rattle.rules.proofs.RowSimulation.{falls-more, next-row, next-past}
 use Rattle.rules.proofs.Pairing.{partners, pairs-in}
@@ -81,10 +80,16 @@ unfolding chosen
 near-chosen true f g = f
 near-chosen false f g = g
 
+near-decide : {c : Tally} (w : Tried) {x y z : Next} → Near c x → Near c y → Near c z → Near c (decide w x y z)
+unfolding decide
+near-decide passes f g h = f
+near-decide fails f g h = g
+near-decide beyond f g h = h
+
 module _ (π : Prices) where
   near-tests : {c d : Tally} (h e : ℕ) (t : Test) (s : State) → Less c d → Near c (tests π h e t s d)
   unfolding tests paid
-  near-tests h e t s l = near-chosen _ (near-chosen (holds t (s .store)) (near-turn _ _ _ _ l) (near-to _ _ _ l)) near-over
+  near-tests h e t s l = near-chosen _ (near-decide (holds t (s .store)) (near-turn _ _ _ _ l) (near-to _ _ _ l) near-over) near-over
 
   near-outcome : {c d : Tally} (o : Out) (j : ℕ) (ph : Phase) → Less c d → Near c (outcome o d (λ u. to j ph u d))
   unfolding outcome
@@ -96,7 +101,7 @@ module _ (π : Prices) where
   near-picked i j [] s c = near-over
   near-picked i j (x ∷ xs) s c = near-chosen (eqb x 0) (near-to _ _ _ (less-same c)) (near-to _ _ _ (less-same c))
 
-  module _ (rows : List Kind) (shut opener : ℕ → ℕ) where
+  module _ (rows : List RowKind) (shut opener : ℕ → ℕ) where
     near-end : (w : View) (h e : ℕ) (ph : Phase) (s : State) (c : Tally) → Near c (onEnd π rows shut opener w h e ph s c)
     unfolding onEnd
     near-end (is-plain p) h e ph s c = near-to _ _ _ (less-same c)
@@ -127,7 +132,7 @@ abbrev pub weight : ℕ → Next → ℕ
 weight R (more m) = suc (rank R m)
 weight R (over e i s c) = 0
 
-module _ (π : Prices) (rows : List Kind) (shut opener : ℕ → ℕ) where
+module _ (π : Prices) (rows : List RowKind) (shut opener : ℕ → ℕ) where
   abbrev R : ℕ
   R = length rows
 
@@ -217,19 +222,19 @@ module _ (π : Prices) (rows : List Kind) (shut opener : ℕ → ℕ) where
         (h₂, omega arith)
 
 -- the tables that one pass finds
-pub partners-of : (rows : List Kind) (n : ℕ) → nestRows rows (record { open-blocks = []; loops = 0 }) ≡ nest [] n → (t : Tables) → Found rows t → Partners rows (tableOf (t .shut)) (tableOf (t .opener))
+pub partners-of : (rows : List RowKind) (n : ℕ) → nestRows rows (record { open-blocks = []; loops = 0 }) ≡ nest [] n → (t : Tables) → Found rows t → Partners rows (tableOf (t .shut)) (tableOf (t .opener))
 partners-of rows n e t f =
     let (tree, whole) = tree-of rows n e in
     subst (λ g. Partners rows g (tableOf (t .opener))) (sym (f .shuts)) (subst (λ g. Partners rows (pairs rows (length rows) .shut) g) (sym (f .openers)) (partners rows tree whole))
 
 -- ---- the code's loop
-abbrev kinds : List Row → ℕ → List Kind
-kinds rows count = take count (kindsOf rows)
+abbrev kinds : List ℕ → List Row → ℕ → List RowKind
+kinds text rows count = take count (kindsOf text rows)
 
 -- what the loop keeps
-pub record Runs (π : Prices) (rows : List Row) (count : ℕ) (t : Tables) (picks : List ℕ) (m₀ : Machine) (store₀ : List ℤ) (counts₀ : List (List ℕ)) (m : Machine) (store : List ℤ) (counts : List (List ℕ)) : Type 0 where
+pub record Runs (text : List ℕ) (π : Prices) (rows : List Row) (count : ℕ) (t : Tables) (picks : List ℕ) (m₀ : Machine) (store₀ : List ℤ) (counts₀ : List (List ℕ)) (m : Machine) (store : List ℤ) (counts : List (List ℕ)) : Type 0 where
   pub lengths : (length store ≡ length store₀) × (length counts ≡ 256)
-  pub held : Held π (kinds rows count) (tableOf (t .shut)) (tableOf (t .opener)) (nextOf m₀ store₀ picks (tallyOf counts₀)) (nextOf m store picks (tallyOf counts))
+  pub held : Held π (kinds text rows count) (tableOf (t .shut)) (tableOf (t .opener)) (nextOf m₀ store₀ picks (tallyOf counts₀)) (nextOf m store picks (tallyOf counts))
   pub left : m .left ≤ m₀ .left
   pub used : m .used ≤ length picks
 
@@ -238,10 +243,10 @@ going-is : (s : Status) → isGoing s ≡ true → s ≡ Going
 going-is Going e = refl
 going-is (Over x i) e = absurd (let z : _≡_ {A = ℕ} 0 1 = cc in omega arith)
 
-module _ (π : Prices) (rows : List Row) (count : ℕ) (t : Tables) (picks : List ℕ) (m₀ : Machine) (store₀ : List ℤ) (counts₀ : List (List ℕ)) (full : length rows ≡ 256)
-    (ready : Ready π rows count t m₀ store₀ picks counts₀) where
-  abbrev ks : List Kind
-  ks = kinds rows count
+module _ {text : List ℕ} (π : Prices) (rows : List Row) (count : ℕ) (t : Tables) (picks : List ℕ) (m₀ : Machine) (store₀ : List ℤ) (counts₀ : List (List ℕ)) (full : length rows ≡ 256)
+    (ready : Ready text π rows count t m₀ store₀ picks counts₀) where
+  abbrev ks : List RowKind
+  ks = kinds text rows count
 
   abbrev shut : ℕ → ℕ
   shut = tableOf (t .shut)
@@ -250,7 +255,7 @@ module _ (π : Prices) (rows : List Row) (count : ℕ) (t : Tables) (picks : Lis
   opener = tableOf (t .opener)
 
   size-is : length ks ≡ count
-  size-is = kinds-first count rows (omega (arith, ready .size))
+  size-is = kinds-first text count rows (omega (arith, ready .size))
 
   fit : Partners ks shut opener
   fit = partners-of ks (ready .runs .closed .0) (ready .runs .closed .1) t (ready .found)
@@ -261,10 +266,10 @@ module _ (π : Prices) (rows : List Row) (count : ℕ) (t : Tables) (picks : Lis
       let q = pairs-in ks (omega arith) (length ks) (omega arith) in
       subst (λ n. opener i < n) e (subst (λ (g : ℕ → ℕ). g i < length ks) (sym (ready .found .openers)) (q .opener-in i))
 
-  pub runs-start : Runs π rows count t picks m₀ store₀ counts₀ m₀ store₀ counts₀
+  pub runs-start : Runs text π rows count t picks m₀ store₀ counts₀ m₀ store₀ counts₀
   runs-start = record { lengths = (refl, ready .long); held = held-start π ks shut opener _ (ready .room); left = omega arith; used = ready .used }
 
-  module _ (m : Machine) (store : List ℤ) (counts : List (List ℕ)) (now : Runs π rows count t picks m₀ store₀ counts₀ m store counts) (on : isGoing (m .status) ≡ true) where
+  module _ (m : Machine) (store : List ℤ) (counts : List (List ℕ)) (now : Runs text π rows count t picks m₀ store₀ counts₀ m store counts) (on : isGoing (m .status) ≡ true) where
     abbrev here : Place
     here = placeOf m store picks (tallyOf counts)
 
@@ -280,19 +285,20 @@ module _ (π : Prices) (rows : List Row) (count : ℕ) (t : Tables) (picks : Lis
         by : Roomy (length ks) (more here) → Room counts
         by (roomy-more f) = record { rows = now .lengths .1; turn = λ p. let (u, v) = f p in (omega arith, omega arith) }
 
-    pub doable : (j e : ℕ) → j < count → e < 256 → Doable e j (getD rows j (record { kind = End }) .kind) store counts
+    pub doable : (j e : ℕ) → j < count → e < 256 → Doable text e j (getD rows j (record { kind = Kind.End }) .kind) store counts
     doable j e l k =
         let n = size-is in
-        let q = kind-of count rows j l in
+        let q = kind-of text count rows j l in
         record {
           rows = (omega (arith, ready .size), k);
+          written = ready .written j l;
           limits = subst RowLimits q (all-index ks j End (ready .runs .limits) (omega arith));
-          below = subst (λ v. RowBelow v (getD rows j (record { kind = End }) .kind)) (sym (now .lengths .0)) (subst (RowBelow (length store₀)) q (all-index ks j End (ready .runs .below) (omega arith)));
+          below = subst (λ v. RowBelow v (kindOf text (getD rows j (record { kind = Kind.End }) .kind))) (sym (now .lengths .0)) (subst (RowBelow (length store₀)) q (all-index ks j End (ready .runs .below) (omega arith)));
           room = room-here;
         }
 
-    pub fitting : m .row < count → Fitting ks shut opener (m .row) (shut (m .row)) (opener (m .row)) (viewOf (getD rows (opener (m .row)) (record { kind = End }) .kind))
-    fitting l = record { shuts = refl; opens = refl; head = ap viewOf (kind-of count rows (opener (m .row)) (opener-in (m .row) l)) }
+    pub fitting : m .row < count → Fitting ks shut opener (m .row) (shut (m .row)) (opener (m .row)) (viewOf (kindOf text (getD rows (opener (m .row)) (record { kind = Kind.End }) .kind)))
+    fitting l = record { shuts = refl; opens = refl; head = ap viewOf (kind-of text count rows (opener (m .row)) (opener-in (m .row) l)) }
 
     pub head-in : m .row < count → opener (m .row) < count
     head-in l = opener-in (m .row) l
@@ -300,7 +306,7 @@ module _ (π : Prices) (rows : List Row) (count : ℕ) (t : Tables) (picks : Lis
     -- another state that is a step of the code on
     runs-on : (r : Machine) (store′ : List ℤ) (counts′ : List (List ℕ)) → (length store′ ≡ length store) × (length counts′ ≡ 256)
         → Onto π ks shut opener here (nextOf r store′ picks (tallyOf counts′)) → r .left ≤ m .left → r .used ≤ length picks
-        → Runs π rows count t picks m₀ store₀ counts₀ r store′ counts′ × (weight (length ks) (nextOf r store′ picks (tallyOf counts′)) < weight (length ks) (nextOf m store picks (tallyOf counts)))
+        → Runs text π rows count t picks m₀ store₀ counts₀ r store′ counts′ × (weight (length ks) (nextOf r store′ picks (tallyOf counts′)) < weight (length ks) (nextOf m store picks (tallyOf counts)))
     runs-on r store′ counts′ (a, b) q l u =
         let (h, w) = held-onto π ks shut opener fit (ready .price) _ here _ held-here q in (
           record { lengths = (a ∙ now .lengths .0, b); held = h; left = omega (arith, now .left); used = u },
@@ -310,16 +316,16 @@ module _ (π : Prices) (rows : List Row) (count : ℕ) (t : Tables) (picks : Lis
     -- a row
     pub runs-step : (r : Machine) (store′ : List ℤ) (counts′ : List (List ℕ)) → (length store′ ≡ length store) × (length counts′ ≡ 256)
         → m .row < count
-        → Steps m r store store′ picks (tallyOf counts) (tallyOf counts′) (rowTo π ks shut opener (viewOf (getD rows (m .row) (record { kind = End }) .kind)) (m .row) (phaseOf (m .testing)))
-        → Runs π rows count t picks m₀ store₀ counts₀ r store′ counts′ × (weight (length ks) (nextOf r store′ picks (tallyOf counts′)) < weight (length ks) (nextOf m store picks (tallyOf counts)))
+        → Steps m r store store′ picks (tallyOf counts) (tallyOf counts′) (rowTo π ks shut opener (viewOf (kindOf text (getD rows (m .row) (record { kind = Kind.End }) .kind))) (m .row) (phaseOf (m .testing)))
+        → Runs text π rows count t picks m₀ store₀ counts₀ r store′ counts′ × (weight (length ks) (nextOf r store′ picks (tallyOf counts′)) < weight (length ks) (nextOf m store picks (tallyOf counts)))
     runs-step r store′ counts′ same l s =
         let n = size-is in
         runs-on r store′ counts′ same
-        (subst (Onto π ks shut opener here) (sym (s .same)) (onto-row π ks shut opener (m .row) (omega arith) _ (ap viewOf (kind-of count rows (m .row) l)) _ _ _)) (s .left) (s .used (now .used))
+        (subst (Onto π ks shut opener here) (sym (s .same)) (onto-row π ks shut opener (m .row) (omega arith) _ (ap viewOf (kind-of text count rows (m .row) l)) _ _ _)) (s .left) (s .used (now .used))
 
     -- past the last row
     pub runs-past : count ≤ m .row
-        → Runs π rows count t picks m₀ store₀ counts₀ (overAt m (m .left) Ended count) store counts
+        → Runs text π rows count t picks m₀ store₀ counts₀ (overAt m (m .left) Ended count) store counts
         × (weight (length ks) (over Ended count (stateOf m store picks) (tallyOf counts)) < weight (length ks) (nextOf m store picks (tallyOf counts)))
     runs-past l =
         let n = size-is in
@@ -327,6 +333,6 @@ module _ (π : Prices) (rows : List Row) (count : ℕ) (t : Tables) (picks : Lis
         (one (sym (next-past π ks shut opener (m .row) _ _ _ (omega arith) ∙ ap (λ k. over Ended k (stateOf m store picks) (tallyOf counts)) n))) (omega arith) (now .used)
 
   -- it is over
-  pub runs-over : (m : Machine) (store : List ℤ) (counts : List (List ℕ)) → Runs π rows count t picks m₀ store₀ counts₀ m store counts → isGoing (m .status) ≡ false
+  pub runs-over : (m : Machine) (store : List ℤ) (counts : List (List ℕ)) → Runs text π rows count t picks m₀ store₀ counts₀ m store counts → isGoing (m .status) ≡ false
       → Finished π ks t m₀ m store₀ store picks (tallyOf counts₀) (tallyOf counts)
   runs-over m store counts now off = record { n = now .held .n; same = now .held .same; over = off; left = now .left; used = now .used }

@@ -71,18 +71,19 @@ zeros-all l h z = record { zero = λ i. record { turns = λ p. at p 0 i; sum = �
 abbrev pub startOf : ℕ → Machine
 startOf allowance = record { row = 0; testing = false; left = allowance; used = 0; status = Going }
 
-module _ (π : Prices) (rows : List Row) (count : ℕ) (full : length rows ≡ 256) (store : List ℤ) (picks : List ℕ) (allowance : ℕ) (given : Given π rows count store allowance)
-    (t : Tables) (found : Found (take count (kindsOf rows)) t) (counts : List (List ℕ)) (clear : Cleared counts) where
-  pub ready : Ready π rows count t (startOf allowance) store picks counts
+module _ {text : List ℕ} (π : Prices) (rows : List Row) (count : ℕ) (full : length rows ≡ 256) (store : List ℤ) (picks : List ℕ) (allowance : ℕ) (given : Given text π rows count store allowance)
+    (t : Tables) (found : Found (take count (kindsOf text rows)) t) (counts : List (List ℕ)) (clear : Cleared counts) where
+  pub ready : Ready text π rows count t (startOf allowance) store picks counts
   unfolding rank
   ready =
-      let n = kinds-first count rows (omega (arith, given .size)) in
-      let R = length (take count (kindsOf rows)) in
+      let n = kinds-first text count rows (omega (arith, given .size)) in
+      let R = length (take count (kindsOf text rows)) in
       let small : 2 * R + 2 ≤ 514 = omega (arith, given .size) in
       let most-steps = mul-le-mul (given .ticks) small in
       record {
         size = given .size;
         price = given .price;
+        written = given .written;
         runs = given .runs;
         found = found;
         long = clear .long;
@@ -95,14 +96,14 @@ module _ (π : Prices) (rows : List Row) (count : ℕ) (full : length rows ≡ 2
   begins = ap (λ c. more (placeOf (startOf allowance) store picks c)) (clear .zero)
 
   module _ (r : Machine) (store′ : List ℤ) (counts′ : List (List ℕ)) (same : length store′ ≡ length store)
-      (done : Finished π (take count (kindsOf rows)) t (startOf allowance) r store store′ picks (tallyOf counts) (tallyOf counts′)) where
+      (done : Finished π (take count (kindsOf text rows)) t (startOf allowance) r store store′ picks (tallyOf counts) (tallyOf counts′)) where
     abbrev answered : Status → Type 0
-    answered s = Answered (runOf π (take count (kindsOf rows)) store picks allowance) (ranBy s r allowance) (length store) store′ (tallyOf counts′)
+    answered s = Answered (runOf π (take count (kindsOf text rows)) store picks allowance) (ranBy s r allowance) (length store) store′ (tallyOf counts′)
 
     by-status : (s : Status) → r .status ≡ s → isGoing s ≡ false → answered s
     by-status Going e f = absurd (let z : _≡_ {A = ℕ} 0 1 = cc in omega arith)
     by-status (Over x i) e f =
-        let ks = take count (kindsOf rows) in
+        let ks = take count (kindsOf text rows) in
         let shut = tableOf (t .shut) in
         let opener = tableOf (t .opener) in
         let (n, closed) = given .runs .closed in

@@ -1,13 +1,14 @@
 -- What a run answers.
 use mathlib.Core.Path.{_≡_}
 use mathlib.Core.List.{List}
-use Prim.Native.Nat.{ℕ, _-_, _≤_}
-use lib.ListN.{length, take}
+use Prim.Native.Nat.{ℕ, _-_, _≤_, _<_}
+use lib.ListN.{length, getD, take}
 use lib.IntN.{ℤ}
 use Rattle.rules.specs.declared.Kind.{Kind}
 use Rattle.rules.specs.declared.Row.{Row}
 use Rattle.rules.specs.declared.Ending.the-variants.{Spent}
-use Rattle.rules.specs.Blocks.{kindsOf}
+use Rattle.rules.specs.Blocks.{RowKind, kindsOf}
+use Rattle.rules.specs.Written.{Written}
 use Rattle.rules.specs.declared.Prices.{Prices}
 use Rattle.rules.specs.RowMachine.{Tally, tallyOf}
 use Rattle.rules.specs.Answers.{Answer, runTree, storeList, sumAt, mostAt}
@@ -19,7 +20,7 @@ use Rattle.runner.specs.declared.Ran.{Ran}
 use Rattle.runner.specs.Runs.{Runnable}
 
 -- the run of the rows from a store
-abbrev pub runOf : Prices → List Kind → List ℤ → List ℕ → ℕ → Answer
+abbrev pub runOf : Prices → List RowKind → List ℤ → List ℕ → ℕ → Answer
 runOf π rows store picks allowance = runTree π (length rows) (treeOf rows) (storeOf store) picks allowance
 
 -- every count is 0
@@ -35,11 +36,12 @@ ranBy (Over e i) m allowance = record { ending = e; row = i; ticks = allowance -
 abbrev pub ranOf : Machine → ℕ → Ran
 ranOf m allowance = ranBy (m .status) m allowance
 
--- rows that pass the questions 4 to 7 over the store's variables, a price for each test, and at most 1,000,000,000,000 ticks
-pub record Given (π : Prices) (rows : List Row) (count : ℕ) (store : List ℤ) (allowance : ℕ) : Type 0 where
+-- rows, with their expressions in the text, that pass the questions 4 to 7 over the store's variables, a price for each test, and at most 1,000,000,000,000 ticks
+pub record Given (text : List ℕ) (π : Prices) (rows : List Row) (count : ℕ) (store : List ℤ) (allowance : ℕ) : Type 0 where
   pub size : count ≤ 256
   pub price : 1 ≤ π .test
-  pub runs : Runnable (length store) (take count (kindsOf rows))
+  pub written : (i : ℕ) → i < count → Written text (getD rows i (record { kind = Kind.End }) .kind)
+  pub runs : Runnable (length store) (take count (kindsOf text rows))
   pub ticks : allowance ≤ 1_000_000_000_000
 
 -- the answer, the store of `vars` variables, and the counts by row are a's

@@ -3,12 +3,13 @@ use mathlib.Core.Path.{_≡_}
 use mathlib.Core.Bool.{false}
 use mathlib.Core.List.{List, []}
 use Prim.Native.Nat.{ℕ, _+_, _≤_, _<_, _^_}
-use lib.ListN.{length, take}
+use lib.ListN.{length, getD, take}
 use lib.IntN.{ℤ}
 use Rattle.rules.specs.declared.Kind.{Kind}
 use Rattle.rules.specs.declared.Row.{Row}
 use Rattle.rules.specs.declared.Ending.{Ending}
-use Rattle.rules.specs.Blocks.{kindsOf}
+use Rattle.rules.specs.Blocks.{RowKind, kindsOf}
+use Rattle.rules.specs.Written.{Written}
 use Rattle.rules.specs.Nesting.{nest, nestRows}
 use Rattle.rules.specs.declared.Prices.{Prices}
 use Rattle.rules.specs.Run.{State}
@@ -20,7 +21,7 @@ use Rattle.actions.specs.declared.Machine.{Machine}
 use Rattle.actions.specs.States.{nextOf, isGoing}
 
 -- the questions 4 to 7 of rows over so many variables
-pub record Runnable (vars : ℕ) (rows : List Kind) : Type 0 where
+pub record Runnable (vars : ℕ) (rows : List RowKind) : Type 0 where
   pub limits : All RowLimits rows
   pub below : All (RowBelow vars) rows
   pub closed : (n : ℕ) × (nestRows rows (record { open-blocks = []; loops = 0 }) ≡ nest [] n)
@@ -30,18 +31,19 @@ pub data Roomy (R : ℕ) : Next → Type 0 where
   roomy-over : {e : Ending} {i : ℕ} {s : State} {c : Tally} → Roomy R (over e i s c)
   roomy-more : {m : Place} → ((p : ℕ) → (m .tally .turns p + rank R m < 2 ^ 63) × (m .tally .sum p + rank R m < 2 ^ 63)) → Roomy R (more m)
 
--- the loop may begin
-pub record Ready (π : Prices) (rows : List Row) (count : ℕ) (t : Tables) (m : Machine) (store : List ℤ) (picks : List ℕ) (counts : List (List ℕ)) : Type 0 where
+-- the loop may begin; the rows' expressions stand in the text
+pub record Ready (text : List ℕ) (π : Prices) (rows : List Row) (count : ℕ) (t : Tables) (m : Machine) (store : List ℤ) (picks : List ℕ) (counts : List (List ℕ)) : Type 0 where
   pub size : count ≤ 256
   pub price : 1 ≤ π .test
-  pub runs : Runnable (length store) (take count (kindsOf rows))
-  pub found : Found (take count (kindsOf rows)) t
+  pub written : (i : ℕ) → i < count → Written text (getD rows i (record { kind = Kind.End }) .kind)
+  pub runs : Runnable (length store) (take count (kindsOf text rows))
+  pub found : Found (take count (kindsOf text rows)) t
   pub long : length counts ≡ 256
-  pub room : Roomy (length (take count (kindsOf rows))) (nextOf m store picks (tallyOf counts))
+  pub room : Roomy (length (take count (kindsOf text rows))) (nextOf m store picks (tallyOf counts))
   pub used : m .used ≤ length picks
 
 -- some steps of `rules`' machine lead from m to r, and r is over
-pub record Finished (π : Prices) (rows : List Kind) (t : Tables) (m r : Machine) (store store′ : List ℤ) (picks : List ℕ) (c c′ : Tally) : Type 0 where
+pub record Finished (π : Prices) (rows : List RowKind) (t : Tables) (m r : Machine) (store store′ : List ℤ) (picks : List ℕ) (c c′ : Tally) : Type 0 where
   pub n : ℕ
   pub same : steps π rows (tableOf (t .shut)) (tableOf (t .opener)) n (nextOf m store picks c) ≡ nextOf r store′ picks c′
   pub over : isGoing (r .status) ≡ false

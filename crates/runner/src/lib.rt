@@ -27,6 +27,7 @@ fn going(m: Machine) -> bool
 
 // From a state on until the run is over. A state that is over stays as it is.
 pub fn resume(
+    text: &[u8],
     rows: [Row; 256],
     count: usize,
     tables: Tables,
@@ -36,8 +37,8 @@ pub fn resume(
     picks: &[u8],
     counts: &mut [[u64; 3]; 256],
 ) -> Machine
-    requires { ⌜ Ready prices rows count tables from (now store) (now picks) (now counts) ⌝ }
-    ensures { λ r. ⌜ Finished prices (take count (kindsOf rows)) tables from r (now (store .entry)) (now (store .exit)) (now (picks .entry)) (tallyOf (now (counts .entry))) (tallyOf (now (counts .exit))) ⌝ }
+    requires { ⌜ Ready (now text) prices rows count tables from (now store) (now picks) (now counts) ⌝ }
+    ensures { λ r. ⌜ Finished prices (take count (kindsOf (now (text .entry)) rows)) tables from r (now (store .entry)) (now (store .exit)) (now (picks .entry)) (tallyOf (now (counts .entry))) (tallyOf (now (counts .exit))) ⌝ }
 {
     let mut m = from;
     while going(m) {
@@ -47,7 +48,7 @@ pub fn resume(
             let e = tables.shut[i] as usize;
             let h = tables.opener[i] as usize;
             let head = rows[h];
-            m = machine::step(m, row, e, head, h, prices, store, picks, counts);
+            m = machine::step(m, row, e, head, h, prices, text, store, picks, counts);
         } else {
             m = actions::ended(m, m.left, Ending::Ended, count);
         }
@@ -99,6 +100,7 @@ fn answer(m: Machine, allowance: u64) -> Ran
 
 // The run of the first `count` rows, with the turns of the loops by their head rows.
 pub fn run_rows(
+    text: &[u8],
     rows: [Row; 256],
     count: usize,
     prices: Prices,
@@ -107,8 +109,8 @@ pub fn run_rows(
     allowance: u64,
     counts: &mut [[u64; 3]; 256],
 ) -> Ran
-    requires { ⌜ Given prices rows count (now store) allowance × (length (now counts) ≡ 256) ⌝ }
-    ensures { λ r. ⌜ Answered (runOf prices (take count (kindsOf rows)) (now (store .entry)) (now (picks .entry)) allowance) r (length (now (store .entry))) (now (store .exit)) (tallyOf (now (counts .exit))) ⌝ }
+    requires { ⌜ Given (now text) prices rows count (now store) allowance × (length (now counts) ≡ 256) ⌝ }
+    ensures { λ r. ⌜ Answered (runOf prices (take count (kindsOf (now (text .entry)) rows)) (now (store .entry)) (now (picks .entry)) allowance) r (length (now (store .entry))) (now (store .exit)) (tallyOf (now (counts .exit))) ⌝ }
 {
     clear(counts);
     let tables = pairs::partners(rows, count);
@@ -119,6 +121,16 @@ pub fn run_rows(
         used: 0,
         status: Status::Going,
     };
-    let end = resume(rows, count, tables, prices, start, store, picks, counts);
+    let end = resume(
+        text,
+        rows,
+        count,
+        tables,
+        prices,
+        start,
+        store,
+        picks,
+        counts,
+    );
     answer(end, allowance)
 }

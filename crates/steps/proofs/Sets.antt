@@ -10,11 +10,12 @@ use lib.Seq.{getD-set-same, getD-set-other}
 use borrow.Author.Tests.{eqb-true, eqb-false, ltb-true, ltb-false, lt-ltb, le-ltb}
 use Rattle.rules.specs.declared.Kind.{Kind}
 use Rattle.rules.specs.declared.Kind.the-variants.{Set, Move, Cue, Pick, Else, End, While, Do, For}
-use Rattle.rules.specs.Blocks.{Plain, Last, no-step, step-by, View, is-plain, is-pick, is-else, is-end, is-loop, viewOf, withLast, Block, done, plain, pick, loop, snoc}
+use Rattle.rules.specs.Blocks.{Plain, Last, no-step, step-by, View, is-plain, is-pick, is-else, is-end, is-loop, viewOf, kindOf, withLast, Block, done, plain, pick, loop, snoc}
 use Rattle.rules.specs.Steps.{sets, starts, assigns}
 use Rattle.rules.proofs.Laws.{put-set}
 use Rattle.table.specs.declared.Shape.{Shape}
 use Rattle.table.specs.Shapes.{shapeBy, shapeOf, lastRow, plainBy, plainOf}
+use Rattle.table.proofs.Laws.{shape-text}
 use Rattle.steps.specs.Tree.{headBy, headOf, formOf, testOf}
 use Rattle.steps.specs.Sets.{setOf, none, withOne, withRow, bothOf, assignsFrom}
 
@@ -80,9 +81,9 @@ body-assigns v no-step i b = sym (or-false _)
 body-assigns v (step-by p) i b = assigns-snoc v b i p
 
 -- a loop's head stands for its body's last row
-pub head-row : (k : Kind) → shapeOf k ≡ Shape.Loop → plainOf k ≡ lastRow (headOf k .last)
+pub head-row : (text : List ℕ) (k : Kind) → shapeOf k ≡ Shape.Loop → plainOf text k ≡ lastRow (headOf text k .last)
 unfolding headOf
-head-row k h = by (viewOf k) h
+head-row text k h = by (viewOf (kindOf text k)) (shape-text text k ∙ h)
   where
     by : (w : View) → shapeBy w ≡ Shape.Loop → plainBy w ≡ lastRow (headBy w .last)
     by (is-plain p) h = absurd (let z : _≡_ {A = ℕ} 0 1 = cc in omega arith)
@@ -96,37 +97,37 @@ or-self true = refl
 or-self false = refl
 
 -- what a for's start assigns, its step row assigns
-start-row : (k : Kind) (v : ℕ) → starts v (formOf k) (testOf k) || sets v (lastRow (headOf k .last)) ≡ sets v (lastRow (headOf k .last))
-unfolding headOf viewOf sets
-start-row (Set w x) v = refl
-start-row (Move w c) v = refl
-start-row (Cue n) v = refl
-start-row Pick v = refl
-start-row Else v = refl
-start-row End v = refl
-start-row (While w c x) v = refl
-start-row (Do w c x) v = refl
-start-row (For w s c x d) v = or-self (eqb v w)
+start-row : (text : List ℕ) (k : Kind) (v : ℕ) → starts v (formOf text k) (testOf text k) || sets v (lastRow (headOf text k .last)) ≡ sets v (lastRow (headOf text k .last))
+unfolding headOf viewOf kindOf sets
+start-row text (Set w x) v = refl
+start-row text (Move w c) v = refl
+start-row text (Cue n) v = refl
+start-row text Pick v = refl
+start-row text Else v = refl
+start-row text End v = refl
+start-row text (While w c x) v = refl
+start-row text (Do w c x) v = refl
+start-row text (For w s c x d) v = or-self (eqb v w)
 
 or-within : (a b c : Bool) → a || c ≡ c → a || (b || c) ≡ b || c
 or-within true true c h = refl
 or-within true false c h = h
 or-within false b c h = refl
 
-pub loop-assigns : (v : ℕ) (k : Kind) (i : ℕ) (b : Block) → starts v (formOf k) (testOf k) || assigns v (withLast (headOf k .last) i b) ≡ assigns v (withLast (headOf k .last) i b)
-loop-assigns v k i b = rw (body-assigns v (headOf k .last) i b) (or-within (starts v (formOf k) (testOf k)) (assigns v b) _ (start-row k v))
+pub loop-assigns : (v : ℕ) (text : List ℕ) (k : Kind) (i : ℕ) (b : Block) → starts v (formOf text k) (testOf text k) || assigns v (withLast (headOf text k .last) i b) ≡ assigns v (withLast (headOf text k .last) i b)
+loop-assigns v text k i b = rw (body-assigns v (headOf text k .last) i b) (or-within (starts v (formOf text k) (testOf text k)) (assigns v b) _ (start-row text k v))
 
 -- what a loop adds to a set
-pub loop-adds : (x : ℕ → Bool) (i : ℕ) (k : Kind) → shapeOf k ≡ Shape.Loop → (b : Block)
-    → (λ w. x w || (starts w (formOf k) (testOf k) || assigns w (withLast (headOf k .last) i b))) ≡ withRow (assignsFrom x b) (plainOf k)
+pub loop-adds : (x : ℕ → Bool) (i : ℕ) (text : List ℕ) (k : Kind) → shapeOf k ≡ Shape.Loop → (b : Block)
+    → (λ w. x w || (starts w (formOf text k) (testOf text k) || assigns w (withLast (headOf text k .last) i b))) ≡ withRow (assignsFrom x b) (plainOf text k)
 unfolding assignsFrom withRow
-loop-adds x i k h b = rw (head-row k h) (λ d w. (ap (λ z. x w || z) (loop-assigns w k i b ∙ body-assigns w (headOf k .last) i b) ∙ or-assoc (x w) (assigns w b) (sets w (lastRow (headOf k .last)))) d)
+loop-adds x i text k h b = rw (head-row text k h) (λ d w. (ap (λ z. x w || z) (loop-assigns w text k i b ∙ body-assigns w (headOf text k .last) i b) ∙ or-assoc (x w) (assigns w b) (sets w (lastRow (headOf text k .last)))) d)
 
-pub from-loop : (x : ℕ → Bool) (i : ℕ) (k : Kind) → shapeOf k ≡ Shape.Loop → (e : ℕ) (b rest : Block)
-    → assignsFrom x (loop i e (formOf k) (testOf k) (withLast (headOf k .last) i b) rest) ≡ assignsFrom (withRow (assignsFrom x b) (plainOf k)) rest
+pub from-loop : (x : ℕ → Bool) (i : ℕ) (text : List ℕ) (k : Kind) → shapeOf k ≡ Shape.Loop → (e : ℕ) (b rest : Block)
+    → assignsFrom x (loop i e (formOf text k) (testOf text k) (withLast (headOf text k .last) i b) rest) ≡ assignsFrom (withRow (assignsFrom x b) (plainOf text k)) rest
 unfolding assignsFrom assigns withRow
-from-loop x i k h e b rest = λ d w.
-    (or-assoc (x w) (starts w (formOf k) (testOf k) || assigns w (withLast (headOf k .last) i b)) (assigns w rest) ∙ ap (λ (y : ℕ → Bool). y w || assigns w rest) (loop-adds x i k h b)) d
+from-loop x i text k h e b rest = λ d w.
+    (or-assoc (x w) (starts w (formOf text k) (testOf text k) || assigns w (withLast (headOf text k .last) i b)) (assigns w rest) ∙ ap (λ (y : ℕ → Bool). y w || assigns w rest) (loop-adds x i text k h b)) d
 
 -- no variable is in the set
 unfoldable pub clear : List Bool → Bool
@@ -154,9 +155,9 @@ unfolding bothOf assignsFrom none withRow
 both-loop x b p = λ d w. or-assoc (x w) (assigns w b) (sets w p) d
 
 -- the set of a loop's body
-pub body-set : (v : ℕ) (k : Kind) → shapeOf k ≡ Shape.Loop → (i : ℕ) (b : Block) → withRow (assignsFrom none b) (plainOf k) v ≡ assigns v (withLast (headOf k .last) i b)
+pub body-set : (v : ℕ) (text : List ℕ) (k : Kind) → shapeOf k ≡ Shape.Loop → (i : ℕ) (b : Block) → withRow (assignsFrom none b) (plainOf text k) v ≡ assigns v (withLast (headOf text k .last) i b)
 unfolding none withRow assignsFrom
-body-set v k h i b = rw (head-row k h) (sym (body-assigns v (headOf k .last) i b))
+body-set v text k h i b = rw (head-row text k h) (sym (body-assigns v (headOf text k .last) i b))
 
 -- the union of two arrays, up to variable i
 module _ (a b : List Bool) where

@@ -8,10 +8,12 @@ use denote.Enum.Declared.{tagOf}
 use lib.Dec.{eqb}
 use lib.IntN.{ℤ}
 use Rattle.rules.specs.declared.Row.{Row}
-use Rattle.rules.specs.declared.Operand.the-variants.{Constant, Variable}
+use Rattle.rules.specs.declared.Operand.the-variants.{Constant, Variable, Expression}
 use Rattle.rules.specs.declared.Kind.{Kind}
 use Rattle.rules.specs.declared.Kind.the-variants.{Set}
-use Rattle.rules.specs.Blocks.{Plain, from, assign, viewOf, withLast, Block, done, plain, pick, loop}
+use Rattle.rules.specs.Expressions.{Expr, constant, variable, group, apply}
+use Rattle.rules.specs.Written.{Composed, Written}
+use Rattle.rules.specs.Blocks.{Plain, from, assign, viewOf, exprOf, kindOf, withLast, Block, done, plain, pick, loop}
 use Rattle.rules.specs.Steps.{sets, starts, assigns, Sole, other, sole, behind, soleRow, soleOf}
 use Rattle.rules.proofs.Sole.{behind-none, behind-twice}
 use Rattle.table.specs.declared.Tag.{Tag}
@@ -29,9 +31,9 @@ use Rattle.steps.proofs.Sets.{or-false, pick-adds, loop-adds}
 use Rattle.steps.proofs.Tags.{no-set}
 
 -- what a block assigns, found from no set
-pub rest-is : {rows : List Row} {count at v : ℕ} {z n : List Bool} {m : Stepped} → setOf z ≡ none → MovesOf rows count at v z n m → (u : ℕ) → setOf n u ≡ assigns u (blockAt rows count at)
+pub rest-is : {text : List ℕ} {rows : List Row} {count at v : ℕ} {z n : List Bool} {m : Stepped} → setOf z ≡ none → MovesOf text rows count at v z n m → (u : ℕ) → setOf n u ≡ assigns u (blockAt text rows count at)
 unfolding assignsFrom none
-rest-is {rows} {count} {at} e k u = ap (λ (y : ℕ → Bool). y u) (k .sets .value ∙ ap (λ x. assignsFrom x (blockAt rows count at)) e)
+rest-is {text} {rows} {count} {at} e k u = ap (λ (y : ℕ → Bool). y u) (k .sets .value ∙ ap (λ x. assignsFrom x (blockAt text rows count at)) e)
 
 module _ (v : ℕ) where
   pub from-nothing : {x : ℕ → Bool} → x ≡ none → (b : Block) → soleFrom v x b ≡ soleOf v b
@@ -56,17 +58,17 @@ module _ (v : ℕ) where
     unfolding soleFrom soleOf
     sole-pick i e a b rest = behind-twice x (λ w. assigns w a || assigns w b) v (soleOf v rest) ∙ ap (λ y. behind y v (soleOf v rest)) (pick-adds x a b)
 
-    pub sole-loop : (i : ℕ) (k : Kind) → shapeOf k ≡ Shape.Loop → (e : ℕ) (b rest : Block)
-        → soleFrom v x (loop i e (formOf k) (testOf k) (withLast (headOf k .last) i b) rest) ≡ soleFrom v (withRow (assignsFrom x b) (plainOf k)) rest
+    pub sole-loop : (i : ℕ) (text : List ℕ) (k : Kind) → shapeOf k ≡ Shape.Loop → (e : ℕ) (b rest : Block)
+        → soleFrom v x (loop i e (formOf text k) (testOf text k) (withLast (headOf text k .last) i b) rest) ≡ soleFrom v (withRow (assignsFrom x b) (plainOf text k)) rest
     unfolding soleFrom soleOf
-    sole-loop i k h e b rest =
-        behind-twice x (λ w. starts w (formOf k) (testOf k) || assigns w (withLast (headOf k .last) i b)) v (soleOf v rest) ∙ ap (λ y. behind y v (soleOf v rest)) (loop-adds x i k h b)
+    sole-loop i text k h e b rest =
+        behind-twice x (λ w. starts w (formOf text k) (testOf text k) || assigns w (withLast (headOf text k .last) i b)) v (soleOf v rest) ∙ ap (λ y. behind y v (soleOf v rest)) (loop-adds x i text k h b)
 
     -- the row `set v w`
-    pub copy-is : {k : Kind} {u w : ℕ} → k ≡ Set u (Variable w) → (rest : Block)
-        → behind x v (soleRow v (plainOf k) rest) ≡ cond (eqb w v) other (cond (assigns v rest) other (cond (x v) other (sole w (x w) (assigns w rest))))
-    unfolding soleRow behind viewOf
-    copy-is {u = u} {w = w} e rest = rw e (by (eqb w v) (assigns v rest))
+    pub copy-is : (text : List ℕ) {k : Kind} {u w : ℕ} → k ≡ Set u (Variable w) → (rest : Block)
+        → behind x v (soleRow v (plainOf text k) rest) ≡ cond (eqb w v) other (cond (assigns v rest) other (cond (x v) other (sole w (x w) (assigns w rest))))
+    unfolding soleRow behind viewOf kindOf exprOf
+    copy-is text {u = u} {w = w} e rest = rw e (by (eqb w v) (assigns v rest))
       where
         by : (p q : Bool) → behind x v (cond (p || q) other (sole w false (assigns w rest))) ≡ cond p other (cond q other (cond (x v) other (sole w (x w) (assigns w rest))))
         by true q = refl
@@ -74,21 +76,33 @@ module _ (v : ℕ) where
         by false false = ap (λ z. cond (x v) other (sole w z (assigns w rest))) (or-false (x w))
 
     -- any other row
-    pub constant-is : {k : Kind} {u : ℕ} {n : ℤ} → k ≡ Set u (Constant n) → (rest : Block) → behind x v (soleRow v (plainOf k) rest) ≡ other
-    unfolding soleRow behind viewOf
-    constant-is e rest = rw e
+    pub constant-is : (text : List ℕ) {k : Kind} {u : ℕ} {n : ℤ} → k ≡ Set u (Constant n) → (rest : Block) → behind x v (soleRow v (plainOf text k) rest) ≡ other
+    unfolding soleRow behind viewOf kindOf exprOf
+    constant-is text e rest = rw e
 
-    change-of : (g : Tag) (e : List ℕ) → OneOf no-set (tagOf the-type g) → (rest : Block) → behind x v (soleRow v (plainOf (kindBy g e)) rest) ≡ other
-    unfolding kindBy viewOf soleRow behind
-    change-of Tag.End e o rest = refl
-    change-of Tag.Else e o rest = refl
-    change-of Tag.Pick e o rest = refl
-    change-of Tag.Set e o rest = absurd (miss no-set 3 tt o)
-    change-of Tag.Move e o rest = refl
-    change-of Tag.Cue e o rest = refl
-    change-of Tag.While e o rest = refl
-    change-of Tag.Do e o rest = refl
-    change-of Tag.For e o rest = refl
+    -- an expression that is neither a constant nor a variable
+    composed-by : (u : ℕ) (e : Expr) → Composed e → (rest : Block) → behind x v (soleRow v (assign u (from e)) rest) ≡ other
+    unfolding soleRow behind Composed
+    composed-by u (constant k) h rest = absurd h
+    composed-by u (variable w) h rest = absurd h
+    composed-by u (group e) h rest = refl
+    composed-by u (apply o d e) h rest = refl
 
-    pub change-is : (t : List (List ℕ)) (i : ℕ) {g : Tag} → g ≡ rowTag (numbersAt t i) → OneOf no-set (tagOf the-type g) → (rest : Block) → behind x v (soleRow v (plainOf (kindAt (rowsOf t) i)) rest) ≡ other
-    change-is t i {g} p o rest = rw (kind-is t i p refl) (change-of g (numbersAt t i) o rest)
+    pub composed-is : (text : List ℕ) {k : Kind} {u at n : ℕ} → k ≡ Set u (Expression at n) → Written text k → (rest : Block) → behind x v (soleRow v (plainOf text k) rest) ≡ other
+    unfolding viewOf kindOf exprOf
+    composed-is text {u = u} e h rest = let w = rw e at h in rw e (composed-by u _ (w .composed) rest)
+
+    change-of : (text : List ℕ) (g : Tag) (e : List ℕ) → OneOf no-set (tagOf the-type g) → (rest : Block) → behind x v (soleRow v (plainOf text (kindBy g e)) rest) ≡ other
+    unfolding kindBy viewOf kindOf soleRow behind
+    change-of text Tag.End e o rest = refl
+    change-of text Tag.Else e o rest = refl
+    change-of text Tag.Pick e o rest = refl
+    change-of text Tag.Set e o rest = absurd (miss no-set 3 tt o)
+    change-of text Tag.Move e o rest = refl
+    change-of text Tag.Cue e o rest = refl
+    change-of text Tag.While e o rest = refl
+    change-of text Tag.Do e o rest = refl
+    change-of text Tag.For e o rest = refl
+
+    pub change-is : (text : List ℕ) (t : List (List ℕ)) (i : ℕ) {g : Tag} → g ≡ rowTag (numbersAt t i) → OneOf no-set (tagOf the-type g) → (rest : Block) → behind x v (soleRow v (plainOf text (kindAt (rowsOf t) i)) rest) ≡ other
+    change-is text t i {g} p o rest = rw (kind-is t i p refl) (change-of text g (numbersAt t i) o rest)

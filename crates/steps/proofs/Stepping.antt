@@ -12,7 +12,7 @@ use Rattle.rules.specs.declared.Kind.{Kind}
 use Rattle.rules.specs.declared.Kind.the-variants.{Set, Move, Cue, Pick, Else, End, While, Do, For}
 use Rattle.rules.specs.declared.Step.{Step}
 use Rattle.rules.specs.declared.Step.the-variants.{Add, Grow, Shrink, Unknown}
-use Rattle.rules.specs.Blocks.{Plain, assign, cue, Last, no-step, step-by, viewOf, withLast, Block, done, plain, pick, loop, snoc}
+use Rattle.rules.specs.Blocks.{Plain, assign, cue, Last, no-step, step-by, viewOf, kindOf, withLast, Block, done, plain, pick, loop, snoc}
 use Rattle.rules.specs.Steps.{still, sets, starts, assigns, sourceStep, changeStep, rowStep, then, either, stepFrom, step}
 use Rattle.rules.specs.Bounds.{Ends, Fine}
 use Rattle.rules.proofs.Ends.{ends-more, ends-only, still-ends, then-ends, either-ends, change-ends}
@@ -26,61 +26,61 @@ use Rattle.steps.proofs.Walking.{Walking, begin, plain-row, pick-row, l
 use Rattle.steps.proofs.Sets.{head-row, loop-assigns}
 
 -- the step of one row within its limits
-pub row-ends : (v : ℕ) (k : Kind) → Fine k → Ends 1 (rowStep v (plainOf k))
-unfolding rowStep sourceStep viewOf
-row-ends v (Set w x) h = ends-only 1 (eqb v w) Unknown tt
-row-ends v (Move w c) (l, h) = ends-only 1 (eqb v w) (changeStep c) (change-ends c h)
-row-ends v (Cue n) h = still-ends 1
-row-ends v Pick h = still-ends 1
-row-ends v Else h = still-ends 1
-row-ends v End h = still-ends 1
-row-ends v (While w c x) h = still-ends 1
-row-ends v (Do w c x) h = still-ends 1
-row-ends v (For w s c x d) (l, p, q, h) = ends-only 1 (eqb v w) (changeStep d) (change-ends d h)
+pub row-ends : (v : ℕ) (text : List ℕ) (k : Kind) → Fine k → Ends 1 (rowStep v (plainOf text k))
+unfolding rowStep sourceStep viewOf kindOf
+row-ends v text (Set w x) h = ends-only 1 (eqb v w) Unknown tt
+row-ends v text (Move w c) (l, h) = ends-only 1 (eqb v w) (changeStep c) (change-ends c h)
+row-ends v text (Cue n) h = still-ends 1
+row-ends v text Pick h = still-ends 1
+row-ends v text Else h = still-ends 1
+row-ends v text End h = still-ends 1
+row-ends v text (While w c x) h = still-ends 1
+row-ends v text (Do w c x) h = still-ends 1
+row-ends v text (For w s c x d) (l, p, q, h) = ends-only 1 (eqb v w) (changeStep d) (change-ends d h)
 
 -- what `then` asks of it
-pub row-room : (v : ℕ) (k : Kind) → Fine k → Ends 512 (rowStep v (plainOf k))
-row-room v k h = ends-more 1 512 (omega arith) (rowStep v (plainOf k)) (row-ends v k h)
+pub row-room : (v : ℕ) (text : List ℕ) (k : Kind) → Fine k → Ends 512 (rowStep v (plainOf text k))
+row-room v text k h = ends-more 1 512 (omega arith) (rowStep v (plainOf text k)) (row-ends v text k h)
 
 abbrev pub steps : ℕ → Step → Block → Step
 steps v x b = stepFrom x v b
 
-module _ (rows : List Row) (count at v : ℕ) where
-  -- at row i, s is the step over the rows from `at`
-  pub record Stepping (i : ℕ) (s : Step) : Type 0 where
-    pub walk : Walking rows count (steps v) at still i s
-    pub ends : Ends (i - at) s
+-- at row i, s is the step over the rows from `at`
+pub record Stepping (text : List ℕ) (rows : List Row) (count at v i : ℕ) (s : Step) : Type 0 where
+  pub walk : Walking text rows count (steps v) at still i s
+  pub ends : Ends (i - at) s
 
-  module _ (r : Ready rows count at) where
-    pub starts-at : Stepping at still
+module _ {text : List ℕ} (rows : List Row) (count at v : ℕ) where
+  module _ (r : Ready text rows count at) where
+    pub starts-at : Stepping text rows count at v at still
     starts-at = record { walk = begin rows count (steps v) at still (r .within); ends = still-ends (at - at) }
 
-    module _ {i : ℕ} {s : Step} (k : Stepping i s) where
+    module _ {i : ℕ} {s : Step} (k : Stepping text rows count at v i s) where
       -- what `then` asks
       pub room : Ends 512 s
       room = let w = k .walk in ends-more (i - at) 512 (omega arith) s (k .ends)
 
-      pub closed : i < count → shapeOf (kindAt rows i) ≡ Shape.Close → Walked rows count at i s (step v) × Ends (i - at) s
+      pub closed : i < count → shapeOf (kindAt rows i) ≡ Shape.Close → Walked text rows count at i s (step v) × Ends (i - at) s
       unfolding stepFrom
       closed l h = (at-close rows count (steps v) at still refl (k .walk) l (r .built) h, k .ends)
 
-      pub ended : count ≤ i → Walked rows count at i s (step v) × Ends (i - at) s
+      pub ended : count ≤ i → Walked text rows count at i s (step v) × Ends (i - at) s
       unfolding stepFrom
       ended l = (at-last rows count (steps v) at still refl (k .walk) (r .built) l, k .ends)
 
       module _ (l : i < count) where
         -- a step x of at most e − i rows after s
-        next : (x : Step) (n e : ℕ) → n + i ≤ e → Ends n x → Walking rows count (steps v) at still e (then s x) → Stepping e (then s x)
+        next : (x : Step) (n e : ℕ) → n + i ≤ e → Ends n x → Walking text rows count (steps v) at still e (then s x) → Stepping text rows count at v e (then s x)
         next x n e b h w = record { walk = w; ends = let z = k .walk in ends-more (i - at + n) (e - at) (omega arith) (then s x) (then-ends (i - at) n s x (k .ends) h) }
 
-        pub plain-step : shapeOf (kindAt rows i) ≡ Shape.Plain → Stepping (i + 1) (then s (rowStep v (plainOf (kindAt rows i))))
+        pub plain-step : shapeOf (kindAt rows i) ≡ Shape.Plain → Stepping text rows count at v (i + 1) (then s (rowStep v (plainOf text (kindAt rows i))))
         unfolding stepFrom
         plain-step h =
-            next (rowStep v (plainOf (kindAt rows i))) 1 (i + 1) (omega arith) (row-ends v (kindAt rows i) (r .fine i l))
+            next (rowStep v (plainOf text (kindAt rows i))) 1 (i + 1) (omega arith) (row-ends v text (kindAt rows i) (r .fine i l))
             (plain-row rows count (steps v) at still (k .walk) l (r .built) h (λ rest. refl))
 
-        module _ {m q e : ℕ} (t : PickIs rows count i m q e) {x y : Step}
-            (f : Walked rows count (i + 1) m x (step v) × Ends (m - (i + 1)) x) (g : Walked rows count q e y (step v) × Ends (e - q) y) where
+        module _ {m q e : ℕ} (t : PickIs text rows count i m q e) {x y : Step}
+            (f : Walked text rows count (i + 1) m x (step v) × Ends (m - (i + 1)) x) (g : Walked text rows count q e y (step v) × Ends (e - q) y) where
           either-room : Ends (e - i) (either x y)
           either-room =
               either-ends (e - i) x y (ends-more (m - (i + 1)) (e - i) (omega arith) x (f .1)) (ends-more (e - q) (e - i) (omega arith) y (g .1))
@@ -88,19 +88,19 @@ module _ (rows : List Row) (count at v : ℕ) where
           pub pick-room : Ends 512 (either x y)
           pick-room = ends-more (e - i) 512 (omega arith) (either x y) either-room
 
-          pub pick-step : Stepping (e + 1) (then s (either x y))
+          pub pick-step : Stepping text rows count at v (e + 1) (then s (either x y))
           unfolding stepFrom
           pick-step =
               next (either x y) (e - i) (e + 1) (omega arith) either-room
               (pick-row rows count (steps v) at still (k .walk) l (r .built) t (λ rest. rw (f .0 .value, g .0 .value) refl))
 
-        pub loop-step : {e : ℕ} → LoopIs rows count (headOf (kindAt rows i)) i e → {x : Bool} → x ≡ assigns v (bodyAt rows count i)
-            → Stepping (e + 1) (then s (cond x Unknown still))
+        pub loop-step : {e : ℕ} → LoopIs text rows count (headOf text (kindAt rows i)) i e → {x : Bool} → x ≡ assigns v (bodyAt text rows count i)
+            → Stepping text rows count at v (e + 1) (then s (cond x Unknown still))
         unfolding stepFrom
         loop-step {e} t {x} f =
             next (cond x Unknown still) 1 (e + 1) (omega arith) (ends-only 1 x Unknown tt)
             (loop-row rows count (steps v) at still (k .walk) l (r .built) t
-            (λ rest. rw (loop-assigns v (kindAt rows i) i (blockAt rows count (i + 1)), f) refl))
+            (λ rest. rw (loop-assigns v text (kindAt rows i) i (blockAt text rows count (i + 1)), f) refl))
 
 add-none : (a : ℤ) → a +ℤ pos 0 ≡ a
 add-none a = omega (ints, add-parts a (pos 0))
@@ -125,8 +125,8 @@ unfolding withLast rowStep
 last-step v no-step i b = then-still (step v b)
 last-step v (step-by p) i b = sym (step-snoc still v b i p)
 
-pub body-is : (v : ℕ) (k : Kind) → shapeOf k ≡ Shape.Loop → (i : ℕ) (b : Block) → then (step v b) (rowStep v (plainOf k)) ≡ step v (withLast (headOf k .last) i b)
-body-is v k h i b = rw (head-row k h) (last-step v (headOf k .last) i b)
+pub body-is : (v : ℕ) (text : List ℕ) (k : Kind) → shapeOf k ≡ Shape.Loop → (i : ℕ) (b : Block) → then (step v b) (rowStep v (plainOf text k)) ≡ step v (withLast (headOf text k .last) i b)
+body-is v text k h i b = rw (head-row text k h) (last-step v (headOf text k .last) i b)
 
 -- a row that does not assign v leaves its step as it is
 pub row-still : (v : ℕ) (p : Plain) → sets v p ≡ false → rowStep v p ≡ still

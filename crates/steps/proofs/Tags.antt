@@ -6,7 +6,7 @@ use Prim.Native.Nat.{ℕ, _<_}
 use types.Run.{OneOf, miss}
 use denote.Enum.Declared.{tagOf}
 use Rattle.rules.specs.declared.Step.the-variants.{Unknown}
-use Rattle.rules.specs.Blocks.{viewOf}
+use Rattle.rules.specs.Blocks.{viewOf, kindOf}
 use Rattle.rules.specs.Steps.{sets, rowStep, sourceStep, changeStep}
 use Rattle.rules.specs.Bounds.{Fine, FineChange}
 use Rattle.table.specs.declared.Tag.{Tag}
@@ -22,14 +22,14 @@ none f h = absurd (false≢true h)
 abbrev pub no-set : List ℕ
 no-set = 0 ∷ 1 ∷ 2 ∷ 4 ∷ 5 ∷ 6 ∷ 7 ∷ 8 ∷ []
 
-module _ (e : List ℕ) where
-  set-step : (v : ℕ) → sets v (plainOf (kindBy Tag.Set e)) ≡ true → rowStep v (plainOf (kindBy Tag.Set e)) ≡ Unknown
-  unfolding kindBy viewOf rowStep sourceStep sets
+module _ (text e : List ℕ) where
+  set-step : (v : ℕ) → sets v (plainOf text (kindBy Tag.Set e)) ≡ true → rowStep v (plainOf text (kindBy Tag.Set e)) ≡ Unknown
+  unfolding kindBy viewOf kindOf rowStep sourceStep sets
   set-step v h = rw h
 
-  change-steps : (g : Tag) → OneOf no-set (tagOf the-type g) → (v : ℕ) → Fine (kindBy g e) → sets v (plainOf (kindBy g e)) ≡ true
-      → FineChange (stepIn e) × (rowStep v (plainOf (kindBy g e)) ≡ changeStep (stepIn e))
-  unfolding kindBy viewOf rowStep sourceStep sets
+  change-steps : (g : Tag) → OneOf no-set (tagOf the-type g) → (v : ℕ) → Fine (kindBy g e) → sets v (plainOf text (kindBy g e)) ≡ true
+      → FineChange (stepIn e) × (rowStep v (plainOf text (kindBy g e)) ≡ changeStep (stepIn e))
+  unfolding kindBy viewOf kindOf rowStep sourceStep sets
   change-steps Tag.End o v = none
   change-steps Tag.Else o v = none
   change-steps Tag.Pick o v = none
@@ -41,8 +41,8 @@ module _ (e : List ℕ) where
   change-steps Tag.For o v = λ f h. (f .3, rw h)
 
   -- it is one of the 16 variables
-  small : (g : Tag) → Fine (kindBy g e) → sets (variableIn e) (plainOf (kindBy g e)) ≡ true → variableIn e < 16
-  unfolding kindBy viewOf sets
+  small : (g : Tag) → Fine (kindBy g e) → sets (variableIn e) (plainOf text (kindBy g e)) ≡ true → variableIn e < 16
+  unfolding kindBy viewOf kindOf sets
   small Tag.End = none
   small Tag.Else = none
   small Tag.Pick = none
@@ -54,13 +54,13 @@ module _ (e : List ℕ) where
   small Tag.For = λ f h. f .0
 
 -- the same of row i
-module _ (t : List (List ℕ)) (i : ℕ) {g : Tag} (p : g ≡ rowTag (numbersAt t i)) where
-  pub step-set : g ≡ Tag.Set → (v : ℕ) → sets v (plainOf (kindAt (rowsOf t) i)) ≡ true → rowStep v (plainOf (kindAt (rowsOf t) i)) ≡ Unknown
-  step-set q v = rw (kind-is t i p q) (set-step (numbersAt t i) v)
+module _ (text : List ℕ) (t : List (List ℕ)) (i : ℕ) {g : Tag} (p : g ≡ rowTag (numbersAt t i)) where
+  pub step-set : g ≡ Tag.Set → (v : ℕ) → sets v (plainOf text (kindAt (rowsOf t) i)) ≡ true → rowStep v (plainOf text (kindAt (rowsOf t) i)) ≡ Unknown
+  step-set q v = rw (kind-is t i p q) (set-step text (numbersAt t i) v)
 
-  pub step-change : OneOf no-set (tagOf the-type g) → (v : ℕ) → Fine (kindAt (rowsOf t) i) → sets v (plainOf (kindAt (rowsOf t) i)) ≡ true
-      → FineChange (stepIn (numbersAt t i)) × (rowStep v (plainOf (kindAt (rowsOf t) i)) ≡ changeStep (stepIn (numbersAt t i)))
-  step-change o v = rw (kind-is t i p refl) (change-steps (numbersAt t i) g o v)
+  pub step-change : OneOf no-set (tagOf the-type g) → (v : ℕ) → Fine (kindAt (rowsOf t) i) → sets v (plainOf text (kindAt (rowsOf t) i)) ≡ true
+      → FineChange (stepIn (numbersAt t i)) × (rowStep v (plainOf text (kindAt (rowsOf t) i)) ≡ changeStep (stepIn (numbersAt t i)))
+  step-change o v = rw (kind-is t i p refl) (change-steps text (numbersAt t i) g o v)
 
-pub sets-small : (t : List (List ℕ)) (i : ℕ) → Fine (kindAt (rowsOf t) i) → sets (variableIn (numbersAt t i)) (plainOf (kindAt (rowsOf t) i)) ≡ true → variableIn (numbersAt t i) < 16
-sets-small t i = rw (kind-is t i {g = rowTag (numbersAt t i)} refl refl) (small (numbersAt t i) (rowTag (numbersAt t i)))
+pub sets-small : (text : List ℕ) (t : List (List ℕ)) (i : ℕ) → Fine (kindAt (rowsOf t) i) → sets (variableIn (numbersAt t i)) (plainOf text (kindAt (rowsOf t) i)) ≡ true → variableIn (numbersAt t i) < 16
+sets-small text t i = rw (kind-is t i {g = rowTag (numbersAt t i)} refl refl) (small text (numbersAt t i) (rowTag (numbersAt t i)))

@@ -30,26 +30,26 @@ unfoldable pub soleFrom : ℕ → (ℕ → Bool) → Block → rules.Sole
 soleFrom v x b = behind x v (soleOf v b)
 
 -- a plain row at i assigns v
-pub record AtRow (rows : List Row) (count i v : ℕ) : Type 0 where
-  pub ready : Ready rows count i
+pub record AtRow (text : List ℕ) (rows : List Row) (count i v : ℕ) : Type 0 where
+  pub ready : Ready text rows count i
   pub inside : i < count
-  pub own : sets v (plainOf (kindAt rows i)) ≡ true
+  pub own : sets v (plainOf text (kindAt rows i)) ≡ true
   pub small : v < 16
 
 -- the row at i is `set v w`
-pub record AtCopy (rows : List Row) (count i v w : ℕ) : Type 0 where
-  pub ready : Ready rows count i
+pub record AtCopy (text : List ℕ) (rows : List Row) (count i v w : ℕ) : Type 0 where
+  pub ready : Ready text rows count i
   pub inside : i < count
   pub small : v < 16
   pub copied : w < 16
   pub copy : (u : ℕ) × (kindAt rows i ≡ Set u (Variable w))
 
 -- what is found at a row that assigns v, behind rows that assign a set
-pub record CopyAt (rows : List Row) (count i v : ℕ) (before : List Bool) (r : Sole) : Type 0 where
-  pub value : soleIs r ≡ behind (setOf before) v (soleRow v (plainOf (kindAt rows i)) (blockAt rows count (i + 1)))
+pub record CopyAt (text : List ℕ) (rows : List Row) (count i v : ℕ) (before : List Bool) (r : Sole) : Type 0 where
+  pub value : soleIs r ≡ behind (setOf before) v (soleRow v (plainOf text (kindAt rows i)) (blockAt text rows count (i + 1)))
   pub small : SmallCopy r
 
 -- what is found in the block from row `at` on
-pub record SoleAt (rows : List Row) (count at v : ℕ) (r : Sole) : Type 0 where
-  pub value : soleIs r ≡ soleOf v (blockAt rows count at)
+pub record SoleAt (text : List ℕ) (rows : List Row) (count at v : ℕ) (r : Sole) : Type 0 where
+  pub value : soleIs r ≡ soleOf v (blockAt text rows count at)
   pub small : SmallCopy r

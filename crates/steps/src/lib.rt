@@ -13,7 +13,8 @@ use table::shape_at;
 use table::tag_at;
 use table::variable_at;
 ghost use mathlib.Core.Path.{_≡_};
-ghost use Prim.Native.Nat.{_<_};
+ghost use mathlib.Core.List.{List};
+ghost use Prim.Native.Nat.{ℕ, _<_};
 ghost use lib.ListN.{length};
 ghost use Rattle.rules.specs.Steps.{sets, rowStep};
 ghost use Rattle.rules.specs.Bounds.{Fine};
@@ -37,7 +38,7 @@ fn add(set: &mut [bool; 16], v: u8)
 // Adds the variable that a plain row assigns, or a for's step row.
 fn add_row(set: &mut [bool; 16], rows: &[[u32; 9]; 256], i: usize)
     requires { ⌜ (i < 256) × Fine (kindAt (rowsOf (now rows)) i) × (length (now set) ≡ 16) ⌝ }
-    ensures { λ _. ⌜ SetIs (now (set .exit)) (withRow (setOf (now (set .entry))) (plainOf (kindAt (rowsOf (now (rows .entry))) i))) ⌝ }
+    ensures { λ _. ⌜ ((text : List ℕ) → SetIs (now (set .exit)) (withRow (setOf (now (set .entry))) (plainOf text (kindAt (rowsOf (now (rows .entry))) i)))) ⌝ }
 {
     if assigns(rows, i) {
         add(set, variable_at(rows, i));
@@ -66,7 +67,7 @@ pub fn has(set: [bool; 16], v: u8) -> bool
 // Does a plain row assign v, or a for's step row?
 fn sets_it(rows: &[[u32; 9]; 256], i: usize, v: u8) -> bool
     requires { ⌜ i < 256 ⌝ }
-    ensures { λ r. ⌜ r ≡ sets v (plainOf (kindAt (rowsOf (now (rows .entry))) i)) ⌝ }
+    ensures { λ r. ⌜ ((text : List ℕ) → r ≡ sets v (plainOf text (kindAt (rowsOf (now (rows .entry))) i))) ⌝ }
 {
     assigns(rows, i) && v == variable_at(rows, i)
 }
@@ -74,7 +75,7 @@ fn sets_it(rows: &[[u32; 9]; 256], i: usize, v: u8) -> bool
 // The step of a row; of a for, the step of its step row.
 fn row_step(rows: &[[u32; 9]; 256], i: usize, v: u8) -> Step
     requires { ⌜ (i < 256) × Fine (kindAt (rowsOf (now rows)) i) ⌝ }
-    ensures { λ r. ⌜ r ≡ rowStep v (plainOf (kindAt (rowsOf (now (rows .entry))) i)) ⌝ }
+    ensures { λ r. ⌜ ((text : List ℕ) → r ≡ rowStep v (plainOf text (kindAt (rowsOf (now (rows .entry))) i))) ⌝ }
 {
     if !sets_it(rows, i, v) {
         return Step::STILL;
@@ -93,14 +94,15 @@ pub struct Stepped {
 
 // What the block that starts at row `at` does: its variables are added to the set; the step of v, and the row that closes the block.
 pub fn moves_of(
+    text: &[u8],
     rows: &[[u32; 9]; 256],
     count: usize,
     at: usize,
     v: u8,
     set: &mut [bool; 16],
 ) -> Stepped
-    requires { ⌜ Ready (rowsOf (now rows)) count at × (v < 16) × (length (now set) ≡ 16) ⌝ }
-    ensures { λ r. ⌜ MovesOf (rowsOf (now (rows .entry))) count at v (now (set .entry)) (now (set .exit)) r ⌝ }
+    requires { ⌜ Ready (now text) (rowsOf (now rows)) count at × (v < 16) × (length (now set) ≡ 16) ⌝ }
+    ensures { λ r. ⌜ MovesOf (now (text .entry)) (rowsOf (now (rows .entry))) count at v (now (set .entry)) (now (set .exit)) r ⌝ }
 {
     let mut step = Step::STILL;
     let mut i = at;
@@ -114,9 +116,9 @@ pub fn moves_of(
                 i = i + 1;
             }
             Shape::Branch => {
-                let a = moves_of(rows, count, i + 1, v, set);
+                let a = moves_of(text, rows, count, i + 1, v, set);
                 let e = a.next;
-                let b = moves_of(rows, count, past_else(rows, e), v, set);
+                let b = moves_of(text, rows, count, past_else(rows, e), v, set);
                 let x = a.step;
                 let y = b.step;
                 step = step.then(x.either(y));
@@ -124,7 +126,7 @@ pub fn moves_of(
             }
             Shape::Loop => {
                 let mut inner = [false; 16];
-                let body = moves_of(rows, count, i + 1, v, &mut inner);
+                let body = moves_of(text, rows, count, i + 1, v, &mut inner);
                 add_row(&mut inner, rows, i);
                 step = step.then(only(has(inner, v), Step::Unknown));
                 add_all(set, inner);
@@ -146,12 +148,12 @@ pub struct Moves {
 }
 
 // What the body of the loop at row i does, a for's step row included, with the step of v.
-pub fn body_moves(rows: &[[u32; 9]; 256], count: usize, i: usize, v: u8) -> Moves
-    requires { ⌜ AtLoop (rowsOf (now rows)) count i × (v < 16) ⌝ }
-    ensures { λ r. ⌜ BodyMoves (rowsOf (now (rows .entry))) count i v r ⌝ }
+pub fn body_moves(text: &[u8], rows: &[[u32; 9]; 256], count: usize, i: usize, v: u8) -> Moves
+    requires { ⌜ AtLoop (now text) (rowsOf (now rows)) count i × (v < 16) ⌝ }
+    ensures { λ r. ⌜ BodyMoves (now (text .entry)) (rowsOf (now (rows .entry))) count i v r ⌝ }
 {
     let mut set = [false; 16];
-    let body = moves_of(rows, count, i + 1, v, &mut set);
+    let body = moves_of(text, rows, count, i + 1, v, &mut set);
     add_row(&mut set, rows, i);
     let step = body.step;
     let next = body.next;
@@ -170,15 +172,23 @@ pub enum Sole {
 }
 
 // At the row i, `set v w`, behind rows that assign a set.
-fn copy_at(rows: &[[u32; 9]; 256], count: usize, i: usize, v: u8, w: u8, before: [bool; 16]) -> Sole
-    requires { ⌜ AtCopy (rowsOf (now rows)) count i v w ⌝ }
-    ensures { λ r. ⌜ CopyAt (rowsOf (now (rows .entry))) count i v before r ⌝ }
+fn copy_at(
+    text: &[u8],
+    rows: &[[u32; 9]; 256],
+    count: usize,
+    i: usize,
+    v: u8,
+    w: u8,
+    before: [bool; 16],
+) -> Sole
+    requires { ⌜ AtCopy (now text) (rowsOf (now rows)) count i v w ⌝ }
+    ensures { λ r. ⌜ CopyAt (now (text .entry)) (rowsOf (now (rows .entry))) count i v before r ⌝ }
 {
     if w == v {
         return Sole::Other;
     }
     let mut rest = [false; 16];
-    moves_of(rows, count, i + 1, v, &mut rest);
+    moves_of(text, rows, count, i + 1, v, &mut rest);
     if has(rest, v) {
         return Sole::Other;
     }
@@ -191,31 +201,46 @@ fn copy_at(rows: &[[u32; 9]; 256], count: usize, i: usize, v: u8, w: u8, before:
 }
 
 // At the row i, which sets v, behind rows that assign a set.
-fn set_at(rows: &[[u32; 9]; 256], count: usize, i: usize, v: u8, before: [bool; 16]) -> Sole
-    requires { ⌜ AtRow (rowsOf (now rows)) count i v × (rowTag (numbersAt (now rows) i) ≡ Tag.Set) ⌝ }
-    ensures { λ r. ⌜ CopyAt (rowsOf (now (rows .entry))) count i v before r ⌝ }
+fn set_at(
+    text: &[u8],
+    rows: &[[u32; 9]; 256],
+    count: usize,
+    i: usize,
+    v: u8,
+    before: [bool; 16],
+) -> Sole
+    requires { ⌜ AtRow (now text) (rowsOf (now rows)) count i v × (rowTag (numbersAt (now rows) i) ≡ Tag.Set) ⌝ }
+    ensures { λ r. ⌜ CopyAt (now (text .entry)) (rowsOf (now (rows .entry))) count i v before r ⌝ }
 {
     match operand_at(rows, i) {
         Operand::Constant(_) => Sole::Other,
-        Operand::Variable(w) => copy_at(rows, count, i, v, w, before),
+        Operand::Variable(w) => copy_at(text, rows, count, i, v, w, before),
+        Operand::Expression(_, _) => Sole::Other,
     }
 }
 
 // At the row i, which assigns v, behind rows that assign a set.
-fn sole_at(rows: &[[u32; 9]; 256], count: usize, i: usize, v: u8, before: [bool; 16]) -> Sole
-    requires { ⌜ AtRow (rowsOf (now rows)) count i v ⌝ }
-    ensures { λ r. ⌜ CopyAt (rowsOf (now (rows .entry))) count i v before r ⌝ }
+fn sole_at(
+    text: &[u8],
+    rows: &[[u32; 9]; 256],
+    count: usize,
+    i: usize,
+    v: u8,
+    before: [bool; 16],
+) -> Sole
+    requires { ⌜ AtRow (now text) (rowsOf (now rows)) count i v ⌝ }
+    ensures { λ r. ⌜ CopyAt (now (text .entry)) (rowsOf (now (rows .entry))) count i v before r ⌝ }
 {
     match tag_at(rows, i) {
-        Tag::Set => set_at(rows, count, i, v, before),
+        Tag::Set => set_at(text, rows, count, i, v, before),
         _ => Sole::Other,
     }
 }
 
 // The only assignment of v in the block that starts at row `at`.
-pub fn sole_of(rows: &[[u32; 9]; 256], count: usize, at: usize, v: u8) -> Sole
-    requires { ⌜ Ready (rowsOf (now rows)) count at × (v < 16) ⌝ }
-    ensures { λ r. ⌜ SoleAt (rowsOf (now (rows .entry))) count at v r ⌝ }
+pub fn sole_of(text: &[u8], rows: &[[u32; 9]; 256], count: usize, at: usize, v: u8) -> Sole
+    requires { ⌜ Ready (now text) (rowsOf (now rows)) count at × (v < 16) ⌝ }
+    ensures { λ r. ⌜ SoleAt (now (text .entry)) (rowsOf (now (rows .entry))) count at v r ⌝ }
 {
     let mut set = [false; 16];
     let mut i = at;
@@ -223,18 +248,18 @@ pub fn sole_of(rows: &[[u32; 9]; 256], count: usize, at: usize, v: u8) -> Sole
         match shape_at(rows, i) {
             Shape::Plain => {
                 if sets_it(rows, i, v) {
-                    return sole_at(rows, count, i, v, set);
+                    return sole_at(text, rows, count, i, v, set);
                 }
                 add_row(&mut set, rows, i);
                 i = i + 1;
             }
             Shape::Branch => {
-                let a = moves_of(rows, count, i + 1, v, &mut set);
-                let second = moves_of(rows, count, past_else(rows, a.next), v, &mut set);
+                let a = moves_of(text, rows, count, i + 1, v, &mut set);
+                let second = moves_of(text, rows, count, past_else(rows, a.next), v, &mut set);
                 i = second.next + 1;
             }
             Shape::Loop => {
-                let body = moves_of(rows, count, i + 1, v, &mut set);
+                let body = moves_of(text, rows, count, i + 1, v, &mut set);
                 add_row(&mut set, rows, i);
                 i = body.next + 1;
             }

@@ -8,9 +8,7 @@ use borrow.Author.Tests.{ltb-true}
 use lib.Dec.{ltb}
 use lib.ListN.{length, drop}
 use lib.Seq.{drop-cons, drop-length}
-use Rattle.rules.specs.declared.Kind.{Kind}
-use Rattle.rules.specs.declared.Kind.the-variants.{End}
-use Rattle.rules.specs.Blocks.{Plain, Test, Form, Last, no-step, step-by, View, is-plain, is-pick, is-else, is-end, is-loop, viewOf, viewAt, withLast, Block, done, plain, pick, loop, Part, to-end, to-else, Built, parts, misfit, inFront, loopHead, pickHead, plainRow, closes, onRow, build}
+use Rattle.rules.specs.Blocks.{RowKind, End, Plain, Test, Form, Last, no-step, step-by, View, is-plain, is-pick, is-else, is-end, is-loop, viewOf, viewAt, withLast, Block, done, plain, pick, loop, Part, to-end, to-else, Built, parts, misfit, inFront, loopHead, pickHead, plainRow, closes, onRow, build}
 use Rattle.rules.specs.Nesting.{Open, in-loop, in-pick, in-else, Nest, Nested, nested, wrong, nest, opens, elses, ends, nestRow, andRows, nestRows}
 use Rattle.rules.proofs.Rows.{partsAt, parts-row, parts-last, no-misfit}
 use Rattle.survey.specs.Fold.{loopCount}
@@ -24,7 +22,7 @@ oneIfLoop is-else = 0
 oneIfLoop is-end = 0
 oneIfLoop (is-loop form test last) = 1
 
-rowLoops : List Kind → ℕ
+rowLoops : List RowKind → ℕ
 rowLoops [] = 0
 rowLoops (k ∷ ks) = oneIfLoop (viewOf k) + rowLoops ks
 
@@ -87,7 +85,7 @@ row-loops is-else i b h = omega (arith, close-loops (to-else i done) refl b)
 row-loops is-end i b h = omega (arith, close-loops (to-end i done) refl b)
 row-loops (is-loop form test last) i b h = loop-loops i form test last b h
 
-module _ (rows : List Kind) (tree : Block) (whole : build 0 rows ≡ parts (to-end (length rows) tree) []) where
+module _ (rows : List RowKind) (tree : Block) (whole : build 0 rows ≡ parts (to-end (length rows) tree) []) where
   from-row : (n i : ℕ) → i + n ≡ length rows → builtLoops (partsAt rows i) ≡ rowLoops (drop i rows)
   unfolding builtLoops restLoops rowLoops loopCount
   from-row zero i e = let z : i ≡ length rows = omega arith in rw (z, parts-last rows, drop-length rows)
@@ -149,16 +147,16 @@ row-count is-else s t e = still s t (elsed (s .open-blocks) (s .loops) t e)
 row-count is-end s t e = still s t (closed (s .open-blocks) (s .loops) t e)
 row-count (is-loop form test last) s t e = more s t (opened in-loop (ltb (length (s .open-blocks)) 8) (ltb (s .loops) 16) _ _ t (ltb-true (s .loops) 16) e)
 
-by-row : (w : View) (rs : List Kind) (s : Nest) (n : ℕ) (x : Nested) → nestRow w s ≡ x → andRows x (λ t. nestRows rs t) ≡ nest [] n → s .loops ≤ 16
+by-row : (w : View) (rs : List RowKind) (s : Nest) (n : ℕ) (x : Nested) → nestRow w s ≡ x → andRows x (λ t. nestRows rs t) ≡ nest [] n → s .loops ≤ 16
     → ((t : Nest) → nestRows rs t ≡ nest [] n → t .loops ≤ 16 → rowLoops rs + t .loops ≤ 16) → oneIfLoop w + rowLoops rs + s .loops ≤ 16
 unfolding andRows Counted
 by-row w rs s n (nested t) p q h ih = let c = row-count w s t p in let k = ih t q (c .1 h) in omega (arith, c .0)
 by-row w rs s n (wrong m) p q h ih = wrong-not m _ q
 
-rows-count : (rs : List Kind) (s : Nest) (n : ℕ) → nestRows rs s ≡ nest [] n → s .loops ≤ 16 → rowLoops rs + s .loops ≤ 16
+rows-count : (rs : List RowKind) (s : Nest) (n : ℕ) → nestRows rs s ≡ nest [] n → s .loops ≤ 16 → rowLoops rs + s .loops ≤ 16
 unfolding nestRows rowLoops
 rows-count [] s n e h = omega arith
 rows-count (r ∷ rs) s n e h = by-row (viewOf r) rs s n (nestRow (viewOf r) s) refl e h (λ t q k. rows-count rs t n q k)
 
-pub few-loops : (rs : List Kind) (n : ℕ) (tree : Block) → nestRows rs (record { open-blocks = []; loops = 0 }) ≡ nest [] n → build 0 rs ≡ parts (to-end (length rs) tree) [] → loopCount tree ≤ 16
+pub few-loops : (rs : List RowKind) (n : ℕ) (tree : Block) → nestRows rs (record { open-blocks = []; loops = 0 }) ≡ nest [] n → build 0 rs ≡ parts (to-end (length rs) tree) [] → loopCount tree ≤ 16
 few-loops rs n tree e w = let z = rows-count rs _ n e (omega arith) in omega (arith, tree-loops rs tree w)

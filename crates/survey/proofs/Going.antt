@@ -11,7 +11,7 @@ use Rattle.rules.specs.declared.Kind.the-variants.{Set, Move, Cue, Pick, Else, 
 use Rattle.rules.proofs.Kind.{the-type}
 use types.Run.{OneOf, miss}
 use denote.Enum.Declared.{tagOf}
-use Rattle.rules.specs.Blocks.{Plain, assign, cue, Test, Form, Last, no-step, step-by, viewOf, Block, pick, loop}
+use Rattle.rules.specs.Blocks.{Plain, assign, cue, Test, Form, Last, no-step, step-by, viewOf, kindOf, Block, pick, loop}
 use Rattle.rules.specs.Ranges.{Env, full, afterRow, join, atStart}
 use Rattle.rules.specs.Trips.{Trip, trip, turns, inside, outside, after}
 use Rattle.rules.specs.Bounds.{FinePrices}
@@ -47,11 +47,11 @@ pub record Part (π : Prices) (outer : ℕ) (ρ : Env) (s : ℕ) (o : Verdict) (
 abbrev pub from-parts : Env → ℕ → Verdict → List Line → ℕ → State
 from-parts ρ s o ls n = record { env = ρ; verdict = passed; spent = s; over = o; lines = ls; loops = n }
 
-pub part-of : {π : Prices} {rows : List Row} {count at outer : ℕ} {ρ : Env} {t r : TallyLines} (s : ℕ) (o : Verdict) (ls : List Line) (n : ℕ) → tallied t ρ ≡ from-parts ρ s o ls n
-    → Passed π rows count at ρ outer t r → Part π outer ρ s o ls n (blockAt rows count at) r
+pub part-of : {text : List ℕ} {π : Prices} {rows : List Row} {count at outer : ℕ} {ρ : Env} {t r : TallyLines} (s : ℕ) (o : Verdict) (ls : List Line) (n : ℕ) → tallied t ρ ≡ from-parts ρ s o ls n
+    → Passed text π rows count at ρ outer t r → Part π outer ρ s o ls n (blockAt text rows count at) r
 unfolding folded andThen
-part-of {π} {rows} {count} {at} {outer} {ρ} {t} {r} s o ls n e p =
-    let b = blockAt rows count at in
+part-of {text} {π} {rows} {count} {at} {outer} {ρ} {t} {r} s o ls n e p =
+    let b = blockAt text rows count at in
     let v : tallied r (after ρ b) ≡ folded π outer (from-parts ρ s o ls n) b = p .value ∙ ap (λ x. folded π outer x b) e in
     record {
       verdict = sym (ap (λ (x : State). x .verdict) v);
@@ -63,8 +63,8 @@ part-of {π} {rows} {count} {at} {outer} {ρ} {t} {r} s o ls n e p =
     }
 
 -- or which loop it refused
-pub refused-in : {π : Prices} {rows : List Row} {count at outer : ℕ} {ρ : Env} {t r : TallyLines} → Surveyed π rows count at ρ outer t r → (r .number ≡ 0 → ⊥)
-    → loopsVerdict ρ (blockAt rows count at) ≡ refused (r .number) (r .place)
+pub refused-in : {text : List ℕ} {π : Prices} {rows : List Row} {count at outer : ℕ} {ρ : Env} {t r : TallyLines} → Surveyed text π rows count at ρ outer t r → (r .number ≡ 0 → ⊥)
+    → loopsVerdict ρ (blockAt text rows count at) ≡ refused (r .number) (r .place)
 unfolding folded andThen
 refused-in s h = s .stopped h
 
@@ -79,31 +79,31 @@ module _ {π : Prices} (fine : FinePrices π) where
   last-price-small no-step = omega arith
   last-price-small (step-by p) = price-small p
 
-  pub last-small : (k : Kind) → lastTicks π k ≤ 1_000
-  last-small k = last-price-small (headOf k .last)
+  pub last-small : (text : List ℕ) (k : Kind) → lastTicks text π k ≤ 1_000
+  last-small text k = last-price-small (headOf text k .last)
 
 -- any row but a for
 abbrev no-for : List ℕ
 no-for = 0 ∷ 1 ∷ 2 ∷ 3 ∷ 4 ∷ 5 ∷ 6 ∷ 7 ∷ []
 
-pub no-last : (π : Prices) (k : Kind) → OneOf no-for (tagOf the-type k) → 0 ≡ lastTicks π k
-unfolding headOf viewOf
-no-last π End o = refl
-no-last π Else o = refl
-no-last π Pick o = refl
-no-last π (Set v x) o = refl
-no-last π (Move v c) o = refl
-no-last π (Cue n) o = refl
-no-last π (While v c x) o = refl
-no-last π (Do v c x) o = refl
-no-last π (For v s c x d) o = absurd (miss no-for 8 tt o)
+pub no-last : (text : List ℕ) (π : Prices) (k : Kind) → OneOf no-for (tagOf the-type k) → 0 ≡ lastTicks text π k
+unfolding headOf viewOf kindOf
+no-last text π End o = refl
+no-last text π Else o = refl
+no-last text π Pick o = refl
+no-last text π (Set v x) o = refl
+no-last text π (Move v c) o = refl
+no-last text π (Cue n) o = refl
+no-last text π (While v c x) o = refl
+no-last text π (Do v c x) o = refl
+no-last text π (For v s c x d) o = absurd (miss no-for 8 tt o)
 
 -- the walk is over
-pub closing : {π : Prices} {rows : List Row} {count at outer i : ℕ} {ρ ρ₀ : Env} {t t₀ r : TallyLines} → Walked rows count at i (tallied t ρ) (folded π outer (tallied t₀ ρ₀)) → t .spent ≤ 1_000_000_000_001 → length (t .lines) ≡ 16 → EndedAt t i r
-    → Passed π rows count at ρ₀ outer t₀ r
+pub closing : {text : List ℕ} {π : Prices} {rows : List Row} {count at outer i : ℕ} {ρ ρ₀ : Env} {t t₀ r : TallyLines} → Walked text rows count at i (tallied t ρ) (folded π outer (tallied t₀ ρ₀)) → t .spent ≤ 1_000_000_000_001 → length (t .lines) ≡ 16 → EndedAt t i r
+    → Passed text π rows count at ρ₀ outer t₀ r
 unfolding folded
-closing {π} {rows} {count} {at} {outer} {i} {ρ} {ρ₀} {t} {t₀} {r} w s m h =
-    let b = blockAt rows count at in
+closing {text} {π} {rows} {count} {at} {outer} {i} {ρ} {ρ₀} {t} {t₀} {r} w s m h =
+    let b = blockAt text rows count at in
     let e : ρ ≡ after ρ₀ b = ap (λ (x : State). x .env) (w .value) in
     let q : r .spent ≡ t .spent = ap (λ (x : State). x .spent) (h .value ρ) in
     record {
@@ -119,70 +119,70 @@ nowhere : Env
 nowhere w = full
 
 -- a tally that a walk may start from
-pub restart-walkable : {π : Prices} {rows : List Row} {count a outer s : ℕ} {t r : TallyLines} → Ready rows count a → FinePrices π → Restarted t s r → length (t .lines) ≡ 16 → s ≤ 1_000_000_000_001 → outer ≤ 1_000_000_000_001
-    → t .loops + loopCount (blockAt rows count a) ≤ 16 → Walkable π rows count a outer r
+pub restart-walkable : {text : List ℕ} {π : Prices} {rows : List Row} {count a outer s : ℕ} {t r : TallyLines} → Ready text rows count a → FinePrices π → Restarted t s r → length (t .lines) ≡ 16 → s ≤ 1_000_000_000_001 → outer ≤ 1_000_000_000_001
+    → t .loops + loopCount (blockAt text rows count a) ≤ 16 → Walkable text π rows count a outer r
 restart-walkable {t} {r} k fine h g l o m =
     let p = ap (λ (x : State). x .spent) (h .value nowhere) in
     let q = ap (λ (x : State). x .loops) (h .value nowhere) in
     record { ready = k; prices = fine; small = omega arith; times = o; room = omega arith; long = ap length (h .same) ∙ g }
 
-pub lined-walkable : {π : Prices} {rows : List Row} {count a outer i turns total s : ℕ} {τ : Trip} {t r : TallyLines} → Ready rows count a → FinePrices π → Lined t i τ turns total s r → s ≤ 1_000_000_000_001 → outer ≤ 1_000_000_000_001
-    → t .loops + 1 + loopCount (blockAt rows count a) ≤ 16 → Walkable π rows count a outer r
+pub lined-walkable : {text : List ℕ} {π : Prices} {rows : List Row} {count a outer i turns total s : ℕ} {τ : Trip} {t r : TallyLines} → Ready text rows count a → FinePrices π → Lined t i τ turns total s r → s ≤ 1_000_000_000_001 → outer ≤ 1_000_000_000_001
+    → t .loops + 1 + loopCount (blockAt text rows count a) ≤ 16 → Walkable text π rows count a outer r
 lined-walkable {t} {r} k fine h l o m =
     let p = ap (λ (x : State). x .spent) (h .value nowhere) in
     let q = ap (λ (x : State). x .loops) (h .value nowhere) in
     record { ready = k; prices = fine; small = omega arith; times = o; room = omega arith; long = h .long }
 
-module _ (π : Prices) (rows : List Row) (count outer at : ℕ) (x₀ : State) where
-  pub record Going (i : ℕ) (ρ : Env) (t : TallyLines) : Type 0 where
-    pub walk : Walking rows count (folded π outer) at x₀ i (tallied t ρ)
-    pub small : t .spent ≤ 1_000_000_000_001
-    pub long : length (t .lines) ≡ 16
+pub record Going (text : List ℕ) (π : Prices) (rows : List Row) (count outer at : ℕ) (x₀ : State) (i : ℕ) (ρ : Env) (t : TallyLines) : Type 0 where
+  pub walk : Walking text rows count (folded π outer) at x₀ i (tallied t ρ)
+  pub small : t .spent ≤ 1_000_000_000_001
+  pub long : length (t .lines) ≡ 16
 
-  module _ {i : ℕ} {ρ : Env} {t : TallyLines} (k : Going i ρ t) where
+module _ {text : List ℕ} (π : Prices) (rows : List Row) (count outer at : ℕ) (x₀ : State) where
+  module _ {i : ℕ} {ρ : Env} {t : TallyLines} (k : Going text π rows count outer at x₀ i ρ t) where
     -- the loops that are left
-    pub room : folded π outer x₀ (blockAt rows count at) .loops ≡ t .loops + loopCount (blockAt rows count i)
+    pub room : folded π outer x₀ (blockAt text rows count at) .loops ≡ t .loops + loopCount (blockAt text rows count i)
     unfolding folded
     room = ap (λ (x : State). x .loops) (k .walk .value)
 
-    module _ (l : i < count) (built : Whole rows count) where
-      pub go-plain : shapeOf (kindAt rows i) ≡ Shape.Plain → {σ : Env} {p : ℕ} {r : TallyLines} → σ ≡ afterRow ρ (plainOf (kindAt rows i)) → p ≡ capped (t .spent + price π (plainOf (kindAt rows i))) → Restarted t p r → Going (i + 1) σ r
+    module _ (l : i < count) (built : Whole text rows count) where
+      pub go-plain : shapeOf (kindAt rows i) ≡ Shape.Plain → {σ : Env} {p : ℕ} {r : TallyLines} → σ ≡ afterRow ρ (plainOf text (kindAt rows i)) → p ≡ capped (t .spent + price π (plainOf text (kindAt rows i))) → Restarted t p r → Going text π rows count outer at x₀ (i + 1) σ r
       go-plain h {σ} {p} {r} a b c =
-          let e : tallied r σ ≡ pastPlain π outer (tallied t ρ) (plainOf (kindAt rows i)) = c .value σ ∙ state-is a refl b refl refl refl in
+          let e : tallied r σ ≡ pastPlain π outer (tallied t ρ) (plainOf text (kindAt rows i)) = c .value σ ∙ state-is a refl b refl refl refl in
           record {
-            walk = plain-row rows count (folded π outer) at x₀ (k .walk) l built h (λ rest. fold-plain π outer (tallied t ρ) i (plainOf (kindAt rows i)) rest ∙ ap (λ y. folded π outer y rest) (sym e));
+            walk = plain-row rows count (folded π outer) at x₀ (k .walk) l built h (λ rest. fold-plain π outer (tallied t ρ) i (plainOf text (kindAt rows i)) rest ∙ ap (λ y. folded π outer y rest) (sym e));
             small = let z : r .spent ≡ p = ap (λ (x : State). x .spent) (c .value σ) in omega arith;
             long = ap length (c .same) ∙ k .long;
           }
 
       -- ---- a pick
-      module _ {m q e : ℕ} (u : PickIs rows count i m q e) where
+      module _ {m q e : ℕ} (u : PickIs text rows count i m q e) where
         abbrev A : Block
-        A = blockAt rows count (i + 1)
+        A = blockAt text rows count (i + 1)
 
         abbrev B : Block
-        B = blockAt rows count q
+        B = blockAt text rows count q
 
-        pub pick-room : x₀ .loops + loopCount (blockAt rows count at) ≤ 16 → t .loops + loopCount A + loopCount B ≤ 16
+        pub pick-room : x₀ .loops + loopCount (blockAt text rows count at) ≤ 16 → t .loops + loopCount A + loopCount B ≤ 16
         unfolding folded loopCount
         pick-room h = omega (arith, room, ap loopCount (u .block))
 
-        verdict-pick : folded π outer x₀ (blockAt rows count at) .verdict ≡ andThen (andThen (andThen passed (loopsVerdict ρ A)) (loopsVerdict ρ B)) (loopsVerdict (join (after ρ A) (after ρ B)) (blockAt rows count (e + 1)))
+        verdict-pick : folded π outer x₀ (blockAt text rows count at) .verdict ≡ andThen (andThen (andThen passed (loopsVerdict ρ A)) (loopsVerdict ρ B)) (loopsVerdict (join (after ρ A) (after ρ B)) (blockAt text rows count (e + 1)))
         unfolding folded
         verdict-pick = ap (λ (x : State). x .verdict) (k .walk .value ∙ ap (folded π outer (tallied t ρ)) (u .block) ∙ fold-pick π outer (tallied t ρ) i e A B _)
 
-        pub pick-first : (n p : ℕ) → loopsVerdict ρ A ≡ refused n p → folded π outer x₀ (blockAt rows count at) .verdict ≡ refused n p
+        pub pick-first : (n p : ℕ) → loopsVerdict ρ A ≡ refused n p → folded π outer x₀ (blockAt text rows count at) .verdict ≡ refused n p
         unfolding andThen
-        pick-first n p h = verdict-pick ∙ ap (λ v. andThen (andThen v (loopsVerdict ρ B)) (loopsVerdict (join (after ρ A) (after ρ B)) (blockAt rows count (e + 1)))) h
+        pick-first n p h = verdict-pick ∙ ap (λ v. andThen (andThen v (loopsVerdict ρ B)) (loopsVerdict (join (after ρ A) (after ρ B)) (blockAt text rows count (e + 1)))) h
 
-        pub pick-second : (n p : ℕ) → loopsVerdict ρ A ≡ passed → loopsVerdict ρ B ≡ refused n p → folded π outer x₀ (blockAt rows count at) .verdict ≡ refused n p
+        pub pick-second : (n p : ℕ) → loopsVerdict ρ A ≡ passed → loopsVerdict ρ B ≡ refused n p → folded π outer x₀ (blockAt text rows count at) .verdict ≡ refused n p
         unfolding andThen
-        pick-second n p g h = verdict-pick ∙ ap₂ (λ v w. andThen (andThen v w) (loopsVerdict (join (after ρ A) (after ρ B)) (blockAt rows count (e + 1)))) g h
+        pick-second n p g h = verdict-pick ∙ ap₂ (λ v w. andThen (andThen v w) (loopsVerdict (join (after ρ A) (after ρ B)) (blockAt text rows count (e + 1)))) g h
 
         pub go-pick : {a b : TallyLines} {F : ℕ} {σ : Env} {r : TallyLines}
             → Part π outer ρ 0 (overOf (t .over)) (firstLines (t .lines) (t .loops)) (t .loops) A a
             → Part π outer ρ 0 (overOf (a .over)) (firstLines (a .lines) (a .loops)) (a .loops) B b
-            → F ≡ capped (π .pick + max (a .spent) (b .spent)) → Closed t b e F r → σ ≡ join (after ρ A) (after ρ B) → Going (e + 1) σ r
+            → F ≡ capped (π .pick + max (a .spent) (b .spent)) → Closed t b e F r → σ ≡ join (after ρ A) (after ρ B) → Going text π rows count outer at x₀ (e + 1) σ r
         unfolding andThen
         go-pick {a} {b} {F} {σ} {r} pa pb f c s =
             let G = π .pick + max (ticks π ρ A) (ticks π ρ B) in
@@ -200,15 +200,15 @@ module _ (π : Prices) (rows : List Row) (count outer at : ℕ) (x₀ : State) w
             }
 
       -- ---- a loop
-      module _ {e : ℕ} (u : LoopIs rows count (headOf (kindAt rows i)) i e) where
+      module _ {e : ℕ} (u : LoopIs text rows count (headOf text (kindAt rows i)) i e) where
         abbrev form : Form
-        form = formOf (kindAt rows i)
+        form = formOf text (kindAt rows i)
 
         abbrev test : Test
-        test = testOf (kindAt rows i)
+        test = testOf text (kindAt rows i)
 
         abbrev body : Block
-        body = bodyAt rows count i
+        body = bodyAt text rows count i
 
         abbrev σ : Env
         σ = atStart form test ρ
@@ -216,29 +216,29 @@ module _ (π : Prices) (rows : List Row) (count outer at : ℕ) (x₀ : State) w
         abbrev β : Env
         β = inside form σ test body
 
-        same : SameBody π (headOf (kindAt rows i) .last) (blockAt rows count (i + 1)) body
-        same = same-body π (headOf (kindAt rows i) .last) i (blockAt rows count (i + 1))
+        same : SameBody π (headOf text (kindAt rows i) .last) (blockAt text rows count (i + 1)) body
+        same = same-body π (headOf text (kindAt rows i) .last) i (blockAt text rows count (i + 1))
 
-        pub loop-room : x₀ .loops + loopCount (blockAt rows count at) ≤ 16 → t .loops + 1 + loopCount (blockAt rows count (i + 1)) ≤ 16
+        pub loop-room : x₀ .loops + loopCount (blockAt text rows count at) ≤ 16 → t .loops + 1 + loopCount (blockAt text rows count (i + 1)) ≤ 16
         unfolding folded loopCount
         loop-room h = omega (arith, room, ap loopCount (u .block), same .count)
 
-        verdict-loop : folded π outer x₀ (blockAt rows count at) .verdict ≡ andThen (andThen (andThen passed (ofTrip i (trip form σ test body))) (loopsVerdict β body)) (loopsVerdict (outside form σ test body) (blockAt rows count (e + 1)))
+        verdict-loop : folded π outer x₀ (blockAt text rows count at) .verdict ≡ andThen (andThen (andThen passed (ofTrip i (trip form σ test body))) (loopsVerdict β body)) (loopsVerdict (outside form σ test body) (blockAt text rows count (e + 1)))
         unfolding folded
         verdict-loop = ap (λ (x : State). x .verdict) (k .walk .value ∙ ap (folded π outer (tallied t ρ)) (u .block) ∙ fold-loop π outer (tallied t ρ) i e form test body _)
 
-        pub loop-refused : (n p : ℕ) → ofTrip i (trip form σ test body) ≡ refused n p → folded π outer x₀ (blockAt rows count at) .verdict ≡ refused n p
+        pub loop-refused : (n p : ℕ) → ofTrip i (trip form σ test body) ≡ refused n p → folded π outer x₀ (blockAt text rows count at) .verdict ≡ refused n p
         unfolding andThen
-        loop-refused n p g = verdict-loop ∙ ap (λ v. andThen (andThen v (loopsVerdict β body)) (loopsVerdict (outside form σ test body) (blockAt rows count (e + 1)))) g
+        loop-refused n p g = verdict-loop ∙ ap (λ v. andThen (andThen v (loopsVerdict β body)) (loopsVerdict (outside form σ test body) (blockAt text rows count (e + 1)))) g
 
-        pub body-refused : (n p : ℕ) → ofTrip i (trip form σ test body) ≡ passed → loopsVerdict β (blockAt rows count (i + 1)) ≡ refused n p → folded π outer x₀ (blockAt rows count at) .verdict ≡ refused n p
+        pub body-refused : (n p : ℕ) → ofTrip i (trip form σ test body) ≡ passed → loopsVerdict β (blockAt text rows count (i + 1)) ≡ refused n p → folded π outer x₀ (blockAt text rows count at) .verdict ≡ refused n p
         unfolding andThen
-        body-refused n p g h = verdict-loop ∙ ap₂ (λ v w. andThen (andThen v w) (loopsVerdict (outside form σ test body) (blockAt rows count (e + 1)))) g (same .loops β ∙ h)
+        body-refused n p g h = verdict-loop ∙ ap₂ (λ v w. andThen (andThen v w) (loopsVerdict (outside form σ test body) (blockAt text rows count (e + 1)))) g (same .loops β ∙ h)
 
         pub go-loop : {x : Entered} {first : TallyLines} {α : Env} {b r : TallyLines}
-            → Entry π i outer (kindAt rows i) (trip form σ test body) t x first
-            → Part π (x .total) β (lastTicks π (kindAt rows i)) (overOf (t .over)) (firstLines (t .lines) (t .loops) ++ (lineFor i (trip form σ test body) (x .turns) (x .total) ∷ [])) (t .loops + 1) (blockAt rows count (i + 1)) b
-            → ((G : ℕ) → b .spent ≡ capped G → Closed t b e (capped (loopTicks π form (x .turns) G)) r) → α ≡ outside form σ test body → Going (e + 1) α r
+            → Entry text π i outer (kindAt rows i) (trip form σ test body) t x first
+            → Part π (x .total) β (lastTicks text π (kindAt rows i)) (overOf (t .over)) (firstLines (t .lines) (t .loops) ++ (lineFor i (trip form σ test body) (x .turns) (x .total) ∷ [])) (t .loops + 1) (blockAt text rows count (i + 1)) b
+            → ((G : ℕ) → b .spent ≡ capped G → Closed t b e (capped (loopTicks π form (x .turns) G)) r) → α ≡ outside form σ test body → Going text π rows count outer at x₀ (e + 1) α r
         unfolding andThen
         go-loop {x} {first} {α} {b} {r} en p f s =
             let n = turns form σ test body in
@@ -247,8 +247,8 @@ module _ (π : Prices) (rows : List Row) (count outer at : ℕ) (x₀ : State) w
             let fg : capped (loopTicks π form (x .turns) G) ≡ capped (loopTicks π form n G) = ap (λ m. capped (loopTicks π form m G)) (en .turns) in
             let ht : x .total ≡ capped (n * outer) = en .total ∙ ap (λ m. capped (m * outer)) (en .turns) in
             let L : lineFor i (trip form σ test body) (x .turns) (x .total) ≡ cut (line outer i form σ test body) = (λ j. lineFor i (trip form σ test body) (en .turns j) (ht j)) in
-            let inner : cuts (lines (x .total) β (blockAt rows count (i + 1))) ≡ cuts (lines (n * outer) β body) =
-            ap (λ m. cuts (lines m β (blockAt rows count (i + 1)))) ht ∙ cap-lines (n * outer) β (blockAt rows count (i + 1)) ∙ ap cuts (sym (same .lined (n * outer) β)) in
+            let inner : cuts (lines (x .total) β (blockAt text rows count (i + 1))) ≡ cuts (lines (n * outer) β body) =
+            ap (λ m. cuts (lines m β (blockAt text rows count (i + 1)))) ht ∙ cap-lines (n * outer) β (blockAt text rows count (i + 1)) ∙ ap cuts (sym (same .lined (n * outer) β)) in
             let y : tallied r α ≡ pastLoop π outer (tallied t ρ) i e form test body = state-is s
             (sym (ap₂ (λ a w. andThen a w) (en .verdict) (same .loops β ∙ p .verdict)))
             (omega (arith, c .spent))

@@ -10,14 +10,14 @@ use lib.IntN.{ℤ, pos}
 use lib.ListN.{length, getD, take, length-take, List·getD-eq-default}
 use lib.Seq.{getD-take, length-take-le}
 use Rattle.rules.specs.declared.Row.{Row}
-use Rattle.rules.specs.declared.Kind.the-variants.{End}
-use Rattle.rules.specs.Blocks.{kindsOf}
-use Rattle.rules.specs.Bounds.{Fine}
+use Rattle.rules.specs.Blocks.{End, kindsOf}
+use Rattle.rules.specs.Written.{Written}
 use Rattle.rules.specs.Scripts as scripts
-use Rattle.rules.specs.Scripts.{All, none, some, pairRange, pairRanges, BlankFrom, scriptOf, ofBuilt, treeOf, Legal}
+use Rattle.rules.specs.Scripts.{All, none, some, pairRange, pairRanges, BlankFrom, RowLimits, RowBelow, scriptOf, ofBuilt, treeOf, Legal}
 use Rattle.rules.proofs.Laws.{kinds-length}
 use Rattle.rules.proofs.Nesting.{tree-of}
-use Rattle.rules.proofs.Rows.{rowAt, block-whole}
+use Rattle.rules.proofs.Rows.{block-whole}
+use Rattle.table.specs.Code.{kindAt}
 use Rattle.table.proofs.Limits.{row-fine}
 use Rattle.steps.specs.Tree.{kinds, blockAt, Whole, Ready}
 use Rattle.steps.proofs.Laws.{kind-is}
@@ -51,35 +51,38 @@ module _ (r : List (List ℤ)) (vars : ℕ) (h : BlankFrom vars r) where
   env-is = λ d w. at-var w (ltb w vars) refl d
 
 -- ---- rows
-module _ (ranges : List (List ℤ)) (vars : ℕ) (rows : List Row) (count : ℕ) (legal : Legal (scriptOf ranges vars rows count)) (few : count ≤ 256) (all : count ≤ length rows) where
-  pub long : length (kinds rows count) ≡ count
-  long = length-take-le count (kindsOf rows) (omega (arith, kinds-length rows))
+module _ (text : List ℕ) (ranges : List (List ℤ)) (vars : ℕ) (rows : List Row) (count : ℕ) (legal : Legal (scriptOf text ranges vars rows count)) (few : count ≤ 256) (all : count ≤ length rows) where
+  pub long : length (kinds text rows count) ≡ count
+  long = length-take-le count (kindsOf text rows) (omega (arith, kinds-length text rows))
 
-  pub whole : Whole rows count
+  pub whole : Whole text rows count
   unfolding scriptOf
   whole =
       let (n, e) = legal .closed in
-      let (tree, w) = tree-of (kinds rows count) n e in
+      let (tree, w) = tree-of (kinds text rows count) n e in
       record { tree = tree; long = long; builds = w }
 
-  pub ready : Ready rows count 0
+  pub ready : length text ≤ 16_384 → ((i : ℕ) → i < count → Written text (kindAt rows i)) → Ready text rows count 0
   unfolding scriptOf
-  ready = record {
+  ready short written = record {
     few = few;
     within = omega arith;
     built = whole;
-    fine = λ i l. let k : i < length (kinds rows count) = omega (arith, long) in
-        subst Fine (kind-is rows count i l) (row-fine _ (legal .sizes .0) (rowAt (kinds rows count) i) (all-get (kinds rows count) (legal .numbers .1) i k End) (all-get (kinds rows count) (legal .variables) i k End));
+    fine = λ i l.
+        let k : i < length (kinds text rows count) = omega (arith, long) in
+        let same = kind-is text rows count i l in
+        row-fine text short _ (legal .sizes .0) (kindAt rows i) (subst RowLimits same (all-get (kinds text rows count) (legal .numbers .1) i k End)) (subst (RowBelow _) same (all-get (kinds text rows count) (legal .variables) i k End)) (written i l);
+    written = written;
   }
 
   -- the whole file is the block at row 0
-  pub file-is : blockAt rows count 0 ≡ treeOf (kinds rows count)
-  file-is = block-whole (kinds rows count) (whole .tree) (whole .builds)
+  pub file-is : blockAt text rows count 0 ≡ treeOf (kinds text rows count)
+  file-is = block-whole (kinds text rows count) (whole .tree) (whole .builds)
 
-  pub few-in : loopCount (blockAt rows count 0) ≤ 16
+  pub few-in : loopCount (blockAt text rows count 0) ≤ 16
   unfolding scriptOf treeOf
   few-in =
       let (n, e) = legal .closed in
       let w = whole in
-      let q : blockAt rows count 0 ≡ w .tree = file-is ∙ ap ofBuilt (w .builds) in
-      subst (λ b. loopCount b ≤ 16) (sym q) (few-loops (kinds rows count) n (w .tree) e (w .builds))
+      let q : blockAt text rows count 0 ≡ w .tree = file-is ∙ ap ofBuilt (w .builds) in
+      subst (λ b. loopCount b ≤ 16) (sym q) (few-loops (kinds text rows count) n (w .tree) e (w .builds))

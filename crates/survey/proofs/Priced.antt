@@ -5,7 +5,7 @@ use Prim.Native.Nat.{ℕ}
 use native.Mathlib.Omega.{arith}
 use types.Run.{OneOf, miss}
 use denote.Enum.Declared.{tagOf}
-use Rattle.rules.specs.Blocks.{viewOf}
+use Rattle.rules.specs.Blocks.{viewOf, kindOf}
 use Rattle.rules.specs.declared.Prices.{Prices}
 use Rattle.rules.specs.Figures.{price}
 use Rattle.table.specs.declared.Shape.{Shape}
@@ -19,9 +19,9 @@ abbrev no-cue : List ℕ
 no-cue = 0 ∷ 1 ∷ 2 ∷ 3 ∷ 4 ∷ 6 ∷ 7 ∷ 8 ∷ []
 
 -- a plain row that is no cue is arithmetic
-module _ (π : Prices) (e : List ℕ) where
-  pub price-other : (g : Tag) → OneOf no-cue (tagOf the-type g) → shapeOf (kindBy g e) ≡ Shape.Plain → π .arithmetic ≡ price π (plainOf (kindBy g e))
-  unfolding price kindBy viewOf
+module _ (π : Prices) (text e : List ℕ) where
+  pub price-other : (g : Tag) → OneOf no-cue (tagOf the-type g) → shapeOf (kindBy g e) ≡ Shape.Plain → π .arithmetic ≡ price π (plainOf text (kindBy g e))
+  unfolding price kindBy viewOf kindOf
   price-other Tag.End o h = absurd (let z : _≡_ {A = ℕ} 0 1 = cc in omega arith)
   price-other Tag.Else o h = absurd (let z : _≡_ {A = ℕ} 0 1 = cc in omega arith)
   price-other Tag.Pick o h = absurd (let z : _≡_ {A = ℕ} 0 1 = cc in omega arith)

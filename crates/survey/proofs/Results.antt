@@ -32,20 +32,20 @@ use Rattle.survey.proofs.Legals.{env-is, long, file-is, few-in}
 no-number : {A : Type 0} {n : ℕ} → n ≡ 13 → n ≡ 0 → A
 no-number p q = absurd (let z : ⊥ = omega arith in z)
 
-module _ (π : Prices) (fine : FinePrices π) (ranges : List (List ℤ)) (vars : ℕ) (rows : List Row) (count : ℕ) (legal : Legal (scriptOf ranges vars rows count)) (few : count ≤ 256) (all : count ≤ length rows) (blank : BlankFrom vars ranges) where
+module _ (π : Prices) (fine : FinePrices π) (text : List ℕ) (ranges : List (List ℤ)) (vars : ℕ) (rows : List Row) (count : ℕ) (legal : Legal (scriptOf text ranges vars rows count)) (few : count ≤ 256) (all : count ≤ length rows) (blank : BlankFrom vars ranges) where
   abbrev ρ : Env
   ρ = envOf ranges
 
   abbrev b : Block
-  b = blockAt rows count 0
+  b = blockAt text rows count 0
 
   -- what is found of the array is the script's
-  moved : {A : Type 0} (f : Env → Block → A) → f (scripts.envOf (take vars (pairRanges ranges))) (treeOf (kinds rows count)) ≡ f ρ b
-  moved f = λ j. f (env-is ranges vars blank j) (sym (file-is ranges vars rows count legal few all) j)
+  moved : {A : Type 0} (f : Env → Block → A) → f (scripts.envOf (take vars (pairRanges ranges))) (treeOf (kinds text rows count)) ≡ f ρ b
+  moved f = λ j. f (env-is ranges vars blank j) (sym (file-is text ranges vars rows count legal few all) j)
 
-  pub result : (t₀ : TallyLines) (t : Tally) (ls : List (List ℕ)) → tallied t₀ ρ ≡ from-parts ρ 0 passed [] 0 → Surveyed π rows count 0 ρ 1 t₀ (withLines t ls) → (f : Refusal) → FirstNo t count f
+  pub result : (t₀ : TallyLines) (t : Tally) (ls : List (List ℕ)) → tallied t₀ ρ ≡ from-parts ρ 0 passed [] 0 → Surveyed text π rows count 0 ρ 1 t₀ (withLines t ls) → (f : Refusal) → FirstNo t count f
       → (n : ℕ) → (f .number ≡ 0 → n ≡ t .spent) → (k : ℕ) → (f .number ≡ 0 → k ≡ t .loops) → ((f .number ≡ 0 → ⊥) → (n ≡ 0) × (k ≡ 0))
-      → SurveyOf π (scriptOf ranges vars rows count) count (record { number = f .number; place = f .place; ticks = n; loops = k }) ls
+      → SurveyOf π (scriptOf text ranges vars rows count) count (record { number = f .number; place = f .place; ticks = n; loops = k }) ls
   unfolding scriptOf andThen
   result t₀ t ls e s f (of-loop h p q) m u k v free = record {
     verdict = moved (verdict π count) ∙ verdict-loop π count ρ b (t .number) (t .place) h (refused-in s h) ∙ (λ j. answer (sym p j) (sym q j));
@@ -82,16 +82,16 @@ module _ (π : Prices) (fine : FinePrices π) (ranges : List (List ℤ)) (vars :
       record {
         verdict = moved (verdict π count) ∙ verdict-passed π count ρ b (part .verdict) (t .over) (part .over) l (f .place) m ∙ (λ d. answer (sym p d) (f .place));
         ticks = λ w. u w ∙ n ∙ sym (moved (ticks π));
-        loops = λ w. omega (arith, v w, part .count, few-in ranges vars rows count legal few all);
+        loops = λ w. omega (arith, v w, part .count, few-in text ranges vars rows count legal few all);
         long = λ w. part .long;
         lines = λ w. ap (firstLines ls) (v w) ∙ part .lined ∙ lines-true π (fine .test .some) b ρ m ∙ sym (moved (lines 1));
         none = free;
       }
 
   -- a file that passes here is accepted
-  pub accepted : (s : Figures) (ls : List (List ℕ)) → SurveyOf π (scriptOf ranges vars rows count) count s ls → s .number ≡ 0 → Accepted π (scriptOf ranges vars rows count)
+  pub accepted : (s : Figures) (ls : List (List ℕ)) → SurveyOf π (scriptOf text ranges vars rows count) count s ls → s .number ≡ 0 → Accepted π (scriptOf text ranges vars rows count)
   unfolding scriptOf answer
   accepted s ls h z = record {
     legal = legal;
-    loops = ap (λ n. verdict π n (scripts.envOf (take vars (pairRanges ranges))) (treeOf (kinds rows count))) (long ranges vars rows count legal few all) ∙ h .verdict ∙ ap (λ n. answer n (s .place)) z;
+    loops = ap (λ n. verdict π n (scripts.envOf (take vars (pairRanges ranges))) (treeOf (kinds text rows count))) (long text ranges vars rows count legal few all) ∙ h .verdict ∙ ap (λ n. answer n (s .place)) z;
   }

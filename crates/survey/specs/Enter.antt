@@ -24,27 +24,27 @@ use Rattle.survey.specs.declared.Tally.{Tally}
 use Rattle.survey.specs.Fold.{TallyLines, withLines, lastTicks, Lined, Closed}
 
 -- the ranges at the start of the loop at row i, and its trip
-abbrev pub startAt : List Row → ℕ → Env → Env
-startAt rows i ρ = atStart (formOf (kindAt rows i)) (testOf (kindAt rows i)) ρ
+abbrev pub startAt : List ℕ → List Row → ℕ → Env → Env
+startAt text rows i ρ = atStart (formOf text (kindAt rows i)) (testOf text (kindAt rows i)) ρ
 
-abbrev pub tripAt : List Row → ℕ → ℕ → Env → Trip
-tripAt rows count i ρ = trips.trip (formOf (kindAt rows i)) (startAt rows i ρ) (testOf (kindAt rows i)) (bodyAt rows count i)
+abbrev pub tripAt : List ℕ → List Row → ℕ → ℕ → Env → Trip
+tripAt text rows count i ρ = trips.trip (formOf text (kindAt rows i)) (startAt text rows i ρ) (testOf text (kindAt rows i)) (bodyAt text rows count i)
 
 -- the trip τ of the loop at row i has passed: its turns, its total, its line
-pub record Entry (π : Prices) (i outer : ℕ) (k : Kind) (τ : Trip) (t : TallyLines) (e : Entered) (first : TallyLines) : Type 0 where
+pub record Entry (text : List ℕ) (π : Prices) (i outer : ℕ) (k : Kind) (τ : Trip) (t : TallyLines) (e : Entered) (first : TallyLines) : Type 0 where
   pub verdict : ofTrip i τ ≡ passed
   pub turns : e .turns ≡ turnsOf τ
   pub total : e .total ≡ capped (e .turns * outer)
-  pub lined : Lined t i τ (e .turns) (e .total) (lastTicks π k) first
+  pub lined : Lined t i τ (e .turns) (e .total) (lastTicks text π k) first
 
 -- the loop at row i has been entered from the ranges ρ: r holds those at its start
-pub record EnteredAt (π : Prices) (rows : List Row) (count i outer : ℕ) (ρ : Env) (t : TallyLines) (r : List (List ℤ)) (e : Entered) (first : TallyLines) : Type 0 where
-  pub begun : EnvIs r (startAt rows i ρ)
-  pub one : LoopAt rows count i (startAt rows i ρ) (e .one)
-  pub stopped : (first .number ≡ 0 → ⊥) → ofTrip i (tripAt rows count i ρ) ≡ refused (first .number) (first .place)
-  pub whole : first .number ≡ 0 → Entry π i outer (kindAt rows i) (tripAt rows count i ρ) t e first
+pub record EnteredAt (text : List ℕ) (π : Prices) (rows : List Row) (count i outer : ℕ) (ρ : Env) (t : TallyLines) (r : List (List ℤ)) (e : Entered) (first : TallyLines) : Type 0 where
+  pub begun : EnvIs r (startAt text rows i ρ)
+  pub one : LoopAt text rows count i (startAt text rows i ρ) (e .one)
+  pub stopped : (first .number ≡ 0 → ⊥) → ofTrip i (tripAt text rows count i ρ) ≡ refused (first .number) (first .place)
+  pub whole : first .number ≡ 0 → Entry text π i outer (kindAt rows i) (tripAt text rows count i ρ) t e first
 
 -- a loop has been left, ρ the ranges at its start: r holds those after it
 pub record LeftLoop (π : Prices) (k : Kind) (one : Loop) (turns : ℕ) (t body : Tally) (ρ : Env) (r : List (List ℤ)) (x : Tally) : Type 0 where
   pub env : EnvIs r (widened one (outerOf (tripOf (one .trip))) ρ)
-  pub closed : (B : ℕ) → body .spent ≡ capped B → (ks ls : List (List ℕ)) → Closed (withLines t ks) (withLines body ls) (one .next) (capped (loopTicks π (formOf k) turns B)) (withLines x ls)
+  pub closed : (text : List ℕ) (B : ℕ) → body .spent ≡ capped B → (ks ls : List (List ℕ)) → Closed (withLines t ks) (withLines body ls) (one .next) (capped (loopTicks π (formOf text k) turns B)) (withLines x ls)

@@ -75,8 +75,8 @@ abbrev pub lastPrice : Prices → Last → ℕ
 lastPrice π no-step = 0
 lastPrice π (step-by p) = price π p
 
-abbrev pub lastTicks : Prices → Kind → ℕ
-lastTicks π k = lastPrice π (headOf k .last)
+abbrev pub lastTicks : List ℕ → Prices → Kind → ℕ
+lastTicks text π k = lastPrice π (headOf text k .last)
 
 pub record Restarted (t : TallyLines) (spent : ℕ) (r : TallyLines) : Type 0 where
   pub same : r .lines ≡ t .lines
@@ -111,24 +111,24 @@ pub record EndedAt (t : TallyLines) (i : ℕ) (r : TallyLines) : Type 0 where
   pub next : r .next ≡ i
 
 -- what the walk asks
-pub record Walkable (π : Prices) (rows : List Row) (count at outer : ℕ) (t : TallyLines) : Type 0 where
-  pub ready : Ready rows count at
+pub record Walkable (text : List ℕ) (π : Prices) (rows : List Row) (count at outer : ℕ) (t : TallyLines) : Type 0 where
+  pub ready : Ready text rows count at
   pub prices : FinePrices π
   pub small : t .spent ≤ 1_000_000_000_001
   pub times : outer ≤ 1_000_000_000_001
-  pub room : t .loops + loopCount (blockAt rows count at) ≤ 16
+  pub room : t .loops + loopCount (blockAt text rows count at) ≤ 16
   pub long : length (t .lines) ≡ 16
 
 -- what it gives: no loop refused
-pub record Passed (π : Prices) (rows : List Row) (count at : ℕ) (ρ : Env) (outer : ℕ) (t r : TallyLines) : Type 0 where
-  pub value : tallied r (after ρ (blockAt rows count at)) ≡ folded π outer (tallied t ρ) (blockAt rows count at)
-  pub place : r .next ≡ endAt rows count at
+pub record Passed (text : List ℕ) (π : Prices) (rows : List Row) (count at : ℕ) (ρ : Env) (outer : ℕ) (t r : TallyLines) : Type 0 where
+  pub value : tallied r (after ρ (blockAt text rows count at)) ≡ folded π outer (tallied t ρ) (blockAt text rows count at)
+  pub place : r .next ≡ endAt text rows count at
   pub low : at ≤ r .next
   pub high : r .next ≤ count
   pub small : r .spent ≤ 1_000_000_000_001
   pub long : length (r .lines) ≡ 16
 
 -- or the first loop refused
-pub record Surveyed (π : Prices) (rows : List Row) (count at : ℕ) (ρ : Env) (outer : ℕ) (t r : TallyLines) : Type 0 where
-  pub stopped : (r .number ≡ 0 → ⊥) → folded π outer (tallied t ρ) (blockAt rows count at) .verdict ≡ refused (r .number) (r .place)
-  pub whole : r .number ≡ 0 → Passed π rows count at ρ outer t r
+pub record Surveyed (text : List ℕ) (π : Prices) (rows : List Row) (count at : ℕ) (ρ : Env) (outer : ℕ) (t r : TallyLines) : Type 0 where
+  pub stopped : (r .number ≡ 0 → ⊥) → folded π outer (tallied t ρ) (blockAt text rows count at) .verdict ≡ refused (r .number) (r .place)
+  pub whole : r .number ≡ 0 → Passed text π rows count at ρ outer t r

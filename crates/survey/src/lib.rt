@@ -32,6 +32,7 @@ ghost use Prim.Native.Nat.{ℕ, _+_, _≤_, _<_, max};
 ghost use lib.ListN.{length};
 ghost use Rattle.rules.specs.Bounds.{Ends, FinePrices};
 ghost use Rattle.rules.specs.Figures.{price};
+ghost use Rattle.rules.specs.Written.{Written};
 ghost use Rattle.rules.specs.Ranges.{join};
 ghost use Rattle.rules.specs.Trips.{after};
 ghost use Rattle.rules.specs.Scripts.{scriptOf, BlankFrom, Legal};
@@ -59,19 +60,20 @@ struct Tally {
 
 // The ranges after a pick whose parts start at two rows.
 fn after_pick(
+    text: &[u8],
     rows: &[[u32; 9]; 256],
     count: usize,
     first: usize,
     second: usize,
     r: [[i32; 2]; 16],
 ) -> [[i32; 2]; 16]
-    requires { ⌜ Ready (rowsOf (now rows)) count first × Ready (rowsOf (now rows)) count second ⌝ }
-    ensures { λ x. ⌜ envOf x ≡ join (after (envOf r) (blockAt (rowsOf (now (rows .entry))) count first)) (after (envOf r) (blockAt (rowsOf (now (rows .entry))) count second)) ⌝ }
+    requires { ⌜ Ready (now text) (rowsOf (now rows)) count first × Ready (now text) (rowsOf (now rows)) count second ⌝ }
+    ensures { λ x. ⌜ envOf x ≡ join (after (envOf r) (blockAt (now (text .entry)) (rowsOf (now (rows .entry))) count first)) (after (envOf r) (blockAt (now (text .entry)) (rowsOf (now (rows .entry))) count second)) ⌝ }
 {
     let mut m: usize = 0;
-    let a = after(rows, count, first, r, &mut m);
+    let a = after(text, rows, count, first, r, &mut m);
     let mut e: usize = 0;
-    let b = after(rows, count, second, r, &mut e);
+    let b = after(text, rows, count, second, r, &mut e);
     joined(a, b)
 }
 
@@ -84,7 +86,7 @@ fn larger(x: u64, y: u64) -> u64
 // The price of the plain row i.
 fn plain_price(rows: &[[u32; 9]; 256], i: usize, prices: Prices) -> u64
     requires { ⌜ (i < 256) × (shapeOf (kindAt (rowsOf (now rows)) i) ≡ Shape.Plain) ⌝ }
-    ensures { λ r. ⌜ r ≡ price prices (plainOf (kindAt (rowsOf (now (rows .entry))) i)) ⌝ }
+    ensures { λ r. ⌜ ((text : List ℕ) → r ≡ price prices (plainOf text (kindAt (rowsOf (now (rows .entry))) i))) ⌝ }
 {
     match tag_at(rows, i) {
         Tag::Cue => prices.cue,
@@ -94,7 +96,7 @@ fn plain_price(rows: &[[u32; 9]; 256], i: usize, prices: Prices) -> u64
 
 // A for's step row is the last row of its body.
 fn last_ticks(kind: Kind, prices: Prices) -> u64
-    ensures { λ r. ⌜ r ≡ lastTicks prices kind ⌝ }
+    ensures { λ r. ⌜ ((text : List ℕ) → r ≡ lastTicks text prices kind) ⌝ }
 {
     match kind {
         Kind::For(_, _, _, _, _) => prices.arithmetic,
@@ -202,6 +204,7 @@ struct Entered {
 
 // From the ranges before the loop at row i to those at its start: its questions 8 to 12, then its line.
 fn enter_loop(
+    text: &[u8],
     rows: &[[u32; 9]; 256],
     count: usize,
     i: usize,
@@ -211,12 +214,12 @@ fn enter_loop(
     t: Tally,
     r: &mut [[i32; 2]; 16],
 ) -> Entered
-    requires { ⌜ AtLoop (rowsOf (now rows)) count i × (outer ≤ 1_000_000_000_001) × (t .loops < 16) × (length (now lines) ≡ 16) × (length (now r) ≡ 16) ⌝ }
-    ensures { λ e. ⌜ EnteredAt prices (rowsOf (now (rows .entry))) count i outer (envOf (now (r .entry))) (withLines t (now (lines .entry))) (now (r .exit)) e (withLines (e .first) (now (lines .exit))) ⌝ }
+    requires { ⌜ AtLoop (now text) (rowsOf (now rows)) count i × (outer ≤ 1_000_000_000_001) × (t .loops < 16) × (length (now lines) ≡ 16) × (length (now r) ≡ 16) ⌝ }
+    ensures { λ e. ⌜ EnteredAt (now (text .entry)) prices (rowsOf (now (rows .entry))) count i outer (envOf (now (r .entry))) (withLines t (now (lines .entry))) (now (r .exit)) e (withLines (e .first) (now (lines .exit))) ⌝ }
 {
     let kind = kind_at(rows, i);
-    at_start(r, kind);
-    let one = loop_at(rows, count, i, r);
+    at_start(text, r, kind);
+    let one = loop_at(text, rows, count, i, r);
     let trip = one.trip;
     match ask(trip) {
         Figure::Refused(number) => Entered {
@@ -270,6 +273,7 @@ fn leave_pick(price: u64, t: Tally, a: Tally, b: Tally) -> Tally
 
 // The block that starts at row `at`: its rows from the first, nested blocks by the same walk.
 fn walk(
+    text: &[u8],
     rows: &[[u32; 9]; 256],
     count: usize,
     at: usize,
@@ -279,8 +283,8 @@ fn walk(
     lines: &mut [[u64; 7]; 16],
     from: Tally,
 ) -> Tally
-    requires { ⌜ Walkable prices (rowsOf (now rows)) count at outer (withLines from (now lines)) ⌝ }
-    ensures { λ r. ⌜ Surveyed prices (rowsOf (now (rows .entry))) count at (envOf start) outer (withLines from (now (lines .entry))) (withLines r (now (lines .exit))) ⌝ }
+    requires { ⌜ Walkable (now text) prices (rowsOf (now rows)) count at outer (withLines from (now lines)) ⌝ }
+    ensures { λ r. ⌜ Surveyed (now (text .entry)) prices (rowsOf (now (rows .entry))) count at (envOf start) outer (withLines from (now (lines .entry))) (withLines r (now (lines .exit))) ⌝ }
 {
     let mut r = start;
     let mut t = from;
@@ -288,17 +292,28 @@ fn walk(
     while i < count {
         match shape_at(rows, i) {
             Shape::Plain => {
-                step_row(&mut r, rows, i);
+                step_row(text, &mut r, rows, i);
                 t.spent = plus(t.spent, plain_price(rows, i, prices));
                 i = i + 1;
             }
             Shape::Branch => {
-                let a = walk(rows, count, i + 1, r, outer, prices, lines, restarted(t, 0));
+                let a = walk(
+                    text,
+                    rows,
+                    count,
+                    i + 1,
+                    r,
+                    outer,
+                    prices,
+                    lines,
+                    restarted(t, 0),
+                );
                 if a.number != 0 {
                     return a;
                 }
                 let second = past_else(rows, a.next);
                 let b = walk(
+                    text,
                     rows,
                     count,
                     second,
@@ -311,13 +326,13 @@ fn walk(
                 if b.number != 0 {
                     return b;
                 }
-                let x = after_pick(rows, count, i + 1, second, r);
+                let x = after_pick(text, rows, count, i + 1, second, r);
                 r = x;
                 t = leave_pick(prices.pick, t, a, b);
                 i = b.next + 1;
             }
             Shape::Loop => {
-                let entered = enter_loop(rows, count, i, outer, prices, lines, t, &mut r);
+                let entered = enter_loop(text, rows, count, i, outer, prices, lines, t, &mut r);
                 let one = entered.one;
                 let first = entered.first;
                 if first.number != 0 {
@@ -326,6 +341,7 @@ fn walk(
                 let mut begun = r;
                 inside(&mut begun, one);
                 let body = walk(
+                    text,
                     rows,
                     count,
                     i + 1,
@@ -393,6 +409,7 @@ pub struct Figures {
 
 // The first `count` rows and the first `vars` ranges of a script that has passed the questions 4 to 7.
 pub fn survey(
+    text: &[u8],
     rows: &[[u32; 9]; 256],
     count: usize,
     ranges: [[i32; 2]; 16],
@@ -400,8 +417,8 @@ pub fn survey(
     prices: Prices,
     lines: &mut [[u64; 7]; 16],
 ) -> Figures
-    requires { ⌜ Legal (scriptOf ranges vars (rowsOf (now rows)) count) × (count ≤ 256) × (count ≤ length (now rows)) × BlankFrom vars ranges × FinePrices prices × (length (now lines) ≡ 16) ⌝ }
-    ensures { λ r. ⌜ SurveyOf prices (scriptOf ranges vars (rowsOf (now (rows .entry))) count) count r (now (lines .exit)) ⌝ }
+    requires { ⌜ Legal (scriptOf (now text) ranges vars (rowsOf (now rows)) count) × (count ≤ 256) × (count ≤ length (now rows)) × BlankFrom vars ranges × FinePrices prices × (length (now lines) ≡ 16) × (length (now text) ≤ 16_384) × ((i : ℕ) → i < count → Written (now text) (kindAt (rowsOf (now rows)) i)) ⌝ }
+    ensures { λ r. ⌜ SurveyOf prices (scriptOf (now (text .entry)) ranges vars (rowsOf (now (rows .entry))) count) count r (now (lines .exit)) ⌝ }
 {
     let empty = Tally {
         number: 0,
@@ -411,7 +428,7 @@ pub fn survey(
         loops: 0,
         next: 0,
     };
-    let t = walk(rows, count, 0, ranges, 1, prices, lines, empty);
+    let t = walk(text, rows, count, 0, ranges, 1, prices, lines, empty);
     let no = first_no(t, count);
     if no.number != 0 {
         return Figures {

@@ -3,7 +3,7 @@
 use mathlib.Core.Path.{_≡_}
 use mathlib.Core.Bool.{Bool, cond}
 use mathlib.Core.List.{List, [], map}
-use Prim.Native.Nat.{ℕ, min}
+use Prim.Native.Nat.{ℕ, min, _/_, _%_}
 use lib.Dec.{eqb}
 use lib.IntN.{ℤ, pos, _-ℤ_}
 use lib.ListN.{getD, take}
@@ -11,19 +11,18 @@ use Rattle.rules.specs.declared.Row.{Row}
 use Rattle.rules.specs.declared.Kind.{Kind}
 use Rattle.rules.specs.declared.Kind.the-variants.{Set, Move, Cue, Pick, Else, End, While, Do, For}
 use Rattle.rules.specs.declared.Operand.{Operand}
-use Rattle.rules.specs.declared.Operand.the-variants.{Constant, Variable}
+use Rattle.rules.specs.declared.Operand.the-variants.{Constant, Variable, Expression}
 use Rattle.rules.specs.declared.Comparison.{Comparison}
 use Rattle.rules.specs.declared.Comparison.the-variants.{Less, AtMost, Greater, AtLeast, Equal, Different}
 use Rattle.rules.specs.declared.Change.{Change}
 use Rattle.rules.specs.declared.Change.the-variants.{Add, Sub, Mul, Div}
-use Rattle.rules.specs.Blocks.{kindsOf}
 use Rattle.table.specs.declared.Tag.{Tag}
 
 abbrev pub constantIn : ℕ → ℤ
 constantIn x = pos x -ℤ pos 2_147_483_648
 
 abbrev pub operandIn : ℕ → ℕ → Operand
-operandIn t x = cond (eqb t 0) (Constant (constantIn x)) (Variable (min x 255))
+operandIn t x = cond (eqb t 0) (Constant (constantIn x)) (cond (eqb t 1) (Variable (min x 255)) (Expression (x / 65_536) (x % 65_536)))
 
 abbrev pub comparisonIn : ℕ → Comparison
 comparisonIn t = cond (eqb t 0) Less (cond (eqb t 1) AtMost (cond (eqb t 2) Greater (cond (eqb t 3) AtLeast (cond (eqb t 4) Equal Different))))
@@ -91,4 +90,4 @@ kindAt rows i = getD rows i nothing .kind
 
 -- the table holds the first `count` rows
 abbrev pub Packed : ℕ → List Row → List (List ℕ) → Type 0
-Packed count rows t = take count (kindsOf (rowsOf t)) ≡ take count (kindsOf rows)
+Packed count rows t = take count (rowsOf t) ≡ take count rows

@@ -1,7 +1,8 @@
 -- What a walk over the rows tells apart, by the view of a row.
+use mathlib.Core.List.{List, []}
 use Prim.Native.Nat.{ℕ, _+_}
 use Rattle.rules.specs.declared.Kind.{Kind}
-use Rattle.rules.specs.Blocks.{Plain, cue, Last, no-step, step-by, View, is-plain, is-pick, is-else, is-end, is-loop, viewOf}
+use Rattle.rules.specs.Blocks.{Plain, cue, Last, no-step, step-by, View, is-plain, is-pick, is-else, is-end, is-loop, viewOf, kindOf}
 use Rattle.table.specs.declared.Shape.{Shape}
 
 -- the four shapes of rows
@@ -12,8 +13,9 @@ shapeBy is-else = Shape.Close
 shapeBy is-end = Shape.Close
 shapeBy (is-loop form test last) = Shape.Loop
 
+-- it does not hang on the text
 abbrev pub shapeOf : Kind → Shape
-shapeOf k = shapeBy (viewOf k)
+shapeOf k = shapeBy (viewOf (kindOf [] k))
 
 -- a body's last row; none gives what is not read
 abbrev pub lastRow : Last → Plain
@@ -28,8 +30,8 @@ plainBy is-else = cue 0
 plainBy is-end = cue 0
 plainBy (is-loop form test last) = lastRow last
 
-abbrev pub plainOf : Kind → Plain
-plainOf k = plainBy (viewOf k)
+abbrev pub plainOf : List ℕ → Kind → Plain
+plainOf text k = plainBy (viewOf (kindOf text k))
 
 -- the row after an else; any other row stays
 abbrev pub pastBy : View → ℕ → ℕ
@@ -40,4 +42,4 @@ pastBy is-end i = i
 pastBy (is-loop form test last) i = i
 
 abbrev pub pastElse : Kind → ℕ → ℕ
-pastElse k i = pastBy (viewOf k) i
+pastElse k i = pastBy (viewOf (kindOf [] k)) i

@@ -1,4 +1,4 @@
-// The numbers that stand in the table for a row's tag, for the two kinds of operand, the comparisons and the changes.
+// The numbers that stand in the table for a row's tag, for the three kinds of operand, the comparisons and the changes.
 pub const END: u32 = 0;
 
 pub const ELSE: u32 = 1;
@@ -20,6 +20,8 @@ pub const FOR: u32 = 8;
 pub const CONSTANT: u32 = 0;
 
 pub const VARIABLE: u32 = 1;
+
+pub const EXPRESSION: u32 = 2;
 
 pub const LESS: u32 = 0;
 

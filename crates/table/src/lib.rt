@@ -9,6 +9,7 @@ use rules::Operand;
 use rules::Row;
 ghost use mathlib.Core.Path.{_≡_};
 ghost use mathlib.Core.Bool.{_&&_};
+ghost use mathlib.Core.List.{List};
 ghost use Prim.Native.Nat.{ℕ, _<_, _≤_, min};
 ghost use lib.Dec.{eqb};
 ghost use lib.ListN.{length, set};
@@ -40,7 +41,10 @@ fn operand(t: u32, x: u32) -> Operand
     if t == codes::CONSTANT {
         return Operand::Constant(constant(x));
     }
-    Operand::Variable(byte(x))
+    if t == codes::VARIABLE {
+        return Operand::Variable(byte(x));
+    }
+    Operand::Expression((x / 65536) as u16, (x % 65536) as u16)
 }
 
 fn comparison(t: u32) -> Comparison
@@ -214,7 +218,7 @@ pub fn past_else(rows: &[[u32; 9]; 256], at: usize) -> usize
 // Does row i assign its variable: a set, a change or a for's step row?
 pub fn assigns(rows: &[[u32; 9]; 256], i: usize) -> bool
     requires { ⌜ i < 256 ⌝ }
-    ensures { λ r. ⌜ ((w : ℕ) → sets w (plainOf (kindAt (rowsOf (now (rows .entry))) i)) ≡ (r && eqb w (variableIn (numbersAt (now (rows .entry)) i)))) ⌝ }
+    ensures { λ r. ⌜ ((text : List ℕ) (w : ℕ) → sets w (plainOf text (kindAt (rowsOf (now (rows .entry))) i)) ≡ (r && eqb w (variableIn (numbersAt (now (rows .entry)) i)))) ⌝ }
 {
     match tag_at(rows, i) {
         Tag::Set => true,
@@ -250,6 +254,10 @@ fn operand_code(x: Operand) -> Code
         Operand::Variable(w) => Code {
             tag: codes::VARIABLE,
             value: w as u32,
+        },
+        Operand::Expression(at, n) => Code {
+            tag: codes::EXPRESSION,
+            value: at as u32 * 65536 + n as u32,
         },
     }
 }

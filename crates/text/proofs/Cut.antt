@@ -3,20 +3,20 @@ use mathlib.Core.Path.{_≡_, refl, sym, ap, _∙_}
 use mathlib.Core.Bool.{Bool, true, false, cond, _&&_}
 use Prim.Native.Nat.{ℕ, zero, suc, min, _≤_, _<_}
 use native.Mathlib.Omega.{arith}
-use lib.Dec.{T, leb, ltb, ltb→lt}
+use lib.Dec.{T, ltb, ltb→lt}
 use lib.IntN.{ℤ, pos, negsuc, natAbs}
 use lib.Signed.{leZ, _≤ℤ_}
-use borrow.Author.Tests.{ltb-true, lt-ltb, leb-true, leb-false}
+use borrow.Author.Tests.{ltb-true, lt-ltb}
 use Rattle.ints.proofs.Parts.{ints, P, N, neg-parts, lone}
-use Rattle.rules.specs.declared.Kind.{Kind}
-use Rattle.rules.specs.declared.Operand.{Operand}
 use Rattle.rules.specs.declared.Change.{Change}
 use Rattle.rules.specs.declared.Name.{Name}
 use Rattle.rules.specs.declared.Word.{Word}
 use Rattle.rules.specs.declared.Word.the-variants.{Missing, Number, Variable, Compares, Keyword, Other}
-use Rattle.rules.specs.declared.RowRead.the-variants.{Read}
 use Rattle.rules.specs.Values.{lowest, highest}
+use Rattle.rules.specs.Blocks.{RowKind}
+use Rattle.rules.specs.Parse.{Parsed}
 use Rattle.rules.specs.File
+use Rattle.rules.specs.File.{Read}
 use Rattle.rules.proofs.Reading.{sooner-yes, number-yes, variable-yes}
 use Rattle.text.specs.Words.{ceiling, cutZ, cut}
 
@@ -139,25 +139,6 @@ pub lowest-below : Below lowest highest
 unfolding lowest
 lowest-below = limits-below lowest (omega ints)
 
--- an operand
-pub cut-operand : (vars : ℕ) (w : Word) → vars ≤ 16 → File.asksOperand vars (cut w) ≡ File.asksOperand vars w
-unfolding cut
-cut-operand vars Missing h = refl
-cut-operand vars (Number z) h = cut-number lowest highest (Number z) lowest-below
-cut-operand vars (Variable v) h = cut-variable vars (Variable v) h
-cut-operand vars (Compares c) h = refl
-cut-operand vars (Keyword n) h = refl
-cut-operand vars Other h = refl
-
-pub cut-operand-of : (vars : ℕ) (w : Word) → vars ≤ 16 → File.asksOperand vars w ≡ 0 → File.operandOf (cut w) ≡ File.operandOf w
-unfolding cut
-cut-operand-of vars Missing h e = refl
-cut-operand-of vars (Number z) h e = ap Operand.Constant (cut-number-of lowest highest (Number z) lowest-below e)
-cut-operand-of vars (Variable v) h e = ap Operand.Variable (cut-variable-of vars (Variable v) h e)
-cut-operand-of vars (Compares c) h e = refl
-cut-operand-of vars (Keyword n) h e = refl
-cut-operand-of vars Other h e = refl
-
 -- an amount
 up-below : (k : ℕ) → Below (pos k) highest
 up-below k = limits-below (pos k) (omega ints)
@@ -210,7 +191,7 @@ cut-step-of (Keyword n) w e = cut-change-of n w e
 cut-step-of Other w e = refl
 
 -- two rows with the same questions, equal where those have yes
-pub checked-same : (q Q : ℕ) (k r : Kind) → q ≡ Q → (Q ≡ 0 → k ≡ r) → File.checked q k ≡ File.checked Q r
+pub checked-same : (q Q : ℕ) (k r : RowKind) → q ≡ Q → (Q ≡ 0 → k ≡ r) → File.checked q k ≡ File.checked Q r
 unfolding File.checked
 checked-same q zero k r e f = rw e (ap Read (f refl))
 checked-same q (suc Q) k r e f = rw e
@@ -250,25 +231,19 @@ module _ (u w : ℕ → Word) (same : (k : ℕ) → k < 8 → u k ≡ cut (w k))
   step-of-at : (k l : ℕ) → T (ltb k 8) → T (ltb l 8) → File.asksStep (w k) (w l) ≡ 0 → File.stepOf (u k) (u l) ≡ File.stepOf (w k) (w l)
   step-of-at k l s t e = ap (λ x. File.stepOf x (u l)) (at k s) ∙ ap (File.stepOf (cut (w k))) (at l t) ∙ cut-step-of (w k) (w l) e
 
-  module _ (vars : ℕ) (few : vars ≤ 16) where
+  module _ (vars : ℕ) (few : vars ≤ 16) (expr : ℕ → Parsed) where
     variable-at : (k : ℕ) → T (ltb k 8) → File.asksVariable vars (u k) ≡ File.asksVariable vars (w k)
     variable-at k t = ap (File.asksVariable vars) (at k t) ∙ cut-variable vars (w k) few
 
     variable-of-at : (k : ℕ) → T (ltb k 8) → File.asksVariable vars (w k) ≡ 0 → File.variableOf (u k) ≡ File.variableOf (w k)
     variable-of-at k t e = ap File.variableOf (at k t) ∙ cut-variable-of vars (w k) few e
 
-    operand-at : (k : ℕ) → T (ltb k 8) → File.asksOperand vars (u k) ≡ File.asksOperand vars (w k)
-    operand-at k t = ap (File.asksOperand vars) (at k t) ∙ cut-operand vars (w k) few
-
-    operand-of-at : (k : ℕ) → T (ltb k 8) → File.asksOperand vars (w k) ≡ 0 → File.operandOf (u k) ≡ File.operandOf (w k)
-    operand-of-at k t e = ap File.operandOf (at k t) ∙ cut-operand-of vars (w k) few e
-
     -- each kind of row
-    bare-cut : (k : Kind) → File.bareRow vars u k ≡ File.bareRow vars w k
+    bare-cut : (k : RowKind) → File.bareRow vars u expr k ≡ File.bareRow vars w expr k
     unfolding File.bareRow
     bare-cut k = checked-same _ _ k k (end-at 1 tt) (λ _. refl)
 
-    move-cut : (n : Name) → File.moveRow vars u n ≡ File.moveRow vars w n
+    move-cut : (n : Name) → File.moveRow vars u expr n ≡ File.moveRow vars w expr n
     unfolding File.moveRow
     move-cut n = checked-same _ _ _ _ (sooner-same (variable-at 1 tt) (sooner-same (change-at n 2 tt) (end-at 3 tt))) λ h.
         let (a, b) = sooner-yes _ _ h in
@@ -277,23 +252,21 @@ module _ (u w : ℕ → Word) (same : (k : ℕ) → k < 8 → u k ≡ cut (w k))
         let x = change-of-at n 2 tt c in
         cc
 
-    test-same : File.asksTest vars u ≡ File.asksTest vars w
+    test-same : File.asksTest vars u expr ≡ File.asksTest vars w expr
     unfolding File.asksTest
-    test-same = sooner-same (variable-at 1 tt) (sooner-same (comparison-at 2 tt) (sooner-same (operand-at 3 tt) (end-at 4 tt)))
+    test-same = sooner-same (variable-at 1 tt) (sooner-same (comparison-at 2 tt) (sooner-same refl (end-at 4 tt)))
 
-    test-of-same : File.asksTest vars w ≡ 0
-        → (File.variableOf (u 1) ≡ File.variableOf (w 1)) × (File.comparisonOf (u 2) ≡ File.comparisonOf (w 2)) × (File.operandOf (u 3) ≡ File.operandOf (w 3))
+    test-of-same : File.asksTest vars w expr ≡ 0
+        → (File.variableOf (u 1) ≡ File.variableOf (w 1)) × (File.comparisonOf (u 2) ≡ File.comparisonOf (w 2))
     unfolding File.asksTest
     test-of-same h =
         let (a, b) = sooner-yes _ _ h in
-        let (_, c) = sooner-yes _ _ b in
-        let (d, _) = sooner-yes _ _ c in
-        (variable-of-at 1 tt a, comparison-of-at 2 tt, operand-of-at 3 tt d)
+        (variable-of-at 1 tt a, comparison-of-at 2 tt)
 
-    for-cut : File.forRow vars u ≡ File.forRow vars w
+    for-cut : File.forRow vars u expr ≡ File.forRow vars w expr
     unfolding File.forRow File.asksFor
     for-cut = checked-same _ _ _ _
-        (sooner-same (variable-at 1 tt) (sooner-same (operand-at 2 tt) (sooner-same (comparison-at 3 tt) (sooner-same (operand-at 4 tt)
+        (sooner-same (variable-at 1 tt) (sooner-same refl (sooner-same (comparison-at 3 tt) (sooner-same refl
         (sooner-same (step-at 5 6 tt tt) (end-at 7 tt)))))) λ h.
         let (a, b) = sooner-yes _ _ h in
         let (c, d) = sooner-yes _ _ b in
@@ -301,19 +274,16 @@ module _ (u w : ℕ → Word) (same : (k : ℕ) → k < 8 → u k ≡ cut (w k))
         let (f, g) = sooner-yes _ _ e in
         let (i, _) = sooner-yes _ _ g in
         let v = variable-of-at 1 tt a in
-        let x = operand-of-at 2 tt c in
         let o = comparison-of-at 3 tt in
-        let y = operand-of-at 4 tt f in
         let s = step-of-at 5 6 tt tt i in
         cc
 
-    named-cut : (n : Name) → File.namedRow vars u n ≡ File.namedRow vars w n
+    named-cut : (n : Name) → File.namedRow vars u expr n ≡ File.namedRow vars w expr n
     unfolding File.setRow File.cueRow File.whileRow File.doRow
-    named-cut Name.Set = checked-same _ _ _ _ (sooner-same (variable-at 1 tt) (sooner-same (operand-at 2 tt) (end-at 3 tt))) λ h.
+    named-cut Name.Set = checked-same _ _ _ _ (sooner-same (variable-at 1 tt) (sooner-same refl (end-at 3 tt))) λ h.
         let (a, b) = sooner-yes _ _ h in
         let (c, _) = sooner-yes _ _ b in
         let v = variable-of-at 1 tt a in
-        let x = operand-of-at 2 tt c in
         cc
     named-cut Name.Add = move-cut Name.Add
     named-cut Name.Sub = move-cut Name.Sub
@@ -323,15 +293,15 @@ module _ (u w : ℕ → Word) (same : (k : ℕ) → k < 8 → u k ≡ cut (w k))
         let b : Below (pos 0) (pos 9_999) = record { low = omega ints; high = omega ints } in
         checked-same _ _ _ _ (sooner-same (number-at 1 tt (pos 0) (pos 9_999) b) (end-at 2 tt)) λ h.
         let (a, _) = sooner-yes _ _ h in
-        ap (λ z. Kind.Cue (natAbs z)) (number-of-at 1 tt (pos 0) (pos 9_999) b a)
-    named-cut Name.Pick = bare-cut Kind.Pick
-    named-cut Name.Else = bare-cut Kind.Else
-    named-cut Name.End = bare-cut Kind.End
-    named-cut Name.While = checked-same _ _ _ _ test-same λ h. let (a, b, c) = test-of-same h in cc
-    named-cut Name.Do = checked-same _ _ _ _ test-same λ h. let (a, b, c) = test-of-same h in cc
+        ap (λ z. RowKind.Cue (natAbs z)) (number-of-at 1 tt (pos 0) (pos 9_999) b a)
+    named-cut Name.Pick = bare-cut RowKind.Pick
+    named-cut Name.Else = bare-cut RowKind.Else
+    named-cut Name.End = bare-cut RowKind.End
+    named-cut Name.While = checked-same _ _ _ _ test-same λ h. let (a, b) = test-of-same h in cc
+    named-cut Name.Do = checked-same _ _ _ _ test-same λ h. let (a, b) = test-of-same h in cc
     named-cut Name.For = for-cut
 
-    first-cut : (x : Word) → File.firstWord vars u (cut x) ≡ File.firstWord vars w x
+    first-cut : (x : Word) → File.firstWord vars u expr (cut x) ≡ File.firstWord vars w expr x
     unfolding cut
     first-cut Missing = refl
     first-cut (Number z) = refl
@@ -341,61 +311,57 @@ module _ (u w : ℕ → Word) (same : (k : ℕ) → k < 8 → u k ≡ cut (w k))
     first-cut Other = refl
 
 -- a row
-pub row-cut : (vars : ℕ) (u w : ℕ → Word) → vars ≤ 16 → ((k : ℕ) → k < 8 → u k ≡ cut (w k)) → File.rowOf vars u ≡ File.rowOf vars w
-unfolding File.rowOf
-row-cut vars u w few same = ap (File.firstWord vars u) (at u w same 0 tt) ∙ first-cut u w same vars few (w 0)
+pub row-cut : (vars : ℕ) (u w : ℕ → Word) (expr : ℕ → Parsed) → vars ≤ 16 → ((k : ℕ) → k < 8 → u k ≡ cut (w k)) → File.wordsRow vars u expr ≡ File.wordsRow vars w expr
+unfolding File.wordsRow
+row-cut vars u w expr few same = ap (File.firstWord vars u expr) (at u w same 0 tt) ∙ first-cut u w same vars few expr (w 0)
 
--- the least of questions that have no
-sooner-suc : (p q : ℕ) → File.sooner (suc p) (suc q) ≡ suc (min p q)
-unfolding File.sooner
-sooner-suc p q = go (leb p q) refl
+-- the questions of a range: 3, 4, or all have yes
+data Early : ℕ → Type 0 where
+  none : Early 0
+  three : Early 3
+  four : Early 4
+
+early-number : (lo hi : ℤ) (w : Word) → Early (File.asksNumber lo hi w)
+early-number lo hi Missing = three
+early-number lo hi (Number z) = go (leZ lo z && leZ z hi)
   where
-    go : (b : Bool) → leb p q ≡ b → cond b (suc p) (suc q) ≡ suc (min p q)
-    go true e = let l = leb-true p q e in omega arith
-    go false e = let l = leb-false p q e in omega arith
+    go : (b : Bool) → Early (cond b 0 4)
+    go true = none
+    go false = four
+early-number lo hi (Variable v) = three
+early-number lo hi (Compares c) = three
+early-number lo hi (Keyword n) = three
+early-number lo hi Other = three
 
-sooner-assoc : (p q r : ℕ) → File.sooner p (File.sooner q r) ≡ File.sooner (File.sooner p q) r
+early-end : (w : Word) → Early (File.asksEnd w)
+early-end Missing = none
+early-end (Number z) = three
+early-end (Variable v) = three
+early-end (Compares c) = three
+early-end (Keyword n) = three
+early-end Other = three
+
+-- after a no, the question 4 of the order counts no more
+after-no : (p : ℕ) → Early (suc p) → (b : Bool) → File.sooner (suc p) (cond b 0 4) ≡ suc p
+unfolding File.sooner File.turnOf
+after-no p three true = refl
+after-no p three false = refl
+after-no p four true = refl
+after-no p four false = refl
+
+same-no : (p : ℕ) → Early (suc p) → (s t : Bool) → File.sooner (suc p) (cond s 0 4) ≡ File.sooner (suc p) (cond t 0 4)
+same-no p h s t = after-no p h s ∙ sym (after-no p h t)
+
+order-same : {a b e : ℕ} → Early e → Early b → Early a → (s t : Bool) → (a ≡ 0 → b ≡ 0 → s ≡ t)
+    → File.sooner a (File.sooner b (File.sooner e (cond s 0 4))) ≡ File.sooner a (File.sooner b (File.sooner e (cond t 0 4)))
 unfolding File.sooner
-sooner-assoc zero q r = refl
-sooner-assoc (suc p) zero r = refl
-sooner-assoc (suc p) (suc q) zero = rw (sooner-suc p q)
-sooner-assoc (suc p) (suc q) (suc r) = simp sooner-suc (omega arith)
-
-sooner-most : (p q m : ℕ) → p ≤ m → q ≤ m → File.sooner p q ≤ m
-unfolding File.sooner
-sooner-most zero q m h k = k
-sooner-most (suc p) zero m h k = h
-sooner-most (suc p) (suc q) m h k = rw (sooner-suc p q) (omega arith)
-
--- a question of number 4 after those that are at most 4 counts only if they all have yes
-last-same : (n : ℕ) (s t : Bool) → n ≤ 4 → (n ≡ 0 → s ≡ t) → File.sooner n (cond s 0 4) ≡ File.sooner n (cond t 0 4)
-unfolding File.sooner
-last-same zero s t h f = ap (λ b. File.sooner 0 (cond b 0 4)) (f refl)
-last-same (suc n) s t h f = least s ∙ sym (least t)
-  where
-    least : (b : Bool) → File.sooner (suc n) (cond b 0 4) ≡ suc n
-    least true = refl
-    least false = sooner-suc n 3 ∙ omega arith
-
-number-most : (lo hi : ℤ) (w : Word) → File.asksNumber lo hi w ≤ 4
-number-most lo hi Missing = omega arith
-number-most lo hi (Number z) = go (leZ lo z && leZ z hi)
-  where
-    go : (b : Bool) → cond b 0 4 ≤ 4
-    go true = omega arith
-    go false = omega arith
-number-most lo hi (Variable v) = omega arith
-number-most lo hi (Compares c) = omega arith
-number-most lo hi (Keyword n) = omega arith
-number-most lo hi Other = omega arith
-
-end-most : (w : Word) → File.asksEnd w ≤ 4
-end-most Missing = omega arith
-end-most (Number z) = omega arith
-end-most (Variable v) = omega arith
-end-most (Compares c) = omega arith
-end-most (Keyword n) = omega arith
-end-most Other = omega arith
+order-same none none none s t f = rw (f refl refl)
+order-same none none three s t f = same-no 2 three s t
+order-same none none four s t f = same-no 3 four s t
+order-same {a} none three h s t f = ap (File.sooner a) (same-no 2 three s t)
+order-same {a} none four h s t f = ap (File.sooner a) (same-no 3 four s t)
+order-same {a} {b} three g h s t f = ap (λ n. File.sooner a (File.sooner b n)) (same-no 2 three s t)
+order-same {a} {b} four g h s t f = ap (λ n. File.sooner a (File.sooner b n)) (same-no 3 four s t)
 
 -- a range
 pub range-of-cut : (u w : ℕ → Word) → ((k : ℕ) → k < 8 → u k ≡ cut (w k)) → File.asksRange w ≡ 0 → File.rangeOf u ≡ File.rangeOf w
@@ -407,28 +373,14 @@ range-of-cut u w same h =
     let k = number-of-at u w same 1 tt lowest highest lowest-below c in
     cc
 
--- its questions but for the order, and the order's test
-abbrev asksEnds : (ℕ → Word) → ℕ
-asksEnds w = File.sooner (File.asksNumber lowest highest (w 0)) (File.sooner (File.asksNumber lowest highest (w 1)) (File.asksEnd (w 2)))
-
-abbrev inOrder : (ℕ → Word) → Bool
-inOrder w = leZ (File.numberOf (w 0)) (File.numberOf (w 1))
-
-range-parts : (w : ℕ → Word) → File.asksRange w ≡ File.sooner (asksEnds w) (cond (inOrder w) 0 4)
-unfolding File.asksRange File.asksOrder
-range-parts w = simp sooner-assoc
-
 pub range-cut : (u w : ℕ → Word) → ((k : ℕ) → k < 8 → u k ≡ cut (w k)) → File.asksRange u ≡ File.asksRange w
+unfolding File.asksRange File.asksOrder
 range-cut u w same =
     let number : (k : ℕ) → T (ltb k 8) → File.asksNumber lowest highest (u k) ≡ File.asksNumber lowest highest (w k) =
     λ k t. number-at u w same k t lowest highest lowest-below in
-    let ends : asksEnds u ≡ asksEnds w = sooner-same (number 0 tt) (sooner-same (number 1 tt) (end-at u w same 2 tt)) in
-    let most : asksEnds w ≤ 4 =
-    sooner-most _ _ 4 (number-most lowest highest (w 0)) (sooner-most _ _ 4 (number-most lowest highest (w 1)) (end-most (w 2))) in
-    let order : asksEnds w ≡ 0 → inOrder u ≡ inOrder w = λ h.
-    let (a, b) = sooner-yes _ _ h in
-    let (c, _) = sooner-yes _ _ b in
+    let order : File.asksNumber lowest highest (w 0) ≡ 0 → File.asksNumber lowest highest (w 1) ≡ 0 → leZ (File.numberOf (u 0)) (File.numberOf (u 1)) ≡ leZ (File.numberOf (w 0)) (File.numberOf (w 1)) = λ a c.
     let l = number-of-at u w same 0 tt lowest highest lowest-below a in
     let k = number-of-at u w same 1 tt lowest highest lowest-below c in
     cc in
-    range-parts u ∙ ap (λ n. File.sooner n (cond (inOrder u) 0 4)) ends ∙ last-same (asksEnds w) (inOrder u) (inOrder w) most order ∙ sym (range-parts w)
+    sooner-same (number 0 tt) (sooner-same (number 1 tt) (sooner-same (end-at u w same 2 tt) refl))
+    ∙ order-same (early-end (w 2)) (early-number lowest highest (w 1)) (early-number lowest highest (w 0)) _ _ order

@@ -2,7 +2,7 @@
 use mathlib.Core.Path.{_≡_, refl, sym, ap, _∙_}
 use mathlib.Core.Bool.{Bool, true, false, cond}
 use mathlib.Core.List.{List, [], _∷_}
-use Prim.Native.Nat.{ℕ, zero, suc, _+_, _≤_, _<_}
+use Prim.Native.Nat.{ℕ, zero, suc, _+_, _-_, _≤_, _<_}
 use native.Mathlib.Omega.{arith}
 use native.Mathlib.Numerals.{add-one}
 use lib.ListN.{length, getD, take, drop, length-drop}
@@ -18,7 +18,7 @@ use Rattle.rules.specs.declared.Word.the-variants.{Missing}
 use Rattle.rules.specs.Text.{prefixed, split, comparisonWord, blockWord, plainWord, wordOf, wordsOf}
 use Rattle.rules.specs.File.{asksEnd}
 use Rattle.text.proofs.Cut.{cut-end}
-use Rattle.text.specs.Words.{before, stops, stop, front, cut, Ends, parts, following, wordIn, Next, Reads}
+use Rattle.text.specs.Words.{before, stops, stop, front, cut, Ends, parts, following, spelling, wordIn, Next, Reads}
 use Rattle.text.specs.declared.Found.{Found}
 
 -- a line's words: the word at the front, and those after the byte that ends it
@@ -58,11 +58,17 @@ no-more : (b : ℕ) (s : List ℕ) → b ≡ 10 → (k : ℕ) → following (b �
 unfolding following parts wordsOf
 no-more b s e k = rw (eq-eqb b 10 e)
 
+no-text : (b : ℕ) (s : List ℕ) → b ≡ 10 → (k : ℕ) → spelling (b ∷ s) k ≡ []
+unfolding spelling parts
+no-text b s e k = rw (eq-eqb b 10 e)
+
 pub next-none : (s : List ℕ) (at : ℕ) → Ends (drop at s) → at < length s → getD s at 0 ≡ 10 → Next s at (record { tag = 19; value = pos 0; end = at })
 unfolding cut wordIn
 next-none s at h l e = record {
   word = rw (drop-cons s at 0 l, no-more (getD s at 0) (drop (suc at) s) e 0);
+  text = let z : at - (at + 1) ≡ 0 = omega arith in rw (drop-cons s at 0 l, no-text (getD s at 0) (drop (suc at) s) e 0, z);
   more = λ k. rw (drop-cons s at 0 l, no-more (getD s at 0) (drop (suc at) s) e (suc k), no-more (getD s at 0) (drop (suc at) s) e k);
+  texts = λ k. rw (drop-cons s at 0 l, no-text (getD s at 0) (drop (suc at) s) e (suc k), no-text (getD s at 0) (drop (suc at) s) e k);
   line = refl;
   ends = h;
 }
@@ -82,6 +88,14 @@ module _ (b : ℕ) (t : List ℕ) (n : b ≡ 10 → ⊥) (h : Ends (b ∷ t)) wh
   unfolding following wordsOf
   more-words k = rw (after-words b t n, cuts t (after-some b t n h) .words)
 
+  first-text : spelling (b ∷ t) 0 ≡ front t
+  unfolding spelling
+  first-text = rw (after-words b t n, cuts t (after-some b t n h) .words)
+
+  more-texts : (k : ℕ) → spelling (b ∷ t) (suc k) ≡ spelling (drop (stop t) t) k
+  unfolding spelling
+  more-texts k = rw (after-words b t n, cuts t (after-some b t n h) .words)
+
 -- a word of n bytes after the byte `at`
 module _ (s : List ℕ) (at : ℕ) (t : ℕ) (z : ℤ) (n : ℕ) (h : Ends (drop at s)) (other : getD s at 0 ≡ 10 → ⊥) (r : Reads (drop (at + 1) s) (record { tag = t; value = z; end = n })) where
   head : drop at s ≡ getD s at 0 ∷ drop (at + 1) s
@@ -93,6 +107,12 @@ module _ (s : List ℕ) (at : ℕ) (t : ℕ) (z : ℤ) (n : ℕ) (h : Ends (drop
   some : Ends (getD s at 0 ∷ drop (at + 1) s)
   some = rw head at h
 
+  text-of : spelling (drop at s) 0 ≡ take (at + 1 + n - (at + 1)) (drop (at + 1) s)
+  unfolding front
+  text-of =
+      let e : at + 1 + n - (at + 1) ≡ stop (drop (at + 1) s) = omega (arith, r .end) in
+      ap (λ (l : List ℕ). spelling l 0) head ∙ first-text _ _ other some ∙ ap (λ m. take m (drop (at + 1) s)) (sym e)
+
   pub next-some : Next s at (record { tag = t; value = z; end = at + 1 + n })
   next-some =
       let c = cuts (drop (at + 1) s) (after-some _ _ other some) in
@@ -100,6 +120,8 @@ module _ (s : List ℕ) (at : ℕ) (t : ℕ) (z : ℤ) (n : ℕ) (h : Ends (drop
       let f : before 10 (drop (at + 1 + n) s) ≡ before 10 (drop (stop (drop (at + 1) s)) (drop (at + 1) s)) = ap (before 10) after in
       record {
         word = r .word ∙ ap cut (sym (ap (λ (l : List ℕ). following l 0) head ∙ first-word _ _ other some));
+        text = text-of;
+        texts = λ k. ap (λ (l : List ℕ). spelling l (suc k)) head ∙ more-texts _ _ other some k ∙ ap (λ (l : List ℕ). spelling l k) (sym after);
         more = λ k. ap (λ (l : List ℕ). following l (suc k)) head ∙ more-words _ _ other some k ∙ ap (λ (l : List ℕ). following l k) (sym after);
         line = omega (arith, e, f, c .line, r .end);
         ends = rw after (c .ends);
@@ -146,11 +168,12 @@ says-word r w (f, e) = rw (toZ-ofZ f) at e
 -- ---- m words of a line are read, and the others begin after the byte p
 pub record Reached (s : List ℕ) (at m p : ℕ) : Type 0 where
   pub more : (k : ℕ) → following (drop at s) (m + k) ≡ following (drop p s) k
+  pub texts : (k : ℕ) → spelling (drop at s) (m + k) ≡ spelling (drop p s) k
   pub line : p + before 10 (drop p s) ≡ at + before 10 (drop at s)
   pub ends : Ends (drop p s)
 
 pub reach-none : (s : List ℕ) (at : ℕ) → Ends (drop at s) → Reached s at 0 at
-reach-none s at h = record { more = λ k. ap (following (drop at s)) (omega arith); line = refl; ends = h }
+reach-none s at h = record { more = λ k. ap (following (drop at s)) (omega arith); texts = λ k. ap (spelling (drop at s)) (omega arith); line = refl; ends = h }
 
 module _ (s : List ℕ) (at m p : ℕ) (h : Reached s at m p) where
   here : following (drop at s) m ≡ following (drop p s) 0
@@ -159,12 +182,17 @@ module _ (s : List ℕ) (at m p : ℕ) (h : Reached s at m p) where
   pub reach-more : (r : Found) → Next s p r → Reached s at (suc m) (r .end)
   reach-more r n = record {
     more = λ k. ap (following (drop at s)) (let e : suc m + k ≡ m + suc k = omega arith in e) ∙ h .more (suc k) ∙ n .more k;
+    texts = λ k. ap (spelling (drop at s)) (let e : suc m + k ≡ m + suc k = omega arith in e) ∙ h .texts (suc k) ∙ n .texts k;
     line = n .line ∙ h .line;
     ends = n .ends;
   }
 
   pub reach-word : (r : Found) → Next s p r → (w : Word) → Says r w → (w ≡ cut (following (drop at s) m)) × Reached s at (suc m) (r .end)
   reach-word r n w e = (says-word r w e ∙ n .word ∙ ap cut (sym here), reach-more r n)
+
+  -- its text stands after the byte p
+  pub reach-text : (r : Found) → Next s p r → spelling (drop at s) m ≡ take (r .end - (p + 1)) (drop (p + 1) s)
+  reach-text r n = ap (spelling (drop at s)) (let e : m ≡ m + 0 = omega arith in e) ∙ h .texts 0 ∙ n .text
 
   pub reach-last : asksEnd (following (drop p s) 0) ≡ asksEnd (cut (following (drop at s) m))
   reach-last = ap asksEnd (sym here) ∙ sym (cut-end (following (drop at s) m))

@@ -2,9 +2,9 @@
 use mathlib.Core.Bool.{Bool, true, cond}
 use mathlib.Core.List.{List, [], _∷_}
 use mathlib.Core.Path.{_≡_}
-use Prim.Native.Nat.{ℕ, zero, suc, min, _+_, _*_, _<_}
+use Prim.Native.Nat.{ℕ, zero, suc, min, _+_, _*_, _-_, _<_}
 use lib.Dec.{eqb}
-use lib.ListN.{length, take, drop}
+use lib.ListN.{length, getD, take, drop}
 use lib.IntN.{ℤ, pos, negsuc, negℤ}
 use Rattle.rules.specs.declared.Comparison.the-variants.{Less, AtMost, Greater, AtLeast, Equal, Different}
 use Rattle.rules.specs.declared.Name.{Name}
@@ -133,9 +133,15 @@ parts (b ∷ s) = cond (eqb b 10) [] (split 32 (take (before 10 s) s))
 unfoldable pub following : List ℕ → ℕ → Word
 following s = wordsOf (parts s)
 
+-- the text of each; past the last one, an empty text
+unfoldable pub spelling : List ℕ → ℕ → List ℕ
+spelling s k = getD (parts s) k []
+
 -- one word of a line is read, and the others begin after the byte `end`
 pub record Next (s : List ℕ) (at : ℕ) (r : Found) : Type 0 where
   pub word : wordIn (r .tag) (r .value) ≡ cut (following (drop at s) 0)
+  pub text : spelling (drop at s) 0 ≡ take (r .end - (at + 1)) (drop (at + 1) s)
   pub more : (k : ℕ) → following (drop at s) (suc k) ≡ following (drop (r .end) s) k
+  pub texts : (k : ℕ) → spelling (drop at s) (suc k) ≡ spelling (drop (r .end) s) k
   pub line : r .end + before 10 (drop (r .end) s) ≡ at + before 10 (drop at s)
   pub ends : Ends (drop (r .end) s)

@@ -12,7 +12,7 @@ use borrow.Author.Tests.{leb-true, leb-false, lt-ltb, le-ltb, le-leb, lt-leb}
 use lib.Dec.{leb}
 use Rattle.rules.specs.declared.Kind.{Kind}
 use Rattle.rules.specs.declared.Kind.the-variants.{Set, Move, Cue, Pick, Else, End, While, Do, For}
-use Rattle.rules.specs.Blocks.{Form, while, do-while, for, viewOf}
+use Rattle.rules.specs.Blocks.{Form, while, do-while, for, viewOf, kindOf}
 use Rattle.rules.specs.Bounds.{FinePrices}
 use Rattle.rules.specs.declared.Prices.{Prices}
 use Rattle.rules.specs.Figures.{loopTicks}
@@ -54,17 +54,17 @@ loop-ticks-is π (for x) n b = omega arith
 abbrev one-test : List ℕ
 one-test = 0 ∷ 1 ∷ 2 ∷ 3 ∷ 4 ∷ 5 ∷ 6 ∷ []
 
-pub once-one : (π : Prices) (k : Kind) → OneOf one-test (tagOf the-type k) → π .test ≡ once π (formOf k)
-unfolding headOf viewOf
-once-one π (Set v x) o = refl
-once-one π (Move v c) o = refl
-once-one π (Cue n) o = refl
-once-one π Pick o = refl
-once-one π Else o = refl
-once-one π End o = refl
-once-one π (While v c x) o = refl
-once-one π (Do v c x) o = absurd (miss one-test 7 tt o)
-once-one π (For v s c x d) o = absurd (miss one-test 8 tt o)
+pub once-one : (π : Prices) (text : List ℕ) (k : Kind) → OneOf one-test (tagOf the-type k) → π .test ≡ once π (formOf text k)
+unfolding headOf viewOf kindOf
+once-one π text (Set v x) o = refl
+once-one π text (Move v c) o = refl
+once-one π text (Cue n) o = refl
+once-one π text Pick o = refl
+once-one π text Else o = refl
+once-one π text End o = refl
+once-one π text (While v c x) o = refl
+once-one π text (Do v c x) o = absurd (miss one-test 7 tt o)
+once-one π text (For v s c x d) o = absurd (miss one-test 8 tt o)
 
 pub once-small : {π : Prices} → FinePrices π → (form : Form) → once π form ≤ 2_000
 once-small fine while = omega arith

@@ -2,6 +2,7 @@
 use rules::Kind;
 use rules::Prices;
 ghost use mathlib.Core.Path.{_≡_};
+ghost use mathlib.Core.List.{List};
 ghost use Prim.Native.Nat.{ℕ, _+_, _*_, _≤_, _<_};
 ghost use Rattle.rules.specs.Bounds.{FinePrices};
 ghost use Rattle.rules.specs.Figures.{loopTicks};
@@ -32,7 +33,7 @@ pub fn times(n: u64, b: u64) -> u64
 // What an entry takes beside its turns: a while its last test, a for its start too, a do nothing.
 fn besides(kind: Kind, prices: Prices) -> u64
     requires { ⌜ FinePrices prices ⌝ }
-    ensures { λ r. ⌜ r ≡ once prices (formOf kind) ⌝ }
+    ensures { λ r. ⌜ ((text : List ℕ) → r ≡ once prices (formOf text kind)) ⌝ }
 {
     match kind {
         Kind::Do(_, _, _) => 0,
@@ -44,7 +45,7 @@ fn besides(kind: Kind, prices: Prices) -> u64
 // The ticks of a loop of n turns, b those of its body.
 pub fn loop_ticks(kind: Kind, prices: Prices, n: u64, b: u64) -> u64
     requires { ⌜ FinePrices prices × (b ≤ 1_000_000_000_001) ⌝ }
-    ensures { λ r. ⌜ ((B : ℕ) → b ≡ capped B → r ≡ capped (loopTicks prices (formOf kind) n B)) ⌝ }
+    ensures { λ r. ⌜ ((text : List ℕ) (B : ℕ) → b ≡ capped B → r ≡ capped (loopTicks prices (formOf text kind) n B)) ⌝ }
 {
     let all = times(n, plus(b, prices.test));
     plus(all, besides(kind, prices))

@@ -1,12 +1,12 @@
 -- A way and a trip from its parts are those of the rules.
 use mathlib.Core.Path.{_≡_, refl, sym, ap, _∙_}
 use mathlib.Core.Bool.{Bool, true, false, not, cond, _&&_}
-use Prim.Native.Nat.{ℕ}
+use Prim.Native.Nat.{ℕ, _+_, _-_}
 use native.Mathlib.Omega.{arith}
 use lib.Dec.{eqb}
 use lib.IntN.{ℤ}
-use Rattle.rules.specs.declared.Operand.{Operand}
-use Rattle.rules.specs.declared.Operand.the-variants.{Constant, Variable}
+use Rattle.rules.specs.Expressions.{Expr, constant, variable, group, apply}
+use Rattle.rules.specs.Written.{Composed}
 use Rattle.rules.specs.declared.Comparison.{Comparison}
 use Rattle.rules.specs.declared.Step.{Step}
 use Rattle.rules.specs.declared.Step.the-variants.{Unknown}
@@ -22,6 +22,10 @@ use Rattle.rules.proofs.Sole.{known-limit}
 use Rattle.trips.specs.declared.Way.{Way}
 use Rattle.trips.specs.Found.{ownFrom, copyFrom, chaseFrom, wayIs, WayStep, tripFrom}
 
+-- the length of a word from its two ends
+pub width : (a n : ℕ) → a + n - a ≡ n
+width a n = omega arith
+
 never : (a b c : Bool) (x y : trips.Way) → y ≡ cond (a && (b && (c && false))) x y
 never true true true x y = refl
 never true true false x y = refl
@@ -30,10 +34,12 @@ never false b c x y = refl
 
 module _ (form : Form) (test : Test) (body : Block) where
   -- a tested variable that has no step of its own does not chase its limit
-  unknown-limit : step (test .tested) body ≡ Unknown → (o : Operand) → own ≡ limitWay test body o
+  unknown-limit : step (test .tested) body ≡ Unknown → (o : Expr) → own ≡ limitWay test body o
   unfolding limitWay isAdd
-  unknown-limit u (Constant k) = refl
-  unknown-limit u (Variable w) = rw u (never (not (eqb w (test .tested))) (assigns w body) (isAdd (step w body)) (chase w) own)
+  unknown-limit u (constant k) = refl
+  unknown-limit u (group e) = refl
+  unknown-limit u (apply o d e) = refl
+  unknown-limit u (variable w) = rw u (never (not (eqb w (test .tested))) (assigns w body) (isAdd (step w body)) (chase w) own)
 
   -- a for goes its own way then
   pub for-way : step (test .tested) body ≡ Unknown → isFor form ≡ true → (so : Sole) → own ≡ soleWay form test body so
@@ -46,11 +52,22 @@ module _ (form : Form) (test : Test) (body : Block) where
   other-way u = unknown-limit u (test .limit)
 
   -- by a limit that is a constant, or a variable that the body assigns; p: it is the tested one, q: both steps and the comparison fit
-  pub constant-way : known (step (test .tested) body) ≡ true → {k : ℤ} → test .limit ≡ Constant k → own ≡ wayOf form test body
+  pub constant-way : known (step (test .tested) body) ≡ true → {k : ℤ} → test .limit ≡ constant k → own ≡ wayOf form test body
   unfolding limitWay
   constant-way k e = ap (limitWay test body) (sym e) ∙ known-limit form test body k
 
-  pub chase-way : known (step (test .tested) body) ≡ true → {w : ℕ} → test .limit ≡ Variable w → assigns w body ≡ true → {p q : Bool} → p ≡ eqb w (test .tested)
+  -- an expression that is neither
+  composed-limit : (e : Expr) → Composed e → own ≡ limitWay test body e
+  unfolding limitWay Composed
+  composed-limit (constant k) h = refl
+  composed-limit (variable w) h = absurd h
+  composed-limit (group e) h = refl
+  composed-limit (apply o d e) h = refl
+
+  pub composed-way : known (step (test .tested) body) ≡ true → {e : Expr} → e ≡ test .limit → Composed e → own ≡ wayOf form test body
+  composed-way k {e} q h = composed-limit e h ∙ ap (limitWay test body) q ∙ known-limit form test body k
+
+  pub chase-way : known (step (test .tested) body) ≡ true → {w : ℕ} → test .limit ≡ variable w → assigns w body ≡ true → {p q : Bool} → p ≡ eqb w (test .tested)
       → q ≡ (isAdd (step w body) && (isAdd (step (test .tested) body) && ordered (sort (test .comparison)))) → cond (not p && q) (chase w) own ≡ wayOf form test body
   unfolding limitWay
   chase-way k {w} e a s d = (λ j. cond (not (s j) && (sym a j && d j)) (chase w) own) ∙ ap (limitWay test body) (sym e) ∙ known-limit form test body k

@@ -5,6 +5,8 @@ use Prim.Native.Nat.{ℕ, _<_}
 use lib.IntN.{ℤ, pos}
 use lib.ListN.{getD}
 use Rattle.rules.specs.declared.Kind.{Kind}
+use Rattle.rules.specs.Blocks.{exprOf}
+use Rattle.rules.specs.Written.{WrittenOperand, Written}
 use Rattle.rules.specs.Bounds.{FineOperand}
 use Rattle.rules.specs.Ranges.{Range, Env}
 use Rattle.steps.specs.Tree.{testOf}
@@ -25,9 +27,10 @@ abbrev pub rangeOf : Span → Range
 rangeOf s = record { lo = s .lo; hi = s .hi }
 
 -- the parts of a loop's test
-pub record HeadOf (k : Kind) (h : Head) : Type 0 where
-  pub tested : h .tested ≡ testOf k .tested
-  pub comparison : h .comparison ≡ testOf k .comparison
-  pub limit : h .limit ≡ testOf k .limit
+pub record HeadOf (text : List ℕ) (k : Kind) (h : Head) : Type 0 where
+  pub tested : h .tested ≡ testOf text k .tested
+  pub comparison : h .comparison ≡ testOf text k .comparison
+  pub limit : exprOf text (h .limit) ≡ testOf text k .limit
   pub small : h .tested < 16
   pub fine : FineOperand (h .limit)
+  pub written : Written text k → WrittenOperand text (h .limit)

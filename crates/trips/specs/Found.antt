@@ -6,7 +6,7 @@ use Prim.Native.Nat.{ℕ, _<_}
 use lib.IntN.{pos, _-ℤ_}
 use Rattle.rules.specs.declared.Row.{Row}
 use Rattle.rules.specs.declared.Step.{Step}
-use Rattle.rules.specs.declared.Operand.the-variants.{Variable}
+use Rattle.rules.specs.Expressions.{variable}
 use Rattle.rules.specs.declared.Comparison.{Comparison}
 use Rattle.rules.specs.Blocks.{Block}
 use Rattle.rules.specs.Steps.{assigns, step, isAdd, moving, difference}
@@ -132,52 +132,52 @@ tripFrom (Way.Copied w ahead moved) ρ late st c s n keep = copyFrom late moved 
 tripFrom (Way.Chase w apart) ρ late st c s n keep = chaseFrom late apart c s (ρ w)
 
 -- the way of a loop at row i whose tested variable's only row copies w
-pub record CopiedAt (rows : List Row) (count i : ℕ) (c : Comparison) (w : ℕ) (before after : Bool) (r : Way) : Type 0 where
-  pub value : let st = step w (bodyAt rows count i) in wayIs r ≡ cond (not (before && after) && (isAdd st && (moving st && ordered (sort c)))) (copied w before) own
+pub record CopiedAt (text : List ℕ) (rows : List Row) (count i : ℕ) (c : Comparison) (w : ℕ) (before after : Bool) (r : Way) : Type 0 where
+  pub value : let st = step w (bodyAt text rows count i) in wayIs r ≡ cond (not (before && after) && (isAdd st && (moving st && ordered (sort c)))) (copied w before) own
   pub small : SmallWay r
-  pub moves : WayStep (testOf (kindAt rows i) .tested) (bodyAt rows count i) r
+  pub moves : WayStep (testOf text (kindAt rows i) .tested) (bodyAt text rows count i) r
 
 -- the own step of the tested variable of the loop at row i
-abbrev pub ownStep : List Row → ℕ → ℕ → Step
-ownStep rows count i = step (testOf (kindAt rows i) .tested) (bodyAt rows count i)
+abbrev pub ownStep : List ℕ → List Row → ℕ → ℕ → Step
+ownStep text rows count i = step (testOf text (kindAt rows i) .tested) (bodyAt text rows count i)
 
 -- the way of the loop at row i
-pub record WayAt (rows : List Row) (count i : ℕ) (r : Way) : Type 0 where
-  pub value : wayIs r ≡ wayOf (formOf (kindAt rows i)) (testOf (kindAt rows i)) (bodyAt rows count i)
+pub record WayAt (text : List ℕ) (rows : List Row) (count i : ℕ) (r : Way) : Type 0 where
+  pub value : wayIs r ≡ wayOf (formOf text (kindAt rows i)) (testOf text (kindAt rows i)) (bodyAt text rows count i)
   pub small : SmallWay r
-  pub moves : WayStep (testOf (kindAt rows i) .tested) (bodyAt rows count i) r
+  pub moves : WayStep (testOf text (kindAt rows i) .tested) (bodyAt text rows count i) r
 
 -- its limit is the variable w, which the body assigns; st: the tested variable's own step, which is known
-pub record ChaseAt (rows : List Row) (count i : ℕ) (h : Head) (st : Step) (w : ℕ) : Type 0 where
-  pub loop : AtLoop rows count i
-  pub head : HeadOf (kindAt rows i) h
-  pub own : st ≡ ownStep rows count i
+pub record ChaseAt (text : List ℕ) (rows : List Row) (count i : ℕ) (h : Head) (st : Step) (w : ℕ) : Type 0 where
+  pub loop : AtLoop text rows count i
+  pub head : HeadOf text (kindAt rows i) h
+  pub own : st ≡ ownStep text rows count i
   pub near : Ends 256 st
   pub sure : known st ≡ true
   pub small : w < 16
-  pub limit : testOf (kindAt rows i) .limit ≡ Variable w
-  pub changed : assigns w (bodyAt rows count i) ≡ true
+  pub limit : testOf text (kindAt rows i) .limit ≡ variable w
+  pub changed : assigns w (bodyAt text rows count i) ≡ true
 
 -- question 10 has no; st as before
-pub record LimitAt (rows : List Row) (count i : ℕ) (st : Step) : Type 0 where
-  pub loop : AtLoop rows count i
-  pub own : st ≡ ownStep rows count i
+pub record LimitAt (text : List ℕ) (rows : List Row) (count i : ℕ) (st : Step) : Type 0 where
+  pub loop : AtLoop text rows count i
+  pub own : st ≡ ownStep text rows count i
   pub near : Ends 256 st
   pub sure : known st ≡ true
-  pub changed : keeps (testOf (kindAt rows i) .limit) (bodyAt rows count i) ≡ false
+  pub changed : keeps (testOf text (kindAt rows i) .limit) (bodyAt text rows count i) ≡ false
 
 -- st the tested variable's own step, kept question 10's answer
-pub record WayFrom (rows : List Row) (count i : ℕ) (st : Step) (kept : Bool) : Type 0 where
-  pub loop : AtLoop rows count i
-  pub own : st ≡ ownStep rows count i
+pub record WayFrom (text : List ℕ) (rows : List Row) (count i : ℕ) (st : Step) (kept : Bool) : Type 0 where
+  pub loop : AtLoop text rows count i
+  pub own : st ≡ ownStep text rows count i
   pub near : Ends 256 st
-  pub limit : kept ≡ keeps (testOf (kindAt rows i) .limit) (bodyAt rows count i)
+  pub limit : kept ≡ keeps (testOf text (kindAt rows i) .limit) (bodyAt text rows count i)
 
 -- the loop at row i, ρ the ranges at its start
-pub record LoopAt (rows : List Row) (count i : ℕ) (ρ : Env) (r : Loop) : Type 0 where
-  pub trip : tripOf (r .trip) ≡ trip (formOf (kindAt rows i)) ρ (testOf (kindAt rows i)) (bodyAt rows count i)
-  pub tested : r .tested ≡ testOf (kindAt rows i) .tested
+pub record LoopAt (text : List ℕ) (rows : List Row) (count i : ℕ) (ρ : Env) (r : Loop) : Type 0 where
+  pub trip : tripOf (r .trip) ≡ trip (formOf text (kindAt rows i)) ρ (testOf text (kindAt rows i)) (bodyAt text rows count i)
+  pub tested : r .tested ≡ testOf text (kindAt rows i) .tested
   pub small : r .tested < 16
-  pub sets : (w : ℕ) → setOf (r .set) w ≡ assigns w (bodyAt rows count i)
+  pub sets : (w : ℕ) → setOf (r .set) w ≡ assigns w (bodyAt text rows count i)
   pub near : Ends 512 (r .trip .step)
-  pub ends : EndsAt rows count i (r .next)
+  pub ends : EndsAt text rows count i (r .next)

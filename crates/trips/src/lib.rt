@@ -1,4 +1,6 @@
 // What is stepped and tested at a loop: its trip, found once from its rows and the ranges at its start.
+use expressions::bounds_in;
+use expressions::keeps_in;
 use rules::Comparison;
 use rules::Kind;
 use rules::Operand;
@@ -10,8 +12,12 @@ use steps::sole_of;
 use table::kind_at;
 ghost use mathlib.Core.Path.{_≡_};
 ghost use mathlib.Core.Bool.{not, cond, _&&_};
+ghost use mathlib.Core.List.{List};
 ghost use Prim.Native.Nat.{ℕ, _<_};
-ghost use Rattle.rules.specs.Blocks.{Block};
+ghost use lib.ListN.{length, take, drop};
+ghost use Rattle.rules.specs.Parse.{parse, exprIn};
+ghost use Rattle.rules.specs.Blocks.{Block, exprOf};
+ghost use Rattle.rules.specs.Written.{InText, WrittenOperand};
 ghost use Rattle.rules.specs.Steps.{assigns, isAdd, moving, difference};
 ghost use Rattle.rules.specs.Questions.{known};
 ghost use Rattle.rules.specs.Ranges.{bounds, isDo, isFor, single, sort, ordered};
@@ -42,14 +48,26 @@ pub fn span_at(r: &[[i32; 2]; 16], v: u8) -> Span
     }
 }
 
+// The range of an expression, by its place and length.
+fn word_bounds(text: &[u8], at: u16, n: u16, r: &[[i32; 2]; 16]) -> Span
+    requires { ⌜ InText (now text) at n × (length (now r) ≡ 16) ⌝ }
+    ensures { λ s. ⌜ rangeOf s ≡ bounds (envOf (now (r .entry))) (exprIn (parse (take n (drop at (now (text .entry)))))) ⌝ }
+{
+    let from = at as usize;
+    let to = from + n as usize;
+    let v = bounds_in(&text[from..to], r);
+    Span { lo: v.lo, hi: v.hi }
+}
+
 // An operand's range.
-pub fn bounds(r: &[[i32; 2]; 16], x: Operand) -> Span
-    requires { ⌜ FineOperand x ⌝ }
-    ensures { λ s. ⌜ rangeOf s ≡ bounds (envOf (now (r .entry))) x ⌝ }
+pub fn bounds(text: &[u8], r: &[[i32; 2]; 16], x: Operand) -> Span
+    requires { ⌜ FineOperand x × WrittenOperand (now text) x × (length (now r) ≡ 16) ⌝ }
+    ensures { λ s. ⌜ rangeOf s ≡ bounds (envOf (now (r .entry))) (exprOf (now (text .entry)) x) ⌝ }
 {
     match x {
         Operand::Constant(k) => Span { lo: k, hi: k },
         Operand::Variable(w) => span_at(r, w),
+        Operand::Expression(at, n) => word_bounds(text, at, n, r),
     }
 }
 
@@ -71,7 +89,7 @@ struct Head {
 // The test of a loop's head; any other row gives what is not read.
 fn head_of(kind: Kind) -> Head
     requires { ⌜ Fine kind ⌝ }
-    ensures { λ r. ⌜ HeadOf kind r ⌝ }
+    ensures { λ r. ⌜ ((text : List ℕ) → HeadOf text kind r) ⌝ }
 {
     match kind {
         Kind::While(v, c, x) => Head {
@@ -108,7 +126,7 @@ fn both(a: bool, b: bool) -> bool
 
 // A do is tested after its body.
 fn is_do(kind: Kind) -> bool
-    ensures { λ r. ⌜ r ≡ isDo (formOf kind) ⌝ }
+    ensures { λ r. ⌜ ((text : List ℕ) → r ≡ isDo (formOf text kind)) ⌝ }
 {
     match kind {
         Kind::Do(_, _, _) => true,
@@ -116,14 +134,25 @@ fn is_do(kind: Kind) -> bool
     }
 }
 
-// 10: is the limit a constant or not assigned in the body?
-fn keeps(limit: Operand, set: [bool; 16]) -> bool
-    requires { ⌜ FineOperand limit ⌝ }
-    ensures { λ r. ⌜ ((body : Block) → ((w : ℕ) → setOf set w ≡ assigns w body) → r ≡ trips.keeps limit body) ⌝ }
+// 10: is no variable of an expression assigned in the body?
+fn word_keeps(text: &[u8], at: u16, n: u16, set: [bool; 16]) -> bool
+    requires { ⌜ InText (now text) at n ⌝ }
+    ensures { λ r. ⌜ ((body : Block) → ((w : ℕ) → setOf set w ≡ assigns w body) → r ≡ trips.keeps (exprIn (parse (take n (drop at (now (text .entry)))))) body) ⌝ }
+{
+    let from = at as usize;
+    let to = from + n as usize;
+    keeps_in(&text[from..to], set)
+}
+
+// 10: is no variable of the limit assigned in the body?
+fn keeps(text: &[u8], limit: Operand, set: [bool; 16]) -> bool
+    requires { ⌜ FineOperand limit × WrittenOperand (now text) limit ⌝ }
+    ensures { λ r. ⌜ ((body : Block) → ((w : ℕ) → setOf set w ≡ assigns w body) → r ≡ trips.keeps (exprOf (now (text .entry)) limit) body) ⌝ }
 {
     match limit {
         Operand::Constant(_) => true,
         Operand::Variable(w) => !has(set, w),
+        Operand::Expression(at, n) => word_keeps(text, at, n, set),
     }
 }
 
@@ -238,7 +267,7 @@ fn chase_trip(untested: bool, step: Step, comparison: Comparison, start: Span, o
 
 // A for.
 fn is_for(kind: Kind) -> bool
-    ensures { λ r. ⌜ r ≡ isFor (formOf kind) ⌝ }
+    ensures { λ r. ⌜ ((text : List ℕ) → r ≡ isFor (formOf text kind)) ⌝ }
 {
     match kind {
         Kind::For(_, _, _, _, _) => true,
@@ -315,6 +344,7 @@ fn copies(comparison: Comparison, step: Step, before: bool, after: bool) -> bool
 
 // The tested variable's only row copies w.
 fn copied_way(
+    text: &[u8],
     rows: &[[u32; 9]; 256],
     count: usize,
     i: usize,
@@ -323,10 +353,10 @@ fn copied_way(
     before: bool,
     after: bool,
 ) -> Way
-    requires { ⌜ AtLoop (rowsOf (now rows)) count i × (w < 16) ⌝ }
-    ensures { λ r. ⌜ CopiedAt (rowsOf (now (rows .entry))) count i comparison w before after r ⌝ }
+    requires { ⌜ AtLoop (now text) (rowsOf (now rows)) count i × (w < 16) ⌝ }
+    ensures { λ r. ⌜ CopiedAt (now (text .entry)) (rowsOf (now (rows .entry))) count i comparison w before after r ⌝ }
 {
-    let body = body_moves(rows, count, i, w);
+    let body = body_moves(text, rows, count, i, w);
     let step = body.step;
     if copies(comparison, step, before, after) {
         return Way::Copied(w, before, step);
@@ -335,9 +365,9 @@ fn copied_way(
 }
 
 // Which way the loop at row i goes, by the only row of its tested variable, which has no step of its own.
-fn sole_way(rows: &[[u32; 9]; 256], count: usize, i: usize) -> Way
-    requires { ⌜ AtLoop (rowsOf (now rows)) count i × (ownStep (rowsOf (now rows)) count i ≡ Step.Unknown) ⌝ }
-    ensures { λ r. ⌜ WayAt (rowsOf (now (rows .entry))) count i r ⌝ }
+fn sole_way(text: &[u8], rows: &[[u32; 9]; 256], count: usize, i: usize) -> Way
+    requires { ⌜ AtLoop (now text) (rowsOf (now rows)) count i × (ownStep (now text) (rowsOf (now rows)) count i ≡ Step.Unknown) ⌝ }
+    ensures { λ r. ⌜ WayAt (now (text .entry)) (rowsOf (now (rows .entry))) count i r ⌝ }
 {
     let kind = kind_at(rows, i);
     if is_for(kind) {
@@ -345,9 +375,18 @@ fn sole_way(rows: &[[u32; 9]; 256], count: usize, i: usize) -> Way
     }
     let head = head_of(kind);
     let comparison = head.comparison;
-    match sole_of(rows, count, i + 1, head.tested) {
+    match sole_of(text, rows, count, i + 1, head.tested) {
         Sole::Other => Way::Own,
-        Sole::Copy(w, before, after) => copied_way(rows, count, i, comparison, w, before, after),
+        Sole::Copy(w, before, after) => copied_way(
+            text,
+            rows,
+            count,
+            i,
+            comparison,
+            w,
+            before,
+            after,
+        ),
     }
 }
 
@@ -373,14 +412,22 @@ fn chases(comparison: Comparison, step: Step, other: Step) -> bool
 }
 
 // The limit is the variable w, which the body assigns; step: the tested variable's own.
-fn chased_way(rows: &[[u32; 9]; 256], count: usize, i: usize, head: Head, step: Step, w: u8) -> Way
-    requires { ⌜ ChaseAt (rowsOf (now rows)) count i head step w ⌝ }
-    ensures { λ r. ⌜ WayAt (rowsOf (now (rows .entry))) count i r ⌝ }
+fn chased_way(
+    text: &[u8],
+    rows: &[[u32; 9]; 256],
+    count: usize,
+    i: usize,
+    head: Head,
+    step: Step,
+    w: u8,
+) -> Way
+    requires { ⌜ ChaseAt (now text) (rowsOf (now rows)) count i head step w ⌝ }
+    ensures { λ r. ⌜ WayAt (now (text .entry)) (rowsOf (now (rows .entry))) count i r ⌝ }
 {
     if w == head.tested {
         return Way::Own;
     }
-    let body = body_moves(rows, count, i, w);
+    let body = body_moves(text, rows, count, i, w);
     let other = body.step;
     let comparison = head.comparison;
     if chases(comparison, step, other) {
@@ -390,31 +437,39 @@ fn chased_way(rows: &[[u32; 9]; 256], count: usize, i: usize, head: Head, step: 
 }
 
 // Which way the loop at row i goes, by its limit, which the body assigns; step: the tested variable's own, which is known.
-fn limit_way(rows: &[[u32; 9]; 256], count: usize, i: usize, step: Step) -> Way
-    requires { ⌜ LimitAt (rowsOf (now rows)) count i step ⌝ }
-    ensures { λ r. ⌜ WayAt (rowsOf (now (rows .entry))) count i r ⌝ }
+fn limit_way(text: &[u8], rows: &[[u32; 9]; 256], count: usize, i: usize, step: Step) -> Way
+    requires { ⌜ LimitAt (now text) (rowsOf (now rows)) count i step ⌝ }
+    ensures { λ r. ⌜ WayAt (now (text .entry)) (rowsOf (now (rows .entry))) count i r ⌝ }
 {
     let kind = kind_at(rows, i);
     let head = head_of(kind);
     let limit = head.limit;
     match limit {
         Operand::Constant(_) => Way::Own,
-        Operand::Variable(w) => chased_way(rows, count, i, head, step, w),
+        Operand::Variable(w) => chased_way(text, rows, count, i, head, step, w),
+        Operand::Expression(_, _) => Way::Own,
     }
 }
 
 // Which way the loop at row i goes; step: its tested variable's own; kept: the answer to question 10.
-fn way_of(rows: &[[u32; 9]; 256], count: usize, i: usize, step: Step, kept: bool) -> Way
-    requires { ⌜ WayFrom (rowsOf (now rows)) count i step kept ⌝ }
-    ensures { λ r. ⌜ WayAt (rowsOf (now (rows .entry))) count i r ⌝ }
+fn way_of(
+    text: &[u8],
+    rows: &[[u32; 9]; 256],
+    count: usize,
+    i: usize,
+    step: Step,
+    kept: bool,
+) -> Way
+    requires { ⌜ WayFrom (now text) (rowsOf (now rows)) count i step kept ⌝ }
+    ensures { λ r. ⌜ WayAt (now (text .entry)) (rowsOf (now (rows .entry))) count i r ⌝ }
 {
     if !known(step) {
-        return sole_way(rows, count, i);
+        return sole_way(text, rows, count, i);
     }
     if kept {
         return Way::Own;
     }
-    limit_way(rows, count, i, step)
+    limit_way(text, rows, count, i, step)
 }
 
 // The trip by that way, from the ranges at the loop's start and the tested variable's own.
@@ -456,23 +511,29 @@ pub struct Loop {
 }
 
 // The loop at row i, from the ranges at its start.
-pub fn loop_at(rows: &[[u32; 9]; 256], count: usize, i: usize, begun: &[[i32; 2]; 16]) -> Loop
-    requires { ⌜ AtLoop (rowsOf (now rows)) count i ⌝ }
-    ensures { λ r. ⌜ LoopAt (rowsOf (now (rows .entry))) count i (envOf (now (begun .entry))) r ⌝ }
+pub fn loop_at(
+    text: &[u8],
+    rows: &[[u32; 9]; 256],
+    count: usize,
+    i: usize,
+    begun: &[[i32; 2]; 16],
+) -> Loop
+    requires { ⌜ AtLoop (now text) (rowsOf (now rows)) count i × (length (now begun) ≡ 16) ⌝ }
+    ensures { λ r. ⌜ LoopAt (now (text .entry)) (rowsOf (now (rows .entry))) count i (envOf (now (begun .entry))) r ⌝ }
 {
     let kind = kind_at(rows, i);
     let head = head_of(kind);
     let v = head.tested;
     let comparison = head.comparison;
     let limit = head.limit;
-    let body = body_moves(rows, count, i, v);
+    let body = body_moves(text, rows, count, i, v);
     let set = body.set;
     let next = body.next;
     let step = body.step;
     let s = span_at(begun, v);
-    let n = bounds(begun, limit);
-    let kept = keeps(limit, set);
-    let way = way_of(rows, count, i, step, kept);
+    let n = bounds(text, begun, limit);
+    let kept = keeps(text, limit, set);
+    let way = way_of(text, rows, count, i, step, kept);
     let trip = trip_by(way, begun, is_do(kind), step, comparison, s, n, kept);
     Loop {
         trip: trip,

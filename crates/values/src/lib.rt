@@ -3,25 +3,53 @@ use rules::Change;
 use rules::Comparison;
 use rules::Operand;
 ghost use mathlib.Core.Path.{_≡_};
-ghost use Prim.Native.Nat.{_≤_};
-ghost use lib.ListN.{length};
+ghost use Prim.Native.Nat.{_≤_, _<_};
+ghost use lib.ListN.{length, take, drop};
 ghost use lib.IntN.{ℤ};
 ghost use lib.Signed.{ltZ};
 ghost use Rattle.ints.specs.Ints.{eqZ, floorZ};
 ghost use Rattle.rules.specs.Values.{value, quotient, applied, compares, inLimits};
-ghost use Rattle.rules.specs.Scripts.{storeOf, OperandBelow, ChangeLimits};
+ghost use Rattle.rules.specs.Scripts.{storeOf, ExprBelow, ChangeLimits};
+ghost use Rattle.rules.specs.Blocks.{exprOf};
+ghost use Rattle.rules.specs.Parse.{exprIn, parse};
+ghost use Rattle.rules.specs.Written.{InText, WrittenOperand};
+ghost use Rattle.values.specs.Results.{resultIn};
 
-// The value of an operand.
-pub fn value_of(x: Operand, store: &[i32]) -> i32
-    requires { ⌜ OperandBelow (length (now store)) x ⌝ }
-    ensures { λ r. ⌜ r ≡ value x (storeOf (now (store .entry))) ⌝ }
+// What stands for a result past ±L: more than any 32-bit number.
+pub const PAST: i64 = 4_000_000_000;
+
+// The number of a variable.
+pub fn stored(v: u8, store: &[i32]) -> i32
+    requires { ⌜ v < length (now store) ⌝ }
+    ensures { λ r. ⌜ r ≡ storeOf (now (store .entry)) v ⌝ }
+{
+    let at = v as usize;
+    store[at]
+}
+
+// What the expression at `at`, n bytes long, comes to, or PAST.
+fn come_to(text: &[u8], at: u16, n: u16, store: &[i32]) -> i64
+    requires { ⌜ InText (now text) at n ⌝ }
+    ensures { λ r. ⌜ resultIn r ≡ value (exprIn (parse (take n (drop at (now (text .entry)))))) (storeOf (now (store .entry))) ⌝ }
+{
+    let from = at as usize;
+    let to = from + n as usize;
+    let v = expressions::value_in(&text[from..to], store);
+    if v.past {
+        return PAST;
+    }
+    v.lo as i64
+}
+
+// The value of an operand, or PAST.
+pub fn value_of(text: &[u8], x: Operand, store: &[i32]) -> i64
+    requires { ⌜ WrittenOperand (now text) x × ExprBelow (length (now store)) (exprOf (now text) x) ⌝ }
+    ensures { λ r. ⌜ resultIn r ≡ value (exprOf (now (text .entry)) x) (storeOf (now (store .entry))) ⌝ }
 {
     match x {
-        Operand::Constant(k) => k,
-        Operand::Variable(w) => {
-            let at = w as usize;
-            store[at]
-        }
+        Operand::Expression(at, n) => come_to(text, at, n, store),
+        Operand::Constant(k) => k as i64,
+        Operand::Variable(w) => stored(w, store) as i64,
     }
 }
 
@@ -73,7 +101,7 @@ fn by_order(comparison: Comparison, less: bool, equal: bool) -> bool
 }
 
 // Does a comparison hold? Each order has a call of its own, so that it is a table and no jump.
-pub fn holds(comparison: Comparison, x: i32, y: i32) -> bool
+pub fn holds(comparison: Comparison, x: i64, y: i64) -> bool
     ensures { λ r. ⌜ r ≡ compares comparison x y ⌝ }
 {
     if x < y {

@@ -63,10 +63,12 @@ pub enum Question {
     Store = 15,
     /// A price is wrong, missing or extra; asked after the scratch and before the file.
     Price = 16,
+    /// More than 8 parentheses open together or more than 15 operators in one expression; asked after the shape of its line.
+    Expression = 17,
 }
 
 impl Question {
-    const ALL: [Question; 16] = [
+    const ALL: [Question; 17] = [
         Question::Scratch,
         Question::File,
         Question::Shape,
@@ -83,6 +85,7 @@ impl Question {
         Question::Buffer,
         Question::Store,
         Question::Price,
+        Question::Expression,
     ];
 
     /// The question's number.

@@ -65,6 +65,18 @@ fn counting(turns: u64) -> Vec<u8> {
     file(&[(0, 0)], &rows(&format!("while v0 < {turns}, add v0 1, end")))
 }
 
+/// A limit of twice the rig plus two, worked out at every test.
+fn twice_plus_two(rig: u64) -> Vec<u8> {
+    file(&[(0, 0), (rig as i64, rig as i64)], &rows("while v0 < 2*v1+2, add v0 1, end"))
+}
+
+/// A file of 16,384 bytes, nearly all of them in expressions of 15 operators.
+fn expressions() -> Vec<u8> {
+    let mut rows = vec![format!("set v0 {}", ["-1000000000"; 16].join("*")); 80];
+    rows.push(format!("set v0 {}", ["1000000000"; 9].join("-")));
+    file(&[(0, 0)], &rows)
+}
+
 /// A for round three picks in each other.
 fn picking(turns: u64) -> Vec<u8> {
     file(
@@ -189,9 +201,13 @@ fn main() {
     for count in [3, 30, 256] {
         bench.report(&format!("one loop, {count} rows"), &body(count));
     }
+    bench.report("long expressions", &expressions());
     let most = if quick { 500_000 } else { 50_000_000 };
     for turns in [most / 100, most / 10, most] {
         bench.run("while", &counting(turns), &[0], &[]);
+    }
+    for rig in [2_499, 24_999, 249_999] {
+        bench.run("while v0 < 2*v1+2", &twice_plus_two(rig), &[0, rig as i32], &[]);
     }
     let most = if quick { 10_000 } else { 1_000_000 };
     let picks: Vec<u8> = (0..3 * most).map(|i: u64| (i.wrapping_mul(0x9e37_79b9_7f4a_7c15) >> 62) as u8 & 1).collect();

@@ -49,7 +49,7 @@ impl<T: Copy + PartialEq> Room<T> {
 #[derive(Default)]
 struct Tally {
     accepted: u64,
-    refused: [u64; 17],
+    refused: [u64; 18],
     reports: u64,
     runs: u64,
     endings: [u64; 4],
@@ -320,13 +320,25 @@ impl Checker {
     }
 }
 
+/// The files that need most stack: 256 rows, 16 loops, 8 deep, without expressions and with them; and words that are as long as a
+/// file can be, of which no part may be left to the stack.
+const WORST: [(&str, &[u8]); 5] = [
+    ("accepted-worst", include_bytes!("../../../crates/report_files/data/accepted-worst.script")),
+    ("accepted-expression-worst", include_bytes!("../../../crates/report_files/data/accepted-expression-worst.script")),
+    ("refused-17-expression-of-8000-pairs", include_bytes!("../../../crates/report_files/data/refused-17-expression-of-8000-pairs.script")),
+    ("refused-17-expression-of-8000-operators", include_bytes!("../../../crates/report_files/data/refused-17-expression-of-8000-operators.script")),
+    ("refused-3-expression-of-16000-parentheses", include_bytes!("../../../crates/report_files/data/refused-3-expression-of-16000-parentheses.script")),
+];
+
 /// The files that `generate` makes of a seed.
 fn generated(checker: &mut Checker, count: u64, seed: u64, first: u64) {
     let begin = Instant::now();
-    // The file that needs most stack: 256 rows, 16 loops, 8 deep.
-    checker.file = include_bytes!("../../../crates/report_files/data/accepted-worst.script").to_vec();
-    checker.name = "accepted-worst.script".into();
-    checker.case();
+    for (name, file) in WORST {
+        checker.file = file.to_vec();
+        checker.name = name.into();
+        checker.prices = ONES.to_vec();
+        checker.case();
+    }
     for index in first..first + count {
         let Case { file, prices, rng } = case(seed, index);
         checker.file = file;
@@ -336,7 +348,7 @@ fn generated(checker: &mut Checker, count: u64, seed: u64, first: u64) {
         checker.case();
     }
     let t = &checker.tally;
-    let refused: Vec<String> = (2..=13).chain([16]).map(|number| format!("{number}:{}", t.refused[number])).collect();
+    let refused: Vec<String> = (2..=13).chain([16, 17]).map(|number| format!("{number}:{}", t.refused[number])).collect();
     println!(
         "no difference: {count} files of seed {seed}, {} accepted, refused {}; {} report calls; {} run calls ({} refused, \
          ended {}, spent {}, range {}, no pick {}, {} ticks); demand 3 held in {} runs with {} entries; \

@@ -41,7 +41,7 @@ fn once(rng: &mut Rng, mut bytes: Vec<u8>) -> Vec<u8> {
         return bytes;
     }
     let at = rng.below(bytes.len());
-    match rng.below(26) {
+    match rng.below(29) {
         0 => bytes.truncate(at),
         1 => bytes[at] ^= 1 << rng.below(8),
         2 => bytes[at] = rng.next() as u8,
@@ -131,6 +131,20 @@ fn once(rng: &mut Rng, mut bytes: Vec<u8>) -> Vec<u8> {
                     b"340282366920938463463374607431768211456",
                 ]);
                 bytes.splice(at..end, new.iter().copied());
+            }
+        }
+        17..=19 => {
+            // An expression, or what becomes one.
+            let byte = rng.one_of(b"+-*()+-*()v0/ ");
+            let at = place_of(rng, &bytes, |b| b"+*()".contains(&b)).or_else(|| number_at(rng, &bytes).map(|(_, end)| end));
+            match (at.filter(|&at| at < bytes.len()), rng.below(4)) {
+                (Some(at), 0) => {
+                    bytes.remove(at);
+                }
+                (Some(at), 1) => bytes[at] = byte,
+                (Some(at), 2) => bytes.insert(at + 1, byte),
+                (Some(at), _) => bytes.insert(at, byte),
+                (None, _) => {}
             }
         }
         _ => {

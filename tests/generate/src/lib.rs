@@ -4,6 +4,7 @@
 mod closing;
 mod copied;
 mod damage;
+mod expressions;
 mod levels;
 mod rng;
 mod script;

@@ -1,6 +1,6 @@
 //! Whole script files.
 
-use crate::{closing, copied, levels};
+use crate::{closing, copied, expressions, levels};
 use crate::rng::Rng;
 
 const L: i64 = 1_000_000_000;
@@ -240,15 +240,16 @@ impl Builder<'_> {
 
     /// A loop of one of the change requests, if there is room for it.
     fn requested(&mut self, depth: usize, locked: u32) -> bool {
-        if depth == 0 || self.loops == 0 || self.left < copied::ROWS.max(closing::ROWS).max(levels::ROWS) {
+        if depth == 0 || self.loops == 0 || self.left < copied::ROWS.max(closing::ROWS).max(levels::ROWS).max(expressions::ROWS) {
             return false;
         }
         let Some(v) = self.free(locked) else { return false };
         let Some(w) = self.free(locked | 1 << v).filter(|&w| w != v) else { return false };
-        match self.rng.below(9) {
+        match self.rng.below(13) {
             0..=3 => self.copied(depth, locked, v, w),
-            4..=7 => self.closing(depth, locked, v, w),
-            _ => self.levels(depth, locked, v, w),
+            4..=8 => self.closing(depth, locked, v, w),
+            9 | 10 => self.levels(depth, locked, v, w),
+            _ => self.arithmetic_limit(depth, locked, v, w),
         }
         true
     }
@@ -411,11 +412,11 @@ fn build(rng: &mut Rng, careless: usize) -> Text {
     let depth = if rng.chance(30) { 8 } else { 1 + rng.below(4) };
     let mut builder = Builder { rng, vars, rows: Vec::new(), left, loops, careless };
     let requested = builder.rng.below(10);
-    if requested < 5 {
+    if requested < 7 {
         builder.requested(depth, 0);
     }
     builder.block(depth, 0, items);
-    if requested == 5 {
+    if requested == 7 {
         builder.requested(depth, 0);
     }
     if left == 256 {
@@ -424,7 +425,11 @@ fn build(rng: &mut Rng, careless: usize) -> Text {
             builder.plain(0);
         }
     }
-    Text { ranges, rows: builder.rows }
+    let mut text = Text { ranges, rows: builder.rows };
+    if rng.chance(40) {
+        expressions::dress(rng, &mut text);
+    }
+    text
 }
 
 /// Likely to be accepted.
@@ -484,6 +489,7 @@ pub fn aimed(rng: &mut Rng) -> Vec<u8> {
     match rng.below(10) {
         0 | 1 => deep(rng),
         2 | 3 => many(rng),
+        4 if rng.chance(50) => expressions::long(rng),
         4 => long(rng),
         5 => open(rng),
         _ => slow(rng),

@@ -11,7 +11,7 @@ use std::collections::{BTreeMap, BTreeSet};
 pub struct Spread {
     pub files: u64,
     /// Files by their refusal's number with four ones; 0 is accepted.
-    pub answers: [u64; 17],
+    pub answers: [u64; 18],
     /// Files by what they use: a change's word, a colon and what it comes to. `WORD:` counts each file once.
     pub uses: BTreeMap<String, u64>,
 }
@@ -51,11 +51,18 @@ fn labels(file: &[u8], lent: &[u32], plan: &Result<Plan, Refusal>) -> BTreeSet<S
             labels.extend(lent.iter().filter(|price| [0, 1_001, u32::MAX].contains(*price)).map(|price| format!("prices: {price}")));
         }
     }
+    let lines: Vec<&[u8]> = file.split(|&byte| byte == b'\n').collect();
+    if lines.iter().any(|line| written(line)) {
+        labels.insert("written: an expression".into());
+    }
     match plan {
         Ok(plan) => {
             for line in &plan.lines {
                 let Row::Loop(l) = plan.script.rows[line.row] else { unreachable!("a head row") };
                 accepted(&plan.script.rows, line, &l, &mut labels);
+            }
+            for row in &plan.script.rows {
+                expressions(row, &mut labels);
             }
             if plan.rounded {
                 labels.insert("level: rounded down".into());
@@ -65,6 +72,12 @@ fn labels(file: &[u8], lent: &[u32], plan: &Result<Plan, Refusal>) -> BTreeSet<S
             let rows = read::script(file).expect("questions 2 to 7 have passed").rows;
             let Row::Loop(l) = rows[*head as usize] else { unreachable!("a head row") };
             refused(&rows, *number, *head as usize, &l, &mut labels);
+        }
+        Err((number @ (3 | 4 | 5 | 17), line)) if lines.get(*line as usize - 1).is_some_and(|line| written(line)) => {
+            labels.insert(format!("expression: refused by {number}"));
+            if *number == 17 {
+                labels.extend(over(lines[*line as usize - 1]));
+            }
         }
         Err((13, _)) => {
             let script = read::script(file).expect("questions 2 to 7 have passed");
@@ -80,6 +93,54 @@ fn labels(file: &[u8], lent: &[u32], plan: &Result<Plan, Refusal>) -> BTreeSet<S
     let words: Vec<String> = labels.iter().map(|label| format!("{}:", label.split(':').next().unwrap())).collect();
     labels.extend(words);
     labels
+}
+
+/// Whether a row line has a word with an operator or a parenthesis, in a good shape or not.
+fn written(line: &[u8]) -> bool {
+    let operates = |word: &[u8]| word.iter().any(|byte| b"+*()".contains(byte)) || word.iter().skip(1).any(|&byte| byte == b'-');
+    line.strip_prefix(b"row=").is_some_and(|row| row.split(|&byte| byte == b' ').any(operates))
+}
+
+/// By which of its measures a line is refused, where it is by one more than the limit.
+fn over(line: &[u8]) -> Option<String> {
+    let words = line.split(|&byte| byte == b' ');
+    let measures = words.filter_map(|word| match oracle::expression::operand(word, &mut Vec::new()) {
+        Some(Operand::Expression(e)) => Some((e.depth, e.operators)),
+        _ => None,
+    });
+    measures.max_by_key(|(depth, operators)| depth.max(operators).to_owned()).and_then(|measure| match measure {
+        (9, 0..=15) => Some("expression: 17 for 9 parentheses".into()),
+        (0..=8, 16) => Some("expression: 17 for 16 operators".into()),
+        _ => None,
+    })
+}
+
+/// Where an accepted row has expressions, and of what size.
+fn expressions(row: &Row, labels: &mut BTreeSet<String>) {
+    let places: &[&str] = match row {
+        Row::Loop(Loop { kind: Kind::For { .. }, .. }) => &["start of a for", "limit of a for"],
+        Row::Loop(Loop { kind: Kind::Do, .. }) => &["limit of a do"],
+        Row::Loop(_) => &["limit of a while"],
+        _ => &["set"],
+    };
+    let mut operators = 0;
+    for (x, place) in row.operands().zip(places) {
+        let Operand::Expression(e) = x else { continue };
+        labels.insert(format!("expression: {place}"));
+        operators += e.operators;
+        if e.depth == 8 {
+            labels.insert("expression: 8 parentheses".into());
+        }
+        if e.operators == 15 {
+            labels.insert("expression: 15 operators".into());
+        }
+        if e.operators == 0 {
+            labels.insert("expression: parentheses alone".into());
+        }
+    }
+    if operators > 15 {
+        labels.insert("expression: more than 15 operators in two".into());
+    }
 }
 
 fn form(l: &Loop) -> &'static str {
@@ -117,6 +178,12 @@ fn refused(rows: &[Row], number: u32, head: usize, l: &Loop, labels: &mut BTreeS
         _ => None,
     });
     let copies = sets.clone().any(|x| matches!(x, Operand::Variable(w) if w != l.v));
+    if number == 8 && sets.clone().any(|x| matches!(x, Operand::Expression(_))) {
+        labels.insert("expression: refused by 8".into());
+    }
+    if number == 10 && matches!(l.limit, Operand::Expression(_)) {
+        labels.insert("expression: refused by 10".into());
+    }
     match copied(rows, head, l) {
         Ok(_) => {
             labels.insert(format!("copied: refused by {number}"));

@@ -14,7 +14,7 @@ fn answer(file: &[u8]) -> Vec<u8> {
 fn every_refusal_occurs_and_enough_is_accepted() {
     let answers = Spread::of(20_000, SEED).answers;
     assert!(answers[0] >= 8_000, "{answers:?}");
-    assert!(answers[2..=13].iter().all(|&count| count > 0), "{answers:?}");
+    assert!(answers[2..=13].iter().chain([&answers[17]]).all(|&count| count > 0), "{answers:?}");
 }
 
 /// At least a tenth of the files use a change, and each of these uses occurs in at least so many files.
@@ -109,6 +109,34 @@ fn a_tenth_closes_on_its_limit() {
 #[test]
 fn a_tenth_rounds_a_level_down() {
     uses("level", &[("rounded down", 2_000)]);
+}
+
+#[test]
+fn a_quarter_has_expressions() {
+    uses(
+        "expression",
+        &[
+            ("set", 1_000),
+            ("start of a for", 500),
+            ("limit of a while", 500),
+            ("limit of a do", 300),
+            ("limit of a for", 500),
+            ("8 parentheses", 500),
+            ("15 operators", 500),
+            ("parentheses alone", 500),
+            ("more than 15 operators in two", 50),
+            ("17 for 9 parentheses", 40),
+            ("17 for 16 operators", 40),
+            ("refused by 3", 200),
+            ("refused by 4", 100),
+            ("refused by 5", 50),
+            ("refused by 8", 20),
+            ("refused by 10", 50),
+            ("refused by 17", 100),
+        ],
+    );
+    let spread = Spread::of(20_000, SEED);
+    assert!(spread.used("written:") * 4 >= spread.files, "{:?}", spread.uses);
 }
 
 #[test]

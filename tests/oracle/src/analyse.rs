@@ -1,5 +1,6 @@
 //! The loop analysis: questions 8 to 13.
 
+use crate::expression::{fold, Item, Operator};
 use crate::read::{quotient, Change, Compare, Kind, Loop, Op, Operand, Row, Script, L};
 use crate::{Prices, Refusal};
 
@@ -226,11 +227,19 @@ type Range = [i32; 2];
 type Ranges = [Range; 16];
 const ALL: Range = [-L, L];
 
-fn range_of(x: Operand, ranges: &Ranges) -> Range {
-    match x {
-        Operand::Constant(c) => [c, c],
-        Operand::Variable(v) => ranges[v as usize],
-    }
+/// Change 8: the range of an operator's results on two ranges.
+pub type Join = fn(Operator, Wide, Wide) -> Wide;
+
+/// The least and largest of the four results on its operands' ends, each drawn back.
+pub fn join(operator: Operator, left: Wide, right: Wide) -> Wide {
+    let result = |l: i64, r: i64| draw_back(operator.apply(l, r)) as i64;
+    let [a, b, c, d] = [
+        result(left[0], right[0]),
+        result(left[0], right[1]),
+        result(left[1], right[0]),
+        result(left[1], right[1]),
+    ];
+    [a.min(b).min(c).min(d), a.max(b).max(c).max(d)]
 }
 
 fn draw_back(value: i64) -> i32 {
@@ -272,7 +281,7 @@ pub struct Plan {
 }
 
 /// A range of a figure, which can be past ±L.
-type Wide = [i64; 2];
+pub type Wide = [i64; 2];
 
 fn wide(range: Range) -> Wide {
     range.map(i64::from)
@@ -385,8 +394,9 @@ impl Counter {
     }
 }
 
-/// Questions 8 to 12 of one loop, and its turns; the error is the question's number.
-fn turns(l: &Loop, counter: &Counter, assigned: u16) -> Result<u64, u32> {
+/// Questions 8 to 12 of one loop, and its turns; the error is the question's number. `changes` is whether the body assigns
+/// a variable of the limit.
+fn turns(l: &Loop, counter: &Counter, changes: bool) -> Result<u64, u32> {
     let step = counter.step;
     // 8 and 9
     let moves = match step {
@@ -397,10 +407,8 @@ fn turns(l: &Loop, counter: &Counter, assigned: u16) -> Result<u64, u32> {
     if !moves {
         return Err(9);
     }
-    if let Operand::Variable(w) = l.limit {
-        if counter.counted != Counted::Closing && assigned & (1 << w) != 0 {
-            return Err(10);
-        }
+    if changes && counter.counted != Counted::Closing {
+        return Err(10);
     }
     let fits = match (l.compare, step) {
         (Compare::Lt | Compare::Le, Step::Add(a, _)) => a >= 1,
@@ -440,7 +448,9 @@ fn tested_ranges(l: &Loop, step: Step, s: Range, n: Range) -> (Range, Range) {
 
 struct Walk<'a> {
     rows: &'a [Row],
+    items: &'a [Item],
     prices: Prices,
+    join: Join,
     lines: Vec<Line>,
     /// The `end` rows of the blocks over the tick limit, in row order.
     over: Vec<usize>,
@@ -448,6 +458,22 @@ struct Walk<'a> {
 }
 
 impl Walk<'_> {
+    fn range_of(&self, x: Operand, ranges: &Ranges) -> Range {
+        match x {
+            Operand::Constant(c) => [c, c],
+            Operand::Variable(v) => ranges[v as usize],
+            Operand::Expression(e) => {
+                let range = fold(
+                    e.items(self.items),
+                    |c| wide([c, c]),
+                    |v| wide(ranges[v as usize]),
+                    |operator, left, right| Some((self.join)(operator, left, right)),
+                );
+                range.expect("every operator has a range").map(draw_back)
+            }
+        }
+    }
+
     /// The ticks of the rows from `from` to before `to`, entered with `ranges`, which become those after
     /// them; `round` is the product of the turns of the loops round them.
     ///
@@ -459,7 +485,7 @@ impl Walk<'_> {
         while r < to {
             let (part, end) = match self.rows[r] {
                 Row::Set { v, x } => {
-                    ranges[v as usize] = range_of(x, ranges);
+                    ranges[v as usize] = self.range_of(x, ranges);
                     (prices.arithmetic as u128, r)
                 }
                 Row::Change { v, by } => {
@@ -500,11 +526,10 @@ impl Walk<'_> {
         ticks
     }
 
-    /// The counter of a loop that is entered with `ranges`, a for's start assigned.
-    fn counter(&self, head: usize, l: &Loop, ranges: &Ranges) -> Counter {
+    /// The counter of a loop that is entered with `ranges`, a for's start assigned, and its limit with the range n.
+    fn counter(&self, head: usize, l: &Loop, ranges: &Ranges, n: Range) -> Counter {
         let is_do = l.kind == Kind::Do;
         let s = ranges[l.v as usize];
-        let n = range_of(l.limit, ranges);
         if let Ok(copy) = copied(self.rows, head, l) {
             let from = ranges[copy.w as usize];
             let e = edge(l.compare, wide(n));
@@ -545,11 +570,13 @@ impl Walk<'_> {
     fn looped(&mut self, head: usize, l: &Loop, ranges: &mut Ranges, round: u128) -> Result<u128, Refusal> {
         let (v, end) = (l.v as usize, l.end as usize);
         if let Kind::For { start, .. } = l.kind {
-            ranges[v] = range_of(start, ranges);
+            ranges[v] = self.range_of(start, ranges);
         }
-        let counter = self.counter(head, l, ranges);
+        let n = self.range_of(l.limit, ranges);
+        let counter = self.counter(head, l, ranges, n);
         let assigned = loop_assigns(self.rows, head, l);
-        let turns = turns(l, &counter, assigned).map_err(|number| (number, head as u64))?;
+        let changes = l.limit.variables(self.items) & assigned != 0;
+        let turns = turns(l, &counter, changes).map_err(|number| (number, head as u64))?;
         let total = round.saturating_mul(turns as u128);
         let step = counter.step;
         let (Step::Add(a, b) | Step::Grow(a, b) | Step::Shrink(a, b)) = step else {
@@ -559,7 +586,7 @@ impl Walk<'_> {
         self.lines.push(Line { row: head, counted: counter.counted, step, turns, total, exact });
 
         let (at_body, after) = match counter.counted {
-            Counted::Tested => tested_ranges(l, step, ranges[v], range_of(l.limit, ranges)),
+            Counted::Tested => tested_ranges(l, step, ranges[v], n),
             Counted::Copied | Counted::Closing => (ALL, ALL),
         };
         for (w, range) in ranges.iter_mut().enumerate() {
@@ -582,20 +609,26 @@ impl Walk<'_> {
     }
 }
 
-fn walk(script: &Script, prices: Prices) -> Walk<'_> {
-    Walk { rows: &script.rows, prices, lines: Vec::with_capacity(script.loops), over: Vec::new(), rounded: false }
+fn walk(script: &Script, prices: Prices, join: Join) -> Walk<'_> {
+    let lines = Vec::with_capacity(script.loops);
+    Walk { rows: &script.rows, items: &script.items, prices, join, lines, over: Vec::new(), rounded: false }
 }
 
 /// The `end` rows of the blocks over the tick limit, in row order; questions 8 to 12 come first.
 pub fn blocks_over(script: &Script, prices: Prices) -> Result<Vec<usize>, Refusal> {
-    let mut walk = walk(script, prices);
+    let mut walk = walk(script, prices, join);
     walk.block(0, script.rows.len(), &mut script.ranges.clone(), 1)?;
     Ok(walk.over)
 }
 
 /// Questions 8 to 13.
 pub fn analyse(script: Script, prices: Prices) -> Result<Plan, Refusal> {
-    let mut walk = walk(&script, prices);
+    analyse_by(join, script, prices)
+}
+
+/// The same by another rule for the ranges of operators.
+pub fn analyse_by(join: Join, script: Script, prices: Prices) -> Result<Plan, Refusal> {
+    let mut walk = walk(&script, prices, join);
     let mut ranges = script.ranges;
     let count = script.rows.len();
     let ticks = walk.block(0, count, &mut ranges, 1)?;

@@ -35,7 +35,7 @@ pub fn rehearse(words: &[&str], read: impl Fn(&str) -> Option<Vec<u8>>) -> Resul
         "" => return Err("the picks are no word of 0 and 1".into()),
         word => word
             .bytes()
-            .map(|b| matches!(b, b'0' | b'1').then_some(b - b'0'))
+            .map(|b| matches!(b, b'0' | b'1').then(|| b - b'0'))
             .collect::<Option<_>>()
             .ok_or("the picks are no word of 0 and 1")?,
     };

@@ -1,5 +1,6 @@
-//! The script reader: questions 2 to 7.
+//! The script reader: questions 2 to 7 and 17.
 
+use crate::expression::{self, Expression, Item};
 use crate::Refusal;
 
 /// L of document 01.
@@ -17,6 +18,8 @@ const FAR_VARIABLE: i64 = 255;
 pub enum Operand {
     Constant(i32),
     Variable(u8),
+    /// Change 8: with an operator or a parenthesis.
+    Expression(Expression),
 }
 
 #[derive(Clone, Copy, Debug, PartialEq, Eq)]
@@ -84,6 +87,8 @@ pub struct Script {
     pub vars: usize,
     pub ranges: [[i32; 2]; 16],
     pub rows: Vec<Row>,
+    /// Those of all expressions.
+    pub items: Vec<Item>,
     pub loops: usize,
 }
 
@@ -129,61 +134,91 @@ impl Compare {
     }
 }
 
+/// The constants of expressions have the limits of a constant alone.
+fn limited(c: i32) -> bool {
+    (-L..=L).contains(&c)
+}
+
 impl Operand {
-    fn within_limits(self) -> bool {
+    fn within_limits(self, items: &[Item]) -> bool {
         match self {
-            Operand::Constant(c) => (-L..=L).contains(&c),
+            Operand::Constant(c) => limited(c),
             Operand::Variable(_) => true,
+            Operand::Expression(e) => e.items(items).iter().all(|item| match *item {
+                Item::Constant(c) => limited(c),
+                Item::Variable(_) | Item::Operator(_) => true,
+            }),
         }
     }
 
-    fn is_below(self, vars: usize) -> bool {
+    fn is_below(self, vars: usize, items: &[Item]) -> bool {
+        let known = |v: u8| (v as usize) < vars;
         match self {
             Operand::Constant(_) => true,
-            Operand::Variable(v) => (v as usize) < vars,
+            Operand::Variable(v) => known(v),
+            Operand::Expression(e) => e.items(items).iter().all(|item| match *item {
+                Item::Variable(v) => known(v),
+                Item::Constant(_) | Item::Operator(_) => true,
+            }),
+        }
+    }
+
+    /// Its variables, as bits, where all are below 16.
+    pub fn variables(self, items: &[Item]) -> u16 {
+        match self {
+            Operand::Constant(_) => 0,
+            Operand::Variable(v) => 1 << v,
+            Operand::Expression(e) => e.items(items).iter().fold(0, |all, item| match *item {
+                Item::Variable(v) => all | 1 << v,
+                Item::Constant(_) | Item::Operator(_) => all,
+            }),
         }
     }
 }
 
 impl Row {
+    /// What may be an expression: the right side of `set`, start and limit of a loop.
+    pub fn operands(&self) -> impl Iterator<Item = Operand> {
+        let (first, second) = match *self {
+            Row::Set { x, .. } => (Some(x), None),
+            Row::Loop(Loop { kind: Kind::For { start, .. }, limit, .. }) => (Some(start), Some(limit)),
+            Row::Loop(l) => (Some(l.limit), None),
+            _ => (None, None),
+        };
+        first.into_iter().chain(second)
+    }
+
+    /// Question 17 of a row line; each expression is measured alone.
+    fn measured(&self) -> bool {
+        self.operands().all(|x| match x {
+            Operand::Expression(e) => e.measured(),
+            Operand::Constant(_) | Operand::Variable(_) => true,
+        })
+    }
+
     /// Question 4 of a row line.
-    fn within_limits(&self) -> bool {
-        match *self {
-            Row::Set { x, .. } => x.within_limits(),
+    fn within_limits(&self, items: &[Item]) -> bool {
+        let others = match *self {
             Row::Change { by, .. } => by.within_limits(),
             Row::Cue { n } => (0..=9_999).contains(&n),
-            Row::Pick { .. } | Row::Else { .. } | Row::End { .. } => true,
-            Row::Loop(l) => {
-                l.limit.within_limits()
-                    && match l.kind {
-                        Kind::While | Kind::Do => true,
-                        Kind::For { start, step } => start.within_limits() && step.within_limits(),
-                    }
-            }
-        }
+            Row::Loop(Loop { kind: Kind::For { step, .. }, .. }) => step.within_limits(),
+            Row::Loop(_) | Row::Set { .. } | Row::Pick { .. } | Row::Else { .. } | Row::End { .. } => true,
+        };
+        others && self.operands().all(|x| x.within_limits(items))
     }
 
     /// Question 5 of a row line.
-    fn variables_below(&self, vars: usize) -> bool {
-        let known = |v: u8| (v as usize) < vars;
-        match *self {
-            Row::Set { v, x } => known(v) && x.is_below(vars),
-            Row::Change { v, .. } => known(v),
+    fn variables_below(&self, vars: usize, items: &[Item]) -> bool {
+        let known = match *self {
+            Row::Set { v, .. } | Row::Change { v, .. } | Row::Loop(Loop { v, .. }) => (v as usize) < vars,
             Row::Cue { .. } | Row::Pick { .. } | Row::Else { .. } | Row::End { .. } => true,
-            Row::Loop(l) => {
-                known(l.v)
-                    && l.limit.is_below(vars)
-                    && match l.kind {
-                        Kind::While | Kind::Do => true,
-                        Kind::For { start, .. } => start.is_below(vars),
-                    }
-            }
-        }
+        };
+        known && self.operands().all(|x| x.is_below(vars, items))
     }
 }
 
 /// A decimal number without plus or leading zeros, `-` only before a non-zero one; cut to ±FAR.
-fn number(word: &[u8]) -> Option<i32> {
+pub(crate) fn number(word: &[u8]) -> Option<i32> {
     let (negative, digits) = match word {
         [b'-', digits @ ..] => (true, digits),
         _ => (false, word),
@@ -205,20 +240,12 @@ fn number(word: &[u8]) -> Option<i32> {
 }
 
 /// `v` and a number not below 0; cut to FAR_VARIABLE.
-fn variable(word: &[u8]) -> Option<u8> {
+pub(crate) fn variable(word: &[u8]) -> Option<u8> {
     match word {
         [b'v', digits @ ..] if digits.first() != Some(&b'-') => {
             number(digits).map(|n| (n as i64).min(FAR_VARIABLE) as u8)
         }
         _ => None,
-    }
-}
-
-fn operand(word: &[u8]) -> Option<Operand> {
-    if word.first() == Some(&b'v') {
-        variable(word).map(Operand::Variable)
-    } else {
-        number(word).map(Operand::Constant)
     }
 }
 
@@ -245,8 +272,8 @@ fn compare(word: &[u8]) -> Option<Compare> {
     })
 }
 
-/// Question 3 of a row line: what follows `row=`.
-fn row(text: &[u8]) -> Option<Row> {
+/// Question 3 of a row line: what follows `row=`. The items of its expressions are put behind those that are there.
+fn row(text: &[u8], items: &mut Vec<Item>) -> Option<Row> {
     let mut words: [&[u8]; 7] = [b""; 7];
     let mut count = 0;
     for word in text.split(|&b| b == b' ') {
@@ -256,15 +283,9 @@ fn row(text: &[u8]) -> Option<Row> {
         words[count] = word;
         count += 1;
     }
+    let mut operand = |word| expression::operand(word, items);
     let looped = |kind, v, cmp, limit| {
-        Some(Row::Loop(Loop {
-            kind,
-            v: variable(v)?,
-            compare: compare(cmp)?,
-            limit: operand(limit)?,
-            end: OPEN,
-            index: 0,
-        }))
+        Some(Row::Loop(Loop { kind, v: variable(v)?, compare: compare(cmp)?, limit, end: OPEN, index: 0 }))
     };
     match words[..count] {
         [b"set", v, x] => Some(Row::Set { v: variable(v)?, x: operand(x)? }),
@@ -272,10 +293,10 @@ fn row(text: &[u8]) -> Option<Row> {
         [b"pick"] => Some(Row::Pick { middle: OPEN, end: OPEN }),
         [b"else"] => Some(Row::Else { end: OPEN }),
         [b"end"] => Some(Row::End { head: OPEN }),
-        [b"while", v, cmp, x] => looped(Kind::While, v, cmp, x),
-        [b"do", v, cmp, x] => looped(Kind::Do, v, cmp, x),
+        [b"while", v, cmp, x] => looped(Kind::While, v, cmp, operand(x)?),
+        [b"do", v, cmp, x] => looped(Kind::Do, v, cmp, operand(x)?),
         [b"for", v, x, cmp, y, op, c] => {
-            looped(Kind::For { start: operand(x)?, step: change(op, c)? }, v, cmp, y)
+            looped(Kind::For { start: operand(x)?, step: change(op, c)? }, v, cmp, operand(y)?)
         }
         [op, v, c] => Some(Row::Change { v: variable(v)?, by: change(op, c)? }),
         _ => None,
@@ -324,7 +345,7 @@ impl<'a> Lines<'a> {
     }
 }
 
-/// Questions 2 to 7.
+/// Questions 2 to 7 and 17.
 pub fn script(file: &[u8]) -> Result<Script, Refusal> {
     if file.len() > FILE_LIMIT {
         return Err((2, FILE_LIMIT as u64));
@@ -340,17 +361,21 @@ pub fn script(file: &[u8]) -> Result<Script, Refusal> {
     }
     let count = lines.count(b"rows=", 256)?;
     let mut rows: Vec<Row> = Vec::with_capacity(count);
+    let mut items = Vec::new();
     let mut loops = 0;
     // The head rows of the blocks that are open.
     let mut open = [0u16; DEPTH_LIMIT];
     let mut depth = 0;
     for r in 0..count as u16 {
-        let mut row = row(lines.next(b"row=")?).ok_or((3, lines.line))?;
+        let mut row = row(lines.next(b"row=")?, &mut items).ok_or((3, lines.line))?;
         let line = lines.line;
-        if !row.within_limits() {
+        if !row.measured() {
+            return Err((17, line));
+        }
+        if !row.within_limits(&items) {
             return Err((4, line));
         }
-        if !row.variables_below(vars) {
+        if !row.variables_below(vars, &items) {
             return Err((5, line));
         }
         match &mut row {
@@ -408,5 +433,5 @@ pub fn script(file: &[u8]) -> Result<Script, Refusal> {
     if depth > 0 {
         return Err((6, after));
     }
-    Ok(Script { vars, ranges, rows, loops })
+    Ok(Script { vars, ranges, rows, items, loops })
 }

@@ -1,5 +1,6 @@
 //! The script runner.
 
+use crate::expression::{fold, Item};
 use crate::read::{Kind, Loop, Operand, Row, Script, L};
 use crate::{Prices, Refusal};
 
@@ -96,6 +97,7 @@ pub fn run<E: Listener>(
     listener: &mut E,
 ) -> Counts {
     let rows = &script.rows[..];
+    let items = &script.items[..];
     let mut ticks = 0u64;
     let mut used = 0usize;
     let mut all = [0u64; 16];
@@ -130,17 +132,25 @@ pub fn run<E: Listener>(
     }
     macro_rules! change {
         ($v:expr, $by:expr, $row:expr) => {
-            let value = $by.apply(store[$v as usize]);
-            if value < -L as i64 || value > L as i64 {
+            let Some(value) = within($by.apply(store[$v as usize])) else {
                 end!(Ending::Range, $row);
+            };
+            store[$v as usize] = value;
+        };
+    }
+    macro_rules! operand {
+        ($x:expr, $row:expr) => {
+            match value(items, store, $x) {
+                Some(value) => value,
+                None => end!(Ending::Range, $row),
             }
-            store[$v as usize] = value as i32;
         };
     }
     macro_rules! test {
         ($l:expr, $head:expr) => {
             tick!(test, $head);
-            if $l.compare.holds(store[$l.v as usize], value(store, $l.limit)) {
+            let limit = operand!($l.limit, $head);
+            if $l.compare.holds(store[$l.v as usize], limit) {
                 turn!($l);
                 r = $head + 1;
             } else {
@@ -157,7 +167,7 @@ pub fn run<E: Listener>(
         match row {
             Row::Set { v, x } => {
                 tick!(arithmetic, r);
-                store[*v as usize] = value(store, *x);
+                store[*v as usize] = operand!(*x, r);
                 r += 1;
             }
             Row::Change { v, by } => {
@@ -189,7 +199,7 @@ pub fn run<E: Listener>(
                     }
                     Kind::For { start, .. } => {
                         tick!(arithmetic, r);
-                        store[l.v as usize] = value(store, start);
+                        store[l.v as usize] = operand!(start, r);
                     }
                     Kind::While => {}
                 }
@@ -213,9 +223,21 @@ pub fn run<E: Listener>(
 }
 
 #[inline]
-fn value(store: &[i32; 16], x: Operand) -> i32 {
+fn within(value: i64) -> Option<i32> {
+    (-L as i64 <= value && value <= L as i64).then_some(value as i32)
+}
+
+/// None if one of its operators goes past ±L.
+#[inline]
+fn value(items: &[Item], store: &[i32; 16], x: Operand) -> Option<i32> {
     match x {
-        Operand::Constant(c) => c,
-        Operand::Variable(v) => store[v as usize],
+        Operand::Constant(c) => Some(c),
+        Operand::Variable(v) => Some(store[v as usize]),
+        Operand::Expression(e) => fold(
+            e.items(items),
+            |c| c,
+            |v| store[v as usize],
+            |operator, left, right| within(operator.apply(left as i64, right as i64)),
+        ),
     }
 }

@@ -820,3 +820,293 @@ fn quotients_multiply() {
         }
     }
 }
+
+/// Change 8: shapes, and the order of 3, 17, 4 and 5 on a line.
+#[test]
+fn expression_shapes() {
+    for x in ["(1)", "((v1))", "1+1", "1-1", "1--1", "3--2", "-3*-2", "1+-1", "2*v1+2", "(v0-v1)*(v1-v0)", "-1-1", "(-1)", "v1-1", "0*0", "1-(2)"] {
+        assert_eq!(row_refused(&format!("set v0 {x}")), None, "{x}");
+        for row in [format!("while v0 < {x}"), format!("do v0 != {x}"), format!("for v0 {x} <= 5 add 1"), format!("for v0 5 > {x} sub 1")] {
+            assert_eq!(row_refused(&row), Some(67), "{row}");
+        }
+    }
+    for x in ["-v0", "-(1)", "1--0", "-0", "1+-0", "--1", "1---1", "+1", "1++1", "1+", "1-", "1*", "*1", "1**1", "1/1", "1%1", "()", "(", ")", "(1", "1)",
+        "((1)", "(1))", ")1(", "1(2)", "(1)2", "(1)(2)", "2v1", "v1v1", "v", "v+1", "v-1", "1+v", "v01+1", "01+1", "1+01", "1+-01", "(1+)", "(+1)", "1,1", "1.5",
+        "1+V0", "(-v0)", "1\t+1", "[1]", "1=1", "1+\0", "v(1)", "-", "1-+1", "1*+1", "v0-", "(v0"] {
+        assert_eq!(row_refused(&format!("set v0 {x}")), Some(3), "{x}");
+        assert_eq!(row_refused(&format!("for v0 {x} <= 5 add 1")), Some(3), "{x}");
+        assert_eq!(row_refused(&format!("while v0 < {x}")), Some(3), "{x}");
+    }
+    // No other number may be an expression, and no space may stand in one.
+    for row in ["set v0 1 + 1", "set v0 1 +1", "set v0+1 1", "set (v0) 1", "add v0 1+1", "sub v0 (1)", "mul v0 v1", "cue 1+1", "cue (1)", "while v0+1 < 2",
+        "while (v0) < 2", "while 1 < v0", "for v0 1 <= 2 add 1+1", "for v0 1 <= 2 add (1)", "for (v0) 1 <= 2 add 1", "pick (1)", "while v0 (<) 2"] {
+        assert_eq!(row_refused(row), Some(3), "{row}");
+    }
+    for row in ["set v0 1000000001-1", "set v0 1-1000000001", "set v0 0*-1000000001", "set v0 (1000000001)", "while v0 < 1+1000000001",
+        "for v0 (1000000001) < 1 add 1", "for v0 v9 < 1000000001*0 add 1", "set v9 v9+1000000001", "set v0 99999999999999999999-1"] {
+        assert_eq!(row_refused(row), Some(4), "{row}");
+    }
+    for row in ["set v0 v2+1", "set v0 1-v2", "set v0 (v2)", "set v2 1+1", "while v0 < 2*v16", "for v0 v0+v2 < 1 add 1", "for v0 1 < v0*0+v99999999999 add 1"] {
+        assert_eq!(row_refused(row), Some(5), "{row}");
+    }
+    let set = |x: &str| row_refused(&format!("set v0 {x}"));
+    let nested = |x: &str, pairs: usize| format!("{}{x}{}", "(".repeat(pairs), ")".repeat(pairs));
+    let sum = |operators: usize| vec!["1"; operators + 1].join("*");
+    assert_eq!(set(&nested("1", 8)), None);
+    assert_eq!(set(&nested("1", 9)), Some(17));
+    assert_eq!(set(&sum(15)), None);
+    assert_eq!(set(&sum(16)), Some(17));
+    // Open together, not in all; a sign is no operator.
+    assert_eq!(set(&vec![nested("1", 8); 16].join("+")), None);
+    assert_eq!(set(&format!("1+{}", nested("1", 9))), Some(17));
+    assert_eq!(set(&vec!["-1"; 16].join("-")), None);
+    assert_eq!(set(&vec!["-1"; 17].join("-")), Some(17));
+    assert_eq!(set(&format!("({})+{}", sum(7), sum(7))), None);
+    assert_eq!(set(&format!("({})+{}", sum(8), sum(7))), Some(17));
+    // Each expression alone.
+    assert_eq!(row_refused(&format!("for v0 {} < {} add 1", sum(15), sum(15))), Some(67));
+    assert_eq!(row_refused(&format!("for v0 {} < {} add 1", nested("v0", 8), nested("v1", 8))), Some(67));
+    assert_eq!(row_refused(&format!("for v0 {} < 1 add 1", sum(16))), Some(17));
+    assert_eq!(row_refused(&format!("for v0 1 < {} add 1", sum(16))), Some(17));
+    // 3 before 17 before 4 before 5.
+    assert_eq!(row_refused(&format!("for v0 {} < -v0 add 1", sum(16))), Some(3));
+    assert_eq!(set(&format!("{}+", sum(16))), Some(3));
+    assert_eq!(row_refused(&format!("for v99 1000000001 < {} add 1", sum(16))), Some(17));
+    assert_eq!(row_refused(&format!("for v0 v99 < {} add -1", sum(16))), Some(17));
+    assert_eq!(row_refused(&format!("for v99 v99 < 1000000001+{} add 1", sum(14))), Some(4));
+    // As long as a file can be.
+    assert_eq!(set(&"(".repeat(16_300)), Some(3));
+    assert_eq!(set(&nested("", 8_100)), Some(3));
+    assert_eq!(set(&nested("1", 8_100)), Some(17));
+    assert_eq!(set(&sum(8_100)), Some(17));
+    assert_eq!(set(&")".repeat(16_300)), Some(3));
+    assert_eq!(set(&format!("1{}", "-".repeat(16_000))), Some(3));
+    assert_eq!(set(&format!("{}*0", "9".repeat(16_000))), Some(4));
+    assert_eq!(set(&format!("v{}*0", "9".repeat(16_000))), Some(5));
+}
+
+/// Expression calls term, term calls factor, factor calls expression: the value of a word, with what follows it, or None for a wrong shape.
+fn by_descent(text: &str, variable: i64) -> Option<i64> {
+    fn expression<'t>(text: &'t str, v: i64) -> Option<(i64, &'t str)> {
+        let (mut value, mut rest) = term(text, v)?;
+        while rest.starts_with(['+', '-']) {
+            let (next, after) = term(&rest[1..], v)?;
+            value = if rest.starts_with('+') { value + next } else { value - next };
+            rest = after;
+        }
+        Some((value, rest))
+    }
+    fn term<'t>(text: &'t str, v: i64) -> Option<(i64, &'t str)> {
+        let (mut value, mut rest) = factor(text, v)?;
+        while let Some(after) = rest.strip_prefix('*') {
+            let (next, after) = factor(after, v)?;
+            value *= next;
+            rest = after;
+        }
+        Some((value, rest))
+    }
+    fn factor<'t>(text: &'t str, v: i64) -> Option<(i64, &'t str)> {
+        if let Some(inner) = text.strip_prefix('(') {
+            let (value, rest) = expression(inner, v)?;
+            return Some((value, rest.strip_prefix(')')?));
+        }
+        if let Some(rest) = text.strip_prefix("v1") {
+            return (!rest.starts_with(|c: char| c.is_ascii_digit())).then_some((v, rest));
+        }
+        let sign = text.starts_with('-') as usize;
+        let digits = text[sign..].find(|c: char| !c.is_ascii_digit()).unwrap_or(text.len() - sign);
+        let (number, rest) = text.split_at(sign + digits);
+        let value: i64 = number.parse().ok()?;
+        (value.to_string() == number).then_some((value, rest))
+    }
+    let (value, rest) = expression(text, variable)?;
+    rest.is_empty().then_some(value)
+}
+
+/// Change 8: every word of up to six of these parts has the shape and the value that descent gives it.
+#[test]
+fn expressions_by_descent() {
+    let parts = ["2", "v1", "+", "-", "*", "(", ")", "0"];
+    let (mut words, mut good) = (vec![String::new()], 0);
+    for _ in 0..6 {
+        let mut longer = Vec::new();
+        for word in &words {
+            for part in parts {
+                let word = format!("{word}{part}");
+                let mut items = vec![expression::Item::Constant(9)];
+                let value = match expression::operand(word.as_bytes(), &mut items) {
+                    None => None,
+                    Some(read::Operand::Constant(c)) => Some(c as i64),
+                    // v10 is another one.
+                    Some(read::Operand::Variable(v)) => (v == 1).then_some(7),
+                    Some(read::Operand::Expression(e)) => {
+                        let other = e.items(&items).iter().any(|item| matches!(item, expression::Item::Variable(v) if *v != 1));
+                        let value = expression::fold(e.items(&items), |c| c as i64, |_| 7, |operator, l, r| Some(operator.apply(l, r)));
+                        if other { None } else { value }
+                    }
+                };
+                assert_eq!(value, by_descent(&word, 7), "{word}");
+                good += value.is_some() as u64;
+                longer.push(word);
+            }
+        }
+        words = longer;
+    }
+    assert!(good > 1_500, "{good}");
+}
+
+/// Change 8: times before plus and minus, equals from the left, in runs.
+#[test]
+fn expression_values() {
+    let run_of = |x: &str, v1: i32| {
+        let row = format!("set v0 {x}");
+        let run = run(&file(&[(0, 0), (-1_000_000_000, 1_000_000_000)], &[&row]), &ONES, SCRATCH, &[0, v1], &[], 1).unwrap();
+        assert_eq!(run.ticks, 1, "{x}");
+        match run.ending {
+            Ending::Ended => Some(run.store[0]),
+            Ending::Range => {
+                assert_eq!((run.row, run.store[0]), (0, 0), "{x}");
+                None
+            }
+            _ => panic!("{x}"),
+        }
+    };
+    for (x, value) in [
+        ("2*v1+2", 16),
+        ("2+v1*2", 16),
+        ("(2+v1)*2", 18),
+        ("9-4-3", 2),
+        ("9-(4-3)", 8),
+        ("9-4+3", 8),
+        ("2*3-4*5", -14),
+        ("2*(3-4)*5", -10),
+        ("3--2", 5),
+        ("1-2", -1),
+        ("-3*-2", 6),
+        ("((v1))", 7),
+        ("v1-v1", 0),
+        ("2-3*4-5", -15),
+        ("1000000000*1", 1_000_000_000),
+        ("-1000000000+0", -1_000_000_000),
+        ("1000000000-1000000000-1000000000", -1_000_000_000),
+        ("1+1+1+1+1+1+1+1+1+1+1+1+1+1+1+1", 16),
+        ("((((((((1+1)*2)*2)*2)*2)*2)*2)*2)", 256),
+    ] {
+        assert_eq!(run_of(x, 7), Some(value), "{x}");
+    }
+    // Each operator is asked, not the whole.
+    for x in ["1000000000+1", "-1000000000-1", "1000000000+1-1", "1-1000000000-1000000000", "500000000*3-1000000000", "0*(500000000*3)",
+        "v1*142857143", "v1*142857143*0", "1000000000*1000000000*0", "-1000000000*-1000000000"] {
+        assert_eq!(run_of(x, 7), None, "{x}");
+    }
+    assert_eq!(run_of("1-1+1000000000", 0), Some(1_000_000_000));
+    assert_eq!(run_of("v1*v1", 31_622), Some(999_950_884));
+    assert_eq!(run_of("v1*v1", 31_623), None);
+    assert_eq!(run_of("v1+v1", -500_000_000), Some(-1_000_000_000));
+    assert_eq!(run_of("v1+v1", -500_000_001), None);
+}
+
+/// Change 8: where and when a run ends in an expression.
+#[test]
+fn expressions_past_the_limit() {
+    let ranges: &[(i64, i64)] = &[(0, 0), (0, 1_000_000_000), (0, 0)];
+    let go = |rows: &[&str], v1: i32, allowance| {
+        let run = run(&file(ranges, rows), &PRICES, SCRATCH, &[0, v1, 0], &[], allowance).unwrap();
+        (run.ending, run.row, run.ticks, run.store[0], run.entries)
+    };
+    let entry = |row, turns, tested| Entry { row, turns, tested };
+    // The price comes first, and then the row of the `set`.
+    let rows = ["cue 1", "set v0 v1+v1"];
+    assert_eq!(go(&rows, 500_000_001, 12), (Ending::Spent, 1, 10, 0, vec![]));
+    assert_eq!(go(&rows, 500_000_001, 13), (Ending::Range, 1, 13, 0, vec![]));
+    assert_eq!(go(&rows, 500_000_000, 13), (Ending::Ended, 2, 13, 1_000_000_000, vec![]));
+    // The head row of a limit; its test does not end the entry.
+    let rows = ["cue 1", "while v0 < 2*v1", "add v0 1000000000", "end"];
+    assert_eq!(go(&rows, 500_000_001, 709), (Ending::Spent, 1, 10, 0, vec![entry(1, 0, false)]));
+    assert_eq!(go(&rows, 500_000_001, 710), (Ending::Range, 1, 710, 0, vec![entry(1, 0, false)]));
+    assert_eq!(go(&rows, 500_000_000, 9_999), (Ending::Ended, 4, 10 + 700 + 703, 1_000_000_000, vec![entry(1, 1, true)]));
+    // A do's test, behind its first turn.
+    let rows = ["cue 1", "do v0 < 2*v1", "add v0 1000000000", "end"];
+    assert_eq!(go(&rows, 500_000_001, 9_999), (Ending::Range, 1, 10 + 3 + 700, 1_000_000_000, vec![entry(1, 1, false)]));
+    // A for's start, then its limit; the start is assigned.
+    let rows = ["cue 1", "for v0 v1+1 < 3*v1 add 1000000000", "end"];
+    assert_eq!(go(&rows, 1_000_000_000, 12), (Ending::Spent, 1, 10, 0, vec![entry(1, 0, false)]));
+    assert_eq!(go(&rows, 1_000_000_000, 9_999), (Ending::Range, 1, 13, 0, vec![entry(1, 0, false)]));
+    assert_eq!(go(&rows, 400_000_000, 9_999), (Ending::Range, 1, 713, 400_000_001, vec![entry(1, 0, false)]));
+    assert_eq!(go(&rows, 0, 9_999), (Ending::Ended, 3, 713, 1, vec![entry(1, 0, true)]));
+    // The start may read the for's own variable.
+    let rows = ["for v2 5 <= 5 add 1", "end", "for v2 v2*2 < 14 add 1", "end"];
+    let own = run(&file(ranges, &rows), &ONES, SCRATCH, &[0, 0, 0], &[], 99).unwrap();
+    assert_eq!((own.store[2], own.entries), (14, vec![entry(0, 1, true), entry(2, 2, true)]));
+}
+
+/// Change 8: each operator's range, read off by a loop from it and a loop up to it.
+#[test]
+fn expression_ranges() {
+    let range = |ranges: [(i64, i64); 2], x: &str| {
+        let set = format!("set v2 {x}");
+        let rows = [&set[..], "for v3 v2 <= 1000000000 add 1", "end", "for v3 -1000000000 <= v2 add 1", "end"];
+        let plan = plan(&file(&[ranges[0], ranges[1], (0, 0), (0, 0)], &rows), &ONES, SCRATCH).unwrap();
+        (1_000_000_001 - plan.lines[0].turns as i64, plan.lines[1].turns as i64 - 1_000_000_001)
+    };
+    const L: i64 = 1_000_000_000;
+    for (v0, v1, x, expected) in [
+        ((1, 3), (-2, 5), "v0+v1", (-1, 8)),
+        ((1, 3), (-2, 5), "v0-v1", (-4, 5)),
+        ((1, 3), (-2, 5), "v1-v0", (-5, 4)),
+        // 15, -12, -10, 8.
+        ((-3, 2), (-5, 4), "v0*v1", (-12, 15)),
+        ((-3, -2), (-5, -4), "v0*v1", (8, 15)),
+        ((-3, -2), (4, 5), "v0*v1", (-15, -8)),
+        ((-3, 2), (-7, -7), "v0*v1", (-14, 21)),
+        ((-3, 2), (0, 0), "v0-v0", (-5, 5)),
+        ((-3, 2), (0, 0), "v0*v0", (-6, 9)),
+        ((4, 4), (7, 7), "2*v0+v1*(v0-1)", (29, 29)),
+        // Drawn back inside.
+        ((2, 2), (0, 0), "v0*1000000000-1000000000", (0, 0)),
+        ((-2, 2), (0, 0), "v0*1000000000*0", (0, 0)),
+        ((-2, 2), (0, 0), "v0*1000000000-1000000000", (-L, 0)),
+        ((1, 3), (0, 0), "v0*600000000-600000000", (0, 400_000_000)),
+        ((-L, L), (-L, L), "v0*v1", (-L, L)),
+        ((L, L), (L, L), "v0+v1-v1", (0, 0)),
+        ((-L, -L), (L, L), "v0-v1+v1", (0, 0)),
+        ((5, 9), (0, 0), "(v0)", (5, 9)),
+        ((0, 0), (0, 0), "(-7)", (-7, -7)),
+    ] {
+        assert_eq!(range([v0, v1], x), expected, "{x} of {v0:?} {v1:?}");
+    }
+}
+
+/// Change 8: limits and starts, question 10, and what is neither a variable nor a constant.
+#[test]
+fn expression_limits() {
+    let line = |ranges: &[(i64, i64)], rows: &[&str]| plan(&file(ranges, rows), &ONES, SCRATCH).map(|plan| (plan.lines[0].turns, plan.lines[0].exact));
+    // Twice the rig plus two.
+    assert_eq!(line(&[(0, 0), (5, 5)], &["while v0 < 2*v1+2", "add v0 1", "end"]), Ok((12, true)));
+    assert_eq!(line(&[(0, 0), (5, 6)], &["while v0 < 2*v1+2", "add v0 1", "end"]), Ok((14, false)));
+    assert_eq!(line(&[(0, 0), (5, 5)], &["for v0 v1-3 <= (v1) add 1", "end"]), Ok((4, true)));
+    assert_eq!(line(&[(9, 9), (5, 5)], &["do v0 >= v1-2", "sub v0 2", "end"]), Ok((4, true)));
+    assert_eq!(line(&[(1, 1), (5, 5)], &["while v0 < (9)", "mul v0 2", "end"]), Ok((4, true)));
+    assert_eq!(line(&[(0, 0), (5, 5)], &["while v0 != v1+1", "add v0 3", "end"]), Ok((2, true)));
+    // The limit is read when the for's start is assigned: so it refuses here, and the start may read what it assigns.
+    assert_eq!(line(&[(4, 4), (5, 5)], &["for v0 v0+1 < 7+0*v0 add 1", "end"]), Err((10, 0)));
+    assert_eq!(line(&[(4, 4), (5, 5)], &["for v0 v0+1 < 7 add 1", "end"]), Ok((2, true)));
+    // Any of its variables, also in a standing row or an inner loop; it never closes.
+    for row in ["add v1 1", "sub v1 0", "set v1 v1", "mul v1 1"] {
+        assert_eq!(line(&[(0, 0), (5, 5), (3, 3)], &["while v0 < v2*v1", "add v0 1", row, "end"]), Err((10, 0)), "{row}");
+        assert_eq!(line(&[(0, 0), (5, 5), (3, 3)], &["while v0 < (v1)", "add v0 1", row, "end"]), Err((10, 0)), "{row}");
+    }
+    assert_eq!(line(&[(0, 0), (5, 5)], &["while v0 < v0+1", "add v0 1", "end"]), Err((10, 0)));
+    assert_eq!(line(&[(0, 0), (5, 5)], &["while v0 < v1-v1", "sub v1 1", "end"]), Err((9, 0)));
+    assert_eq!(line(&[(0, 0), (5, 5)], &["while v0 < v1", "sub v1 1", "end"]), Ok((5, true)));
+    assert_eq!(line(&[(0, 0), (5, 5)], &["while v0 < v1+0", "add v0 1", "for v1 0 < 1 add 1", "end", "end"]), Err((10, 0)));
+    assert_eq!(line(&[(0, 0), (5, 5), (1, 1)], &["while v0 < v1+v1", "add v0 1", "add v2 1", "end"]), Ok((10, true)));
+    // A copy in parentheses is none.
+    assert_eq!(line(&[(0, 0), (3, 3)], &["while v0 < 10", "add v1 1", "set v0 v1", "end"]), Ok((7, true)));
+    for copy in ["set v0 (v1)", "set v0 v1+0", "set v0 1*v1"] {
+        assert_eq!(line(&[(0, 0), (3, 3)], &["while v0 < 10", "add v1 1", copy, "end"]), Err((8, 0)), "{copy}");
+    }
+    // A copied counter's limit may be an expression.
+    assert_eq!(line(&[(0, 0), (3, 3), (5, 5)], &["while v0 < 2*v2", "add v1 1", "set v0 v1", "end"]), Ok((7, true)));
+    assert_eq!(line(&[(0, 0), (3, 3), (5, 5)], &["while v0 < 2*v1", "add v1 1", "set v0 v1", "end"]), Err((10, 0)));
+}

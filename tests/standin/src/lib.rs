@@ -1,8 +1,12 @@
 //! The oracle behind the library's C interface. With STANDIN_WRONG=N in the environment it makes the
 //! N-th of the mistakes below, so that the harness can be seen to find them.
 
-use oracle::analyse::{copied, own_step, Term};
+mod expressions;
+
+use expressions::*;
+use oracle::analyse::{analyse, analyse_by, copied, own_step, Term};
 use oracle::{read, report_into, report_text, run_counts, Counted, Ending, Plan, Refusal, Row, ONES};
+use std::borrow::Cow;
 use std::slice;
 use std::sync::OnceLock;
 
@@ -33,9 +37,52 @@ fn scribble(scratch: &mut [u32], run: bool) {
     }
 }
 
+/// The file as a mistake of reading takes it.
+fn taken(file: &[u8]) -> Cow<'_, [u8]> {
+    let mistakes: [(u32, fn(&str) -> Option<String>); 6] = [
+        // 26: plus before times.
+        (26, plus_before_times),
+        // 27: equals from the right.
+        (27, equals_from_the_right),
+        // 31: 9 parentheses pass.
+        (31, nine),
+        // 32: 16 operators pass.
+        (32, sixteen),
+        // 35: `-v0` passes.
+        (35, minus_before_all),
+        // 39: `(v1)` is a variable.
+        (39, bare),
+    ];
+    match mistakes.iter().find(|(mistake, _)| wrong(*mistake)) {
+        Some((_, word)) => rewritten(file, word).into(),
+        None => file.into(),
+    }
+}
+
 /// What a report answers by a mistake of the analysis; None if there is none.
 fn misread(file: &[u8], plan: &Result<Plan, Refusal>) -> Option<Result<Vec<u8>, Refusal>> {
     match plan {
+        // 28: an operator's range by two of the four results.
+        Ok(plan) if wrong(28) => Some(analyse_by(two_of_four, plan.script.clone(), plan.prices).map(|plan| report_text(&plan))),
+        // 29: no result is drawn back inside an expression.
+        Ok(plan) if wrong(29) => Some(analyse_by(not_drawn_back, plan.script.clone(), plan.prices).map(|plan| report_text(&plan))),
+        // 33: 17 before 3.
+        Err((3, line)) if wrong(33) && too_long(file, *line) => Some(Err((17, *line))),
+        // 34: 17 after 4.
+        Err((17, line)) if wrong(34) && past_the_limits(file, *line) => Some(Err((4, *line))),
+        // 36: a limit passes though the body assigns one of its variables.
+        Err((10, head)) if wrong(36) => {
+            let mut script = read::script(file).ok()?;
+            let Row::Loop(l) = &mut script.rows[*head as usize] else { return None };
+            if !matches!(l.limit, read::Operand::Expression(_)) {
+                return None;
+            }
+            l.limit = read::Operand::Constant(0);
+            let prices = oracle::prices::prices(&ONES).ok()?;
+            Some(analyse(script, prices).map(|plan| report_text(&plan)))
+        }
+        // 38: the two expressions of a for are measured together.
+        Ok(plan) if wrong(38) => together(&plan.script).map(|line| Err((17, line))),
         // 13: a copied counter's figure without the first turn.
         Ok(plan) if wrong(13) => {
             let mut plan = plan.clone();
@@ -94,7 +141,7 @@ pub unsafe extern "C" fn diftanew_report(
     buffer_len: usize,
     place: *mut u64,
 ) -> u32 {
-    let file = slice::from_raw_parts(file, file_len);
+    let file = &*taken(slice::from_raw_parts(file, file_len));
     let prices = slice::from_raw_parts(prices, prices_len);
     let scratch = slice::from_raw_parts_mut(scratch, scratch_len);
     let buffer = slice::from_raw_parts_mut(buffer, buffer_len);
@@ -157,7 +204,7 @@ pub unsafe extern "C" fn diftanew_run(
     allowance: u64,
     answer: *mut u64,
 ) -> u32 {
-    let file = slice::from_raw_parts(file, file_len);
+    let file = &*taken(slice::from_raw_parts(file, file_len));
     let scratch = slice::from_raw_parts_mut(scratch, scratch_len);
     let length = measured(scratch_len);
     scribble(scratch, true);
@@ -211,6 +258,17 @@ pub unsafe extern "C" fn diftanew_run(
                 let rows = read::script(file).map(|script| script.rows).unwrap_or_default();
                 if let Some(Row::Change { v, by }) = rows.last() {
                     store[*v as usize] += (by.op == read::Op::Div && by.c > 1 && store[*v as usize] < 0) as i32;
+                }
+            }
+            if wrong(30) || wrong(37) {
+                let script = oracle::plan(file, prices, length).expect("it has run").script;
+                // 30: only the whole expression is asked for past L.
+                if wrong(30) && counts.ending == Ending::Range && goes_past(&script, counts.row, store, false) && !goes_past(&script, counts.row, store, true) {
+                    answer[0] = 0;
+                }
+                // 37: an expression is worked out before its price is taken.
+                if wrong(37) && counts.ending == Ending::Spent && goes_past(&script, counts.row, store, false) {
+                    answer[0] = 2;
                 }
             }
             // 11: the store is left alone.

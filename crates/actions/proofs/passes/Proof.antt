@@ -1,22 +1,23 @@
 -- `actions::passes` meets its contract. Assumes nothing.
-use Rattle.rules.specs.Values.{value, compares}
-use borrow.Author.Needs.{sfits-of}
+use Rattle.rules.specs.Values.{compares}
+use borrow.Author.Needs.{needs, sfits-of}
 use mir.Val.{SFits}
-use mir.Syntax.{w32}
-use mir.Facts.{toZ-ofZ}
-use mathlib.Core.Path.{_∙_}
-use borrow.Author.Needs.{needs}
+use mir.Syntax.{w32, w64}
+use mir.Facts.{toZ-ofZ, sfits-widen}
+use mathlib.Core.Path.{_∙_, ap}
 use Rattle.actions.proofs.passes.Statement.{statement}
 use Rattle.actions.proofs.passes.Tie as tie
 
+cast-holds : tie.Need-cast-holds
+cast-holds c = let f : SFits w32 (c .stored .result) = sfits-of (c .stored .ok) in rw (toZ-ofZ f) (sfits-widen tt f)
+
 returns : tie.Need-returns
-unfolding value
 returns c =
-    let x = c .before .before .value-of in
-    let y = c .before .value-of2 in
+    let s = c .before .before in
+    let x = c .before .stored in
     let f : SFits w32 (x .result) = sfits-of (x .ok) in
-    let g : SFits w32 (y .result) = sfits-of (y .ok) in
-    (simp (toZ-ofZ f, toZ-ofZ g) at (c .holds .ensures)) ∙ (λ i. compares (c .before .before .before .args .comparison) (x .ensures i) (y .ensures i))
+    let g : SFits w64 (x .result) = sfits-widen tt f in
+    (simp (toZ-ofZ f, toZ-ofZ g, toZ-ofZ (s .fits .limit)) at (c .holds .ensures)) ∙ ap (λ y. compares (s .args .comparison) y (s .args .limit)) (x .ensures)
 
 pub passes-spec : {M : Type 1} → statement M
-passes-spec = tie.close (tie.spec (λ c κs. search needs) (λ c κs. search needs) (λ c κs. search needs) returns)
+passes-spec = tie.close (tie.spec (λ c κs. search needs) cast-holds (λ c κs. search needs) returns)

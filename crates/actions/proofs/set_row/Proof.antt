@@ -1,26 +1,23 @@
 -- `actions::set_row` meets its contract. Assumes nothing.
-use Rattle.actions.proofs.Laws.{put-plain}
-use Rattle.rules.specs.Blocks.{from}
+use Rattle.actions.proofs.Laws.{put-plain, write-in}
+use Rattle.rules.specs.Blocks.{from, exprOf}
 use Rattle.rules.specs.Run.{result}
-use mir.Facts.{toZ-ofZ, sfits-widen}
-use borrow.Author.Needs.{sfits-of}
+use Rattle.values.specs.Results.{resultIn}
+use mir.Facts.{toZ-ofZ}
+use borrow.Author.Needs.{needs, sfits-of}
+use denote.Ref.{now}
 use mir.Val.{SFits}
-use mir.Syntax.{w32, w64}
-use borrow.Author.Needs.{needs}
+use mir.Syntax.{w64}
 use Rattle.actions.proofs.set_row.Statement.{statement}
 use Rattle.actions.proofs.set_row.Tie as tie
-
-cast-put : tie.Need-cast-put
-cast-put c = let f : SFits w32 (c .value-of .result) = sfits-of (c .value-of .ok) in rw (toZ-ofZ f) (sfits-widen tt f)
 
 returns : tie.Need-returns
 unfolding result
 returns c =
-    let a = c .before .before .before .before .before .args in
-    let x = c .before .before .before .value-of in
-    let f : SFits w32 (x .result) = sfits-of (x .ok) in
-    let g : SFits w64 (x .result) = sfits-widen tt f in
-    λ d. put-plain (a .prices) (a .at) (a .v) (a .row) (a .testing) (from (a .x)) (simp (toZ-ofZ f, toZ-ofZ g) (x .ensures)) (c .before .put .ensures d)
+    let a = c .before .before .before .before .before .before .args in
+    let z = c .before .before .before .value-of in
+    let f : SFits w64 (z .result) = sfits-of (z .ok) in
+    λ d. put-plain (a .prices) (a .at) (a .v) (a .row) (a .testing) (from (exprOf (now (a .text)) (a .x))) (z .result) (resultIn (z .result)) (write-in (a .at) (a .v) (z .result)) (z .ensures) (simp (toZ-ofZ f) at (c .before .put .ensures d))
 
 pub set-row-spec : {M : Type 1} → statement M
-set-row-spec = tie.close (tie.spec (λ c κs. search needs) cast-put (λ c κs. search needs) (λ c. search needs) returns)
+set-row-spec = tie.close (tie.spec (λ c κs. search needs) (λ c κs. search needs) (λ c. search needs) returns)

@@ -10,30 +10,30 @@ use Rattle.calls.proofs.report_script.Tie as tie
 
 -- the script that is held
 abbrev script : tie.Start → Script
-script s = scriptOf (s .args .ranges) (s .args .vars) (s .args .rows) (s .args .count)
+script s = scriptOf (s .args .text .now) (s .args .ranges) (s .args .vars) (s .args .rows) (s .args .count)
 
 put-rows-requires : tie.Need-put-rows-requires
-put-rows-requires c κs = let s = c .before .before .before in (search needs, few-rows _ _ _ _ (s .pre .0), fine-rows _ _ _ _ (s .pre .0))
+put-rows-requires c κs = let s = c .before .before .before .before in (search needs, few-rows _ _ _ _ _ (s .pre .0), fine-rows _ _ _ _ _ (s .pre .0))
 
 prices-of-requires : tie.Need-prices-of-requires
-prices-of-requires c κs = four _ (c .before .before .before .before .pre .1)
+prices-of-requires c κs = four _ (c .before .before .before .before .before .pre .1)
 
 survey-requires : tie.Need-survey-requires
 survey-requires c κs =
-    let s = c .before .before .before .before .before .before .before in
+    let s = c .before .before .before .before .before .before .before .before in
     let p = c .before .before .before .put-rows in
-    survey-asks (s .args .ranges) (s .args .vars) (s .args .rows) (s .args .count) (s .pre .0) (p .last .0) (p .ensures .1) (p .ensures .0) (fine (s .args .prices .now) (s .pre .1) (c .before .before .prices-of .ensures)) (search needs)
+    survey-asks (s .args .text .now) (s .args .ranges) (s .args .vars) (s .args .rows) (s .args .count) (s .pre .0) (p .last .0) (p .ensures .1) (p .ensures .0) (fine (s .args .prices .now) (s .pre .1) (c .before .before .prices-of .ensures)) (search needs)
 
 -- what the survey found of it
-found : (c : tie.After-survey) → Found (c .before .before .before .before .before .before .before .before .args .prices .now) (script (c .before .before .before .before .before .before .before .before)) (c .before .before .before .before .before .before .before .before .args .count) (c .survey .result) (c .survey .last .1 .1 .1 .1 .1 .0)
+found : (c : tie.After-survey) → Found (c .before .before .before .before .before .before .before .before .before .args .prices .now) (script (c .before .before .before .before .before .before .before .before .before)) (c .before .before .before .before .before .before .before .before .before .args .count) (c .survey .result) (c .survey .last .1 .1 .1 .1 .1 .1 .0)
 found c =
-    let s = c .before .before .before .before .before .before .before .before in
+    let s = c .before .before .before .before .before .before .before .before .before in
     let p = c .before .before .before .before .put-rows in
-    found-by _ _ _ _ (s .pre .0) (s .args .prices .now) (c .before .before .before .prices-of .ensures) (c .survey .result) _ (survey-same _ _ _ _ (s .pre .0) (p .last .0) (p .ensures .1) (c .survey .ensures))
+    found-by _ _ _ _ _ (s .pre .0) (s .args .prices .now) (c .before .before .before .prices-of .ensures) (c .survey .result) _ (survey-same _ _ _ _ _ (s .pre .0) (p .last .0) (p .ensures .1) (c .survey .ensures))
 
 returns : tie.Need-returns
 returns c =
-    let s = c .before .before .before .before .before .before .before .before .before .before in
+    let s = c .before .before .before .before .before .before .before .before .before .before .before in
     let f = c .before .before .survey in
     let h : f .result .number ≡ 0 → ⊥ = search needs in
     not-reported (s .args .prices .now) (script s) (s .args .count) (f .result) _ (found (c .before .before)) h _ _
@@ -46,7 +46,7 @@ write-report-requires c κs =
 
 returns-2 : tie.Need-returns-2
 returns-2 c =
-    let s = c .before .before .before .before .before .before .before .before .before .before .before .before .before .before .before in
+    let s = c .before .before .before .before .before .before .before .before .before .before .before .before .before .before .before .before in
     let f = c .before .before .before .before .before .before .before .survey in
     let z : f .result .number ≡ 0 = search needs in
     reported (s .args .prices .now) (script s) (s .args .count) (f .result) _ (found (c .before .before .before .before .before .before .before)) z _ _ _ _ (c .before .before .write-report .ensures)

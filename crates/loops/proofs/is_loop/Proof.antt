@@ -1,12 +1,12 @@
 -- `loops::is_loop` meets its contract. Assumes nothing.
 use borrow.Author.Needs.{needs}
-use Rattle.rules.specs.Blocks.{viewOf}
+use Rattle.rules.specs.Blocks.{viewOf, kindOf}
 use Rattle.rules.specs.Calls.{isLoop}
 use Rattle.loops.proofs.is_loop.Statement.{statement}
 use Rattle.loops.proofs.is_loop.Tie as tie
 
 pub is-loop-spec : {M : Type 1} → statement M
-unfolding isLoop viewOf
+unfolding isLoop viewOf kindOf
 is-loop-spec =
     tie.close
     (tie.spec
@@ -19,12 +19,12 @@ is-loop-spec =
     (λ c. search needs)
     (λ c. search needs)
     (λ c. search needs)
-    (λ c. search needs)
-    (λ c. search needs)
-    (λ c. search needs)
-    (λ c. search needs)
-    (λ c. search needs)
-    (λ c. search needs)
-    (λ c. search needs)
-    (λ c. search needs)
-    (λ c. search needs))
+    (λ c text. search needs)
+    (λ c text. search needs)
+    (λ c text. search needs)
+    (λ c text. search needs)
+    (λ c text. search needs)
+    (λ c text. search needs)
+    (λ c text. search needs)
+    (λ c text. search needs)
+    (λ c text. search needs))

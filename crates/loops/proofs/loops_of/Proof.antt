@@ -1,65 +1,52 @@
--- `loops::loops_of` meets its contract. The invariant: the loops before row j are listed. Assumes nothing.
-use Rattle.loops.proofs.Listing.{Listing, none-first, room-for, listing-row, listing-all}
-use Rattle.rules.proofs.Heads.{heads-few}
-use Rattle.rules.specs.Calls.{isLoop, loopRows}
-use Rattle.loops.specs.Loops.{countsIn, withRow}
-use Rattle.rules.proofs.Laws.{kinds-first, kind-of}
-use Rattle.rules.specs.Blocks.{viewOf, kindsOf}
-use Rattle.rules.specs.RowMachine.{tallyOf}
-use lib.ListN.{length, getD, take}
-use Prim.Native.Nat.{_+_, _-_, _≤_}
-use mathlib.Core.Path.{_≡_, refl, _∙_, ap, subst}
-use mathlib.Core.List.{[]}
-use borrow.Author.Needs.{needs}
+-- `loops::loops_of` meets its contract. The invariant: the counts of the first k loops are listed. Assumes nothing.
+use Prim.Native.Nat.{_-_, _≤_, _<_}
+use mathlib.Core.Path.{_≡_}
 use native.Mathlib.Omega.{arith}
+use lib.ListN.{length, getD}
+use Rattle.rules.specs.RowMachine.{tallyOf}
+use Rattle.loops.proofs.Listing.{Counting, counting-none, counting-more, counting-all}
+use borrow.Author.Needs.{needs}
 use Rattle.loops.proofs.loops_of.Statement.{statement}
 use Rattle.loops.proofs.loops_of.Tie as tie
 
 abbrev Inv-loop : tie.InvT-loop
-Inv-loop count counts rows loops₀ j₀ loops j = (j ≤ count) × Listing (take count (kindsOf rows)) (tallyOf counts) j loops
+Inv-loop counts heads listed₀ k₀ listed k = (k ≤ heads .count) × Counting (heads .rows) (tallyOf counts) k listed
 
 abbrev μ-loop : tie.MeasureT-loop
-μ-loop count counts rows loops₀ j₀ loops j = count - j
+μ-loop counts heads listed₀ k₀ listed k = heads .count - k
 
--- the rows are a whole array
-full : (s : tie.Start Inv-loop μ-loop) → length (s .args .t1) ≡ 256
+-- the head rows are a whole array
+full : (s : tie.Start Inv-loop μ-loop) → length (s .args .t1 .rows) ≡ 16
 full s = search needs
 
 loop-holds : tie.Need-loop-holds Inv-loop μ-loop
-unfolding countsIn loopRows
-loop-holds c = (omega arith, record { size = refl; heads = []; all = refl; number = refl; counts = refl; rest = none-first })
+loop-holds c = (omega arith, counting-none _ _)
 
-with-row-requires : tie.Need-with-row-requires Inv-loop μ-loop
-with-row-requires c κs =
-    let s = c .before .before .before .before .before in
-    let a = s .args in
-    let l = c .before .before .before .before .loop in
-    let n = kinds-first (a .count) (a .t1) (omega (arith, s .pre .size, full s)) in
-    let few = heads-few (take (a .count) (kindsOf (a .t1))) _ (s .pre .closed .1) in
-    let i = c .before .before .before .loop-test .taken in
-    λ e. room-for _ (tallyOf (a .counts .now)) few (l .j) (l .loops) (l .inv .1) (omega arith) (ap (λ k. isLoop (viewOf k)) (kind-of (a .count) (a .t1) (l .j) i) ∙ e)
+-- the next head row is one of 256
+in-table : (c : tie.After-row Inv-loop μ-loop) → let s = c .before .before .before in getD (s .args .t1 .rows) (c .before .before .loop .k) 0 < 256
+in-table c = c .before .before .before .pre .small _ (c .before .loop-test .taken)
+
+mul-t8 : tie.Need-mul-t8 Inv-loop μ-loop
+mul-t8 c = let f = in-table c in search needs
+
+index-t17 : tie.Need-index-1-t17 Inv-loop μ-loop
+index-t17 c = in-table c
+
+mul-t18 : tie.Need-mul-t18 Inv-loop μ-loop
+mul-t18 c = let f = in-table (c .before) in search needs
+
+index-t23 : tie.Need-index-1-t23 Inv-loop μ-loop
+index-t23 c = in-table (c .before)
 
 loop-again : tie.Need-loop-again Inv-loop μ-loop
 loop-again c =
-    let s = c .before .before .before .before .before .before in
-    let a = s .args in
-    let l = c .before .before .before .before .before .loop in
-    let n = kinds-first (a .count) (a .t1) (omega (arith, s .pre .size, full s)) in
-    let few = heads-few (take (a .count) (kindsOf (a .t1))) _ (s .pre .closed .1) in
-    let i = c .before .before .before .before .loop-test .taken in (
-      omega arith,
-      rw (c .with-row .ensures) (subst (λ k. Listing (take (a .count) (kindsOf (a .t1))) (tallyOf (a .counts .now)) (l .j + 1) (withRow (isLoop (viewOf k)) (l .j) (tallyOf (a .counts .now) .sum (l .j)) (tallyOf (a .counts .now) .most (l .j)) (l .loops))) (kind-of (a .count) (a .t1) (l .j) i)
-          (listing-row _ (tallyOf (a .counts .now)) few (l .j) (l .loops) (l .inv .1) (omega arith))),
-    )
+    let s = c .before .before .before .before .before in
+    let l = c .before .before .before .before .loop in
+    let i = c .before .before .before .loop-test .taken in
+    (omega arith, counting-more _ _ (l .k) (l .listed) (omega (arith, full s, s .pre .few)) (omega (arith, s .pre .few)) (l .inv .1))
 
 returns : tie.Need-returns Inv-loop μ-loop
-returns c =
-    let s = c .before .before in
-    let a = s .args in
-    let l = c .before .loop in
-    let n = kinds-first (a .count) (a .t1) (omega (arith, s .pre .size, full s)) in
-    let few = heads-few (take (a .count) (kindsOf (a .t1))) _ (s .pre .closed .1) in
-    listing-all _ _ (l .j) (l .loops) (omega arith) (l .inv .1)
+returns c = let s = c .before .before in let l = c .before .loop in counting-all (s .args .t1 .rows) _ (s .args .t1 .count) (l .k) (l .listed) (omega (arith, c .loop-test .left, l .inv .0)) (omega (arith, full s, s .pre .few)) (l .inv .1)
 
 pub loops-of-spec : {M : Type 1} → statement M
 loops-of-spec =
@@ -70,13 +57,14 @@ loops-of-spec =
     loop-holds
     (λ c. search needs)
     (λ c. search needs)
+    mul-t8
+    index-t17
+    (λ c. search needs)
+    mul-t18
+    index-t23
     (λ c. search needs)
     (λ c. search needs)
     (λ c. search needs)
-    (λ c. search needs)
-    (λ c. search needs)
-    (λ c. search needs)
-    with-row-requires
     (λ c. search needs)
     (λ c. search needs)
     loop-again

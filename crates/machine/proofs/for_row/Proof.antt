@@ -1,37 +1,38 @@
 -- `machine::for_row` meets its contract. Assumes nothing.
 use mathlib.Core.Path.{sym, _∙_}
 use mathlib.Core.Bool.{true, false}
-use Rattle.rules.specs.Blocks.{from, assign, test}
+use Rattle.rules.specs.Blocks.{from, assign, test, exprOf}
 use Rattle.rules.specs.RowMachine.{begin}
 use Rattle.actions.specs.States.{plainTo, forTo}
 use Rattle.actions.proofs.Laws.{then-tests, no-tests}
 use Rattle.machine.proofs.Laws.{after, by-flag, tests-later}
+use denote.Ref.{now}
 use borrow.Author.Needs.{needs}
 use Rattle.machine.proofs.for_row.Statement.{statement}
 use Rattle.machine.proofs.for_row.Tie as tie
 
 test-row-requires-2 : tie.Need-test-row-requires-2
-test-row-requires-2 c κs = tests-later (search needs) (c .before .before .before .before .before .before .before .begin .ensures .room) (c .before .before .before .before .before .before .before .before .before .before .pre .0)
+test-row-requires-2 c κs = tests-later (search needs) (c .before .before .before .before .before .before .before .begin .ensures .room) (c .before .before .before .before .before .before .before .before .before .before .before .pre .0)
 
 returns : tie.Need-returns
 returns c =
-    let a = c .before .before .before .before .args in
-    (by-flag (a .m .testing) (forTo (a .prices) (a .m .row) (a .e) (a .v) (a .y) (a .c) (a .x)) true (c .before .before .before .if1 .taken) (c .test-row .ensures .0), search needs)
+    let a = c .before .before .before .before .before .args in
+    (by-flag (a .m .testing) (forTo (a .prices) (a .m .row) (a .e) (a .v) (exprOf (now (a .text)) (a .y)) (a .c) (exprOf (now (a .text)) (a .x))) true (c .before .before .before .if1 .taken) (c .test-row .ensures .0), search needs)
 
 returns-2 : tie.Need-returns-2
 returns-2 c =
-    let a = c .before .before .before .before .before .before .before .before .before .before .before .args in (
-      by-flag (a .m .testing) (forTo (a .prices) (a .m .row) (a .e) (a .v) (a .y) (a .c) (a .x)) false (c .before .before .before .before .before .before .before .before .before .before .if1 .left)
-          (then-tests (a .prices) (a .m .row) (a .e) (test (a .v) (a .c) (a .x)) _ (after (plainTo (a .prices) (a .m .row) (assign (a .v) (from (a .y))) (a .m .row) true) (begin (a .m .row)) (c .before .before .before .before .before .before .before .before .begin .ensures .same) (c .before .before .before .before .before .before .set-row .ensures _))
+    let a = c .before .before .before .before .before .before .before .before .before .before .before .before .args in (
+      by-flag (a .m .testing) (forTo (a .prices) (a .m .row) (a .e) (a .v) (exprOf (now (a .text)) (a .y)) (a .c) (exprOf (now (a .text)) (a .x))) false (c .before .before .before .before .before .before .before .before .before .before .if1 .left)
+          (then-tests (a .prices) (a .m .row) (a .e) (test (a .v) (a .c) (exprOf (now (a .text)) (a .x))) _ (after (plainTo (a .prices) (a .m .row) (assign (a .v) (from (exprOf (now (a .text)) (a .y)))) (a .m .row) true) (begin (a .m .row)) (c .before .before .before .before .before .before .before .before .begin .ensures .same) (c .before .before .before .before .before .before .set-row .ensures _))
           (sym (c .before .before .before .before .waits .ensures) ∙ c .before .before .before .if2 .taken) (c .test-row2 .ensures .0)),
       search needs,
     )
 
 returns-3 : tie.Need-returns-3
 returns-3 c =
-    let a = c .before .before .before .before .before .before .before .before .args in (
-      by-flag (a .m .testing) (forTo (a .prices) (a .m .row) (a .e) (a .v) (a .y) (a .c) (a .x)) false (c .before .before .before .before .before .before .before .if1 .left)
-          (no-tests (a .prices) (a .m .row) (a .e) (test (a .v) (a .c) (a .x)) _ (after (plainTo (a .prices) (a .m .row) (assign (a .v) (from (a .y))) (a .m .row) true) (begin (a .m .row)) (c .before .before .before .before .before .begin .ensures .same) (c .before .before .before .set-row .ensures _)) (sym (c .before .waits .ensures) ∙ c .if2 .left)),
+    let a = c .before .before .before .before .before .before .before .before .before .args in (
+      by-flag (a .m .testing) (forTo (a .prices) (a .m .row) (a .e) (a .v) (exprOf (now (a .text)) (a .y)) (a .c) (exprOf (now (a .text)) (a .x))) false (c .before .before .before .before .before .before .before .if1 .left)
+          (no-tests (a .prices) (a .m .row) (a .e) (test (a .v) (a .c) (exprOf (now (a .text)) (a .x))) _ (after (plainTo (a .prices) (a .m .row) (assign (a .v) (from (exprOf (now (a .text)) (a .y)))) (a .m .row) true) (begin (a .m .row)) (c .before .before .before .before .before .begin .ensures .same) (c .before .before .before .set-row .ensures _)) (sym (c .before .waits .ensures) ∙ c .if2 .left)),
       search needs,
     )
 

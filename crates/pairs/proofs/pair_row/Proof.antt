@@ -1,5 +1,5 @@
 -- `pairs::pair_row` meets its contract. Assumes nothing.
-use Rattle.rules.specs.Blocks.{viewOf}
+use Rattle.rules.specs.Blocks.{viewOf, kindOf}
 use Rattle.rules.specs.RowMachine.{push, pairRow}
 use mathlib.Core.Path.{refl, _∙_, ap}
 use native.Mathlib.Omega.{arith}
@@ -8,51 +8,51 @@ use Rattle.pairs.proofs.pair_row.Statement.{statement}
 use Rattle.pairs.proofs.pair_row.Tie as tie
 
 returns : tie.Need-returns
-unfolding viewOf pairRow
-returns c = rw (c .before .before .before .before .before .before .before .before .enum-told .given .1) (record { same = c .before .before .before .before .close .ensures .same; deep = omega (arith, c .before .before .before .before .close .ensures .deep) })
+unfolding viewOf kindOf pairRow
+returns c = rw (c .before .before .before .before .before .before .before .before .enum-told .given .1) (record { same = λ text. c .before .before .before .before .close .ensures .same; deep = omega (arith, c .before .before .before .before .close .ensures .deep) })
 
 returns-2 : tie.Need-returns-2
-unfolding viewOf pairRow
+unfolding viewOf kindOf pairRow
 returns-2 c =
     let z = c .before .before .before .before .before .before .before .before .close2 in
     rw (c .before .before .before .before .before .before .before .before .before .before .before .before .enum-told2 .given .1)
-    (record { same = c .before .before .push .ensures .same (z .last .1 .1 .0) (z .last .1 .1 .1 .0) ∙ ap (push (c .before .before .before .before .before .before .before .before .before .before .before .before .before .before .before .before .before .args .j)) (z .ensures .same); deep = c .before .before .push .ensures .deep })
+    (record { same = λ text. c .before .before .push .ensures .same (z .last .1 .1 .0) (z .last .1 .1 .1 .0) ∙ ap (push (c .before .before .before .before .before .before .before .before .before .before .before .before .before .before .before .before .before .args .j)) (z .ensures .same); deep = c .before .before .push .ensures .deep })
 
 returns-3 : tie.Need-returns-3
-unfolding viewOf pairRow
+unfolding viewOf kindOf pairRow
 returns-3 c =
     let a = c .before .before .before .before .before .before .before .before .before .args in
-    rw (c .before .before .before .before .enum-told3 .given .1) (record { same = c .before .before .push2 .ensures .same (a .shut .now) (a .opener .now); deep = c .before .before .push2 .ensures .deep })
+    rw (c .before .before .before .before .enum-told3 .given .1) (record { same = λ text. c .before .before .push2 .ensures .same (a .shut .now) (a .opener .now); deep = c .before .before .push2 .ensures .deep })
 
 returns-4 : tie.Need-returns-4
-unfolding viewOf pairRow
-returns-4 c = rw (c .enum-told4 .given .1) (record { same = refl; deep = omega arith })
+unfolding viewOf kindOf pairRow
+returns-4 c = rw (c .enum-told4 .given .1) (record { same = λ text. refl; deep = omega arith })
 
 returns-5 : tie.Need-returns-5
-unfolding viewOf pairRow
-returns-5 c = rw (c .enum-told5 .given .1) (record { same = refl; deep = omega arith })
+unfolding viewOf kindOf pairRow
+returns-5 c = rw (c .enum-told5 .given .1) (record { same = λ text. refl; deep = omega arith })
 
 returns-6 : tie.Need-returns-6
-unfolding viewOf pairRow
-returns-6 c = rw (c .enum-told6 .given .1) (record { same = refl; deep = omega arith })
+unfolding viewOf kindOf pairRow
+returns-6 c = rw (c .enum-told6 .given .1) (record { same = λ text. refl; deep = omega arith })
 
 returns-7 : tie.Need-returns-7
-unfolding viewOf pairRow
+unfolding viewOf kindOf pairRow
 returns-7 c =
     let a = c .before .before .before .before .before .before .before .before .before .args in
-    rw (c .before .before .before .before .enum-told7 .given .1) (record { same = c .before .before .push3 .ensures .same (a .shut .now) (a .opener .now); deep = c .before .before .push3 .ensures .deep })
+    rw (c .before .before .before .before .enum-told7 .given .1) (record { same = λ text. c .before .before .push3 .ensures .same (a .shut .now) (a .opener .now); deep = c .before .before .push3 .ensures .deep })
 
 returns-8 : tie.Need-returns-8
-unfolding viewOf pairRow
+unfolding viewOf kindOf pairRow
 returns-8 c =
     let a = c .before .before .before .before .before .before .before .before .before .args in
-    rw (c .before .before .before .before .enum-told8 .given .1) (record { same = c .before .before .push4 .ensures .same (a .shut .now) (a .opener .now); deep = c .before .before .push4 .ensures .deep })
+    rw (c .before .before .before .before .enum-told8 .given .1) (record { same = λ text. c .before .before .push4 .ensures .same (a .shut .now) (a .opener .now); deep = c .before .before .push4 .ensures .deep })
 
 returns-9 : tie.Need-returns-9
-unfolding viewOf pairRow
+unfolding viewOf kindOf pairRow
 returns-9 c =
     let a = c .before .before .before .before .before .before .before .before .before .args in
-    rw (c .before .before .before .before .enum-told9 .given .1) (record { same = c .before .before .push5 .ensures .same (a .shut .now) (a .opener .now); deep = c .before .before .push5 .ensures .deep })
+    rw (c .before .before .before .before .enum-told9 .given .1) (record { same = λ text. c .before .before .push5 .ensures .same (a .shut .now) (a .opener .now); deep = c .before .before .push5 .ensures .deep })
 
 pub pair-row-spec : {M : Type 1} → statement M
 pair-row-spec =

@@ -13,25 +13,32 @@ use Rattle.ranges.proofs.after_loop.Statement.{statement}
 use Rattle.ranges.proofs.after_loop.Tie as tie
 
 at-start-requires : tie.Need-at-start-requires
-at-start-requires c κs = (rw (c .kind-at .ensures) (c .before .before .pre .0 .ready .fine _ (c .before .before .pre .0 .inside)), c .before .before .pre .1)
+at-start-requires c κs =
+    let p = c .before .before .before .pre in
+    let l = p .0 in
+    (rw (c .kind-at .ensures) (l .ready .fine _ (l .inside)), p .1, rw (c .kind-at .ensures) (l .ready .written _ (l .inside)))
+
+loop-at-requires : tie.Need-loop-at-requires
+loop-at-requires c κs = (c .before .before .before .before .before .pre .0, c .before .at-start .ensures .long)
 
 outside-requires : tie.Need-outside-requires
 outside-requires c κs = (c .before .loop-at .ensures .small, c .before .before .before .at-start .ensures .long)
 
 returns : tie.Need-returns
 returns c =
-    let a = c .before .before .before .before .before .before .before .args in
+    let a = c .before .before .before .before .before .before .before .before .args in
+    let text = now (a .text) in
     let k = kindAt (rowsOf (now (a .rows))) (a .i) in
     let one = c .before .before .loop-at .ensures in
     let x = c .outside .ensures in
     record {
       value = record {
         long = x .long;
-        value = x .value ∙ outside-is one ∙ ap (λ ρ. outside (formOf k) ρ (testOf k) (bodyAt (rowsOf (now (a .rows))) (a .count) (a .i)))
-            (c .before .before .before .before .at-start .ensures .value ∙ ap (λ d. atStart (formOf d) (testOf d) (envOf (now (a .r)))) (c .before .before .before .before .before .kind-at .ensures));
+        value = x .value ∙ outside-is one ∙ ap (λ ρ. outside (formOf text k) ρ (testOf text k) (bodyAt text (rowsOf (now (a .rows))) (a .count) (a .i)))
+            (c .before .before .before .before .at-start .ensures .value ∙ ap (λ d. atStart (formOf text d) (testOf text d) (envOf (now (a .r)))) (c .before .before .before .before .before .kind-at .ensures));
       };
       ends = one .ends;
     }
 
 pub after-loop-spec : {M : Type 1} → statement M
-after-loop-spec = tie.close (tie.spec (λ c κs. search needs) at-start-requires (λ c κs. search needs) outside-requires returns)
+after-loop-spec = tie.close (tie.spec (λ c κs. search needs) at-start-requires loop-at-requires outside-requires returns)

@@ -1,6 +1,7 @@
 use mathlib.Core.Path.{_≡_, sym, _∙_}
 use denote.Ref.{now}
 use lib.ListN.{drop}
+use Rattle.rules.specs.Blocks.{kindOf}
 use Rattle.rules.proofs.Reading.{sooner-yes}
 use Rattle.rules.specs.File.{sooner, asksEnd, asksNumber, cueRow}
 use Rattle.rules.specs.declared.Word.the-variants.{Missing}
@@ -30,14 +31,14 @@ unfolding highest
 amount-requires c κs = number-wider (pos 0) (pos 9_999) (pos 0) highest (c .before .before .before .before .said .result) (omega ints) (omega ints) (rw (words (c .before .before .before .before) .0) (sooner-yes _ _ (sym (asked (c .before)) ∙ c .if1 .taken) .0))
 
 returns : tie.Need-returns
-unfolding cueRow
+unfolding cueRow kindOf
 returns c = let (n, r) = words (c .before .before .before .before .before) in
     let e = asked (c .before .before) in
-    lined-read _ _ 1 _ (cueRow (c .before .before .before .before .before .before .before .before .before .args .vars)) r _ (checked-read _ _ _ _ e (c .before .if1 .taken) (rw (c .amount .ensures, n))) (sooner-yes _ _ (sym e ∙ c .before .if1 .taken) .1)
+    λ base. lined-read _ _ 1 _ base (cueRow (c .before .before .before .before .before .before .before .before .before .args .vars)) r _ (λ file d. (checked-read _ _ _ _ e (c .before .if1 .taken) (rw (c .amount .ensures, n)), tt)) (sooner-yes _ _ (sym e ∙ c .before .if1 .taken) .1)
 
 returns-2 : tie.Need-returns-2
 unfolding cueRow
-returns-2 c = lined-wrong _ _ (cueRow (c .before .before .before .before .before .before .before .before .args .vars)) _ (checked-wrong _ _ _ (asked (c .before)) (c .if1 .left))
+returns-2 c = λ base. lined-wrong _ _ base (cueRow (c .before .before .before .before .before .before .before .before .args .vars)) _ (checked-wrong _ _ _ (asked (c .before)) (c .if1 .left))
 
 pub cue-row-spec : {M : Type 1} → statement M
 cue-row-spec =

@@ -1,6 +1,7 @@
 use mathlib.Core.Path.{_≡_}
 use denote.Ref.{now}
 use lib.ListN.{drop}
+use Rattle.rules.specs.Blocks.{kindOf}
 use Rattle.rules.specs.File.{sooner, asksEnd, asksVariable, asksChange, moveRow}
 use Rattle.rules.specs.declared.Word.the-variants.{Missing}
 use Rattle.text.proofs.Line.{Reached, reach-two, reach-last}
@@ -28,16 +29,16 @@ change-of-requires : tie.Need-change-of-requires
 change-of-requires c κs = rw (words (c .before .before .before .before .before .before .before) .1) (two-yes _ _ _ _ (asked (c .before .before)) (c .before .if1 .taken) .1)
 
 returns : tie.Need-returns
-unfolding moveRow
+unfolding moveRow kindOf
 returns c = let a = c .before .before .before .before .before .before .before .before .before .before .before .before .before .before .before .args in
     let (v, x, r) = words (c .before .before .before .before .before .before .before .before) in
     let e = asked (c .before .before .before) in
-    lined-read _ _ 2 _ (λ w. moveRow (a .vars) w (a .name)) r _ (checked-read _ _ _ _ e (c .before .before .if1 .taken) (rw (c .change-of .ensures, c .before .variable-of .ensures, v, x))) (two-yes _ _ _ _ e (c .before .before .if1 .taken) .2)
+    λ base. lined-read _ _ 2 _ base (λ w y. moveRow (a .vars) w y (a .name)) r _ (λ file d. (checked-read _ _ _ _ e (c .before .before .if1 .taken) (rw (c .change-of .ensures, c .before .variable-of .ensures, v, x)), tt)) (two-yes _ _ _ _ e (c .before .before .if1 .taken) .2)
 
 returns-2 : tie.Need-returns-2
 unfolding moveRow
 returns-2 c = let a = c .before .before .before .before .before .before .before .before .before .before .before .before .before .args in
-    lined-wrong _ _ (λ w. moveRow (a .vars) w (a .name)) _ (checked-wrong _ _ _ (asked (c .before)) (c .if1 .left))
+    λ base. lined-wrong _ _ base (λ w y. moveRow (a .vars) w y (a .name)) _ (checked-wrong _ _ _ (asked (c .before)) (c .if1 .left))
 
 pub move-row-spec : {M : Type 1} → statement M
 move-row-spec =

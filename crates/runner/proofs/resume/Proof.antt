@@ -8,69 +8,70 @@ use mir.Syntax.{w8}
 use lib.ListN.{length, getD, take}
 use Prim.Native.Nat.{ℕ, _<_}
 use mathlib.Core.Path.{_≡_, sym, _∙_}
+use denote.Ref.{now}
 use borrow.Author.Needs.{needs}
 use native.Mathlib.Omega.{arith}
 use Rattle.runner.proofs.resume.Statement.{statement}
 use Rattle.runner.proofs.resume.Tie as tie
 
 abbrev Inv-loop : tie.InvT-loop
-Inv-loop count prices store₀ picks counts₀ rows tables m₀ store counts m = Runs prices rows count tables picks m₀ store₀ counts₀ m store counts
+Inv-loop text count prices store₀ picks counts₀ rows tables m₀ store counts m = Runs text prices rows count tables picks m₀ store₀ counts₀ m store counts
 
 abbrev μ-loop : tie.MeasureT-loop
-μ-loop count prices store₀ picks counts₀ rows tables m₀ store counts m = weight (length (take count (kindsOf rows))) (nextOf m store picks (tallyOf counts))
+μ-loop text count prices store₀ picks counts₀ rows tables m₀ store counts m = weight (length (take count (kindsOf text rows))) (nextOf m store picks (tallyOf counts))
 
 -- the rows and the tables are whole arrays
-full-rows : (s : tie.Start Inv-loop μ-loop) → length (s .args .t1) ≡ 256
+full-rows : (s : tie.Start Inv-loop μ-loop) → length (s .args .t2) ≡ 256
 full-rows s = search needs
 
-shut-fits : (s : tie.Start Inv-loop μ-loop) (i : ℕ) → Fits w8 (getD (s .args .t3 .shut) i 0)
+shut-fits : (s : tie.Start Inv-loop μ-loop) (i : ℕ) → Fits w8 (getD (s .args .t4 .shut) i 0)
 shut-fits s i = search needs
 
-opener-fits : (s : tie.Start Inv-loop μ-loop) (i : ℕ) → Fits w8 (getD (s .args .t3 .opener) i 0)
+opener-fits : (s : tie.Start Inv-loop μ-loop) (i : ℕ) → Fits w8 (getD (s .args .t4 .opener) i 0)
 opener-fits s i = search needs
 
 -- one turn: a row's step
 turned : (c : tie.After-store Inv-loop μ-loop)
-    → let a = c .before .before .before .before .before .before .before .before .before .before .before .before .before .args in
+    → let a = c .before .before .before .before .before .before .before .before .before .before .before .before .before .before .args in
     let l = c .before .before .before .before .before .before .before .before .before .before .before .loop in
     let z = c .before .step in
-    let store = z .last .1 .1 .1 .1 .1 .1 .0 in
-    let counts = z .last .1 .1 .1 .1 .1 .1 .1 .1 .0 in
-    Runs (a .prices) (a .t1) (a .count) (a .t3) (a .picks .now) (a .from) (a .store .now) (a .counts .now) (z .result) store counts
-    × (weight (length (take (a .count) (kindsOf (a .t1)))) (nextOf (z .result) store (a .picks .now) (tallyOf counts)) < weight (length (take (a .count) (kindsOf (a .t1)))) (nextOf (l .m) (l .store) (a .picks .now) (tallyOf (l .counts))))
+    let store = z .last .1 .1 .1 .1 .1 .1 .1 .0 in
+    let counts = z .last .1 .1 .1 .1 .1 .1 .1 .1 .1 .0 in
+    Runs (now (a .text)) (a .prices) (a .t2) (a .count) (a .t4) (a .picks .now) (a .from) (a .store .now) (a .counts .now) (z .result) store counts
+    × (weight (length (take (a .count) (kindsOf (now (a .text)) (a .t2)))) (nextOf (z .result) store (a .picks .now) (tallyOf counts)) < weight (length (take (a .count) (kindsOf (now (a .text)) (a .t2)))) (nextOf (l .m) (l .store) (a .picks .now) (tallyOf (l .counts))))
 turned c =
-    let s = c .before .before .before .before .before .before .before .before .before .before .before .before .before in
+    let s = c .before .before .before .before .before .before .before .before .before .before .before .before .before .before in
     let a = s .args in
     let l = c .before .before .before .before .before .before .before .before .before .before .before .loop in
     let z = c .before .step in
     let go = sym (c .before .before .before .before .before .before .before .before .before .before .going .ensures) ∙ c .before .before .before .before .before .before .before .before .before .if1 .taken in
     let i = c .before .before .before .before .before .before .before .before .if2 .taken in
-    runs-step (a .prices) (a .t1) (a .count) (a .t3) (a .picks .now) (a .from) (a .store .now) (a .counts .now) (full-rows s) (s .pre) (l .m) (l .store) (l .counts) (l .inv) go (z .result) _ _ (z .kept .1 .1 .1 .1 .1 .1 .0, z .ensures .1) i (z .ensures .0 _ _ _ (fitting (a .prices) (a .t1) (a .count) (a .t3) (a .picks .now) (a .from) (a .store .now) (a .counts .now) (full-rows s) (s .pre) (l .m) (l .store) (l .counts) (l .inv) go i))
+    runs-step (a .prices) (a .t2) (a .count) (a .t4) (a .picks .now) (a .from) (a .store .now) (a .counts .now) (full-rows s) (s .pre) (l .m) (l .store) (l .counts) (l .inv) go (z .result) _ _ (z .kept .1 .1 .1 .1 .1 .1 .1 .0, z .ensures .1) i (z .ensures .0 _ _ _ (fitting (a .prices) (a .t2) (a .count) (a .t4) (a .picks .now) (a .from) (a .store .now) (a .counts .now) (full-rows s) (s .pre) (l .m) (l .store) (l .counts) (l .inv) go i))
 
 loop-holds : tie.Need-loop-holds Inv-loop μ-loop
-loop-holds c = let s = c .before in let a = s .args in runs-start (a .prices) (a .t1) (a .count) (a .t3) (a .picks .now) (a .from) (a .store .now) (a .counts .now) (full-rows s) (s .pre)
+loop-holds c = let s = c .before .before in let a = s .args in runs-start (a .prices) (a .t2) (a .count) (a .t4) (a .picks .now) (a .from) (a .store .now) (a .counts .now) (full-rows s) (s .pre)
 
 cast-e : tie.Need-cast-e Inv-loop μ-loop
-cast-e c = omega (arith, shut-fits (c .before .before .before .before .before .before .before) (c .before .before .before .before .before .loop .m .row))
+cast-e c = omega (arith, shut-fits (c .before .before .before .before .before .before .before .before) (c .before .before .before .before .before .loop .m .row))
 
 cast-h : tie.Need-cast-h Inv-loop μ-loop
-cast-h c = omega (arith, opener-fits (c .before .before .before .before .before .before .before .before) (c .before .before .before .before .before .before .loop .m .row))
+cast-h c = omega (arith, opener-fits (c .before .before .before .before .before .before .before .before .before) (c .before .before .before .before .before .before .loop .m .row))
 
 mul-head : tie.Need-mul-head Inv-loop μ-loop
-mul-head c = let f = opener-fits (c .before .before .before .before .before .before .before .before) (c .before .before .before .before .before .before .loop .m .row) in omega arith
+mul-head c = let f = opener-fits (c .before .before .before .before .before .before .before .before .before) (c .before .before .before .before .before .before .loop .m .row) in omega arith
 
 array-copy-out-head : tie.Need-array-copy-out-head Inv-loop μ-loop
-array-copy-out-head c = omega (arith, opener-fits (c .before .before .before .before .before .before .before .before) (c .before .before .before .before .before .before .loop .m .row))
+array-copy-out-head c = omega (arith, opener-fits (c .before .before .before .before .before .before .before .before .before) (c .before .before .before .before .before .before .loop .m .row))
 
 step-requires : tie.Need-step-requires Inv-loop μ-loop
 step-requires c κs =
-    let s = c .before .before .before .before .before .before .before .before .before .before .before in
+    let s = c .before .before .before .before .before .before .before .before .before .before .before .before in
     let a = s .args in
     let l = c .before .before .before .before .before .before .before .before .before .loop in
     let f = shut-fits s (l .m .row) in
     let go = sym (c .before .before .before .before .before .before .before .before .going .ensures) ∙ c .before .before .before .before .before .before .before .if1 .taken in
     let i = c .before .before .before .before .before .before .if2 .taken in
-    (doable (a .prices) (a .t1) (a .count) (a .t3) (a .picks .now) (a .from) (a .store .now) (a .counts .now) (full-rows s) (s .pre) (l .m) (l .store) (l .counts) (l .inv) go _ _ i (omega arith), doable (a .prices) (a .t1) (a .count) (a .t3) (a .picks .now) (a .from) (a .store .now) (a .counts .now) (full-rows s) (s .pre) (l .m) (l .store) (l .counts) (l .inv) go _ _ (head-in (a .prices) (a .t1) (a .count) (a .t3) (a .picks .now) (a .from) (a .store .now) (a .counts .now) (full-rows s) (s .pre) (l .m) (l .store) (l .counts) (l .inv) go i) (omega (arith, s .pre .size)))
+    (doable (a .prices) (a .t2) (a .count) (a .t4) (a .picks .now) (a .from) (a .store .now) (a .counts .now) (full-rows s) (s .pre) (l .m) (l .store) (l .counts) (l .inv) go _ _ i (omega arith), doable (a .prices) (a .t2) (a .count) (a .t4) (a .picks .now) (a .from) (a .store .now) (a .counts .now) (full-rows s) (s .pre) (l .m) (l .store) (l .counts) (l .inv) go _ _ (head-in (a .prices) (a .t2) (a .count) (a .t4) (a .picks .now) (a .from) (a .store .now) (a .counts .now) (full-rows s) (s .pre) (l .m) (l .store) (l .counts) (l .inv) go i) (omega (arith, s .pre .size)))
 
 loop-less : tie.Need-loop-less Inv-loop μ-loop
 loop-less c = turned c .1
@@ -80,27 +81,27 @@ loop-again c = turned c .0
 
 loop-less-2 : tie.Need-loop-less-2 Inv-loop μ-loop
 loop-less-2 c =
-    let s = c .before .before .before .before .before .before in
+    let s = c .before .before .before .before .before .before .before in
     let a = s .args in
     let l = c .before .before .before .before .loop in
-    rw (c .ended .ensures) (runs-past (a .prices) (a .t1) (a .count) (a .t3) (a .picks .now) (a .from) (a .store .now) (a .counts .now) (full-rows s) (s .pre) (l .m) (l .store) (l .counts) (l .inv) (sym (c .before .before .before .going .ensures) ∙ c .before .before .if1 .taken) (c .before .if2 .left) .1)
+    rw (c .ended .ensures) (runs-past (a .prices) (a .t2) (a .count) (a .t4) (a .picks .now) (a .from) (a .store .now) (a .counts .now) (full-rows s) (s .pre) (l .m) (l .store) (l .counts) (l .inv) (sym (c .before .before .before .going .ensures) ∙ c .before .before .if1 .taken) (c .before .if2 .left) .1)
 
 loop-again-2 : tie.Need-loop-again-2 Inv-loop μ-loop
 loop-again-2 c =
-    let s = c .before .before .before .before .before .before in
+    let s = c .before .before .before .before .before .before .before in
     let a = s .args in
     let l = c .before .before .before .before .loop in
-    rw (c .ended .ensures) (runs-past (a .prices) (a .t1) (a .count) (a .t3) (a .picks .now) (a .from) (a .store .now) (a .counts .now) (full-rows s) (s .pre) (l .m) (l .store) (l .counts) (l .inv) (sym (c .before .before .before .going .ensures) ∙ c .before .before .if1 .taken) (c .before .if2 .left) .0)
+    rw (c .ended .ensures) (runs-past (a .prices) (a .t2) (a .count) (a .t4) (a .picks .now) (a .from) (a .store .now) (a .counts .now) (full-rows s) (s .pre) (l .m) (l .store) (l .counts) (l .inv) (sym (c .before .before .before .going .ensures) ∙ c .before .before .if1 .taken) (c .before .if2 .left) .0)
 
 same-length : tie.Need-same-length Inv-loop μ-loop
 same-length c = c .before .before .loop .inv .lengths .0
 
 returns : tie.Need-returns Inv-loop μ-loop
 returns c =
-    let s = c .before .before .before .before in
+    let s = c .before .before .before .before .before in
     let a = s .args in
     let l = c .before .before .loop in
-    runs-over (a .prices) (a .t1) (a .count) (a .t3) (a .picks .now) (a .from) (a .store .now) (a .counts .now) (full-rows s) (s .pre) (l .m) (l .store) (l .counts) (l .inv) (sym (c .before .going .ensures) ∙ c .if1 .left)
+    runs-over (a .prices) (a .t2) (a .count) (a .t4) (a .picks .now) (a .from) (a .store .now) (a .counts .now) (full-rows s) (s .pre) (l .m) (l .store) (l .counts) (l .inv) (sym (c .before .going .ensures) ∙ c .if1 .left)
 
 pub resume-spec : {M : Type 1} → statement M
 resume-spec =

@@ -12,20 +12,20 @@ use Rattle.steps.proofs.body_moves.Statement.{statement}
 use Rattle.steps.proofs.body_moves.Tie as tie
 
 moves-of-requires : tie.Need-moves-of-requires
-moves-of-requires c κs = (ready (c .before .pre .0 .ready) (search needs), search needs, search needs)
+moves-of-requires c κs = (ready (c .before .before .pre .0 .ready) (search needs), search needs, search needs)
 
 add-row-requires : tie.Need-add-row-requires
-add-row-requires c κs = (search needs, c .before .before .before .pre .0 .ready .fine _ (c .before .before .before .pre .0 .inside), c .before .moves-of .ensures .long)
+add-row-requires c κs = (search needs, c .before .before .before .before .pre .0 .ready .fine _ (c .before .before .before .before .pre .0 .inside), c .before .moves-of .ensures .long)
 
 row-step-requires : tie.Need-row-step-requires
-row-step-requires c κs = (search needs, c .before .before .before .before .pre .0 .ready .fine _ (c .before .before .before .before .pre .0 .inside))
+row-step-requires c κs = (search needs, c .before .before .before .before .before .pre .0 .ready .fine _ (c .before .before .before .before .before .pre .0 .inside))
 
 then-requires : tie.Need-then-requires
-then-requires c κs = (near-room (c .before .before .before .before .before .pre .0 .ready .few) (c .before .before .before .moves-of .ensures), rw (c .row-step .ensures) (row-room (c .before .before .before .before .before .args .v) (kindAt (rowsOf (now (c .before .before .before .before .before .args .rows))) (c .before .before .before .before .before .args .i)) (c .before .before .before .before .before .pre .0 .ready .fine _ (c .before .before .before .before .before .pre .0 .inside))))
+then-requires c κs = (near-room (c .before .before .before .before .before .before .pre .0 .ready .few) (c .before .before .before .moves-of .ensures), rw (c .row-step .ensures (now (c .before .before .before .before .before .before .args .text))) (row-room (c .before .before .before .before .before .before .args .v) (now (c .before .before .before .before .before .before .args .text)) (kindAt (rowsOf (now (c .before .before .before .before .before .before .args .rows))) (c .before .before .before .before .before .before .args .i)) (c .before .before .before .before .before .before .pre .0 .ready .fine _ (c .before .before .before .before .before .before .pre .0 .inside))))
 
 returns : tie.Need-returns
 unfolding clear
-returns c = body-of (c .before .before .before .before .before .before .pre .0) (no-set _ refl) (c .before .before .before .before .moves-of .ensures) (c .before .before .add-row .ensures) (c .then .ensures ∙ ap (then (c .before .before .before .before .moves-of .result .step)) (c .before .row-step .ensures))
+returns c = body-of (c .before .before .before .before .before .before .before .pre .0) (no-set _ refl) (c .before .before .before .before .moves-of .ensures) (c .before .before .add-row .ensures (now (c .before .before .before .before .before .before .before .args .text))) (c .then .ensures ∙ ap (then (c .before .before .before .before .moves-of .result .step)) (c .before .row-step .ensures (now (c .before .before .before .before .before .before .before .args .text))))
 
 pub body-moves-spec : {M : Type 1} → statement M
 body-moves-spec =

@@ -1,4 +1,5 @@
 -- `steps::copy_at` meets its contract.
+use denote.Ref.{now}
 use borrow.Author.Needs.{needs}
 use borrow.Author.Tests.{eq-eqb, ne-eqb}
 use mathlib.Core.Path.{_≡_, refl, sym, _∙_}
@@ -10,10 +11,10 @@ use Rattle.steps.proofs.copy_at.Statement.{statement}
 use Rattle.steps.proofs.copy_at.Tie as tie
 
 moves-of-requires : tie.Need-moves-of-requires
-moves-of-requires c κs = (ready (c .before .before .pre .ready) (search needs), c .before .before .pre .small, search needs)
+moves-of-requires c κs = (ready (c .before .before .before .pre .ready) (search needs), c .before .before .before .pre .small, search needs)
 
 returns : tie.Need-returns
-returns c = record { value = sym (copy-is _ _ (c .before .pre .copy .1) _ ∙ rw (eq-eqb _ _ (c .if1 .taken))); small = tt }
+returns c = record { value = sym (copy-is _ _ (now (c .before .before .args .text)) (c .before .before .pre .copy .1) _ ∙ rw (eq-eqb _ _ (c .if1 .taken))); small = tt }
 
 returns-2 : tie.Need-returns-2
 unfolding clear
@@ -21,7 +22,7 @@ returns-2 c =
     let s = c .before .before .before .before .before in
     let rest = rest-is (no-set _ refl) (c .before .before .moves-of .ensures) in
     record {
-      value = sym (copy-is _ _ (s .pre .copy .1) _ ∙ rw (ne-eqb _ _ (c .before .before .before .before .if1 .left), sym (rest (s .args .v)) ∙ sym (c .before .has .ensures) ∙ c .if2 .taken));
+      value = sym (copy-is _ _ (now (s .before .args .text)) (s .before .pre .copy .1) _ ∙ rw (ne-eqb _ _ (c .before .before .before .before .if1 .left), sym (rest (s .before .args .v)) ∙ sym (c .before .has .ensures) ∙ c .if2 .taken));
       small = tt;
     }
 
@@ -31,7 +32,7 @@ returns-3 c =
     let s = c .before .before .before .before .before .before .before in
     let rest = rest-is (no-set _ refl) (c .before .before .before .before .moves-of .ensures) in
     record {
-      value = sym (copy-is _ _ (s .pre .copy .1) _ ∙ rw (ne-eqb _ _ (c .before .before .before .before .before .before .if1 .left), sym (rest (s .args .v)) ∙ sym (c .before .before .before .has .ensures) ∙ c .before .before .if2 .left, sym (c .before .has2 .ensures) ∙ c .if3 .taken));
+      value = sym (copy-is _ _ (now (s .before .args .text)) (s .before .pre .copy .1) _ ∙ rw (ne-eqb _ _ (c .before .before .before .before .before .before .if1 .left), sym (rest (s .before .args .v)) ∙ sym (c .before .before .before .has .ensures) ∙ c .before .before .if2 .left, sym (c .before .has2 .ensures) ∙ c .if3 .taken));
       small = tt;
     }
 
@@ -41,9 +42,9 @@ returns-4 c =
     let s = c .before .before .before .before .before .before .before .before .before in
     let rest = rest-is (no-set _ refl) (c .before .before .before .before .before .before .moves-of .ensures) in
     record {
-      value = sym (copy-is _ _ (s .pre .copy .1) _
-          ∙ rw (ne-eqb _ _ (c .before .before .before .before .before .before .before .before .if1 .left), sym (rest (s .args .v)) ∙ sym (c .before .before .before .before .before .has .ensures) ∙ c .before .before .before .before .if2 .left, sym (c .before .before .before .has2 .ensures) ∙ c .before .before .if3 .left, sym (c .before .has3 .ensures), sym (rest (s .args .w)) ∙ sym (c .has4 .ensures)));
-      small = s .pre .copied;
+      value = sym (copy-is _ _ (now (s .before .args .text)) (s .before .pre .copy .1) _
+          ∙ rw (ne-eqb _ _ (c .before .before .before .before .before .before .before .before .if1 .left), sym (rest (s .before .args .v)) ∙ sym (c .before .before .before .before .before .has .ensures) ∙ c .before .before .before .before .if2 .left, sym (c .before .before .before .has2 .ensures) ∙ c .before .before .if3 .left, sym (c .before .has3 .ensures), sym (rest (s .before .args .w)) ∙ sym (c .has4 .ensures)));
+      small = s .before .pre .copied;
     }
 
 pub copy-at-spec : {M : Type 1} → statement M

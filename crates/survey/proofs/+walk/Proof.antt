@@ -47,146 +47,146 @@ use Rattle.survey.proofs.+walk.{statement}
 use Rattle.survey.proofs.+walk.Tie.{close}
 
 -- the rows left
-abbrev μ-walk : Measures 2 walk-kinds.ps ℕ
-μ-walk κs a = a .1 .0 - a .1 .1 .0
+abbrev μ-walk : Measures 3 walk-kinds.ps ℕ
+μ-walk κs a = a .1 .1 .0 - a .1 .1 .1 .0
 
-abbrev here : ℕ → In 2 walk-kinds.ps
-here t = and 2 walk-kinds.ps (is 2 walk-kinds.ps μ-walk t) walk.Pre
+abbrev here : ℕ → In 3 walk-kinds.ps
+here t = and 3 walk-kinds.ps (is 3 walk-kinds.ps μ-walk t) walk.Pre
 
-abbrev below : ℕ → In 2 walk-kinds.ps
-below t = and 2 walk-kinds.ps (falls 2 walk-kinds.ps _<_ μ-walk t) walk.Pre
+abbrev below : ℕ → In 3 walk-kinds.ps
+below t = and 3 walk-kinds.ps (falls 3 walk-kinds.ps _<_ μ-walk t) walk.Pre
 
 abbrev Inv : lts.InvT-loop
-Inv rows count at outer prices lines₀ r₀ t₀ i₀ lines r t i = (length r ≡ 16) × Going prices (rowsOf rows) count outer at (tallied (withLines t₀ lines₀) (envOf r₀)) i (envOf r) (withLines t lines)
+Inv text rows count at outer prices lines₀ r₀ t₀ i₀ lines r t i = (length r ≡ 16) × Going text prices (rowsOf rows) count outer at (tallied (withLines t₀ lines₀) (envOf r₀)) i (envOf r) (withLines t lines)
 
 abbrev μ : lts.MeasureT-loop
-μ rows count at outer prices lines₀ r₀ t₀ i₀ lines r t i = count - i
+μ text rows count at outer prices lines₀ r₀ t₀ i₀ lines r t i = count - i
 
 abbrev given : ℕ → lts.Claims
 given t = (shape-at-reads.Asked, shape-at-reads.Learnt, step-row-reads.Asked, step-row-reads.Learnt, plain-price-reads.Asked, plain-price-reads.Learnt, plus-reads.Asked, plus-reads.Learnt, restarted-reads.Asked, restarted-reads.Learnt, below t, walk.Post, past-else-reads.Asked, past-else-reads.Learnt, after-pick-reads.Asked, after-pick-reads.Learnt, leave-pick-reads.Asked, leave-pick-reads.Learnt, enter-loop-reads.Asked, enter-loop-reads.Learnt, inside-reads.Asked, inside-reads.Learnt, leave-loop-reads.Asked, leave-loop-reads.Learnt, ended-reads.Asked, ended-reads.Learnt)
 
 -- ---- a pick: before its first part, after it, after both
-pick-0 : (t : ℕ) (c : lts.After-enum-told2 (given t) (here t) walk.Post Inv μ) → let s = c .before .before .before .before .before .args in let m = endAt (rowsOf (now (s .rows))) (s .count) (c .before .before .before .before .loop .i + 1) in
-    PickIs (rowsOf (now (s .rows))) (s .count) (c .before .before .before .before .loop .i) m (pastElse (kindAt (rowsOf (now (s .rows))) m) m) (endAt (rowsOf (now (s .rows))) (s .count) (pastElse (kindAt (rowsOf (now (s .rows))) m) m))
-pick-0 t c = pick-at _ _ _ (c .before .before .before .loop-test .taken) (c .before .before .before .before .before .pre .1 .ready .built) (sym (c .before .before .shape-at .ensures) ∙ c .enum-told2 .given .1) refl refl refl
+pick-0 : (t : ℕ) (c : lts.After-enum-told2 (given t) (here t) walk.Post Inv μ) → let s = c .before .before .before .before .before .before .args in let m = endAt (now (s .text)) (rowsOf (now (s .rows))) (s .count) (c .before .before .before .before .loop .i + 1) in
+    PickIs (now (s .text)) (rowsOf (now (s .rows))) (s .count) (c .before .before .before .before .loop .i) m (pastElse (kindAt (rowsOf (now (s .rows))) m) m) (endAt (now (s .text)) (rowsOf (now (s .rows))) (s .count) (pastElse (kindAt (rowsOf (now (s .rows))) m) m))
+pick-0 t c = pick-at _ _ _ (c .before .before .before .loop-test .taken) (c .before .before .before .before .before .before .pre .1 .ready .built) (sym (c .before .before .shape-at .ensures) ∙ c .enum-told2 .given .1) refl refl refl
 
-passed-1 : (t : ℕ) (c : lts.Else1 (given t) (here t) walk.Post Inv μ) → let s = c .before .before .before .before .before .before .before .before .before .before .args in Passed (s .prices) (rowsOf (now (s .rows))) (s .count) (c .before .before .before .before .before .before .before .before .before .loop .i + 1) (envOf (c .before .before .before .before .before .before .before .before .before .loop .r)) (s .outer) (withLines (c .before .before .before .restarted .result) (c .before .before .before .before .before .before .before .before .before .loop .lines)) (withLines (c .before .before .walk .result) (c .before .before .walk .last .1 .1 .1 .1 .1 .1 .0))
+passed-1 : (t : ℕ) (c : lts.Else1 (given t) (here t) walk.Post Inv μ) → let s = c .before .before .before .before .before .before .before .before .before .before .before .args in Passed (now (s .text)) (s .prices) (rowsOf (now (s .rows))) (s .count) (c .before .before .before .before .before .before .before .before .before .loop .i + 1) (envOf (c .before .before .before .before .before .before .before .before .before .loop .r)) (s .outer) (withLines (c .before .before .before .restarted .result) (c .before .before .before .before .before .before .before .before .before .loop .lines)) (withLines (c .before .before .walk .result) (c .before .before .walk .last .1 .1 .1 .1 .1 .1 .1 .0))
 passed-1 t c = c .before .before .walk .ensures .whole (c .if1 .left)
 
-part-1 : (t : ℕ) (c : lts.Else1 (given t) (here t) walk.Post Inv μ) → let s = c .before .before .before .before .before .before .before .before .before .before .args in let y = withLines (c .before .before .before .before .before .before .before .before .before .loop .t) (c .before .before .before .before .before .before .before .before .before .loop .lines) in
-    Part (s .prices) (s .outer) (envOf (c .before .before .before .before .before .before .before .before .before .loop .r)) 0 (overOf (y .over)) (firstLines (y .lines) (y .loops)) (y .loops) (blockAt (rowsOf (now (s .rows))) (s .count) (c .before .before .before .before .before .before .before .before .before .loop .i + 1)) (withLines (c .before .before .walk .result) (c .before .before .walk .last .1 .1 .1 .1 .1 .1 .0))
+part-1 : (t : ℕ) (c : lts.Else1 (given t) (here t) walk.Post Inv μ) → let s = c .before .before .before .before .before .before .before .before .before .before .before .args in let y = withLines (c .before .before .before .before .before .before .before .before .before .loop .t) (c .before .before .before .before .before .before .before .before .before .loop .lines) in
+    Part (s .prices) (s .outer) (envOf (c .before .before .before .before .before .before .before .before .before .loop .r)) 0 (overOf (y .over)) (firstLines (y .lines) (y .loops)) (y .loops) (blockAt (now (s .text)) (rowsOf (now (s .rows))) (s .count) (c .before .before .before .before .before .before .before .before .before .loop .i + 1)) (withLines (c .before .before .walk .result) (c .before .before .walk .last .1 .1 .1 .1 .1 .1 .1 .0))
 part-1 t c = let y = withLines (c .before .before .before .before .before .before .before .before .before .loop .t) (c .before .before .before .before .before .before .before .before .before .loop .lines) in part-of 0 (overOf (y .over)) (firstLines (y .lines) (y .loops)) (y .loops) (c .before .before .before .restarted .ensures (c .before .before .before .before .before .before .before .before .before .loop .lines) .value _) (passed-1 t c)
 
-pick-1 : (t : ℕ) (c : lts.Else1 (given t) (here t) walk.Post Inv μ) → let s = c .before .before .before .before .before .before .before .before .before .before .args in let m = c .before .before .walk .result .next in
-    PickIs (rowsOf (now (s .rows))) (s .count) (c .before .before .before .before .before .before .before .before .before .loop .i) m (pastElse (kindAt (rowsOf (now (s .rows))) m) m) (endAt (rowsOf (now (s .rows))) (s .count) (pastElse (kindAt (rowsOf (now (s .rows))) m) m))
-pick-1 t c = pick-at _ _ _ (c .before .before .before .before .before .before .before .before .loop-test .taken) (c .before .before .before .before .before .before .before .before .before .before .pre .1 .ready .built) (sym (c .before .before .before .before .before .before .before .shape-at .ensures) ∙ c .before .before .before .before .before .enum-told2 .given .1) (passed-1 t c .place) refl refl
+pick-1 : (t : ℕ) (c : lts.Else1 (given t) (here t) walk.Post Inv μ) → let s = c .before .before .before .before .before .before .before .before .before .before .before .args in let m = c .before .before .walk .result .next in
+    PickIs (now (s .text)) (rowsOf (now (s .rows))) (s .count) (c .before .before .before .before .before .before .before .before .before .loop .i) m (pastElse (kindAt (rowsOf (now (s .rows))) m) m) (endAt (now (s .text)) (rowsOf (now (s .rows))) (s .count) (pastElse (kindAt (rowsOf (now (s .rows))) m) m))
+pick-1 t c = pick-at _ _ _ (c .before .before .before .before .before .before .before .before .loop-test .taken) (c .before .before .before .before .before .before .before .before .before .before .before .pre .1 .ready .built) (sym (c .before .before .before .before .before .before .before .shape-at .ensures) ∙ c .before .before .before .before .before .enum-told2 .given .1) (passed-1 t c .place) refl refl
 
-pick-q : (t : ℕ) (c : lts.After-past-else (given t) (here t) walk.Post Inv μ) → let s = c .before .before .before .before .before .before .before .before .before .before .before .args in
-    PickIs (rowsOf (now (s .rows))) (s .count) (c .before .before .before .before .before .before .before .before .before .before .loop .i) (c .before .before .before .walk .result .next) (c .past-else .result) (endAt (rowsOf (now (s .rows))) (s .count) (c .past-else .result))
-pick-q t c = pick-at _ _ _ (c .before .before .before .before .before .before .before .before .before .loop-test .taken) (c .before .before .before .before .before .before .before .before .before .before .before .pre .1 .ready .built) (sym (c .before .before .before .before .before .before .before .before .shape-at .ensures) ∙ c .before .before .before .before .before .before .enum-told2 .given .1) (passed-1 t (c .before) .place) (c .past-else .ensures) refl
+pick-q : (t : ℕ) (c : lts.After-past-else (given t) (here t) walk.Post Inv μ) → let s = c .before .before .before .before .before .before .before .before .before .before .before .before .args in
+    PickIs (now (s .text)) (rowsOf (now (s .rows))) (s .count) (c .before .before .before .before .before .before .before .before .before .before .loop .i) (c .before .before .before .walk .result .next) (c .past-else .result) (endAt (now (s .text)) (rowsOf (now (s .rows))) (s .count) (c .past-else .result))
+pick-q t c = pick-at _ _ _ (c .before .before .before .before .before .before .before .before .before .loop-test .taken) (c .before .before .before .before .before .before .before .before .before .before .before .before .pre .1 .ready .built) (sym (c .before .before .before .before .before .before .before .before .shape-at .ensures) ∙ c .before .before .before .before .before .before .enum-told2 .given .1) (passed-1 t (c .before) .place) (c .past-else .ensures) refl
 
-passed-2 : (t : ℕ) (c : lts.Else2 (given t) (here t) walk.Post Inv μ) → let s = c .before .before .before .before .before .before .before .before .before .before .before .before .before .before .before .before .args in Passed (s .prices) (rowsOf (now (s .rows))) (s .count) (c .before .before .before .before .before .past-else .result) (envOf (c .before .before .before .before .before .before .before .before .before .before .before .before .before .before .before .loop .r)) (s .outer) (withLines (c .before .before .before .restarted2 .result) (c .before .before .before .before .before .before .before .before .walk .last .1 .1 .1 .1 .1 .1 .0)) (withLines (c .before .before .walk2 .result) (c .before .before .walk2 .last .1 .1 .1 .1 .1 .1 .0))
+passed-2 : (t : ℕ) (c : lts.Else2 (given t) (here t) walk.Post Inv μ) → let s = c .before .before .before .before .before .before .before .before .before .before .before .before .before .before .before .before .before .args in Passed (now (s .text)) (s .prices) (rowsOf (now (s .rows))) (s .count) (c .before .before .before .before .before .past-else .result) (envOf (c .before .before .before .before .before .before .before .before .before .before .before .before .before .before .before .loop .r)) (s .outer) (withLines (c .before .before .before .restarted2 .result) (c .before .before .before .before .before .before .before .before .walk .last .1 .1 .1 .1 .1 .1 .1 .0)) (withLines (c .before .before .walk2 .result) (c .before .before .walk2 .last .1 .1 .1 .1 .1 .1 .1 .0))
 passed-2 t c = c .before .before .walk2 .ensures .whole (c .if2 .left)
 
-pick-2 : (t : ℕ) (c : lts.Else2 (given t) (here t) walk.Post Inv μ) → let s = c .before .before .before .before .before .before .before .before .before .before .before .before .before .before .before .before .args in
-    PickIs (rowsOf (now (s .rows))) (s .count) (c .before .before .before .before .before .before .before .before .before .before .before .before .before .before .before .loop .i) (c .before .before .before .before .before .before .before .before .walk .result .next) (c .before .before .before .before .before .past-else .result) (c .before .before .walk2 .result .next)
-pick-2 t c = pick-at _ _ _ (c .before .before .before .before .before .before .before .before .before .before .before .before .before .before .loop-test .taken) (c .before .before .before .before .before .before .before .before .before .before .before .before .before .before .before .before .pre .1 .ready .built) (sym (c .before .before .before .before .before .before .before .before .before .before .before .before .before .shape-at .ensures) ∙ c .before .before .before .before .before .before .before .before .before .before .before .enum-told2 .given .1) (passed-1 t (c .before .before .before .before .before .before) .place) (c .before .before .before .before .before .past-else .ensures) (passed-2 t c .place)
+pick-2 : (t : ℕ) (c : lts.Else2 (given t) (here t) walk.Post Inv μ) → let s = c .before .before .before .before .before .before .before .before .before .before .before .before .before .before .before .before .before .args in
+    PickIs (now (s .text)) (rowsOf (now (s .rows))) (s .count) (c .before .before .before .before .before .before .before .before .before .before .before .before .before .before .before .loop .i) (c .before .before .before .before .before .before .before .before .walk .result .next) (c .before .before .before .before .before .past-else .result) (c .before .before .walk2 .result .next)
+pick-2 t c = pick-at _ _ _ (c .before .before .before .before .before .before .before .before .before .before .before .before .before .before .loop-test .taken) (c .before .before .before .before .before .before .before .before .before .before .before .before .before .before .before .before .before .pre .1 .ready .built) (sym (c .before .before .before .before .before .before .before .before .before .before .before .before .before .shape-at .ensures) ∙ c .before .before .before .before .before .before .before .before .before .before .before .enum-told2 .given .1) (passed-1 t (c .before .before .before .before .before .before) .place) (c .before .before .before .before .before .past-else .ensures) (passed-2 t c .place)
 
-part-2 : (t : ℕ) (c : lts.Else2 (given t) (here t) walk.Post Inv μ) → let s = c .before .before .before .before .before .before .before .before .before .before .before .before .before .before .before .before .args in let y = (withLines (c .before .before .before .before .before .before .before .before .walk .result) (c .before .before .before .before .before .before .before .before .walk .last .1 .1 .1 .1 .1 .1 .0)) in
-    Part (s .prices) (s .outer) (envOf (c .before .before .before .before .before .before .before .before .before .before .before .before .before .before .before .loop .r)) 0 (overOf (y .over)) (firstLines (y .lines) (y .loops)) (y .loops) (blockAt (rowsOf (now (s .rows))) (s .count) (c .before .before .before .before .before .past-else .result)) (withLines (c .before .before .walk2 .result) (c .before .before .walk2 .last .1 .1 .1 .1 .1 .1 .0))
-part-2 t c = let y = (withLines (c .before .before .before .before .before .before .before .before .walk .result) (c .before .before .before .before .before .before .before .before .walk .last .1 .1 .1 .1 .1 .1 .0)) in part-of 0 (overOf (y .over)) (firstLines (y .lines) (y .loops)) (y .loops) (c .before .before .before .restarted2 .ensures (c .before .before .before .before .before .before .before .before .walk .last .1 .1 .1 .1 .1 .1 .0) .value _) (passed-2 t c)
+part-2 : (t : ℕ) (c : lts.Else2 (given t) (here t) walk.Post Inv μ) → let s = c .before .before .before .before .before .before .before .before .before .before .before .before .before .before .before .before .before .args in let y = (withLines (c .before .before .before .before .before .before .before .before .walk .result) (c .before .before .before .before .before .before .before .before .walk .last .1 .1 .1 .1 .1 .1 .1 .0)) in
+    Part (s .prices) (s .outer) (envOf (c .before .before .before .before .before .before .before .before .before .before .before .before .before .before .before .loop .r)) 0 (overOf (y .over)) (firstLines (y .lines) (y .loops)) (y .loops) (blockAt (now (s .text)) (rowsOf (now (s .rows))) (s .count) (c .before .before .before .before .before .past-else .result)) (withLines (c .before .before .walk2 .result) (c .before .before .walk2 .last .1 .1 .1 .1 .1 .1 .1 .0))
+part-2 t c = let y = (withLines (c .before .before .before .before .before .before .before .before .walk .result) (c .before .before .before .before .before .before .before .before .walk .last .1 .1 .1 .1 .1 .1 .1 .0)) in part-of 0 (overOf (y .over)) (firstLines (y .lines) (y .loops)) (y .loops) (c .before .before .before .restarted2 .ensures (c .before .before .before .before .before .before .before .before .walk .last .1 .1 .1 .1 .1 .1 .1 .0) .value _) (passed-2 t c)
 
 -- ---- a loop: at its head, entered, after its body
-loop-0 : (t : ℕ) (c : lts.After-enum-told3 (given t) (here t) walk.Post Inv μ) → LoopIs (rowsOf (now (c .before .before .before .before .before .args .rows))) (c .before .before .before .before .before .args .count) (headOf (kindAt (rowsOf (now (c .before .before .before .before .before .args .rows))) (c .before .before .before .before .loop .i))) (c .before .before .before .before .loop .i) (endAt (rowsOf (now (c .before .before .before .before .before .args .rows))) (c .before .before .before .before .before .args .count) (c .before .before .before .before .loop .i + 1))
-loop-0 t c = loop-at _ _ _ (c .before .before .before .loop-test .taken) (c .before .before .before .before .before .pre .1 .ready .built) (sym (c .before .before .shape-at .ensures) ∙ c .enum-told3 .given .1) refl
+loop-0 : (t : ℕ) (c : lts.After-enum-told3 (given t) (here t) walk.Post Inv μ) → LoopIs (now (c .before .before .before .before .before .before .args .text)) (rowsOf (now (c .before .before .before .before .before .before .args .rows))) (c .before .before .before .before .before .before .args .count) (headOf (now (c .before .before .before .before .before .before .args .text)) (kindAt (rowsOf (now (c .before .before .before .before .before .before .args .rows))) (c .before .before .before .before .loop .i))) (c .before .before .before .before .loop .i) (endAt (now (c .before .before .before .before .before .before .args .text)) (rowsOf (now (c .before .before .before .before .before .before .args .rows))) (c .before .before .before .before .before .before .args .count) (c .before .before .before .before .loop .i + 1))
+loop-0 t c = loop-at _ _ _ (c .before .before .before .loop-test .taken) (c .before .before .before .before .before .before .pre .1 .ready .built) (sym (c .before .before .shape-at .ensures) ∙ c .enum-told3 .given .1) refl
 
-room-0 : (t : ℕ) (c : lts.After-enum-told3 (given t) (here t) walk.Post Inv μ) → c .before .before .before .before .loop .t .loops + 1 + loopCount (blockAt (rowsOf (now (c .before .before .before .before .before .args .rows))) (c .before .before .before .before .before .args .count) (c .before .before .before .before .loop .i + 1)) ≤ 16
-room-0 t c = loop-room _ _ _ _ _ _ (c .before .before .before .before .loop .inv .1) (c .before .before .before .loop-test .taken) (c .before .before .before .before .before .pre .1 .ready .built) (loop-0 t c) (c .before .before .before .before .before .pre .1 .room)
+room-0 : (t : ℕ) (c : lts.After-enum-told3 (given t) (here t) walk.Post Inv μ) → c .before .before .before .before .loop .t .loops + 1 + loopCount (blockAt (now (c .before .before .before .before .before .before .args .text)) (rowsOf (now (c .before .before .before .before .before .before .args .rows))) (c .before .before .before .before .before .before .args .count) (c .before .before .before .before .loop .i + 1)) ≤ 16
+room-0 t c = loop-room _ _ _ _ _ _ (c .before .before .before .before .loop .inv .1) (c .before .before .before .loop-test .taken) (c .before .before .before .before .before .before .pre .1 .ready .built) (loop-0 t c) (c .before .before .before .before .before .before .pre .1 .room)
 
-loop-1 : (t : ℕ) (c : lts.After-enter-loop (given t) (here t) walk.Post Inv μ) → LoopIs (rowsOf (now (c .before .before .before .before .before .before .before .before .args .rows))) (c .before .before .before .before .before .before .before .before .args .count) (headOf (kindAt (rowsOf (now (c .before .before .before .before .before .before .before .before .args .rows))) (c .before .before .before .before .before .before .before .loop .i))) (c .before .before .before .before .before .before .before .loop .i) (c .enter-loop .result .one .next)
-loop-1 t c = loop-at _ _ _ (c .before .before .before .before .before .before .loop-test .taken) (c .before .before .before .before .before .before .before .before .pre .1 .ready .built) (sym (c .before .before .before .before .before .shape-at .ensures) ∙ c .before .before .before .enum-told3 .given .1) (c .enter-loop .ensures .one .ends .place)
+loop-1 : (t : ℕ) (c : lts.After-enter-loop (given t) (here t) walk.Post Inv μ) → LoopIs (now (c .before .before .before .before .before .before .before .before .before .args .text)) (rowsOf (now (c .before .before .before .before .before .before .before .before .before .args .rows))) (c .before .before .before .before .before .before .before .before .before .args .count) (headOf (now (c .before .before .before .before .before .before .before .before .before .args .text)) (kindAt (rowsOf (now (c .before .before .before .before .before .before .before .before .before .args .rows))) (c .before .before .before .before .before .before .before .loop .i))) (c .before .before .before .before .before .before .before .loop .i) (c .enter-loop .result .one .next)
+loop-1 t c = loop-at _ _ _ (c .before .before .before .before .before .before .loop-test .taken) (c .before .before .before .before .before .before .before .before .before .pre .1 .ready .built) (sym (c .before .before .before .before .before .shape-at .ensures) ∙ c .before .before .before .enum-told3 .given .1) (c .enter-loop .ensures .one .ends .place)
 
-entry : (t : ℕ) (c : lts.Else3 (given t) (here t) walk.Post Inv μ) → Entry (c .before .before .before .before .before .before .before .before .before .before .before .before .args .prices) (c .before .before .before .before .before .before .before .before .before .before .before .loop .i) (c .before .before .before .before .before .before .before .before .before .before .before .before .args .outer) (kindAt (rowsOf (now (c .before .before .before .before .before .before .before .before .before .before .before .before .args .rows))) (c .before .before .before .before .before .before .before .before .before .before .before .loop .i)) (tripAt (rowsOf (now (c .before .before .before .before .before .before .before .before .before .before .before .before .args .rows))) (c .before .before .before .before .before .before .before .before .before .before .before .before .args .count) (c .before .before .before .before .before .before .before .before .before .before .before .loop .i) (envOf (c .before .before .before .before .before .before .before .before .before .before .before .loop .r))) (withLines (c .before .before .before .before .before .before .before .before .before .before .before .loop .t) (c .before .before .before .before .before .before .before .before .before .before .before .loop .lines)) (c .before .before .before .before .enter-loop .result) (withLines (c .before .before .before .before .enter-loop .result .first) (c .before .before .before .before .enter-loop .last .1 .1 .1 .1 .1 .0))
+entry : (t : ℕ) (c : lts.Else3 (given t) (here t) walk.Post Inv μ) → Entry (now (c .before .before .before .before .before .before .before .before .before .before .before .before .before .args .text)) (c .before .before .before .before .before .before .before .before .before .before .before .before .before .args .prices) (c .before .before .before .before .before .before .before .before .before .before .before .loop .i) (c .before .before .before .before .before .before .before .before .before .before .before .before .before .args .outer) (kindAt (rowsOf (now (c .before .before .before .before .before .before .before .before .before .before .before .before .before .args .rows))) (c .before .before .before .before .before .before .before .before .before .before .before .loop .i)) (tripAt (now (c .before .before .before .before .before .before .before .before .before .before .before .before .before .args .text)) (rowsOf (now (c .before .before .before .before .before .before .before .before .before .before .before .before .before .args .rows))) (c .before .before .before .before .before .before .before .before .before .before .before .before .before .args .count) (c .before .before .before .before .before .before .before .before .before .before .before .loop .i) (envOf (c .before .before .before .before .before .before .before .before .before .before .before .loop .r))) (withLines (c .before .before .before .before .before .before .before .before .before .before .before .loop .t) (c .before .before .before .before .before .before .before .before .before .before .before .loop .lines)) (c .before .before .before .before .enter-loop .result) (withLines (c .before .before .before .before .enter-loop .result .first) (c .before .before .before .before .enter-loop .last .1 .1 .1 .1 .1 .1 .0))
 entry t c = c .before .before .before .before .enter-loop .ensures .whole (c .if3 .left)
 
-inside-1 : (t : ℕ) (c : lts.After-inside (given t) (here t) walk.Post Inv μ) → envOf (c .inside .last .0) ≡ inside (formOf (kindAt (rowsOf (now (c .before .before .before .before .before .before .before .before .before .before .before .before .before .before .args .rows))) (c .before .before .before .before .before .before .before .before .before .before .before .before .before .loop .i))) (startAt (rowsOf (now (c .before .before .before .before .before .before .before .before .before .before .before .before .before .before .args .rows))) (c .before .before .before .before .before .before .before .before .before .before .before .before .before .loop .i) (envOf (c .before .before .before .before .before .before .before .before .before .before .before .before .before .loop .r))) (testOf (kindAt (rowsOf (now (c .before .before .before .before .before .before .before .before .before .before .before .before .before .before .args .rows))) (c .before .before .before .before .before .before .before .before .before .before .before .before .before .loop .i))) (bodyAt (rowsOf (now (c .before .before .before .before .before .before .before .before .before .before .before .before .before .before .args .rows))) (c .before .before .before .before .before .before .before .before .before .before .before .before .before .before .args .count) (c .before .before .before .before .before .before .before .before .before .before .before .before .before .loop .i))
+inside-1 : (t : ℕ) (c : lts.After-inside (given t) (here t) walk.Post Inv μ) → envOf (c .inside .last .0) ≡ inside (formOf (now (c .before .before .before .before .before .before .before .before .before .before .before .before .before .before .before .args .text)) (kindAt (rowsOf (now (c .before .before .before .before .before .before .before .before .before .before .before .before .before .before .before .args .rows))) (c .before .before .before .before .before .before .before .before .before .before .before .before .before .loop .i))) (startAt (now (c .before .before .before .before .before .before .before .before .before .before .before .before .before .before .before .args .text)) (rowsOf (now (c .before .before .before .before .before .before .before .before .before .before .before .before .before .before .before .args .rows))) (c .before .before .before .before .before .before .before .before .before .before .before .before .before .loop .i) (envOf (c .before .before .before .before .before .before .before .before .before .before .before .before .before .loop .r))) (testOf (now (c .before .before .before .before .before .before .before .before .before .before .before .before .before .before .before .args .text)) (kindAt (rowsOf (now (c .before .before .before .before .before .before .before .before .before .before .before .before .before .before .before .args .rows))) (c .before .before .before .before .before .before .before .before .before .before .before .before .before .loop .i))) (bodyAt (now (c .before .before .before .before .before .before .before .before .before .before .before .before .before .before .before .args .text)) (rowsOf (now (c .before .before .before .before .before .before .before .before .before .before .before .before .before .before .before .args .rows))) (c .before .before .before .before .before .before .before .before .before .before .before .before .before .before .before .args .count) (c .before .before .before .before .before .before .before .before .before .before .before .before .before .loop .i))
 inside-1 t c =
     let one = c .before .before .before .before .before .before .enter-loop .result .one in
     c .inside .ensures .value ∙ ap (widened one (innerOf (tripOf (one .trip)))) (c .before .before .before .before .before .before .enter-loop .ensures .begun .value) ∙ inside-is (c .before .before .before .before .before .before .enter-loop .ensures .one)
 
-passed-3 : (t : ℕ) (c : lts.Else4 (given t) (here t) walk.Post Inv μ) → Passed (c .before .before .before .before .before .before .before .before .before .before .before .before .before .before .before .before .before .before .args .prices) (rowsOf (now (c .before .before .before .before .before .before .before .before .before .before .before .before .before .before .before .before .before .before .args .rows))) (c .before .before .before .before .before .before .before .before .before .before .before .before .before .before .before .before .before .before .args .count) (c .before .before .before .before .before .before .before .before .before .before .before .before .before .before .before .before .before .loop .i + 1) (envOf (c .before .before .before .before .inside .last .0)) (c .before .before .before .before .before .before .before .before .before .before .enter-loop .result .total) (withLines (c .before .before .before .before .before .before .before .before .before .before .enter-loop .result .first) (c .before .before .before .before .before .before .before .before .before .before .enter-loop .last .1 .1 .1 .1 .1 .0)) (withLines (c .before .before .walk3 .result) (c .before .before .walk3 .last .1 .1 .1 .1 .1 .1 .0))
+passed-3 : (t : ℕ) (c : lts.Else4 (given t) (here t) walk.Post Inv μ) → Passed (now (c .before .before .before .before .before .before .before .before .before .before .before .before .before .before .before .before .before .before .before .args .text)) (c .before .before .before .before .before .before .before .before .before .before .before .before .before .before .before .before .before .before .before .args .prices) (rowsOf (now (c .before .before .before .before .before .before .before .before .before .before .before .before .before .before .before .before .before .before .before .args .rows))) (c .before .before .before .before .before .before .before .before .before .before .before .before .before .before .before .before .before .before .before .args .count) (c .before .before .before .before .before .before .before .before .before .before .before .before .before .before .before .before .before .loop .i + 1) (envOf (c .before .before .before .before .inside .last .0)) (c .before .before .before .before .before .before .before .before .before .before .enter-loop .result .total) (withLines (c .before .before .before .before .before .before .before .before .before .before .enter-loop .result .first) (c .before .before .before .before .before .before .before .before .before .before .enter-loop .last .1 .1 .1 .1 .1 .1 .0)) (withLines (c .before .before .walk3 .result) (c .before .before .walk3 .last .1 .1 .1 .1 .1 .1 .1 .0))
 passed-3 t c = c .before .before .walk3 .ensures .whole (c .if4 .left)
 
-part-3 : (t : ℕ) (c : lts.Else4 (given t) (here t) walk.Post Inv μ) → let k = (kindAt (rowsOf (now (c .before .before .before .before .before .before .before .before .before .before .before .before .before .before .before .before .before .before .args .rows))) (c .before .before .before .before .before .before .before .before .before .before .before .before .before .before .before .before .before .loop .i)) in let y = (withLines (c .before .before .before .before .before .before .before .before .before .before .before .before .before .before .before .before .before .loop .t) (c .before .before .before .before .before .before .before .before .before .before .before .before .before .before .before .before .before .loop .lines)) in
-    Part (c .before .before .before .before .before .before .before .before .before .before .before .before .before .before .before .before .before .before .args .prices) (c .before .before .before .before .before .before .before .before .before .before .enter-loop .result .total) (inside (formOf k) (startAt (rowsOf (now (c .before .before .before .before .before .before .before .before .before .before .before .before .before .before .before .before .before .before .args .rows))) (c .before .before .before .before .before .before .before .before .before .before .before .before .before .before .before .before .before .loop .i) (envOf (c .before .before .before .before .before .before .before .before .before .before .before .before .before .before .before .before .before .loop .r))) (testOf k) (bodyAt (rowsOf (now (c .before .before .before .before .before .before .before .before .before .before .before .before .before .before .before .before .before .before .args .rows))) (c .before .before .before .before .before .before .before .before .before .before .before .before .before .before .before .before .before .before .args .count) (c .before .before .before .before .before .before .before .before .before .before .before .before .before .before .before .before .before .loop .i))) (lastTicks (c .before .before .before .before .before .before .before .before .before .before .before .before .before .before .before .before .before .before .args .prices) k) (overOf (y .over)) (firstLines (y .lines) (y .loops) ++ (lineFor (c .before .before .before .before .before .before .before .before .before .before .before .before .before .before .before .before .before .loop .i) (tripAt (rowsOf (now (c .before .before .before .before .before .before .before .before .before .before .before .before .before .before .before .before .before .before .args .rows))) (c .before .before .before .before .before .before .before .before .before .before .before .before .before .before .before .before .before .before .args .count) (c .before .before .before .before .before .before .before .before .before .before .before .before .before .before .before .before .before .loop .i) (envOf (c .before .before .before .before .before .before .before .before .before .before .before .before .before .before .before .before .before .loop .r))) (c .before .before .before .before .before .before .before .before .before .before .enter-loop .result .turns) (c .before .before .before .before .before .before .before .before .before .before .enter-loop .result .total) ∷ [])) (y .loops + 1) (blockAt (rowsOf (now (c .before .before .before .before .before .before .before .before .before .before .before .before .before .before .before .before .before .before .args .rows))) (c .before .before .before .before .before .before .before .before .before .before .before .before .before .before .before .before .before .before .args .count) (c .before .before .before .before .before .before .before .before .before .before .before .before .before .before .before .before .before .loop .i + 1)) (withLines (c .before .before .walk3 .result) (c .before .before .walk3 .last .1 .1 .1 .1 .1 .1 .0))
+part-3 : (t : ℕ) (c : lts.Else4 (given t) (here t) walk.Post Inv μ) → let k = (kindAt (rowsOf (now (c .before .before .before .before .before .before .before .before .before .before .before .before .before .before .before .before .before .before .before .args .rows))) (c .before .before .before .before .before .before .before .before .before .before .before .before .before .before .before .before .before .loop .i)) in let y = (withLines (c .before .before .before .before .before .before .before .before .before .before .before .before .before .before .before .before .before .loop .t) (c .before .before .before .before .before .before .before .before .before .before .before .before .before .before .before .before .before .loop .lines)) in
+    Part (c .before .before .before .before .before .before .before .before .before .before .before .before .before .before .before .before .before .before .before .args .prices) (c .before .before .before .before .before .before .before .before .before .before .enter-loop .result .total) (inside (formOf (now (c .before .before .before .before .before .before .before .before .before .before .before .before .before .before .before .before .before .before .before .args .text)) k) (startAt (now (c .before .before .before .before .before .before .before .before .before .before .before .before .before .before .before .before .before .before .before .args .text)) (rowsOf (now (c .before .before .before .before .before .before .before .before .before .before .before .before .before .before .before .before .before .before .before .args .rows))) (c .before .before .before .before .before .before .before .before .before .before .before .before .before .before .before .before .before .loop .i) (envOf (c .before .before .before .before .before .before .before .before .before .before .before .before .before .before .before .before .before .loop .r))) (testOf (now (c .before .before .before .before .before .before .before .before .before .before .before .before .before .before .before .before .before .before .before .args .text)) k) (bodyAt (now (c .before .before .before .before .before .before .before .before .before .before .before .before .before .before .before .before .before .before .before .args .text)) (rowsOf (now (c .before .before .before .before .before .before .before .before .before .before .before .before .before .before .before .before .before .before .before .args .rows))) (c .before .before .before .before .before .before .before .before .before .before .before .before .before .before .before .before .before .before .before .args .count) (c .before .before .before .before .before .before .before .before .before .before .before .before .before .before .before .before .before .loop .i))) (lastTicks (now (c .before .before .before .before .before .before .before .before .before .before .before .before .before .before .before .before .before .before .before .args .text)) (c .before .before .before .before .before .before .before .before .before .before .before .before .before .before .before .before .before .before .before .args .prices) k) (overOf (y .over)) (firstLines (y .lines) (y .loops) ++ (lineFor (c .before .before .before .before .before .before .before .before .before .before .before .before .before .before .before .before .before .loop .i) (tripAt (now (c .before .before .before .before .before .before .before .before .before .before .before .before .before .before .before .before .before .before .before .args .text)) (rowsOf (now (c .before .before .before .before .before .before .before .before .before .before .before .before .before .before .before .before .before .before .before .args .rows))) (c .before .before .before .before .before .before .before .before .before .before .before .before .before .before .before .before .before .before .before .args .count) (c .before .before .before .before .before .before .before .before .before .before .before .before .before .before .before .before .before .loop .i) (envOf (c .before .before .before .before .before .before .before .before .before .before .before .before .before .before .before .before .before .loop .r))) (c .before .before .before .before .before .before .before .before .before .before .enter-loop .result .turns) (c .before .before .before .before .before .before .before .before .before .before .enter-loop .result .total) ∷ [])) (y .loops + 1) (blockAt (now (c .before .before .before .before .before .before .before .before .before .before .before .before .before .before .before .before .before .before .before .args .text)) (rowsOf (now (c .before .before .before .before .before .before .before .before .before .before .before .before .before .before .before .before .before .before .before .args .rows))) (c .before .before .before .before .before .before .before .before .before .before .before .before .before .before .before .before .before .before .before .args .count) (c .before .before .before .before .before .before .before .before .before .before .before .before .before .before .before .before .before .loop .i + 1)) (withLines (c .before .before .walk3 .result) (c .before .before .walk3 .last .1 .1 .1 .1 .1 .1 .1 .0))
 part-3 t c =
-    let k = (kindAt (rowsOf (now (c .before .before .before .before .before .before .before .before .before .before .before .before .before .before .before .before .before .before .args .rows))) (c .before .before .before .before .before .before .before .before .before .before .before .before .before .before .before .before .before .loop .i)) in
+    let k = (kindAt (rowsOf (now (c .before .before .before .before .before .before .before .before .before .before .before .before .before .before .before .before .before .before .before .args .rows))) (c .before .before .before .before .before .before .before .before .before .before .before .before .before .before .before .before .before .loop .i)) in
     let y = (withLines (c .before .before .before .before .before .before .before .before .before .before .before .before .before .before .before .before .before .loop .t) (c .before .before .before .before .before .before .before .before .before .before .before .before .before .before .before .before .before .loop .lines)) in
-    let ls = firstLines (y .lines) (y .loops) ++ (lineFor (c .before .before .before .before .before .before .before .before .before .before .before .before .before .before .before .before .before .loop .i) (tripAt (rowsOf (now (c .before .before .before .before .before .before .before .before .before .before .before .before .before .before .before .before .before .before .args .rows))) (c .before .before .before .before .before .before .before .before .before .before .before .before .before .before .before .before .before .before .args .count) (c .before .before .before .before .before .before .before .before .before .before .before .before .before .before .before .before .before .loop .i) (envOf (c .before .before .before .before .before .before .before .before .before .before .before .before .before .before .before .before .before .loop .r))) (c .before .before .before .before .before .before .before .before .before .before .enter-loop .result .turns) (c .before .before .before .before .before .before .before .before .before .before .enter-loop .result .total) ∷ []) in
-    subst (λ ρ. Part (c .before .before .before .before .before .before .before .before .before .before .before .before .before .before .before .before .before .before .args .prices) (c .before .before .before .before .before .before .before .before .before .before .enter-loop .result .total) ρ (lastTicks (c .before .before .before .before .before .before .before .before .before .before .before .before .before .before .before .before .before .before .args .prices) k) (overOf (y .over)) ls (y .loops + 1) (blockAt (rowsOf (now (c .before .before .before .before .before .before .before .before .before .before .before .before .before .before .before .before .before .before .args .rows))) (c .before .before .before .before .before .before .before .before .before .before .before .before .before .before .before .before .before .before .args .count) (c .before .before .before .before .before .before .before .before .before .before .before .before .before .before .before .before .before .loop .i + 1)) (withLines (c .before .before .walk3 .result) (c .before .before .walk3 .last .1 .1 .1 .1 .1 .1 .0))) (inside-1 t (c .before .before .before .before))
-    (part-of (lastTicks (c .before .before .before .before .before .before .before .before .before .before .before .before .before .before .before .before .before .before .args .prices) k) (overOf (y .over)) ls (y .loops + 1) (entry t (c .before .before .before .before .before .before) .lined .value _) (passed-3 t c))
+    let ls = firstLines (y .lines) (y .loops) ++ (lineFor (c .before .before .before .before .before .before .before .before .before .before .before .before .before .before .before .before .before .loop .i) (tripAt (now (c .before .before .before .before .before .before .before .before .before .before .before .before .before .before .before .before .before .before .before .args .text)) (rowsOf (now (c .before .before .before .before .before .before .before .before .before .before .before .before .before .before .before .before .before .before .before .args .rows))) (c .before .before .before .before .before .before .before .before .before .before .before .before .before .before .before .before .before .before .before .args .count) (c .before .before .before .before .before .before .before .before .before .before .before .before .before .before .before .before .before .loop .i) (envOf (c .before .before .before .before .before .before .before .before .before .before .before .before .before .before .before .before .before .loop .r))) (c .before .before .before .before .before .before .before .before .before .before .enter-loop .result .turns) (c .before .before .before .before .before .before .before .before .before .before .enter-loop .result .total) ∷ []) in
+    subst (λ ρ. Part (c .before .before .before .before .before .before .before .before .before .before .before .before .before .before .before .before .before .before .before .args .prices) (c .before .before .before .before .before .before .before .before .before .before .enter-loop .result .total) ρ (lastTicks (now (c .before .before .before .before .before .before .before .before .before .before .before .before .before .before .before .before .before .before .before .args .text)) (c .before .before .before .before .before .before .before .before .before .before .before .before .before .before .before .before .before .before .before .args .prices) k) (overOf (y .over)) ls (y .loops + 1) (blockAt (now (c .before .before .before .before .before .before .before .before .before .before .before .before .before .before .before .before .before .before .before .args .text)) (rowsOf (now (c .before .before .before .before .before .before .before .before .before .before .before .before .before .before .before .before .before .before .before .args .rows))) (c .before .before .before .before .before .before .before .before .before .before .before .before .before .before .before .before .before .before .before .args .count) (c .before .before .before .before .before .before .before .before .before .before .before .before .before .before .before .before .before .loop .i + 1)) (withLines (c .before .before .walk3 .result) (c .before .before .walk3 .last .1 .1 .1 .1 .1 .1 .1 .0))) (inside-1 t (c .before .before .before .before))
+    (part-of (lastTicks (now (c .before .before .before .before .before .before .before .before .before .before .before .before .before .before .before .before .before .before .before .args .text)) (c .before .before .before .before .before .before .before .before .before .before .before .before .before .before .before .before .before .before .before .args .prices) k) (overOf (y .over)) ls (y .loops + 1) (entry t (c .before .before .before .before .before .before) .lined .value _) (passed-3 t c))
 
 -- ---- the needs
 loop-holds : (t : ℕ) → lts.Need-loop-holds (given t) (here t) walk.Post Inv μ
-loop-holds t c = (search needs, record { walk = begin _ _ _ _ _ (c .pre .1 .ready .within); small = c .pre .1 .small; long = c .pre .1 .long })
+loop-holds t c = (search needs, record { walk = begin _ _ _ _ _ (c .before .pre .1 .ready .within); small = c .before .pre .1 .small; long = c .before .pre .1 .long })
 
 step-row-requires : (t : ℕ) → lts.Need-step-row-requires (given t) (here t) walk.Post Inv μ
-step-row-requires t c κs = (search needs, c .before .before .before .before .before .before .pre .1 .ready .fine _ (c .before .before .before .before .loop-test .taken), sym (c .before .before .before .shape-at .ensures) ∙ c .before .enum-told .given .1, c .before .before .before .before .before .loop .inv .0)
+step-row-requires t c κs = (search needs, c .before .before .before .before .before .before .before .pre .1 .ready .fine _ (c .before .before .before .before .loop-test .taken), sym (c .before .before .before .shape-at .ensures) ∙ c .before .enum-told .given .1, c .before .before .before .before .before .loop .inv .0, c .before .before .before .before .before .before .before .pre .1 .ready .written _ (c .before .before .before .before .loop-test .taken))
 
 plain-price-requires : (t : ℕ) → lts.Need-plain-price-requires (given t) (here t) walk.Post Inv μ
 plain-price-requires t c κs = (search needs, sym (c .before .before .before .before .shape-at .ensures) ∙ c .before .before .enum-told .given .1)
 
 plus-requires : (t : ℕ) → lts.Need-plus-requires (given t) (here t) walk.Post Inv μ
-plus-requires t c κs = (c .before .before .before .before .before .before .before .loop .inv .1 .small, omega (arith, c .plain-price .ensures, price-small (c .before .before .before .before .before .before .before .before .pre .1 .prices) (plainOf (kindAt (rowsOf (now (c .before .before .before .before .before .before .before .before .args .rows))) (c .before .before .before .before .before .before .before .loop .i)))))
+plus-requires t c κs = (c .before .before .before .before .before .before .before .loop .inv .1 .small, omega (arith, c .plain-price .ensures (now (c .before .before .before .before .before .before .before .before .before .args .text)), price-small (c .before .before .before .before .before .before .before .before .before .pre .1 .prices) (plainOf (now (c .before .before .before .before .before .before .before .before .before .args .text)) (kindAt (rowsOf (now (c .before .before .before .before .before .before .before .before .before .args .rows))) (c .before .before .before .before .before .before .before .loop .i)))))
 
 add-i : (t : ℕ) → lts.Need-add-i (given t) (here t) walk.Post Inv μ
 add-i t c = search needs
 
 loop-again : (t : ℕ) → lts.Need-loop-again (given t) (here t) walk.Post Inv μ
-loop-again t c = (c .before .before .step-row .ensures .long, go-plain _ _ _ _ _ _ (c .before .before .before .before .before .before .before .before .loop .inv .1) (c .before .before .before .before .before .before .before .loop-test .taken) (c .before .before .before .before .before .before .before .before .before .pre .1 .ready .built) (sym (c .before .before .before .before .before .before .shape-at .ensures) ∙ c .before .before .before .before .enum-told .given .1) (c .before .before .step-row .ensures .value) (c .plus .ensures ∙ ap (λ q. capped (c .before .before .before .before .before .before .before .before .loop .t .spent + q)) (c .before .plain-price .ensures)) (record { same = refl; value = λ ρ. refl }))
+loop-again t c = (c .before .before .step-row .ensures .long, go-plain _ _ _ _ _ _ (c .before .before .before .before .before .before .before .before .loop .inv .1) (c .before .before .before .before .before .before .before .loop-test .taken) (c .before .before .before .before .before .before .before .before .before .before .pre .1 .ready .built) (sym (c .before .before .before .before .before .before .shape-at .ensures) ∙ c .before .before .before .before .enum-told .given .1) (c .before .before .step-row .ensures .value) (c .plus .ensures ∙ ap (λ q. capped (c .before .before .before .before .before .before .before .before .loop .t .spent + q)) (c .before .plain-price .ensures (now (c .before .before .before .before .before .before .before .before .before .before .args .text)))) (record { same = refl; value = λ ρ. refl }))
 
 walk-requires : (t : ℕ) → lts.Need-walk-requires (given t) (here t) walk.Post Inv μ
 walk-requires t c κs =
-    let p = pick-room _ _ _ _ _ _ (c .before .before .before .before .before .before .loop .inv .1) (c .before .before .before .before .before .loop-test .taken) (c .before .before .before .before .before .before .before .pre .1 .ready .built) (pick-0 t (c .before .before)) (c .before .before .before .before .before .before .before .pre .1 .room) in
-    (search needs, restart-walkable (ready (c .before .before .before .before .before .before .before .pre .1 .ready) (search needs)) (c .before .before .before .before .before .before .before .pre .1 .prices) (c .restarted .ensures _) (c .before .before .before .before .before .before .loop .inv .1 .long) (omega arith) (c .before .before .before .before .before .before .before .pre .1 .times) (omega arith))
+    let p = pick-room _ _ _ _ _ _ (c .before .before .before .before .before .before .loop .inv .1) (c .before .before .before .before .before .loop-test .taken) (c .before .before .before .before .before .before .before .before .pre .1 .ready .built) (pick-0 t (c .before .before)) (c .before .before .before .before .before .before .before .before .pre .1 .room) in
+    (search needs, restart-walkable (ready (c .before .before .before .before .before .before .before .before .pre .1 .ready) (search needs)) (c .before .before .before .before .before .before .before .before .pre .1 .prices) (c .restarted .ensures _) (c .before .before .before .before .before .before .loop .inv .1 .long) (omega arith) (c .before .before .before .before .before .before .before .before .pre .1 .times) (omega arith))
 
 returns : (t : ℕ) → lts.Need-returns (given t) (here t) walk.Post Inv μ
 returns t c = record {
-  stopped = λ h. pick-first _ _ _ _ _ _ (c .before .before .before .before .before .before .before .before .before .loop .inv .1) (c .before .before .before .before .before .before .before .before .loop-test .taken) (c .before .before .before .before .before .before .before .before .before .before .pre .1 .ready .built) (pick-0 t (c .before .before .before .before .before)) _ _ (refused-in (c .before .before .walk .ensures) h);
+  stopped = λ h. pick-first _ _ _ _ _ _ (c .before .before .before .before .before .before .before .before .before .loop .inv .1) (c .before .before .before .before .before .before .before .before .loop-test .taken) (c .before .before .before .before .before .before .before .before .before .before .before .pre .1 .ready .built) (pick-0 t (c .before .before .before .before .before)) _ _ (refused-in (c .before .before .walk .ensures) h);
   whole = λ z. absurd (c .if1 .taken z);
 }
 
 past-else-requires : (t : ℕ) → lts.Need-past-else-requires (given t) (here t) walk.Post Inv μ
-past-else-requires t c κs = let k = pick-1 t c in let f = c .before .before .before .before .before .before .before .before .before .before .pre .1 .ready .few in search needs
+past-else-requires t c κs = let k = pick-1 t c in let f = c .before .before .before .before .before .before .before .before .before .before .before .pre .1 .ready .few in search needs
 
 walk-requires-2 : (t : ℕ) → lts.Need-walk-requires-2 (given t) (here t) walk.Post Inv μ
 walk-requires-2 t c κs =
     let u = pick-q t (c .before .before) in
-    let p = pick-room _ _ _ _ _ _ (c .before .before .before .before .before .before .before .before .before .before .before .before .loop .inv .1) (c .before .before .before .before .before .before .before .before .before .before .before .loop-test .taken) (c .before .before .before .before .before .before .before .before .before .before .before .before .before .pre .1 .ready .built) u (c .before .before .before .before .before .before .before .before .before .before .before .before .before .pre .1 .room) in
+    let p = pick-room _ _ _ _ _ _ (c .before .before .before .before .before .before .before .before .before .before .before .before .loop .inv .1) (c .before .before .before .before .before .before .before .before .before .before .before .loop-test .taken) (c .before .before .before .before .before .before .before .before .before .before .before .before .before .before .pre .1 .ready .built) u (c .before .before .before .before .before .before .before .before .before .before .before .before .before .before .pre .1 .room) in
     let n = part-1 t (c .before .before .before) .count in
     let w = c .before .before .before .before .before .before .before .before .before .before .before .before .loop .inv .1 .walk in
-    let z = c .before .before .before .before .before .before .before .before .before .before .before .before .before .pre .0 in
+    let z = c .before .before .before .before .before .before .before .before .before .before .before .before .before .before .pre .0 in
     let l = c .before .before .before .before .before .before .before .before .before .before .before .loop-test .taken in
     let q = c .before .before .past-else .ensures in
-    (search needs, restart-walkable (ready (c .before .before .before .before .before .before .before .before .before .before .before .before .before .pre .1 .ready) (u .some)) (c .before .before .before .before .before .before .before .before .before .before .before .before .before .pre .1 .prices) (c .restarted2 .ensures _) (part-1 t (c .before .before .before) .long) (omega arith) (c .before .before .before .before .before .before .before .before .before .before .before .before .before .pre .1 .times) (omega arith))
+    (search needs, restart-walkable (ready (c .before .before .before .before .before .before .before .before .before .before .before .before .before .before .pre .1 .ready) (u .some)) (c .before .before .before .before .before .before .before .before .before .before .before .before .before .before .pre .1 .prices) (c .restarted2 .ensures _) (part-1 t (c .before .before .before) .long) (omega arith) (c .before .before .before .before .before .before .before .before .before .before .before .before .before .before .pre .1 .times) (omega arith))
 
 returns-2 : (t : ℕ) → lts.Need-returns-2 (given t) (here t) walk.Post Inv μ
 returns-2 t c = record {
-  stopped = λ h. pick-second _ _ _ _ _ _ (c .before .before .before .before .before .before .before .before .before .before .before .before .before .before .before .loop .inv .1) (c .before .before .before .before .before .before .before .before .before .before .before .before .before .before .loop-test .taken) (c .before .before .before .before .before .before .before .before .before .before .before .before .before .before .before .before .pre .1 .ready .built) (pick-q t (c .before .before .before .before .before)) _ _ (part-1 t (c .before .before .before .before .before .before) .verdict) (refused-in (c .before .before .walk2 .ensures) h);
+  stopped = λ h. pick-second _ _ _ _ _ _ (c .before .before .before .before .before .before .before .before .before .before .before .before .before .before .before .loop .inv .1) (c .before .before .before .before .before .before .before .before .before .before .before .before .before .before .loop-test .taken) (c .before .before .before .before .before .before .before .before .before .before .before .before .before .before .before .before .before .pre .1 .ready .built) (pick-q t (c .before .before .before .before .before)) _ _ (part-1 t (c .before .before .before .before .before .before) .verdict) (refused-in (c .before .before .walk2 .ensures) h);
   whole = λ z. absurd (c .if2 .taken z);
 }
 
 add-after-pick : (t : ℕ) → lts.Need-add-after-pick (given t) (here t) walk.Post Inv μ
-add-after-pick t c = let f = c .before .before .before .before .before .before .before .before .before .before .before .before .before .before .before .before .pre .1 .ready .few in let l = c .before .before .before .before .before .before .before .before .before .before .before .before .before .before .loop-test .taken in search needs
+add-after-pick t c = let f = c .before .before .before .before .before .before .before .before .before .before .before .before .before .before .before .before .before .pre .1 .ready .few in let l = c .before .before .before .before .before .before .before .before .before .before .before .before .before .before .loop-test .taken in search needs
 
 after-pick-requires : (t : ℕ) → lts.Need-after-pick-requires (given t) (here t) walk.Post Inv μ
-after-pick-requires t c κs = let r = c .before .before .before .before .before .before .before .before .before .before .before .before .before .before .before .before .pre .1 .ready in let u = pick-2 t c in (ready r (search needs), ready r (u .some))
+after-pick-requires t c κs = let r = c .before .before .before .before .before .before .before .before .before .before .before .before .before .before .before .before .before .pre .1 .ready in let u = pick-2 t c in (ready r (search needs), ready r (u .some))
 
 leave-pick-requires : (t : ℕ) → lts.Need-leave-pick-requires (given t) (here t) walk.Post Inv μ
-leave-pick-requires t c κs = let u = pick-2 t (c .before) in let f = c .before .before .before .before .before .before .before .before .before .before .before .before .before .before .before .before .before .pre .1 .ready .few in (c .before .before .before .before .before .before .before .before .before .before .before .before .before .before .before .before .before .pre .1 .prices .pick .small, omega arith, c .before .before .before .before .before .before .before .before .before .before .before .before .before .before .before .before .loop .inv .1 .small, passed-1 t (c .before .before .before .before .before .before .before) .small, passed-2 t (c .before) .small)
+leave-pick-requires t c κs = let u = pick-2 t (c .before) in let f = c .before .before .before .before .before .before .before .before .before .before .before .before .before .before .before .before .before .before .pre .1 .ready .few in (c .before .before .before .before .before .before .before .before .before .before .before .before .before .before .before .before .before .before .pre .1 .prices .pick .small, omega arith, c .before .before .before .before .before .before .before .before .before .before .before .before .before .before .before .before .loop .inv .1 .small, passed-1 t (c .before .before .before .before .before .before .before) .small, passed-2 t (c .before) .small)
 
 add-i-2 : (t : ℕ) → lts.Need-add-i-2 (given t) (here t) walk.Post Inv μ
-add-i-2 t c = let k = pick-2 t (c .before .before .before) in let f = c .before .before .before .before .before .before .before .before .before .before .before .before .before .before .before .before .before .before .before .pre .1 .ready .few in search needs
+add-i-2 t c = let k = pick-2 t (c .before .before .before) in let f = c .before .before .before .before .before .before .before .before .before .before .before .before .before .before .before .before .before .before .before .before .pre .1 .ready .few in search needs
 
 loop-less-2 : (t : ℕ) → lts.Need-loop-less-2 (given t) (here t) walk.Post Inv μ
 loop-less-2 t c = let k = pick-2 t (c .before .before .before) in search needs
@@ -194,13 +194,13 @@ loop-less-2 t c = let k = pick-2 t (c .before .before .before) in search needs
 loop-again-2 : (t : ℕ) → lts.Need-loop-again-2 (given t) (here t) walk.Post Inv μ
 loop-again-2 t c = (
   search needs,
-  go-pick _ _ _ _ _ _ (c .before .before .before .before .before .before .before .before .before .before .before .before .before .before .before .before .before .before .loop .inv .1) (c .before .before .before .before .before .before .before .before .before .before .before .before .before .before .before .before .before .loop-test .taken) (c .before .before .before .before .before .before .before .before .before .before .before .before .before .before .before .before .before .before .before .pre .1 .ready .built) (pick-2 t (c .before .before .before)) (part-1 t (c .before .before .before .before .before .before .before .before .before)) (part-2 t (c .before .before .before)) refl (c .before .leave-pick .ensures _ _) (c .before .before .after-pick .ensures),
+  go-pick _ _ _ _ _ _ (c .before .before .before .before .before .before .before .before .before .before .before .before .before .before .before .before .before .before .loop .inv .1) (c .before .before .before .before .before .before .before .before .before .before .before .before .before .before .before .before .before .loop-test .taken) (c .before .before .before .before .before .before .before .before .before .before .before .before .before .before .before .before .before .before .before .before .pre .1 .ready .built) (pick-2 t (c .before .before .before)) (part-1 t (c .before .before .before .before .before .before .before .before .before)) (part-2 t (c .before .before .before)) refl (c .before .leave-pick .ensures _ _) (c .before .before .after-pick .ensures),
 )
 
 enter-loop-requires : (t : ℕ) → lts.Need-enter-loop-requires (given t) (here t) walk.Post Inv μ
 enter-loop-requires t c κs = (
-  record { ready = ready (c .before .before .before .before .before .before .before .pre .1 .ready) (search needs); inside = c .before .before .before .before .before .loop-test .taken; loops = sym (c .before .before .before .before .shape-at .ensures) ∙ c .before .before .enum-told3 .given .1 },
-  c .before .before .before .before .before .before .before .pre .1 .times,
+  record { ready = ready (c .before .before .before .before .before .before .before .before .pre .1 .ready) (search needs); inside = c .before .before .before .before .before .loop-test .taken; loops = sym (c .before .before .before .before .shape-at .ensures) ∙ c .before .before .enum-told3 .given .1 },
+  c .before .before .before .before .before .before .before .before .pre .1 .times,
   omega (arith, room-0 t (c .before .before)),
   c .before .before .before .before .before .before .loop .inv .1 .long,
   c .before .before .before .before .before .before .loop .inv .0,
@@ -208,7 +208,7 @@ enter-loop-requires t c κs = (
 
 returns-3 : (t : ℕ) → lts.Need-returns-3 (given t) (here t) walk.Post Inv μ
 returns-3 t c = record {
-  stopped = λ h. loop-refused _ _ _ _ _ _ (c .before .before .before .before .before .before .before .before .before .before .before .loop .inv .1) (c .before .before .before .before .before .before .before .before .before .before .loop-test .taken) (c .before .before .before .before .before .before .before .before .before .before .before .before .pre .1 .ready .built) (loop-1 t (c .before .before .before .before)) _ _ (c .before .before .before .before .enter-loop .ensures .stopped h);
+  stopped = λ h. loop-refused _ _ _ _ _ _ (c .before .before .before .before .before .before .before .before .before .before .before .loop .inv .1) (c .before .before .before .before .before .before .before .before .before .before .loop-test .taken) (c .before .before .before .before .before .before .before .before .before .before .before .before .before .pre .1 .ready .built) (loop-1 t (c .before .before .before .before)) _ _ (c .before .before .before .before .enter-loop .ensures .stopped h);
   whole = λ z. absurd (c .if3 .taken z);
 }
 
@@ -216,31 +216,31 @@ inside-requires : (t : ℕ) → lts.Need-inside-requires (given t) (here t) walk
 inside-requires t c κs = (c .before .before .before .before .before .enter-loop .ensures .one .small, c .before .before .before .before .before .enter-loop .ensures .begun .long)
 
 add-walk-2 : (t : ℕ) → lts.Need-add-walk-2 (given t) (here t) walk.Post Inv μ
-add-walk-2 t c = let f = c .before .before .before .before .before .before .before .before .before .before .before .before .before .before .pre .1 .ready .few in let l = c .before .before .before .before .before .before .before .before .before .before .before .before .loop-test .taken in search needs
+add-walk-2 t c = let f = c .before .before .before .before .before .before .before .before .before .before .before .before .before .before .before .pre .1 .ready .few in let l = c .before .before .before .before .before .before .before .before .before .before .before .before .loop-test .taken in search needs
 
 walk-requires-3 : (t : ℕ) → lts.Need-walk-requires-3 (given t) (here t) walk.Post Inv μ
 walk-requires-3 t c κs =
     let w = c .before .before .before .before .before .before .before .before .before .before .before .before .before .before .loop .inv .1 .walk in
-    let z = c .before .before .before .before .before .before .before .before .before .before .before .before .before .before .before .pre .0 in
+    let z = c .before .before .before .before .before .before .before .before .before .before .before .before .before .before .before .before .pre .0 in
     let l = c .before .before .before .before .before .before .before .before .before .before .before .before .before .loop-test .taken in
-    (search needs, lined-walkable (ready (c .before .before .before .before .before .before .before .before .before .before .before .before .before .before .before .pre .1 .ready) (search needs)) (c .before .before .before .before .before .before .before .before .before .before .before .before .before .before .before .pre .1 .prices) (entry t (c .before .before .before) .lined) (omega (arith, last-small (c .before .before .before .before .before .before .before .before .before .before .before .before .before .before .before .pre .1 .prices) (kindAt (rowsOf (now (c .before .before .before .before .before .before .before .before .before .before .before .before .before .before .before .args .rows))) (c .before .before .before .before .before .before .before .before .before .before .before .before .before .before .loop .i)))) (omega (arith, entry t (c .before .before .before) .total)) (room-0 t (c .before .before .before .before .before .before .before .before .before .before)))
+    (search needs, lined-walkable (ready (c .before .before .before .before .before .before .before .before .before .before .before .before .before .before .before .before .pre .1 .ready) (search needs)) (c .before .before .before .before .before .before .before .before .before .before .before .before .before .before .before .before .pre .1 .prices) (entry t (c .before .before .before) .lined) (omega (arith, last-small (c .before .before .before .before .before .before .before .before .before .before .before .before .before .before .before .before .pre .1 .prices) (now (c .before .before .before .before .before .before .before .before .before .before .before .before .before .before .before .before .args .text)) (kindAt (rowsOf (now (c .before .before .before .before .before .before .before .before .before .before .before .before .before .before .before .before .args .rows))) (c .before .before .before .before .before .before .before .before .before .before .before .before .before .before .loop .i)))) (omega (arith, entry t (c .before .before .before) .total)) (room-0 t (c .before .before .before .before .before .before .before .before .before .before)))
 
 returns-4 : (t : ℕ) → lts.Need-returns-4 (given t) (here t) walk.Post Inv μ
 returns-4 t c = record {
-  stopped = λ h. body-refused _ _ _ _ _ _ (c .before .before .before .before .before .before .before .before .before .before .before .before .before .before .before .before .before .loop .inv .1) (c .before .before .before .before .before .before .before .before .before .before .before .before .before .before .before .before .loop-test .taken) (c .before .before .before .before .before .before .before .before .before .before .before .before .before .before .before .before .before .before .pre .1 .ready .built) (loop-1 t (c .before .before .before .before .before .before .before .before .before .before)) _ _ (entry t (c .before .before .before .before .before .before) .verdict)
-      (sym (ap (λ ρ. loopsVerdict ρ (blockAt (rowsOf (now (c .before .before .before .before .before .before .before .before .before .before .before .before .before .before .before .before .before .before .args .rows))) (c .before .before .before .before .before .before .before .before .before .before .before .before .before .before .before .before .before .before .args .count) (c .before .before .before .before .before .before .before .before .before .before .before .before .before .before .before .before .before .loop .i + 1))) (inside-1 t (c .before .before .before .before))) ∙ refused-in (c .before .before .walk3 .ensures) h);
+  stopped = λ h. body-refused _ _ _ _ _ _ (c .before .before .before .before .before .before .before .before .before .before .before .before .before .before .before .before .before .loop .inv .1) (c .before .before .before .before .before .before .before .before .before .before .before .before .before .before .before .before .loop-test .taken) (c .before .before .before .before .before .before .before .before .before .before .before .before .before .before .before .before .before .before .before .pre .1 .ready .built) (loop-1 t (c .before .before .before .before .before .before .before .before .before .before)) _ _ (entry t (c .before .before .before .before .before .before) .verdict)
+      (sym (ap (λ ρ. loopsVerdict ρ (blockAt (now (c .before .before .before .before .before .before .before .before .before .before .before .before .before .before .before .before .before .before .before .args .text)) (rowsOf (now (c .before .before .before .before .before .before .before .before .before .before .before .before .before .before .before .before .before .before .before .args .rows))) (c .before .before .before .before .before .before .before .before .before .before .before .before .before .before .before .before .before .before .before .args .count) (c .before .before .before .before .before .before .before .before .before .before .before .before .before .before .before .before .before .loop .i + 1))) (inside-1 t (c .before .before .before .before))) ∙ refused-in (c .before .before .walk3 .ensures) h);
   whole = λ z. absurd (c .if4 .taken z);
 }
 
 leave-loop-requires : (t : ℕ) → lts.Need-leave-loop-requires (given t) (here t) walk.Post Inv μ
 leave-loop-requires t c κs =
     let u = loop-1 t (c .before .before .before .before .before .before .before .before .before .before .before) in
-    let f = c .before .before .before .before .before .before .before .before .before .before .before .before .before .before .before .before .before .before .before .pre .1 .ready .few in
+    let f = c .before .before .before .before .before .before .before .before .before .before .before .before .before .before .before .before .before .before .before .before .pre .1 .ready .few in
     let l = c .before .before .before .before .before .before .before .before .before .before .before .before .before .before .before .before .before .loop-test .taken in
-    (omega arith, c .before .before .before .before .before .before .before .before .before .before .before .enter-loop .ensures .one .small, omega arith, c .before .before .before .before .before .before .before .before .before .before .before .before .before .before .before .before .before .before .loop .inv .1 .small, passed-3 t (c .before) .small, c .before .before .before .before .before .before .before .before .before .before .before .enter-loop .ensures .begun .long, c .before .before .before .before .before .before .before .before .before .before .before .before .before .before .before .before .before .before .before .pre .1 .prices)
+    (omega arith, c .before .before .before .before .before .before .before .before .before .before .before .enter-loop .ensures .one .small, omega arith, c .before .before .before .before .before .before .before .before .before .before .before .before .before .before .before .before .before .before .loop .inv .1 .small, passed-3 t (c .before) .small, c .before .before .before .before .before .before .before .before .before .before .before .enter-loop .ensures .begun .long, c .before .before .before .before .before .before .before .before .before .before .before .before .before .before .before .before .before .before .before .before .pre .1 .prices)
 
 add-i-3 : (t : ℕ) → lts.Need-add-i-3 (given t) (here t) walk.Post Inv μ
-add-i-3 t c = let k = loop-1 t (c .before .before .before .before .before .before .before .before .before .before .before .before .before) in let f = c .before .before .before .before .before .before .before .before .before .before .before .before .before .before .before .before .before .before .before .before .before .pre .1 .ready .few in search needs
+add-i-3 t c = let k = loop-1 t (c .before .before .before .before .before .before .before .before .before .before .before .before .before) in let f = c .before .before .before .before .before .before .before .before .before .before .before .before .before .before .before .before .before .before .before .before .before .before .pre .1 .ready .few in search needs
 
 loop-less-3 : (t : ℕ) → lts.Need-loop-less-3 (given t) (here t) walk.Post Inv μ
 loop-less-3 t c = let k = loop-1 t (c .before .before .before .before .before .before .before .before .before .before .before .before .before) in search needs
@@ -250,7 +250,7 @@ loop-again-3 t c =
     let one = c .before .before .before .before .before .before .before .before .before .before .before .before .before .enter-loop .result .one in
     let left = c .before .leave-loop .ensures in (
       left .env .long,
-      go-loop _ _ _ _ _ _ (c .before .before .before .before .before .before .before .before .before .before .before .before .before .before .before .before .before .before .before .before .loop .inv .1) (c .before .before .before .before .before .before .before .before .before .before .before .before .before .before .before .before .before .before .before .loop-test .taken) (c .before .before .before .before .before .before .before .before .before .before .before .before .before .before .before .before .before .before .before .before .before .pre .1 .ready .built) (loop-1 t (c .before .before .before .before .before .before .before .before .before .before .before .before .before)) (entry t (c .before .before .before .before .before .before .before .before .before)) (part-3 t (c .before .before .before)) (λ G h. left .closed G h _ _)
+      go-loop _ _ _ _ _ _ (c .before .before .before .before .before .before .before .before .before .before .before .before .before .before .before .before .before .before .before .before .loop .inv .1) (c .before .before .before .before .before .before .before .before .before .before .before .before .before .before .before .before .before .before .before .loop-test .taken) (c .before .before .before .before .before .before .before .before .before .before .before .before .before .before .before .before .before .before .before .before .before .before .pre .1 .ready .built) (loop-1 t (c .before .before .before .before .before .before .before .before .before .before .before .before .before)) (entry t (c .before .before .before .before .before .before .before .before .before)) (part-3 t (c .before .before .before)) (λ G h. left .closed (now (c .before .before .before .before .before .before .before .before .before .before .before .before .before .before .before .before .before .before .before .before .before .before .args .text)) G h _ _)
           (left .env .value ∙ ap (widened one (outerOf (tripOf (one .trip)))) (c .before .before .before .before .before .before .before .before .before .before .before .before .before .enter-loop .ensures .begun .value) ∙ outside-is (c .before .before .before .before .before .before .before .before .before .before .before .before .before .enter-loop .ensures .one)),
     )
 
@@ -260,7 +260,7 @@ returns-5 t c =
     let e = c .ended .ensures (c .before .before .before .before .before .loop .lines) in
     record {
       stopped = λ h. absurd (h (e .number));
-      whole = λ z. closing (at-close _ _ _ _ _ (fold-none _ _ _ (k .small)) (k .walk) (c .before .before .before .before .loop-test .taken) (c .before .before .before .before .before .before .pre .1 .ready .built) (sym (c .before .before .before .shape-at .ensures) ∙ c .before .enum-told4 .given .1)) (k .small) (k .long) e;
+      whole = λ z. closing (at-close _ _ _ _ _ (fold-none _ _ _ (k .small)) (k .walk) (c .before .before .before .before .loop-test .taken) (c .before .before .before .before .before .before .before .pre .1 .ready .built) (sym (c .before .before .before .shape-at .ensures) ∙ c .before .enum-told4 .given .1)) (k .small) (k .long) e;
     }
 
 returns-6 : (t : ℕ) → lts.Need-returns-6 (given t) (here t) walk.Post Inv μ
@@ -269,7 +269,7 @@ returns-6 t c =
     let e = c .ended2 .ensures (c .before .before .loop .lines) in
     record {
       stopped = λ h. absurd (h (e .number));
-      whole = λ z. closing (at-last _ _ _ _ _ (fold-none _ _ _ (k .small)) (k .walk) (c .before .before .before .pre .1 .ready .built) (c .before .loop-test .left)) (k .small) (k .long) e;
+      whole = λ z. closing (at-last _ _ _ _ _ (fold-none _ _ _ (k .small)) (k .walk) (c .before .before .before .before .pre .1 .ready .built) (c .before .loop-test .left)) (k .small) (k .long) e;
     }
 
 pub +walk-spec : {M : Type 1} → statement M

@@ -2,7 +2,7 @@
 use mathlib.Core.Path.{_≡_, refl, sym, subst}
 use denote.Ref.{now}
 use borrow.Author.Needs.{needs}
-use Rattle.rules.specs.Blocks.{viewOf}
+use Rattle.rules.specs.Blocks.{viewOf, kindOf}
 use Rattle.rules.specs.Figures.{price}
 use Rattle.table.specs.declared.Shape.{Shape}
 use Rattle.table.specs.Code.{kindBy, numbersAt}
@@ -13,14 +13,14 @@ use Rattle.survey.proofs.plain_price.Statement.{statement}
 use Rattle.survey.proofs.plain_price.Tie as tie
 
 returns : tie.Need-returns
-unfolding price kindBy viewOf
-returns c = let a = c .before .before .before .args in rw (kind-is (now (a .rows)) (a .i) (c .before .before .tag-at .ensures) (c .enum-told .given .1))
+unfolding price kindBy viewOf kindOf
+returns c = λ text. let a = c .before .before .before .args in rw (kind-is (now (a .rows)) (a .i) (c .before .before .tag-at .ensures) (c .enum-told .given .1))
 
 returns-2 : tie.Need-returns-2
-returns-2 c =
+returns-2 c = λ text.
     let s = c .before .before in
     let e = kind-is (now (s .args .rows)) (s .args .i) (c .before .tag-at .ensures) refl in
-    subst (λ k. s .args .prices .arithmetic ≡ price (s .args .prices) (plainOf k)) (sym e) (price-other (s .args .prices) (numbersAt (now (s .args .rows)) (s .args .i)) (c .before .tag-at .result) (c .match .keys2) (subst (λ k. shapeOf k ≡ Shape.Plain) e (s .pre .1)))
+    subst (λ k. s .args .prices .arithmetic ≡ price (s .args .prices) (plainOf text k)) (sym e) (price-other (s .args .prices) text (numbersAt (now (s .args .rows)) (s .args .i)) (c .before .tag-at .result) (c .match .keys2) (subst (λ k. shapeOf k ≡ Shape.Plain) e (s .pre .1)))
 
 pub plain-price-spec : {M : Type 1} → statement M
 plain-price-spec = tie.close (tie.spec (λ c κs. search needs) (λ c. search needs) returns returns-2)

@@ -1,7 +1,7 @@
 -- `table::assigns` meets its contract.
 use denote.Ref.{now}
 use borrow.Author.Needs.{needs}
-use Rattle.rules.specs.Blocks.{viewOf}
+use Rattle.rules.specs.Blocks.{viewOf, kindOf}
 use Rattle.rules.specs.Steps.{sets}
 use Rattle.table.specs.Code.{kindBy}
 use Rattle.table.specs.Shapes.{plainOf}
@@ -11,19 +11,19 @@ use Rattle.table.proofs.assigns.Statement.{statement}
 use Rattle.table.proofs.assigns.Tie as tie
 
 returns : tie.Need-returns
-unfolding kindBy viewOf sets
-returns c = λ w. ap (λ k. sets w (plainOf k)) (kind-is (now (c .before .before .before .args .rows)) (c .before .before .before .args .i) (c .before .before .tag-at .ensures) (c .enum-told .given .1))
+unfolding kindBy viewOf kindOf sets
+returns c = λ text w. ap (λ k. sets w (plainOf text k)) (kind-is (now (c .before .before .before .args .rows)) (c .before .before .before .args .i) (c .before .before .tag-at .ensures) (c .enum-told .given .1))
 
 returns-2 : tie.Need-returns-2
-unfolding kindBy viewOf sets
-returns-2 c = λ w. ap (λ k. sets w (plainOf k)) (kind-is (now (c .before .before .before .args .rows)) (c .before .before .before .args .i) (c .before .before .tag-at .ensures) (c .enum-told2 .given .1))
+unfolding kindBy viewOf kindOf sets
+returns-2 c = λ text w. ap (λ k. sets w (plainOf text k)) (kind-is (now (c .before .before .before .args .rows)) (c .before .before .before .args .i) (c .before .before .tag-at .ensures) (c .enum-told2 .given .1))
 
 returns-3 : tie.Need-returns-3
-unfolding kindBy viewOf sets
-returns-3 c = λ w. ap (λ k. sets w (plainOf k)) (kind-is (now (c .before .before .before .args .rows)) (c .before .before .before .args .i) (c .before .before .tag-at .ensures) (c .enum-told3 .given .1))
+unfolding kindBy viewOf kindOf sets
+returns-3 c = λ text w. ap (λ k. sets w (plainOf text k)) (kind-is (now (c .before .before .before .args .rows)) (c .before .before .before .args .i) (c .before .before .tag-at .ensures) (c .enum-told3 .given .1))
 
 returns-4 : tie.Need-returns-4
-returns-4 c = λ w. rw (kind-is _ _ (c .before .tag-at .ensures) refl) (not-assigned _ _ (c .match .keys4) w)
+returns-4 c = λ text w. rw (kind-is _ _ (c .before .tag-at .ensures) refl) (not-assigned text _ _ (c .match .keys4) w)
 
 pub assigns-spec : {M : Type 1} → statement M
 assigns-spec =

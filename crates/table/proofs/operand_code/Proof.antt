@@ -1,4 +1,4 @@
-use Rattle.table.proofs.Laws.{small}
+use Rattle.table.proofs.Laws.{small, place-of, length-of}
 use mir.Syntax.{w32}
 use mir.Val.{SFits}
 use mir.Facts.{toZ-ofZ}
@@ -15,6 +15,9 @@ returns c = let f : SFits w32 (c .before .before .x .given .0 .0) = search needs
 returns-2 : tie.Need-returns-2
 returns-2 c = rw (small _ (rw (c .before .x2 .given .1) at (c .before .before .before .pre)), c .before .x2 .given .1)
 
+returns-3 : tie.Need-returns-3
+returns-3 c = let h = rw (c .before .x3 .given .1) at (c .before .before .before .pre) in rw (place-of _ _ h, length-of _ _ h, c .before .x3 .given .1)
+
 pub operand-code-spec : {M : Type 1} → statement M
 operand-code-spec =
     tie.close
@@ -23,5 +26,11 @@ operand-code-spec =
     shifted-requires
     (λ c. search needs)
     (λ c. search needs)
+    (λ c. search needs)
+    (λ c. search needs)
+    (λ c. search needs)
+    (λ c. search needs)
+    (λ c. search needs)
     returns
-    returns-2)
+    returns-2
+    returns-3)

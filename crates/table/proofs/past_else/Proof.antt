@@ -1,7 +1,7 @@
 -- `table::past_else` meets its contract.
 use denote.Ref.{now}
 use borrow.Author.Needs.{needs}
-use Rattle.rules.specs.Blocks.{viewOf}
+use Rattle.rules.specs.Blocks.{viewOf, kindOf}
 use Rattle.table.specs.Code.{kindBy}
 use Rattle.table.specs.Shapes.{pastElse}
 use Rattle.table.proofs.Laws.{kind-is, not-else}
@@ -10,7 +10,7 @@ use Rattle.table.proofs.past_else.Statement.{statement}
 use Rattle.table.proofs.past_else.Tie as tie
 
 returns : tie.Need-returns
-unfolding kindBy viewOf
+unfolding kindBy viewOf kindOf
 returns c = sym (ap (λ k. pastElse k (c .before .before .before .args .at)) (kind-is (now (c .before .before .before .args .rows)) (c .before .before .before .args .at) (c .before .before .tag-at .ensures) (c .enum-told .given .1)))
 
 returns-2 : tie.Need-returns-2

@@ -2,7 +2,7 @@
 use mathlib.Core.Path.{sym, ap}
 use denote.Ref.{now}
 use borrow.Author.Needs.{needs}
-use Rattle.rules.specs.Blocks.{viewOf}
+use Rattle.rules.specs.Blocks.{viewOf, kindOf}
 use Rattle.table.specs.Code.{kindBy}
 use Rattle.table.specs.Shapes.{shapeOf}
 use Rattle.table.proofs.Laws.{kind-is}
@@ -10,39 +10,39 @@ use Rattle.table.proofs.shape_at.Statement.{statement}
 use Rattle.table.proofs.shape_at.Tie as tie
 
 returns : tie.Need-returns
-unfolding kindBy viewOf
+unfolding kindBy viewOf kindOf
 returns c = sym (ap shapeOf (kind-is (now (c .before .before .before .args .rows)) (c .before .before .before .args .i) (c .before .before .tag-at .ensures) (c .enum-told .given .1)))
 
 returns-2 : tie.Need-returns-2
-unfolding kindBy viewOf
+unfolding kindBy viewOf kindOf
 returns-2 c = sym (ap shapeOf (kind-is (now (c .before .before .before .args .rows)) (c .before .before .before .args .i) (c .before .before .tag-at .ensures) (c .enum-told2 .given .1)))
 
 returns-3 : tie.Need-returns-3
-unfolding kindBy viewOf
+unfolding kindBy viewOf kindOf
 returns-3 c = sym (ap shapeOf (kind-is (now (c .before .before .before .args .rows)) (c .before .before .before .args .i) (c .before .before .tag-at .ensures) (c .enum-told3 .given .1)))
 
 returns-4 : tie.Need-returns-4
-unfolding kindBy viewOf
+unfolding kindBy viewOf kindOf
 returns-4 c = sym (ap shapeOf (kind-is (now (c .before .before .before .args .rows)) (c .before .before .before .args .i) (c .before .before .tag-at .ensures) (c .enum-told4 .given .1)))
 
 returns-5 : tie.Need-returns-5
-unfolding kindBy viewOf
+unfolding kindBy viewOf kindOf
 returns-5 c = sym (ap shapeOf (kind-is (now (c .before .before .before .args .rows)) (c .before .before .before .args .i) (c .before .before .tag-at .ensures) (c .enum-told5 .given .1)))
 
 returns-6 : tie.Need-returns-6
-unfolding kindBy viewOf
+unfolding kindBy viewOf kindOf
 returns-6 c = sym (ap shapeOf (kind-is (now (c .before .before .before .args .rows)) (c .before .before .before .args .i) (c .before .before .tag-at .ensures) (c .enum-told6 .given .1)))
 
 returns-7 : tie.Need-returns-7
-unfolding kindBy viewOf
+unfolding kindBy viewOf kindOf
 returns-7 c = sym (ap shapeOf (kind-is (now (c .before .before .before .args .rows)) (c .before .before .before .args .i) (c .before .before .tag-at .ensures) (c .enum-told7 .given .1)))
 
 returns-8 : tie.Need-returns-8
-unfolding kindBy viewOf
+unfolding kindBy viewOf kindOf
 returns-8 c = sym (ap shapeOf (kind-is (now (c .before .before .before .args .rows)) (c .before .before .before .args .i) (c .before .before .tag-at .ensures) (c .enum-told8 .given .1)))
 
 returns-9 : tie.Need-returns-9
-unfolding kindBy viewOf
+unfolding kindBy viewOf kindOf
 returns-9 c = sym (ap shapeOf (kind-is (now (c .before .before .before .args .rows)) (c .before .before .before .args .i) (c .before .before .tag-at .ensures) (c .enum-told9 .given .1)))
 
 pub shape-at-spec : {M : Type 1} → statement M

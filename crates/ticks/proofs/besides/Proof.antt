@@ -1,7 +1,7 @@
 -- `ticks::besides` meets its contract.
 use mathlib.Core.Path.{sym, ap}
 use borrow.Author.Needs.{needs}
-use Rattle.rules.specs.Blocks.{viewOf}
+use Rattle.rules.specs.Blocks.{viewOf, kindOf}
 use Rattle.steps.specs.Tree.{headOf, formOf}
 use Rattle.ticks.specs.Capped.{once}
 use Rattle.ticks.proofs.Caps.{once-one}
@@ -9,15 +9,15 @@ use Rattle.ticks.proofs.besides.Statement.{statement}
 use Rattle.ticks.proofs.besides.Tie as tie
 
 returns : tie.Need-returns
-unfolding headOf viewOf
-returns c = sym (ap (λ k. once (c .before .before .args .prices) (formOf k)) (c .enum-told .given .1))
+unfolding headOf viewOf kindOf
+returns c = λ text. sym (ap (λ k. once (c .before .before .args .prices) (formOf text k)) (c .enum-told .given .1))
 
 returns-2 : tie.Need-returns-2
-unfolding headOf viewOf
-returns-2 c = sym (ap (λ k. once (c .before .before .before .args .prices) (formOf k)) (c .before .enum-told2 .given .1))
+unfolding headOf viewOf kindOf
+returns-2 c = λ text. sym (ap (λ k. once (c .before .before .before .args .prices) (formOf text k)) (c .before .enum-told2 .given .1))
 
 returns-3 : tie.Need-returns-3
-returns-3 c = once-one (c .before .args .prices) (c .before .args .kind) (c .match .keys3)
+returns-3 c = λ text. once-one (c .before .args .prices) text (c .before .args .kind) (c .match .keys3)
 
 pub besides-spec : {M : Type 1} → statement M
 besides-spec = tie.close (tie.spec (λ c. search needs) (λ c. search needs) (λ c. search needs) returns returns-2 returns-3)

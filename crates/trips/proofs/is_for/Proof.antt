@@ -1,17 +1,17 @@
 -- `trips::is_for` meets its contract.
 use borrow.Author.Needs.{needs}
-use Rattle.rules.specs.Blocks.{viewOf}
+use Rattle.rules.specs.Blocks.{viewOf, kindOf}
 use Rattle.steps.specs.Tree.{headOf}
 use Rattle.trips.proofs.Heads.{not-for}
 use Rattle.trips.proofs.is_for.Statement.{statement}
 use Rattle.trips.proofs.is_for.Tie as tie
 
 returns : tie.Need-returns
-unfolding headOf viewOf
-returns c = rw (c .enum-told .given .1)
+unfolding headOf viewOf kindOf
+returns c = λ text. rw (c .enum-told .given .1)
 
 returns-2 : tie.Need-returns-2
-returns-2 c = not-for (c .before .args .kind) (c .match .keys2)
+returns-2 c = λ text. not-for text (c .before .args .kind) (c .match .keys2)
 
 pub is-for-spec : {M : Type 1} → statement M
 is-for-spec = tie.close (tie.spec (λ c. search needs) returns returns-2)

@@ -88,6 +88,8 @@ fn main() {
     first_block_over(&mut f);
     closing_chases(&mut f);
     levels_below_zero(&mut f);
+    expressions(&mut f);
+    expressions_refused(&mut f);
     f.written.sort();
     let names: String = f.written.iter().map(|(name, _)| format!("{name}\n")).collect();
     let printed: String = f.written.iter().map(|(name, answer)| format!("{name}\n{answer}")).collect();
@@ -747,4 +749,206 @@ fn levels_below_zero(f: &mut Files) {
     f.brief("accepted-level-do-start-range", &[(-9, 9)], "do v0 >= 2, div v0 2, end, for v0 v0 < 0 add 1, end", "0 shrink 2 2 3 3 most, 3 add 1 1 9 9 most, 26");
     // Factors in sequence still multiply.
     f.brief("accepted-level-factors-multiply", &[(-9, 100)], "while v0 > 0, div v0 2, div v0 5, end", "0 shrink 10 10 3 3 most, 10");
+}
+
+/// Parentheses round a word.
+fn nested(word: &str, pairs: usize) -> String {
+    format!("{}{word}{}", "(".repeat(pairs), ")".repeat(pairs))
+}
+
+/// A sum of so many ones and operators.
+fn ones(operators: usize) -> String {
+    vec!["1"; operators + 1].join("+")
+}
+
+/// Change 8. A for of N turns without a row has 2N + 2 ticks, a while with one row 2N + 1.
+fn expressions(f: &mut Files) {
+    let two: &[(i64, i64)] = &[(0, 0), (5, 5)];
+    f.brief("accepted-expression-case", two, "while v0 < 2*v1+2, add v0 1, end", "0 add 1 1 12 12 exact, 25");
+    let mut upto = |name: &str, x: &str, thought: &str| {
+        f.brief(&format!("accepted-expression-{name}"), two, &format!("for v0 1 <= {x} add 1, end"), thought)
+    };
+    upto("times-first", "2+3*2", "0 add 1 1 8 8 exact, 18");
+    upto("times-first-on-the-left", "2*3-1", "0 add 1 1 5 5 exact, 12");
+    upto("parentheses", "(2+3)*2", "0 add 1 1 10 10 exact, 22");
+    upto("from-the-left", "9-4-3", "0 add 1 1 2 2 exact, 6");
+    upto("from-the-left-in-parentheses", "9-(4-3)", "0 add 1 1 8 8 exact, 18");
+    upto("minus-and-sign", "3--2", "0 add 1 1 5 5 exact, 12");
+    upto("signs-and-times", "-3*-2", "0 add 1 1 6 6 exact, 14");
+    upto("subtraction-without-a-space", "v1-2", "0 add 1 1 3 3 exact, 8");
+    upto("constant-in-parentheses", "(5)", "0 add 1 1 5 5 exact, 12");
+    upto("variable-in-parentheses", "(v1)", "0 add 1 1 5 5 exact, 12");
+    upto("two-parts-in-parentheses", "(v1-2)*(v1-3)", "0 add 1 1 6 6 exact, 14");
+    upto("15-operators", &ones(15), "0 add 1 1 16 16 exact, 34");
+    upto("8-parentheses", &nested("v1", 8), "0 add 1 1 5 5 exact, 12");
+    upto("8-parentheses-in-each-of-16-parts", &vec![nested("1", 8); 16].join("+"), "0 add 1 1 16 16 exact, 34");
+    // From 16 to 17 by ones: 2 turns.
+    f.brief(
+        "accepted-expression-15-operators-twice-in-a-line",
+        two,
+        &format!("for v0 {} <= {} add 1, end", ones(15), ones(14) + "+2"),
+        "0 add 1 1 2 2 exact, 6",
+    );
+    f.brief("accepted-expression-start-and-limit", two, "for v0 v1-3 <= v1+1 add 1, end", "0 add 1 1 5 5 exact, 12");
+    // 5 and 6; the limit is read when the start is assigned, but it has another variable.
+    f.brief("accepted-expression-own-start", &[(4, 4), (5, 5)], "for v0 v0+1 < v1+2 add 1, end", "0 add 1 1 2 2 exact, 6");
+    f.brief("accepted-expression-do", &[(9, 9), (5, 5)], "do v0 >= v1-2, sub v0 2, end", "0 add -2 -2 4 4 exact, 8");
+    f.brief("accepted-expression-unequal", two, "while v0 != v1+1, add v0 3, end", "0 add 3 3 2 2 exact, 5");
+    f.brief("accepted-expression-grow", &[(1, 1), (5, 5)], "while v0 < (9), mul v0 2, end", "0 grow 2 2 4 4 exact, 9");
+    f.brief("accepted-expression-limit-not-single", &[(0, 0), (5, 6)], "while v0 < 2*v1+2, add v0 1, end", "0 add 1 1 14 14 most, 29");
+    f.brief("accepted-expression-limit-of-a-copied", &[(0, 0), (3, 3), (5, 5)], "while v0 < 2*v2, add v1 1, set v0 v1, end", "0 add 1 1 7 7 exact, 22");
+    // Ranges, read by a loop from the low end up to -1 and one from 0 to below the high end.
+    let mut range = |name: &str, v0: (i64, i64), v1: (i64, i64), x: &str, thought: &str| {
+        let rows = format!("set v2 {x}, for v3 v2 < 0 add 1, end, for v3 0 < v2 add 1, end");
+        f.brief(&format!("accepted-expression-range-{name}"), &[v0, v1, (0, 0), (0, 0)], &rows, thought)
+    };
+    range("plus", (-1, 3), (-2, 5), "v0+v1", "1 add 1 1 3 3 most, 3 add 1 1 8 8 most, 27");
+    range("minus", (1, 3), (-2, 5), "v0-v1", "1 add 1 1 4 4 most, 3 add 1 1 5 5 most, 23");
+    // 15, -12, -10, 8.
+    range("times", (-3, 2), (-5, 4), "v0*v1", "1 add 1 1 12 12 most, 3 add 1 1 15 15 most, 59");
+    // -21 and 14, and -15 and -8.
+    range("times-below-zero", (-3, 2), (7, 7), "v0*v1", "1 add 1 1 21 21 most, 3 add 1 1 14 14 most, 75");
+    range("times-both-below-zero", (-3, -2), (4, 5), "v0*v1", "1 add 1 1 15 15 most, 3 add 1 1 0 0 most, 35");
+    // Nothing is known of one variable being the same twice.
+    range("of-itself", (-3, 2), (0, 0), "v0-v0", "1 add 1 1 5 5 most, 3 add 1 1 5 5 most, 25");
+    range("single", (4, 4), (-7, -7), "2*v0+v1", "1 add 1 1 0 0 exact, 3 add 1 1 1 1 exact, 7");
+    // [0, 9] times L is [0, L].
+    range("drawn-back", (0, 9), (0, 0), "v0*1000000000-999999990", "1 add 1 1 999999990 999999990 most, 3 add 1 1 10 10 most, 2000000005");
+    range("drawn-back-inside", (L, L), (5, 5), "v0+v1-v0", "1 add 1 1 0 0 exact, 3 add 1 1 0 0 exact, 5");
+    range("drawn-back-below", (-L, -L), (5, 5), "v0-v1-v0", "1 add 1 1 0 0 exact, 3 add 1 1 0 0 exact, 5");
+    range("of-all", ALL, ALL, "v0*v1", "1 add 1 1 1000000000 1000000000 most, 3 add 1 1 1000000000 1000000000 most, 4000000005");
+    // Two towers of eight loops with one turn each, with 8 parentheses and 15 operators in every start and limit and in the
+    // rows inside: -L all of them.
+    let mut x = "1*-1000000000".to_string();
+    for _ in 0..8 {
+        x = format!("({x})+0");
+    }
+    x += &"+0".repeat(6);
+    let heads: Vec<String> = (7..15).map(|v| format!("for v{v} {x} >= {x} sub 1000000000")).collect();
+    let set = format!("set v15 {x}");
+    let mut rows: Vec<&str> = Vec::new();
+    let mut lines = String::new();
+    for _ in 0..2 {
+        for head in &heads {
+            lines += &format!("{} add -1000000000 -1000000000 1 1 exact, ", rows.len());
+            rows.push(head);
+        }
+        rows.extend([&[&set[..]; 70][..], &["set v15 0"; 42], &["end"; 8]].concat());
+    }
+    f.rows("accepted-expression-worst", &[(-L, -L); 16], &rows, &format!("{lines}{}", 2 * (112 + 8 * 4)));
+    // Rows of 203 bytes: 16 numbers of 11 bytes and 15 operators; the last has 9 of 10 bytes and 8.
+    let row = format!("set v0 {}", ["-1000000000"; 16].join("*"));
+    let last = format!("set v0 {}", ["1000000000"; 9].join("-"));
+    let full = text(&[(0, 0)], &[&vec![&row[..]; 80][..], &[&last]].concat());
+    assert_eq!(full.len(), 16_384);
+    f.bytes("accepted-expression-file-of-16384-bytes", &full, "81");
+    let more = text(&[(0, 0)], &[&vec![&row[..]; 80][..], &[&last.replacen(" 1", " -1", 1)]].concat());
+    f.bytes("refused-2-expression-file-of-16385-bytes", &more, "refused 2 16384");
+}
+
+/// Change 8: the rows that are refused have line 6.
+fn expressions_refused(f: &mut Files) {
+    for (name, x) in [
+        ("minus-variable", "-v1"),
+        ("minus-parenthesis", "-(1)"),
+        ("minus-variable-behind-times", "2*-v1"),
+        ("minus-variable-in-parentheses", "(-v1)"),
+        ("minus-minus-zero", "1--0"),
+        ("three-minus", "1---1"),
+        ("two-minus-first", "--1"),
+        ("plus-first", "+1"),
+        ("plus-sign", "1-+1"),
+        ("times-first", "*1"),
+        ("operator-last", "1+"),
+        ("minus-last", "v0-"),
+        ("operator-before-the-closing", "(1+)"),
+        ("two-times", "2**2"),
+        ("division", "4/2"),
+        ("empty-parentheses", "()"),
+        ("not-closed", "(1"),
+        ("inner-not-closed", "((1)"),
+        ("not-opened", "1)"),
+        ("closed-twice", "(1))"),
+        ("closed-first", ")1("),
+        ("number-before-a-parenthesis", "2(1)"),
+        ("number-behind-a-parenthesis", "(1)2"),
+        ("parentheses-side-by-side", "(1)(2)"),
+        ("number-before-a-variable", "2v1"),
+        ("variables-side-by-side", "v0v1"),
+        ("variable-before-a-parenthesis", "v0(1)"),
+        ("variable-without-number", "v+1"),
+        ("leading-zero", "1+01"),
+        ("variable-leading-zero", "1+v01"),
+        ("square-brackets", "[1]"),
+        ("spaces", "1 + 1"),
+        ("space-in-parentheses", "(1 )"),
+    ] {
+        f.row(&format!("refused-3-expression-{name}"), &format!("set v0 {x}"), "refused 3 6");
+    }
+    f.row("refused-3-expression-in-a-limit", "while v0 < -v1", "refused 3 6");
+    f.row("refused-3-expression-in-a-start", "for v0 -(1) < 1 add 1", "refused 3 6");
+    f.row("refused-3-expression-for-add", "add v0 1+1", "refused 3 6");
+    f.row("refused-3-expression-for-cue", "cue (1)", "refused 3 6");
+    f.row("refused-3-expression-for-a-step", "for v0 1 <= 2 add (1)", "refused 3 6");
+    f.row("refused-3-expression-tested", "while v0+1 < 2", "refused 3 6");
+    f.row("refused-3-expression-assigned", "set (v0) 2", "refused 3 6");
+    f.bytes("refused-3-expression-in-a-range", b"script=1\nvars=1\nrange=0 1+1\nrows=0\n", "refused 3 3");
+    let room = 16_384 - text(&[(0, 0), (0, 0)], &["set v0 "]).len();
+    let set = |x: String| format!("set v0 {x}");
+    f.row("refused-3-expression-of-16000-parentheses", &set("(".repeat(room)), "refused 3 6");
+    f.row("refused-3-expression-of-16000-closing", &set(")".repeat(room)), "refused 3 6");
+    f.row("refused-17-expression-of-8000-pairs", &set(nested("1", (room - 1) / 2)), "refused 17 6");
+    f.row("refused-17-expression-of-8000-operators", &set(ones((room - 1) / 2)), "refused 17 6");
+    f.row("refused-4-expression-of-16000-digits", &set(format!("({}-1)", "9".repeat(room - 4))), "refused 4 6");
+    f.row("refused-5-expression-of-16000-digits", &set(format!("(v{}-1)", "9".repeat(room - 5))), "refused 5 6");
+
+    f.row("refused-17-expression-9-parentheses", &set(nested("1", 9)), "refused 17 6");
+    f.row("refused-17-expression-9-parentheses-round-a-part", &set(format!("1+{}*2", nested("v0-1", 9))), "refused 17 6");
+    f.row("refused-17-expression-16-operators", &set(ones(16)), "refused 17 6");
+    f.row("refused-17-expression-16-operators-in-two-parts", &set(format!("({})*({})", ones(7), ones(8))), "refused 17 6");
+    f.row("refused-17-expression-16-operators-and-signs", &set(vec!["-1"; 17].join("-")), "refused 17 6");
+    f.row("refused-17-expression-limit-of-a-while", &format!("while v0 < {}", ones(16)), "refused 17 6");
+    f.row("refused-17-expression-limit-of-a-do", &format!("do v0 < {}", nested("v1", 9)), "refused 17 6");
+    f.row("refused-17-expression-start", &format!("for v0 {} < 1 add 1", ones(16)), "refused 17 6");
+    f.row("refused-17-expression-limit-of-a-for", &format!("for v0 1 < {} add 1", nested("1", 9)), "refused 17 6");
+    f.row("refused-3-expression-before-17", &format!("for v0 {} < -v1 add 1", ones(16)), "refused 3 6");
+    f.row("refused-3-expression-before-17-in-one", &set(format!("{}+", ones(16))), "refused 3 6");
+    f.row("refused-17-expression-before-4", &set(format!("1000000001+{}", ones(15))), "refused 17 6");
+    f.row("refused-17-expression-before-4-of-the-step", &format!("for v0 {} < 1 add -1", ones(16)), "refused 17 6");
+    f.row("refused-17-expression-before-5", &format!("set v99 {}", nested("v98", 9)), "refused 17 6");
+    f.rows("refused-17-expression-before-7", &[(0, 0)], &[&["pick"; 8][..], &[&format!("while v0 < {}", ones(16))]].concat(), "refused 17 13");
+    f.rows("refused-17-expression-on-a-line-before-3", &[(0, 0)], &[&set(ones(16))[..], "cue"], "refused 17 5");
+    f.rows("refused-3-expression-on-a-line-before-17", &[(0, 0)], &["cue", &set(ones(16))], "refused 3 5");
+
+    f.row("refused-4-expression-above", &set("1000000001-1".into()), "refused 4 6");
+    f.row("refused-4-expression-below", &set("1+-1000000001".into()), "refused 4 6");
+    f.row("refused-4-expression-times-zero", &set("0*4294967296".into()), "refused 4 6");
+    f.row("refused-4-expression-in-parentheses", &set("(1000000001)".into()), "refused 4 6");
+    f.row("refused-4-expression-limit", "while v0 < v1+1000000001", "refused 4 6");
+    f.row("refused-4-expression-start", "for v0 0-1000000001 < 1 add 1", "refused 4 6");
+    f.row("refused-4-expression-before-5", &set("v99*1000000001".into()), "refused 4 6");
+    f.row("refused-5-expression-variable", &set("1+v2".into()), "refused 5 6");
+    f.row("refused-5-expression-times-zero", &set("v2*0".into()), "refused 5 6");
+    f.row("refused-5-expression-in-parentheses", &set("(v2)".into()), "refused 5 6");
+    f.row("refused-5-expression-limit", "do v0 < 2*v16+2", "refused 5 6");
+    f.row("refused-5-expression-start", "for v0 v0-v256 < 1 add 1", "refused 5 6");
+
+    let three: &[(i64, i64)] = &[(0, 0), (5, 5), (3, 3)];
+    f.brief("refused-8-expression-copy-in-parentheses", three, "while v0 < 10, add v1 1, set v0 (v1), end", "refused 8 0");
+    f.brief("refused-8-expression-copy-plus-zero", three, "while v0 < 10, add v1 1, set v0 v1+0, end", "refused 8 0");
+    f.brief("refused-10-expression-first-variable", three, "while v0 < v1+v2, add v0 1, sub v1 1, end", "refused 10 0");
+    f.brief("refused-10-expression-last-variable", three, "while v0 < v1+v2, add v0 1, sub v2 1, end", "refused 10 0");
+    f.brief("refused-10-expression-times-zero", three, "while v0 < 9+0*v2, add v0 1, set v2 v2, end", "refused 10 0");
+    // In parentheses a limit that comes down closes on nothing.
+    f.brief("refused-10-expression-closing", three, "while v0 < (v1), add v0 1, sub v1 1, end", "refused 10 0");
+    f.brief("refused-10-expression-closing-plus", three, "while v0 < v1+1, add v0 1, sub v1 1, end", "refused 10 0");
+    f.brief("refused-10-expression-standing-row", three, "do v0 < 2*v1, add v0 1, mul v1 1, end", "refused 10 0");
+    f.brief("refused-10-expression-inner-for", three, "while v0 < v1+1, add v0 1, for v1 0 < 1 add 1, end, end", "refused 10 0");
+    f.brief("refused-10-expression-of-the-tested", three, "while v0 < v0+1, add v0 1, end", "refused 10 0");
+    f.brief("refused-10-expression-of-the-for-s-own", three, "for v0 0 < v1-v0 add 1, end", "refused 10 0");
+    f.brief("refused-10-expression-of-the-master", three, "while v0 < 2*v1, add v1 1, set v0 v1, end", "refused 10 0");
+    // Question 9 reads the tested variable's own step: nothing closes.
+    f.brief("refused-9-expression-closing", three, "while v0 < (v1), sub v1 1, end", "refused 9 0");
+    f.brief("refused-12-expression-shrink", &[(5, 5), (1, 2)], "while v0 >= 2*v1-2, div v0 2, end", "refused 12 0");
+    f.brief("refused-12-expression-grow-from-0", &[(0, 0), (1, 1)], "for v0 v1-1 < 5 mul 2, end", "refused 12 0");
 }

@@ -1,0 +1,4 @@
+pub mod Leaves
+pub mod Evaluating
+pub mod Asking
+pub mod Keeping
