@@ -4,7 +4,7 @@
  * beside it says (a length of 0 may come with any non-null pointer), `place` to one number, `answer` to DIFTANEW_ANSWER numbers, and no two
  * of the lent parts overlap. Nothing else is asked.
  *
- * A call needs a scratch of 1,024 numbers and a stack of 32 KB (a report) or 40 KB (a run), no heap, and nothing else; it keeps no state. The
+ * A call needs a scratch of 1,024 numbers and a stack of 36 KB (a report) or 40 KB (a run), no heap, and nothing else; it keeps no state. The
  * scratch is measured and never touched: every number of it keeps its value, also past the first 1,024, where a patch list may lie. */
 #ifndef DIFTANEW_H
 #define DIFTANEW_H
@@ -25,7 +25,7 @@ extern "C" {
 /* No report is longer: a buffer of so many bytes holds every one. */
 #define DIFTANEW_REPORT 2089
 /* The bytes of stack that a report and a run need at most. */
-#define DIFTANEW_REPORT_STACK 32768
+#define DIFTANEW_REPORT_STACK 36864
 #define DIFTANEW_RUN_STACK 40960
 /* The numbers of a run's answer. */
 #define DIFTANEW_ANSWER 53

@@ -22,7 +22,7 @@ int main(void) {
 
     int32_t store[2] = {0, 1};
     uint64_t answer[DIFTANEW_ANSWER];
-    refused = diftanew_run(file, length, prices, DIFTANEW_PRICES, scratch, DIFTANEW_SCRATCH, store, 2, buffer, 0, 65, answer);
+    refused = diftanew_run(file, length, prices, DIFTANEW_PRICES, scratch, DIFTANEW_SCRATCH, store, 2, buffer, 0, 32, answer);
     if (refused) {
         printf("refused=%" PRIu32 " %" PRIu64 "\n", refused, answer[0]);
         return 1;

@@ -21,7 +21,7 @@ pub fn turned_up(l: AddLoop) -> AddLoop
 
 // Section 3.1, "starting the initial value at 0": for (i = k; i <= n; i += c) becomes for (i = 0; i <= n - k; i += c).
 fn from_zero(l: AddLoop) -> AddLoop
-    requires { ⌜ Near 1024 (l .start) × Near 1024 (l .limit) ⌝ }
+    requires { ⌜ Near 4_000_000 (l .start) × Near 4_000_000 (l .limit) ⌝ }
     ensures { λ r. ⌜ r ≡ fromZero l ⌝ }
 {
     AddLoop {
@@ -45,7 +45,6 @@ fn by_one(l: AddLoop) -> AddLoop
 
 // Its "nombreIT": the turns of for (i = 0; i <= n; i++).
 fn turns_to(n: i64) -> u64
-    requires { ⌜ Near 2048 n ⌝ }
     ensures { λ r. ⌜ r ≡ turnsTo n ⌝ }
 {
     if n < 0 {
@@ -56,7 +55,7 @@ fn turns_to(n: i64) -> u64
 
 // Add rising: the start to zero, then the step divided away.
 pub fn climb(l: AddLoop) -> u64
-    requires { ⌜ Near 1024 (l .start) × Near 1024 (l .limit) × Near 1024 (l .step) × (pos 1 ≤ℤ l .step) ⌝ }
+    requires { ⌜ Near 4_000_000 (l .start) × Near 4_000_000 (l .limit) × Near 1024 (l .step) × (pos 1 ≤ℤ l .step) ⌝ }
     ensures { λ r. ⌜ r ≡ climb l ⌝ }
 {
     let last = by_one(from_zero(l));

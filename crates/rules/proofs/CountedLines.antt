@@ -1,11 +1,11 @@
 -- Demand 2 of the report's lines: TURNS of each loop tested by < <= > or >= are counted by stepping.
 use mathlib.Core.Path.{_≡_, refl}
 use mathlib.Core.List.{List, _++_}
-use Prim.Native.Nat.{ℕ, _*_}
 use Rattle.rules.specs.Blocks.{Block, done, plain, pick, loop}
 use Rattle.rules.specs.Ranges.{Env, afterRow, join, atStart}
-use Rattle.rules.specs.Trips.{trip, turns, inside, outside, after}
-use Rattle.rules.specs.Figures.{lines}
+use Rattle.rules.specs.Trips.{trip, inside, outside, after}
+use Rattle.rules.specs.Passes.{Pass, any}
+use Rattle.rules.specs.Figures.{Round, alike, lines}
 use Rattle.rules.specs.Questions.{passed, loopsVerdict, verdict}
 use Rattle.rules.specs.Scripts.{Pairwise, no-more, and-then, envOf, treeOf}
 use Rattle.rules.specs.Count.{tripsIn, FiguresCounted, CountedLine, LinesCounted}
@@ -17,24 +17,24 @@ both-append : {A B : Type 0} {Q : A → B → Type 0} {x u : List A} {y v : List
 both-append no-more k = k
 both-append (and-then h t) k = and-then h (both-append t k)
 
-counted-lines : (outer : ℕ) (b : Block) (ρ : Env) → loopsVerdict ρ b ≡ passed → Pairwise CountedLine (tripsIn ρ b) (lines outer ρ b)
+counted-lines : (r : Round) (k : Pass) (b : Block) (ρ : Env) → loopsVerdict ρ b ≡ passed → Pairwise CountedLine (tripsIn ρ b) (lines r k ρ b)
 unfolding loopsVerdict tripsIn lines FiguresCounted
-counted-lines outer done ρ h = no-more
-counted-lines outer (plain i p rest) ρ h = counted-lines outer rest (afterRow ρ p) h
-counted-lines outer (pick i e a b rest) ρ h =
+counted-lines r k done ρ h = no-more
+counted-lines r k (plain i p rest) ρ h = counted-lines r _ rest (afterRow ρ p) h
+counted-lines r k (pick i e a b rest) ρ h =
     let (x, y) = then-yes (loopsVerdict ρ a) _ h in
     let (u, v) = then-yes (loopsVerdict ρ b) _ y in
-    both-append (counted-lines outer a ρ x) (both-append (counted-lines outer b ρ u) (counted-lines outer rest (join (after ρ a) (after ρ b)) v))
-counted-lines outer (loop i e form test body rest) ρ h =
+    both-append (counted-lines _ any a ρ x) (both-append (counted-lines _ any b ρ u) (counted-lines r _ rest (join (after ρ a) (after ρ b)) v))
+counted-lines r k (loop i e form test body rest) ρ h =
     let σ = atStart form test ρ in
     let (x, y) = then-yes _ _ h in
     let (u, v) = then-yes (loopsVerdict (inside form σ test body) body) _ y in
     and-then (record { step = refl; turns = λ o. figures-counted (trip form σ test body) i o x })
-    (both-append (counted-lines (turns form σ test body * outer) body (inside form σ test body) u) (counted-lines outer rest (outside form σ test body) v))
+    (both-append (counted-lines _ _ body (inside form σ test body) u) (counted-lines r _ rest (outside form σ test body) v))
 
 pub lines-counted : LinesCounted
 unfolding LinesCounted verdict
 lines-counted prices scratch file script e =
     let ok = file-accepted prices scratch file script e .script-accepted in
     let (passes, _) = then-yes (loopsVerdict (envOf (script .ranges)) (treeOf (script .rows))) _ (ok .loops) in
-    counted-lines 1 (treeOf (script .rows)) (envOf (script .ranges)) passes
+    counted-lines (alike 1) any (treeOf (script .rows)) (envOf (script .ranges)) passes

@@ -18,6 +18,7 @@ use Rattle.rules.proofs.Accepted.{refused-not}
 use Rattle.rules.proofs.Whole.{case}
 use Rattle.rules.proofs.Building.{Laws}
 use Rattle.rules.proofs.Demand.{tree-along}
+use Rattle.rules.specs.Passes.{any}
 
 -- ---- refusals by number and place
 same-refusal : (q p r s : ℕ) → refused q p ≡ refused r s → (q ≡ r) × (p ≡ s)
@@ -208,27 +209,27 @@ place-of-13 π script legal p = (
     bs = blocks π ρ tree
 
     last : Verdict
-    last = asked 13 (length (script .rows)) (leb (ticks π ρ tree) tickLimit) passed
+    last = asked 13 (length (script .rows)) (leb (ticks π any ρ tree) tickLimit) passed
 
     up : Rising 0 bs (length (script .rows))
     up = blocks-rise π tree ρ 0 (length (script .rows)) (tree-along InOrder in-order script legal)
 
-    ending : (b : Bool) → (T (not b) → tickLimit < ticks π ρ tree) → listed bs ≡ passed → asked 13 (length (script .rows)) b passed ≡ refused 13 p → FirstOver bs p ⊎ WholeOver π script p
+    ending : (b : Bool) → (T (not b) → tickLimit < ticks π any ρ tree) → listed bs ≡ passed → asked 13 (length (script .rows)) b passed ≡ refused 13 p → FirstOver bs p ⊎ WholeOver π script p
     ending true f l h = refused-not 13 p (sym h)
     ending false f l h = inr (record { row = sym (same-refusal 13 _ 13 p h .1); within = all-of bs l; over = f tt })
 
     forth : (v : Verdict) → loopsVerdict ρ tree ≡ v → (w : Verdict) → listed bs ≡ w → andThen v (andThen w last) ≡ refused 13 p
         → (v ≡ passed) × (FirstOver bs p ⊎ WholeOver π script p)
-    forth passed e passed l h = (refl, ending (leb (ticks π ρ tree) tickLimit) (nleb→lt (ticks π ρ tree) tickLimit) l h)
+    forth passed e passed l h = (refl, ending (leb (ticks π any ρ tree) tickLimit) (nleb→lt (ticks π any ρ tree) tickLimit) l h)
     forth passed e (refused q r) l h = let (_, f) = first-of bs 0 _ q r up l in (refl, inl (subst (FirstOver bs) (same-refusal q r 13 p h .1) f))
     forth (refused q r) e w l h = absurd (subst Not13 e (loops-not tree ρ) (same-refusal q r 13 p h .0))
 
-    whole : (b : Bool) → (T b → ticks π ρ tree ≤ tickLimit) → WholeOver π script p → asked 13 (length (script .rows)) b passed ≡ refused 13 p
+    whole : (b : Bool) → (T b → ticks π any ρ tree ≤ tickLimit) → WholeOver π script p → asked 13 (length (script .rows)) b passed ≡ refused 13 p
     whole true f w = absurd (omega (arith, f tt, w .over))
     whole false f w = ap (refused 13) (sym (w .row))
 
     back : (w : Verdict) → listed bs ≡ w → FirstOver bs p ⊎ WholeOver π script p → andThen w last ≡ refused 13 p
     back passed l (inl f) = absurd (omega (arith, all-of bs l (f .block) (f .here), f .over))
-    back passed l (inr w) = whole (leb (ticks π ρ tree) tickLimit) (leb→le (ticks π ρ tree) tickLimit) w
+    back passed l (inr w) = whole (leb (ticks π any ρ tree) tickLimit) (leb→le (ticks π any ρ tree) tickLimit) w
     back (refused q r) l (inl f) = let (e, g) = first-of bs 0 _ q r up l in ap (λ z. refused z r) e ∙ ap (refused 13) (one-first bs r p g f)
     back (refused q r) l (inr w) = let (_, g) = first-of bs 0 _ q r up l in absurd (omega (arith, w .within (g .block) (g .here), g .over))

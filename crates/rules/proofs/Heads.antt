@@ -1,8 +1,8 @@
 -- The report's lines stand for the loops' head rows, in row order; and there are at most 16.
 use mathlib.Core.Path.{_≡_, refl, sym, _∙_, ap, subst}
-use mathlib.Core.Bool.{Bool, true, false, cond, _&&_}
+use mathlib.Core.Bool.{Bool, true, false, cond, _&&_, _||_}
 use mathlib.Core.List.{List, [], _∷_, _++_, append-assoc, append-nil}
-use Prim.Native.Nat.{ℕ, suc, _+_, _*_, _≤_, _<_}
+use Prim.Native.Nat.{ℕ, suc, _+_, _≤_, _<_}
 use native.Mathlib.Omega.{arith}
 use borrow.Author.Tests.{ltb-true}
 use lib.Dec.{ltb}
@@ -10,8 +10,10 @@ use lib.ListN.{length}
 use Rattle.rules.specs.Blocks.{Plain, Form, Test, Last, no-step, step-by, View, is-plain, is-pick, is-else, is-end, is-loop, viewOf, Block, done, plain, pick, loop, Part, to-end, to-else, Built, parts, misfit, snoc, inFront, withLast, loopHead, pickHead, plainRow, closes, onRow, build, RowKind}
 use Rattle.rules.specs.Nesting.{Open, in-loop, in-pick, in-else, Nest, Nested, nested, wrong, nest, opens, elses, ends, nestRow, andRows, nestRows}
 use Rattle.rules.specs.Ranges.{Env, afterRow, join, atStart}
-use Rattle.rules.specs.Trips.{turns, inside, outside, after}
-use Rattle.rules.specs.Figures.{Line, lines}
+use Rattle.rules.specs.Trips.{inside, outside, after}
+use Rattle.rules.specs.Steps.{sets, starts, assigns}
+use Rattle.rules.specs.Passes.{Pass, any, later, startPass, firstPass}
+use Rattle.rules.specs.Figures.{Line, Round, alike, often, inBody, lines}
 use Rattle.rules.specs.Scripts.{Script, envOf, ofBuilt, treeOf, reportLines, Legal}
 use Rattle.rules.specs.Calls.{isLoop, loopRows}
 use Rattle.rules.specs.Claim.{lineRows}
@@ -30,21 +32,24 @@ unfolding lineRows
 rows-append [] y = refl
 rows-append (l ∷ x) y = ap {B = List ℕ} (λ r. l .row ∷ r) (rows-append x y)
 
-pub line-heads : (outer : ℕ) (b : Block) (ρ : Env) → lineRows (lines outer ρ b) ≡ heads b
+pub line-heads : (r : Round) (k : Pass) (b : Block) (ρ : Env) → lineRows (lines r k ρ b) ≡ heads b
 unfolding lines heads lineRows
-line-heads outer done ρ = refl
-line-heads outer (plain i p rest) ρ = line-heads outer rest (afterRow ρ p)
-line-heads outer (pick i e a b rest) ρ =
+line-heads r k done ρ = refl
+line-heads r k (plain i p rest) ρ = line-heads r (later (λ w. sets w p) k) rest (afterRow ρ p)
+line-heads r k (pick i e a b rest) ρ =
+    let o : Round = alike (often r) in
+    let l : Pass = later (λ w. assigns w a || assigns w b) k in
     let σ = join (after ρ a) (after ρ b) in
-    rows-append (lines outer ρ a) (lines outer ρ b ++ lines outer σ rest)
-    ∙ (λ j. line-heads outer a ρ j ++ (rows-append (lines outer ρ b) (lines outer σ rest) ∙ λ k. line-heads outer b ρ k ++ line-heads outer rest σ k) j)
-line-heads outer (loop i e form test body rest) ρ =
+    rows-append (lines o any ρ a) (lines o any ρ b ++ lines r l σ rest)
+    ∙ (λ j. line-heads o any a ρ j ++ (rows-append (lines o any ρ b) (lines r l σ rest) ∙ λ m. line-heads o any b ρ m ++ line-heads r l rest σ m) j)
+line-heads r k (loop i e form test body rest) ρ =
     let σ = atStart form test ρ in
-    let n = turns form σ test body in
+    let o : Round = inBody r (startPass form test k) form σ test body in
+    let f : Pass = firstPass form σ test body in
+    let l : Pass = later (λ w. starts w form test || assigns w body) k in
     let β = inside form σ test body in
     let α = outside form σ test body in
-    ap {B = List ℕ} (λ r. i ∷ r)
-    (rows-append (lines (n * outer) β body) (lines outer α rest) ∙ λ j. line-heads (n * outer) body β j ++ line-heads outer rest α j)
+    ap {B = List ℕ} (λ hs. i ∷ hs) (rows-append (lines o f β body) (lines r l α rest) ∙ λ j. line-heads o f body β j ++ line-heads r l rest α j)
 
 -- ---- of the rows
 partHeads : Part → List ℕ
@@ -134,7 +139,7 @@ tree-heads rows n e =
 -- the rows of the report's lines are the head rows of the file's loops, in row order
 pub lines-at-heads : (script : Script) → Legal script → lineRows (reportLines script) ≡ loopRows 0 (script .rows)
 lines-at-heads script legal =
-    line-heads 1 (treeOf (script .rows)) (envOf (script .ranges)) ∙ tree-heads (script .rows) _ (legal .closed .1)
+    line-heads (alike 1) any (treeOf (script .rows)) (envOf (script .ranges)) ∙ tree-heads (script .rows) _ (legal .closed .1)
 
 -- ---- at most 16 loops
 module _ (last : Nest) where

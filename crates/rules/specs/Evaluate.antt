@@ -1,4 +1,4 @@
--- Expressions as code evaluates them: one evaluator for ranges and runs, since a run's number is a range of one number.
+-- Expressions as code evaluates them over ranges: both ends at once, and whether a result went past ±L; and a run's result from such a value.
 use mathlib.Core.Bool.{Bool, false, not, cond, _&&_, _||_}
 use Prim.Native.Nat.{ℕ}
 use lib.IntN.{ℤ}

@@ -12,6 +12,7 @@ use Rattle.rules.specs.Figures.{Prices, Line}
 use Rattle.rules.specs.Scripts.{Script, reportTicks, reportLines}
 use Rattle.rules.specs.Text.{lf, space, minus}
 pub use Rattle.rules.specs.File.{rowsKey}
+unfoldable pub use Rattle.rules.specs.Steps.{firstEnd}
 
 -- a line as code holds it
 abbrev pub lineOf : LoopLine → Line
@@ -52,13 +53,6 @@ stepName (Add a b) = 97 ∷ 100 ∷ 100 ∷ []
 stepName (Grow f g) = 103 ∷ 114 ∷ 111 ∷ 119 ∷ []
 stepName (Shrink f g) = 115 ∷ 104 ∷ 114 ∷ 105 ∷ 110 ∷ 107 ∷ []
 stepName Unknown = []
-
--- the first of "both ends"
-unfoldable pub firstEnd : Step → ℤ
-firstEnd (Add a b) = a
-firstEnd (Grow f g) = pos f
-firstEnd (Shrink f g) = pos f
-firstEnd Unknown = pos 0
 
 -- the second
 unfoldable pub secondEnd : Step → ℤ

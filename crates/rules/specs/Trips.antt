@@ -128,6 +128,12 @@ pub data Way : Type 0 where
   copied : ℕ → Bool → Way
   chase : ℕ → Way
 
+-- a base kind: not card 1's or card 5's
+abbrev pub isOwn : Way → Bool
+isOwn own = true
+isOwn (copied w ahead) = false
+isOwn (chase w) = false
+
 -- card 5: "a limit variable, other than the tested one, that the body assigns and whose step is Add, with an Add step of its own on the tested one and < <= > or >="
 abbrev pub chases : Test → Block → ℕ → Bool
 chases test body w = not (eqb w (test .tested)) && (assigns w body && (isAdd (step w body) && (isAdd (step (test .tested) body) && ordered (sort (test .comparison)))))

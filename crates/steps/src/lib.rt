@@ -65,7 +65,7 @@ pub fn has(set: [bool; 16], v: u8) -> bool
 }
 
 // Does a plain row assign v, or a for's step row?
-fn sets_it(rows: &[[u32; 9]; 256], i: usize, v: u8) -> bool
+pub fn sets_it(rows: &[[u32; 9]; 256], i: usize, v: u8) -> bool
     requires { ⌜ i < 256 ⌝ }
     ensures { λ r. ⌜ ((text : List ℕ) → r ≡ sets v (plainOf text (kindAt (rowsOf (now (rows .entry))) i))) ⌝ }
 {

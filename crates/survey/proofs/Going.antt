@@ -1,22 +1,27 @@
 -- The survey's walk, row by row: what the code carries is what the fold carries.
-use mathlib.Core.Path.{_≡_, refl, sym, ap, ap₂, subst, _∙_}
-use mathlib.Core.Bool.{Bool, true, false}
+use mathlib.Core.Path.{_≡_, refl, sym, ap, ap₂, subst, _∙_, fun-ext}
+use mathlib.Core.Bool.{Bool, true, false, not, cond, _&&_}
 use mathlib.Core.List.{List, [], _∷_, _++_}
 use Prim.Native.Nat.{ℕ, _+_, _*_, _≤_, _<_, max}
 use native.Mathlib.Omega.{arith}
 use lib.Dec.{leb}
+use lib.IntN.{pos}
 use Rattle.rules.specs.declared.Row.{Row}
 use Rattle.rules.specs.declared.Kind.{Kind}
 use Rattle.rules.specs.declared.Kind.the-variants.{Set, Move, Cue, Pick, Else, End, While, Do, For}
 use Rattle.rules.proofs.Kind.{the-type}
 use types.Run.{OneOf, miss}
 use denote.Enum.Declared.{tagOf}
-use Rattle.rules.specs.Blocks.{Plain, assign, cue, Test, Form, Last, no-step, step-by, viewOf, kindOf, Block, pick, loop}
+use Rattle.rules.specs.Blocks.{Plain, assign, cue, Test, Form, Last, no-step, step-by, viewOf, kindOf, Block, pick}
+use Rattle.rules.specs.Steps.{starts, assigns}
 use Rattle.rules.specs.Ranges.{Env, full, afterRow, join, atStart}
 use Rattle.rules.specs.Trips.{Trip, trip, turns, inside, outside, after}
 use Rattle.rules.specs.Bounds.{FinePrices}
 use Rattle.rules.specs.declared.Prices.{Prices}
-use Rattle.rules.specs.Figures.{price, loopTicks, ticks, Line, line, lines}
+use Rattle.rules.specs.Passes.{Pass, any, startPass, sumOver, sums, firstPass, overPasses}
+use Rattle.rules.specs.Figures.{price, ticks, Line, alike, often, totalOf, inBody, line, lines}
+use Rattle.rules.proofs.Triangles.{over-same, over-past}
+use Rattle.rules.proofs.Walk.{over-add, over-once, turnsWalk, passes-walk}
 use Rattle.rules.specs.declared.Verdict.{Verdict}
 use Rattle.rules.specs.declared.Verdict.the-variants.{Passed as passed, Refused as refused}
 use Rattle.rules.specs.Questions.{andThen, asked, tickLimit, ofTrip, loopsVerdict, blocksVerdict, loopVerdict}
@@ -29,31 +34,38 @@ use Rattle.steps.specs.Tree.{blockAt, Whole, Ready, Walked, headOf, formOf, tes
 use Rattle.steps.specs.Body.{bodyAt}
 use Rattle.steps.proofs.Laws.{PickIs, LoopIs}
 use Rattle.steps.proofs.Walking.{Walking, plain-row, pick-row, loop-row}
-use Rattle.ticks.specs.Capped.{capped, overOf}
+use Rattle.ticks.specs.Capped.{capped, once, overOf}
+use Rattle.ticks.proofs.Caps.{cap-mul, loop-ticks-is}
+use Rattle.passes.specs.declared.Round.{Round}
+use Rattle.passes.specs.Rounds.{roundOf, passIn, FineRound, branchOf}
+use Rattle.passes.proofs.Loops.{walk-is}
 use Rattle.survey.specs.declared.Entered.{Entered}
-use Rattle.survey.specs.Enter.{Entry}
-use Rattle.survey.specs.Fold.{loopCount, cut, cuts, State, TallyLines, folded, tallied, lastPrice, lastTicks, lineFor, Restarted, Lined, Closed, EndedAt, Walkable, Passed, Surveyed}
-use Rattle.survey.proofs.Folding.{state-is, cap-lines, fold-plain, fold-pick, fold-loop, pastPlain, pastPick, pastLoop, SameBody, same-body}
+use Rattle.survey.specs.Enter.{walkedAt, Entry}
+use Rattle.survey.specs.Fold.{loopCount, cut, cuts, State, TallyLines, folded, tallied, lastPrice, lastTicks, lineFor, Restarted, PastRow, Lined, Closed, EndedAt, Walkable, Passed, Surveyed}
+use Rattle.survey.proofs.Folding.{state-is, cap-lines, later-in, fold-plain, fold-pick, fold-loop, pastPlain, pickTicks, pastPick, ownTicks, allTicks, pastLoop, SameBody, same-body}
+use Rattle.survey.proofs.Bodies.{body-known, body-sum, body-lines, own-passes, cap-often}
 
 -- what a walk over a block found, part by part, from a tally with these parts
-pub record Part (π : Prices) (outer : ℕ) (ρ : Env) (s : ℕ) (o : Verdict) (ls : List Line) (n : ℕ) (b : Block) (r : TallyLines) : Type 0 where
+pub record Part (π : Prices) (q : Round) (k : Bool) (ρ : Env) (s : ℕ) (o : Verdict) (ls : List Line) (n : ℕ) (b : Block) (r : TallyLines) : Type 0 where
+  pub kept : r .kept ≡ k && not (assigns (q .v) b)
   pub verdict : loopsVerdict ρ b ≡ passed
-  pub spent : r .spent ≡ capped (s + ticks π ρ b)
+  pub spent : r .spent ≡ capped (s + sumOver (passIn q k) (q .by) (q .count) (λ j. ticks π j ρ b))
   pub over : overOf (r .over) ≡ andThen o (blocksVerdict π ρ b)
-  pub lined : firstLines (r .lines) (r .loops) ≡ ls ++ cuts (lines outer ρ b)
+  pub lined : firstLines (r .lines) (r .loops) ≡ ls ++ cuts (lines (roundOf q) (passIn q k) ρ b)
   pub count : r .loops ≡ n + loopCount b
   pub long : length (r .lines) ≡ 16
 
-abbrev pub from-parts : Env → ℕ → Verdict → List Line → ℕ → State
-from-parts ρ s o ls n = record { env = ρ; verdict = passed; spent = s; over = o; lines = ls; loops = n }
+abbrev pub from-parts : Env → Bool → ℕ → Verdict → List Line → ℕ → State
+from-parts ρ k s o ls n = record { env = ρ; kept = k; verdict = passed; spent = s; over = o; lines = ls; loops = n }
 
-pub part-of : {text : List ℕ} {π : Prices} {rows : List Row} {count at outer : ℕ} {ρ : Env} {t r : TallyLines} (s : ℕ) (o : Verdict) (ls : List Line) (n : ℕ) → tallied t ρ ≡ from-parts ρ s o ls n
-    → Passed text π rows count at ρ outer t r → Part π outer ρ s o ls n (blockAt text rows count at) r
+pub part-of : {text : List ℕ} {π : Prices} {rows : List Row} {count at : ℕ} {q : Round} {ρ : Env} {t r : TallyLines} (k : Bool) (s : ℕ) (o : Verdict) (ls : List Line) (n : ℕ) → tallied t ρ ≡ from-parts ρ k s o ls n
+    → Passed text π rows count at ρ q t r → Part π q k ρ s o ls n (blockAt text rows count at) r
 unfolding folded andThen
-part-of {text} {π} {rows} {count} {at} {outer} {ρ} {t} {r} s o ls n e p =
+part-of {text} {π} {rows} {count} {at} {q} {ρ} {t} {r} k s o ls n e p =
     let b = blockAt text rows count at in
-    let v : tallied r (after ρ b) ≡ folded π outer (from-parts ρ s o ls n) b = p .value ∙ ap (λ x. folded π outer x b) e in
+    let v : tallied r (after ρ b) ≡ folded π q (from-parts ρ k s o ls n) b = p .value ∙ ap (λ x. folded π q x b) e in
     record {
+      kept = ap (λ (x : State). x .kept) v;
       verdict = sym (ap (λ (x : State). x .verdict) v);
       spent = ap (λ (x : State). x .spent) v;
       over = ap (λ (x : State). x .over) v;
@@ -63,7 +75,7 @@ part-of {text} {π} {rows} {count} {at} {outer} {ρ} {t} {r} s o ls n e p =
     }
 
 -- or which loop it refused
-pub refused-in : {text : List ℕ} {π : Prices} {rows : List Row} {count at outer : ℕ} {ρ : Env} {t r : TallyLines} → Surveyed text π rows count at ρ outer t r → (r .number ≡ 0 → ⊥)
+pub refused-in : {text : List ℕ} {π : Prices} {rows : List Row} {count at : ℕ} {q : Round} {ρ : Env} {t r : TallyLines} → Surveyed text π rows count at ρ q t r → (r .number ≡ 0 → ⊥)
     → loopsVerdict ρ (blockAt text rows count at) ≡ refused (r .number) (r .place)
 unfolding folded andThen
 refused-in s h = s .stopped h
@@ -99,10 +111,10 @@ no-last text π (Do v c x) o = refl
 no-last text π (For v s c x d) o = absurd (miss no-for 8 tt o)
 
 -- the walk is over
-pub closing : {text : List ℕ} {π : Prices} {rows : List Row} {count at outer i : ℕ} {ρ ρ₀ : Env} {t t₀ r : TallyLines} → Walked text rows count at i (tallied t ρ) (folded π outer (tallied t₀ ρ₀)) → t .spent ≤ 1_000_000_000_001 → length (t .lines) ≡ 16 → EndedAt t i r
+pub closing : {text : List ℕ} {π : Prices} {rows : List Row} {count at i : ℕ} {outer : Round} {ρ ρ₀ : Env} {t t₀ r : TallyLines} → Walked text rows count at i (tallied t ρ) (folded π outer (tallied t₀ ρ₀)) → t .spent ≤ 1_000_000_000_001 → length (t .lines) ≡ 16 → EndedAt t i r
     → Passed text π rows count at ρ₀ outer t₀ r
 unfolding folded
-closing {text} {π} {rows} {count} {at} {outer} {i} {ρ} {ρ₀} {t} {t₀} {r} w s m h =
+closing {text} {π} {rows} {count} {at} {i} {outer} {ρ} {ρ₀} {t} {t₀} {r} w s m h =
     let b = blockAt text rows count at in
     let e : ρ ≡ after ρ₀ b = ap (λ (x : State). x .env) (w .value) in
     let q : r .spent ≡ t .spent = ap (λ (x : State). x .spent) (h .value ρ) in
@@ -119,39 +131,39 @@ nowhere : Env
 nowhere w = full
 
 -- a tally that a walk may start from
-pub restart-walkable : {text : List ℕ} {π : Prices} {rows : List Row} {count a outer s : ℕ} {t r : TallyLines} → Ready text rows count a → FinePrices π → Restarted t s r → length (t .lines) ≡ 16 → s ≤ 1_000_000_000_001 → outer ≤ 1_000_000_000_001
-    → t .loops + loopCount (blockAt text rows count a) ≤ 16 → Walkable text π rows count a outer r
-restart-walkable {t} {r} k fine h g l o m =
+pub restart-walkable : {text : List ℕ} {π : Prices} {rows : List Row} {count a s : ℕ} {kept : Bool} {q : Round} {t r : TallyLines} → Ready text rows count a → FinePrices π → FineRound q → Restarted t kept s r → length (t .lines) ≡ 16 → s ≤ 1_000_000_000_001
+    → t .loops + loopCount (blockAt text rows count a) ≤ 16 → Walkable text π rows count a q r
+restart-walkable {t} {r} k fine o h g l m =
     let p = ap (λ (x : State). x .spent) (h .value nowhere) in
-    let q = ap (λ (x : State). x .loops) (h .value nowhere) in
-    record { ready = k; prices = fine; small = omega arith; times = o; room = omega arith; long = ap length (h .same) ∙ g }
+    let n = ap (λ (x : State). x .loops) (h .value nowhere) in
+    record { ready = k; prices = fine; small = omega arith; fine = o; room = omega arith; long = ap length (h .same) ∙ g }
 
-pub lined-walkable : {text : List ℕ} {π : Prices} {rows : List Row} {count a outer i turns total s : ℕ} {τ : Trip} {t r : TallyLines} → Ready text rows count a → FinePrices π → Lined t i τ turns total s r → s ≤ 1_000_000_000_001 → outer ≤ 1_000_000_000_001
-    → t .loops + 1 + loopCount (blockAt text rows count a) ≤ 16 → Walkable text π rows count a outer r
-lined-walkable {t} {r} k fine h l o m =
+pub lined-walkable : {text : List ℕ} {π : Prices} {rows : List Row} {count a i turns total s : ℕ} {kept : Bool} {q : Round} {τ : Trip} {t r : TallyLines} → Ready text rows count a → FinePrices π → FineRound q → Lined t i τ turns total s kept r → s ≤ 1_000_000_000_001
+    → t .loops + 1 + loopCount (blockAt text rows count a) ≤ 16 → Walkable text π rows count a q r
+lined-walkable {t} {r} k fine o h l m =
     let p = ap (λ (x : State). x .spent) (h .value nowhere) in
-    let q = ap (λ (x : State). x .loops) (h .value nowhere) in
-    record { ready = k; prices = fine; small = omega arith; times = o; room = omega arith; long = h .long }
+    let n = ap (λ (x : State). x .loops) (h .value nowhere) in
+    record { ready = k; prices = fine; small = omega arith; fine = o; room = omega arith; long = h .long }
 
-pub record Going (text : List ℕ) (π : Prices) (rows : List Row) (count outer at : ℕ) (x₀ : State) (i : ℕ) (ρ : Env) (t : TallyLines) : Type 0 where
-  pub walk : Walking text rows count (folded π outer) at x₀ i (tallied t ρ)
+pub record Going (text : List ℕ) (π : Prices) (rows : List Row) (count : ℕ) (round : Round) (at : ℕ) (x₀ : State) (i : ℕ) (ρ : Env) (t : TallyLines) : Type 0 where
+  pub walk : Walking text rows count (folded π round) at x₀ i (tallied t ρ)
   pub small : t .spent ≤ 1_000_000_000_001
   pub long : length (t .lines) ≡ 16
 
-module _ {text : List ℕ} (π : Prices) (rows : List Row) (count outer at : ℕ) (x₀ : State) where
-  module _ {i : ℕ} {ρ : Env} {t : TallyLines} (k : Going text π rows count outer at x₀ i ρ t) where
+module _ {text : List ℕ} (π : Prices) (rows : List Row) (count : ℕ) (round : Round) (at : ℕ) (x₀ : State) where
+  module _ {i : ℕ} {ρ : Env} {t : TallyLines} (k : Going text π rows count round at x₀ i ρ t) where
     -- the loops that are left
-    pub room : folded π outer x₀ (blockAt text rows count at) .loops ≡ t .loops + loopCount (blockAt text rows count i)
+    pub room : folded π round x₀ (blockAt text rows count at) .loops ≡ t .loops + loopCount (blockAt text rows count i)
     unfolding folded
     room = ap (λ (x : State). x .loops) (k .walk .value)
 
     module _ (l : i < count) (built : Whole text rows count) where
-      pub go-plain : shapeOf (kindAt rows i) ≡ Shape.Plain → {σ : Env} {p : ℕ} {r : TallyLines} → σ ≡ afterRow ρ (plainOf text (kindAt rows i)) → p ≡ capped (t .spent + price π (plainOf text (kindAt rows i))) → Restarted t p r → Going text π rows count outer at x₀ (i + 1) σ r
-      go-plain h {σ} {p} {r} a b c =
-          let e : tallied r σ ≡ pastPlain π outer (tallied t ρ) (plainOf text (kindAt rows i)) = c .value σ ∙ state-is a refl b refl refl refl in
+      pub go-plain : shapeOf (kindAt rows i) ≡ Shape.Plain → {σ : Env} {r : TallyLines} → σ ≡ afterRow ρ (plainOf text (kindAt rows i)) → PastRow π round t (plainOf text (kindAt rows i)) r → Going text π rows count round at x₀ (i + 1) σ r
+      go-plain h {σ} {r} a c =
+          let e : tallied r σ ≡ pastPlain π round (tallied t ρ) (plainOf text (kindAt rows i)) = c .value σ ∙ state-is a refl refl refl refl refl refl in
           record {
-            walk = plain-row rows count (folded π outer) at x₀ (k .walk) l built h (λ rest. fold-plain π outer (tallied t ρ) i (plainOf text (kindAt rows i)) rest ∙ ap (λ y. folded π outer y rest) (sym e));
-            small = let z : r .spent ≡ p = ap (λ (x : State). x .spent) (c .value σ) in omega arith;
+            walk = plain-row rows count (folded π round) at x₀ (k .walk) l built h (λ rest. fold-plain π round (tallied t ρ) i (plainOf text (kindAt rows i)) rest ∙ ap (λ y. folded π round y rest) (sym e));
+            small = let z = ap (λ (x : State). x .spent) (c .value σ) in omega arith;
             long = ap length (c .same) ∙ k .long;
           }
 
@@ -167,34 +179,46 @@ module _ {text : List ℕ} (π : Prices) (rows : List Row) (count outer at : ℕ
         unfolding folded loopCount
         pick-room h = omega (arith, room, ap loopCount (u .block))
 
-        verdict-pick : folded π outer x₀ (blockAt text rows count at) .verdict ≡ andThen (andThen (andThen passed (loopsVerdict ρ A)) (loopsVerdict ρ B)) (loopsVerdict (join (after ρ A) (after ρ B)) (blockAt text rows count (e + 1)))
+        verdict-pick : folded π round x₀ (blockAt text rows count at) .verdict ≡ andThen (andThen (andThen passed (loopsVerdict ρ A)) (loopsVerdict ρ B)) (loopsVerdict (join (after ρ A) (after ρ B)) (blockAt text rows count (e + 1)))
         unfolding folded
-        verdict-pick = ap (λ (x : State). x .verdict) (k .walk .value ∙ ap (folded π outer (tallied t ρ)) (u .block) ∙ fold-pick π outer (tallied t ρ) i e A B _)
+        verdict-pick = ap (λ (x : State). x .verdict) (k .walk .value ∙ ap (folded π round (tallied t ρ)) (u .block) ∙ fold-pick π round (tallied t ρ) i e A B _)
 
-        pub pick-first : (n p : ℕ) → loopsVerdict ρ A ≡ refused n p → folded π outer x₀ (blockAt text rows count at) .verdict ≡ refused n p
+        pub pick-first : (n p : ℕ) → loopsVerdict ρ A ≡ refused n p → folded π round x₀ (blockAt text rows count at) .verdict ≡ refused n p
         unfolding andThen
         pick-first n p h = verdict-pick ∙ ap (λ v. andThen (andThen v (loopsVerdict ρ B)) (loopsVerdict (join (after ρ A) (after ρ B)) (blockAt text rows count (e + 1)))) h
 
-        pub pick-second : (n p : ℕ) → loopsVerdict ρ A ≡ passed → loopsVerdict ρ B ≡ refused n p → folded π outer x₀ (blockAt text rows count at) .verdict ≡ refused n p
+        pub pick-second : (n p : ℕ) → loopsVerdict ρ A ≡ passed → loopsVerdict ρ B ≡ refused n p → folded π round x₀ (blockAt text rows count at) .verdict ≡ refused n p
         unfolding andThen
         pick-second n p g h = verdict-pick ∙ ap₂ (λ v w. andThen (andThen v w) (loopsVerdict (join (after ρ A) (after ρ B)) (blockAt text rows count (e + 1)))) g h
 
-        pub go-pick : {a b : TallyLines} {F : ℕ} {σ : Env} {r : TallyLines}
-            → Part π outer ρ 0 (overOf (t .over)) (firstLines (t .lines) (t .loops)) (t .loops) A a
-            → Part π outer ρ 0 (overOf (a .over)) (firstLines (a .lines) (a .loops)) (a .loops) B b
-            → F ≡ capped (π .pick + max (a .spent) (b .spent)) → Closed t b e F r → σ ≡ join (after ρ A) (after ρ B) → Going text π rows count outer at x₀ (e + 1) σ r
+        -- a part's ticks and lines
+        abbrev part : Round
+        part = branchOf round
+
+        part-ticks : (b : Block) → sumOver (passIn part false) (pos 0) 1 (λ j. ticks π j ρ b) ≡ ticks π any ρ b
+        part-ticks b = over-once (pos 0) (λ j. ticks π j ρ b)
+
+        part-lines : (b : Block) → cuts (lines (roundOf part) any ρ b) ≡ cuts (lines (alike (often (roundOf round))) any ρ b)
+        part-lines b = cap-lines 1 (pos 0) _ _ (omega arith) any ρ b
+
+        pub go-pick : {a b : TallyLines} {σ : Env} {r : TallyLines}
+            → Part π part (t .kept) ρ 0 (overOf (t .over)) (firstLines (t .lines) (t .loops)) (t .loops) A a
+            → Part π part (a .kept) ρ 0 (overOf (a .over)) (firstLines (a .lines) (a .loops)) (a .loops) B b
+            → Closed t b e (capped (π .pick + max (a .spent) (b .spent))) (capped (round .count * capped (π .pick + max (a .spent) (b .spent)))) (b .kept) r → σ ≡ join (after ρ A) (after ρ B) → Going text π rows count round at x₀ (e + 1) σ r
         unfolding andThen
-        go-pick {a} {b} {F} {σ} {r} pa pb f c s =
-            let G = π .pick + max (ticks π ρ A) (ticks π ρ B) in
-            let fg : F ≡ capped G = omega (arith, pa .spent, pb .spent) in
-            let z : tallied r σ ≡ pastPick π outer (tallied t ρ) e A B = state-is s
+        go-pick {a} {b} {σ} {r} pa pb c s =
+            let G = pickTicks π round (tallied t ρ) A B in
+            let fg : capped (π .pick + max (a .spent) (b .spent)) ≡ capped G = omega (arith, pa .spent, pb .spent, part-ticks A, part-ticks B) in
+            let all : capped (round .count * capped (π .pick + max (a .spent) (b .spent))) ≡ capped (round .count * G) = ap (λ z. capped (round .count * z)) fg ∙ cap-mul (round .count) G in
+            let z : tallied r σ ≡ pastPick π round (tallied t ρ) e A B = state-is s
+            (c .kept ∙ pb .kept ∙ ap (λ p. p && not (assigns (round .v) B)) (pa .kept))
             (sym (ap₂ (λ v w. andThen v w) (pa .verdict) (pb .verdict)))
-            (omega (arith, c .spent))
+            (omega (arith, c .spent, all))
             (c .over .value G fg ∙ ap (λ v. andThen v (asked 13 e (leb G tickLimit) passed)) (pb .over ∙ ap (λ v. andThen v (blocksVerdict π ρ B)) (pa .over)))
-            (ap₂ firstLines (c .same) (c .loops) ∙ pb .lined ∙ ap (λ x. x ++ cuts (lines outer ρ B)) (pa .lined))
+            (ap₂ firstLines (c .same) (c .loops) ∙ pb .lined ∙ ap₂ (λ x y. x ++ y) (pa .lined ∙ ap (λ x. firstLines (t .lines) (t .loops) ++ x) (part-lines A)) (part-lines B))
             (c .loops ∙ pb .count ∙ ap (λ x. x + loopCount B) (pa .count)) in
             record {
-              walk = pick-row rows count (folded π outer) at x₀ (k .walk) l built u (λ rest. fold-pick π outer (tallied t ρ) i e A B rest ∙ ap (λ y. folded π outer y rest) (sym z));
+              walk = pick-row rows count (folded π round) at x₀ (k .walk) l built u (λ rest. fold-pick π round (tallied t ρ) i e A B rest ∙ ap (λ y. folded π round y rest) (sym z));
               small = omega (arith, c .spent);
               long = ap length (c .same) ∙ pb .long;
             }
@@ -223,43 +247,119 @@ module _ {text : List ℕ} (π : Prices) (rows : List Row) (count outer at : ℕ
         unfolding folded loopCount
         loop-room h = omega (arith, room, ap loopCount (u .block), same .count)
 
-        verdict-loop : folded π outer x₀ (blockAt text rows count at) .verdict ≡ andThen (andThen (andThen passed (ofTrip i (trip form σ test body))) (loopsVerdict β body)) (loopsVerdict (outside form σ test body) (blockAt text rows count (e + 1)))
+        verdict-loop : folded π round x₀ (blockAt text rows count at) .verdict ≡ andThen (andThen (andThen passed (ofTrip i (trip form σ test body))) (loopsVerdict β body)) (loopsVerdict (outside form σ test body) (blockAt text rows count (e + 1)))
         unfolding folded
-        verdict-loop = ap (λ (x : State). x .verdict) (k .walk .value ∙ ap (folded π outer (tallied t ρ)) (u .block) ∙ fold-loop π outer (tallied t ρ) i e form test body _)
+        verdict-loop = ap (λ (x : State). x .verdict) (k .walk .value ∙ ap (folded π round (tallied t ρ)) (u .block) ∙ fold-loop π round (tallied t ρ) i e form test body _)
 
-        pub loop-refused : (n p : ℕ) → ofTrip i (trip form σ test body) ≡ refused n p → folded π outer x₀ (blockAt text rows count at) .verdict ≡ refused n p
+        pub loop-refused : (n p : ℕ) → ofTrip i (trip form σ test body) ≡ refused n p → folded π round x₀ (blockAt text rows count at) .verdict ≡ refused n p
         unfolding andThen
         loop-refused n p g = verdict-loop ∙ ap (λ v. andThen (andThen v (loopsVerdict β body)) (loopsVerdict (outside form σ test body) (blockAt text rows count (e + 1)))) g
 
-        pub body-refused : (n p : ℕ) → ofTrip i (trip form σ test body) ≡ passed → loopsVerdict β (blockAt text rows count (i + 1)) ≡ refused n p → folded π outer x₀ (blockAt text rows count at) .verdict ≡ refused n p
+        pub body-refused : (n p : ℕ) → ofTrip i (trip form σ test body) ≡ passed → loopsVerdict β (blockAt text rows count (i + 1)) ≡ refused n p → folded π round x₀ (blockAt text rows count at) .verdict ≡ refused n p
         unfolding andThen
         body-refused n p g h = verdict-loop ∙ ap₂ (λ v w. andThen (andThen v w) (loopsVerdict (outside form σ test body) (blockAt text rows count (e + 1)))) g (same .loops β ∙ h)
 
-        pub go-loop : {x : Entered} {first : TallyLines} {α : Env} {b r : TallyLines}
-            → Entry text π i outer (kindAt rows i) (trip form σ test body) t x first
-            → Part π (x .total) β (lastTicks text π (kindAt rows i)) (overOf (t .over)) (firstLines (t .lines) (t .loops) ++ (lineFor i (trip form σ test body) (x .turns) (x .total) ∷ [])) (t .loops + 1) (blockAt text rows count (i + 1)) b
-            → ((G : ℕ) → b .spent ≡ capped G → Closed t b e (capped (loopTicks π form (x .turns) G)) r) → α ≡ outside form σ test body → Going text π rows count outer at x₀ (e + 1) α r
-        unfolding andThen
-        go-loop {x} {first} {α} {b} {r} en p f s =
-            let n = turns form σ test body in
-            let G = ticks π β body in
-            let c = f G (p .spent ∙ ap capped (sym (same .ticked β))) in
-            let fg : capped (loopTicks π form (x .turns) G) ≡ capped (loopTicks π form n G) = ap (λ m. capped (loopTicks π form m G)) (en .turns) in
-            let ht : x .total ≡ capped (n * outer) = en .total ∙ ap (λ m. capped (m * outer)) (en .turns) in
-            let L : lineFor i (trip form σ test body) (x .turns) (x .total) ≡ cut (line outer i form σ test body) = (λ j. lineFor i (trip form σ test body) (en .turns j) (ht j)) in
-            let inner : cuts (lines (x .total) β (blockAt text rows count (i + 1))) ≡ cuts (lines (n * outer) β body) =
-            ap (λ m. cuts (lines m β (blockAt text rows count (i + 1)))) ht ∙ cap-lines (n * outer) β (blockAt text rows count (i + 1)) ∙ ap cuts (sym (same .lined (n * outer) β)) in
-            let y : tallied r α ≡ pastLoop π outer (tallied t ρ) i e form test body = state-is s
-            (sym (ap₂ (λ a w. andThen a w) (en .verdict) (same .loops β ∙ p .verdict)))
-            (omega (arith, c .spent))
-            (c .over .value (loopTicks π form n G) fg ∙ ap (λ w. andThen w (asked 13 e (leb (loopTicks π form n G) tickLimit) passed)) (p .over ∙ ap (andThen (overOf (t .over))) (sym (same .over β))))
-            (ap₂ firstLines (c .same) (c .loops) ∙ p .lined ∙ ap₂ (λ a w. (firstLines (t .lines) (t .loops) ++ (a ∷ [])) ++ w) L inner)
-            (c .loops ∙ p .count ∙ ap (λ m. t .loops + 1 + m) (sym (same .count))) in
-            record {
-              walk = loop-row rows count (folded π outer) at x₀ (k .walk) l built u (λ rest. fold-loop π outer (tallied t ρ) i e form test body rest ∙ ap (λ w. folded π outer w rest) (sym y));
-              small = omega (arith, c .spent);
-              long = ap length (c .same) ∙ p .long;
-            }
+        -- what is known at its start, its turns in all passes, a pass with its test
+        abbrev κ : Pass
+        κ = passIn round (t .kept && not (starts (round .v) form test))
+
+        abbrev W : ℕ
+        W = walkedAt text round (t .kept) (kindAt rows i) (trip form σ test body)
+
+        abbrev turn : Pass → ℕ
+        turn j = ticks π j β body + π .test
+
+        start-is : startPass form test (passIn round (t .kept)) ≡ κ
+        start-is = later-in round (t .kept) (λ w. starts w form test)
+
+        turns-are : turnsWalk (roundOf round) κ form σ test body ≡ W
+        turns-are = walk-is form σ test body (roundOf round) κ
+
+        total-is : totalOf (roundOf round) κ form σ test body ≡ W * round .times
+        unfolding totalOf
+        total-is = ap (λ z. z * round .times) turns-are
+
+        -- G: the ticks of the passes as they are walked
+        module _ (x : Entered) {first : TallyLines} (en : Entry text π i (test .tested) round (kindAt rows i) (trip form σ test body) t x first) where
+          abbrev inner : (Pass → ℕ) → ℕ
+          inner f = sumOver (passIn (x .round) (x .round .known)) (x .round .by) (x .round .count) f
+
+          inner-is : (f : Pass → ℕ) → inner f ≡ sumOver (firstPass form σ test body) (inBody (roundOf round) κ form σ test body .by) (inBody (roundOf round) κ form σ test body .count) f
+          inner-is = body-sum round κ form σ test body (capped (W * round .times)) (x .round) (en .round)
+
+          sums-known : x .round .known ≡ sums form σ test body
+          sums-known = body-known round κ form σ test body (capped (W * round .times)) (x .round) (en .round)
+
+          pub with-last : inner (λ j. ticks π j β body) ≡ x .round .count * lastTicks text π (kindAt rows i) + inner (λ j. ticks π j β (blockAt text rows count (i + 1)))
+          with-last =
+              let p = lastTicks text π (kindAt rows i) in
+              ap inner (fun-ext λ j. same .ticked j β)
+              ∙ over-add (passIn (x .round) (x .round .known)) (x .round .by) (x .round .count) (λ _. p) (λ j. ticks π j β (blockAt text rows count (i + 1)))
+              ∙ ap (λ z. z + inner (λ j. ticks π j β (blockAt text rows count (i + 1)))) (over-same (passIn (x .round) (x .round .known)) (x .round .by) (x .round .count) p)
+
+          with-tests : inner (λ j. ticks π j β body) + x .ran .tests * π .test ≡ inner turn
+          with-tests =
+              omega (
+                arith,
+                ap (λ z. z * π .test) (en .ran .tests),
+                over-add (passIn (x .round) (x .round .known)) (x .round .by) (x .round .count) (λ j. ticks π j β body) (λ _. π .test),
+                over-same (passIn (x .round) (x .round .known)) (x .round .by) (x .round .count) (π .test),
+              )
+
+          own-is : capped (x .ran .own * (inner (λ j. ticks π j β body) + x .ran .tests * π .test) + 1 * once π form) ≡ capped (ownTicks π round (tallied t ρ) i e form test body)
+          own-is =
+              let n = turns form σ test body in
+              let a : x .ran .own ≡ cond (sums form σ test body) 1 n = en .ran .own ∙ ap (λ b. cond b 1 n) sums-known in
+              let g = with-tests ∙ inner-is turn in
+              let z : x .ran .own * (inner (λ j. ticks π j β body) + x .ran .tests * π .test) ≡ overPasses any form σ test body turn = (λ j. a j * g j) ∙ sym (own-passes round κ form σ test body turn) in
+              omega (arith, z, loop-ticks-is π form (overPasses any form σ test body turn))
+
+          all-is : capped (x .ran .all * (inner (λ j. ticks π j β body) + x .ran .tests * π .test) + round .count * once π form) ≡ capped (allTicks π round (tallied t ρ) i e form test body)
+          all-is =
+              let s = sums form σ test body in
+              let K = passIn round (t .kept) in
+              let o : ℕ = round .count * once π form in
+              let a : x .ran .all ≡ cond s (round .count) (capped W) = en .ran .all ∙ ap (λ b. cond b (round .count) (capped W)) sums-known in
+              let g = with-tests ∙ inner-is turn in
+              let G = sumOver (firstPass form σ test body) (inBody (roundOf round) κ form σ test body .by) (inBody (roundOf round) κ form σ test body .count) turn in
+              let f : Pass → ℕ = λ j. overPasses j form σ test body turn in
+              let walk : sumOver κ (round .by) (round .count) f ≡ cond s (round .count) W * G = passes-walk (roundOf round) κ form σ test body turn ∙ ap (λ z. cond s (round .count) z * G) turns-are in
+              let past : sumOver K (round .by) (round .count) (λ j. f (startPass form test j)) ≡ sumOver κ (round .by) (round .count) f
+              = over-past (λ w. starts w form test) K (round .by) (round .count) f ∙ ap (λ k. sumOver k (round .by) (round .count) f) start-is in
+              let loops : allTicks π round (tallied t ρ) i e form test body ≡ sumOver K (round .by) (round .count) (λ j. f (startPass form test j)) + o
+              = ap (sumOver K (round .by) (round .count)) (fun-ext λ j. loop-ticks-is π form (f (startPass form test j)))
+              ∙ over-add K (round .by) (round .count) (λ j. f (startPass form test j)) (λ _. once π form)
+              ∙ ap (λ z. sumOver K (round .by) (round .count) (λ j. f (startPass form test j)) + z) (over-same K (round .by) (round .count) (once π form)) in
+              (λ j. capped (a j * g j + o)) ∙ cap-often round κ form σ test body s (round .count) W G o ∙ ap (λ z. capped (z + o)) (sym walk ∙ sym past) ∙ ap capped (sym loops)
+
+          pub go-loop : {α : Env} {b r : TallyLines} {keep : Bool}
+              → Part π (x .round) (x .round .known) β (x .round .count * lastTicks text π (kindAt rows i)) (overOf (t .over)) (firstLines (t .lines) (t .loops) ++ (lineFor i (trip form σ test body) (turns form σ test body) (capped (W * round .times)) ∷ [])) (t .loops + 1) (blockAt text rows count (i + 1)) b
+              → ((G : ℕ) → b .spent ≡ capped G → Closed t b e (capped (x .ran .own * (G + x .ran .tests * π .test) + 1 * once π form)) (capped (x .ran .all * (G + x .ran .tests * π .test) + round .count * once π form)) keep r)
+              → keep ≡ (t .kept && not (starts (round .v) form test)) && not (assigns (round .v) body) → α ≡ outside form σ test body → Going text π rows count round at x₀ (e + 1) α r
+          unfolding andThen
+          go-loop {α} {b} {r} {keep} p f kp s =
+              let n = turns form σ test body in
+              let G = inner (λ j. ticks π j β body) in
+              let F = ownTicks π round (tallied t ρ) i e form test body in
+              let c = f G (p .spent ∙ ap capped (sym with-last)) in
+              let L : lineFor i (trip form σ test body) n (capped (W * round .times)) ≡ cut (line (roundOf round) (startPass form test (passIn round (t .kept))) i form σ test body)
+              = ap (λ z. lineFor i (trip form σ test body) n (capped z)) (sym total-is ∙ ap (λ j. totalOf (roundOf round) j form σ test body) (sym start-is)) in
+              let lined : cuts (lines (roundOf (x .round)) (passIn (x .round) (x .round .known)) β (blockAt text rows count (i + 1))) ≡ cuts (lines (inBody (roundOf round) (startPass form test (passIn round (t .kept))) form σ test body) (firstPass form σ test body) β body)
+              = ap cuts (sym (same .lined (roundOf (x .round)) (passIn (x .round) (x .round .known)) β))
+              ∙ body-lines round κ form σ test body (capped (W * round .times)) (x .round) (en .round) (ap capped (sym total-is)) β body
+              ∙ ap (λ j. cuts (lines (inBody (roundOf round) j form σ test body) (firstPass form σ test body) β body)) (sym start-is) in
+              let y : tallied r α ≡ pastLoop π round (tallied t ρ) i e form test body = state-is s
+              (c .kept ∙ kp)
+              (sym (ap₂ (λ a w. andThen a w) (en .verdict) (same .loops β ∙ p .verdict)))
+              (c .spent ∙ omega (arith, all-is))
+              (c .over .value F own-is ∙ ap (λ w. andThen w (asked 13 e (leb F tickLimit) passed)) (p .over ∙ ap (andThen (overOf (t .over))) (sym (same .over β))))
+              (ap₂ firstLines (c .same) (c .loops) ∙ p .lined ∙ ap₂ (λ a w. (firstLines (t .lines) (t .loops) ++ (a ∷ [])) ++ w) L lined)
+              (c .loops ∙ p .count ∙ ap (λ m. t .loops + 1 + m) (sym (same .count))) in
+              record {
+                walk = loop-row rows count (folded π round) at x₀ (k .walk) l built u (λ rest. fold-loop π round (tallied t ρ) i e form test body rest ∙ ap (λ w. folded π round w rest) (sym y));
+                small = omega (arith, c .spent);
+                long = ap length (c .same) ∙ p .long;
+              }
 
 -- no question has the number 0
 asked-number : (n p : ℕ) (b : Bool) (v : Verdict) (q : ℕ) → (n ≡ 0 → ⊥) → (v ≡ refused 0 q → ⊥) → asked n p b v ≡ refused 0 q → ⊥
@@ -274,5 +374,10 @@ trip-number i τ n p e z =
     (e ∙ ap (λ m. refused m p) z)
 
 -- a line of the same trip
-pub lined-is : {t r : TallyLines} {i n m a b : ℕ} {τ υ : Trip} → τ ≡ υ → a ≡ b → Lined t i τ n m a r → Lined t i υ n m b r
-lined-is {t} {r} {i} {n} {m} {a} {b} {τ} {υ} p q h = subst (λ c. Lined t i υ n m c r) q (subst (λ x. Lined t i x n m a r) p h)
+pub lined-is : {t r : TallyLines} {i n o m l a b : ℕ} {k : Bool} {τ υ : Trip} → τ ≡ υ → n ≡ o → m ≡ l → a ≡ b → Lined t i τ n m a k r → Lined t i υ o l b k r
+lined-is {t} {r} {i} {n} {o} {m} {l} {a} {b} {k} {τ} {υ} p e f q h =
+    subst (λ z. Lined t i υ o l z k r) q (subst (λ z. Lined t i υ o z a k r) f (subst (λ z. Lined t i υ z m a k r) e (subst (λ z. Lined t i z n m a k r) p h)))
+
+-- a block's figures, by others
+pub closed-is : {t u r : TallyLines} {e own own′ all all′ : ℕ} {keep keep′ : Bool} → own ≡ own′ → all ≡ all′ → keep ≡ keep′ → Closed t u e own all keep r → Closed t u e own′ all′ keep′ r
+closed-is {t} {u} {r} {e} {own} {own′} {all} {all′} {keep} {keep′} p q k h = subst (λ z. Closed t u e own′ all′ z r) k (subst (λ z. Closed t u e own′ z keep r) q (subst (λ z. Closed t u e z all keep r) p h))

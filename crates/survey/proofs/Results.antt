@@ -1,16 +1,20 @@
 -- The survey's answer, from what the walk over the whole file found.
 use mathlib.Core.Path.{_≡_, ap, sym, _∙_}
+use mathlib.Core.Bool.{false}
 use mathlib.Core.List.{List, []}
 use Prim.Native.Nat.{ℕ, _≤_}
 use native.Mathlib.Omega.{arith}
-use lib.IntN.{ℤ}
+use lib.IntN.{ℤ, pos}
 use lib.ListN.{length, take}
 use Rattle.rules.specs.declared.Row.{Row}
 use Rattle.rules.specs.Blocks.{Block}
 use Rattle.rules.specs.Ranges.{Env}
 use Rattle.rules.specs.Bounds.{FinePrices}
 use Rattle.rules.specs.declared.Prices.{Prices}
-use Rattle.rules.specs.Figures.{ticks, lines}
+use Rattle.rules.specs.Passes.{any}
+use Rattle.rules.specs.Figures.{ticks, alike, lines}
+use Rattle.rules.proofs.Walk.{over-once}
+use Rattle.passes.specs.declared.Round.{Round}
 use Rattle.rules.specs.declared.Verdict.the-variants.{Passed as passed}
 use Rattle.rules.specs.Questions.{andThen, verdict}
 use Rattle.rules.specs.Scripts as scripts
@@ -29,6 +33,10 @@ use Rattle.survey.proofs.Totals.{lines-true}
 use Rattle.survey.proofs.Verdicts.{verdict-loop, verdict-block, verdict-file, verdict-passed}
 use Rattle.survey.proofs.Legals.{env-is, long, file-is, few-in}
 
+-- the one pass of a file's rows
+abbrev pub alone : Round
+alone = record { count = 1; by = pos 0; times = 1; x = pos 0; v = 0; known = false }
+
 no-number : {A : Type 0} {n : ℕ} → n ≡ 13 → n ≡ 0 → A
 no-number p q = absurd (let z : ⊥ = omega arith in z)
 
@@ -43,7 +51,7 @@ module _ (π : Prices) (fine : FinePrices π) (text : List ℕ) (ranges : List (
   moved : {A : Type 0} (f : Env → Block → A) → f (scripts.envOf (take vars (pairRanges ranges))) (treeOf (kinds text rows count)) ≡ f ρ b
   moved f = λ j. f (env-is ranges vars blank j) (sym (file-is text ranges vars rows count legal few all) j)
 
-  pub result : (t₀ : TallyLines) (t : Tally) (ls : List (List ℕ)) → tallied t₀ ρ ≡ from-parts ρ 0 passed [] 0 → Surveyed text π rows count 0 ρ 1 t₀ (withLines t ls) → (f : Refusal) → FirstNo t count f
+  pub result : (t₀ : TallyLines) (t : Tally) (ls : List (List ℕ)) → tallied t₀ ρ ≡ from-parts ρ false 0 passed [] 0 → Surveyed text π rows count 0 ρ alone t₀ (withLines t ls) → (f : Refusal) → FirstNo t count f
       → (n : ℕ) → (f .number ≡ 0 → n ≡ t .spent) → (k : ℕ) → (f .number ≡ 0 → k ≡ t .loops) → ((f .number ≡ 0 → ⊥) → (n ≡ 0) × (k ≡ 0))
       → SurveyOf π (scriptOf text ranges vars rows count) count (record { number = f .number; place = f .place; ticks = n; loops = k }) ls
   unfolding scriptOf andThen
@@ -56,7 +64,7 @@ module _ (π : Prices) (fine : FinePrices π) (text : List ℕ) (ranges : List (
     none = free;
   }
   result t₀ t ls e s f (of-block z l p q) m u k v free =
-      let part = part-of 0 passed [] 0 e (s .whole z) in
+      let part = part-of false 0 passed [] 0 e (s .whole z) in
       record {
         verdict = moved (verdict π count) ∙ verdict-block π count ρ b (part .verdict) (t .over) (part .over) l ∙ (λ j. answer (sym p j) (sym q j));
         ticks = λ w. no-number p w;
@@ -66,9 +74,9 @@ module _ (π : Prices) (fine : FinePrices π) (text : List ℕ) (ranges : List (
         none = free;
       }
   result t₀ t ls e s f (of-file z l o p q) m u k v free =
-      let part = part-of 0 passed [] 0 e (s .whole z) in
+      let part = part-of false 0 passed [] 0 e (s .whole z) in
       record {
-        verdict = moved (verdict π count) ∙ verdict-file π count ρ b (part .verdict) (t .over) (part .over) l (omega (arith, part .spent)) ∙ (λ j. answer (sym p j) (sym q j));
+        verdict = moved (verdict π count) ∙ verdict-file π count ρ b (part .verdict) (t .over) (part .over) l (omega (arith, part .spent, over-once (pos 0) (λ j. ticks π j ρ b))) ∙ (λ j. answer (sym p j) (sym q j));
         ticks = λ w. no-number p w;
         loops = λ w. no-number p w;
         long = λ w. no-number p w;
@@ -76,15 +84,15 @@ module _ (π : Prices) (fine : FinePrices π) (text : List ℕ) (ranges : List (
         none = free;
       }
   result t₀ t ls e s f (none z l o p) j u k v free =
-      let part = part-of 0 passed [] 0 e (s .whole z) in
-      let m : ticks π ρ b ≤ 1_000_000_000_000 = omega (arith, part .spent) in
-      let n : t .spent ≡ ticks π ρ b = omega (arith, part .spent) in
+      let part = part-of false 0 passed [] 0 e (s .whole z) in
+      let m : ticks π any ρ b ≤ 1_000_000_000_000 = omega (arith, part .spent, over-once (pos 0) (λ j. ticks π j ρ b)) in
+      let n : t .spent ≡ ticks π any ρ b = omega (arith, part .spent, over-once (pos 0) (λ j. ticks π j ρ b)) in
       record {
         verdict = moved (verdict π count) ∙ verdict-passed π count ρ b (part .verdict) (t .over) (part .over) l (f .place) m ∙ (λ d. answer (sym p d) (f .place));
-        ticks = λ w. u w ∙ n ∙ sym (moved (ticks π));
+        ticks = λ w. u w ∙ n ∙ sym (moved (ticks π any));
         loops = λ w. omega (arith, v w, part .count, few-in text ranges vars rows count legal few all);
         long = λ w. part .long;
-        lines = λ w. ap (firstLines ls) (v w) ∙ part .lined ∙ lines-true π (fine .test .some) b ρ m ∙ sym (moved (lines 1));
+        lines = λ w. ap (firstLines ls) (v w) ∙ part .lined ∙ lines-true π (fine .test .some) b ρ (part .verdict) m ∙ sym (moved (lines (alike 1) any));
         none = free;
       }
 

@@ -5,6 +5,7 @@ use borrow.Author.Tests.{lt-ltb, le-ltb, le-leb, lt-leb}
 use Rattle.rules.specs.Blocks.{Block}
 use Rattle.rules.specs.Ranges.{Env}
 use Rattle.rules.specs.declared.Prices.{Prices}
+use Rattle.rules.specs.Passes.{any}
 use Rattle.rules.specs.Figures.{ticks}
 use Rattle.rules.specs.declared.Verdict.the-variants.{Passed as passed, Refused as refused}
 use Rattle.rules.specs.Questions.{andThen, asked, tickLimit, loopsVerdict, blocksVerdict, verdict}
@@ -27,10 +28,10 @@ module _ (π : Prices) (count : ℕ) (ρ : Env) (b : Block) where
       unfolding overOf
       blocks = sym e ∙ (rw (le-ltb o 256 h))
 
-      pub verdict-file : 1_000_000_000_000 < ticks π ρ b → verdict π count ρ b ≡ answer 13 count
+      pub verdict-file : 1_000_000_000_000 < ticks π any ρ b → verdict π count ρ b ≡ answer 13 count
       unfolding verdict andThen answer asked tickLimit
-      verdict-file k = rw (l, blocks, lt-leb (ticks π ρ b) 1_000_000_000_000 k)
+      verdict-file k = rw (l, blocks, lt-leb (ticks π any ρ b) 1_000_000_000_000 k)
 
-      pub verdict-passed : (p : ℕ) → ticks π ρ b ≤ 1_000_000_000_000 → verdict π count ρ b ≡ answer 0 p
+      pub verdict-passed : (p : ℕ) → ticks π any ρ b ≤ 1_000_000_000_000 → verdict π count ρ b ≡ answer 0 p
       unfolding verdict andThen answer asked tickLimit
-      verdict-passed p k = rw (l, blocks, le-leb (ticks π ρ b) 1_000_000_000_000 k)
+      verdict-passed p k = rw (l, blocks, le-leb (ticks π any ρ b) 1_000_000_000_000 k)

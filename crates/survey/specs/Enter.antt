@@ -1,25 +1,30 @@
 -- Entering and leaving a loop.
 use mathlib.Core.Path.{_≡_}
+use mathlib.Core.Bool.{Bool, not, cond, _&&_}
 use mathlib.Core.List.{List}
-use Prim.Native.Nat.{ℕ, _*_}
+use Prim.Native.Nat.{ℕ, _+_, _*_}
 use lib.IntN.{ℤ}
 use Rattle.rules.specs.declared.Row.{Row}
 use Rattle.rules.specs.declared.Kind.{Kind}
 use Rattle.rules.specs.declared.Verdict.the-variants.{Passed as passed, Refused as refused}
+use Rattle.rules.specs.Steps.{starts}
 use Rattle.rules.specs.Ranges.{Env, atStart}
 use Rattle.rules.specs.Trips as trips
 use Rattle.rules.specs.Trips.{Trip, turnsOf, outerOf}
 use Rattle.rules.specs.declared.Prices.{Prices}
-use Rattle.rules.specs.Figures.{loopTicks}
 use Rattle.rules.specs.Questions.{ofTrip}
 use Rattle.table.specs.Code.{kindAt}
 use Rattle.steps.specs.Tree.{formOf, testOf}
 use Rattle.steps.specs.Body.{bodyAt}
+use Rattle.steps.specs.Sets.{setOf}
 use Rattle.trips.specs.declared.Loop.{Loop}
 use Rattle.trips.specs.Found.{tripOf, LoopAt}
 use Rattle.ranges.specs.Env.{EnvIs, widened}
-use Rattle.ticks.specs.Capped.{capped}
+use Rattle.ticks.specs.Capped.{capped, once}
+use Rattle.passes.specs.declared.Round.{Round}
+use Rattle.passes.specs.Rounds.{roundOf, passIn, FineRound, walkedBy, bodyOf}
 use Rattle.survey.specs.declared.Entered.{Entered}
+use Rattle.survey.specs.declared.Ran.{Ran}
 use Rattle.survey.specs.declared.Tally.{Tally}
 use Rattle.survey.specs.Fold.{TallyLines, withLines, lastTicks, Lined, Closed}
 
@@ -30,21 +35,35 @@ startAt text rows i ρ = atStart (formOf text (kindAt rows i)) (testOf text (kin
 abbrev pub tripAt : List ℕ → List Row → ℕ → ℕ → Env → Trip
 tripAt text rows count i ρ = trips.trip (formOf text (kindAt rows i)) (startAt text rows i ρ) (testOf text (kindAt rows i)) (bodyAt text rows count i)
 
--- the trip τ of the loop at row i has passed: its turns, its total, its line
-pub record Entry (text : List ℕ) (π : Prices) (i outer : ℕ) (k : Kind) (τ : Trip) (t : TallyLines) (e : Entered) (first : TallyLines) : Type 0 where
+-- its turns in all passes of one entry of the loop round it
+abbrev pub walkedAt : List ℕ → Round → Bool → Kind → Trip → ℕ
+walkedAt text r kept k τ = walkedBy (roundOf r) (passIn r (kept && not (starts (r .v) (formOf text k) (testOf text k)))) (formOf text k) (testOf text k .limit) τ (turnsOf τ)
+
+-- how often its m passes are taken; sums: it sums, `many` its turns in the `count` passes of the loop round it
+pub record RanOf (sums : Bool) (m turns many count : ℕ) (r : Ran) : Type 0 where
+  pub own : r .own ≡ cond sums 1 turns
+  pub all : r .all ≡ cond sums count many
+  pub tests : r .tests ≡ m
+
+-- the trip τ of the loop at row i, which tests v, has passed: the passes of its body, how often they are taken, its line
+pub record Entry (text : List ℕ) (π : Prices) (i v : ℕ) (r : Round) (k : Kind) (τ : Trip) (t : TallyLines) (e : Entered) (first : TallyLines) : Type 0 where
   pub verdict : ofTrip i τ ≡ passed
-  pub turns : e .turns ≡ turnsOf τ
-  pub total : e .total ≡ capped (e .turns * outer)
-  pub lined : Lined t i τ (e .turns) (e .total) (lastTicks text π k) first
+  pub round : e .round ≡ bodyOf τ v (turnsOf τ) (capped (walkedAt text r (t .kept) k τ * r .times)) r
+  pub fine : FineRound (e .round)
+  pub ran : RanOf (e .round .known) (e .round .count) (turnsOf τ) (capped (walkedAt text r (t .kept) k τ)) (r .count) (e .ran)
+  pub lined : Lined t i τ (turnsOf τ) (capped (walkedAt text r (t .kept) k τ * r .times)) (e .round .count * lastTicks text π k) (e .round .known) first
 
 -- the loop at row i has been entered from the ranges ρ: r holds those at its start
-pub record EnteredAt (text : List ℕ) (π : Prices) (rows : List Row) (count i outer : ℕ) (ρ : Env) (t : TallyLines) (r : List (List ℤ)) (e : Entered) (first : TallyLines) : Type 0 where
+pub record EnteredAt (text : List ℕ) (π : Prices) (rows : List Row) (count i : ℕ) (round : Round) (ρ : Env) (t : TallyLines) (r : List (List ℤ)) (e : Entered) (first : TallyLines) : Type 0 where
   pub begun : EnvIs r (startAt text rows i ρ)
   pub one : LoopAt text rows count i (startAt text rows i ρ) (e .one)
   pub stopped : (first .number ≡ 0 → ⊥) → ofTrip i (tripAt text rows count i ρ) ≡ refused (first .number) (first .place)
-  pub whole : first .number ≡ 0 → Entry text π i outer (kindAt rows i) (tripAt text rows count i ρ) t e first
+  pub whole : first .number ≡ 0 → Entry text π i (testOf text (kindAt rows i) .tested) round (kindAt rows i) (tripAt text rows count i ρ) t e first
 
 -- a loop has been left, ρ the ranges at its start: r holds those after it
-pub record LeftLoop (π : Prices) (k : Kind) (one : Loop) (turns : ℕ) (t body : Tally) (ρ : Env) (r : List (List ℤ)) (x : Tally) : Type 0 where
+pub record LeftLoop (π : Prices) (k : Kind) (one : Loop) (round : Round) (ran : Ran) (t body : Tally) (ρ : Env) (r : List (List ℤ)) (x : Tally) : Type 0 where
   pub env : EnvIs r (widened one (outerOf (tripOf (one .trip))) ρ)
-  pub closed : (text : List ℕ) (B : ℕ) → body .spent ≡ capped B → (ks ls : List (List ℕ)) → Closed (withLines t ks) (withLines body ls) (one .next) (capped (loopTicks π (formOf text k) turns B)) (withLines x ls)
+  pub closed : (text : List ℕ) (B : ℕ) → body .spent ≡ capped B → (ks ls : List (List ℕ))
+      → let G : ℕ = B + ran .tests * π .test in
+      Closed (withLines t ks) (withLines body ls) (one .next) (capped (ran .own * G + 1 * once π (formOf text k))) (capped (ran .all * G + round .count * once π (formOf text k)))
+      ((t .kept && not (starts (round .v) (formOf text k) (testOf text k))) && not (setOf (one .set) (round .v))) (withLines x ls)

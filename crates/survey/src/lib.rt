@@ -1,5 +1,9 @@
 // The whole file: the questions 8 to 13, ticks, and the report's lines.
 use lines::put_line;
+use passes::Round;
+use passes::body;
+use passes::branch;
+use passes::walked;
 use ranges::after;
 use ranges::at_start;
 use ranges::inside;
@@ -9,6 +13,8 @@ use ranges::step_row;
 use rules::Kind;
 use rules::LoopLine;
 use rules::Prices;
+use steps::has;
+use steps::sets_it;
 use table::Shape;
 use table::Tag;
 use table::kind_at;
@@ -27,30 +33,35 @@ use turns::Figure;
 use turns::ask;
 use turns::exact;
 ghost use mathlib.Core.Path.{_≡_};
+ghost use mathlib.Core.Bool.{not, _&&_};
 ghost use mathlib.Core.List.{List};
-ghost use Prim.Native.Nat.{ℕ, _+_, _≤_, _<_, max};
+ghost use Prim.Native.Nat.{ℕ, _+_, _*_, _≤_, _<_, max};
 ghost use lib.ListN.{length};
 ghost use Rattle.rules.specs.Bounds.{Ends, FinePrices};
 ghost use Rattle.rules.specs.Figures.{price};
 ghost use Rattle.rules.specs.Written.{Written};
+ghost use Rattle.rules.specs.Steps.{starts};
 ghost use Rattle.rules.specs.Ranges.{join};
 ghost use Rattle.rules.specs.Trips.{after};
 ghost use Rattle.rules.specs.Scripts.{scriptOf, BlankFrom, Legal};
 ghost use Rattle.table.specs.Code.{kindAt, rowsOf};
 ghost use Rattle.table.specs.Shapes.{shapeOf, plainOf};
-ghost use Rattle.steps.specs.Tree.{blockAt, Ready};
+ghost use Rattle.steps.specs.Tree.{blockAt, Ready, formOf, testOf};
 ghost use Rattle.steps.specs.Body.{AtLoop};
 ghost use Rattle.trips.specs.Env.{envOf};
 ghost use Rattle.trips.specs.Found.{tripOf};
 ghost use Rattle.ticks.specs.Capped.{capped};
-ghost use Rattle.survey.specs.Fold.{withLines, lastTicks, Restarted, Lined, Closed, EndedAt, Walkable, Surveyed};
-ghost use Rattle.survey.specs.Enter.{EnteredAt, LeftLoop};
+ghost use Rattle.passes.specs.Rounds.{FineRound};
+ghost use Rattle.survey.specs.Fold.{withLines, lastTicks, PastRow, Restarted, Lined, Closed, EndedAt, Walkable, Surveyed};
+ghost use Rattle.survey.specs.Enter.{RanOf, EnteredAt, LeftLoop};
 ghost use Rattle.survey.specs.Whole.{FirstNo, SurveyOf};
 
-// What a walk has found: a refusal of 8 to 12 (number 0: none), the first block over the limit (256: none), the ticks of
-// one pass, how many lines there are so far, and the row that closes the block.
+// What a walk has found: a refusal of 8 to 12 (number 0: none), whether the variable of the loop round the block is known and not
+// assigned so far, the first block over the limit (256: none), the ticks of all passes of one entry of that loop, how many lines there
+// are so far, and the row that closes the block.
 struct Tally {
     number: u32,
+    kept: bool,
     place: usize,
     over: usize,
     spent: u64,
@@ -104,12 +115,39 @@ fn last_ticks(kind: Kind, prices: Prices) -> u64
     }
 }
 
+// Both.
+fn both(a: bool, b: bool) -> bool
+    ensures { λ r. ⌜ r ≡ a && b ⌝ }
+{
+    if a { b } else { false }
+}
+
+// After the plain row i, in all passes.
+fn past_row(rows: &[[u32; 9]; 256], i: usize, prices: Prices, round: Round, t: Tally) -> Tally
+    requires { ⌜ (i < 256) × (shapeOf (kindAt (rowsOf (now rows)) i) ≡ Shape.Plain) × FinePrices prices × FineRound round × (t .spent ≤ 1_000_000_000_001) ⌝ }
+    ensures { λ r. ⌜ ((text : List ℕ) (ls : List (List ℕ)) → PastRow prices round (withLines t ls) (plainOf text (kindAt (rowsOf (now (rows .entry))) i)) (withLines r ls)) ⌝ }
+{
+    let price = plain_price(rows, i, prices);
+    let spent = plus(t.spent, round.count * price);
+    let set = sets_it(rows, i, round.v);
+    Tally {
+        number: 0,
+        kept: both(t.kept, !set),
+        place: 0,
+        over: t.over,
+        spent: spent,
+        loops: t.loops,
+        next: 0,
+    }
+}
+
 // As many lines, with a block's ticks from the start.
 fn restarted(t: Tally, spent: u64) -> Tally
-    ensures { λ r. ⌜ ((ls : List (List ℕ)) → Restarted (withLines t ls) spent (withLines r ls)) ⌝ }
+    ensures { λ r. ⌜ ((ls : List (List ℕ)) → Restarted (withLines t ls) (t .kept) spent (withLines r ls)) ⌝ }
 {
     Tally {
         number: 0,
+        kept: t.kept,
         place: 0,
         over: t.over,
         spent: spent,
@@ -127,9 +165,10 @@ fn lined(
     turns: u64,
     total: u64,
     spent: u64,
+    kept: bool,
 ) -> Tally
     requires { ⌜ (t .loops < 16) × (length (now lines) ≡ 16) × Ends 512 (trip .step) ⌝ }
-    ensures { λ r. ⌜ Lined (withLines t (now (lines .entry))) i (tripOf trip) turns total spent (withLines r (now (lines .exit))) ⌝ }
+    ensures { λ r. ⌜ Lined (withLines t (now (lines .entry))) i (tripOf trip) turns total spent kept (withLines r (now (lines .exit))) ⌝ }
 {
     let k = t.loops;
     let step = trip.step;
@@ -143,6 +182,7 @@ fn lined(
     put_line(lines, k, line);
     Tally {
         number: 0,
+        kept: kept,
         place: 0,
         over: t.over,
         spent: spent,
@@ -151,16 +191,17 @@ fn lined(
     }
 }
 
-// After a block of these ticks that ends at row e.
-fn closed(t: Tally, inner: Tally, e: usize, ticks: u64) -> Tally
-    requires { ⌜ (e < 256) × (t .spent ≤ 1_000_000_000_001) × (ticks ≤ 1_000_000_000_001) ⌝ }
-    ensures { λ r. ⌜ ((ks ls : List (List ℕ)) → Closed (withLines t ks) (withLines inner ls) e ticks (withLines r ls)) ⌝ }
+// After a block that ends at row e: its own ticks, and those in all passes.
+fn closed(t: Tally, inner: Tally, e: usize, own: u64, all: u64, kept: bool) -> Tally
+    requires { ⌜ (e < 256) × (t .spent ≤ 1_000_000_000_001) × (own ≤ 1_000_000_000_001) × (all ≤ 1_000_000_000_001) ⌝ }
+    ensures { λ r. ⌜ ((ks ls : List (List ℕ)) → Closed (withLines t ks) (withLines inner ls) e own all kept (withLines r ls)) ⌝ }
 {
     Tally {
         number: 0,
+        kept: kept,
         place: 0,
-        over: first_over(inner.over, e, ticks),
-        spent: plus(t.spent, ticks),
+        over: first_over(inner.over, e, own),
+        spent: plus(t.spent, all),
         loops: inner.loops,
         next: 0,
     }
@@ -172,6 +213,7 @@ fn refused(t: Tally, number: u32, i: usize) -> Tally
 {
     Tally {
         number: number,
+        kept: t.kept,
         place: i,
         over: t.over,
         spent: t.spent,
@@ -186,6 +228,7 @@ fn ended(t: Tally, i: usize) -> Tally
 {
     Tally {
         number: 0,
+        kept: t.kept,
         place: 0,
         over: t.over,
         spent: t.spent,
@@ -194,13 +237,56 @@ fn ended(t: Tally, i: usize) -> Tally
     }
 }
 
-// A loop that has been entered: the turns of one entry, its total, and what has been found: its line, or its refusal.
+// How often a loop's passes are taken as they are walked: in its longest entry, and in all passes of the loop round it; and how many
+// are walked.
+struct Ran {
+    own: u64,
+    all: u64,
+    tests: u64,
+}
+
+// Of a loop of these turns, inner the passes of its body: once in each of `count` passes if it sums, else `all` in these.
+fn ran_of(inner: Round, turns: u64, all: u64, count: u64) -> Ran
+    ensures { λ r. ⌜ RanOf (inner .known) (inner .count) turns all count r ⌝ }
+{
+    if inner.known {
+        return Ran {
+            own: 1,
+            all: count,
+            tests: inner.count,
+        };
+    }
+    Ran {
+        own: turns,
+        all: all,
+        tests: inner.count,
+    }
+}
+
+// Is v, kept before a loop, kept after its start?
+fn kept_at(kind: Kind, v: u8, kept: bool) -> bool
+    ensures { λ r. ⌜ ((text : List ℕ) → r ≡ kept && not (starts v (formOf text kind) (testOf text kind))) ⌝ }
+{
+    match kind {
+        Kind::For(w, _, _, _, _) => both(kept, v != w),
+        _ => kept,
+    }
+}
+
+// A loop that has been entered: how often its passes are taken, the passes of its body, and what has been found: its line, or its
+// refusal.
 struct Entered {
     one: Loop,
-    turns: u64,
-    total: u64,
+    ran: Ran,
+    round: Round,
     first: Tally,
 }
+
+const NONE: Ran = Ran {
+    own: 0,
+    all: 0,
+    tests: 0,
+};
 
 // From the ranges before the loop at row i to those at its start: its questions 8 to 12, then its line.
 fn enter_loop(
@@ -208,14 +294,14 @@ fn enter_loop(
     rows: &[[u32; 9]; 256],
     count: usize,
     i: usize,
-    outer: u64,
+    round: Round,
     prices: Prices,
     lines: &mut [[u64; 7]; 16],
     t: Tally,
     r: &mut [[i32; 2]; 16],
 ) -> Entered
-    requires { ⌜ AtLoop (now text) (rowsOf (now rows)) count i × (outer ≤ 1_000_000_000_001) × (t .loops < 16) × (length (now lines) ≡ 16) × (length (now r) ≡ 16) ⌝ }
-    ensures { λ e. ⌜ EnteredAt (now (text .entry)) prices (rowsOf (now (rows .entry))) count i outer (envOf (now (r .entry))) (withLines t (now (lines .entry))) (now (r .exit)) e (withLines (e .first) (now (lines .exit))) ⌝ }
+    requires { ⌜ AtLoop (now text) (rowsOf (now rows)) count i × FineRound round × FinePrices prices × (t .loops < 16) × (length (now lines) ≡ 16) × (length (now r) ≡ 16) ⌝ }
+    ensures { λ e. ⌜ EnteredAt (now (text .entry)) prices (rowsOf (now (rows .entry))) count i round (envOf (now (r .entry))) (withLines t (now (lines .entry))) (now (r .exit)) e (withLines (e .first) (now (lines .exit))) ⌝ }
 {
     let kind = kind_at(rows, i);
     at_start(text, r, kind);
@@ -224,17 +310,22 @@ fn enter_loop(
     match ask(trip) {
         Figure::Refused(number) => Entered {
             one: one,
-            turns: 0,
-            total: 0,
+            ran: NONE,
+            round: round,
             first: refused(t, number, i),
         },
         Figure::Turns(turns) => {
-            let total = times(turns, outer);
-            let first = lined(lines, t, i, trip, turns, total, last_ticks(kind, prices));
+            let kept = kept_at(kind, round.v, t.kept);
+            let all = walked(kind, trip, turns, round, kept);
+            let total = times(all, round.times);
+            let inner = body(trip, one.tested, turns, total, round);
+            let spent = inner.count * last_ticks(kind, prices);
+            let first = lined(lines, t, i, trip, turns, total, spent, inner.known);
+            let ran = ran_of(inner, turns, all, round.count);
             Entered {
                 one: one,
-                turns: turns,
-                total: total,
+                ran: ran,
+                round: inner,
                 first: first,
             }
         }
@@ -246,29 +337,37 @@ fn leave_loop(
     rows: &[[u32; 9]; 256],
     i: usize,
     one: Loop,
-    turns: u64,
+    round: Round,
+    ran: Ran,
     prices: Prices,
     t: Tally,
     body: Tally,
     r: &mut [[i32; 2]; 16],
 ) -> Tally
-    requires { ⌜ (i < 256) × (one .tested < 16) × (one .next < 256) × (t .spent ≤ 1_000_000_000_001) × (body .spent ≤ 1_000_000_000_001) × (length (now r) ≡ 16) × FinePrices prices ⌝ }
-    ensures { λ x. ⌜ LeftLoop prices (kindAt (rowsOf (now (rows .entry))) i) one turns t body (envOf (now (r .entry))) (now (r .exit)) x ⌝ }
+    requires { ⌜ (i < 256) × (one .tested < 16) × (one .next < 256) × (t .spent ≤ 1_000_000_000_001) × (body .spent ≤ 1_000_000_000_001) × (length (now r) ≡ 16) × FinePrices prices × FineRound round × (ran .tests ≤ 4_096) ⌝ }
+    ensures { λ x. ⌜ LeftLoop prices (kindAt (rowsOf (now (rows .entry))) i) one round ran t body (envOf (now (r .entry))) (now (r .exit)) x ⌝ }
 {
     outside(r, one);
+    let kind = kind_at(rows, i);
     let e = one.next;
-    let ticks = loop_ticks(kind_at(rows, i), prices, turns, body.spent);
-    closed(t, body, e, ticks)
+    let inner = plus(body.spent, ran.tests * prices.test);
+    let own = loop_ticks(kind, prices, 1, ran.own, inner);
+    let all = loop_ticks(kind, prices, round.count, ran.all, inner);
+    let begun = kept_at(kind, round.v, t.kept);
+    let assigned = one.set;
+    let set = has(assigned, round.v);
+    let kept = both(begun, !set);
+    closed(t, body, e, own, all, kept)
 }
 
-// What is found after a pick whose parts found a and b.
-fn leave_pick(price: u64, t: Tally, a: Tally, b: Tally) -> Tally
+// What is found after a pick whose parts found a and b, in `count` passes.
+fn leave_pick(price: u64, count: u64, t: Tally, a: Tally, b: Tally) -> Tally
     requires { ⌜ (price ≤ 1_000) × (b .next < 256) × (t .spent ≤ 1_000_000_000_001) × (a .spent ≤ 1_000_000_000_001) × (b .spent ≤ 1_000_000_000_001) ⌝ }
-    ensures { λ r. ⌜ ((ks ls : List (List ℕ)) → Closed (withLines t ks) (withLines b ls) (b .next) (capped (price + max (a .spent) (b .spent))) (withLines r ls)) ⌝ }
+    ensures { λ r. ⌜ ((ks ls : List (List ℕ)) → Closed (withLines t ks) (withLines b ls) (b .next) (capped (price + max (a .spent) (b .spent))) (capped (count * capped (price + max (a .spent) (b .spent)))) (b .kept) (withLines r ls)) ⌝ }
 {
     let e = b.next;
-    let both = larger(a.spent, b.spent);
-    closed(t, b, e, plus(price, both))
+    let own = plus(price, larger(a.spent, b.spent));
+    closed(t, b, e, own, times(count, own), b.kept)
 }
 
 // The block that starts at row `at`: its rows from the first, nested blocks by the same walk.
@@ -278,13 +377,13 @@ fn walk(
     count: usize,
     at: usize,
     start: [[i32; 2]; 16],
-    outer: u64,
+    round: Round,
     prices: Prices,
     lines: &mut [[u64; 7]; 16],
     from: Tally,
 ) -> Tally
-    requires { ⌜ Walkable (now text) prices (rowsOf (now rows)) count at outer (withLines from (now lines)) ⌝ }
-    ensures { λ r. ⌜ Surveyed (now (text .entry)) prices (rowsOf (now (rows .entry))) count at (envOf start) outer (withLines from (now (lines .entry))) (withLines r (now (lines .exit))) ⌝ }
+    requires { ⌜ Walkable (now text) prices (rowsOf (now rows)) count at round (withLines from (now lines)) ⌝ }
+    ensures { λ r. ⌜ Surveyed (now (text .entry)) prices (rowsOf (now (rows .entry))) count at (envOf start) round (withLines from (now (lines .entry))) (withLines r (now (lines .exit))) ⌝ }
 {
     let mut r = start;
     let mut t = from;
@@ -293,17 +392,18 @@ fn walk(
         match shape_at(rows, i) {
             Shape::Plain => {
                 step_row(text, &mut r, rows, i);
-                t.spent = plus(t.spent, plain_price(rows, i, prices));
+                t = past_row(rows, i, prices, round, t);
                 i = i + 1;
             }
             Shape::Branch => {
+                let part = branch(round);
                 let a = walk(
                     text,
                     rows,
                     count,
                     i + 1,
                     r,
-                    outer,
+                    part,
                     prices,
                     lines,
                     restarted(t, 0),
@@ -318,7 +418,7 @@ fn walk(
                     count,
                     second,
                     r,
-                    outer,
+                    part,
                     prices,
                     lines,
                     restarted(a, 0),
@@ -328,11 +428,11 @@ fn walk(
                 }
                 let x = after_pick(text, rows, count, i + 1, second, r);
                 r = x;
-                t = leave_pick(prices.pick, t, a, b);
+                t = leave_pick(prices.pick, round.count, t, a, b);
                 i = b.next + 1;
             }
             Shape::Loop => {
-                let entered = enter_loop(text, rows, count, i, outer, prices, lines, t, &mut r);
+                let entered = enter_loop(text, rows, count, i, round, prices, lines, t, &mut r);
                 let one = entered.one;
                 let first = entered.first;
                 if first.number != 0 {
@@ -346,7 +446,7 @@ fn walk(
                     count,
                     i + 1,
                     begun,
-                    entered.total,
+                    entered.round,
                     prices,
                     lines,
                     first,
@@ -354,7 +454,7 @@ fn walk(
                 if body.number != 0 {
                     return body;
                 }
-                t = leave_loop(rows, i, one, entered.turns, prices, t, body, &mut r);
+                t = leave_loop(rows, i, one, round, entered.ran, prices, t, body, &mut r);
                 i = one.next + 1;
             }
             Shape::Close => {
@@ -399,6 +499,16 @@ fn first_no(t: Tally, count: usize) -> Refusal
     }
 }
 
+// The one pass of a file's rows.
+const ALONE: Round = Round {
+    count: 1,
+    by: 0,
+    times: 1,
+    x: 0,
+    v: 0,
+    known: false,
+};
+
 // The questions 8 to 13 of a file (number 0: all have yes), and the report's figures; all 0 for a refused file.
 pub struct Figures {
     pub number: u32,
@@ -422,13 +532,14 @@ pub fn survey(
 {
     let empty = Tally {
         number: 0,
+        kept: false,
         place: 0,
         over: 256,
         spent: 0,
         loops: 0,
         next: 0,
     };
-    let t = walk(text, rows, count, 0, ranges, 1, prices, lines, empty);
+    let t = walk(text, rows, count, 0, ranges, ALONE, prices, lines, empty);
     let no = first_no(t, count);
     if no.number != 0 {
         return Figures {

@@ -1,12 +1,12 @@
 -- Capped sums and products.
-use mathlib.Core.Path.{_≡_, refl, _∙_}
+use mathlib.Core.Path.{_≡_, refl}
 use mathlib.Core.Bool.{Bool, true, false}
 use mathlib.Core.List.{List, [], _∷_}
 use types.Run.{OneOf, miss}
 use denote.Enum.Declared.{tagOf}
 use Rattle.rules.proofs.Kind.{the-type}
 use Prim.Native.Nat.{ℕ, zero, suc, _+_, _*_, _≤_, _<_}
-use native.Mathlib.Nat.{mul-le-mul}
+use native.Mathlib.Nat.{mul-le-mul, mul-comm}
 use native.Mathlib.Omega.{arith}
 use borrow.Author.Tests.{leb-true, leb-false, lt-ltb, le-ltb, le-leb, lt-leb}
 use lib.Dec.{leb}
@@ -39,16 +39,19 @@ cap-mul (suc n) b = go (leb b most) refl
         let h : capped b ≡ most = omega arith in
         rw h (omega (arith, past (suc n) most (omega arith) (omega arith), past (suc n) b (omega arith) (omega arith)))
 
--- the turns of a body, from capped figures
-pub turns-of : (t n b B p x : ℕ) → b ≡ capped B → p ≡ capped (b + t) → x ≡ capped (n * p) → x ≡ capped (n * (B + t))
-turns-of t n b B p x h k l = let q : p ≡ capped (B + t) = omega arith in l ∙ (rw q (cap-mul n (B + t)))
+-- the same of the other factor, and with a sum beside it
+pub cap-times : (m b n : ℕ) → capped (capped m * b + n) ≡ capped (m * b + n)
+cap-times m b n = let h = cap-mul b m in omega (arith, mul-comm b m, mul-comm b (capped m))
 
--- the ticks of a loop: its turns, and what an entry takes beside them
-pub loop-ticks-is : (π : Prices) (form : Form) (n b : ℕ) → loopTicks π form n b ≡ n * (b + π .test) + once π form
+pub times-cap : (m b n : ℕ) → capped (m * capped b + n) ≡ capped (m * b + n)
+times-cap m b n = let h = cap-mul m b in omega arith
+
+-- what an entry takes: its passes, and what it takes beside them
+pub loop-ticks-is : (π : Prices) (form : Form) (all : ℕ) → loopTicks π form all ≡ all + once π form
 unfolding loopTicks
-loop-ticks-is π while n b = refl
-loop-ticks-is π do-while n b = omega arith
-loop-ticks-is π (for x) n b = omega arith
+loop-ticks-is π while all = refl
+loop-ticks-is π do-while all = omega arith
+loop-ticks-is π (for x) all = omega arith
 
 -- any row but a do or a for
 abbrev one-test : List ℕ

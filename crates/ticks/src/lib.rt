@@ -5,12 +5,18 @@ ghost use mathlib.Core.Path.{_≡_};
 ghost use mathlib.Core.List.{List};
 ghost use Prim.Native.Nat.{ℕ, _+_, _*_, _≤_, _<_};
 ghost use Rattle.rules.specs.Bounds.{FinePrices};
-ghost use Rattle.rules.specs.Figures.{loopTicks};
 ghost use Rattle.steps.specs.Tree.{formOf};
 ghost use Rattle.ticks.specs.Capped.{capped, once, OverOf};
 
 // The first number over the limit.
 pub const MOST: u64 = 1_000_000_000_001;
+
+// A number, or the first one over the limit.
+pub fn cap(n: u64) -> u64
+    ensures { λ r. ⌜ r ≡ capped n ⌝ }
+{
+    if n <= MOST { n } else { MOST }
+}
 
 pub fn plus(x: u64, y: u64) -> u64
     requires { ⌜ (x ≤ 1_000_000_000_001) × (y ≤ 1_000_000_000_001) ⌝ }
@@ -42,13 +48,13 @@ fn besides(kind: Kind, prices: Prices) -> u64
     }
 }
 
-// The ticks of a loop of n turns, b those of its body.
-pub fn loop_ticks(kind: Kind, prices: Prices, n: u64, b: u64) -> u64
-    requires { ⌜ FinePrices prices × (b ≤ 1_000_000_000_001) ⌝ }
-    ensures { λ r. ⌜ ((text : List ℕ) (B : ℕ) → b ≡ capped B → r ≡ capped (loopTicks prices (formOf text kind) n B)) ⌝ }
+// The ticks of n entries of a loop: m times b, the passes with their tests, and what each entry takes beside them.
+pub fn loop_ticks(kind: Kind, prices: Prices, n: u64, m: u64, b: u64) -> u64
+    requires { ⌜ FinePrices prices × (n ≤ 4_096) × (b ≤ 1_000_000_000_001) ⌝ }
+    ensures { λ r. ⌜ ((text : List ℕ) (B : ℕ) → b ≡ capped B → r ≡ capped (m * B + n * once prices (formOf text kind))) ⌝ }
 {
-    let all = times(n, plus(b, prices.test));
-    plus(all, besides(kind, prices))
+    let all = times(m, b);
+    plus(all, n * besides(kind, prices))
 }
 
 // The limit of question 13.

@@ -275,7 +275,7 @@ fn is_for(kind: Kind) -> bool
     }
 }
 
-fn is_add(step: Step) -> bool
+pub fn is_add(step: Step) -> bool
     ensures { λ r. ⌜ r ≡ isAdd step ⌝ }
 {
     match step {
@@ -311,7 +311,7 @@ pub fn moving(step: Step) -> bool
 }
 
 // < <= > >=
-fn ordered(comparison: Comparison) -> bool
+pub fn ordered(comparison: Comparison) -> bool
     ensures { λ r. ⌜ r ≡ ordered (sort comparison) ⌝ }
 {
     match comparison {

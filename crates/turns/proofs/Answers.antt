@@ -113,8 +113,8 @@ apart-few a s n sl sh nl nh =
 
 pub turns-few : (st : Step) (d : Sort) (s n : Wide) (e : ℤ) → Countable st d s n e → whileTurns st d (rangeOf s) (rangeOf n) e ≤ few
 unfolding whileTurns
-turns-few (Add a b) rising s n e (r, ne, na, l) = climb-few _ (r .low) ne
-turns-few (Add a b) falling s n e (r, ne, nb, l) = climb-few _ ne (r .high)
+turns-few (Add a b) rising s n e (r, ne, na, l) = climb-few 1024 1024 _ (r .low) ne
+turns-few (Add a b) falling s n e (r, ne, nb, l) = climb-few 1024 1024 _ ne (r .high)
 turns-few (Add a b) same s n e h = by-test (share (rangeOf s) (rangeOf n)) 1 0 (omega arith) (omega arith)
 turns-few (Add a b) differ s n e (na, z, r, q) = apart-few a (rangeOf s) (rangeOf n) (r .low) (r .high) (q .low) (q .high)
 turns-few (Grow f g) d s n e (l, ne, k, m) = scale-few (s .lo) e f ne

@@ -142,7 +142,7 @@ fn while_turns(step: Step, comparison: Comparison, s: Wide, n: Wide, e: i64) -> 
 }
 
 // The limit's end that the test reads, E.
-fn edge(comparison: Comparison, n: Wide) -> i64
+pub fn edge(comparison: Comparison, n: Wide) -> i64
     requires { ⌜ Unmoved n ⌝ }
     ensures { λ r. ⌜ (r ≡ edge comparison (rangeOf n)) × Near 5 r ⌝ }
 {
@@ -159,7 +159,7 @@ fn edge(comparison: Comparison, n: Wide) -> i64
 }
 
 // A range of 32 bits.
-fn whole(s: Span) -> Wide
+pub fn whole(s: Span) -> Wide
     ensures { λ r. ⌜ (rangeOf r ≡ env.rangeOf s) × Unmoved r ⌝ }
 {
     Wide {

@@ -9,7 +9,7 @@ fn main() {
     let length = diftanew::report(&file, &diftanew::ONES, &mut scratch, &mut buffer).expect("refused");
     std::io::stdout().write_all(&buffer[..length]).unwrap();
     let mut store = [0, 1];
-    let run = diftanew::run(&file, &diftanew::ONES, &mut scratch, &mut store, &[], 65).expect("refused");
+    let run = diftanew::run(&file, &diftanew::ONES, &mut scratch, &mut store, &[], 32).expect("refused");
     println!("ending={} {}\nticks={}\nused={}\nstore={} {}", run.ending as u8, run.row, run.ticks, run.used, store[0], store[1]);
     for l in run.loops {
         println!("loop={} {} {}", l.row, l.all, l.most);

@@ -77,6 +77,23 @@ fn expressions() -> Vec<u8> {
     file(&[(0, 0)], &rows)
 }
 
+/// 256 rows and 16 loops, of which 8 are summed over 4,096 passes each.
+fn triangles() -> Vec<u8> {
+    let mut all = Vec::new();
+    for _ in 0..8 {
+        all.extend(rows("for v0 1 <= 4096 add 1, for v1 0 < v0 add 1, end, end"));
+        all.extend((0..28).map(|i| format!("set v{} 1000000000", 2 + i % 14)));
+    }
+    assert_eq!(all.len(), 256);
+    file(&[(-1_000_000_000, 1_000_000_000); 16], &all)
+}
+
+/// 15 loops that are summed over the same 4,096 passes.
+fn fifteen() -> Vec<u8> {
+    let inner = "for v1 0 < v0 add 1, end, ".repeat(15);
+    file(&[(0, 0); 2], &rows(&format!("for v0 1 <= 4096 add 1, {inner}end")))
+}
+
 /// A for round three picks in each other.
 fn picking(turns: u64) -> Vec<u8> {
     file(
@@ -202,6 +219,8 @@ fn main() {
         bench.report(&format!("one loop, {count} rows"), &body(count));
     }
     bench.report("long expressions", &expressions());
+    bench.report("8 sums of 4096", &triangles());
+    bench.report("15 sums of the same 4096", &fifteen());
     let most = if quick { 500_000 } else { 50_000_000 };
     for turns in [most / 100, most / 10, most] {
         bench.run("while", &counting(turns), &[0], &[]);

@@ -225,8 +225,9 @@ pub fn dress(rng: &mut Rng, text: &mut Text) {
     for row in order {
         let mut words: Vec<String> = text.rows[row].split(' ').map(String::from).collect();
         for &at in operands(&words) {
-            // A variable is left alone more often: the other changes need it so.
-            let chance = if words[at].starts_with('v') { share / 4 } else { share };
+            // What the other changes need bare is left alone more often: variables, and starts of loops that go by one.
+            let needed = words[at].starts_with('v') || at == 2 && words.get(4).is_some_and(|limit| limit.starts_with('v'));
+            let chance = if needed { share / 4 } else { share };
             if breaks {
                 words[at] = broken(rng, &words[at], vars, wrong);
                 breaks = false;
@@ -270,18 +271,20 @@ impl Builder<'_> {
         let factor: i64 = self.rng.one_of(&[-2, -1, 0, 1, 2, 2, 3, L]);
         let more = self.rng.between(-9, 9);
         let rig = if factor.abs() > 3 { self.rng.between(-2, 2) } else { value(self.rng) / 4 };
-        if self.rng.chance(75) {
+        let kind = self.rng.below(12);
+        // Of a product or a difference less is known.
+        if self.rng.chance(if matches!(kind, 7 | 8) { 20 } else { 75 }) {
             self.rows.push(format!("set v{w} {rig}"));
         }
         let limit = within(within(factor * rig) + more);
-        let x = match self.rng.below(11) {
+        let x = match kind {
             0..=2 => format!("{factor}*v{w}+{more}"),
             3 => format!("{more}+v{w}*{factor}"),
             4 => format!("{more}-{}*v{w}", -factor),
             5 => format!("({more}+{factor}*v{w})"),
             6 => format!("(v{w}+1)*{factor}+{more}-{factor}"),
             7 => format!("v{w}*v{w}+{more}"),
-            8 => format!("({factor}*v{w}+{more})-v{w}+v{w}"),
+            8 => format!("{}*v{w}+{more}-v{w}", factor.abs() % 4 + 1),
             9 => past_inside(self.rng, w),
             _ => format!("v{w}"),
         };

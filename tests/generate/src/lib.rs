@@ -9,6 +9,7 @@ mod levels;
 mod rng;
 mod script;
 mod spread;
+mod triangles;
 
 pub use rng::Rng;
 pub use spread::Spread;

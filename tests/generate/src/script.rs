@@ -1,6 +1,6 @@
 //! Whole script files.
 
-use crate::{closing, copied, expressions, levels};
+use crate::{closing, copied, expressions, levels, triangles};
 use crate::rng::Rng;
 
 const L: i64 = 1_000_000_000;
@@ -254,8 +254,19 @@ impl Builder<'_> {
         true
     }
 
+    /// A loop that grows with the one round it, if there is room for them.
+    fn grown(&mut self, depth: usize, locked: u32) -> bool {
+        if depth < triangles::DEPTH || self.loops < triangles::LOOPS || self.rows.len() + triangles::ROWS > 256 {
+            return false;
+        }
+        let Some(v) = self.free(locked) else { return false };
+        let Some(w) = self.free(locked | 1 << v).filter(|&w| w != v) else { return false };
+        self.triangle(depth, locked, v, w);
+        true
+    }
+
     fn looped(&mut self, depth: usize, locked: u32) {
-        if self.rng.chance(25) && self.requested(depth, locked) {
+        if self.rng.chance(25) && self.requested(depth, locked) || self.rng.chance(10) && self.grown(depth, locked) {
             return;
         }
         let Some(v) = self.free(locked) else {
@@ -414,6 +425,10 @@ fn build(rng: &mut Rng, careless: usize) -> Text {
     let requested = builder.rng.below(10);
     if requested < 7 {
         builder.requested(depth, 0);
+    }
+    if builder.rng.chance(40) {
+        builder.loops = builder.loops.max(triangles::LOOPS);
+        builder.grown(depth.max(triangles::DEPTH), 0);
     }
     builder.block(depth, 0, items);
     if requested == 7 {

@@ -1,7 +1,7 @@
 //! How the generated files are answered, and how many of them use each change request.
 
 use crate::{case, Case};
-use oracle::analyse::{blocks_over, closing, copied, own_step, ClosingTerm, Term};
+use oracle::analyse::{blocks_over, closing, copied, counts_passes, grows_with, own_step, ClosingTerm, Term};
 use oracle::prices::prices;
 use oracle::read::{self, Kind, Loop, Operand};
 use oracle::{Counted, Line, Plan, Refusal, Row, Step, ONES, SCRATCH};
@@ -64,6 +64,7 @@ fn labels(file: &[u8], lent: &[u32], plan: &Result<Plan, Refusal>) -> BTreeSet<S
             for row in &plan.script.rows {
                 expressions(row, &mut labels);
             }
+            triangles(plan, &mut labels);
             if plan.rounded {
                 labels.insert("level: rounded down".into());
             }
@@ -140,6 +141,57 @@ fn expressions(row: &Row, labels: &mut BTreeSet<String>) {
     }
     if operators > 15 {
         labels.insert("expression: more than 15 operators in two".into());
+    }
+}
+
+/// The loops whose total is a sum, and those that a broken term leaves a product.
+fn triangles(plan: &Plan, labels: &mut BTreeSet<String>) {
+    let rows = &plan.script.rows;
+    let loops: Vec<(&Line, &Loop)> = plan.lines.iter().filter_map(|line| match &rows[line.row] {
+        Row::Loop(l) => Some((line, l)),
+        _ => None,
+    }).collect();
+    for (k, (outer, o)) in loops.iter().enumerate() {
+        let inside: Vec<_> = loops[k + 1..].iter().filter(|(line, _)| line.row < o.end as usize).collect();
+        let mut sums = 0;
+        for (line, l) in &inside {
+            let grows = grows_with(rows, outer.row, o, line.row, l);
+            match (counts_passes(o, outer), grows) {
+                (Ok(()), Ok(())) => {
+                    sums += 1;
+                    labels.insert(format!("triangle: in a {}", form(o)));
+                    labels.insert(format!("triangle: {:?}", o.compare));
+                    labels.insert(format!("triangle: inner {:?}", l.compare));
+                    if outer.turns < 2 {
+                        labels.insert(format!("triangle: {} passes", outer.turns));
+                    }
+                    if outer.turns == 4_096 {
+                        labels.insert("triangle: 4096 passes".into());
+                    }
+                    if loops[..k].iter().any(|(_, round)| round.end > o.end) {
+                        labels.insert("triangle: in a loop".into());
+                    }
+                    if inside.iter().any(|(further, _)| line.row < further.row && further.row < l.end as usize) {
+                        labels.insert("triangle: with a loop further inside".into());
+                    }
+                    if line.turns > 100_000_000 {
+                        labels.insert("triangle: a longest pass that is not known".into());
+                    }
+                }
+                (Err(term), Ok(())) => {
+                    labels.insert(format!("no triangle: for the outer's {term:?}"));
+                    labels.extend((outer.turns == 4_097).then(|| "no triangle: 4097 passes".into()));
+                }
+                // Only those that read the outer variable.
+                (Ok(()), Err(term)) if l.limit.variables(&plan.script.items) & 1 << o.v != 0 => {
+                    labels.insert(format!("no triangle: for the inner's {term:?}"));
+                }
+                _ => {}
+            }
+        }
+        if sums > 1 {
+            labels.insert("triangle: several in a body".into());
+        }
     }
 }
 

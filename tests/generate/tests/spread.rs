@@ -140,6 +140,49 @@ fn a_quarter_has_expressions() {
 }
 
 #[test]
+fn a_tenth_counts_triangles() {
+    uses(
+        "triangle",
+        &[
+            ("in a while", 300),
+            ("in a do", 300),
+            ("in a for", 600),
+            ("Lt", 200),
+            ("Le", 400),
+            ("Gt", 100),
+            ("Ge", 200),
+            ("inner Lt", 500),
+            ("inner Le", 500),
+            ("0 passes", 50),
+            ("1 passes", 100),
+            ("4096 passes", 10),
+            ("several in a body", 200),
+            ("in a loop", 100),
+            ("with a loop further inside", 100),
+            ("a longest pass that is not known", 10),
+        ],
+    );
+    let spread = Spread::of(20_000, SEED);
+    for (label, files) in [
+        ("the outer's Kind", 30),
+        ("the outer's Exact", 50),
+        ("the outer's Step", 20),
+        ("the outer's Comparison", 20),
+        ("the outer's Turns", 20),
+        ("the inner's Form", 30),
+        ("the inner's Direct", 50),
+        ("the inner's Limit", 50),
+        ("the inner's Start", 50),
+        ("the inner's Comparison", 30),
+        ("the inner's Step", 20),
+        ("the inner's Assigned", 30),
+    ] {
+        assert!(spread.used(&format!("no triangle: for {label}")) >= files, "{label}: {:?}", spread.uses);
+    }
+    assert!(spread.used("no triangle: 4097 passes") >= 10, "{:?}", spread.uses);
+}
+
+#[test]
 fn a_tenth_has_other_prices() {
     let refused = ["refused at 0", "refused at 1", "refused at 2", "refused at 3", "refused at 4", "0", "1001", "4294967295"];
     let lengths = ["0 prices", "1 prices", "2 prices", "3 prices", "4 prices", "5 prices", "6 prices"];

@@ -222,6 +222,110 @@ pub fn closing(rows: &[Row], head: usize, l: &Loop) -> Result<Step, ClosingTerm>
     Ok(Step::Add(a - most, b - least))
 }
 
+/// Change 9: a loop of more turns is not counted pass by pass.
+pub const PASS_LIMIT: u64 = 4_096;
+
+/// Change 9's terms of an outer loop; the first broken one leaves the totals in its body products.
+#[derive(Clone, Copy, Debug, PartialEq, Eq)]
+pub enum OuterTerm {
+    /// Of a base kind.
+    Kind,
+    /// Exact.
+    Exact,
+    /// An Add step.
+    Step,
+    /// < <= > or >=.
+    Comparison,
+    /// At most 4,096 turns.
+    Turns,
+}
+
+/// Change 9: whether a loop's passes are counted one by one, or the first term that is broken.
+pub fn counts_passes(l: &Loop, line: &Line) -> Result<(), OuterTerm> {
+    if line.counted != Counted::Tested {
+        return Err(OuterTerm::Kind);
+    }
+    if !line.exact {
+        return Err(OuterTerm::Exact);
+    }
+    if !matches!(line.step, Step::Add(..)) {
+        return Err(OuterTerm::Step);
+    }
+    if matches!(l.compare, Compare::Eq | Compare::Ne) {
+        return Err(OuterTerm::Comparison);
+    }
+    if line.turns > PASS_LIMIT {
+        return Err(OuterTerm::Turns);
+    }
+    Ok(())
+}
+
+/// Change 9's terms of an inner loop.
+#[derive(Clone, Copy, Debug, PartialEq, Eq)]
+pub enum InnerTerm {
+    /// A for.
+    Form,
+    /// The limit is the outer variable alone.
+    Limit,
+    /// A constant start.
+    Start,
+    /// < or <=.
+    Comparison,
+    /// An Add step; by question 11 it rises.
+    Step,
+    /// Directly in the outer's body.
+    Direct,
+    /// The outer variable is not assigned before it in the body.
+    Assigned,
+}
+
+/// Change 9: whether the loop at row `at` grows with the loop round it, or the first term that is broken.
+pub fn grows_with(rows: &[Row], head: usize, outer: &Loop, at: usize, l: &Loop) -> Result<(), InnerTerm> {
+    let Kind::For { start, .. } = l.kind else {
+        return Err(InnerTerm::Form);
+    };
+    if l.limit != Operand::Variable(outer.v) {
+        return Err(InnerTerm::Limit);
+    }
+    if !matches!(start, Operand::Constant(_)) {
+        return Err(InnerTerm::Start);
+    }
+    if !matches!(l.compare, Compare::Lt | Compare::Le) {
+        return Err(InnerTerm::Comparison);
+    }
+    if !matches!(own_step(rows, at, l), Step::Add(..)) {
+        return Err(InnerTerm::Step);
+    }
+    if !directly_in(rows, head, at) {
+        return Err(InnerTerm::Direct);
+    }
+    if assign(&rows[head + 1..at], outer.v) {
+        return Err(InnerTerm::Assigned);
+    }
+    Ok(())
+}
+
+/// Change 9: the passes of a loop that are counted one by one.
+struct Passes {
+    head: usize,
+    l: Loop,
+    /// The tested variable at the start of the first pass, and its step.
+    first: i64,
+    step: i64,
+    count: u64,
+    /// The total of the loop next round it.
+    round: u128,
+    /// The ticks, over all passes, of the loops that grow with it.
+    ticks: u128,
+}
+
+impl Passes {
+    /// The tested variable at the start of each pass.
+    fn values(&self) -> impl Iterator<Item = i64> + '_ {
+        (0..self.count as i64).map(|k| self.first + k * self.step)
+    }
+}
+
 /// A known range, low end and high end.
 type Range = [i32; 2];
 type Ranges = [Range; 16];
@@ -267,6 +371,10 @@ pub struct Line {
     /// Exact up to u128::MAX, and not less than that where it stands.
     pub total: u128,
     pub exact: bool,
+    /// Its start range, or that of the difference or of the variable that is copied.
+    pub start: Wide,
+    /// Whether its total is a sum by change 9.
+    pub summed: bool,
 }
 
 /// What an accepted file is known to do.
@@ -336,6 +444,7 @@ fn unequal_turns(a: i64, b: i64, s: Wide, n: Wide) -> Option<i64> {
 }
 
 /// What a loop's turns are worked out from.
+#[derive(Clone, Copy)]
 struct Counter {
     counted: Counted,
     step: Step,
@@ -475,10 +584,18 @@ impl Walk<'_> {
     }
 
     /// The ticks of the rows from `from` to before `to`, entered with `ranges`, which become those after
-    /// them; `round` is the product of the turns of the loops round them.
+    /// them; `round` is the total of the loop next round them, 1 if there is none. If the rows are the body of a
+    /// loop whose passes are counted one by one, the loops that grow with it go to `passes` and not into the ticks.
     ///
     /// Ticks and totals are exact up to u128::MAX and stay there, unless a loop of 0 turns makes them 0.
-    fn block(&mut self, from: usize, to: usize, ranges: &mut Ranges, round: u128) -> Result<u128, Refusal> {
+    fn block(
+        &mut self,
+        from: usize,
+        to: usize,
+        ranges: &mut Ranges,
+        round: u128,
+        mut passes: Option<&mut Passes>,
+    ) -> Result<u128, Refusal> {
         let prices = self.prices;
         let mut ticks = 0u128;
         let mut r = from;
@@ -498,8 +615,8 @@ impl Walk<'_> {
                 Row::Pick { middle, end } => {
                     let (middle, end) = (middle as usize, end as usize);
                     let mut other = *ranges;
-                    let first = self.block(r + 1, middle, ranges, round)?;
-                    let second = self.block(middle + 1, end, &mut other, round)?;
+                    let first = self.block(r + 1, middle, ranges, round, None)?;
+                    let second = self.block(middle + 1, end, &mut other, round, None)?;
                     for (range, other) in ranges.iter_mut().zip(other) {
                         *range = [range[0].min(other[0]), range[1].max(other[1])];
                     }
@@ -507,8 +624,12 @@ impl Walk<'_> {
                     (self.limited(ticks, end), end)
                 }
                 Row::Loop(l) => {
-                    let ticks = self.looped(r, &l, ranges, round)?;
-                    (self.limited(ticks, l.end as usize), l.end as usize)
+                    let end = l.end as usize;
+                    let grown = passes.as_deref_mut().filter(|outer| grows_with(self.rows, outer.head, &outer.l, r, &l).is_ok());
+                    let summed = grown.is_some();
+                    let ticks = self.looped(r, &l, ranges, round, grown)?;
+                    let ticks = self.limited(ticks, end);
+                    (if summed { 0 } else { ticks }, end)
                 }
                 Row::Else { .. } | Row::End { .. } => unreachable!("not inside a block's own rows"),
             };
@@ -567,7 +688,27 @@ impl Walk<'_> {
         }
     }
 
-    fn looped(&mut self, head: usize, l: &Loop, ranges: &mut Ranges, round: u128) -> Result<u128, Refusal> {
+    /// The ticks of a loop of so many turns, each of `body` ticks.
+    fn loop_ticks(&self, l: &Loop, turns: u64, body: u128) -> u128 {
+        let (test, arithmetic) = (self.prices.test as u128, self.prices.arithmetic as u128);
+        let times = |extra: u128| body.saturating_add(extra).saturating_mul(turns as u128);
+        match l.kind {
+            Kind::While => times(test).saturating_add(test),
+            // The step and the test of each turn; the start and the last test.
+            Kind::For { .. } => times(arithmetic + test).saturating_add(arithmetic + test),
+            Kind::Do => times(test),
+        }
+    }
+
+    /// The ticks of a loop that is entered with `ranges`; it grows with the loop of `outer`, if that is given.
+    fn looped(
+        &mut self,
+        head: usize,
+        l: &Loop,
+        ranges: &mut Ranges,
+        round: u128,
+        outer: Option<&mut Passes>,
+    ) -> Result<u128, Refusal> {
         let (v, end) = (l.v as usize, l.end as usize);
         if let Kind::For { start, .. } = l.kind {
             ranges[v] = self.range_of(start, ranges);
@@ -577,13 +718,24 @@ impl Walk<'_> {
         let assigned = loop_assigns(self.rows, head, l);
         let changes = l.limit.variables(self.items) & assigned != 0;
         let turns = turns(l, &counter, changes).map_err(|number| (number, head as u64))?;
-        let total = round.saturating_mul(turns as u128);
+        // The turns of all passes of the outer loop, each with its value for a limit.
+        let sum = outer.as_ref().map_or(0, |outer| {
+            let figure = |x| Counter { n: [x, x], ..counter }.figure(l.compare).expect("no question 12 of an Add step");
+            outer.values().map(figure).sum::<u64>() as u128
+        });
+        let total = match &outer {
+            Some(outer) => outer.round.saturating_mul(sum),
+            None => round.saturating_mul(turns as u128),
+        };
         let step = counter.step;
         let (Step::Add(a, b) | Step::Grow(a, b) | Step::Shrink(a, b)) = step else {
             unreachable!("question 8")
         };
         let exact = a == b && counter.single;
-        self.lines.push(Line { row: head, counted: counter.counted, step, turns, total, exact });
+        let summed = outer.is_some();
+        let line = Line { row: head, counted: counter.counted, step, turns, total, exact, start: counter.s, summed };
+        self.lines.push(line);
+        let mut passes = counts_passes(l, &line).ok().map(|()| Passes { head, l: *l, first: counter.s[0], step: a, count: turns, round, ticks: 0 });
 
         let (at_body, after) = match counter.counted {
             Counted::Tested => tested_ranges(l, step, ranges[v], n),
@@ -597,15 +749,17 @@ impl Walk<'_> {
         let mut body_ranges = *ranges;
         body_ranges[v] = at_body;
         ranges[v] = after;
-        let body = self.block(head + 1, end, &mut body_ranges, total)?;
-        let (test, arithmetic) = (self.prices.test as u128, self.prices.arithmetic as u128);
-        let times = |extra: u128| body.saturating_add(extra).saturating_mul(turns as u128);
-        Ok(match l.kind {
-            Kind::While => times(test).saturating_add(test),
-            // The step and the test of each turn; the start and the last test.
-            Kind::For { .. } => times(arithmetic + test).saturating_add(arithmetic + test),
-            Kind::Do => times(test),
-        })
+        let body = self.block(head + 1, end, &mut body_ranges, total, passes.as_mut())?;
+        let grown = passes.map_or(0, |passes| passes.ticks);
+        if let Some(outer) = outer {
+            // The start and the last test in each pass, and step and test in each turn. If loops grow with this one too, its limit
+            // is single, and so has the outer variable one value at the most.
+            let each = (self.prices.arithmetic + self.prices.test) as u128;
+            let passes = grown.saturating_add(each).saturating_mul(outer.count as u128);
+            let ticks = body.saturating_add(each).saturating_mul(sum).saturating_add(passes);
+            outer.ticks = outer.ticks.saturating_add(ticks);
+        }
+        Ok(self.loop_ticks(l, turns, body).saturating_add(grown))
     }
 }
 
@@ -617,7 +771,7 @@ fn walk(script: &Script, prices: Prices, join: Join) -> Walk<'_> {
 /// The `end` rows of the blocks over the tick limit, in row order; questions 8 to 12 come first.
 pub fn blocks_over(script: &Script, prices: Prices) -> Result<Vec<usize>, Refusal> {
     let mut walk = walk(script, prices, join);
-    walk.block(0, script.rows.len(), &mut script.ranges.clone(), 1)?;
+    walk.block(0, script.rows.len(), &mut script.ranges.clone(), 1, None)?;
     Ok(walk.over)
 }
 
@@ -631,7 +785,7 @@ pub fn analyse_by(join: Join, script: Script, prices: Prices) -> Result<Plan, Re
     let mut walk = walk(&script, prices, join);
     let mut ranges = script.ranges;
     let count = script.rows.len();
-    let ticks = walk.block(0, count, &mut ranges, 1)?;
+    let ticks = walk.block(0, count, &mut ranges, 1, None)?;
     if let Some(end) = walk.over.first() {
         return Err((13, *end as u64));
     }

@@ -39,7 +39,7 @@ fn turns(head: &str, start: i64, body: &[&str]) -> Result<u64, u32> {
 const LISTING: &[&str] = &["for v0 1 <= 9 add 5", "for v1 0 < v0 add 1", "cue 7", "end", "end", "cue 8"];
 const LISTING_RANGES: &[(i64, i64)] = &[(0, 0), (1, 4)];
 const LISTING_REPORT: &str =
-    "report=1\nrows=6\nloops=2\nloop=0 add 5 5 2 2 exact\nloop=1 add 1 1 9 18 most\nticks=65\n";
+    "report=1\nrows=6\nloops=2\nloop=0 add 5 5 2 2 exact\nloop=1 add 1 1 9 7 most\nticks=32\n";
 
 #[test]
 fn checked_figures() {
@@ -475,10 +475,11 @@ fn ticks_by_kind_of_row() {
     assert_eq!(ticks(&["while v0 < 2", "add v0 1", "end"]), 2 * 703 + 700);
     assert_eq!(ticks(&["for v0 0 < 2 add 1", "cue 1", "end"]), 2 * 713 + 703);
     assert_eq!(ticks(&["do v0 < 2", "add v0 1", "end"]), 2 * 703);
-    // The listing: inside 9(10 + 703) + 703 = 7120, outside 2(7120 + 703) + 703, and the last cue.
+    // The listing: start and test of the outer; 1 and 6 turns inside, each entry with its start and test; two steps and tests; a cue.
+    let whole = 703 + (703 + 713) + (703 + 6 * 713) + 2 * 703 + 10;
     let listing = file(LISTING_RANGES, LISTING);
     let text = String::from_utf8(report(&listing, &PRICES, SCRATCH, 999).unwrap()).unwrap();
-    assert_eq!(text, LISTING_REPORT.replace("ticks=65", "ticks=16359"));
+    assert_eq!(text, LISTING_REPORT.replace("ticks=32", &format!("ticks={whole}")));
 }
 
 /// Change 3: the run, and when it is spent.
@@ -1109,4 +1110,115 @@ fn expression_limits() {
     // A copied counter's limit may be an expression.
     assert_eq!(line(&[(0, 0), (3, 3), (5, 5)], &["while v0 < 2*v2", "add v1 1", "set v0 v1", "end"]), Ok((7, true)));
     assert_eq!(line(&[(0, 0), (3, 3), (5, 5)], &["while v0 < 2*v1", "add v1 1", "set v0 v1", "end"]), Err((10, 0)));
+}
+
+/// Turns and total of each loop, and the ticks.
+fn figures(ranges: &[(i64, i64)], rows: &[&str]) -> Result<(Vec<(u64, u128)>, u64), Refusal> {
+    let plan = plan(&file(ranges, rows), &ONES, SCRATCH)?;
+    Ok((plan.lines.iter().map(|line| (line.turns, line.total)).collect(), plan.ticks))
+}
+
+/// Change 9: the sums are what a run takes, to the tick.
+#[test]
+fn triangles_counted() {
+    let mut summed = 0;
+    let outers = [("<", "add"), ("<=", "add"), (">", "sub"), (">=", "sub")];
+    for (start, limit, c) in (-3..6).flat_map(|start| (-3..6).flat_map(move |limit| (1..4).map(move |c| (start, limit, c)))) {
+        for (compare, op) in outers {
+            for inner in ["for v1 0 < v0 add 1", "for v1 0 <= v0 add 1", "for v1 -2 < v0 add 2", "for v1 3 <= v0 add 3", "for v1 1 < v0 add 7"] {
+                let (step, row) = (format!("{op} {c}"), format!("{op} v0 {c}"));
+                let heads = [
+                    format!("for v0 {start} {compare} {limit} {step}"),
+                    format!("while v0 {compare} {limit}"),
+                    format!("do v0 {compare} {limit}"),
+                ];
+                for head in &heads {
+                    let body = [inner, "cue 1", "for v2 0 < 2 add 1", "end", "end", "for v1 0 < v0 add 2", "end"];
+                    let moves: &[&str] = if head.starts_with("for") { &[] } else { &[&row] };
+                    // Twice, from the same start.
+                    let set = format!("set v0 {start}");
+                    let rows = [&["for v3 0 < 2 add 1", &set, head][..], &body, moves, &["end", "end"]].concat();
+                    let file = file(&[(start, start), (0, 0), (0, 0), (0, 0)], &rows);
+                    let plan = plan(&file, &PRICES, SCRATCH).unwrap();
+                    let run = run(&file, &PRICES, SCRATCH, &[start as i32, 0, 0, 0], &[], plan.ticks).unwrap();
+                    assert_eq!((run.ending, run.ticks), (Ending::Ended, plan.ticks), "{rows:?}");
+                    assert_eq!(breach(&plan, &run), None);
+                    for (line, (row, all, _)) in plan.lines.iter().zip(&run.loops) {
+                        assert_eq!(line.total, *all as u128, "loop {row} of {rows:?}");
+                        summed += line.summed as u64;
+                    }
+                }
+            }
+        }
+    }
+    // Two in each file.
+    assert_eq!(summed, 2 * 9 * 9 * 3 * 4 * 5 * 3);
+}
+
+/// Change 9: what is summed and what is not.
+#[test]
+fn triangles() {
+    let three: &[(i64, i64)] = &[(0, 0), (0, 0), (0, 0)];
+    // With the inner loop at the same place: the total is 10 as a sum, 16 as a product.
+    let total = |outer: &str, rows: &[&str]| {
+        let rows = [&[outer][..], rows, &["end"]].concat();
+        let plan = plan(&file(&[(1, 1), (0, 0), (0, 0), (4, 5)], &rows), &ONES, SCRATCH).unwrap();
+        plan.lines.iter().find(|line| line.row > 0).map(|line| (line.turns, line.total, line.summed)).unwrap()
+    };
+    let outer = "for v0 1 <= 4 add 1";
+    let inner = "for v1 0 < v0 add 1";
+    assert_eq!(total(outer, &[inner, "end"]), (4, 10, true));
+    assert_eq!(total("for v0 4 >= 1 sub 1", &[inner, "end"]), (4, 10, true));
+    assert_eq!(total("while v0 < 5", &[inner, "end", "add v0 1"]), (4, 10, true));
+    assert_eq!(total("do v0 <= 4", &[inner, "end", "add v0 1"]), (4, 10, true));
+    assert_eq!(total(outer, &["cue 1", "set v1 5", inner, "end"]), (4, 10, true));
+    assert_eq!(total(outer, &[inner, "end", "add v0 0"]), (4, 10, true));
+    assert_eq!(total("for v0 2-1 <= (4) add 1", &[inner, "end"]), (4, 10, true));
+    // Equal ends of a step in a pick are exact.
+    assert_eq!(total("while v0 < 5", &[inner, "end", "pick", "add v0 1", "else", "add v0 1", "end"]), (4, 10, true));
+    for rows in [
+        &["add v0 0", inner, "end"][..],
+        &["pick", "sub v0 0", "end", inner, "end"],
+        &["pick", inner, "end", "end"],
+        &["pick", "else", inner, "end", "end"],
+        &["for v1 v2 < v0 add 1", "end"],
+        &["for v1 (0) < v0 add 1", "end"],
+        &["for v1 0 < (v0) add 1", "end"],
+        &["for v1 0 < 1*v0 add 1", "end"],
+        &["while v2 < v0", "add v2 1", "end"],
+    ] {
+        let (turns, total, summed) = total(outer, rows);
+        assert_eq!((total, summed), (4 * turns as u128, false), "{rows:?}");
+    }
+    assert_eq!(total("for v0 1 <= v3 add 1", &[inner, "end"]), (5, 25, false));
+    assert_eq!(total("while v0 < 5", &[inner, "end", "pick", "add v0 1", "else", "add v0 2", "end"]), (4, 16, false));
+    assert_eq!(total("while v0 < 5", &[inner, "end", "mul v0 2"]), (4, 12, false));
+    assert_eq!(total("while v0 != 5", &[inner, "end", "add v0 1"]), (1_000_000_000, 4_000_000_000, false));
+    // At most 4,096 turns.
+    let passes = |turns: &str| total(&format!("for v0 1 <= {turns} add 1"), &[inner, "end"]);
+    assert_eq!(passes("4096"), (4_096, 8_390_656, true));
+    assert_eq!(passes("4097"), (4_097, 16_785_409, false));
+    // One value: the inner is exact, and its own inner is summed.
+    assert_eq!(
+        figures(three, &["for v0 3 <= 3 add 1", inner, "for v2 0 < v1 add 1", "end", "end", "end"]),
+        Ok((vec![(1, 1), (3, 3), (2, 3)], 24))
+    );
+    // The total of the loop round the outer, also if that is itself a sum; further inside it is multiplied on.
+    assert_eq!(
+        figures(&[(0, 0); 4], &["for v3 0 < 3 add 1", outer, inner, "for v2 0 < 5 add 1", "end", "end", "end", "end"]),
+        Ok((vec![(3, 3), (4, 12), (4, 30), (5, 150)], 3 * (158 + 2) + 2))
+    );
+    // No pass.
+    assert_eq!(figures(three, &["for v0 5 <= 4 add 1", inner, "end", "end"]), Ok((vec![(0, 0), (5, 0)], 2)));
+    // A chase takes what is known of v0 without assigning it.
+    let (lines, ticks) = figures(three, &[outer, "while v0 < v2", "sub v2 1", "end", inner, "end", "end"]).unwrap();
+    assert_eq!((lines[2], ticks), ((1_000_000_000, 10), 4 * (1_999_999_999 + 2) + 28 + 2));
+    // The inner's block figure is its longest pass, the outer's the sum.
+    let heavy = |turns: &str, inside: &str| {
+        let (head, last) = (format!("for v0 1 <= {turns} add 1"), format!("for v2 0 < {inside} add 1"));
+        figures(three, &[&head, inner, &last, "end", "end", "end"]).map(|figures| figures.1)
+    };
+    assert_eq!(heavy("4000", "50000"), Ok(800_232_024_002));
+    assert_eq!(heavy("4096", "150000"), Err((13, 5)));
+    assert_eq!(heavy("4097", "50000"), Err((13, 5)));
 }

@@ -2,8 +2,10 @@
 //! N-th of the mistakes below, so that the harness can be seen to find them.
 
 mod expressions;
+mod triangles;
 
 use expressions::*;
+use triangles::{figures, Rules, RIGHT};
 use oracle::analyse::{analyse, analyse_by, copied, own_step, Term};
 use oracle::{read, report_into, report_text, run_counts, Counted, Ending, Plan, Refusal, Row, ONES};
 use std::borrow::Cow;
@@ -59,6 +61,37 @@ fn taken(file: &[u8]) -> Cow<'_, [u8]> {
     }
 }
 
+/// Change 9's rules, with a mistake or without.
+fn rules() -> Rules {
+    let mistakes = [
+        // 40: the longest pass is charged each time.
+        (40, Rules { totals: false, ticks: false, ..RIGHT }),
+        // 41: the sum is over the values after the passes.
+        (41, Rules { from_pass: 1, ..RIGHT }),
+        // 42: a limit that is assigned before the inner loop.
+        (42, Rules { assigned_before: true, ..RIGHT }),
+        // 43: an inner loop inside a pick.
+        (43, Rules { in_a_pick: true, ..RIGHT }),
+        // 44: an outer loop that is not exact.
+        (44, Rules { not_exact: true, ..RIGHT }),
+        // 45: an outer loop of 4,097 turns.
+        (45, Rules { most_passes: 4_097, ..RIGHT }),
+        // 46: the inner's inner is not multiplied on from the sum.
+        (46, Rules { multiply_on: false, ..RIGHT }),
+        // 47: ticks are summed, and totals are not.
+        (47, Rules { totals: false, ..RIGHT }),
+        // 48: totals are summed, and ticks are not.
+        (48, Rules { ticks: false, ..RIGHT }),
+        // 49: a limit in parentheses.
+        (49, Rules { in_parentheses: true, ..RIGHT }),
+        // 50: the loop round the outer is forgotten.
+        (50, Rules { times_round: false, ..RIGHT }),
+        // 51: an outer loop of 4,096 turns is left out.
+        (51, Rules { most_passes: 4_095, ..RIGHT }),
+    ];
+    mistakes.into_iter().find(|(mistake, _)| wrong(*mistake)).map_or(RIGHT, |(_, rules)| rules)
+}
+
 /// What a report answers by a mistake of the analysis; None if there is none.
 fn misread(file: &[u8], plan: &Result<Plan, Refusal>) -> Option<Result<Vec<u8>, Refusal>> {
     match plan {
@@ -111,6 +144,8 @@ fn misread(file: &[u8], plan: &Result<Plan, Refusal>) -> Option<Result<Vec<u8>, 
             let Row::Loop(l) = rows[*head as usize] else { return None };
             (copied(&rows, *head as usize, &l) == Err(Term::Sides)).then_some(Err((9, *head)))
         }
+        // Without a mistake these figures are the oracle's.
+        Ok(plan) => Some(Ok(report_text(&figures(plan, rules())))),
         _ => None,
     }
 }

@@ -4,7 +4,6 @@ use mir.Syntax.{w64}
 use mir.Val.{SFits}
 use mir.Facts.{toZ-ofZ}
 use Rattle.rules.specs.Turns.{climb}
-use Rattle.moves.proofs.Few.{last}
 use Rattle.moves.proofs.climb.Statement.{statement}
 use Rattle.moves.proofs.climb.Tie as tie
 
@@ -14,12 +13,6 @@ from-zero-requires c κs = search needs
 by-one-requires : tie.Need-by-one-requires
 by-one-requires c κs = rw (c .from-zero .ensures) (c .before .pre .2, c .before .pre .3)
 
-turns-to-requires : tie.Need-turns-to-requires
-turns-to-requires c κs =
-    let f : SFits w64 (c .before .by-one .result .limit) = search needs in
-    let p = c .before .before .before .pre in
-    rw (toZ-ofZ f, c .before .by-one .ensures, c .before .before .from-zero .ensures) (last (c .before .before .before .args .l) (p .0) (p .1))
-
 returns : tie.Need-returns
 unfolding climb
 returns c =
@@ -27,4 +20,4 @@ returns c =
     rw (c .turns-to .ensures, toZ-ofZ f, c .before .before .by-one .ensures, c .before .before .before .from-zero .ensures)
 
 pub climb-spec : {M : Type 1} → statement M
-climb-spec = tie.close (tie.spec from-zero-requires by-one-requires turns-to-requires returns)
+climb-spec = tie.close (tie.spec from-zero-requires by-one-requires (λ c κs. search needs) returns)

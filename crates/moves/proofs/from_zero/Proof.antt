@@ -15,7 +15,7 @@ record Fit (l : AddLoop) : Type 0 where
   limit : SFits w64 (l .limit)
   way : SFits w64 (l .limit -ℤ l .start)
 
-fit : (l : AddLoop) → Near 1024 (l .start) × Near 1024 (l .limit) → Fit l
+fit : (l : AddLoop) → Near 4_000_000 (l .start) × Near 4_000_000 (l .limit) → Fit l
 fit l (s, e) = record { start = omega ints; limit = omega ints; way = omega (ints, minus-parts (l .limit) (l .start)) }
 
 sub-t2 : tie.Need-sub-t2

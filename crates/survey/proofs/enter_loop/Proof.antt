@@ -1,8 +1,14 @@
 -- `survey::enter_loop` meets its contract.
 use mathlib.Core.Path.{_≡_, sym, ap, subst, _∙_}
+use mathlib.Core.Bool.{not, cond, _&&_}
 use denote.Ref.{now}
 use borrow.Author.Needs.{needs}
+use native.Mathlib.Nat.{mul-le-mul}
+use native.Mathlib.Omega.{arith}
+use Prim.Native.Nat.{_*_, _≤_}
+use Rattle.rules.specs.declared.Kind.{Kind}
 use Rattle.rules.specs.declared.Verdict.the-variants.{Refused as refused}
+use Rattle.rules.specs.Steps.{starts}
 use Rattle.rules.specs.Ranges.{atStart}
 use Rattle.rules.specs.Trips.{turnsOf}
 use Rattle.rules.specs.Questions.{ofTrip}
@@ -10,10 +16,14 @@ use Rattle.table.specs.Code.{kindAt, rowsOf}
 use Rattle.steps.specs.Tree.{formOf, testOf}
 use Rattle.trips.specs.Env.{envOf}
 use Rattle.trips.specs.Found.{tripOf, LoopAt}
+use Rattle.turns.specs.declared.Figure.{Figure}
 use Rattle.turns.specs.Needs.{FigureOf}
+use Rattle.ticks.specs.Capped.{capped}
+use Rattle.ticks.proofs.Caps.{cap-times}
+use Rattle.passes.specs.Rounds.{roundOf, passIn, walkedBy, bodyOf}
 use Rattle.survey.specs.Fold.{lastTicks}
-use Rattle.survey.specs.Enter.{startAt}
-use Rattle.survey.proofs.Going.{lined-is, trip-number}
+use Rattle.survey.specs.Enter.{startAt, tripAt, walkedAt}
+use Rattle.survey.proofs.Going.{lined-is, trip-number, last-small}
 use Rattle.survey.proofs.enter_loop.Statement.{statement}
 use Rattle.survey.proofs.enter_loop.Tie as tie
 
@@ -21,7 +31,7 @@ at-start-requires : tie.Need-at-start-requires
 at-start-requires c κs =
     let p = c .before .before .before .pre in
     let l = p .0 in
-    (rw (c .before .kind-at .ensures) (l .ready .fine _ (l .inside)), p .4, rw (c .before .kind-at .ensures) (l .ready .written _ (l .inside)))
+    (rw (c .before .kind-at .ensures) (l .ready .fine _ (l .inside)), p .5, rw (c .before .kind-at .ensures) (l .ready .written _ (l .inside)))
 
 loop-at-requires : tie.Need-loop-at-requires
 loop-at-requires c κs = (c .before .before .before .before .before .pre .0, c .before .at-start .ensures .long)
@@ -43,21 +53,62 @@ returns c =
       whole = λ z. absurd (trip-number i (tripOf (c .before .before .before .before .before .before .loop-at .result .trip)) _ _ (f i) (sym (c .refused .ensures .0) ∙ z));
     }
 
+-- its figure: it has passed, and its turns
+figure : (c : tie.After-known-told2) → FigureOf (tripOf (c .before .before .before .before .before .loop-at .result .trip)) (Figure.Turns (c .before .turns .given .0 .0))
+figure c = subst (FigureOf (tripOf (c .before .before .before .before .before .loop-at .result .trip))) (c .before .turns .given .1) (c .before .before .before .ask .ensures)
+
+walked-requires : tie.Need-walked-requires
+walked-requires c κs =
+    let s = c .before .before .before .before .before .before .before .before .before .before .before .before in
+    let l = s .pre .0 in
+    (c .before .before .before .before .before .before .loop-at .ensures .near, figure (c .before) .0, s .pre .1, (now (s .args .text), rw (c .before .before .before .before .before .before .before .before .before .before .kind-at .ensures) (l .ready .written _ (l .inside))))
+
+body-requires : tie.Need-body-requires
+body-requires c κs = (c .before .before .before .before .before .before .before .before .loop-at .ensures .near, c .before .before .before .before .before .before .before .before .loop-at .ensures .small, omega (arith, c .times .ensures), c .before .before .before .before .before .before .before .before .before .before .before .before .before .before .pre .1)
+
+-- the body's last row, in all passes that are walked
+last : (c : tie.After-struct-known) → c .before .before .body .result .count * c .before .last-ticks .result ≤ 4_096 * 1_000
+last c =
+    let s = c .before .before .before .before .before .before .before .before .before .before .before .before .before .before .before .before .before in
+    mul-le-mul (c .before .before .body .ensures .1 .few) (let z : c .before .last-ticks .result ≤ 1_000 = omega (arith, c .before .last-ticks .ensures (now (s .args .text)), last-small (s .pre .2) (now (s .args .text)) (c .before .before .before .before .before .before .before .before .before .before .before .before .before .before .before .kind-at .result)) in z)
+
+mul-spent : tie.Need-mul-spent
+mul-spent c = let h = last c in omega arith
+
+lined-requires : tie.Need-lined-requires
+lined-requires c κs = let p = c .before .before .before .before .before .before .before .before .before .before .before .before .before .before .before .before .before .before .pre in (p .3, p .4, c .before .before .before .before .before .before .before .before .before .before .before .before .loop-at .ensures .near)
+
 returns-2 : tie.Need-returns-2
 returns-2 c =
-    let i = c .before .before .before .before .before .before .before .before .before .before .before .before .before .before .before .args .i in
-    let f = subst (FigureOf (tripOf (c .before .before .before .before .before .before .before .before .before .loop-at .result .trip))) (c .before .before .before .before .before .turns .given .1) (c .before .before .before .before .before .before .before .ask .ensures) in
-    let l = c .lined .ensures in
-    let a = c .before .before .before .before .before .before .before .before .before .before .before .before .before .before .before .args in
+    let a = c .before .before .before .before .before .before .before .before .before .before .before .before .before .before .before .before .before .before .before .before .args in
+    let text = now (a .text) in
+    let rows = rowsOf (now (a .rows)) in
+    let p = c .before .before .before .before .before .before .before .before .before .before .before .before .before .before .before .before .before .before .before .before .pre .0 in
+    let r = a .round in
+    let one = one-is (c .before .before .before .before .before .before .before .before .before .before .before .before .before .before) in
+    let f = figure (c .before .before .before .before .before .before .before .before .before) in
+    let kd = c .before .before .before .before .before .before .before .before .before .before .before .before .before .before .before .before .before .before .kind-at .ensures in
+    let tr = one .trip in
+    let tu = f .1 ∙ ap turnsOf tr in
+    let ke = c .before .before .before .before .before .before .before .before .kept-at .ensures text ∙ ap (λ (k : Kind). a .t .kept && not (starts (r .v) (formOf text k) (testOf text k))) kd in
+    let W = walkedAt text r (a .t .kept) (kindAt rows (a .i)) (tripAt text rows (a .count) (a .i) (envOf (now (a .r)))) in
+    let al : c .before .before .before .before .before .before .before .walked .result ≡ capped W = c .before .before .before .before .before .before .before .walked .ensures text (rw kd (p .ready .written _ (p .inside)))
+    ∙ (λ j. capped (walkedBy (roundOf r) (passIn r (ke j)) (formOf text (kd j)) (testOf text (kd j) .limit) (tr j) (tu j))) in
+    let to : c .before .before .before .before .before .before .times .result ≡ capped (W * r .times) = c .before .before .before .before .before .before .times .ensures ∙ ap (λ z. capped (z * r .times)) al ∙ omega (arith, cap-times W (r .times) 0) in
+    let b = c .before .before .before .before .before .body .ensures in
+    let l = c .before .lined .ensures in
+    let n = c .before .before .before .before .before .body .result .count in
+    let k = c .ran-of .ensures in
     record {
-      begun = record { long = c .before .before .before .before .before .before .before .before .before .before .before .at-start .ensures .long; value = begun (c .before .before .before .before .before .before .before .before .before .before .before) };
-      one = one-is (c .before .before .before .before .before .before .before .before .before);
+      begun = record { long = c .before .before .before .before .before .before .before .before .before .before .before .before .before .before .before .before .at-start .ensures .long; value = begun (c .before .before .before .before .before .before .before .before .before .before .before .before .before .before .before .before) };
+      one = one;
       stopped = λ h. absurd (h (l .number));
       whole = λ z. record {
-        verdict = ap (ofTrip i) (sym (one-is (c .before .before .before .before .before .before .before .before .before) .trip)) ∙ f .0 i;
-        turns = f .1 ∙ ap turnsOf (one-is (c .before .before .before .before .before .before .before .before .before) .trip);
-        total = c .before .before .before .times .ensures;
-        lined = lined-is (one-is (c .before .before .before .before .before .before .before .before .before) .trip) (c .before .last-ticks .ensures (now (a .text)) ∙ ap (lastTicks (now (a .text)) (a .prices)) (c .before .before .before .before .before .before .before .before .before .before .before .before .before .kind-at .ensures)) l;
+        verdict = ap (ofTrip (a .i)) (sym tr) ∙ f .0 (a .i);
+        round = b .0 ∙ (λ j. bodyOf (tr j) (one .tested j) (tu j) (to j) r);
+        fine = b .1;
+        ran = record { own = k .own ∙ ap (cond (c .before .before .before .before .before .body .result .known) 1) tu; all = k .all ∙ ap (cond (c .before .before .before .before .before .body .result .known) (r .count)) al; tests = k .tests };
+        lined = lined-is tr tu to (ap (λ m. n * m) (c .before .before .before .before .last-ticks .ensures text ∙ ap (lastTicks text (a .prices)) kd)) l;
       };
     }
 
@@ -73,7 +124,12 @@ enter-loop-spec =
     (λ c κs. search needs)
     (λ c. search needs)
     (λ c κs. search needs)
+    walked-requires
     (λ c κs. search needs)
+    body-requires
+    (λ c κs. search needs)
+    mul-spent
+    lined-requires
     (λ c κs. search needs)
     returns
     returns-2)

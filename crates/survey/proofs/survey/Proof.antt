@@ -1,6 +1,7 @@
 -- `survey::survey` meets its contract.
 use borrow.Author.Needs.{needs}
 use native.Mathlib.Omega.{arith}
+use Rattle.ints.proofs.Parts.{ints}
 use mathlib.Core.Path.{refl}
 use Prim.Native.Nat.{_≤_}
 use lib.ListN.{length}
@@ -22,7 +23,7 @@ walk-requires c κs =
     let s = c .before .before in
     let a = s .args in
     let n = few-in (now (a .text)) (a .ranges) (a .vars) (rowsOf (now (a .rows))) (a .count) (s .pre .0) (s .pre .1) (all s) in
-    record { ready = ready (now (a .text)) (a .ranges) (a .vars) (rowsOf (now (a .rows))) (a .count) (s .pre .0) (s .pre .1) (all s) (s .pre .6) (s .pre .7); prices = s .pre .4; small = omega arith; times = omega arith; room = omega arith; long = s .pre .5 }
+    record { ready = ready (now (a .text)) (a .ranges) (a .vars) (rowsOf (now (a .rows))) (a .count) (s .pre .0) (s .pre .1) (all s) (s .pre .6) (s .pre .7); prices = s .pre .4; small = omega arith; fine = record { few = omega arith; near = omega ints; small = omega arith; var = omega arith }; room = omega arith; long = s .pre .5 }
 
 returns : tie.Need-returns
 unfolding linesOf overOf

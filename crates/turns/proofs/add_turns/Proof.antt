@@ -14,6 +14,9 @@ use Rattle.turns.proofs.Sorts.{is-rising, is-falling, is-differ, is-sam
 use Rattle.turns.proofs.add_turns.Statement.{statement}
 use Rattle.turns.proofs.add_turns.Tie as tie
 
+far : (z : ℤ) → Near 1024 z → Near 4_000_000 z
+far z h = omega ints
+
 -- a falling step, turned up
 up : (b : ℤ) → Near 1024 b → b ≤ℤ negsuc 0 → Near 1024 (negℤ b) × (pos 1 ≤ℤ negℤ b)
 up b n h = omega (ints, neg-parts b)
@@ -36,7 +39,7 @@ climb-requires c κs =
     let s = c .before .before .before in
     let h = rw (rises (c .before)) at (s .pre) in
     let f : SFits w64 (s .args .s .lo) = search needs in
-    simp (toZ-ofZ f, toZ-ofZ (s .fits .e), toZ-ofZ (s .fits .a)) (h .0 .low, h .1, h .2, h .3)
+    simp (toZ-ofZ f, toZ-ofZ (s .fits .e), toZ-ofZ (s .fits .a)) (far _ (h .0 .low), far _ (h .1), h .2, h .3)
 
 returns : tie.Need-returns
 unfolding whileTurns
@@ -57,7 +60,7 @@ climb-requires-2 c κs =
     let h = rw (falls (c .before .before)) at (s .pre) in
     let f : SFits w64 (s .args .s .hi) = search needs in
     let u = up _ (h .2) (h .3) in
-    rw (c .turned-up .ensures) (simp (toZ-ofZ f, toZ-ofZ (s .fits .e), toZ-ofZ (s .fits .b)) (h .1, h .0 .high, u .0, u .1))
+    rw (c .turned-up .ensures) (simp (toZ-ofZ f, toZ-ofZ (s .fits .e), toZ-ofZ (s .fits .b)) (far _ (h .1), far _ (h .0 .high), u .0, u .1))
 
 returns-2 : tie.Need-returns-2
 unfolding whileTurns

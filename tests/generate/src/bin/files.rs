@@ -90,6 +90,8 @@ fn main() {
     levels_below_zero(&mut f);
     expressions(&mut f);
     expressions_refused(&mut f);
+    triangles(&mut f);
+    no_triangles(&mut f);
     f.written.sort();
     let names: String = f.written.iter().map(|(name, _)| format!("{name}\n")).collect();
     let printed: String = f.written.iter().map(|(name, answer)| format!("{name}\n{answer}")).collect();
@@ -105,7 +107,8 @@ fn checked_figures(f: &mut Files) {
         "figure-listing",
         &[(0, 0), (1, 4)],
         "for v0 1 <= 9 add 5, for v1 0 < v0 add 1, cue 7, end, end, cue 8",
-        "0 add 5 5 2 2 exact, 1 add 1 1 9 18 most, 65",
+        // 1 and 6 turns inside, 3 ticks each and 2 an entry: 5 and 20; two passes with 2 more, and 2; the last cue.
+        "0 add 5 5 2 2 exact, 1 add 1 1 9 7 most, 32",
     );
     let mut figure = |name: &str, start: i64, rows: &str, thought: &str| {
         f.brief(&format!("figure-{name}"), &[(start, start)], rows, thought)
@@ -226,8 +229,9 @@ fn accepted(f: &mut Files) {
         "accepted-falling-body-range",
         &[(9, 9), (0, 0)],
         "while v0 > 5, for v1 0 > v0 sub 1, end, for v1 0 < v0 add 1, end, sub v0 1, end",
-        // E is 6: 4 turns. v0 in the body is [6, 9]: no turn of the first, 9 of the second: 2 and 20 ticks and a row.
-        "0 add -1 -1 4 4 exact, 1 add -1 -1 0 0 most, 3 add 1 1 9 36 most, 97",
+        // E is 6: 4 turns. v0 in the body is [6, 9]: no turn of the first, 9 of the second, in all 9 + 8 + 7 + 6 = 30.
+        // Four passes with 2 ticks of the first, a row and a test; 2·30 + 4·2 of the second; a test.
+        "0 add -1 -1 4 4 exact, 1 add -1 -1 0 0 most, 3 add 1 1 9 30 most, 85",
     );
     f.brief(
         "accepted-equal-body-range-is-all",
@@ -951,4 +955,173 @@ fn expressions_refused(f: &mut Files) {
     f.brief("refused-9-expression-closing", three, "while v0 < (v1), sub v1 1, end", "refused 9 0");
     f.brief("refused-12-expression-shrink", &[(5, 5), (1, 2)], "while v0 >= 2*v1-2, div v0 2, end", "refused 12 0");
     f.brief("refused-12-expression-grow-from-0", &[(0, 0), (1, 1)], "for v0 v1-1 < 5 mul 2, end", "refused 12 0");
+}
+
+/// Change 9. An inner for without a row has 2t + 2 ticks in a pass of t turns; an outer for has 2 more in each pass, and 2.
+fn triangles(f: &mut Files) {
+    let two: &[(i64, i64)] = &[(0, 0), (0, 0)];
+    let from_1: &[(i64, i64)] = &[(1, 1), (0, 0)];
+    let three: &[(i64, i64)] = &[(0, 0), (0, 0), (0, 0)];
+    // 1 + 2 + 3 + 4 = 10 turns of 3 ticks.
+    f.brief("accepted-triangle-case", two, "for v0 1 <= 4 add 1, for v1 0 < v0 add 1, cue 7, end, end", "0 add 1 1 4 4 exact, 1 add 1 1 4 10 most, 48");
+    // 2 + 3 + 4 + 5.
+    f.brief("accepted-triangle-le", two, "for v0 1 <= 4 add 1, for v1 0 <= v0 add 1, end, end", "0 add 1 1 4 4 exact, 1 add 1 1 5 14 most, 46");
+    f.brief("accepted-triangle-while", from_1, "while v0 <= 4, for v1 0 < v0 add 1, end, add v0 1, end", "0 add 1 1 4 4 exact, 1 add 1 1 4 10 most, 37");
+    f.brief("accepted-triangle-do", from_1, "do v0 <= 4, for v1 0 < v0 add 1, end, add v0 1, end", "0 add 1 1 4 4 exact, 1 add 1 1 4 10 most, 36");
+    // One pass, with the start past the limit.
+    f.brief("accepted-triangle-do-once", &[(9, 9), (0, 0)], "do v0 <= 4, for v1 0 < v0 add 1, end, add v0 1, end", "0 add 1 1 1 1 exact, 1 add 1 1 9 9 exact, 22");
+    f.brief("accepted-triangle-falling", two, "for v0 4 >= 1 sub 1, for v1 0 < v0 add 1, end, end", "0 add -1 -1 4 4 exact, 1 add 1 1 4 10 most, 38");
+    // 9 + 6 + 3.
+    f.brief("accepted-triangle-falling-by-threes", two, "for v0 9 > 0 sub 3, for v1 0 < v0 add 1, end, end", "0 add -3 -3 3 3 exact, 1 add 1 1 9 18 most, 50");
+    // 0, 0, 0, 1, 2.
+    f.brief("accepted-triangle-passes-without-a-turn", two, "for v0 -2 <= 2 add 1, for v1 0 < v0 add 1, end, end", "0 add 1 1 5 5 exact, 1 add 1 1 2 3 most, 28");
+    // 1, 1, 2, 2.
+    f.brief("accepted-triangle-inner-by-threes", two, "for v0 1 <= 4 add 1, for v1 -1 < v0 add 3, end, end", "0 add 1 1 4 4 exact, 1 add 3 3 2 6 most, 30");
+    // The slowest step: a turn has 4 ticks.
+    f.brief("accepted-triangle-inner-slowest-step", two, "for v0 1 <= 4 add 1, for v1 0 < v0 add 1, pick, add v1 1, end, end, end", "0 add 1 1 4 4 exact, 1 add 1 2 4 10 most, 58");
+    f.brief("accepted-triangle-without-a-pass", two, "for v0 5 <= 4 add 1, for v1 0 < v0 add 1, end, end", "0 add 1 1 0 0 exact, 1 add 1 1 5 0 exact, 2");
+    // The inner total times that of the loop round the outer: 3·10; 3(38 + 2) + 2.
+    f.brief(
+        "accepted-triangle-in-a-loop",
+        three,
+        "for v2 0 < 3 add 1, for v0 1 <= 4 add 1, for v1 0 < v0 add 1, end, end, end",
+        "0 add 1 1 3 3 exact, 1 add 1 1 4 12 exact, 2 add 1 1 4 30 most, 122",
+    );
+    f.brief("accepted-triangle-in-a-pick", two, "pick, for v0 1 <= 4 add 1, for v1 0 < v0 add 1, end, end, end", "1 add 1 1 4 4 exact, 2 add 1 1 4 10 most, 39");
+    // Loops further inside multiply on. 12 ticks each: 10(12 + 2) + 8, and 10.
+    f.brief(
+        "accepted-triangle-inner-s-inner",
+        three,
+        "for v0 1 <= 4 add 1, for v1 0 < v0 add 1, for v2 0 < 5 add 1, end, end, end",
+        "0 add 1 1 4 4 exact, 1 add 1 1 4 10 most, 2 add 1 1 5 50 exact, 158",
+    );
+    // The inner is not exact: its own inner is charged its longest pass, 3 turns and 8 ticks.
+    f.brief(
+        "accepted-triangle-inner-s-inner-by-the-inner",
+        three,
+        "for v0 1 <= 4 add 1, for v1 0 < v0 add 1, for v2 0 < v1 add 1, end, end, end",
+        "0 add 1 1 4 4 exact, 1 add 1 1 4 10 most, 2 add 1 1 3 30 most, 118",
+    );
+    // Not directly in the outer's body: 4 turns and 10 ticks each time.
+    f.brief(
+        "accepted-triangle-inner-s-inner-by-the-outer",
+        three,
+        "for v0 1 <= 4 add 1, for v1 0 < v0 add 1, for v2 0 < v0 add 1, end, end, end",
+        "0 add 1 1 4 4 exact, 1 add 1 1 4 10 most, 2 add 1 1 4 40 most, 138",
+    );
+    // One value, 3, so that the inner is exact: 0 + 1 + 2 turns in it, 2 + 4 + 6 ticks.
+    f.brief(
+        "accepted-triangle-of-one-value",
+        three,
+        "for v0 3 <= 3 add 1, for v1 0 < v0 add 1, for v2 0 < v1 add 1, end, end, end",
+        "0 add 1 1 1 1 exact, 1 add 1 1 3 3 exact, 2 add 1 1 2 3 most, 24",
+    );
+    // 10 turns and 0 + 1 + 2 + 3.
+    f.brief(
+        "accepted-triangle-twice-in-a-body",
+        three,
+        "for v0 1 <= 4 add 1, for v1 0 < v0 add 1, end, for v2 1 < v0 add 1, end, end",
+        "0 add 1 1 4 4 exact, 1 add 1 1 4 10 most, 3 add 1 1 3 6 most, 58",
+    );
+    f.brief(
+        "accepted-triangle-beside-another-loop",
+        three,
+        "for v0 1 <= 4 add 1, for v1 0 < v0 add 1, end, for v2 0 < 3 add 1, end, end",
+        "0 add 1 1 4 4 exact, 1 add 1 1 4 10 most, 3 add 1 1 3 12 exact, 70",
+    );
+    f.brief(
+        "accepted-triangle-outer-with-expressions",
+        &[(0, 0), (0, 0), (2, 2)],
+        "for v0 v2-1 <= 2*v2 add 1, for v1 0 < v0 add 1, end, end",
+        "0 add 1 1 4 4 exact, 1 add 1 1 4 10 most, 38",
+    );
+    // The closing chase takes what is known of v0, but does not assign it: the longest pass is not known, the sum is.
+    let wide = "for v0 1 <= 4 add 1, while v0 < v2, sub v2 1, end, for v1 0 < v0 add 1";
+    f.brief(
+        "accepted-triangle-not-known-and-not-assigned",
+        three,
+        &format!("{wide}, end, end"),
+        "0 add 1 1 4 4 exact, 1 add 1 1 999999999 3999999996 most, 4 add 1 1 1000000000 10 most, 8000000034",
+    );
+    // The inner's own figure stays its longest pass: L(1002 + 2).
+    f.brief("refused-13-triangle-inner-s-longest-pass", &[(0, 0); 4], &format!("{wide}, for v3 0 < 500 add 1, end, end, end"), "refused 13 7");
+    f.brief(
+        "accepted-triangle-at-the-limits",
+        two,
+        "for v0 1000000000 >= 0 sub 1000000000, for v1 -1000000000 <= v0 add 1, end, end",
+        "0 add -1000000000 -1000000000 2 2 exact, 1 add 1 1 2000000001 3000000002 most, 6000000014",
+    );
+    // 4096·4097/2 turns; one turn more, and the longest pass is charged each time.
+    f.brief("accepted-triangle-4096-turns", two, "for v0 1 <= 4096 add 1, for v1 0 < v0 add 1, end, end", "0 add 1 1 4096 4096 exact, 1 add 1 1 4096 8390656 most, 16797698");
+    f.brief("accepted-no-triangle-4097-turns", two, "for v0 1 <= 4097 add 1, for v1 0 < v0 add 1, end, end", "0 add 1 1 4097 4097 exact, 1 add 1 1 4097 16785409 most, 33587208");
+    // 8002000 turns of 100004 ticks; with 4000 turns each time it would be over the limit.
+    f.brief(
+        "accepted-triangle-within-the-limit-by-its-sum",
+        three,
+        "for v0 1 <= 4000 add 1, for v1 0 < v0 add 1, for v2 0 < 50000 add 1, end, end, end",
+        "0 add 1 1 4000 4000 exact, 1 add 1 1 4000 8002000 most, 2 add 1 1 50000 400100000000 exact, 800232024002",
+    );
+    f.brief("refused-13-triangle-sum", three, "for v0 1 <= 4096 add 1, for v1 0 < v0 add 1, for v2 0 < 150000 add 1, end, end, end", "refused 13 5");
+    let eight: Vec<&str> = ["for v0 1 <= 4096 add 1", "for v1 0 < v0 add 1", "end", "end"].repeat(8);
+    let lines: String = (0..8).map(|k| format!("{} add 1 1 4096 4096 exact, {} add 1 1 4096 8390656 most, ", 4 * k, 4 * k + 1)).collect();
+    f.rows("accepted-triangle-eight-of-4096-turns", two, &eight, &format!("{lines}{}", 8 * 16_797_698));
+    let mut fifteen = vec!["for v0 1 <= 4096 add 1"];
+    fifteen.extend(["for v1 0 < v0 add 1", "end"].repeat(15));
+    fifteen.push("end");
+    let lines: String = (0..15).map(|k| format!("{} add 1 1 4096 8390656 most, ", 1 + 2 * k)).collect();
+    // 15(2·8390656 + 8192), and 8194.
+    f.rows("accepted-triangle-fifteen-in-a-body", two, &fifteen, &format!("0 add 1 1 4096 4096 exact, {lines}251850754"));
+}
+
+/// Change 9: what is as before. The longest pass has 4 turns and 10 ticks, and there are 4 passes.
+fn no_triangles(f: &mut Files) {
+    let three: &[(i64, i64)] = &[(0, 0), (0, 0), (0, 0)];
+    let from_1: &[(i64, i64)] = &[(1, 1), (0, 0)];
+    let mut inner = |name: &str, rows: &str, thought: &str| {
+        f.brief(&format!("accepted-no-triangle-{name}"), three, &format!("for v0 1 <= 4 add 1, {rows}, end"), &format!("0 add 1 1 4 4 exact, {thought}"))
+    };
+    inner("standing-row-before", "sub v0 0, for v1 0 < v0 add 1, end", "2 add 1 1 4 16 most, 54");
+    inner("standing-row-before-in-a-pick", "pick, mul v0 1, end, for v1 0 < v0 add 1, end", "4 add 1 1 4 16 most, 58");
+    inner("moved-and-back-before", "add v0 3, sub v0 3, for v1 0 < v0 add 1, end", "3 add 1 1 4 16 most, 58");
+    inner("in-a-pick", "pick, for v1 0 < v0 add 1, end, end", "2 add 1 1 4 16 most, 54");
+    inner("in-an-else", "pick, else, for v1 0 < v0 add 1, end, end", "3 add 1 1 4 16 most, 54");
+    inner("inner-while", "set v1 0, while v1 < v0, add v1 1, end", "2 add 1 1 4 16 most, 50");
+    inner("start-in-a-variable", "for v1 v2 < v0 add 1, end", "1 add 1 1 4 16 most, 50");
+    inner("start-in-parentheses", "for v1 (0) < v0 add 1, end", "1 add 1 1 4 16 most, 50");
+    inner("limit-in-parentheses", "for v1 0 < (v0) add 1, end", "1 add 1 1 4 16 most, 50");
+    inner("limit-plus-zero", "for v1 0 < v0+0 add 1, end", "1 add 1 1 4 16 most, 50");
+    inner("limit-in-another", "set v2 v0, for v1 0 < v2 add 1, end", "2 add 1 1 4 16 most, 54");
+    // From 9 down to 2; 1 and 2; once.
+    inner("inner-falling", "for v1 9 > v0 sub 1, end", "1 add -1 -1 8 32 most, 82");
+    inner("inner-growing", "for v1 1 < v0 mul 2, end", "1 grow 2 2 2 8 most, 34");
+    inner("inner-equal", "for v1 1 == v0 add 1, end", "1 add 1 1 1 4 most, 26");
+    // In the body of a loop that is no triangle's outer.
+    inner("in-a-loop-of-the-body", "for v2 0 < 2 add 1, for v1 0 < v0 add 1, end, end", "1 add 1 1 2 8 exact, 2 add 1 1 4 32 most, 114");
+    // v0 is [2, 5] there.
+    f.brief("accepted-no-triangle-moved-before", from_1, "while v0 <= 4, add v0 1, for v1 0 < v0 add 1, end, end", "0 add 1 1 4 4 exact, 2 add 1 1 5 20 most, 57");
+    f.brief("accepted-no-triangle-limit-not-single", &[(0, 0), (0, 0), (4, 5)], "for v0 1 <= v2 add 1, for v1 0 < v0 add 1, end, end", "0 add 1 1 5 5 most, 1 add 1 1 5 25 most, 72");
+    f.brief("accepted-no-triangle-start-not-single", &[(1, 2), (0, 0)], "while v0 <= 4, for v1 0 < v0 add 1, end, add v0 1, end", "0 add 1 1 4 4 most, 1 add 1 1 4 16 most, 49");
+    f.brief(
+        "accepted-no-triangle-two-steps",
+        from_1,
+        "while v0 <= 4, for v1 0 < v0 add 1, end, pick, add v0 1, else, add v0 2, end, end",
+        "0 add 1 2 4 4 most, 1 add 1 1 4 16 most, 53",
+    );
+    f.brief("accepted-no-triangle-growing", from_1, "while v0 <= 4, for v1 0 < v0 add 1, end, mul v0 2, end", "0 grow 2 2 3 3 exact, 1 add 1 1 4 12 most, 37");
+    f.brief("accepted-no-triangle-shrinking", &[(8, 8), (0, 0)], "while v0 >= 1, for v1 0 < v0 add 1, end, div v0 2, end", "0 shrink 2 2 4 4 exact, 1 add 1 1 8 32 most, 81");
+    // Nothing is known of v0 in the body.
+    f.brief("accepted-no-triangle-equal", &[(3, 3), (0, 0)], "while v0 == 3, for v1 0 < v0 add 1, end, add v0 1, end", "0 add 1 1 1 1 exact, 1 add 1 1 1000000000 1000000000 most, 2000000005");
+    f.brief("accepted-no-triangle-unequal", from_1, "while v0 != 5, for v1 0 < v0 add 1, end, add v0 1, end", "0 add 1 1 4 4 exact, 1 add 1 1 1000000000 4000000000 most, 8000000017");
+    f.brief(
+        "accepted-no-triangle-copied",
+        &[(1, 1), (1, 1), (0, 0)],
+        "while v0 <= 4, for v2 0 < v0 add 1, end, add v1 1, set v0 v1, end",
+        "0 add 1 1 4 4 exact, 1 add 1 1 1000000000 4000000000 most, 8000000021",
+    );
+    f.brief(
+        "accepted-no-triangle-closing",
+        &[(1, 1), (9, 9), (0, 0)],
+        "while v0 < v1, for v2 0 < v0 add 1, end, add v0 1, sub v1 1, end",
+        "0 add 2 2 4 4 exact, 1 add 1 1 1000000000 4000000000 most, 8000000021",
+    );
 }
