@@ -17,6 +17,7 @@ use Rattle.rules.proofs.Accepted.{then-yes, asked-yes}
 use Rattle.turns.specs.Needs.{answer}
 use Rattle.survey.specs.declared.Figures.{Figures}
 use Rattle.calls.specs.Held.{judgedScript, Found}
+use Rattle.calls.specs.Told.{ticksOf, MeasuredAs}
 
 by-number : (script : Script) (n p : ℕ) → (n ≡ 0 → ⊥) → judgedBy script (answer n p) ≡ refuses n p
 unfolding answer judgedBy
@@ -56,17 +57,23 @@ module _ (prices : List ℕ) (script : Script) (count : ℕ) (s : Figures) (ls :
     text-is = λ j. reportText (sym (found .long) j) (found .figures .lines z j) (found .figures .ticks z j)
 
     -- the report written
-    pub reported : (r : Reply) (old new : List ℕ) (room : ℕ)
-        → (r ≡ fitting (reportText count (firstLines ls (s .loops)) (s .ticks)) room) × (new ≡ written (reportText count (firstLines ls (s .loops)) (s .ticks)) old)
-        → (r ≡ replyOf prices (judgedScript prices script) room) × (new ≡ bufferOf prices (judgedScript prices script) old)
+    pub reported : (r : Reply) (old new : List ℕ)
+        → (r ≡ fitting (reportText count (firstLines ls (s .loops)) (s .ticks)) (length old)) × (new ≡ written (reportText count (firstLines ls (s .loops)) (s .ticks)) old)
+        → MeasuredAs prices (judgedScript prices script) old new (record { reply = r; ticks = s .ticks })
     unfolding replyOf bufferOf
-    reported r old new room (a, b) = (
-      a ∙ ap (λ t. fitting t room) text-is ∙ ap (λ j. replyOf prices j room) (sym judged-yes),
-      b ∙ ap (λ t. written t old) text-is ∙ ap (λ j. bufferOf prices j old) (sym judged-yes),
-    )
+    reported r old new (a, b) = record {
+      reply = a ∙ ap (λ t. fitting t (length old)) text-is ∙ ap (λ j. replyOf prices j (length old)) (sym judged-yes);
+      buffer = b ∙ ap (λ t. written t old) text-is ∙ ap (λ j. bufferOf prices j old) (sym judged-yes);
+      ticks = found .figures .ticks z ∙ ap (ticksOf prices) (sym judged-yes);
+      few = ticks-few;
+    }
 
   -- a refusal leaves the buffer
-  pub not-reported : (s .number ≡ 0 → ⊥) → (old : List ℕ) (room : ℕ)
-      → (Refused (s .number) (s .place) ≡ replyOf prices (judgedScript prices script) room) × (old ≡ bufferOf prices (judgedScript prices script) old)
+  pub not-reported : (s .number ≡ 0 → ⊥) → (old : List ℕ) → MeasuredAs prices (judgedScript prices script) old old (record { reply = Refused (s .number) (s .place); ticks = 0 })
   unfolding replyOf bufferOf
-  not-reported h old room = (ap (λ j. replyOf prices j room) (sym (judged-no h)), ap (λ j. bufferOf prices j old) (sym (judged-no h)))
+  not-reported h old = record {
+    reply = ap (λ j. replyOf prices j (length old)) (sym (judged-no h));
+    buffer = ap (λ j. bufferOf prices j old) (sym (judged-no h));
+    ticks = ap (ticksOf prices) (sym (judged-no h));
+    few = omega arith;
+  }

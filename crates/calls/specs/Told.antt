@@ -1,4 +1,4 @@
--- What a run call answers, as code holds it.
+-- What the two calls answer, as code holds it.
 use mathlib.Core.Path.{_≡_}
 use mathlib.Core.List.{List}
 use Prim.Native.Nat.{ℕ, _≤_, _<_}
@@ -13,11 +13,25 @@ use Rattle.rules.specs.Blocks.{kindsOf}
 use Rattle.rules.specs.Written.{Written}
 use Rattle.table.specs.Code.{kindAt}
 use Rattle.rules.specs.Answers.{Answer}
-use Rattle.rules.specs.Calls.{RunReply, ran, refuses, loopRows, countsAt, storeAfter}
+use Rattle.rules.specs.Scripts.{reportTicks}
+use Rattle.rules.specs.Calls.{Judged, accepted, pricesOf, replyOf, bufferOf, RunReply, ran, refuses, loopRows, countsAt, storeAfter}
 use Rattle.loops.specs.Loops.{NoneFrom}
 use Rattle.runner.specs.Runs.{Runnable}
 use Rattle.runner.specs.Answered.{runOf}
+use Rattle.calls.specs.declared.Measured.{Measured}
 use Rattle.calls.specs.declared.Outcome.{Outcome}
+
+-- the ticks of an accepted script's report; a refused one has none
+abbrev pub ticksOf : List ℕ → Judged → ℕ
+ticksOf prices (accepted script) = reportTicks (pricesOf prices) script
+ticksOf prices (Judged.refuses q p) = 0
+
+-- the answer of a report call, the buffer after it, and the ticks, which question 13 limits
+pub record MeasuredAs (prices : List ℕ) (j : Judged) (old new : List ℕ) (m : Measured) : Type 0 where
+  pub reply : m .reply ≡ replyOf prices j (length old)
+  pub buffer : new ≡ bufferOf prices j old
+  pub ticks : m .ticks ≡ ticksOf prices j
+  pub few : m .ticks ≤ 1_000_000_000_000
 
 -- a run: its figures, and the counts of its loops in row order
 pub record ToldRun (o : Outcome) (a : Answer) (cs : List LoopCount) : Type 0 where

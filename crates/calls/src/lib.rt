@@ -17,14 +17,20 @@ ghost use lib.Signed.{leZ};
 ghost use lib.ListN.{length, take};
 ghost use Rattle.rules.specs.Bounds.{FinePrices};
 ghost use Rattle.rules.specs.Scripts.{pairRanges, scriptOf};
-ghost use Rattle.rules.specs.Calls.{Priced, replyOf, bufferOf, storeVerdict, runReply};
+ghost use Rattle.rules.specs.Calls.{Priced, storeVerdict, runReply};
 ghost use Rattle.rules.specs.Claim.{Demand3Of};
 ghost use Rattle.survey.specs.Whole.{SurveyOf};
 ghost use Rattle.calls.specs.Held.{Given, judgedScript};
-ghost use Rattle.calls.specs.Told.{ToldNo, Ran, Runs, ranRows};
+ghost use Rattle.calls.specs.Told.{MeasuredAs, ToldNo, Ran, Runs, ranRows};
 
-// The report call: the questions 8 to 14, and the report in the buffer.
-pub fn report_script(
+// What a report call answers, and the script's ticks: 0 of a refused one.
+pub struct Measured {
+    pub reply: Reply,
+    pub ticks: u64,
+}
+
+// The report call: the questions 8 to 14, the report in the buffer, and its ticks.
+pub fn measure_script(
     text: &[u8],
     rows: [Row; 256],
     count: usize,
@@ -32,9 +38,9 @@ pub fn report_script(
     vars: usize,
     prices: &[u32],
     buffer: &mut [u8],
-) -> Reply
+) -> Measured
     requires { ⌜ Given (now text) ranges vars rows count × Priced (now prices) ⌝ }
-    ensures { λ r. ⌜ (r ≡ replyOf (now (prices .entry)) (judgedScript (now (prices .entry)) (scriptOf (now (text .entry)) ranges vars rows count)) (length (now (buffer .entry)))) × (now (buffer .exit) ≡ bufferOf (now (prices .entry)) (judgedScript (now (prices .entry)) (scriptOf (now (text .entry)) ranges vars rows count)) (now (buffer .entry))) ⌝ }
+    ensures { λ r. ⌜ MeasuredAs (now (prices .entry)) (judgedScript (now (prices .entry)) (scriptOf (now (text .entry)) ranges vars rows count)) (now (buffer .entry)) (now (buffer .exit)) r ⌝ }
 {
     let none: [u64; 7] = [0; 7];
     let mut lines = [none; 16];
@@ -44,9 +50,17 @@ pub fn report_script(
     let by_kind = prices_of(prices);
     let figures = survey::survey(text, &table, count, ranges, vars, by_kind, &mut lines);
     if figures.number != 0 {
-        return Reply::Refused(figures.number, figures.place);
+        let no = Reply::Refused(figures.number, figures.place);
+        return Measured {
+            reply: no,
+            ticks: 0,
+        };
     }
-    report::write_report(count, &lines, figures.loops, figures.ticks, buffer)
+    let reply = report::write_report(count, &lines, figures.loops, figures.ticks, buffer);
+    Measured {
+        reply: reply,
+        ticks: figures.ticks,
+    }
 }
 
 // Is x between lo and hi?

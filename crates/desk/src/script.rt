@@ -22,13 +22,13 @@ pub enum Values {
 }
 
 // How many bytes were read, and whether a read failed.
-struct Input {
-    length: usize,
-    failed: bool,
+pub struct Input {
+    pub length: usize,
+    pub failed: bool,
 }
 
 // Reads once.
-fn read_some(fd: i32, rest: &mut [u8]) -> Input
+pub fn read_some(fd: i32, rest: &mut [u8]) -> Input
     ensures { λ r. ⌜ Counts (r .length) (now (rest .exit)) ⌝ }
 {
     let got = libc::read(fd, rest);
@@ -57,7 +57,8 @@ fn read_all(fd: i32, buffer: &mut [u8]) -> Input
     Input { length: at, failed }
 }
 
-fn read_file(path: &[u8], buffer: &mut [u8]) -> Input
+// Reads the file of that name.
+pub fn read_file(path: &[u8], buffer: &mut [u8]) -> Input
     ensures { λ r. ⌜ Counts (r .length) (now (buffer .exit)) ⌝ }
 {
     let fd = os::open_read(path);

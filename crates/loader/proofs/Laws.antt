@@ -19,7 +19,8 @@ use Rattle.rules.proofs.FromBytes.{demand3-call}
 use Rattle.reader.specs.declared.Loaded.{Loaded}
 use Rattle.reader.specs.Read.{Answer, answerOf, loadedAnswer, LoadedAs}
 use Rattle.calls.specs.Held.{Given, judgedScript}
-use Rattle.calls.specs.Told.{Told, Ran, ToldNo}
+use Rattle.calls.specs.Told.{MeasuredAs, Told, Ran, ToldNo}
+use Rattle.calls.specs.declared.Measured.{Measured}
 use Rattle.calls.specs.declared.Outcome.{Outcome}
 use Rattle.calls.proofs.Runs.{told-says}
 use Rattle.loader.specs.Kept.{numberOf, placeOf, verdictNumber, firstBy, runNumber, runFirst, lentVerdict, Reported, KeptCall}
@@ -102,8 +103,8 @@ module _ {prices : List ℕ} {j : Judged} {old : List ℕ} where
   pub reported-same : {k : Judged} {new : List ℕ} {r : Reply} → j ≡ k → Reported prices k old new r → Reported prices j old new r
   reported-same e h = rw e h
 
-  pub reported-as : {k : Judged} {new : List ℕ} {r : Reply} → j ≡ k → (r ≡ replyOf prices k (length old)) × (new ≡ bufferOf prices k old) → Reported prices j old new r
-  reported-as e (a, b) = rw e (record { answer = a; number = ap numberOf a; place = ap placeOf a; buffer = b })
+  pub reported-as : {k : Judged} {new : List ℕ} {m : Measured} → j ≡ k → MeasuredAs prices k old new m → Reported prices j old new (m .reply)
+  reported-as e h = rw e (record { answer = h .reply; number = ap numberOf (h .reply); place = ap placeOf (h .reply); buffer = h .buffer })
 
 -- the numbers of an answer that tells a reply
 told-number : (o : Outcome) (reply : RunReply) → Told o reply → verdictNumber (o .verdict) ≡ runNumber reply

@@ -38,7 +38,17 @@ fn report_file(file: &[u8], prices: &[u32], buffer: &mut [u8]) -> Reply
     match verdict {
         Verdict::Passed => {
             let rows = l.rows;
-            calls::report_script(file, rows, l.count, ranges, l.vars, prices, buffer)
+            let measured = calls::measure_script(
+                file,
+                rows,
+                l.count,
+                ranges,
+                l.vars,
+                prices,
+                buffer,
+            );
+            let reply = measured.reply;
+            reply
         }
         Verdict::Refused(q, p) => Reply::Refused(q, p),
     }

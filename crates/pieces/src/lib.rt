@@ -1,8 +1,9 @@
 // The pieces of a report line: how long each is, and its bytes.
 ghost use mathlib.Core.Path.{_≡_};
+ghost use mathlib.Core.List.{_++_};
 ghost use Prim.Native.Nat.{_+_, _≤_, _<_};
 ghost use lib.ListN.{length, take};
-ghost use Rattle.rules.specs.Report.{decimalIn, joined, keyLine};
+ghost use Rattle.rules.specs.Report.{decimalIn, decimal, joined, keyLine};
 ghost use Rattle.pieces.specs.Pieces.{labelText, pieceText, pieceTexts, Wrote};
 
 // The fixed texts of a report.
@@ -143,15 +144,33 @@ fn put_label(label: Label, out: &mut [u8]) -> usize
     bytes::copy(&text[..len], out)
 }
 
+// Writes a key, as its bytes, and a number after it.
+pub fn put_number(key: &[u8], n: u64, out: &mut [u8]) -> usize
+    requires { ⌜ length (now key ++ decimal n) ≤ length (now out) ⌝ }
+    ensures { λ r. ⌜ Wrote (now (key .entry) ++ decimal n) (now (out .entry)) (now (out .exit)) r ⌝ }
+{
+    let at = bytes::copy(key, out);
+    at + put_digits(20, n, &mut out[at..])
+}
+
+// Writes a line of a key, as its bytes, and a number.
+pub fn put_entry(key: &[u8], n: u64, out: &mut [u8]) -> usize
+    requires { ⌜ length (keyLine (now key) n) ≤ length (now out) ⌝ }
+    ensures { λ r. ⌜ Wrote (keyLine (now (key .entry)) n) (now (out .entry)) (now (out .exit)) r ⌝ }
+{
+    let at = put_number(key, n, out);
+    out[at] = b'\n';
+    at + 1
+}
+
 // Writes a line of a key and a number.
 pub fn put_key(key: Label, n: u64, out: &mut [u8]) -> usize
     requires { ⌜ length (keyLine (labelText key) n) ≤ length (now out) ⌝ }
     ensures { λ r. ⌜ Wrote (keyLine (labelText key) n) (now (out .entry)) (now (out .exit)) r ⌝ }
 {
-    let a = put_label(key, out);
-    let at = a + put_digits(20, n, &mut out[a..]);
-    out[at] = b'\n';
-    at + 1
+    let text = letters(key);
+    let len = label_len(key);
+    put_entry(&text[..len], n, out)
 }
 
 // Writes a piece.

@@ -24,7 +24,7 @@ decimal-in (suc k) n =
     cond-elim (λ l. length l ≤ suc k) (ltb n 10) ((48 + n) ∷ []) (decimalIn k (n / 10) ++ ((48 + n % 10) ∷ []))
     (λ _. omega arith) (λ _. omega (arith, length-append (decimalIn k (n / 10)) ((48 + n % 10) ∷ []), decimal-in k (n / 10)))
 
-decimal-short : (n : ℕ) → length (decimal n) ≤ 20
+pub decimal-short : (n : ℕ) → length (decimal n) ≤ 20
 unfolding decimal
 decimal-short n = decimal-in 20 n
 
@@ -45,7 +45,7 @@ unfolding exactName
 exact-short true = omega arith
 exact-short false = omega arith
 
-key-short : (key : List ℕ) (n : ℕ) → length (keyLine key n) ≤ length key + 21
+pub key-short : (key : List ℕ) (n : ℕ) → length (keyLine key n) ≤ length key + 21
 unfolding keyLine joined
 key-short key n = simp length-append (omega (arith, decimal-short n))
 

@@ -110,7 +110,7 @@ pub fn calls(text: &str) -> Result<Vec<Call>, String> {
     heads.iter().zip(ends).map(|(&at, end)| call(&lines[at][2..], &lines[at + 1..end]).ok_or(lines[at].into())).collect()
 }
 
-/// The script files in the folders of a folder, by name.
+/// The script files in the folders of a folder, by name, that have calls of their own; those of lists and of frames have none.
 pub fn files(folder: &Path) -> std::io::Result<Vec<PathBuf>> {
     let mut files = Vec::new();
     for inner in std::fs::read_dir(folder)? {
@@ -118,7 +118,7 @@ pub fn files(folder: &Path) -> std::io::Result<Vec<PathBuf>> {
             files.push(file?.path());
         }
     }
-    files.retain(|file| file.extension().is_some_and(|word| word == "eff"));
+    files.retain(|file| file.extension().is_some_and(|word| word == "eff") && file.with_extension("out").exists());
     files.sort();
     Ok(files)
 }

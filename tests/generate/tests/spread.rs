@@ -1,6 +1,8 @@
 //! What the generator and the script files promise.
 
 use generate::{Spread, SEED};
+use std::ffi::OsStr;
+use std::os::unix::ffi::OsStrExt;
 use std::path::Path;
 
 fn answer(file: &[u8]) -> Vec<u8> {
@@ -213,4 +215,22 @@ fn runs_have_their_answers() {
     let stored = text("stdout");
     let stored: Vec<&str> = stored.lines().map(|line| if line.starts_with("error=") { "error=" } else { line }).collect();
     assert_eq!(printed.lines().collect::<Vec<_>>(), stored);
+}
+
+/// The season's stored cases and the lists of the vectors.
+#[test]
+fn seasons_have_their_answers() {
+    let tests = Path::new(env!("CARGO_MANIFEST_DIR")).join("..");
+    let program = tests.join("../crates/season");
+    let check = |read: &Path, printed: &Path, folder: &Path| {
+        let sheet = oracle::sheet::season(&std::fs::read(read).unwrap(), |name| std::fs::read(folder.join(OsStr::from_bytes(name))).ok());
+        assert_eq!(String::from_utf8(sheet).unwrap(), std::fs::read_to_string(printed).unwrap(), "{}", read.display());
+    };
+    check(&program.join("stdin"), &program.join("stdout"), &program.join("data"));
+    for (cases, folder, least) in [(tests.join("seasons"), program.join("data"), 52), (tests.join("vectors/10"), tests.join("vectors/10"), 14)] {
+        let mut inputs: Vec<_> = std::fs::read_dir(&cases).unwrap().map(|entry| entry.unwrap().path()).collect();
+        inputs.retain(|file| file.extension().is_some_and(|word| word == "in"));
+        assert!(inputs.len() >= least);
+        inputs.iter().for_each(|file| check(file, &file.with_extension("out"), &folder));
+    }
 }

@@ -8,6 +8,7 @@ pub mod expression;
 pub mod prices;
 pub mod read;
 pub mod run;
+pub mod sheet;
 pub mod write;
 
 pub use analyse::{Counted, Line, Plan, Step};

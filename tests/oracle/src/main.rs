@@ -1,17 +1,21 @@
 //! oracle report < FILE
 //! oracle rehearse [prices=A,C,P,T] FILE ALLOWANCE PICKS [VALUE ..]
+//! oracle season < NAMES
 
-use oracle::{desk, plan, report_text, ONES, SCRATCH};
+use oracle::{desk, plan, report_text, sheet, ONES, SCRATCH};
+use std::ffi::OsStr;
 use std::io::{Read, Write};
+use std::os::unix::ffi::OsStrExt;
 use std::process::ExitCode;
 
 fn main() -> ExitCode {
     let arguments: Vec<String> = std::env::args_os().skip(1).map(|a| a.to_string_lossy().into_owned()).collect();
     let words: Vec<&str> = arguments.iter().map(String::as_str).collect();
     let answer = match words[..] {
-        ["report"] => report(),
+        ["report"] => input().map(|file| plan(&file, &ONES, SCRATCH).map_or_else(desk::refused, |plan| report_text(&plan))),
+        ["season"] => input().map(|names| sheet::season(&names, |name| std::fs::read(OsStr::from_bytes(name)).ok())),
         ["rehearse", ref words @ ..] if words.len() > 2 => desk::rehearse(words, |name| std::fs::read(name).ok()),
-        _ => Err("use: oracle report < FILE | oracle rehearse [prices=A,C,P,T] FILE ALLOWANCE PICKS [VALUE ..]".into()),
+        _ => Err("use: oracle report < FILE | oracle rehearse [prices=A,C,P,T] FILE ALLOWANCE PICKS [VALUE ..] | oracle season < NAMES".into()),
     };
     let (text, code) = match answer {
         Ok(text) => (text, ExitCode::SUCCESS),
@@ -23,8 +27,8 @@ fn main() -> ExitCode {
     }
 }
 
-fn report() -> Result<Vec<u8>, String> {
-    let mut file = Vec::new();
-    std::io::stdin().read_to_end(&mut file).map_err(|_| "standard input cannot be read".to_string())?;
-    Ok(plan(&file, &ONES, SCRATCH).map_or_else(desk::refused, |plan| report_text(&plan)))
+fn input() -> Result<Vec<u8>, String> {
+    let mut bytes = Vec::new();
+    std::io::stdin().read_to_end(&mut bytes).map_err(|_| "standard input cannot be read".to_string())?;
+    Ok(bytes)
 }

@@ -1,5 +1,7 @@
 use crate::*;
 
+mod sheet;
+
 /// A script file of these ranges and rows.
 fn file(ranges: &[(i64, i64)], rows: &[&str]) -> Vec<u8> {
     let mut text = format!("script=1\nvars={}\n", ranges.len());

@@ -5,11 +5,11 @@ use Rattle.loader.proofs.Laws.{file-refused, file-read, file-given, rep
 use Rattle.loader.proofs.report_file.Statement.{statement}
 use Rattle.loader.proofs.report_file.Tie as tie
 
-report-script-requires : tie.Need-report-script-requires
-report-script-requires c κs = (file-given (now (c .before .before .before .before .before .before .before .before .before .args .prices)) (now (c .before .before .before .before .before .before .before .before .before .args .file)) _ _ (c .before .before .before .before .load .ensures) (c .before .before .enum-told .given .1), c .before .before .before .before .before .before .before .before .before .pre)
+measure-script-requires : tie.Need-measure-script-requires
+measure-script-requires c κs = (file-given (now (c .before .before .before .before .before .before .before .before .before .args .prices)) (now (c .before .before .before .before .before .before .before .before .before .args .file)) _ _ (c .before .before .before .before .load .ensures) (c .before .before .enum-told .given .1), c .before .before .before .before .before .before .before .before .before .pre)
 
 returns : tie.Need-returns
-returns c = reported-as (file-read (now (c .before .before .before .before .before .before .before .before .before .before .before .before .args .prices)) (now (c .before .before .before .before .before .before .before .before .before .before .before .before .args .file)) _ _ (c .before .before .before .before .before .before .before .load .ensures) (c .before .before .before .before .before .enum-told .given .1)) (c .before .before .report-script .ensures)
+returns c = reported-as (file-read (now (c .before .before .before .before .before .before .before .before .before .before .before .before .args .prices)) (now (c .before .before .before .before .before .before .before .before .before .before .before .before .args .file)) _ _ (c .before .before .before .before .before .before .before .load .ensures) (c .before .before .before .before .before .enum-told .given .1)) (c .before .before .measure-script .ensures)
 
 returns-2 : tie.Need-returns-2
 returns-2 c = reported-no (file-refused (now (c .before .before .before .before .before .before .before .before .args .prices)) (now (c .before .before .before .before .before .before .before .before .args .file)) _ _ (c .before .before .before .load .ensures) (c .before .verdict .given .1))
@@ -20,7 +20,7 @@ report-file-spec =
     (tie.spec
     (λ c κs. search needs)
     (λ c. search needs)
-    report-script-requires
+    measure-script-requires
     (λ c. search needs)
     (λ c. search needs)
     returns

@@ -1,49 +1,27 @@
 use borrow.Author.Needs.{needs}
 use native.Mathlib.Omega.{arith}
-use mathlib.Core.Path.{_≡_, sym, ap, _∙_}
-use mathlib.Core.List.{_++_}
-use Prim.Native.Nat.{_+_, _≤_}
-use lib.ListN.{length, length-append, length-drop, length-set}
-use Rattle.rules.specs.Report.{decimalIn}
-use Rattle.pieces.specs.Pieces.{labelText, Wrote}
-use Rattle.pieces.proofs.Laws.{key-parts, key-length, wrote-then, wrote-byte, wrote-length, part-rest}
+use mathlib.Core.Path.{_≡_}
+use lib.ListN.{take, length-take}
+use Rattle.pieces.specs.Pieces.{labelText}
 use Rattle.pieces.proofs.put_key.Statement.{statement}
 use Rattle.pieces.proofs.put_key.Tie as tie
 
--- room for all
-room : (c : tie.Start) → length (labelText (c .args .key)) + length (decimalIn 20 (c .args .n)) + 1 ≤ length (c .args .out .now)
-room c = rw (key-length (labelText (c .args .key)) (c .args .n)) at (c .pre)
+-- the bytes that are lent are the key
+key-is : (c : tie.After-label-len) → take (c .label-len .result) (c .before .letters .result) ≡ labelText (c .before .before .before .args .key)
+key-is c = rw (← c .label-len .ensures .0) at (c .before .letters .ensures)
 
-slice-write-out : tie.Need-slice-write-out
-slice-write-out c =
-    let d = c .before .before in
-    let start = d .before .before .before .before .before .before .before in
-    let w = wrote-then _ _ _ _ _ _ _ (d .before .before .before .before .put-label .ensures) (d .put-digits .ensures) in
-    omega (arith, room start, w .count, length-append (labelText (start .args .key)) (decimalIn 20 (start .args .n)), wrote-length _ _ _ _ (rw length-append (omega (arith, room start))) w)
-
-same-length : tie.Need-same-length
-same-length c =
-    let d = c .before .before in
-    let start = d .before .before .before .before .before .before .before in
-    let w = wrote-then _ _ _ _ _ _ _ (d .before .before .before .before .put-label .ensures) (d .put-digits .ensures) in
-    rw length-set (wrote-length _ _ _ _ (rw length-append (omega (arith, room start))) w)
+put-entry-requires : tie.Need-put-entry-requires
+put-entry-requires c κs = rw (key-is (c .before .before)) (c .before .before .before .before .before .pre)
 
 returns : tie.Need-returns
-returns c =
-    let d = c .before .before in
-    let start = d .before .before .before .before .before .before .before in
-    let w = wrote-then _ _ _ _ _ _ _ (d .before .before .before .before .put-label .ensures) (d .put-digits .ensures) in
-    rw (key-parts (labelText (start .args .key)) (start .args .n)) (wrote-byte _ _ _ _ _ (rw length-append (omega (arith, room start))) w)
+returns c = rw (key-is (c .before .before .before .before .before)) at (c .before .before .put-entry .ensures)
 
 pub put-key-spec : {M : Type 1} → statement M
 put-key-spec = tie.close (tie.spec
-    (λ c κs. omega (arith, room (c .before .before)))
-    (λ c. omega (arith, room (c .before .before .before .before .before), c .before .before .put-label .ensures .count))
-    (λ c. omega (arith, room (c .before .before .before .before .before), c .before .before .put-label .ensures .count))
+    (λ c κs. search needs)
+    (λ c κs. search needs)
     (λ c. search needs)
-    (λ c κs. simp (part-rest, length-drop) (omega (arith, room (c .before .before .before .before .before .before), c .before .before .before .put-label .ensures .count)))
-    (λ c. omega (arith, room (c .before .before .before .before .before .before .before .before .before), c .before .before .before .before .before .before .put-label .ensures .count, c .before .before .put-digits .ensures .count))
-    slice-write-out
-    (λ c. omega (arith, room (c .before .before .before .before .before .before .before .before .before), c .before .before .before .before .before .before .put-label .ensures .count, c .before .before .put-digits .ensures .count))
-    same-length
+    (λ c. rw length-take (omega arith))
+    put-entry-requires
+    (λ c. search needs)
     returns)

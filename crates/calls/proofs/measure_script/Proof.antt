@@ -1,12 +1,12 @@
--- `calls::report_script` meets its contract. Assumes nothing.
+-- `calls::measure_script` meets its contract. Assumes nothing.
 use mathlib.Core.Path.{_≡_}
 use Rattle.rules.specs.Scripts.{Script, scriptOf}
 use Rattle.calls.specs.Held.{Found}
 use Rattle.calls.proofs.Tables.{four, fine, few-rows, fine-rows, survey-asks, survey-same, found-by}
 use Rattle.calls.proofs.Judging.{reported, not-reported}
 use borrow.Author.Needs.{needs}
-use Rattle.calls.proofs.report_script.Statement.{statement}
-use Rattle.calls.proofs.report_script.Tie as tie
+use Rattle.calls.proofs.measure_script.Statement.{statement}
+use Rattle.calls.proofs.measure_script.Tie as tie
 
 -- the script that is held
 abbrev script : tie.Start → Script
@@ -36,7 +36,7 @@ returns c =
     let s = c .before .before .before .before .before .before .before .before .before .before .before in
     let f = c .before .before .survey in
     let h : f .result .number ≡ 0 → ⊥ = search needs in
-    not-reported (s .args .prices .now) (script s) (s .args .count) (f .result) _ (found (c .before .before)) h _ _
+    not-reported (s .args .prices .now) (script s) (s .args .count) (f .result) _ (found (c .before .before)) h _
 
 write-report-requires : tie.Need-write-report-requires
 write-report-requires c κs =
@@ -49,7 +49,7 @@ returns-2 c =
     let s = c .before .before .before .before .before .before .before .before .before .before .before .before .before .before .before .before in
     let f = c .before .before .before .before .before .before .before .survey in
     let z : f .result .number ≡ 0 = search needs in
-    reported (s .args .prices .now) (script s) (s .args .count) (f .result) _ (found (c .before .before .before .before .before .before .before)) z _ _ _ _ (c .before .before .write-report .ensures)
+    reported (s .args .prices .now) (script s) (s .args .count) (f .result) _ (found (c .before .before .before .before .before .before .before)) z _ _ _ (c .before .before .write-report .ensures)
 
-pub report-script-spec : {M : Type 1} → statement M
-report-script-spec = tie.close (tie.spec put-rows-requires prices-of-requires survey-requires returns write-report-requires (λ c. search needs) returns-2)
+pub measure-script-spec : {M : Type 1} → statement M
+measure-script-spec = tie.close (tie.spec put-rows-requires prices-of-requires survey-requires returns write-report-requires (λ c. search needs) returns-2)

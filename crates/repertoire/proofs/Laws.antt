@@ -1,0 +1,238 @@
+-- One file more. Assumes nothing.
+use mathlib.Core.Path.{_≡_, refl, sym, ap, subst, _∙_}
+use mathlib.Core.Bool.{Bool, true, false, not, cond}
+use mathlib.Core.List.{List, [], _∷_, _++_, append-nil}
+use Prim.Native.Nat.{ℕ, _+_, _*_, _-_, _≤_, _<_}
+use native.Mathlib.Omega.{arith}
+use lib.ListN.{length, getD, take, drop, length-append, length-take, length-drop, drop-of-length-le, take-append-drop}
+use lib.Seq.{take-all, take-append-seam, take-at, drop-at, take-append-le, take-take}
+use borrow.Author.Tests.{le-leb}
+use borrow.Rule.Slice.PartMut.{midOf, putMid}
+use Rattle.rules.specs.declared.Reply.{Reply}
+use Rattle.rules.specs.declared.Reply.the-variants.{Accepted, Refused}
+use Rattle.rules.specs.declared.Verdict.the-variants.{Passed}
+use Rattle.rules.specs.Figures.{ones}
+use Rattle.rules.specs.Scripts.{Script, reportTicks}
+use Rattle.rules.specs.Report.{scriptReport, longestReport}
+use Rattle.rules.specs.Calls.{Judged, accepted, refuses, fourOnes, Priced, pricesVerdict, judged, fitting, over, written, replyOf, bufferOf}
+use Rattle.rules.specs.Season.{judgedAll, scriptsOf, refusalsOf, met, sumOfTicks, among, firsts, sheetOf}
+use Rattle.rules.proofs.Longest.{longest-report}
+use Rattle.rules.proofs.Season.{length-end, scripts-end, scripts-same}
+use Rattle.calls.specs.declared.Measured.{Measured}
+use Rattle.calls.specs.Told.{ticksOf, MeasuredAs}
+use Rattle.groups.specs.Firsts.{total, partsOf, Firsts}
+use Rattle.groups.proofs.Laws.{parts-front}
+use Rattle.pieces.proofs.Laws.{part-rest}
+use Rattle.sheet.specs.declared.Sheet.{Sheet}
+use Rattle.sheet.specs.Figures.{Figures, Accepting, Refusing}
+use Rattle.repertoire.specs.Holds.{Holds, Begun}
+
+pub ones-priced : Priced fourOnes
+unfolding pricesVerdict
+ones-priced = refl
+
+-- a file that is judged as another thing is
+pub measured-same : {j k : Judged} {old new : List ℕ} {m : Measured} → j ≡ k → MeasuredAs fourOnes k old new m → MeasuredAs fourOnes j old new m
+measured-same {old = old} {new} {m} e h = subst (λ z. MeasuredAs fourOnes z old new m) (sym e) h
+
+pub measured-no : {j : Judged} {old : List ℕ} {q p : ℕ} → j ≡ refuses q p → MeasuredAs fourOnes j old old (record { reply = Refused q p; ticks = 0 })
+unfolding replyOf bufferOf
+measured-no {old = old} {q} {p} e = measured-same e (record { reply = refl; buffer = refl; ticks = refl; few = omega arith })
+
+-- ---- what was measured
+pub record Took (s : Script) (len : ℕ) (new : List ℕ) (ticks : ℕ) : Type 0 where
+  pub report : take len new ≡ scriptReport ones s
+  pub short : len ≤ longestReport
+  pub within : len ≤ length new
+  pub figure : ticks ≡ reportTicks ones s
+
+module _ (file old new : List ℕ) (m : Measured) (h : MeasuredAs fourOnes (judged fourOnes 1_024 file) old new m) (room : longestReport ≤ length old) where
+  -- an accepted file: its report is at the front
+  taken : (s : Script) → judged fourOnes 1_024 file ≡ accepted s → (m .reply ≡ Accepted (length (scriptReport ones s))) × Took s (length (scriptReport ones s)) new (m .ticks) × (length new ≡ length old)
+  unfolding replyOf bufferOf fitting written over
+  taken s e =
+      let short : length (scriptReport ones s) ≤ longestReport = longest-report fourOnes 1_024 file s e in
+      let fits = le-leb (length (scriptReport ones s)) (length old) (omega arith) in
+      let text : new ≡ scriptReport ones s ++ drop (length (scriptReport ones s)) old =
+      h .buffer ∙ ap (λ j. bufferOf fourOnes j old) e ∙ ap (λ b. cond b (scriptReport ones s ++ drop (length (scriptReport ones s)) old) old) fits in
+      let same : length new ≡ length old = ap length text ∙ simp (length-append, length-drop) (omega arith) in (
+        h .reply ∙ ap (λ j. replyOf fourOnes j (length old)) e ∙ ap (λ b. cond b (Accepted (length (scriptReport ones s))) (Refused 14 (length (scriptReport ones s)))) fits,
+        record {
+          report = ap (take (length (scriptReport ones s))) text ∙ take-append-seam (scriptReport ones s) (drop (length (scriptReport ones s)) old);
+          short = short;
+          within = omega arith;
+          figure = h .ticks ∙ ap (ticksOf fourOnes) e;
+        },
+        same,
+      )
+
+  -- a refused one: nothing is written
+  left : (q p : ℕ) → judged fourOnes 1_024 file ≡ refuses q p → (m .reply ≡ Refused q p) × (new ≡ old)
+  unfolding replyOf bufferOf
+  left q p e = (h .reply ∙ ap (λ j. replyOf fourOnes j (length old)) e, h .buffer ∙ ap (λ j. bufferOf fourOnes j old) e)
+
+  pub was-accepted : (len : ℕ) → m .reply ≡ Accepted len → (s : Script) × (judged fourOnes 1_024 file ≡ accepted s) × Took s len new (m .ticks) × (length new ≡ length old)
+  was-accepted len r = go (judged fourOnes 1_024 file) refl
+    where
+      go : (j : Judged) → judged fourOnes 1_024 file ≡ j → (s : Script) × (judged fourOnes 1_024 file ≡ accepted s) × Took s len new (m .ticks) × (length new ≡ length old)
+      go (accepted s) e =
+          let (a, t, n) = taken s e in
+          let f : length (scriptReport ones s) ≡ len = cc in
+          (s, e, subst (λ z. Took s z new (m .ticks)) f t, n)
+      go (refuses q p) e = let (a, n) = left q p e in absurd (let z : _≡_ {A = ℕ} 0 1 = cc in omega arith)
+
+  pub was-refused : (q p : ℕ) → m .reply ≡ Refused q p → (judged fourOnes 1_024 file ≡ refuses q p) × (new ≡ old)
+  was-refused q p r = go (judged fourOnes 1_024 file) refl
+    where
+      go : (j : Judged) → judged fourOnes 1_024 file ≡ j → (judged fourOnes 1_024 file ≡ refuses q p) × (new ≡ old)
+      go (accepted s) e = let (a, t, n) = taken s e in absurd (let z : _≡_ {A = ℕ} 0 1 = cc in omega arith)
+      go (refuses k l) e =
+          let (a, n) = left k l e in
+          let f : k ≡ q = cc in
+          let g : l ≡ p = cc in
+          (e ∙ (λ i. refuses (f i) (g i)), n)
+
+-- ---- the part &mut reports[used..], back with as many bytes
+module _ (used : ℕ) (old ys : List ℕ) (l : used ≤ length old) (e : length ys ≡ length old - used) where
+  abbrev placed : List ℕ
+  placed = putMid used (length old - used) old ys
+
+  pub placed-is : placed ≡ take used old ++ ys
+  placed-is = ap (λ z. take used old ++ (ys ++ z)) (drop-of-length-le (drop used old) {i = length old - used} (simp length-drop (omega arith))) ∙ ap (λ z. take used old ++ z) (append-nil ys)
+
+  front-long : length (take used old) ≡ used
+  front-long = simp length-take (omega arith)
+
+  pub placed-long : length placed ≡ length old
+  placed-long = ap length placed-is ∙ simp (length-append, front-long) (omega arith)
+
+  pub placed-front : take used placed ≡ take used old
+  placed-front = ap (take used) placed-is ∙ take-at (take used old) ys used front-long
+
+  pub placed-rest : drop used placed ≡ ys
+  placed-rest = ap (drop used) placed-is ∙ drop-at (take used old) ys used front-long
+
+-- the firsts do not read what is behind them
+pub firsts-moved : {ss : List Script} {groups used : ℕ} {lengths : List ℕ} (a b : List ℕ) → Firsts ss groups used lengths a → take used a ≡ take used b → Firsts ss groups used lengths b
+firsts-moved {ss} {groups} {used} {lengths} a b h e = record {
+  count = h .count;
+  kept = parts-front (take groups lengths) b a used (omega (arith, h .sum)) (sym e) ∙ h .kept;
+  sum = h .sum;
+  room = h .room;
+}
+
+-- ---- no file
+pub holds-none : (s : Sheet) (counts lengths reports : List ℕ) → Figures [] s counts × (s .groups ≡ 0) × (s .used ≡ 0) × (length counts ≡ 21) → length lengths ≡ 64 → length reports ≡ 133_696 → Holds [] s counts lengths reports
+unfolding sheetOf scriptsOf refusalsOf met sumOfTicks firsts partsOf total
+holds-none s counts lengths reports (f, g, u, n) l r = record {
+  figures = f;
+  firsts =
+      subst (λ z. Firsts [] z (s .used) lengths reports) (sym g)
+      (subst (λ z. Firsts [] 0 z lengths reports) (sym u) (record { count = refl; kept = refl; sum = refl; room = omega arith }));
+  files = omega (arith, f .accepts, f .refusals);
+  sum = omega (arith, f .sum);
+  few = omega (arith, g);
+  long = n;
+  each = λ q m. omega (arith, f .numbers q m);
+  places = l;
+  room = r;
+}
+
+pub judged-end : (files : List (List ℕ)) (file : List ℕ) → judgedAll (files ++ (file ∷ [])) ≡ judgedAll files ++ (judged fourOnes 1_024 file ∷ [])
+unfolding judgedAll
+judged-end [] file = refl
+judged-end (f ∷ files) file = ap (λ l. judged fourOnes 1_024 f ∷ l) (judged-end files file)
+
+pub judged-count : (files : List (List ℕ)) → length (judgedAll files) ≡ length files
+unfolding judgedAll
+judged-count [] = refl
+judged-count (f ∷ files) = omega (arith, judged-count files)
+
+-- ---- the sheet with it
+module _ (js : List Judged) (old new : Sheet) (counts lengths reports : List ℕ) (h : Holds js old counts lengths reports) where
+  pub holds-accepted : (s : Script) (j : Judged) → j ≡ accepted s → (ticks len : ℕ) (fresh : Bool) (lengths' reports' : List ℕ) → Accepting old ticks len fresh new → ticks ≡ reportTicks ones s → ticks ≤ 1_000_000_000_000
+      → (fresh ≡ not (among s (scriptsOf js))) × Firsts (scriptsOf js ++ (s ∷ [])) (old .groups + cond fresh 1 0) (old .used + cond fresh len 0) lengths' reports'
+      → length lengths' ≡ 64 → length reports' ≡ 133_696 → Holds (js ++ (j ∷ [])) new counts lengths' reports'
+  holds-accepted s j e ticks len fresh lengths' reports' a t few (f, g) p r = subst (λ z. Holds (js ++ (z ∷ [])) new counts lengths' reports') (sym e) (record {
+    figures = a .sheet js s counts (h .figures) t f;
+    firsts =
+        subst (λ z. Firsts z (new .groups) (new .used) lengths' reports') (sym (scripts-end js s))
+        (subst (λ z. Firsts (scriptsOf js ++ (s ∷ [])) z (new .used) lengths' reports') (sym (a .classes)) (subst (λ z. Firsts (scriptsOf js ++ (s ∷ [])) (old .groups + cond fresh 1 0) z lengths' reports') (sym (a .bytes)) g));
+    files = omega (arith, a .accepts, a .refusals, h .files, length-end js (accepted s));
+    sum = omega (arith, a .sum, h .sum, length-end js (accepted s));
+    few = omega (arith, a .classes, h .few, length-end js (accepted s), one fresh);
+    long = h .long;
+    each = λ q l. omega (arith, h .each q l, length-end js (accepted s));
+    places = p;
+    room = r;
+  })
+    where
+      one : (b : Bool) → cond b 1 0 ≤ 1
+      one true = omega arith
+      one false = omega arith
+
+  pub holds-refused : (q p : ℕ) (j : Judged) → j ≡ refuses q p → (counts' reports' : List ℕ) → Refusing old q counts counts' new → reports' ≡ reports → Holds (js ++ (j ∷ [])) new counts' lengths reports'
+  holds-refused q p j e counts' reports' a same = subst (λ z. Holds (js ++ (z ∷ [])) new counts' lengths reports') (sym e) (subst (λ z. Holds (js ++ (refuses q p ∷ [])) new counts' lengths z) (sym same) (record {
+    figures = a .sheet js p (h .figures);
+    firsts =
+        subst (λ z. Firsts z (new .groups) (new .used) lengths reports) (sym (scripts-same js q p))
+        (subst (λ z. Firsts (scriptsOf js) z (new .used) lengths reports) (sym (a .classes)) (subst (λ z. Firsts (scriptsOf js) (old .groups) z lengths reports) (sym (a .bytes)) (h .firsts)));
+    files = omega (arith, a .accepts, a .refusals, h .files, length-end js (refuses q p));
+    sum = omega (arith, a .sum, h .sum, length-end js (refuses q p));
+    few = omega (arith, a .classes, h .few, length-end js (refuses q p));
+    long = a .long;
+    each = λ k l. omega (arith, a .each k l, h .each k l, length-end js (refuses q p));
+    places = h .places;
+    room = h .room;
+  }))
+
+-- ---- what stands at the call
+module _ (file counts lengths reports : List ℕ) (sheet : Sheet) (js : List Judged) (h : Holds js sheet counts lengths reports) (l : length js < 64) where
+  abbrev behind : List ℕ
+  behind = midOf (sheet .used) (length reports - sheet .used) reports
+
+  pub used-room : sheet .used + longestReport ≤ length reports
+  used-room = omega (arith, h .firsts .room, h .few, h .room)
+
+  behind-long : length behind ≡ length reports - sheet .used
+  behind-long = simp (length-take, length-drop) (omega arith)
+
+  behind-room : longestReport ≤ length behind
+  behind-room = omega (arith, behind-long, used-room)
+
+  module _ (ys : List ℕ) (m : Measured) (e : MeasuredAs fourOnes (judged fourOnes 1_024 file) behind ys m) where
+    abbrev after : List ℕ
+    after = putMid (sheet .used) (length reports - sheet .used) reports ys
+
+    within : sheet .used ≤ length reports
+    within = omega (arith, used-room)
+
+    -- accepted, with its report at `used`
+    pub record Adds (len : ℕ) : Type 0 where
+      pub script : Script
+      pub judgement : judged fourOnes 1_024 file ≡ accepted script
+      pub figure : m .ticks ≡ reportTicks ones script
+      pub short : len ≤ longestReport
+      pub text : take len (drop (sheet .used) after) ≡ scriptReport ones script
+      pub same : length after ≡ length reports
+      pub kept : Firsts (scriptsOf js) (sheet .groups) (sheet .used) lengths after
+
+    pub adds : (len : ℕ) → m .reply ≡ Accepted len → Adds len
+    adds len r =
+        let (s, j, t, n) = was-accepted file behind ys m e behind-room len r in
+        let k : length ys ≡ length reports - sheet .used = n ∙ behind-long in
+        record {
+          script = s;
+          judgement = j;
+          figure = t .figure;
+          short = t .short;
+          text = ap (take len) (placed-rest (sheet .used) reports ys within k) ∙ t .report;
+          same = placed-long (sheet .used) reports ys within k;
+          kept = firsts-moved reports after (h .firsts) (sym (placed-front (sheet .used) reports ys within k));
+        }
+
+    -- refused, with the reports as they were
+    pub leaves : (q p : ℕ) → m .reply ≡ Refused q p → (judged fourOnes 1_024 file ≡ refuses q p) × (after ≡ reports)
+    leaves q p r =
+        let (j, n) = was-refused file behind ys m e behind-room q p r in
+        (j, placed-is (sheet .used) reports ys within (ap length n ∙ behind-long) ∙ ap (λ z. take (sheet .used) reports ++ z) (n ∙ part-rest reports (sheet .used)) ∙ take-append-drop (sheet .used) reports)

@@ -1,0 +1,23 @@
+-- What the program keeps: no contract can say what the system gave it to read.
+use mathlib.Core.Path.{_≡_}
+use mathlib.Core.List.{List, [], _∷_, _++_}
+use Prim.Native.Nat.{ℕ}
+use lib.ListN.{length}
+use Rattle.rules.specs.Calls.{Judged, fourOnes, judged}
+use Rattle.rules.specs.Season.{judgedAll}
+use Rattle.names.specs.Kept.{Kept}
+use Rattle.sheet.specs.declared.Sheet.{Sheet}
+use Rattle.sheet.specs.Figures.{Figures}
+use Rattle.repertoire.specs.Holds.{Holds}
+
+-- the names are those of some input
+abbrev pub Listed : ℕ → List ℕ → List ℕ → Type 0
+Listed line names lengths = (input : List ℕ) × Kept input line names lengths
+
+-- the sheet of these files and one more
+abbrev pub WithOne : List Judged → Sheet → List ℕ → List ℕ → List ℕ → Type 0
+WithOne js s counts firsts reports = (file : List ℕ) × Holds (js ++ (judged fourOnes 1_024 file ∷ [])) s counts firsts reports
+
+-- the sheet is that of some files, as many as there are names
+abbrev pub SheetOf : ℕ → Sheet → List ℕ → Type 0
+SheetOf count s counts = (files : List (List ℕ)) × (length files ≡ count) × Figures (judgedAll files) s counts
