@@ -145,7 +145,7 @@ pub record Good-trip (τ : Trip) : Type 0 where
 abbrev pub CourseOf : Form → Env → Test → Block → Store → Trip → Type 1
 CourseOf form ρ test body f τ = Course form test body f (turnsOf τ) (isExact τ) (innerOf τ) (outerOf τ)
 
-inside-full : {x : ℤ} → Within full x → Inside full x
+pub inside-full : {x : ℤ} → Within full x → Inside full x
 inside-full h = (h .low, h .high)
 
 -- a do's first turn starts in the range
@@ -267,11 +267,11 @@ single-apart r s h k =
     subst (λ z. T (eqZ (r .lo -ℤ s .hi) z)) (eq-out _ _ (omega (arith, eq-yes (r .lo) (r .hi) h, eq-yes (s .lo) (s .hi) k, minus-parts (r .lo) (s .hi), minus-parts (r .hi) (s .lo)))) (eq-refl (r .lo -ℤ s .hi))
 
 module _ (form : Form) (ρ : Env) (test : Test) (body : Block) (f : Store) (enters : In ρ f) where
-  limit : Limit ρ f enters (test .limit)
+  pub limit : Limit ρ f enters (test .limit)
   limit = limit-of ρ f enters (test .limit)
 
   -- the limit is as at the start, so that every test of a value is the comparison with it
-  same-limit : T (keeps (test .limit) body) → (g : Store) → At body f g → Agrees (holds test g) (compares (test .comparison) (g (test .tested)) (limit .at))
+  pub same-limit : T (keeps (test .limit) body) → (g : Store) → At body f g → Agrees (holds test g) (compares (test .comparison) (g (test .tested)) (limit .at))
   same-limit keep g a = agrees (test .comparison) _ _ _ (λ z q. limit .reached z (sym (value-kept body f g (a .kept) (test .limit) keep) ∙ q))
 
   own-course : Good-trip (ownTrip form ρ test body) → CourseOf form ρ test body f (ownTrip form ρ test body)

@@ -1,8 +1,10 @@
 //! differential [COUNT [SEED [FIRST]]]: compares the library with the oracle on COUNT generated files, from
 //! file number FIRST on.
+//! differential reach [COUNT [SEED]]: searches the picks that bring loops to the turns of their report.
 //! differential vectors FOLDER: compares oracle and library with the stored answers in the folders of a folder.
 //! The first difference is printed with its file, and the exit code is 1.
 
+mod reach;
 mod stack;
 mod vectors;
 
@@ -415,10 +417,13 @@ fn main() {
     let number = |at: usize, default: u64| {
         arguments.get(at).map_or(default, |word| {
             word.parse().unwrap_or_else(|_| {
-                println!("use: differential [COUNT [SEED [FIRST]]], or differential vectors FOLDER");
+                println!("use: differential [COUNT [SEED [FIRST]]], differential reach [COUNT [SEED]], or differential vectors FOLDER");
                 exit(2)
             })
         })
     };
+    if arguments.first().is_some_and(|word| word == "reach") {
+        return reach::generated(&mut checker, number(1, 5_000), number(2, SEED));
+    }
     generated(&mut checker, number(0, 20_000), number(1, SEED), number(2, 0));
 }

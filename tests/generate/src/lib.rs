@@ -6,6 +6,7 @@ mod copied;
 mod damage;
 mod expressions;
 mod levels;
+mod reach;
 mod rng;
 mod script;
 mod spread;
@@ -42,6 +43,14 @@ pub fn case(seed: u64, index: u64) -> Case {
     Case { file, prices, rng }
 }
 
+/// A file whose loops are likely to meet change 11's terms, and good prices.
+pub fn reach_case(seed: u64, index: u64) -> Case {
+    let mut rng = Rng::new(seed ^ 0x2eac_4000, index);
+    let file = script::reaching(&mut rng);
+    let prices = allowed_prices(&mut rng);
+    Case { file, prices, rng }
+}
+
 /// A price inside its limits, often at one of them.
 fn price(rng: &mut Rng) -> u32 {
     match rng.below(6) {
@@ -60,6 +69,11 @@ fn prices(rng: &mut Rng) -> Vec<u32> {
         10..=17 => (0..4).map(|_| price(rng)).collect(),
         _ => wrong_prices(rng),
     }
+}
+
+/// Four prices inside their limits, ones now and then.
+fn allowed_prices(rng: &mut Rng) -> Vec<u32> {
+    if rng.chance(35) { vec![1; 4] } else { (0..4).map(|_| price(rng)).collect() }
 }
 
 /// Too short, too long, or with a price past its limits.

@@ -128,6 +128,11 @@ impl Builder<'_> {
         }
     }
 
+    /// There is one.
+    pub fn any_variable(&mut self) -> usize {
+        self.rng.below(self.vars)
+    }
+
     fn operand(&mut self) -> String {
         if self.vars > 0 && self.rng.chance(35) {
             format!("v{}", self.rng.below(self.vars))
@@ -445,6 +450,27 @@ fn build(rng: &mut Rng, careless: usize) -> Text {
         expressions::dress(rng, &mut text);
     }
     text
+}
+
+/// With loops that are likely to meet change 11's terms.
+pub fn reaching(rng: &mut Rng) -> Vec<u8> {
+    let vars = 2 + rng.below(5);
+    let ranges = (0..vars).map(|_| if rng.chance(80) { (0, rng.between(0, 9)) } else { range(rng) }).collect();
+    let mut builder = Builder { rng, vars, rows: Vec::new(), left: 60, loops: 6, careless: 0 };
+    if builder.rng.chance(25) {
+        let items = 1 + builder.rng.below(2);
+        builder.block(2, 0, items);
+    }
+    for _ in 0..1 + builder.rng.below(2) {
+        let (v, u) = (builder.any_variable(), builder.any_variable());
+        let depth = 2 + builder.rng.below(3);
+        builder.loops = builder.loops.max(1);
+        builder.reached(depth, v, u);
+    }
+    if builder.rng.chance(15) {
+        builder.block(2, 0, 1);
+    }
+    Text { ranges, rows: builder.rows }.bytes()
 }
 
 /// Likely to be accepted.

@@ -1,6 +1,6 @@
 //! What the generator and the script files promise.
 
-use generate::{Spread, SEED};
+use generate::{reach_case, Spread, SEED};
 use std::ffi::OsStr;
 use std::os::unix::ffi::OsStrExt;
 use std::path::Path;
@@ -233,4 +233,25 @@ fn seasons_have_their_answers() {
         assert!(inputs.len() >= least);
         inputs.iter().for_each(|file| check(file, &file.with_extension("out"), &folder));
     }
+}
+
+/// The files for change 11.
+#[test]
+fn most_loops_can_be_reached() {
+    let (mut meet, mut steps) = (0, [0; 3]);
+    for index in 0..2_000 {
+        let case = reach_case(SEED, index);
+        let Ok(plan) = oracle::plan(&case.file, &case.prices, oracle::SCRATCH) else { continue };
+        let lines: Vec<_> = plan.lines.iter().filter(|line| oracle::reach::meets_the_terms(&plan, line)).collect();
+        meet += !lines.is_empty() as u64;
+        for line in lines {
+            steps[match line.step {
+                oracle::Step::Add(..) => 0,
+                oracle::Step::Grow(..) => 1,
+                _ => 2,
+            }] += 1;
+        }
+    }
+    assert!(meet >= 1_600, "{meet}");
+    assert!(steps.iter().all(|count| *count >= 300), "{steps:?}");
 }

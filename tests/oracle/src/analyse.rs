@@ -371,6 +371,8 @@ pub struct Line {
     /// Exact up to u128::MAX, and not less than that where it stands.
     pub total: u128,
     pub exact: bool,
+    /// Whether starts and limit are single numbers.
+    pub single: bool,
     /// Its start range, or that of the difference or of the variable that is copied.
     pub start: Wide,
     /// Whether its total is a sum by change 9.
@@ -733,7 +735,7 @@ impl Walk<'_> {
         };
         let exact = a == b && counter.single;
         let summed = outer.is_some();
-        let line = Line { row: head, counted: counter.counted, step, turns, total, exact, start: counter.s, summed };
+        let line = Line { row: head, counted: counter.counted, step, turns, total, exact, single: counter.single, start: counter.s, summed };
         self.lines.push(line);
         let mut passes = counts_passes(l, &line).ok().map(|()| Passes { head, l: *l, first: counter.s[0], step: a, count: turns, round, ticks: 0 });
 

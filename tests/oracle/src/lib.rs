@@ -6,6 +6,7 @@ pub mod analyse;
 pub mod desk;
 pub mod expression;
 pub mod prices;
+pub mod reach;
 pub mod read;
 pub mod run;
 pub mod sheet;

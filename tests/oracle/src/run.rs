@@ -73,6 +73,19 @@ impl Listener for List {
     }
 }
 
+/// Where a run's picks come from.
+pub trait Picks {
+    /// The byte of the pick at this row, the one after so many that are used; None if there is none.
+    fn next(&mut self, row: usize, used: usize) -> Option<u8>;
+}
+
+impl Picks for &[u8] {
+    #[inline]
+    fn next(&mut self, _: usize, used: usize) -> Option<u8> {
+        self.get(used).copied()
+    }
+}
+
 /// Question 15.
 pub fn check_store(script: &Script, store: &[i32]) -> Result<(), Refusal> {
     for i in 0..script.vars.max(store.len()) {
@@ -88,11 +101,11 @@ pub fn check_store(script: &Script, store: &[i32]) -> Result<(), Refusal> {
 }
 
 /// The run of an accepted script from a store inside its ranges.
-pub fn run<E: Listener>(
+pub fn run<E: Listener, P: Picks>(
     script: &Script,
     prices: &Prices,
     store: &mut [i32; 16],
-    picks: &[u8],
+    mut picks: P,
     allowance: u64,
     listener: &mut E,
 ) -> Counts {
@@ -181,7 +194,7 @@ pub fn run<E: Listener>(
             }
             Row::Pick { middle, .. } => {
                 tick!(pick, r);
-                let Some(&byte) = picks.get(used) else {
+                let Some(byte) = picks.next(r, used) else {
                     end!(Ending::NoPick, r);
                 };
                 used += 1;

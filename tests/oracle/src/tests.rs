@@ -1,5 +1,6 @@
 use crate::*;
 
+mod reach;
 mod sheet;
 
 /// A script file of these ranges and rows.

@@ -7,7 +7,7 @@ mod triangles;
 use expressions::*;
 use triangles::{figures, Rules, RIGHT};
 use oracle::analyse::{analyse, analyse_by, copied, own_step, Term};
-use oracle::{read, report_into, report_text, run_counts, Counted, Ending, Plan, Refusal, Row, ONES};
+use oracle::{read, report_into, report_text, run_counts, Counted, Ending, Plan, Refusal, Row, Step, ONES};
 use std::borrow::Cow;
 use std::slice;
 use std::sync::OnceLock;
@@ -145,9 +145,26 @@ fn misread(file: &[u8], plan: &Result<Plan, Refusal>) -> Option<Result<Vec<u8>, 
             (copied(&rows, *head as usize, &l) == Err(Term::Sides)).then_some(Err((9, *head)))
         }
         // Without a mistake these figures are the oracle's.
-        Ok(plan) => Some(Ok(report_text(&figures(plan, rules())))),
+        Ok(plan) => Some(Ok(report_text(&figures(&too_many(plan), rules())))),
         _ => None,
     }
+}
+
+/// The plan with a turn too many for the loops of one kind.
+fn too_many(plan: &Plan) -> Plan {
+    let mut plan = plan.clone();
+    for line in plan.lines.iter_mut().filter(|line| line.turns > 0) {
+        let is_do = matches!(plan.script.rows[line.row], Row::Loop(l) if l.kind == read::Kind::Do);
+        let mistaken = match line.step {
+            // 80: for Add.  81: for Grow.  82: for Shrink.
+            Step::Add(..) => wrong(80),
+            Step::Grow(..) => wrong(81),
+            _ => wrong(82),
+        };
+        // 83: for a do.
+        line.turns += (mistaken || is_do && wrong(83)) as u64;
+    }
+    plan
 }
 
 /// The `end` row of the outermost block round a row.
