@@ -4,7 +4,7 @@
  * beside it says (a length of 0 may come with any non-null pointer), `place` to one number, `answer` to DIFTANEW_ANSWER numbers, and no two
  * of the lent parts overlap. Nothing else is asked.
  *
- * A call needs a scratch of 1,024 numbers and a stack of 36 KB (a report) or 40 KB (a run), no heap, and nothing else; it keeps no state. The
+ * A call needs a scratch of 1,024 numbers and a stack of 32 KB (a report) or 40 KB (a run), no heap, and nothing else; it keeps no state. The
  * scratch is measured and never touched: every number of it keeps its value, also past the first 1,024, where a patch list may lie. */
 #ifndef DIFTANEW_H
 #define DIFTANEW_H
@@ -25,12 +25,13 @@ extern "C" {
 /* No report is longer: a buffer of so many bytes holds every one. */
 #define DIFTANEW_REPORT 2089
 /* The bytes of stack that a report and a run need at most. */
-#define DIFTANEW_REPORT_STACK 36864
+#define DIFTANEW_REPORT_STACK 32768
 #define DIFTANEW_RUN_STACK 40960
 /* The numbers of a run's answer. */
 #define DIFTANEW_ANSWER 53
 
-/* Refusal numbers, in the words of document 01's questions; document 02's are 16, which is asked after 1 and before 2, and 17, after 3 on its line. */
+/* Refusal numbers, in the words of document 01's questions; document 02's are 16, which is asked after 1 and before 2, 17, after 3 on its line, and 19, of a
+ * hold in the place of 8 to 12. 18 is the program season's alone. */
 enum {
     DIFTANEW_ACCEPTED = 0,
     DIFTANEW_SCRATCH_SHORT = 1,   /* place: 1024 */
@@ -49,7 +50,8 @@ enum {
     DIFTANEW_BUFFER_SHORT = 14,   /* place: the report's length */
     DIFTANEW_STORE = 15,          /* place: the first index wrong, missing or extra */
     DIFTANEW_PRICE = 16,          /* place: the first price, from 0, that is wrong, missing or extra */
-    DIFTANEW_EXPRESSION = 17      /* place: the line; more than 8 parentheses open together or more than 15 operators in one expression */
+    DIFTANEW_EXPRESSION = 17,     /* place: the line; more than 8 parentheses open together or more than 15 operators in one expression */
+    DIFTANEW_HOLD = 19            /* place: the hold's head row; its body breaks the terms of held loops; asked before 8 on that loop */
 };
 
 /* How a run ends: answer[0]. */

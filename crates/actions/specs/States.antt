@@ -9,7 +9,7 @@ use Rattle.rules.specs.declared.Kind.{Kind}
 use Rattle.rules.specs.declared.Operand.{Operand}
 use Rattle.rules.specs.declared.Comparison.{Comparison}
 use Rattle.rules.specs.declared.Ending.{Ending}
-use Rattle.rules.specs.Blocks.{exprOf, kindOf, RowKind, from, Plain, assign, Test, test, Form, while, do-while, for, Last, no-step, step-by, View, is-plain, is-pick, is-else, is-end, is-loop, viewAt}
+use Rattle.rules.specs.Blocks.{exprOf, kindOf, RowKind, from, Plain, assign, Test, test, Form, while, do-while, hold, for, Last, no-step, step-by, View, is-plain, is-pick, is-else, is-end, is-loop, viewAt}
 use Rattle.rules.specs.declared.Prices.{Prices}
 use Rattle.rules.specs.Run.{State, charge, write, exec}
 use Rattle.rules.specs.RowMachine.{Tally, tallyOf, begin, Phase, fresh, testing, Place, Next, more, over, to, outcome, paid, picked, tests, onEnd, onRow}
@@ -91,6 +91,7 @@ forTo π i e v y d x false s c = andTests π i e (test v d x) (plainTo π i (ass
 abbrev pub started : Prices → Form → Phase → ℕ → ℕ → Test → Next → Next
 started π while ph h e t n = n
 started π do-while ph h e t n = n
+started π hold ph h e t n = n
 started π (for x) fresh h e t n = andTests π h e t n
 started π (for x) testing h e t n = n
 

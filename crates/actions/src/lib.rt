@@ -13,9 +13,9 @@ ghost use lib.Dec.{eqb};
 ghost use mathlib.Core.List.{List};
 ghost use Prim.Native.Nat.{ℕ, _+_, _≤_, _<_, _^_, max};
 ghost use lib.ListN.{length};
-ghost use lib.IntN.{ℤ};
+ghost use lib.IntN.{ℤ, pos};
 ghost use Rattle.rules.specs.Values.{compares};
-ghost use Rattle.rules.specs.Blocks.{from, changed, assign, cue, test, exprOf};
+ghost use Rattle.rules.specs.Blocks.{from, changed, off, assign, cue, test, exprOf};
 ghost use Rattle.rules.specs.Written.{WrittenOperand};
 ghost use Rattle.rules.specs.RowMachine.{Tally, tallyOf, turn, tests};
 ghost use Rattle.rules.specs.Scripts.{storeOf, ExprBelow, ChangeLimits};
@@ -142,6 +142,35 @@ pub fn move_row(
     let x = values::stored(v, store);
     let z = values::changed(change, x);
     put(m, prices.arithmetic, at, v, z, row, testing, store)
+}
+
+// What an off's flag v holds after it: 0 if the comparison of w with k is true.
+fn held(v: u8, w: u8, comparison: Comparison, k: i32, store: &[i32]) -> i64
+    requires { ⌜ (v < length (now store)) × (w < length (now store)) ⌝ }
+    ensures { λ r. ⌜ r ≡ cond (compares comparison (storeOf (now (store .entry)) w) k) (pos 0) (storeOf (now (store .entry)) v) ⌝ }
+{
+    if passes(w, comparison, k as i64, store) {
+        return 0;
+    }
+    values::stored(v, store) as i64
+}
+
+// `off`.
+pub fn off_row(
+    m: Machine,
+    prices: Prices,
+    v: u8,
+    w: u8,
+    comparison: Comparison,
+    k: i32,
+    store: &mut [i32],
+) -> Machine
+    requires { ⌜ (m .row < 256) × (v < length (now store)) × (w < length (now store)) ⌝ }
+    ensures { λ r. ⌜ ((c : Tally) → Acts m r (now (store .entry)) (now (store .exit)) c c (plainTo prices (m .row) (assign v (off w comparison k)) (m .row + 1) false)) ⌝ }
+{
+    let z = held(v, w, comparison, k, store);
+    let at = m.row;
+    put(m, prices.arithmetic, at, v, z, at + 1, false, store)
 }
 
 // A cue.

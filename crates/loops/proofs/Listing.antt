@@ -138,6 +138,8 @@ module _ (text text′ : List ℕ) where
   same-loop (Kind.While v c x) = refl
   same-loop (Kind.Do v c x) = refl
   same-loop (Kind.For v s c x d) = refl
+  same-loop (Kind.Off v w c k) = refl
+  same-loop (Kind.Hold v) = refl
 
   pub same-heads : (i n : ℕ) (rows : List Row) → loopRows i (take n (kindsOf text rows)) ≡ loopRows i (take n (kindsOf text′ rows))
   unfolding loopRows kindsOf

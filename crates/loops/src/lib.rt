@@ -47,6 +47,8 @@ fn is_loop(kind: Kind) -> bool
         Kind::While(_, _, _) => true,
         Kind::Do(_, _, _) => true,
         Kind::For(_, _, _, _, _) => true,
+        Kind::Off(_, _, _, _) => false,
+        Kind::Hold(_) => true,
     }
 }
 

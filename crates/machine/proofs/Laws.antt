@@ -11,7 +11,7 @@ use Rattle.rules.specs.declared.Kind.the-variants.{While, Do, For}
 use Rattle.rules.specs.declared.Operand.{Operand}
 use Rattle.rules.specs.declared.Comparison.{Comparison}
 use Rattle.rules.specs.declared.Change.{Change}
-use Rattle.rules.specs.Blocks.{RowKind, exprOf, kindOf, from, assign, Plain, Test, test, while, do-while, for, Last, View, is-plain, is-pick, is-else, is-end, is-loop, viewAt}
+use Rattle.rules.specs.Blocks.{RowKind, exprOf, kindOf, from, assign, Plain, Test, test, while, do-while, hold, for, Last, View, is-plain, is-pick, is-else, is-end, is-loop, viewAt}
 use Rattle.rules.specs.Run.{State}
 use Rattle.rules.specs.declared.Prices.{Prices}
 use Rattle.rules.specs.RowMachine.{Tally, Next, begin, turn, fresh, to, tests, onRow}
@@ -84,6 +84,10 @@ module _ (π : Prices) (rows : List RowKind) (shut opener : ℕ → ℕ) (i e h 
   pub at-while : (t : Test) (l : Last) (b : Bool) → tests π i e t s (begin i c) ≡ at-row (is-loop while t l) b
   unfolding onRow
   at-while t l b = ap (λ z. tests π i z t s (begin i c)) (sym (fit .shuts))
+
+  pub at-hold : (t : Test) (l : Last) (b : Bool) → tests π i e t s (begin i c) ≡ at-row (is-loop hold t l) b
+  unfolding onRow
+  at-hold t l b = ap (λ z. tests π i z t s (begin i c)) (sym (fit .shuts))
 
   pub at-do : (t : Test) (l : Last) (b : Bool) → to (suc i) fresh s (turn i (begin i c)) ≡ at-row (is-loop do-while t l) b
   unfolding onRow

@@ -7,13 +7,42 @@ use rules::Prices;
 use rules::Row;
 ghost use mathlib.Core.Path.{_≡_};
 ghost use mathlib.Core.List.{List};
-ghost use Prim.Native.Nat.{ℕ};
+ghost use Prim.Native.Nat.{ℕ, _<_};
 ghost use lib.ListN.{length};
 ghost use Rattle.rules.specs.Scripts.{ExprBelow};
-ghost use Rattle.rules.specs.Blocks.{RowKind, viewOf, exprOf, kindOf};
+ghost use Rattle.rules.specs.Blocks.{RowKind, holdTest, viewOf, exprOf, kindOf};
 ghost use Rattle.rules.specs.Written.{WrittenOperand};
-ghost use Rattle.rules.specs.RowMachine.{tallyOf};
-ghost use Rattle.actions.specs.States.{endTo, forTo, rowTo, phaseOf, Acts, Steps, Testable, Doable, Fitting};
+ghost use Rattle.rules.specs.RowMachine.{tallyOf, tests};
+ghost use Rattle.actions.specs.States.{endTo, forTo, rowTo, phaseOf, Acts, Steps, Room, Testable, Doable, Fitting};
+
+// The test of a hold: is its flag not 0?
+fn flag_row(
+    m: Machine,
+    prices: Prices,
+    h: usize,
+    e: usize,
+    v: u8,
+    text: &[u8],
+    store: &[i32],
+    counts: &mut [[u64; 3]; 256],
+) -> Machine
+    requires { ⌜ (h < 256) × (e < 256) × (v < length (now store)) × Room (now counts) ⌝ }
+    ensures { λ r. ⌜ Acts m r (now (store .entry)) (now (store .entry)) (tallyOf (now (counts .entry))) (tallyOf (now (counts .exit))) (tests prices h e (holdTest v)) × (length (now (counts .exit)) ≡ 256) ⌝ }
+{
+    let zero = Operand::Constant(0);
+    actions::test_row(
+        m,
+        prices,
+        h,
+        e,
+        v,
+        Comparison::Different,
+        zero,
+        text,
+        store,
+        counts,
+    )
+}
 
 // The `end` of the block that row h begins: a loop's step, if it is a for that has not stepped yet, and its test.
 fn end_row(
@@ -51,6 +80,8 @@ fn end_row(
         }
         Kind::Do(v, c, x) => actions::test_row(m, prices, h, e, v, c, x, text, store, counts),
         Kind::While(v, c, x) => actions::test_row(m, prices, h, e, v, c, x, text, store, counts),
+        Kind::Off(_, _, _, _) => actions::on(m, m.left, e + 1, false),
+        Kind::Hold(v) => flag_row(m, prices, h, e, v, text, store, counts),
     }
 }
 
@@ -118,5 +149,10 @@ pub fn step(
             actions::on(m, m.left, i + 1, false)
         }
         Kind::For(v, y, c, x, _) => for_row(m, e, v, y, c, x, prices, text, store, counts),
+        Kind::Off(v, w, c, k) => actions::off_row(m, prices, v, w, c, k, store),
+        Kind::Hold(v) => {
+            actions::begin(i, counts);
+            flag_row(m, prices, i, e, v, text, store, counts)
+        }
     }
 }

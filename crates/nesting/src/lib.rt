@@ -169,5 +169,10 @@ pub fn nest_row(kind: Kind, b: Blocks) -> Placed
         Kind::While(_, _, _) => open_loop(b),
         Kind::Do(_, _, _) => open_loop(b),
         Kind::For(_, _, _, _, _) => open_loop(b),
+        Kind::Off(_, _, _, _) => Placed {
+            number: 0,
+            blocks: b,
+        },
+        Kind::Hold(_) => open_loop(b),
     }
 }

@@ -64,6 +64,8 @@ fn pair_row(
         Kind::While(_, _, _) => push(j, depth, stack),
         Kind::Do(_, _, _) => push(j, depth, stack),
         Kind::For(_, _, _, _, _) => push(j, depth, stack),
+        Kind::Off(_, _, _, _) => depth,
+        Kind::Hold(_) => push(j, depth, stack),
     }
 }
 

@@ -8,7 +8,7 @@ use Rattle.rules.specs.Values.{upward}
 use Rattle.rules.specs.Blocks.{Test, Form, Block}
 use Rattle.rules.specs.Steps.{isAdd, step}
 use Rattle.rules.specs.Ranges.{Env, ordered, sort}
-use Rattle.rules.specs.Trips.{Way, own, copied, chase, isOwn, wayOf, isExact, Trip, tripBy, trip, turnsOf, turns}
+use Rattle.rules.specs.Trips.{Way, own, broken, copied, chase, watched, isOwn, wayOf, isExact, Trip, tripBy, trip, turnsOf, turns}
 use Rattle.rules.specs.Passes.{Pass, any, valued, sumOver, sums, fromConstant, isAlone, triangle, upTo, turnsIn}
 use Rattle.rules.specs.Figures as figures
 use Rattle.rules.proofs.Triangles.{own-trip}
@@ -25,6 +25,8 @@ module _ (form : Form) (ρ : Env) (test : Test) (body : Block) where
       by own = refl
       by (copied w ahead) = refl
       by (chase w) = refl
+      by (watched w c k ahead) = refl
+      by broken = refl
 
   triangle-is : (v : ℕ) → triangle v form test body ≡ triangleBy form (test .limit) (trip form ρ test body) v
   unfolding triangle tripBy
@@ -34,6 +36,8 @@ module _ (form : Form) (ρ : Env) (test : Test) (body : Block) where
       by own = refl
       by (copied w ahead) = refl
       by (chase w) = refl
+      by (watched w c k ahead) = refl
+      by broken = refl
 
   turns-is : (j : Pass) → turnsIn j form ρ test body ≡ turnsBy j form (test .limit) (trip form ρ test body) (turns form ρ test body)
   unfolding turnsIn turnsBy triangle

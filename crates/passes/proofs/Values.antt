@@ -22,11 +22,11 @@ use Rattle.rules.specs.Expressions.{Expr}
 use Rattle.rules.specs.Values.{upward}
 use Rattle.rules.specs.Blocks.{Form}
 use Rattle.rules.specs.Steps.{isAdd, firstEnd}
-use Rattle.rules.specs.Ranges.{Range, edge, sort, ordered}
+use Rattle.rules.specs.Ranges.{Range, edge, sort, ordered, suits}
 use Rattle.rules.specs.Turns.{climb}
 use Rattle.rules.specs.Trips.{Trip, isExact}
 use Rattle.rules.specs.Passes.{any, valued, sum, sumOver, fromConstant}
-use Rattle.rules.specs.Questions.{asked, suits, loopVerdict, ofTrip}
+use Rattle.rules.specs.Questions.{asked, loopVerdict, ofTrip}
 use Rattle.rules.proofs.Triangles.{over-same}
 use Rattle.moves.proofs.Few.{climb-few}
 use Rattle.trips.specs.declared.Counter.{Counter}
@@ -34,7 +34,7 @@ use Rattle.trips.specs.declared.Trip as code
 use Rattle.trips.specs.Found.{startOf, freeOf, tripOf}
 use Rattle.ticks.specs.Capped.{capped}
 use Rattle.passes.specs.declared.Round.{Round}
-use Rattle.passes.specs.Rounds.{roundOf, passIn, FineRound, sumsBy, triangleBy, climbTo, turnsBy, walkedBy, Rises, bodyOf}
+use Rattle.passes.specs.Rounds.{roundOf, passIn, FineRound, isBase, sumsBy, triangleBy, climbTo, turnsBy, walkedBy, Rises, bodyOf}
 
 -- ---- Booleans
 pub no-not : {b : Bool} → not b ≡ true → b ≡ false
@@ -99,7 +99,7 @@ edge-on Different h x y = absurd (false≢true h)
 
 own-start : (c : Counter) → not (freeOf c) ≡ true → (s n : Range) → startOf c s n ≡ s
 own-start Counter.Own h s n = refl
-own-start Counter.Copy h s n = absurd (false≢true h)
+own-start Counter.Other h s n = absurd (false≢true h)
 own-start Counter.Difference h s n = absurd (false≢true h)
 
 pub sum-is : (t : code.Trip) → Rises t → (x a : ℤ) (n : ℕ)
@@ -143,14 +143,14 @@ asked-rest n p false v h = absurd (let z : _≡_ {A = ℕ} 0 1 = cc in omega ari
 
 passed-suits : (i : ℕ) (τ : Trip) → ofTrip i τ ≡ passed → suits (τ .step) (sort (τ .comparison)) ≡ true
 unfolding loopVerdict
-passed-suits i τ h = asked-first 11 i _ _ (asked-rest 10 i _ _ (asked-rest 9 i _ _ (asked-rest 8 i _ _ h)))
+passed-suits i τ h = asked-first 11 i _ _ (asked-rest 10 i _ _ (asked-rest 9 i _ _ (asked-rest 8 i _ _ (asked-rest 19 i _ _ h))))
 
 pub rises : (t : code.Trip) (form : Form) (limit : Expr) (v : ℕ) → Ends 512 (t .step) → ofTrip 0 (tripOf t) ≡ passed → triangleBy form limit (tripOf t) v ≡ true → Rises t
 rises t form limit v near h k =
     let a = and-right (fromConstant form) _ k in
-    let b = and-right (not (freeOf (t .counter))) _ a in
+    let b = and-right (isBase (tripOf t)) _ a in
     let d = and-right (isAdd (t .step)) _ b in
-    record { own = and-left (not (freeOf (t .counter))) _ a; add = and-left (isAdd (t .step)) _ b; up = and-left (upward (t .comparison)) _ d; suits = passed-suits 0 (tripOf t) h; near = near }
+    record { own = and-left (not (freeOf (t .counter))) _ (and-left (isBase (tripOf t)) _ a); add = and-left (isAdd (t .step)) _ b; up = and-left (upward (t .comparison)) _ d; suits = passed-suits 0 (tripOf t) h; near = near }
 
 pub step-up : (st : Step) (c : Comparison) → isAdd st ≡ true → upward c ≡ true → suits st (sort c) ≡ true → pos 1 ≤ℤ firstEnd st
 unfolding isAdd firstEnd suits
@@ -176,13 +176,13 @@ far-more z h = omega ints
 -- ---- the passes of a loop's body
 module _ (t : code.Trip) (v n total : ℕ) (r : Round) where
   pub body-adds : sumsBy (tripOf t) n ≡ true → isAdd (t .step) ≡ true
-  body-adds h = and-left (isAdd (t .step)) _ (and-right (isExact (tripOf t)) _ (and-right (not (freeOf (t .counter))) _ h))
+  body-adds h = and-left (isAdd (t .step)) _ (and-right (isExact (tripOf t)) _ (and-right (isBase (tripOf t)) _ h))
 
   pub body-yes : sumsBy (tripOf t) n ≡ true → v < 16 → (o : ℕ) → o ≡ capped (r .count * r .times) → (a : ℤ) → a ≡ firstEnd (t .step) → Near 512 a
       → let q : Round = record { count = n; by = a; times = o; x = t .start .lo; v = v; known = true } in (q ≡ bodyOf (tripOf t) v n total r) × FineRound q
   body-yes h w o p a e near =
-      let own = and-left (not (freeOf (t .counter))) _ h in
-      let few = and-right (ordered (sort (t .comparison))) _ (and-right (isAdd (t .step)) _ (and-right (isExact (tripOf t)) _ (and-right (not (freeOf (t .counter))) _ h))) in
+      let own = and-left (not (freeOf (t .counter))) _ (and-left (isBase (tripOf t)) _ h) in
+      let few = and-right (ordered (sort (t .comparison))) _ (and-right (isAdd (t .step)) _ (and-right (isExact (tripOf t)) _ (and-right (isBase (tripOf t)) _ h))) in
       let s : Range = record { lo = t .start .lo; hi = t .start .hi } in
       let z = sym (own-start (t .counter) own s (record { lo = t .limit .lo; hi = t .limit .hi })) in (
         (λ j. record { count = n; by = e j; times = p j; x = z j .lo; v = v; known = true }) ∙ sym (ap (λ b. cond b (record { count = n; by = firstEnd (t .step); times = capped (r .count * r .times); x = tripOf t .start .lo; v = v; known = true }) no) h),

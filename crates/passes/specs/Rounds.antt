@@ -9,12 +9,11 @@ use Rattle.rules.specs.Expressions.{Expr}
 use Rattle.rules.specs.Values.{upward}
 use Rattle.rules.specs.Blocks.{Form}
 use Rattle.rules.specs.Steps.{isAdd, firstEnd}
-use Rattle.rules.specs.Ranges.{edge, sort, ordered}
+use Rattle.rules.specs.Ranges.{edge, sort, ordered, suits}
 use Rattle.rules.specs.Turns.{climb}
 use Rattle.rules.specs.Trips.{Trip, isExact}
 use Rattle.rules.specs.Passes.{Pass, any, valued, sumOver, fromConstant, isAlone}
 use Rattle.rules.specs.Figures as figures
-use Rattle.rules.specs.Questions.{suits}
 use Rattle.trips.specs.declared.Trip as code
 use Rattle.trips.specs.Found.{freeOf}
 use Rattle.ticks.specs.Capped.{capped}
@@ -35,13 +34,17 @@ pub record FineRound (r : Round) : Type 0 where
   pub small : r .times ≤ 1_000_000_000_001
   pub var : r .v < 16
 
+-- a base kind
+abbrev pub isBase : Trip → Bool
+isBase τ = not (τ .free) && τ .terms
+
 -- the loop sums
 abbrev pub sumsBy : Trip → ℕ → Bool
-sumsBy τ n = not (τ .free) && (isExact τ && (isAdd (τ .step) && (ordered (sort (τ .comparison)) && leb n 4_096)))
+sumsBy τ n = isBase τ && (isExact τ && (isAdd (τ .step) && (ordered (sort (τ .comparison)) && leb n 4_096)))
 
 -- it is a triangle over v
 abbrev pub triangleBy : Form → Expr → Trip → ℕ → Bool
-triangleBy form limit τ v = fromConstant form && (not (τ .free) && (isAdd (τ .step) && (upward (τ .comparison) && isAlone v limit)))
+triangleBy form limit τ v = fromConstant form && (isBase τ && (isAdd (τ .step) && (upward (τ .comparison) && isAlone v limit)))
 
 -- its turns up to x
 abbrev pub climbTo : Trip → ℤ → ℕ

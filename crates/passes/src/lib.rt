@@ -53,13 +53,13 @@ fn both(a: bool, b: bool) -> bool
     if a { b } else { false }
 }
 
-// A base kind: turns are counted by the tested variable's own step.
-fn is_own(counter: Counter) -> bool
-    ensures { λ r. ⌜ r ≡ not (freeOf counter) ⌝ }
+// A base kind: turns are counted by the tested variable's own step, and it is no hold that breaks its terms.
+fn is_base(counter: Counter, terms: bool) -> bool
+    ensures { λ r. ⌜ r ≡ not (freeOf counter) && terms ⌝ }
 {
     match counter {
-        Counter::Own => true,
-        Counter::Copy => false,
+        Counter::Own => terms,
+        Counter::Other => false,
         Counter::Difference => false,
     }
 }
@@ -72,7 +72,8 @@ fn sums(trip: Trip, turns: u64) -> bool
     let comparison = trip.comparison;
     let counter = trip.counter;
     let few = both(ordered(comparison), turns <= 4_096);
-    both(is_own(counter), both(exact(trip), both(is_add(step), few)))
+    let base = is_base(counter, trip.terms);
+    both(base, both(exact(trip), both(is_add(step), few)))
 }
 
 fn is_constant(x: Operand) -> bool
@@ -120,10 +121,8 @@ fn triangle(kind: Kind, trip: Trip, v: u8) -> bool
     match kind {
         Kind::For(_, s, _, x, _) => {
             let up = both(upward(comparison), is_alone(v, x));
-            both(
-                is_constant(s),
-                both(is_own(counter), both(is_add(step), up)),
-            )
+            let base = is_base(counter, trip.terms);
+            both(is_constant(s), both(base, both(is_add(step), up)))
         }
         _ => false,
     }

@@ -23,7 +23,7 @@ use Rattle.table.specs.Code.{kindBy, variableIn, startIn, stepIn}
 use Rattle.table.specs.Shapes.{shapeOf, plainOf}
 use Rattle.table.proofs.Tag.{the-type}
 use Rattle.trips.specs.Env.{envOf}
-use Rattle.ranges.specs.Env.{upTo, joinRange, changedRange}
+use Rattle.ranges.specs.Env.{upTo, joinRange, withZero, changedRange}
 
 abbrev two : ℤ → ℤ → List ℤ
 two lo hi = lo ∷ (hi ∷ [])
@@ -88,7 +88,7 @@ module _ (a b : List (List ℤ)) where
   unfolding join minZ maxZ
   join-far p q w h = rw (env-far a w (omega arith), env-far b w (omega arith))
 
--- a plain row by its tag: a set, a change, any other
+-- a plain row by its tag: a set, a change, an off, any other
 module _ (text : List ℕ) (ρ : Env) (e : List ℕ) where
   pub after-set : {v : ℕ} {x : Operand} {s : Range} → v ≡ variableIn e → x ≡ startIn e → s ≡ bounds ρ (exprOf text x) → put ρ v s ≡ afterRow ρ (plainOf text (kindBy Tag.Set e))
   unfolding afterRow sourceRange kindBy viewOf kindOf
@@ -98,8 +98,12 @@ module _ (text : List ℕ) (ρ : Env) (e : List ℕ) where
   unfolding afterRow sourceRange changedRange kindBy viewOf kindOf
   after-move p q r u = rw (u, r, p, q)
 
+  pub after-off : {v : ℕ} {s x : Range} → v ≡ variableIn e → s ≡ ρ v → x ≡ withZero s → put ρ v x ≡ afterRow ρ (plainOf text (kindBy Tag.Off e))
+  unfolding afterRow sourceRange kindBy viewOf kindOf
+  after-off p r u = rw (u, r, p)
+
   abbrev other : List ℕ
-  other = 0 ∷ 1 ∷ 2 ∷ 5 ∷ 6 ∷ 7 ∷ 8 ∷ []
+  other = 0 ∷ 1 ∷ 2 ∷ 5 ∷ 6 ∷ 7 ∷ 8 ∷ 10 ∷ []
 
   pub after-other : (g : Tag) → OneOf other (tagOf the-type g) → shapeOf (kindBy g e) ≡ Shape.Plain → ρ ≡ afterRow ρ (plainOf text (kindBy g e))
   unfolding afterRow kindBy viewOf kindOf
@@ -112,3 +116,5 @@ module _ (text : List ℕ) (ρ : Env) (e : List ℕ) where
   after-other Tag.While o h = refl
   after-other Tag.Do o h = refl
   after-other Tag.For o h = absurd (let z : _≡_ {A = ℕ} 0 1 = cc in omega arith)
+  after-other Tag.Off o h = absurd (miss other 9 tt o)
+  after-other Tag.Hold o h = refl

@@ -4,7 +4,7 @@ use mathlib.Core.Bool.{Bool, cond}
 use mathlib.Core.List.{List}
 use Prim.Native.Nat.{ℕ}
 use lib.Dec.{ltb, eqb}
-use lib.IntN.{ℤ}
+use lib.IntN.{ℤ, pos}
 use lib.ListN.{length}
 use Rattle.ints.specs.Ints.{minZ, maxZ, drawn}
 use Rattle.rules.specs.declared.Row.{Row}
@@ -31,6 +31,10 @@ upTo i σ ρ w = cond (ltb w i) (σ w) (ρ w)
 -- the smaller low end, the larger high end
 abbrev pub joinRange : Range → Range → Range
 joinRange r s = record { lo = minZ (r .lo) (s .lo); hi = maxZ (r .hi) (s .hi) }
+
+-- widened by 0
+abbrev pub withZero : Range → Range
+withZero r = record { lo = minZ (r .lo) (pos 0); hi = maxZ (r .hi) (pos 0) }
 
 -- an arithmetic row applied to both ends
 unfoldable pub changedRange : Change → Range → Range

@@ -39,7 +39,7 @@ ghost use Rattle.steps.specs.Sets.{setOf};
 ghost use Rattle.steps.specs.Body.{AtLoop};
 ghost use Rattle.trips.specs.Env.{envOf, rangeOf};
 ghost use Rattle.trips.specs.Found.{tripOf};
-ghost use Rattle.ranges.specs.Env.{EnvIs, joinRange, changedRange, widenedEnv, widened, AfterLoop};
+ghost use Rattle.ranges.specs.Env.{EnvIs, joinRange, withZero, changedRange, widenedEnv, widened, AfterLoop};
 
 // s for v; the other ranges stay.
 fn put(r: &mut [[i32; 2]; 16], v: u8, s: Span)
@@ -70,6 +70,16 @@ fn joined_span(x: Span, y: Span) -> Span
     Span {
         lo: lower(x.lo, y.lo),
         hi: higher(x.hi, y.hi),
+    }
+}
+
+// A range widened by 0.
+fn with_zero(s: Span) -> Span
+    ensures { λ r. ⌜ rangeOf r ≡ withZero (rangeOf s) ⌝ }
+{
+    Span {
+        lo: lower(s.lo, 0),
+        hi: higher(s.hi, 0),
     }
 }
 
@@ -133,6 +143,11 @@ pub fn step_row(text: &[u8], r: &mut [[i32; 2]; 16], rows: &[[u32; 9]; 256], i: 
             let s = changed_span(span_at(r, v), change_at(rows, i));
             put(r, v, s);
         }
+        Tag::Off => {
+            let v = variable_at(rows, i);
+            let s = with_zero(span_at(r, v));
+            put(r, v, s);
+        }
         _ => {}
     }
 }
@@ -168,7 +183,7 @@ fn chosen(own: bool, changes: bool, mine: Span, old: Span) -> Span
 }
 
 // Over a loop whose body assigns a set of variables, with its tested variable's range.
-fn widen(r: &mut [[i32; 2]; 16], set: [bool; 16], mine: Span, v: u8)
+pub fn widen(r: &mut [[i32; 2]; 16], set: [bool; 16], mine: Span, v: u8)
     requires { ⌜ (v < 16) × (length (now r) ≡ 16) ⌝ }
     ensures { λ _. ⌜ EnvIs (now (r .exit)) (widenedEnv (setOf set) (rangeOf mine) v (envOf (now (r .entry)))) ⌝ }
 {
@@ -235,7 +250,7 @@ fn inner(trip: Trip) -> Span
     let counter = trip.counter;
     match counter {
         Counter::Own => inside_span(trip.late, comparison, start, limit),
-        Counter::Copy => FULL,
+        Counter::Other => FULL,
         Counter::Difference => FULL,
     }
 }
@@ -274,10 +289,7 @@ fn by_step(step: Step, up: bool, s: Span) -> Span
             lo: s.lo,
             hi: 1_000_000_000,
         },
-        Step::Shrink(_, _) => Span {
-            lo: lower(s.lo, 0),
-            hi: higher(s.hi, 0),
-        },
+        Step::Shrink(_, _) => with_zero(s),
         Step::Unknown => FULL,
     }
 }
@@ -297,7 +309,7 @@ fn outside_span(step: Step, comparison: Comparison, s: Span) -> Span
 }
 
 // The tested variable of a trip after the loop.
-fn outer(trip: Trip) -> Span
+pub fn outer(trip: Trip) -> Span
     ensures { λ r. ⌜ rangeOf r ≡ outerOf (tripOf trip) ⌝ }
 {
     let step = trip.step;
@@ -306,7 +318,7 @@ fn outer(trip: Trip) -> Span
     let counter = trip.counter;
     match counter {
         Counter::Own => outside_span(step, comparison, start),
-        Counter::Copy => FULL,
+        Counter::Other => FULL,
         Counter::Difference => FULL,
     }
 }

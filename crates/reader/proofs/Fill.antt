@@ -21,7 +21,7 @@ use Rattle.rules.specs.Written.{Written}
 use Rattle.rules.specs.Nesting.{nestRow}
 use Rattle.rules.specs.Ranges.{Range}
 use Rattle.rules.specs.Text.{wordsOf, nextTexts, nextLines}
-use Rattle.rules.specs.File.{RowRead, Read, Wrong, Reading, read, refused, Rows, checked, bareRow, setRow, moveRow, cueRow, whileRow, doRow, forRow, namedRow, firstWord, wordsRow, rowOf, rowKey, rangeLines, placed, rowLine, rowLines, noRows}
+use Rattle.rules.specs.File.{RowRead, Read, Wrong, Reading, read, refused, Rows, checked, bareRow, setRow, moveRow, offRow, cueRow, whileRow, doRow, forRow, holdRow, namedRow, firstWord, wordsRow, rowOf, rowKey, rangeLines, placed, rowLine, rowLines, noRows}
 use Rattle.rules.specs.File
 use Rattle.rules.proofs.Laws.{kinds-more, pairs-length, pairs-set}
 use Rattle.text.specs.Words.{before}
@@ -101,12 +101,13 @@ three : (q : ℕ) → Wrong 3 ≡ Wrong q → q ≡ 0 → ⊥
 three q e z = let y : _≡_ {A = ℕ} 3 q = cc in omega arith
 
 named-wrong : (vars : ℕ) (w : ℕ → Word) (x : ℕ → Parsed) (n : Name) (q : ℕ) → namedRow vars w x n ≡ Wrong q → q ≡ 0 → ⊥
-unfolding setRow moveRow cueRow bareRow whileRow doRow forRow
+unfolding setRow moveRow offRow cueRow bareRow whileRow doRow forRow holdRow
 named-wrong vars w x Name.Set q e = nonzero _ _ q e
 named-wrong vars w x Name.Add q e = nonzero _ _ q e
 named-wrong vars w x Name.Sub q e = nonzero _ _ q e
 named-wrong vars w x Name.Mul q e = nonzero _ _ q e
 named-wrong vars w x Name.Div q e = nonzero _ _ q e
+named-wrong vars w x Name.Off q e = nonzero _ _ q e
 named-wrong vars w x Name.Cue q e = nonzero _ _ q e
 named-wrong vars w x Name.Pick q e = nonzero _ _ q e
 named-wrong vars w x Name.Else q e = nonzero _ _ q e
@@ -114,6 +115,7 @@ named-wrong vars w x Name.End q e = nonzero _ _ q e
 named-wrong vars w x Name.While q e = nonzero _ _ q e
 named-wrong vars w x Name.Do q e = nonzero _ _ q e
 named-wrong vars w x Name.For q e = nonzero _ _ q e
+named-wrong vars w x Name.Hold q e = nonzero _ _ q e
 
 first-wrong : (vars : ℕ) (w : ℕ → Word) (x : ℕ → Parsed) (y : Word) (q : ℕ) → firstWord vars w x y ≡ Wrong q → q ≡ 0 → ⊥
 first-wrong vars w x Missing q e = three q e

@@ -26,7 +26,7 @@ use Rattle.rules.specs.Text.{wordOf, wordsOf}
 use Rattle.rules.specs.Parse.{Parsed, parsed, shapeless, parse, exprIn, depth, operators}
 use Rattle.rules.specs.Values.{lowest, highest}
 use Rattle.rules.specs.Written.{Composed, InText, WrittenOperand, Written}
-use Rattle.rules.specs.File.{RowRead, Read, Wrong, sooner, asksEnd, asksNumber, asksVariable, asksSize, asksLeaves, asksExpr, asksChange, asksStep, asksOne, asksTest, asksFor, checked, variableOf, comparisonOf, numberOf, changeOf, stepOf, setRow, moveRow, cueRow, bareRow, whileRow, doRow, forRow, namedRow, firstWord, wordsRow, rowOf}
+use Rattle.rules.specs.File.{RowRead, Read, Wrong, sooner, asksEnd, asksNumber, asksVariable, asksSize, asksLeaves, asksExpr, asksChange, asksStep, asksOne, asksTest, asksFor, checked, variableOf, comparisonOf, numberOf, changeOf, stepOf, setRow, moveRow, offRow, cueRow, bareRow, whileRow, doRow, forRow, holdRow, namedRow, firstWord, wordsRow, rowOf}
 use Rattle.rules.proofs.Name.{the-type}
 use Rattle.rules.proofs.Word as word
 use Rattle.rules.proofs.Reading.{variable-yes, number-yes, sooner-yes}
@@ -84,7 +84,7 @@ number-wider lo hi low high Other a b e = e
 
 -- the names that are no arithmetic row's, by their places in `Name`
 abbrev others : List ℕ
-others = 0 ∷ 5 ∷ 6 ∷ 7 ∷ 8 ∷ 9 ∷ 10 ∷ 11 ∷ []
+others = 0 ∷ 5 ∷ 6 ∷ 7 ∷ 8 ∷ 9 ∷ 10 ∷ 11 ∷ 12 ∷ 13 ∷ []
 
 pub no-change : (n : Name) (w : Word) → OneOf others (tagOf the-type n) → (3 ≡ asksChange n w) × (Change.Add 0 ≡ changeOf n w)
 no-change Name.Set w o = (refl, refl)
@@ -92,6 +92,7 @@ no-change Name.Add w o = absurd (miss others 1 tt o)
 no-change Name.Sub w o = absurd (miss others 2 tt o)
 no-change Name.Mul w o = absurd (miss others 3 tt o)
 no-change Name.Div w o = absurd (miss others 4 tt o)
+no-change Name.Off w o = (refl, refl)
 no-change Name.Cue w o = (refl, refl)
 no-change Name.Pick w o = (refl, refl)
 no-change Name.Else w o = (refl, refl)
@@ -99,6 +100,7 @@ no-change Name.End w o = (refl, refl)
 no-change Name.While w o = (refl, refl)
 no-change Name.Do w o = (refl, refl)
 no-change Name.For w o = (refl, refl)
+no-change Name.Hold w o = (refl, refl)
 
 -- words of other kinds than the one that is asked for, by their places in `Word`
 abbrev no-numbers : List ℕ
@@ -145,7 +147,7 @@ no-keyword (Compares c) o = (λ _. (refl, refl), λ _ _ _. refl)
 no-keyword (Keyword n) o = absurd (miss no-keywords 4 tt o)
 no-keyword Other o = (λ _. (refl, refl), λ _ _ _. refl)
 
--- a row's words, whose questions all have yes: of two words, of a test, of a for
+-- a row's words, whose questions all have yes: of two words, of a test, of four words, of a for
 pub two-yes : (a b c q : ℕ) → q ≡ sooner a (sooner b c) → q ≡ 0 → (a ≡ 0) × (b ≡ 0) × (c ≡ 0)
 two-yes a b c q e z =
     let (f, g) = sooner-yes _ _ (sym e ∙ z) in
@@ -158,6 +160,12 @@ test-yes vars w x q e z =
     let (a, _, b) = two-yes _ _ _ q e z in
     let (c, d) = sooner-yes _ _ b in
     (a, c, d)
+
+pub four-yes : (a b c d e q : ℕ) → q ≡ sooner a (sooner b (sooner c (sooner d e))) → q ≡ 0 → (a ≡ 0) × (b ≡ 0) × (e ≡ 0)
+four-yes a b c d e q h z =
+    let (f, g, i) = two-yes _ _ _ q h z in
+    let (_, j) = sooner-yes _ _ i in
+    (f, g, sooner-yes _ _ j .1)
 
 pub for-yes : (vars : ℕ) (w : ℕ → Word) (x : ℕ → Parsed) (q : ℕ) → q ≡ asksFor vars w x → q ≡ 0
     → (asksVariable vars (w 1) ≡ 0) × (asksExpr vars (x 2) ≡ 0) × (asksExpr vars (x 4) ≡ 0) × (asksStep (w 5) (w 6) ≡ 0) × (asksEnd (w 7) ≡ 0)
@@ -305,10 +313,12 @@ bare-says Kind.Else b file = (refl, tt)
 bare-says Kind.Pick b file = (refl, tt)
 bare-says (Kind.Set v x) b file = absurd b
 bare-says (Kind.Move v c) b file = absurd b
+bare-says (Kind.Off v w c k) b file = absurd b
 bare-says (Kind.Cue n) b file = absurd b
 bare-says (Kind.While v c x) b file = absurd b
 bare-says (Kind.Do v c x) b file = absurd b
 bare-says (Kind.For v s c x d) b file = absurd b
+bare-says (Kind.Hold v) b file = absurd b
 
 -- a loop with a test
 module _ (after : Bool) (vars : ℕ) (w : ℕ → Word) (ex : ℕ → Parsed) (q : ℕ) where
@@ -331,12 +341,13 @@ module _ (after : Bool) (vars : ℕ) (w : ℕ → Word) (ex : ℕ → Parsed) (q
 
 -- the first word of a row is asked no more
 pub named-after : (vars : ℕ) (x : Word) (p : Parsed) (s : List ℕ) (n : Name) → namedRow vars (after Missing s) (exprs shapeless s) n ≡ namedRow vars (after x s) (exprs p s) n
-unfolding setRow moveRow cueRow bareRow whileRow doRow forRow asksTest asksFor
+unfolding setRow moveRow offRow cueRow bareRow whileRow doRow forRow holdRow asksTest asksFor
 named-after vars x p s Name.Set = refl
 named-after vars x p s Name.Add = refl
 named-after vars x p s Name.Sub = refl
 named-after vars x p s Name.Mul = refl
 named-after vars x p s Name.Div = refl
+named-after vars x p s Name.Off = refl
 named-after vars x p s Name.Cue = refl
 named-after vars x p s Name.Pick = refl
 named-after vars x p s Name.Else = refl
@@ -344,6 +355,7 @@ named-after vars x p s Name.End = refl
 named-after vars x p s Name.While = refl
 named-after vars x p s Name.Do = refl
 named-after vars x p s Name.For = refl
+named-after vars x p s Name.Hold = refl
 
 -- the row of a line from its first word x
 module _ (s : List ℕ) (at base vars : ℕ) (f : Found) (n : Next s at f) (few : vars ≤ 16) (x : Word) (said : Says f x) where

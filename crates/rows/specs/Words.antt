@@ -64,10 +64,12 @@ Bare Kind.Else = Unit {0}
 Bare Kind.Pick = Unit {0}
 Bare (Kind.Set v x) = ⊥
 Bare (Kind.Move v c) = ⊥
+Bare (Kind.Off v w c k) = ⊥
 Bare (Kind.Cue n) = ⊥
 Bare (Kind.While v c x) = ⊥
 Bare (Kind.Do v c x) = ⊥
 Bare (Kind.For v s c x d) = ⊥
+Bare (Kind.Hold v) = ⊥
 
 -- what a line stands for, beside the file's text
 abbrev pub readOf : List ℕ → Line → RowRead

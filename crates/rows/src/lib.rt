@@ -16,7 +16,7 @@ ghost use Prim.Native.Nat.{ℕ, _+_, _≤_, _<_};
 ghost use lib.ListN.{length, drop};
 ghost use lib.IntN.{ℤ, pos, natAbs};
 ghost use Rattle.rules.specs.Values.{highest};
-ghost use Rattle.rules.specs.File.{asksEnd, asksNumber, asksVariable, asksExpr, asksComparison, asksChange, asksStep, asksOne, asksOrder, numberOf, variableOf, comparisonOf, changeOf, stepOf, bareRow, setRow, moveRow, cueRow, whileRow, doRow, forRow, namedRow, rowOf};
+ghost use Rattle.rules.specs.File.{asksEnd, asksNumber, asksVariable, asksExpr, asksComparison, asksOrdered, asksChange, asksStep, asksOne, asksOrder, numberOf, variableOf, comparisonOf, changeOf, stepOf, bareRow, setRow, moveRow, offRow, cueRow, whileRow, doRow, forRow, holdRow, namedRow, rowOf};
 ghost use Rattle.rules.specs.Blocks.{kindOf};
 ghost use Rattle.rules.specs.Parse.{parse};
 ghost use Rattle.text.specs.Words.{before, Ends, parts, following};
@@ -94,6 +94,34 @@ pub fn asks_comparison(w: Word) -> u32
         Word::Number(_) => 3,
         Word::Variable(_) => 3,
         Word::Compares(_) => 0,
+        Word::Keyword(_) => 3,
+        Word::Other => 3,
+    }
+}
+
+// < <= > or >=.
+fn ordered(c: Comparison) -> u32
+    ensures { λ r. ⌜ r ≡ asksOrdered (Word.Compares c) ⌝ }
+{
+    match c {
+        Comparison::Less => 0,
+        Comparison::AtMost => 0,
+        Comparison::Greater => 0,
+        Comparison::AtLeast => 0,
+        Comparison::Equal => 3,
+        Comparison::Different => 3,
+    }
+}
+
+// One of these comparisons.
+fn asks_ordered(w: Word) -> u32
+    ensures { λ r. ⌜ r ≡ asksOrdered w ⌝ }
+{
+    match w {
+        Word::Missing => 3,
+        Word::Number(_) => 3,
+        Word::Variable(_) => 3,
+        Word::Compares(c) => ordered(c),
         Word::Keyword(_) => 3,
         Word::Other => 3,
     }
@@ -291,6 +319,36 @@ fn move_row(s: &[u8], at: usize, vars: u32, name: Name) -> Line
     Line::Wrong(q)
 }
 
+// `off v0 v1 > C`
+fn off_row(s: &[u8], at: usize, vars: u32) -> Line
+    requires { ⌜ Ends (drop at (now s)) × (vars ≤ 16) ⌝ }
+    ensures { λ r. ⌜ ((base : ℕ) → Lined (now (s .entry)) at base (offRow vars) r) ⌝ }
+{
+    let a = next_word(s, at);
+    let v = said(a.tag, a.value);
+    let b = next_word(s, a.end);
+    let w = said(b.tag, b.value);
+    let c = next_word(s, b.end);
+    let o = said(c.tag, c.value);
+    let d = next_word(s, c.end);
+    let k = said(d.tag, d.value);
+    let end = d.end;
+    let last = sooner(
+        asks_number(-1_000_000_000, 1_000_000_000, k),
+        asks_last(s, end),
+    );
+    let test = sooner(asks_ordered(o), last);
+    let rest = sooner(asks_variable(vars, w), test);
+    let q = sooner(asks_variable(vars, v), rest);
+    if q == 0 {
+        let flag = variable_of(vars, v);
+        let watched = variable_of(vars, w);
+        let kind = Kind::Off(flag, watched, comparison_of(o), number_of(k));
+        return Line::Read(kind, end);
+    }
+    Line::Wrong(q)
+}
+
 // `cue N`
 fn cue_row(s: &[u8], at: usize, vars: u32) -> Line
     requires { ⌜ Ends (drop at (now s)) ⌝ }
@@ -373,6 +431,22 @@ fn for_row(s: &[u8], at: usize, base: usize, vars: u32) -> Line
     Line::Wrong(q)
 }
 
+// `hold v0`
+fn hold_row(s: &[u8], at: usize, vars: u32) -> Line
+    requires { ⌜ Ends (drop at (now s)) × (vars ≤ 16) ⌝ }
+    ensures { λ r. ⌜ ((base : ℕ) → Lined (now (s .entry)) at base (holdRow vars) r) ⌝ }
+{
+    let a = next_word(s, at);
+    let v = said(a.tag, a.value);
+    let end = a.end;
+    let q = sooner(asks_variable(vars, v), asks_last(s, end));
+    if q == 0 {
+        let kind = Kind::Hold(variable_of(vars, v));
+        return Line::Read(kind, end);
+    }
+    Line::Wrong(q)
+}
+
 // By the first word, which ends at the byte `at`.
 fn named_row(s: &[u8], at: usize, base: usize, vars: u32, name: Name) -> Line
     requires { ⌜ Ends (drop at (now s)) × (vars ≤ 16) × (base + length (now s) ≤ 16_384) ⌝ }
@@ -391,6 +465,8 @@ fn named_row(s: &[u8], at: usize, base: usize, vars: u32, name: Name) -> Line
         Name::While => test_row(s, at, base, vars, false),
         Name::Do => test_row(s, at, base, vars, true),
         Name::For => for_row(s, at, base, vars),
+        Name::Off => off_row(s, at, vars),
+        Name::Hold => hold_row(s, at, vars),
     }
 }
 

@@ -16,7 +16,7 @@ use Rattle.rules.specs.declared.Step.the-variants.{Add, Grow, Shrink, Un
 use Rattle.rules.specs.declared.Ending.{Ending}
 use Rattle.rules.specs.declared.Ending.the-variants.{Ended, Spent, NoPick}
 use Rattle.rules.specs.Values.{Store, compares, upward, passes}
-use Rattle.rules.specs.Blocks.{Test, Form, while, do-while, for, Block, done, pick, loop}
+use Rattle.rules.specs.Blocks.{Test, Form, while, do-while, for, Block, done, pick, loop, hold}
 use Rattle.rules.specs.Steps.{step, even}
 use Rattle.rules.specs.Ranges.{Range, Env, single, bounds, edge, Sort, rising, falling, ordered, sort, isDo, atStart}
 use Rattle.rules.specs.Trips.{nothing, untested, led, turnsOf, isOwn, wayOf, ownTrip, trip, turns, inside, after}
@@ -33,11 +33,11 @@ use Rattle.rules.specs.Claim.{Counts-fit, Unspent, Keeps, Demand3}
 use Rattle.rules.specs.Reached.{Outside, here, after-row, after-pick, after-loop, Reached, Bytes, CanHappen, FiguresHappen, FiguresHappenFile}
 use Rattle.rules.proofs.Outcomes.{Thru}
 use Rattle.rules.proofs.Good.{all-append}
-use Rattle.rules.proofs.Steps.{Sane}
+use Rattle.rules.proofs.Steps.{Sane, SaneForm}
 use Rattle.rules.proofs.Links.{within-full, Goes, Fit, Tested, From}
 use Rattle.rules.proofs.Chain.{chain}
 use Rattle.rules.proofs.Ranges.{Ok, Turned, turn, begins as first-turn, exec-in, start-in, in-after}
-use Rattle.rules.proofs.Courses.{In, At, CourseOf, Good-trip, inside-full, at-start, limit, same-limit, course}
+use Rattle.rules.proofs.Courses.{In, At, at-start}
 use Rattle.rules.proofs.Expressions.{Agrees}
 use Rattle.rules.proofs.Triangles.{own-trip}
 use Rattle.rules.proofs.Accepted.{accepted as yes-accepted, then-yes}
@@ -47,6 +47,7 @@ use Rattle.rules.proofs.Demand.{in-ranges, tree-along, demand3}
 use Rattle.rules.proofs.FromBytes.{file-accepted, test-priced, store-in}
 use Rattle.rules.proofs.Plans.{Cut, Stopped, stopped, state, Plan, goes, stops, Has, Left, PlanBegin, plan-map, plan-thru, plan-bind, plan-pick, plan-exec, plan-loop, plan-turning, plan-enter}
 use Rattle.rules.proofs.Slow.{slowed, slow-step, enough, thru-done}
+use Rattle.rules.proofs.Ways.{CourseOf, Good-trip, inside-full, limit, same-limit, course}
 
 -- ---- the slow step: it fits where the step does, its ends are equal, and its figure is the same
 abbrev Slows : Bool → Sort → Step → Range → Range → Range → Range → ℤ → Type 0
@@ -133,7 +134,7 @@ record Slow-turned (R : ℕ → Store → Type 0) (Q : ℕ → ℤ → Type 0) (
 abbrev Ranged : Prices → Form → Env → Test → Block → Type 0
 Ranged π form ρ test body = (t : State) → In (inside form ρ test body) (t .store) → Thru (λ u. In (after (inside form ρ test body) body) (u .store)) (run π body t)
 
-module _ (π : Prices) (form : Form) (test : Test) (body : Block) (sane : Sane body) (ρ : Env) (good : Good-trip (trip form ρ test body)) (own : T (isOwn (wayOf form test body)))
+module _ (π : Prices) (form : Form) (test : Test) (body : Block) (fine : SaneForm form test) (sane : Sane body) (ρ : Env) (good : Good-trip (trip form ρ test body)) (own : T (isOwn (wayOf form test body)))
     (o : T (ordered (sort (test .comparison)))) (one : T (single (ρ (test .tested)))) (lone : T (single (bounds ρ (test .limit)))) (ranged : Ranged π form ρ test body)
     (f : Store) (m : ℕ) (enters : In ρ f) where
   abbrev v : ℕ
@@ -148,12 +149,12 @@ module _ (π : Prices) (form : Form) (test : Test) (body : Block) (sane : Sane b
   abbrev figure : ℕ
   figure = whileTurns (step (test .tested) body) (sort (test .comparison)) (atTest (isDo form) (step (test .tested) body) (ρ (test .tested))) (bounds ρ (test .limit)) (edge (test .comparison) (bounds ρ (test .limit)))
 
-  mine : Good-trip (ownTrip form ρ test body)
+  mine : Good-trip (ownTrip true form ρ test body)
   mine = subst Good-trip (own-trip form ρ test body own) good
 
   -- the usual course, and the chain of the slow step
   co : CourseOf form ρ test body f (trip form ρ test body)
-  co = course form ρ test body f enters good
+  co = course form ρ test body f enters fine good
 
   slow-chain : Tested (From (Goes (slowed (upward c) st)) (ρ v) (isDo form)) (Goes (slowed (upward c) st)) (λ x. compares c x (limit form ρ test body f enters .at)) figure true
   slow-chain =
@@ -192,26 +193,31 @@ plan-later : {i n : ℕ} {g : List ℕ → Out} (es : List Entry) → Plan (λ t
 plan-later es h = plan-map (λ _ _ x. Memᴰ·append-right es x) h
 
 -- before the first test
-begins : (π : Prices) (form : Form) (test : Test) (body : Block) (sane : Sane body) (ρ : Env) (good : Good-trip (trip form ρ test body)) (own : T (isOwn (wayOf form test body)))
+begins : (π : Prices) (form : Form) (test : Test) (body : Block) (fine : SaneForm form test) (sane : Sane body) (ρ : Env) (good : Good-trip (trip form ρ test body)) (own : T (isOwn (wayOf form test body)))
     (o : T (ordered (sort (test .comparison)))) (one : T (single (ρ (test .tested)))) (lone : T (single (bounds ρ (test .limit)))) (ranged : Ranged π form ρ test body)
     (f : Store) (m : ℕ) (enters : In ρ f)
-    → PlanBegin form (At-test π form test body sane ρ good own o one lone ranged f m enters) (λ t. run π body t) f m
-begins π while test body sane ρ good own o one lone ranged f m enters = record {
-  usual = (at-start ρ body f enters, co π while test body sane ρ good own o one lone ranged f m enters .begin);
-  slowly = slow-chain π while test body sane ρ good own o one lone ranged f m enters .begin _ (enters (test .tested) .low, enters (test .tested) .high);
+    → PlanBegin form (At-test π form test body fine sane ρ good own o one lone ranged f m enters) (λ t. run π body t) f m
+begins π while test body fine sane ρ good own o one lone ranged f m enters = record {
+  usual = (at-start ρ body f enters, co π while test body fine sane ρ good own o one lone ranged f m enters .begin);
+  slowly = slow-chain π while test body fine sane ρ good own o one lone ranged f m enters .begin _ (enters (test .tested) .low, enters (test .tested) .high);
   few = omega arith;
 }
-begins π (for x) test body sane ρ good own o one lone ranged f m enters = record {
-  usual = (at-start ρ body f enters, co π (for x) test body sane ρ good own o one lone ranged f m enters .begin);
-  slowly = slow-chain π (for x) test body sane ρ good own o one lone ranged f m enters .begin _ (enters (test .tested) .low, enters (test .tested) .high);
+begins π hold test body fine sane ρ good own o one lone ranged f m enters = record {
+  usual = (at-start ρ body f enters, co π hold test body fine sane ρ good own o one lone ranged f m enters .begin);
+  slowly = slow-chain π hold test body fine sane ρ good own o one lone ranged f m enters .begin _ (enters (test .tested) .low, enters (test .tested) .high);
   few = omega arith;
 }
-begins π do-while test body sane ρ good own o one lone ranged f m enters =
+begins π (for x) test body fine sane ρ good own o one lone ranged f m enters = record {
+  usual = (at-start ρ body f enters, co π (for x) test body fine sane ρ good own o one lone ranged f m enters .begin);
+  slowly = slow-chain π (for x) test body fine sane ρ good own o one lone ranged f m enters .begin _ (enters (test .tested) .low, enters (test .tested) .high);
+  few = omega arith;
+}
+begins π do-while test body fine sane ρ good own o one lone ranged f m enters =
     let v = test .tested in
-    let course = co π do-while test body sane ρ good own o one lone ranged f m enters in
+    let course = co π do-while test body fine sane ρ good own o one lone ranged f m enters in
     plan-map (λ t es (mv, u). record {
       usual = u;
-      slowly = slow-chain π do-while test body sane ρ good own o one lone ranged f m enters .begin (t v)
+      slowly = slow-chain π do-while test body fine sane ρ good own o one lone ranged f m enters .begin (t v)
           (f v, (enters v .low, enters v .high), (inside-full (within-full (enters v)), inside-full (u .0 .limited v), mv));
       few = omega arith;
     })
@@ -219,19 +225,19 @@ begins π do-while test body sane ρ good own o one lone ranged f m enters =
 
 -- ---- the whole run: enough picks before the loop, slow picks in it, enough after it
 module _ (π : Prices) (i : ℕ) (form : Form) (test : Test) (body : Block) (own : T (isOwn (wayOf form test body))) (o : T (ordered (sort (test .comparison)))) where
-  turning-reached : Sane body → (ρ : Env) → Good-trip (trip form ρ test body) → Ranged π form ρ test body → T (single (ρ (test .tested))) → T (single (bounds ρ (test .limit)))
+  turning-reached : SaneForm form test → Sane body → (ρ : Env) → Good-trip (trip form ρ test body) → Ranged π form ρ test body → T (single (ρ (test .tested))) → T (single (bounds ρ (test .limit)))
       → (f : Store) (m : ℕ) → In ρ f → Plan (λ t es. Has i (turns form ρ test body) es) (λ bs. turning π form i test (λ t. run π body t) (state f m bs))
-  turning-reached sane ρ good ranged one lone f m enters =
-      plan-map (slow-left π form test body sane ρ good own o one lone ranged f m enters i)
-      (plan-turning π _ i test _ (slow-turn π form test body sane ρ good own o one lone ranged f m enters) form f m
-      (begins π form test body sane ρ good own o one lone ranged f m enters))
+  turning-reached fine sane ρ good ranged one lone f m enters =
+      plan-map (slow-left π form test body fine sane ρ good own o one lone ranged f m enters i)
+      (plan-turning π _ i test _ (slow-turn π form test body fine sane ρ good own o one lone ranged f m enters) form f m
+      (begins π form test body fine sane ρ good own o one lone ranged f m enters))
 
   reaches : {ρ σ : Env} {b : Block} → Outside i form test body ρ b σ → Sane b → Ok ρ b → T (single (σ (test .tested))) → T (single (bounds σ (test .limit)))
       → (s : Store) (m : ℕ) → In ρ s → Plan (λ t es. Has i (turns form σ test body) es) (λ bs. run π b (state s m bs))
   unfolding run Sane Ok after
-  reaches (here {ρ = ρ} {rest = rest}) (sb, sr) (good, okb, okr) one lone s m h =
+  reaches (here {ρ = ρ} {rest = rest}) (sf, sb, sr) (good, okb, okr) one lone s m h =
       plan-bind {Q = λ t es. Has i (turns form (atStart form test ρ) test body) es} _ (plan-enter π form i test _ s m (λ bs. start-in π form i test ρ (state s m bs) h)
-      λ t n es j. plan-later es (turning-reached sb _ good (λ u k. in-after π body sb _ okb u k) one lone t n j))
+      λ t n es j. plan-later es (turning-reached sf sb _ good (λ u k. in-after π body sb _ okb u k) one lone t n j))
       λ t n es x. plan-map (λ _ fs _. Memᴰ·append-left fs x) (enough π rest sr t n)
   reaches (after-row {ρ = ρ} {j = j} {p = p} l) (sp, sr) ok one lone s m h =
       plan-bind _ (plan-thru (λ bs. exec-in π ρ j p sp (state s m bs) h) (plan-exec π j p s m))
@@ -240,9 +246,9 @@ module _ (π : Prices) (i : ℕ) (form : Form) (test : Test) (body : Block) (own
       plan-bind _
       (plan-thru (λ bs. thru-done π _ (in-after π (pick j e a b done) (sa, sb, tt) ρ (oa, ob, tt) (state s m bs) h)) (plan-pick π j s m _ _ (inl λ n. enough π a sa s n)))
       λ t n es (_, k). plan-later es (reaches l sr okr one lone t n k)
-  reaches (after-loop {ρ = ρ} {j = j} {e = e} {f = f} {t = u} {b = b} l) (sb, sr) (good, okb, okr) one lone s m h =
+  reaches (after-loop {ρ = ρ} {j = j} {e = e} {f = f} {t = u} {b = b} l) (sf, sb, sr) (good, okb, okr) one lone s m h =
       plan-bind _
-      (plan-thru (λ bs. thru-done π _ (in-after π (loop j e f u b done) (sb, tt) ρ (good, okb, tt) (state s m bs) h)) (plan-loop π f j u _ (λ t n. enough π b sb t n) s m))
+      (plan-thru (λ bs. thru-done π _ (in-after π (loop j e f u b done) (sf, sb, tt) ρ (good, okb, tt) (state s m bs) h)) (plan-loop π f j u _ (λ t n. enough π b sb t n) s m))
       λ t n es (_, k). plan-later es (reaches l sr okr one lone t n k)
 
 -- ---- its line of the report

@@ -24,6 +24,7 @@ use Rattle.rules.specs.Text.{lf, split, wordsOf, nextTexts, nextWords, n
 use Rattle.rules.specs.Parse.{Parsed, parsed, shapeless, parse, exprIn}
 use Rattle.rules.specs.File
 use Rattle.rules.specs.File.{RowRead, Read, Wrong}
+use Rattle.rules.specs.File
 
 -- a number is not 0 and a question too
 no-zero : {A : Type 0} (q : ℕ) → suc q ≡ 0 → A
@@ -87,6 +88,7 @@ change-yes Name.Add w e = amount-yes 0 highest w e .1
 change-yes Name.Sub w e = amount-yes 0 highest w e .1
 change-yes Name.Mul w e = amount-yes 1 highest w e
 change-yes Name.Div w e = amount-yes 1 highest w e
+change-yes Name.Off w e = no-zero _ e
 change-yes Name.Cue w e = no-zero _ e
 change-yes Name.Pick w e = no-zero _ e
 change-yes Name.Else w e = no-zero _ e
@@ -94,6 +96,7 @@ change-yes Name.End w e = no-zero _ e
 change-yes Name.While w e = no-zero _ e
 change-yes Name.Do w e = no-zero _ e
 change-yes Name.For w e = no-zero _ e
+change-yes Name.Hold w e = no-zero _ e
 
 pub step-yes : (x w : Word) → File.asksStep x w ≡ 0 → ChangeLimits (File.stepOf x w)
 step-yes Missing w e = no-zero _ e
@@ -138,7 +141,7 @@ module _ (vars : ℕ) (w : ℕ → Word) (x : ℕ → Parsed) where
   bare-fine r k f e = checked-yes (Fine vars) _ r k e (λ _. f)
 
   named-fine : (n : Name) (k : RowKind) → File.namedRow vars w x n ≡ Read k → Fine vars k
-  unfolding File.setRow File.cueRow File.whileRow File.doRow File.forRow File.asksFor
+  unfolding File.setRow File.cueRow File.whileRow File.doRow File.forRow File.asksFor File.offRow File.holdRow
   named-fine Name.Set k e = checked-yes (Fine vars) _ _ k e λ h.
       let (a, b) = sooner-yes _ _ h in
       let (c, _) = sooner-yes _ _ b in
@@ -148,6 +151,13 @@ module _ (vars : ℕ) (w : ℕ → Word) (x : ℕ → Parsed) where
   named-fine Name.Sub k e = move-fine Name.Sub k e
   named-fine Name.Mul k e = move-fine Name.Mul k e
   named-fine Name.Div k e = move-fine Name.Div k e
+  named-fine Name.Off k e = checked-yes (Fine vars) _ _ k e λ h.
+      let (a, b) = sooner-yes _ _ h in
+      let (c, d) = sooner-yes _ _ b in
+      let (_, f) = sooner-yes _ _ d in
+      let (g, _) = sooner-yes _ _ f in
+      (number-yes lowest highest (w 4) g, (variable-yes vars (w 1) a, variable-yes vars (w 2) c))
+  named-fine Name.Hold k e = checked-yes (Fine vars) _ _ k e λ h. let (a, _) = sooner-yes _ _ h in (tt, variable-yes vars (w 1) a)
   named-fine Name.Cue k e = checked-yes (Fine vars) _ _ k e λ h. let (a, _) = sooner-yes _ _ h in (omega (ints, amount-yes 0 (pos 9_999) (w 1) a .1), tt)
   named-fine Name.Pick k e = bare-fine RowKind.Pick k (tt, tt) e
   named-fine Name.Else k e = bare-fine RowKind.Else k (tt, tt) e

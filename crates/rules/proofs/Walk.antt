@@ -7,7 +7,7 @@ use lib.Dec.{T}
 use lib.IntN.{ℤ, pos}
 use Rattle.ints.proofs.Diffs.{both}
 use Rattle.rules.specs.Values.{upward}
-use Rattle.rules.specs.Blocks.{Test, Form, while, do-while, for, Block}
+use Rattle.rules.specs.Blocks.{Test, Form, while, do-while, hold, for, Block}
 use Rattle.rules.specs.Steps.{step, firstEnd, isAdd}
 use Rattle.rules.specs.Ranges.{Env, bounds, edge}
 use Rattle.rules.specs.Turns.{climb, whileTurns, atTest}
@@ -28,6 +28,7 @@ pub triangle-turns : (v : ℕ) (x : ℤ) (form : Form) (ρ : Env) (test : Test) 
 unfolding triangle bounds meaning whileTurns atTest firstEnd
 triangle-turns v x while ρ test body t = absurd t
 triangle-turns v x do-while ρ test body t = absurd t
+triangle-turns v x hold ρ test body t = absurd t
 triangle-turns v x (for o) ρ test body t =
     let st = step (test .tested) body in
     let s = ρ (test .tested) in

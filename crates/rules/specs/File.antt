@@ -10,14 +10,14 @@ use Rattle.rules.specs.Expressions.{Expr, constant, variable, group, app
 use Rattle.rules.specs.declared.Comparison.{Comparison}
 use Rattle.rules.specs.declared.Comparison.the-variants.{Less}
 use Rattle.rules.specs.declared.Change.{Change}
-use Rattle.rules.specs.Blocks.{RowKind, Set, Move, Cue, Pick, Else, End, While, Do, For}
+use Rattle.rules.specs.Blocks.{RowKind, Set, Move, Cue, Pick, Else, End, While, Do, For, Off, Hold}
 use Rattle.rules.specs.declared.Name.{Name}
 use Rattle.rules.specs.declared.Word.{Word}
 use Rattle.rules.specs.declared.Word.the-variants.{Missing, Number, Variable, Compares, Keyword, Other}
 use Rattle.rules.specs.Values.{lowest, highest}
 use Rattle.rules.specs.Blocks.{viewOf}
 use Rattle.rules.specs.Nesting.{Open, Nest, Nested, nested, wrong, nestRow}
-use Rattle.rules.specs.Ranges.{Range}
+use Rattle.rules.specs.Ranges.{Range, ordered, sort}
 use Rattle.rules.specs.Scripts.{Script}
 use Rattle.rules.specs.Text.{lf, split, wordsOf, nextTexts, nextWords, nextLines}
 use Rattle.rules.specs.Parse.{Parsed, parsed, shapeless, parse, exprIn, depth, operators}
@@ -84,6 +84,15 @@ asksComparison (Compares c) = 0
 asksComparison (Keyword n) = 3
 asksComparison Other = 3
 
+-- < <= > >=
+abbrev pub asksOrdered : Word → ℕ
+asksOrdered Missing = 3
+asksOrdered (Number z) = 3
+asksOrdered (Variable v) = 3
+asksOrdered (Compares c) = cond (ordered (sort c)) 0 3
+asksOrdered (Keyword n) = 3
+asksOrdered Other = 3
+
 -- the number that a word says; of any other word a 0 that is not read
 abbrev pub numberOf : Word → ℤ
 numberOf Missing = pos 0
@@ -118,6 +127,7 @@ asksChange Name.Add w = asksNumber (pos 0) highest w
 asksChange Name.Sub w = asksNumber (pos 0) highest w
 asksChange Name.Mul w = asksNumber (pos 1) highest w
 asksChange Name.Div w = asksNumber (pos 1) highest w
+asksChange Name.Off w = 3
 asksChange Name.Cue w = 3
 asksChange Name.Pick w = 3
 asksChange Name.Else w = 3
@@ -125,6 +135,7 @@ asksChange Name.End w = 3
 asksChange Name.While w = 3
 asksChange Name.Do w = 3
 asksChange Name.For w = 3
+asksChange Name.Hold w = 3
 
 -- the arithmetic row of that name and C
 abbrev pub changeOf : Name → Word → Change
@@ -133,6 +144,7 @@ changeOf Name.Add w = Change.Add (natAbs (numberOf w))
 changeOf Name.Sub w = Change.Sub (natAbs (numberOf w))
 changeOf Name.Mul w = Change.Mul (natAbs (numberOf w))
 changeOf Name.Div w = Change.Div (natAbs (numberOf w))
+changeOf Name.Off w = Change.Add 0
 changeOf Name.Cue w = Change.Add 0
 changeOf Name.Pick w = Change.Add 0
 changeOf Name.Else w = Change.Add 0
@@ -140,6 +152,7 @@ changeOf Name.End w = Change.Add 0
 changeOf Name.While w = Change.Add 0
 changeOf Name.Do w = Change.Add 0
 changeOf Name.For w = Change.Add 0
+changeOf Name.Hold w = Change.Add 0
 
 -- "the step row is any of the four arithmetic rows": its name and C
 abbrev pub asksStep : Word → Word → ℕ
@@ -183,6 +196,12 @@ module _ (vars : ℕ) (word : ℕ → Word) (expr : ℕ → Parsed) where
   unfoldable pub moveRow : Name → RowRead
   moveRow n = checked (sooner (asksVariable vars (word 1)) (sooner (asksChange n (word 2)) (asksEnd (word 3)))) (Move (variableOf (word 1)) (changeOf n (word 2)))
 
+  -- card 12: `off v0 v1 > C` (< <= > >=; C from −L to L)
+  unfoldable pub offRow : RowRead
+  offRow =
+      checked (sooner (asksVariable vars (word 1)) (sooner (asksVariable vars (word 2)) (sooner (asksOrdered (word 3)) (sooner (asksNumber lowest highest (word 4)) (asksEnd (word 5))))))
+      (Off (variableOf (word 1)) (variableOf (word 2)) (comparisonOf (word 3)) (numberOf (word 4)))
+
   -- `cue N` (0 to 9,999)
   unfoldable pub cueRow : RowRead
   cueRow = checked (sooner (asksNumber (pos 0) (pos 9_999) (word 1)) (asksEnd (word 2))) (Cue (natAbs (numberOf (word 1))))
@@ -209,6 +228,10 @@ module _ (vars : ℕ) (word : ℕ → Word) (expr : ℕ → Parsed) where
   unfoldable pub forRow : RowRead
   forRow = checked asksFor (For (variableOf (word 1)) (exprIn (expr 2)) (comparisonOf (word 3)) (exprIn (expr 4)) (stepOf (word 5) (word 6)))
 
+  -- card 12: `hold v0`
+  unfoldable pub holdRow : RowRead
+  holdRow = checked (sooner (asksVariable vars (word 1)) (asksEnd (word 2))) (Hold (variableOf (word 1)))
+
   -- "Every row is one of these kinds", by its name
   abbrev pub namedRow : Name → RowRead
   namedRow Name.Set = setRow
@@ -216,6 +239,7 @@ module _ (vars : ℕ) (word : ℕ → Word) (expr : ℕ → Parsed) where
   namedRow Name.Sub = moveRow Name.Sub
   namedRow Name.Mul = moveRow Name.Mul
   namedRow Name.Div = moveRow Name.Div
+  namedRow Name.Off = offRow
   namedRow Name.Cue = cueRow
   namedRow Name.Pick = bareRow Pick
   namedRow Name.Else = bareRow Else
@@ -223,6 +247,7 @@ module _ (vars : ℕ) (word : ℕ → Word) (expr : ℕ → Parsed) where
   namedRow Name.While = whileRow
   namedRow Name.Do = doRow
   namedRow Name.For = forRow
+  namedRow Name.Hold = holdRow
 
   -- the name is the first word
   abbrev pub firstWord : Word → RowRead

@@ -6,7 +6,7 @@ use lib.ListN.{length, take, drop}
 use Rattle.rules.specs.declared.Operand.{Operand}
 use Rattle.rules.specs.declared.Operand.the-variants.{Constant, Variable, Expression}
 use Rattle.rules.specs.declared.Kind.{Kind}
-use Rattle.rules.specs.declared.Kind.the-variants.{Set, Move, Cue, Pick, Else, End, While, Do, For}
+use Rattle.rules.specs.declared.Kind.the-variants.{Set, Move, Cue, Pick, Else, End, While, Do, For, Off, Hold}
 use Rattle.rules.specs.Expressions.{Expr, constant, variable, group, apply}
 use Rattle.rules.specs.Parse.{parse, exprIn}
 use Rattle.rules.specs.File.{asksExpr}
@@ -40,6 +40,7 @@ WrittenOperand text (Expression at n) = InText text at n
 abbrev pub Written : List ℕ → Kind → Type 0
 Written text (Set v x) = WrittenOperand text x
 Written text (Move v c) = Unit {0}
+Written text (Off v w c k) = Unit {0}
 Written text (Cue n) = Unit {0}
 Written text Pick = Unit {0}
 Written text Else = Unit {0}
@@ -47,3 +48,4 @@ Written text End = Unit {0}
 Written text (While v c x) = WrittenOperand text x
 Written text (Do v c x) = WrittenOperand text x
 Written text (For v s c x d) = WrittenOperand text s × WrittenOperand text x
+Written text (Hold v) = Unit {0}

@@ -12,7 +12,7 @@ use Rattle.rules.specs.declared.Row.{Row}
 use Rattle.rules.specs.declared.Ending.{Ending}
 use Rattle.rules.specs.declared.Ending.the-variants.{Ended}
 use Rattle.rules.specs.Values.{put, Tried, passes, fails, beyond}
-use Rattle.rules.specs.Blocks.{RowKind, End, kindOf, Test, Form, while, do-while, for, Last, no-step, step-by, View, is-plain, is-pick, is-else, is-end, is-loop, viewOf, viewAt, kindsOf}
+use Rattle.rules.specs.Blocks.{RowKind, End, kindOf, Test, Form, while, do-while, hold, for, Last, no-step, step-by, View, is-plain, is-pick, is-else, is-end, is-loop, viewOf, viewAt, kindsOf}
 use Rattle.rules.specs.declared.Prices.{Prices}
 use Rattle.rules.specs.Run.{State, Out, go, halt, holds}
 use Rattle.rules.specs.RowMachine.{Tally, tallyOf, begin, turn, Phase, fresh, testing, Place, Next, more, over, to, chosen, decide, outcome, paid, picked, tests, onEnd, onRow, next, steps, Partners, pairs, rank}
@@ -119,6 +119,7 @@ module _ (π : Prices) where
     near-row is-else i ph s c = near-to _ _ _ (less-same c)
     near-row is-end i ph s c = near-end _ _ i ph s c
     near-row (is-loop while t last) i ph s c = near-tests i _ t s (less-begin i c)
+    near-row (is-loop hold t last) i ph s c = near-tests i _ t s (less-begin i c)
     near-row (is-loop do-while t last) i ph s c = near-turn _ i _ s (less-begin i c)
     near-row (is-loop (for x) t last) i fresh s c = near-outcome _ _ _ (less-begin i c)
     near-row (is-loop (for x) t last) i testing s c = near-tests i _ t s (less-same c)
@@ -184,6 +185,7 @@ module _ (π : Prices) (rows : List RowKind) (shut opener : ℕ → ℕ) where
     onto-row is-else e ph s c = one (at-row _ e ph s c)
     onto-row is-end e ph s c = onto-end _ e refl ph s c
     onto-row (is-loop while t last) e ph s c = one (at-row _ e ph s c)
+    onto-row (is-loop hold t last) e ph s c = one (at-row _ e ph s c)
     onto-row (is-loop do-while t last) e ph s c = one (at-row _ e ph s c)
     onto-row (is-loop (for x) t last) e fresh s c = onto-tests _ i (shut i) i t (begin i c) _ (sym (at-row _ e fresh s c)) (λ u. at-row _ e testing u (begin i c))
     onto-row (is-loop (for x) t last) e testing s c = one (at-row _ e testing s c)

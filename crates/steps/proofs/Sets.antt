@@ -9,7 +9,7 @@ use lib.ListN.{length, getD, set, length-set, List·getD-eq-default}
 use lib.Seq.{getD-set-same, getD-set-other}
 use borrow.Author.Tests.{eqb-true, eqb-false, ltb-true, ltb-false, lt-ltb, le-ltb}
 use Rattle.rules.specs.declared.Kind.{Kind}
-use Rattle.rules.specs.declared.Kind.the-variants.{Set, Move, Cue, Pick, Else, End, While, Do, For}
+use Rattle.rules.specs.declared.Kind.the-variants.{Set, Move, Cue, Pick, Else, End, While, Do, For, Off, Hold}
 use Rattle.rules.specs.Blocks.{Plain, Last, no-step, step-by, View, is-plain, is-pick, is-else, is-end, is-loop, viewOf, kindOf, withLast, Block, done, plain, pick, loop, snoc}
 use Rattle.rules.specs.Steps.{sets, starts, assigns}
 use Rattle.rules.proofs.Laws.{put-set}
@@ -108,6 +108,8 @@ start-row text End v = refl
 start-row text (While w c x) v = refl
 start-row text (Do w c x) v = refl
 start-row text (For w s c x d) v = or-self (eqb v w)
+start-row text (Off w u c k) v = refl
+start-row text (Hold w) v = refl
 
 or-within : (a b c : Bool) → a || c ≡ c → a || (b || c) ≡ b || c
 or-within true true c h = refl

@@ -1,7 +1,7 @@
 -- The walk that finds the only assignment of a variable.
-use mathlib.Core.Path.{_≡_, refl, sym, ap, _∙_}
+use mathlib.Core.Path.{_≡_, refl, ap, _∙_}
 use mathlib.Core.Bool.{Bool, true, false, cond, _||_}
-use mathlib.Core.List.{List}
+use mathlib.Core.List.{List, [], _∷_}
 use Prim.Native.Nat.{ℕ}
 use types.Run.{OneOf, miss}
 use denote.Enum.Declared.{tagOf}
@@ -10,30 +10,40 @@ use lib.IntN.{ℤ}
 use Rattle.rules.specs.declared.Row.{Row}
 use Rattle.rules.specs.declared.Operand.the-variants.{Constant, Variable, Expression}
 use Rattle.rules.specs.declared.Kind.{Kind}
-use Rattle.rules.specs.declared.Kind.the-variants.{Set}
+use Rattle.rules.specs.declared.Kind.the-variants.{Set, Move, Cue, Pick, Else, End, While, Do, For, Off, Hold}
+use Rattle.rules.specs.declared.Comparison.{Comparison}
 use Rattle.rules.specs.Expressions.{Expr, constant, variable, group, apply}
 use Rattle.rules.specs.Written.{Composed, Written}
-use Rattle.rules.specs.Blocks.{Plain, from, assign, viewOf, exprOf, kindOf, withLast, Block, done, plain, pick, loop}
-use Rattle.rules.specs.Steps.{sets, starts, assigns, Sole, other, sole, behind, soleRow, soleOf}
+use Rattle.rules.specs.Blocks.{Plain, Source, from, off, assign, viewOf, exprOf, kindOf, withLast, Block, done, plain, pick, loop}
+use Rattle.rules.specs.Steps.{sets, starts, assigns, Sole, other, sole, behind, soleAt, soleRow, soleOf}
 use Rattle.rules.proofs.Sole.{behind-none, behind-twice}
-use Rattle.table.specs.declared.Tag.{Tag}
+use Rattle.rules.proofs.Kind.{the-type}
 use Rattle.table.specs.declared.Shape.{Shape}
-use Rattle.table.specs.Code.{numbersAt, rowTag, kindBy, kindAt, rowsOf}
 use Rattle.table.specs.Shapes.{shapeOf, plainOf}
-use Rattle.table.proofs.Tag.{the-type}
-use Rattle.table.proofs.Laws.{kind-is}
 use Rattle.steps.specs.declared.Stepped.{Stepped}
 use Rattle.steps.specs.Tree.{blockAt, headOf, formOf, testOf}
 use Rattle.steps.specs.Sets.{setOf, none, withRow, assignsFrom}
 use Rattle.steps.specs.Body.{MovesOf}
 use Rattle.steps.specs.Soles.{soleFrom}
 use Rattle.steps.proofs.Sets.{or-false, pick-adds, loop-adds}
-use Rattle.steps.proofs.Tags.{no-set}
 
 -- what a block assigns, found from no set
 pub rest-is : {text : List ℕ} {rows : List Row} {count at v : ℕ} {z n : List Bool} {m : Stepped} → setOf z ≡ none → MovesOf text rows count at v z n m → (u : ℕ) → setOf n u ≡ assigns u (blockAt text rows count at)
 unfolding assignsFrom none
 rest-is {text} {rows} {count} {at} e k u = ap (λ (y : ℕ → Bool). y u) (k .sets .value ∙ ap (λ x. assignsFrom x (blockAt text rows count at)) e)
+
+-- the rows `set v w` and `off v w > C`
+pub copy-reads : (text : List ℕ) (v : ℕ) {k : Kind} {u w : ℕ} → k ≡ Set u (Variable w) → (rest : Block) → soleRow v (plainOf text k) rest ≡ soleAt v w (from (variable w)) rest
+unfolding soleRow viewOf kindOf exprOf
+copy-reads text v e rest = rw e
+
+pub off-reads : (text : List ℕ) (v : ℕ) {k : Kind} {u w : ℕ} {c : Comparison} {n : ℤ} → k ≡ Off u w c n → (rest : Block) → soleRow v (plainOf text k) rest ≡ soleAt v w (off w c n) rest
+unfolding soleRow viewOf kindOf
+off-reads text v e rest = rw e
+
+-- the kinds of row that read no variable
+abbrev no-read : List ℕ
+no-read = 0 ∷ 1 ∷ 2 ∷ 4 ∷ 6 ∷ 7 ∷ 8 ∷ 9 ∷ 10 ∷ []
 
 module _ (v : ℕ) where
   pub from-nothing : {x : ℕ → Bool} → x ≡ none → (b : Block) → soleFrom v x b ≡ soleOf v b
@@ -64,16 +74,16 @@ module _ (v : ℕ) where
     sole-loop i text k h e b rest =
         behind-twice x (λ w. starts w (formOf text k) (testOf text k) || assigns w (withLast (headOf text k .last) i b)) v (soleOf v rest) ∙ ap (λ y. behind y v (soleOf v rest)) (loop-adds x i text k h b)
 
-    -- the row `set v w`
-    pub copy-is : (text : List ℕ) {k : Kind} {u w : ℕ} → k ≡ Set u (Variable w) → (rest : Block)
-        → behind x v (soleRow v (plainOf text k) rest) ≡ cond (eqb w v) other (cond (assigns v rest) other (cond (x v) other (sole w (x w) (assigns w rest))))
-    unfolding soleRow behind viewOf kindOf exprOf
-    copy-is text {u = u} {w = w} e rest = rw e (by (eqb w v) (assigns v rest))
+    -- a row that assigns v and reads w
+    pub read-is : (p : Plain) (w : ℕ) (y : Source) (rest : Block) → soleRow v p rest ≡ soleAt v w y rest
+        → behind x v (soleRow v p rest) ≡ cond (eqb w v) other (cond (assigns v rest) other (cond (x v) other (sole w y (x w) (assigns w rest))))
+    unfolding behind
+    read-is p w y rest e = ap (behind x v) e ∙ by (eqb w v) (assigns v rest)
       where
-        by : (p q : Bool) → behind x v (cond (p || q) other (sole w false (assigns w rest))) ≡ cond p other (cond q other (cond (x v) other (sole w (x w) (assigns w rest))))
+        by : (p q : Bool) → behind x v (cond (p || q) other (sole w y false (assigns w rest))) ≡ cond p other (cond q other (cond (x v) other (sole w y (x w) (assigns w rest))))
         by true q = refl
         by false true = refl
-        by false false = ap (λ z. cond (x v) other (sole w z (assigns w rest))) (or-false (x w))
+        by false false = ap (λ z. cond (x v) other (sole w y z (assigns w rest))) (or-false (x w))
 
     -- any other row
     pub constant-is : (text : List ℕ) {k : Kind} {u : ℕ} {n : ℤ} → k ≡ Set u (Constant n) → (rest : Block) → behind x v (soleRow v (plainOf text k) rest) ≡ other
@@ -92,17 +102,17 @@ module _ (v : ℕ) where
     unfolding viewOf kindOf exprOf
     composed-is text {u = u} e h rest = let w = rw e at h in rw e (composed-by u _ (w .composed) rest)
 
-    change-of : (text : List ℕ) (g : Tag) (e : List ℕ) → OneOf no-set (tagOf the-type g) → (rest : Block) → behind x v (soleRow v (plainOf text (kindBy g e)) rest) ≡ other
-    unfolding kindBy viewOf kindOf soleRow behind
-    change-of text Tag.End e o rest = refl
-    change-of text Tag.Else e o rest = refl
-    change-of text Tag.Pick e o rest = refl
-    change-of text Tag.Set e o rest = absurd (miss no-set 3 tt o)
-    change-of text Tag.Move e o rest = refl
-    change-of text Tag.Cue e o rest = refl
-    change-of text Tag.While e o rest = refl
-    change-of text Tag.Do e o rest = refl
-    change-of text Tag.For e o rest = refl
-
-    pub change-is : (text : List ℕ) (t : List (List ℕ)) (i : ℕ) {g : Tag} → g ≡ rowTag (numbersAt t i) → OneOf no-set (tagOf the-type g) → (rest : Block) → behind x v (soleRow v (plainOf text (kindAt (rowsOf t) i)) rest) ≡ other
-    change-is text t i {g} p o rest = rw (kind-is t i p refl) (change-of text g (numbersAt t i) o rest)
+    -- neither a set nor an off
+    pub change-is : (text : List ℕ) (k : Kind) → OneOf no-read (tagOf the-type k) → (rest : Block) → behind x v (soleRow v (plainOf text k) rest) ≡ other
+    unfolding viewOf kindOf soleRow behind
+    change-is text End o rest = refl
+    change-is text Else o rest = refl
+    change-is text Pick o rest = refl
+    change-is text (Set u y) o rest = absurd (miss no-read 3 tt o)
+    change-is text (Move u c) o rest = refl
+    change-is text (Off u w c k) o rest = absurd (miss no-read 5 tt o)
+    change-is text (Cue n) o rest = refl
+    change-is text (While u c y) o rest = refl
+    change-is text (Do u c y) o rest = refl
+    change-is text (For u s c y d) o rest = refl
+    change-is text (Hold u) o rest = refl

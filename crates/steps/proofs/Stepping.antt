@@ -9,7 +9,7 @@ use lib.IntN.{ℤ, pos, _+ℤ_}
 use Rattle.ints.proofs.Parts.{ints, add-parts}
 use Rattle.rules.specs.declared.Row.{Row}
 use Rattle.rules.specs.declared.Kind.{Kind}
-use Rattle.rules.specs.declared.Kind.the-variants.{Set, Move, Cue, Pick, Else, End, While, Do, For}
+use Rattle.rules.specs.declared.Kind.the-variants.{Set, Move, Cue, Pick, Else, End, While, Do, For, Off, Hold}
 use Rattle.rules.specs.declared.Step.{Step}
 use Rattle.rules.specs.declared.Step.the-variants.{Add, Grow, Shrink, Unknown}
 use Rattle.rules.specs.Blocks.{Plain, assign, cue, Last, no-step, step-by, viewOf, kindOf, withLast, Block, done, plain, pick, loop, snoc}
@@ -37,6 +37,8 @@ row-ends v text End h = still-ends 1
 row-ends v text (While w c x) h = still-ends 1
 row-ends v text (Do w c x) h = still-ends 1
 row-ends v text (For w s c x d) (l, p, q, h) = ends-only 1 (eqb v w) (changeStep d) (change-ends d h)
+row-ends v text (Off w u c k) h = ends-only 1 (eqb v w) Unknown tt
+row-ends v text (Hold w) h = still-ends 1
 
 -- what `then` asks of it
 pub row-room : (v : ℕ) (text : List ℕ) (k : Kind) → Fine k → Ends 512 (rowStep v (plainOf text k))

@@ -18,14 +18,18 @@ use Rattle.table.proofs.Laws.{kind-is}
 none : {A B : Type 0} → A → false ≡ true → B
 none f h = absurd (false≢true h)
 
--- any row but a set
+-- any row but a set and an off
 abbrev pub no-set : List ℕ
-no-set = 0 ∷ 1 ∷ 2 ∷ 4 ∷ 5 ∷ 6 ∷ 7 ∷ 8 ∷ []
+no-set = 0 ∷ 1 ∷ 2 ∷ 4 ∷ 5 ∷ 6 ∷ 7 ∷ 8 ∷ 10 ∷ []
 
 module _ (text e : List ℕ) where
   set-step : (v : ℕ) → sets v (plainOf text (kindBy Tag.Set e)) ≡ true → rowStep v (plainOf text (kindBy Tag.Set e)) ≡ Unknown
   unfolding kindBy viewOf kindOf rowStep sourceStep sets
   set-step v h = rw h
+
+  off-step : (v : ℕ) → sets v (plainOf text (kindBy Tag.Off e)) ≡ true → rowStep v (plainOf text (kindBy Tag.Off e)) ≡ Unknown
+  unfolding kindBy viewOf kindOf rowStep sourceStep sets
+  off-step v h = rw h
 
   change-steps : (g : Tag) → OneOf no-set (tagOf the-type g) → (v : ℕ) → Fine (kindBy g e) → sets v (plainOf text (kindBy g e)) ≡ true
       → FineChange (stepIn e) × (rowStep v (plainOf text (kindBy g e)) ≡ changeStep (stepIn e))
@@ -39,6 +43,8 @@ module _ (text e : List ℕ) where
   change-steps Tag.While o v = none
   change-steps Tag.Do o v = none
   change-steps Tag.For o v = λ f h. (f .3, rw h)
+  change-steps Tag.Off o v = absurd (miss no-set 9 tt o)
+  change-steps Tag.Hold o v = none
 
   -- it is one of the 16 variables
   small : (g : Tag) → Fine (kindBy g e) → sets (variableIn e) (plainOf text (kindBy g e)) ≡ true → variableIn e < 16
@@ -52,11 +58,16 @@ module _ (text e : List ℕ) where
   small Tag.While = none
   small Tag.Do = none
   small Tag.For = λ f h. f .0
+  small Tag.Off = λ f h. f .0
+  small Tag.Hold = none
 
 -- the same of row i
 module _ (text : List ℕ) (t : List (List ℕ)) (i : ℕ) {g : Tag} (p : g ≡ rowTag (numbersAt t i)) where
   pub step-set : g ≡ Tag.Set → (v : ℕ) → sets v (plainOf text (kindAt (rowsOf t) i)) ≡ true → rowStep v (plainOf text (kindAt (rowsOf t) i)) ≡ Unknown
   step-set q v = rw (kind-is t i p q) (set-step text (numbersAt t i) v)
+
+  pub step-off : g ≡ Tag.Off → (v : ℕ) → sets v (plainOf text (kindAt (rowsOf t) i)) ≡ true → rowStep v (plainOf text (kindAt (rowsOf t) i)) ≡ Unknown
+  step-off q v = rw (kind-is t i p q) (off-step text (numbersAt t i) v)
 
   pub step-change : OneOf no-set (tagOf the-type g) → (v : ℕ) → Fine (kindAt (rowsOf t) i) → sets v (plainOf text (kindAt (rowsOf t) i)) ≡ true
       → FineChange (stepIn (numbersAt t i)) × (rowStep v (plainOf text (kindAt (rowsOf t) i)) ≡ changeStep (stepIn (numbersAt t i)))

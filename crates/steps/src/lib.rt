@@ -1,4 +1,6 @@
 // How a variable moves in one turn: walks over the rows of a block, nested blocks first.
+use rules::Comparison;
+use rules::Kind;
 use rules::Operand;
 use rules::Step;
 use rules::change_step;
@@ -7,7 +9,7 @@ use table::Shape;
 use table::Tag;
 use table::assigns;
 use table::change_at;
-use table::operand_at;
+use table::kind_at;
 use table::past_else;
 use table::shape_at;
 use table::tag_at;
@@ -17,14 +19,14 @@ ghost use mathlib.Core.List.{List};
 ghost use Prim.Native.Nat.{ℕ, _<_};
 ghost use lib.ListN.{length};
 ghost use Rattle.rules.specs.Steps.{sets, rowStep};
+ghost use Rattle.rules.specs.declared.Kind.{Kind};
 ghost use Rattle.rules.specs.Bounds.{Fine};
-ghost use Rattle.table.specs.Code.{numbersAt, rowTag, kindAt, rowsOf};
-ghost use Rattle.table.specs.declared.Tag.{Tag};
+ghost use Rattle.table.specs.Code.{kindAt, rowsOf};
 ghost use Rattle.table.specs.Shapes.{plainOf};
 ghost use Rattle.steps.specs.Tree.{Ready};
 ghost use Rattle.steps.specs.Sets.{setOf, withOne, withRow, bothOf, SetIs};
 ghost use Rattle.steps.specs.Body.{AtLoop, MovesOf, BodyMoves};
-ghost use Rattle.steps.specs.Soles.{AtRow, AtCopy, CopyAt, SoleAt};
+ghost use Rattle.steps.specs.Soles.{AtRow, AtRead, ReadAt, SoleAt};
 
 // Adds v to the set.
 fn add(set: &mut [bool; 16], v: u8)
@@ -82,6 +84,7 @@ fn row_step(rows: &[[u32; 9]; 256], i: usize, v: u8) -> Step
     }
     match tag_at(rows, i) {
         Tag::Set => Step::Unknown,
+        Tag::Off => Step::Unknown,
         _ => change_step(change_at(rows, i)),
     }
 }
@@ -164,25 +167,32 @@ pub fn body_moves(text: &[u8], rows: &[[u32; 9]; 256], count: usize, i: usize, v
     }
 }
 
-// The only assignment of a variable in a block, directly in it: another variable copied into it, and whether rows before and after it
-// assign that one.
-pub enum Sole {
-    Other,
-    Copy(u8, bool, bool),
+// What a row that assigns a variable reads another one for: to copy it, or to compare it with a constant (off).
+pub enum Read {
+    Copy,
+    Off(Comparison, i32),
 }
 
-// At the row i, `set v w`, behind rows that assign a set.
-fn copy_at(
+// The only assignment of a variable in a block, directly in it: another variable that it reads, what for, and whether rows before and
+// after it assign that one.
+pub enum Sole {
+    Other,
+    Reads(u8, Read, bool, bool),
+}
+
+// At the row i, which assigns v and reads w, behind rows that assign a set.
+fn read_at(
     text: &[u8],
     rows: &[[u32; 9]; 256],
     count: usize,
     i: usize,
     v: u8,
     w: u8,
+    read: Read,
     before: [bool; 16],
 ) -> Sole
-    requires { ⌜ AtCopy (now text) (rowsOf (now rows)) count i v w ⌝ }
-    ensures { λ r. ⌜ CopyAt (now (text .entry)) (rowsOf (now (rows .entry))) count i v before r ⌝ }
+    requires { ⌜ AtRead (now text) (rowsOf (now rows)) count i v w read ⌝ }
+    ensures { λ r. ⌜ ReadAt (now (text .entry)) (rowsOf (now (rows .entry))) count i v before r ⌝ }
 {
     if w == v {
         return Sole::Other;
@@ -197,24 +207,25 @@ fn copy_at(
     }
     let first = has(before, w);
     let last = has(rest, w);
-    Sole::Copy(w, first, last)
+    Sole::Reads(w, read, first, last)
 }
 
-// At the row i, which sets v, behind rows that assign a set.
+// At the row i, which sets v to x, behind rows that assign a set.
 fn set_at(
     text: &[u8],
     rows: &[[u32; 9]; 256],
     count: usize,
     i: usize,
     v: u8,
+    x: Operand,
     before: [bool; 16],
 ) -> Sole
-    requires { ⌜ AtRow (now text) (rowsOf (now rows)) count i v × (rowTag (numbersAt (now rows) i) ≡ Tag.Set) ⌝ }
-    ensures { λ r. ⌜ CopyAt (now (text .entry)) (rowsOf (now (rows .entry))) count i v before r ⌝ }
+    requires { ⌜ AtRow (now text) (rowsOf (now rows)) count i v × ((u : ℕ) × (kindAt (rowsOf (now rows)) i ≡ Kind.Set u x)) ⌝ }
+    ensures { λ r. ⌜ ReadAt (now (text .entry)) (rowsOf (now (rows .entry))) count i v before r ⌝ }
 {
-    match operand_at(rows, i) {
+    match x {
         Operand::Constant(_) => Sole::Other,
-        Operand::Variable(w) => copy_at(text, rows, count, i, v, w, before),
+        Operand::Variable(w) => read_at(text, rows, count, i, v, w, Read::Copy, before),
         Operand::Expression(_, _) => Sole::Other,
     }
 }
@@ -229,10 +240,11 @@ fn sole_at(
     before: [bool; 16],
 ) -> Sole
     requires { ⌜ AtRow (now text) (rowsOf (now rows)) count i v ⌝ }
-    ensures { λ r. ⌜ CopyAt (now (text .entry)) (rowsOf (now (rows .entry))) count i v before r ⌝ }
+    ensures { λ r. ⌜ ReadAt (now (text .entry)) (rowsOf (now (rows .entry))) count i v before r ⌝ }
 {
-    match tag_at(rows, i) {
-        Tag::Set => set_at(text, rows, count, i, v, before),
+    match kind_at(rows, i) {
+        Kind::Set(_, x) => set_at(text, rows, count, i, v, x, before),
+        Kind::Off(_, w, c, k) => read_at(text, rows, count, i, v, w, Read::Off(c, k), before),
         _ => Sole::Other,
     }
 }

@@ -8,7 +8,7 @@ use lib.IntN.{ℤ, pos}
 use Rattle.rules.specs.Blocks.{Test, Form, Block}
 use Rattle.rules.specs.Steps.{step, isAdd, firstEnd}
 use Rattle.rules.specs.Ranges.{Env, ordered, sort}
-use Rattle.rules.specs.Trips.{Way, own, copied, chase, isOwn, wayOf, isExact, tripBy, trip, turnsOf, turns}
+use Rattle.rules.specs.Trips.{Way, own, broken, copied, chase, watched, isOwn, wayOf, isExact, tripBy, trip, turnsOf, turns}
 use Rattle.rules.specs.Passes.{Pass, any, valued, sumOver, sums, firstPass, turnsIn, overPasses}
 use Rattle.rules.specs.Figures.{alike, often, totalOf, inBody, lines}
 use Rattle.rules.proofs.Walk.{over-once}
@@ -40,6 +40,8 @@ module _ (r : Round) (κ : Pass) (form : Form) (ρ : Env) (test : Test) (body : 
       by own = refl
       by (copied w ahead) = refl
       by (chase w) = refl
+      by (watched w c k ahead) = refl
+      by broken = refl
 
   -- q: the passes of the body in code
   module _ (total : ℕ) (q : Round) (e : q ≡ bodyOf (trip form ρ test body) (test .tested) n total r) where

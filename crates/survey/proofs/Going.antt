@@ -8,7 +8,7 @@ use lib.Dec.{leb}
 use lib.IntN.{pos}
 use Rattle.rules.specs.declared.Row.{Row}
 use Rattle.rules.specs.declared.Kind.{Kind}
-use Rattle.rules.specs.declared.Kind.the-variants.{Set, Move, Cue, Pick, Else, End, While, Do, For}
+use Rattle.rules.specs.declared.Kind.the-variants.{Set, Move, Cue, Pick, Else, End, While, Do, For, Off, Hold}
 use Rattle.rules.proofs.Kind.{the-type}
 use types.Run.{OneOf, miss}
 use denote.Enum.Declared.{tagOf}
@@ -96,7 +96,7 @@ module _ {π : Prices} (fine : FinePrices π) where
 
 -- any row but a for
 abbrev no-for : List ℕ
-no-for = 0 ∷ 1 ∷ 2 ∷ 3 ∷ 4 ∷ 5 ∷ 6 ∷ 7 ∷ []
+no-for = 0 ∷ 1 ∷ 2 ∷ 3 ∷ 4 ∷ 5 ∷ 6 ∷ 7 ∷ 8 ∷ 10 ∷ []
 
 pub no-last : (text : List ℕ) (π : Prices) (k : Kind) → OneOf no-for (tagOf the-type k) → 0 ≡ lastTicks text π k
 unfolding headOf viewOf kindOf
@@ -108,7 +108,9 @@ no-last text π (Move v c) o = refl
 no-last text π (Cue n) o = refl
 no-last text π (While v c x) o = refl
 no-last text π (Do v c x) o = refl
-no-last text π (For v s c x d) o = absurd (miss no-for 8 tt o)
+no-last text π (For v s c x d) o = absurd (miss no-for 9 tt o)
+no-last text π (Off v w c k) o = refl
+no-last text π (Hold v) o = refl
 
 -- the walk is over
 pub closing : {text : List ℕ} {π : Prices} {rows : List Row} {count at i : ℕ} {outer : Round} {ρ ρ₀ : Env} {t t₀ r : TallyLines} → Walked text rows count at i (tallied t ρ) (folded π outer (tallied t₀ ρ₀)) → t .spent ≤ 1_000_000_000_001 → length (t .lines) ≡ 16 → EndedAt t i r
@@ -370,7 +372,7 @@ asked-number n p false v q h g e = h (let z : n ≡ 0 = cc in z)
 pub trip-number : (i : ℕ) (τ : Trip) (n p : ℕ) → ofTrip i τ ≡ refused n p → n ≡ 0 → ⊥
 unfolding loopVerdict
 trip-number i τ n p e z =
-    asked-number _ _ _ _ p (λ w. omega arith) (asked-number _ _ _ _ p (λ w. omega arith) (asked-number _ _ _ _ p (λ w. omega arith) (asked-number _ _ _ _ p (λ w. omega arith) (asked-number _ _ _ _ p (λ w. omega arith) (λ w. let k : _≡_ {A = ℕ} 0 1 = cc in omega arith)))))
+    asked-number _ _ _ _ p (λ w. omega arith) (asked-number _ _ _ _ p (λ w. omega arith) (asked-number _ _ _ _ p (λ w. omega arith) (asked-number _ _ _ _ p (λ w. omega arith) (asked-number _ _ _ _ p (λ w. omega arith) (asked-number _ _ _ _ p (λ w. omega arith) (λ w. let k : _≡_ {A = ℕ} 0 1 = cc in omega arith))))))
     (e ∙ ap (λ m. refused m p) z)
 
 -- a line of the same trip

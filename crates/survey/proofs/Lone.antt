@@ -15,12 +15,12 @@ use Rattle.rules.specs.declared.Step.the-variants.{Add, Grow, Shrink, Unknown}
 use Rattle.rules.specs.declared.Verdict.{Verdict}
 use Rattle.rules.specs.declared.Verdict.the-variants.{Passed as passed, Refused as refused}
 use Rattle.rules.specs.Values.{lowest, highest, upward}
-use Rattle.rules.specs.Blocks.{Plain, assign, cue, Test, Form, while, do-while, for, Block, done, plain, pick, loop}
+use Rattle.rules.specs.Blocks.{Plain, assign, cue, Test, Form, while, do-while, hold, for, Block, done, plain, pick, loop}
 use Rattle.rules.specs.Steps.{sets, starts, assigns, still, stepFrom, step, then, either, moving, isAdd, firstEnd}
-use Rattle.rules.specs.Ranges.{Range, Env, full, single, bounds, sourceRange, afterRow, join, atStart, edge, Sort, rising, falling, same, differ, ordered, sort, isDo, insideRange}
+use Rattle.rules.specs.Ranges.{Range, Env, full, single, bounds, sourceRange, afterRow, join, atStart, edge, Sort, rising, falling, same, differ, ordered, sort, isDo, insideRange, suits}
 use Rattle.rules.specs.Turns.{whileTurns, moved, atTest}
-use Rattle.rules.specs.Trips.{Way, own, copied, chase, isOwn, wayOf, untested, nothing, Trip, tripBy, trip, turnsOf, turns, led, isExact, innerOf, outerOf, loopEnv, inside, outside, after}
-use Rattle.rules.specs.Questions.{andThen, asked, known, suits, loopVerdict, ofTrip, loopsVerdict}
+use Rattle.rules.specs.Trips.{Way, own, broken, copied, chase, watched, isOwn, wayOf, untested, nothing, Trip, tripBy, trip, turnsOf, turns, led, isExact, innerOf, outerOf, loopEnv, inside, outside, after}
+use Rattle.rules.specs.Questions.{andThen, asked, known, loopVerdict, ofTrip, loopsVerdict}
 use Rattle.rules.specs.Passes.{Pass, any, valued, later, passAt, sums, firstPass, fromConstant, triangle, turnsIn}
 use Rattle.rules.specs.Figures as figures
 use Rattle.rules.specs.Figures.{alike, often, totalOf, inBody}
@@ -46,11 +46,11 @@ asked-yes n p false v h = absurd (let z : _≡_ {A = ℕ} 0 1 = cc in omega arit
 
 passed-moves : (i : ℕ) (τ : Trip) → ofTrip i τ ≡ passed → moving (τ .step) ≡ true
 unfolding loopVerdict
-passed-moves i τ h = asked-yes 9 i (moving (τ .step)) _ (asked-yes 8 i (known (τ .step)) _ h .1) .0
+passed-moves i τ h = asked-yes 9 i (moving (τ .step)) _ (asked-yes 8 i (known (τ .step)) _ (asked-yes 19 i (τ .terms) _ h .1) .1) .0
 
 passed-suits : (i : ℕ) (τ : Trip) → ofTrip i τ ≡ passed → suits (τ .step) (sort (τ .comparison)) ≡ true
 unfolding loopVerdict
-passed-suits i τ h = asked-yes 11 i (suits (τ .step) (sort (τ .comparison))) _ (asked-yes 10 i (τ .keeps) _ (asked-yes 9 i (moving (τ .step)) _ (asked-yes 8 i (known (τ .step)) _ h .1) .1) .1) .0
+passed-suits i τ h = asked-yes 11 i (suits (τ .step) (sort (τ .comparison))) _ (asked-yes 10 i (τ .keeps) _ (asked-yes 9 i (moving (τ .step)) _ (asked-yes 8 i (known (τ .step)) _ (asked-yes 19 i (τ .terms) _ h .1) .1) .1) .1) .0
 
 no-T : (b : Bool) → T (not b) → b ≡ false
 no-T true h = absurd h
@@ -103,6 +103,7 @@ start-same : (form : Form) (test : Test) (ρ : Env) (v : ℕ) → T (not (starts
 unfolding atStart
 start-same while test ρ v h = refl
 start-same do-while test ρ v h = refl
+start-same hold test ρ v h = refl
 start-same (for x) test ρ v h = cond-false (eqb v (test .tested)) (bounds ρ x) (ρ v) h
 
 pub start-kept : (form : Form) (test : Test) (ρ : Env) (v : ℕ) → T (not (starts v form test)) → Kept ρ (atStart form test ρ) v
@@ -133,6 +134,8 @@ unfolding tripBy outerOf moving
 free-wide form test body σ own m e = absurd (false≢true (sym (ap moving e) ∙ m))
 free-wide form test body σ (copied w ahead) m e = full-wide
 free-wide form test body σ (chase w) m e = full-wide
+free-wide form test body σ (watched w c k ahead) m e = full-wide
+free-wide form test body σ broken m e = absurd (false≢true (sym (ap moving e) ∙ m))
 
 pub loop-kept : (i : ℕ) (form : Form) (test : Test) (body : Block) (ρ : Env) (v : ℕ) → T (not (starts v form test)) → T (not (assigns v body))
     → ofTrip i (trip form (atStart form test ρ) test body) ≡ passed → Kept ρ (outside form (atStart form test ρ) test body) v
@@ -269,6 +272,7 @@ unfolding sums turnsIn triangle
 turns-lone any a n form ρ test body l h i u = omega arith
 turns-lone (valued v x) a n while ρ test body l h i u = omega arith
 turns-lone (valued v x) a n do-while ρ test body l h i u = omega arith
+turns-lone (valued v x) a n hold ρ test body l h i u = omega arith
 turns-lone (valued v x) a n (for o) ρ test body l h i u =
     cond-elim (λ m. m ≤ turns (for o) ρ test body) (triangle v (for o) test body) _ _
     (λ t.

@@ -16,7 +16,7 @@ use Rattle.table.proofs.Tag.{the-type}
 
 -- any row but a cue
 abbrev no-cue : List ℕ
-no-cue = 0 ∷ 1 ∷ 2 ∷ 3 ∷ 4 ∷ 6 ∷ 7 ∷ 8 ∷ []
+no-cue = 0 ∷ 1 ∷ 2 ∷ 3 ∷ 4 ∷ 6 ∷ 7 ∷ 8 ∷ 9 ∷ 10 ∷ []
 
 -- a plain row that is no cue is arithmetic
 module _ (π : Prices) (text e : List ℕ) where
@@ -31,3 +31,5 @@ module _ (π : Prices) (text e : List ℕ) where
   price-other Tag.While o h = absurd (let z : _≡_ {A = ℕ} 0 1 = cc in omega arith)
   price-other Tag.Do o h = absurd (let z : _≡_ {A = ℕ} 0 1 = cc in omega arith)
   price-other Tag.For o h = refl
+  price-other Tag.Off o h = refl
+  price-other Tag.Hold o h = absurd (let z : _≡_ {A = ℕ} 0 1 = cc in omega arith)

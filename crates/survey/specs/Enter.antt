@@ -2,27 +2,29 @@
 use mathlib.Core.Path.{_≡_}
 use mathlib.Core.Bool.{Bool, not, cond, _&&_}
 use mathlib.Core.List.{List}
-use Prim.Native.Nat.{ℕ, _+_, _*_}
+use Prim.Native.Nat.{ℕ, _+_, _*_, _<_}
 use lib.IntN.{ℤ}
 use Rattle.rules.specs.declared.Row.{Row}
 use Rattle.rules.specs.declared.Kind.{Kind}
 use Rattle.rules.specs.declared.Verdict.the-variants.{Passed as passed, Refused as refused}
-use Rattle.rules.specs.Steps.{starts}
+use Rattle.rules.specs.Steps.{starts, assigns}
 use Rattle.rules.specs.Ranges.{Env, atStart}
 use Rattle.rules.specs.Trips as trips
-use Rattle.rules.specs.Trips.{Trip, turnsOf, outerOf}
+use Rattle.rules.specs.Trips.{Trip, turnsOf, outerOf, inside}
 use Rattle.rules.specs.declared.Prices.{Prices}
 use Rattle.rules.specs.Questions.{ofTrip}
 use Rattle.table.specs.Code.{kindAt}
 use Rattle.steps.specs.Tree.{formOf, testOf}
-use Rattle.steps.specs.Body.{bodyAt}
+use Rattle.steps.specs.Body.{bodyAt, EndsAt}
 use Rattle.steps.specs.Sets.{setOf}
 use Rattle.trips.specs.declared.Loop.{Loop}
-use Rattle.trips.specs.Found.{tripOf, LoopAt}
-use Rattle.ranges.specs.Env.{EnvIs, widened}
+use Rattle.trips.specs.Env.{rangeOf}
+use Rattle.trips.specs.Found.{tripOf}
+use Rattle.ranges.specs.Env.{EnvIs, widenedEnv}
 use Rattle.ticks.specs.Capped.{capped, once}
 use Rattle.passes.specs.declared.Round.{Round}
 use Rattle.passes.specs.Rounds.{roundOf, passIn, FineRound, walkedBy, bodyOf}
+use Rattle.survey.specs.declared.Exit.{Exit}
 use Rattle.survey.specs.declared.Entered.{Entered}
 use Rattle.survey.specs.declared.Ran.{Ran}
 use Rattle.survey.specs.declared.Tally.{Tally}
@@ -53,17 +55,32 @@ pub record Entry (text : List ℕ) (π : Prices) (i v : ℕ) (r : Round) (k : Ki
   pub ran : RanOf (e .round .known) (e .round .count) (turnsOf τ) (capped (walkedAt text r (t .kept) k τ)) (r .count) (e .ran)
   pub lined : Lined t i τ (turnsOf τ) (capped (walkedAt text r (t .kept) k τ * r .times)) (e .round .count * lastTicks text π k) (e .round .known) first
 
--- the loop at row i has been entered from the ranges ρ: r holds those at its start
+-- what leaves a loop, from what is found of it
+pub record ExitOf (one : Loop) (x : Exit) : Type 0 where
+  pub tested : x .tested ≡ one .tested
+  pub mine : rangeOf (x .mine) ≡ outerOf (tripOf (one .trip))
+  pub sets : x .set ≡ one .set
+  pub next : x .next ≡ one .next
+
+-- what leaves the loop at row i, ρ the ranges at its start
+pub record ExitAt (text : List ℕ) (rows : List Row) (count i : ℕ) (ρ : Env) (x : Exit) : Type 0 where
+  pub tested : x .tested ≡ testOf text (kindAt rows i) .tested
+  pub small : x .tested < 16
+  pub mine : rangeOf (x .mine) ≡ outerOf (trips.trip (formOf text (kindAt rows i)) ρ (testOf text (kindAt rows i)) (bodyAt text rows count i))
+  pub sets : (w : ℕ) → setOf (x .set) w ≡ assigns w (bodyAt text rows count i)
+  pub ends : EndsAt text rows count i (x .next)
+
+-- the loop at row i has been entered from the ranges ρ: where it is not refused, r holds those at its body's start
 pub record EnteredAt (text : List ℕ) (π : Prices) (rows : List Row) (count i : ℕ) (round : Round) (ρ : Env) (t : TallyLines) (r : List (List ℤ)) (e : Entered) (first : TallyLines) : Type 0 where
-  pub begun : EnvIs r (startAt text rows i ρ)
-  pub one : LoopAt text rows count i (startAt text rows i ρ) (e .one)
+  pub begun : first .number ≡ 0 → EnvIs r (inside (formOf text (kindAt rows i)) (startAt text rows i ρ) (testOf text (kindAt rows i)) (bodyAt text rows count i))
+  pub exit : ExitAt text rows count i (startAt text rows i ρ) (e .exit)
   pub stopped : (first .number ≡ 0 → ⊥) → ofTrip i (tripAt text rows count i ρ) ≡ refused (first .number) (first .place)
   pub whole : first .number ≡ 0 → Entry text π i (testOf text (kindAt rows i) .tested) round (kindAt rows i) (tripAt text rows count i ρ) t e first
 
--- a loop has been left, ρ the ranges at its start: r holds those after it
-pub record LeftLoop (π : Prices) (k : Kind) (one : Loop) (round : Round) (ran : Ran) (t body : Tally) (ρ : Env) (r : List (List ℤ)) (x : Tally) : Type 0 where
-  pub env : EnvIs r (widened one (outerOf (tripOf (one .trip))) ρ)
+-- a loop has been left, ρ the ranges at its body's start: r holds those after it
+pub record LeftLoop (π : Prices) (k : Kind) (exit : Exit) (round : Round) (ran : Ran) (t body : Tally) (ρ : Env) (r : List (List ℤ)) (x : Tally) : Type 0 where
+  pub env : EnvIs r (widenedEnv (setOf (exit .set)) (rangeOf (exit .mine)) (exit .tested) ρ)
   pub closed : (text : List ℕ) (B : ℕ) → body .spent ≡ capped B → (ks ls : List (List ℕ))
       → let G : ℕ = B + ran .tests * π .test in
-      Closed (withLines t ks) (withLines body ls) (one .next) (capped (ran .own * G + 1 * once π (formOf text k))) (capped (ran .all * G + round .count * once π (formOf text k)))
-      ((t .kept && not (starts (round .v) (formOf text k) (testOf text k))) && not (setOf (one .set) (round .v))) (withLines x ls)
+      Closed (withLines t ks) (withLines body ls) (exit .next) (capped (ran .own * G + 1 * once π (formOf text k))) (capped (ran .all * G + round .count * once π (formOf text k)))
+      ((t .kept && not (starts (round .v) (formOf text k) (testOf text k))) && not (setOf (exit .set) (round .v))) (withLines x ls)

@@ -1,4 +1,4 @@
-// The whole file: the questions 8 to 13, ticks, and the report's lines.
+// The whole file: the questions 19 and 8 to 13, ticks, and the report's lines.
 use lines::put_line;
 use passes::Round;
 use passes::body;
@@ -8,8 +8,9 @@ use ranges::after;
 use ranges::at_start;
 use ranges::inside;
 use ranges::joined;
-use ranges::outside;
+use ranges::outer;
 use ranges::step_row;
+use ranges::widen;
 use rules::Kind;
 use rules::LoopLine;
 use rules::Prices;
@@ -27,6 +28,7 @@ use ticks::loop_ticks;
 use ticks::plus;
 use ticks::times;
 use trips::Loop;
+use trips::Span;
 use trips::Trip;
 use trips::loop_at;
 use turns::Figure;
@@ -53,10 +55,10 @@ ghost use Rattle.trips.specs.Found.{tripOf};
 ghost use Rattle.ticks.specs.Capped.{capped};
 ghost use Rattle.passes.specs.Rounds.{FineRound};
 ghost use Rattle.survey.specs.Fold.{withLines, lastTicks, PastRow, Restarted, Lined, Closed, EndedAt, Walkable, Surveyed};
-ghost use Rattle.survey.specs.Enter.{RanOf, EnteredAt, LeftLoop};
+ghost use Rattle.survey.specs.Enter.{ExitOf, RanOf, EnteredAt, LeftLoop};
 ghost use Rattle.survey.specs.Whole.{FirstNo, SurveyOf};
 
-// What a walk has found: a refusal of 8 to 12 (number 0: none), whether the variable of the loop round the block is known and not
+// What a walk has found: a refusal of 19 or 8 to 12 (number 0: none), whether the variable of the loop round the block is known and not
 // assigned so far, the first block over the limit (256: none), the ticks of all passes of one entry of that loop, how many lines there
 // are so far, and the row that closes the block.
 struct Tally {
@@ -273,10 +275,31 @@ fn kept_at(kind: Kind, v: u8, kept: bool) -> bool
     }
 }
 
-// A loop that has been entered: how often its passes are taken, the passes of its body, and what has been found: its line, or its
-// refusal.
+// What leaves a loop: its tested variable and the range of that one after the loop, the variables that its body assigns, and its end.
+struct Exit {
+    tested: u8,
+    mine: Span,
+    set: [bool; 16],
+    next: usize,
+}
+
+fn exit_of(one: Loop) -> Exit
+    ensures { λ x. ⌜ ExitOf one x ⌝ }
+{
+    let trip = one.trip;
+    let set = one.set;
+    Exit {
+        tested: one.tested,
+        mine: outer(trip),
+        set: set,
+        next: one.next,
+    }
+}
+
+// A loop that has been entered: what leaves it, how often its passes are taken, the passes of its body, and what has been found: its line,
+// or its refusal.
 struct Entered {
-    one: Loop,
+    exit: Exit,
     ran: Ran,
     round: Round,
     first: Tally,
@@ -288,7 +311,7 @@ const NONE: Ran = Ran {
     tests: 0,
 };
 
-// From the ranges before the loop at row i to those at its start: its questions 8 to 12, then its line.
+// From the ranges before the loop at row i to those at its body's start: its questions 19 and 8 to 12, then its line.
 fn enter_loop(
     text: &[u8],
     rows: &[[u32; 9]; 256],
@@ -307,9 +330,10 @@ fn enter_loop(
     at_start(text, r, kind);
     let one = loop_at(text, rows, count, i, r);
     let trip = one.trip;
+    let exit = exit_of(one);
     match ask(trip) {
         Figure::Refused(number) => Entered {
-            one: one,
+            exit: exit,
             ran: NONE,
             round: round,
             first: refused(t, number, i),
@@ -322,8 +346,9 @@ fn enter_loop(
             let spent = inner.count * last_ticks(kind, prices);
             let first = lined(lines, t, i, trip, turns, total, spent, inner.known);
             let ran = ran_of(inner, turns, all, round.count);
+            inside(r, one);
             Entered {
-                one: one,
+                exit: exit,
                 ran: ran,
                 round: inner,
                 first: first,
@@ -332,11 +357,11 @@ fn enter_loop(
     }
 }
 
-// From the ranges at a loop's start to those after it, and what is found after its body.
+// From the ranges at a loop's body's start to those after it, and what is found after its body.
 fn leave_loop(
     rows: &[[u32; 9]; 256],
     i: usize,
-    one: Loop,
+    exit: Exit,
     round: Round,
     ran: Ran,
     prices: Prices,
@@ -344,17 +369,17 @@ fn leave_loop(
     body: Tally,
     r: &mut [[i32; 2]; 16],
 ) -> Tally
-    requires { ⌜ (i < 256) × (one .tested < 16) × (one .next < 256) × (t .spent ≤ 1_000_000_000_001) × (body .spent ≤ 1_000_000_000_001) × (length (now r) ≡ 16) × FinePrices prices × FineRound round × (ran .tests ≤ 4_096) ⌝ }
-    ensures { λ x. ⌜ LeftLoop prices (kindAt (rowsOf (now (rows .entry))) i) one round ran t body (envOf (now (r .entry))) (now (r .exit)) x ⌝ }
+    requires { ⌜ (i < 256) × (exit .tested < 16) × (exit .next < 256) × (t .spent ≤ 1_000_000_000_001) × (body .spent ≤ 1_000_000_000_001) × (length (now r) ≡ 16) × FinePrices prices × FineRound round × (ran .tests ≤ 4_096) ⌝ }
+    ensures { λ x. ⌜ LeftLoop prices (kindAt (rowsOf (now (rows .entry))) i) exit round ran t body (envOf (now (r .entry))) (now (r .exit)) x ⌝ }
 {
-    outside(r, one);
+    let assigned = exit.set;
+    widen(r, assigned, exit.mine, exit.tested);
     let kind = kind_at(rows, i);
-    let e = one.next;
+    let e = exit.next;
     let inner = plus(body.spent, ran.tests * prices.test);
     let own = loop_ticks(kind, prices, 1, ran.own, inner);
     let all = loop_ticks(kind, prices, round.count, ran.all, inner);
     let begun = kept_at(kind, round.v, t.kept);
-    let assigned = one.set;
     let set = has(assigned, round.v);
     let kept = both(begun, !set);
     closed(t, body, e, own, all, kept)
@@ -397,32 +422,14 @@ fn walk(
             }
             Shape::Branch => {
                 let part = branch(round);
-                let a = walk(
-                    text,
-                    rows,
-                    count,
-                    i + 1,
-                    r,
-                    part,
-                    prices,
-                    lines,
-                    restarted(t, 0),
-                );
+                let begun = restarted(t, 0);
+                let a = walk(text, rows, count, i + 1, r, part, prices, lines, begun);
                 if a.number != 0 {
                     return a;
                 }
                 let second = past_else(rows, a.next);
-                let b = walk(
-                    text,
-                    rows,
-                    count,
-                    second,
-                    r,
-                    part,
-                    prices,
-                    lines,
-                    restarted(a, 0),
-                );
+                let again = restarted(a, 0);
+                let b = walk(text, rows, count, second, r, part, prices, lines, again);
                 if b.number != 0 {
                     return b;
                 }
@@ -433,29 +440,18 @@ fn walk(
             }
             Shape::Loop => {
                 let entered = enter_loop(text, rows, count, i, round, prices, lines, t, &mut r);
-                let one = entered.one;
                 let first = entered.first;
                 if first.number != 0 {
                     return first;
                 }
-                let mut begun = r;
-                inside(&mut begun, one);
-                let body = walk(
-                    text,
-                    rows,
-                    count,
-                    i + 1,
-                    begun,
-                    entered.round,
-                    prices,
-                    lines,
-                    first,
-                );
+                let inner = entered.round;
+                let body = walk(text, rows, count, i + 1, r, inner, prices, lines, first);
                 if body.number != 0 {
                     return body;
                 }
-                t = leave_loop(rows, i, one, round, entered.ran, prices, t, body, &mut r);
-                i = one.next + 1;
+                let exit = entered.exit;
+                t = leave_loop(rows, i, exit, round, entered.ran, prices, t, body, &mut r);
+                i = exit.next + 1;
             }
             Shape::Close => {
                 return ended(t, i);
@@ -471,7 +467,7 @@ struct Refusal {
     place: usize,
 }
 
-// 8 to 12 before 13; of 13 the first block before the file.
+// 19 and 8 to 12 before 13; of 13 the first block before the file.
 fn first_no(t: Tally, count: usize) -> Refusal
     ensures { λ r. ⌜ FirstNo t count r ⌝ }
 {
@@ -509,7 +505,7 @@ const ALONE: Round = Round {
     known: false,
 };
 
-// The questions 8 to 13 of a file (number 0: all have yes), and the report's figures; all 0 for a refused file.
+// The questions 19 and 8 to 13 of a file (number 0: all have yes), and the report's figures; all 0 for a refused file.
 pub struct Figures {
     pub number: u32,
     pub place: usize,

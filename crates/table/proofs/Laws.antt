@@ -9,7 +9,7 @@ use native.Mathlib.Omega.{arith}
 use lib.ListN.{length, getD, set}
 use Rattle.rules.specs.declared.Row.{Row}
 use Rattle.rules.specs.declared.Kind.{Kind}
-use Rattle.rules.specs.declared.Kind.the-variants.{Set, Move, Cue, Pick, Else, End, While, Do, For}
+use Rattle.rules.specs.declared.Kind.the-variants.{Set, Move, Cue, Pick, Else, End, While, Do, For, Off, Hold}
 use Rattle.rules.specs.Blocks.{viewOf, kindOf, kindsOf}
 use Rattle.rules.specs.Steps.{sets}
 use Rattle.table.specs.declared.Tag.{Tag}
@@ -30,7 +30,7 @@ kind-is t i p q = kind-in t i ∙ ap (λ x. kindBy x (numbersAt t i)) (sym p ∙
 
 -- a row that is no else
 abbrev other : List ℕ
-other = 0 ∷ 2 ∷ 3 ∷ 4 ∷ 5 ∷ 6 ∷ 7 ∷ 8 ∷ []
+other = 0 ∷ 2 ∷ 3 ∷ 4 ∷ 5 ∷ 6 ∷ 7 ∷ 8 ∷ 9 ∷ 10 ∷ []
 
 pub not-else : (g : Tag) (e : List ℕ) → OneOf other (tagOf the-type g) → (i : ℕ) → pastElse (kindBy g e) i ≡ i
 unfolding kindBy viewOf kindOf
@@ -43,10 +43,12 @@ not-else Tag.Cue e o i = refl
 not-else Tag.While e o i = refl
 not-else Tag.Do e o i = refl
 not-else Tag.For e o i = refl
+not-else Tag.Off e o i = refl
+not-else Tag.Hold e o i = refl
 
--- a row that is no set, no change and no for
+-- a row that is no set, no change, no for and no off
 abbrev idle : List ℕ
-idle = 0 ∷ 1 ∷ 2 ∷ 5 ∷ 6 ∷ 7 ∷ []
+idle = 0 ∷ 1 ∷ 2 ∷ 5 ∷ 6 ∷ 7 ∷ 10 ∷ []
 
 pub not-assigned : (text : List ℕ) (g : Tag) (e : List ℕ) → OneOf idle (tagOf the-type g) → (w : ℕ) → sets w (plainOf text (kindBy g e)) ≡ false
 unfolding kindBy viewOf kindOf sets
@@ -59,6 +61,8 @@ not-assigned text Tag.Cue e o w = refl
 not-assigned text Tag.While e o w = refl
 not-assigned text Tag.Do e o w = refl
 not-assigned text Tag.For e o w = absurd (miss idle 8 tt o)
+not-assigned text Tag.Off e o w = absurd (miss idle 9 tt o)
+not-assigned text Tag.Hold e o w = refl
 
 -- a variable is a byte
 pub small : (v : ℕ) → v < 16 → min v 255 ≡ v
@@ -93,6 +97,8 @@ shape-text text End = refl
 shape-text text (While v c x) = refl
 shape-text text (Do v c x) = refl
 shape-text text (For v s c x d) = refl
+shape-text text (Off v w c k) = refl
+shape-text text (Hold v) = refl
 
 -- and the row after it
 pub past-text : (text : List ℕ) (k : Kind) (i : ℕ) → pastBy (viewOf (kindOf text k)) i ≡ pastElse k i
@@ -106,3 +112,5 @@ past-text text End i = refl
 past-text text (While v c x) i = refl
 past-text text (Do v c x) i = refl
 past-text text (For v s c x d) i = refl
+past-text text (Off v w c k) i = refl
+past-text text (Hold v) i = refl

@@ -7,7 +7,7 @@ use lib.ListN.{length}
 use lib.Signed.{_≤ℤ_}
 use Rattle.ints.proofs.Parts.{ints, neg-parts}
 use Rattle.rules.specs.declared.Kind.{Kind}
-use Rattle.rules.specs.declared.Kind.the-variants.{Set, Move, Cue, Pick, Else, End, While, Do, For}
+use Rattle.rules.specs.declared.Kind.the-variants.{Set, Move, Cue, Pick, Else, End, While, Do, For, Off, Hold}
 use Rattle.rules.specs.declared.Operand.{Operand}
 use Rattle.rules.specs.declared.Operand.the-variants.{Constant, Variable, Expression}
 use Rattle.rules.specs.declared.Change.{Change}
@@ -50,3 +50,5 @@ module _ (text : List ℕ) (short : length text ≤ 16_384) (m : ℕ) (h : m ≤
   row-fine (While v c x) l (a, b) w = (omega arith, operand-fine x l b w)
   row-fine (Do v c x) l (a, b) w = (omega arith, operand-fine x l b w)
   row-fine (For v s c x d) (p, q, r) (a, b, e) (w, z) = (omega arith, operand-fine s p b w, operand-fine x q e z, change-fine d r)
+  row-fine (Off v u c k) (p, q) (a, b) w = (omega arith, omega arith, near k p q)
+  row-fine (Hold v) l b w = omega arith

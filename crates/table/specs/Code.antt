@@ -1,5 +1,5 @@
 -- What a row of the table stands for: its numbers are the kind's tag; the variable; the first operand's tag and value; the comparison; the
--- limit's tag and value; the change's tag and value.
+-- limit's tag and value; the change's tag and value. An off has its watched variable and its constant in the places of the two operands.
 use mathlib.Core.Path.{_≡_}
 use mathlib.Core.Bool.{Bool, cond}
 use mathlib.Core.List.{List, [], map}
@@ -9,7 +9,7 @@ use lib.IntN.{ℤ, pos, _-ℤ_}
 use lib.ListN.{getD, take}
 use Rattle.rules.specs.declared.Row.{Row}
 use Rattle.rules.specs.declared.Kind.{Kind}
-use Rattle.rules.specs.declared.Kind.the-variants.{Set, Move, Cue, Pick, Else, End, While, Do, For}
+use Rattle.rules.specs.declared.Kind.the-variants.{Set, Move, Cue, Pick, Else, End, While, Do, For, Off, Hold}
 use Rattle.rules.specs.declared.Operand.{Operand}
 use Rattle.rules.specs.declared.Operand.the-variants.{Constant, Variable, Expression}
 use Rattle.rules.specs.declared.Comparison.{Comparison}
@@ -46,11 +46,19 @@ limitIn e = operandIn (number e 5) (number e 6)
 abbrev pub stepIn : List ℕ → Change
 stepIn e = changeIn (number e 7) (number e 8)
 
+-- what an off compares: the watched variable with a constant
+abbrev pub watchedIn : List ℕ → ℕ
+watchedIn e = min (number e 3) 255
+
+abbrev pub againstIn : List ℕ → ℤ
+againstIn e = constantIn (number e 6)
+
 -- the tag that a number stands for
 abbrev pub tagIn : ℕ → Tag
 tagIn t =
     cond (eqb t 0) Tag.End (cond (eqb t 1) Tag.Else (cond (eqb t 2) Tag.Pick (cond (eqb t 3) Tag.Set
-    (cond (eqb t 4) Tag.Move (cond (eqb t 5) Tag.Cue (cond (eqb t 6) Tag.While (cond (eqb t 7) Tag.Do Tag.For)))))))
+    (cond (eqb t 4) Tag.Move (cond (eqb t 5) Tag.Cue (cond (eqb t 6) Tag.While (cond (eqb t 7) Tag.Do (cond (eqb t 8) Tag.For
+    (cond (eqb t 9) Tag.Off Tag.Hold)))))))))
 
 abbrev pub rowTag : List ℕ → Tag
 rowTag e = tagIn (number e 0)
@@ -66,6 +74,8 @@ kindBy Tag.Cue e = Cue (number e 8)
 kindBy Tag.While e = While (variableIn e) (comparisonIn (number e 4)) (limitIn e)
 kindBy Tag.Do e = Do (variableIn e) (comparisonIn (number e 4)) (limitIn e)
 kindBy Tag.For e = For (variableIn e) (startIn e) (comparisonIn (number e 4)) (limitIn e) (stepIn e)
+kindBy Tag.Off e = Off (variableIn e) (watchedIn e) (comparisonIn (number e 4)) (againstIn e)
+kindBy Tag.Hold e = Hold (variableIn e)
 
 unfoldable pub kindIn : List ℕ → Kind
 kindIn e = kindBy (rowTag e) e

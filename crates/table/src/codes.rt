@@ -17,6 +17,10 @@ pub const DO: u32 = 7;
 
 pub const FOR: u32 = 8;
 
+pub const OFF: u32 = 9;
+
+pub const HOLD: u32 = 10;
+
 pub const CONSTANT: u32 = 0;
 
 pub const VARIABLE: u32 = 1;

@@ -1,4 +1,4 @@
-// The columns of a row of the table. A cue's number stands where a change has its number.
+// The columns of a row of the table. A cue's number stands where a change has its number; what an off reads stands as its operands do.
 pub const TAG: usize = 0;
 
 pub const VARIABLE: usize = 1;

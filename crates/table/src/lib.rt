@@ -82,6 +82,8 @@ pub enum Tag {
     While,
     Do,
     For,
+    Off,
+    Hold,
 }
 
 fn tag_of(t: u32) -> Tag
@@ -96,7 +98,9 @@ fn tag_of(t: u32) -> Tag
         codes::CUE => Tag::Cue,
         codes::WHILE => Tag::While,
         codes::DO => Tag::Do,
-        _ => Tag::For,
+        codes::FOR => Tag::For,
+        codes::OFF => Tag::Off,
+        _ => Tag::Hold,
     }
 }
 
@@ -134,6 +138,13 @@ fn kind_of(e: [u32; 9]) -> Kind
         Tag::While => Kind::While(v, c, limit(e)),
         Tag::Do => Kind::Do(v, c, limit(e)),
         Tag::For => Kind::For(v, first_operand(e), c, limit(e), step(e)),
+        Tag::Off => Kind::Off(
+            v,
+            byte(e[columns::START_VALUE]),
+            c,
+            constant(e[columns::LIMIT_VALUE]),
+        ),
+        Tag::Hold => Kind::Hold(v),
     }
 }
 
@@ -201,6 +212,8 @@ pub fn shape_at(rows: &[[u32; 9]; 256], i: usize) -> Shape
         Tag::While => Shape::Loop,
         Tag::Do => Shape::Loop,
         Tag::For => Shape::Loop,
+        Tag::Off => Shape::Plain,
+        Tag::Hold => Shape::Loop,
     }
 }
 
@@ -215,7 +228,7 @@ pub fn past_else(rows: &[[u32; 9]; 256], at: usize) -> usize
     }
 }
 
-// Does row i assign its variable: a set, a change or a for's step row?
+// Does row i assign its variable: a set, a change, a for's step row or an off?
 pub fn assigns(rows: &[[u32; 9]; 256], i: usize) -> bool
     requires { ⌜ i < 256 ⌝ }
     ensures { λ r. ⌜ ((text : List ℕ) (w : ℕ) → sets w (plainOf text (kindAt (rowsOf (now (rows .entry))) i)) ≡ (r && eqb w (variableIn (numbersAt (now (rows .entry)) i)))) ⌝ }
@@ -224,6 +237,7 @@ pub fn assigns(rows: &[[u32; 9]; 256], i: usize) -> bool
         Tag::Set => true,
         Tag::Move => true,
         Tag::For => true,
+        Tag::Off => true,
         _ => false,
     }
 }
@@ -366,6 +380,30 @@ fn for_row(v: u8, x: Operand, c: Comparison, y: Operand, d: Change) -> [u32; 9]
     ]
 }
 
+fn off_row(v: u8, w: u8, c: Comparison, k: i32) -> [u32; 9]
+    requires { ⌜ (v < 16) × (w < 16) × Near 1 k ⌝ }
+    ensures { λ r. ⌜ kindIn r ≡ Kind.Off v w c k ⌝ }
+{
+    [
+        codes::OFF,
+        v as u32,
+        codes::VARIABLE,
+        w as u32,
+        comparison_code(c),
+        codes::CONSTANT,
+        shifted(k),
+        0,
+        0,
+    ]
+}
+
+fn hold_row(v: u8) -> [u32; 9]
+    requires { ⌜ v < 16 ⌝ }
+    ensures { λ r. ⌜ kindIn r ≡ Kind.Hold v ⌝ }
+{
+    [codes::HOLD, v as u32, 0, 0, 0, 0, 0, 0, 0]
+}
+
 // The numbers of a row.
 fn row_code(kind: Kind) -> [u32; 9]
     requires { ⌜ Fine kind ⌝ }
@@ -381,6 +419,8 @@ fn row_code(kind: Kind) -> [u32; 9]
         Kind::While(v, c, x) => test_row(codes::WHILE, v, c, x),
         Kind::Do(v, c, x) => test_row(codes::DO, v, c, x),
         Kind::For(v, x, c, y, d) => for_row(v, x, c, y, d),
+        Kind::Off(v, w, c, k) => off_row(v, w, c, k),
+        Kind::Hold(v) => hold_row(v),
     }
 }
 

@@ -92,6 +92,15 @@ cut-comparison (Compares c) = refl
 cut-comparison (Keyword n) = refl
 cut-comparison Other = refl
 
+pub cut-ordered : (w : Word) → File.asksOrdered (cut w) ≡ File.asksOrdered w
+unfolding cut
+cut-ordered Missing = refl
+cut-ordered (Number z) = refl
+cut-ordered (Variable v) = refl
+cut-ordered (Compares c) = refl
+cut-ordered (Keyword n) = refl
+cut-ordered Other = refl
+
 pub cut-comparison-of : (w : Word) → File.comparisonOf (cut w) ≡ File.comparisonOf w
 unfolding cut
 cut-comparison-of Missing = refl
@@ -150,6 +159,7 @@ cut-change Name.Add w = cut-number (pos 0) highest w (up-below 0)
 cut-change Name.Sub w = cut-number (pos 0) highest w (up-below 0)
 cut-change Name.Mul w = cut-number (pos 1) highest w (up-below 1)
 cut-change Name.Div w = cut-number (pos 1) highest w (up-below 1)
+cut-change Name.Off w = refl
 cut-change Name.Cue w = refl
 cut-change Name.Pick w = refl
 cut-change Name.Else w = refl
@@ -157,6 +167,7 @@ cut-change Name.End w = refl
 cut-change Name.While w = refl
 cut-change Name.Do w = refl
 cut-change Name.For w = refl
+cut-change Name.Hold w = refl
 
 pub cut-change-of : (n : Name) (w : Word) → File.asksChange n w ≡ 0 → File.changeOf n (cut w) ≡ File.changeOf n w
 cut-change-of Name.Set w e = refl
@@ -164,6 +175,7 @@ cut-change-of Name.Add w e = ap (λ z. Change.Add (natAbs z)) (cut-number-of (po
 cut-change-of Name.Sub w e = ap (λ z. Change.Sub (natAbs z)) (cut-number-of (pos 0) highest w (up-below 0) e)
 cut-change-of Name.Mul w e = ap (λ z. Change.Mul (natAbs z)) (cut-number-of (pos 1) highest w (up-below 1) e)
 cut-change-of Name.Div w e = ap (λ z. Change.Div (natAbs z)) (cut-number-of (pos 1) highest w (up-below 1) e)
+cut-change-of Name.Off w e = refl
 cut-change-of Name.Cue w e = refl
 cut-change-of Name.Pick w e = refl
 cut-change-of Name.Else w e = refl
@@ -171,6 +183,7 @@ cut-change-of Name.End w e = refl
 cut-change-of Name.While w e = refl
 cut-change-of Name.Do w e = refl
 cut-change-of Name.For w e = refl
+cut-change-of Name.Hold w e = refl
 
 pub cut-step : (x w : Word) → File.asksStep (cut x) (cut w) ≡ File.asksStep x w
 unfolding cut
@@ -215,6 +228,9 @@ module _ (u w : ℕ → Word) (same : (k : ℕ) → k < 8 → u k ≡ cut (w k))
 
   comparison-at : (k : ℕ) → T (ltb k 8) → File.asksComparison (u k) ≡ File.asksComparison (w k)
   comparison-at k t = ap File.asksComparison (at k t) ∙ cut-comparison (w k)
+
+  ordered-at : (k : ℕ) → T (ltb k 8) → File.asksOrdered (u k) ≡ File.asksOrdered (w k)
+  ordered-at k t = ap File.asksOrdered (at k t) ∙ cut-ordered (w k)
 
   comparison-of-at : (k : ℕ) → T (ltb k 8) → File.comparisonOf (u k) ≡ File.comparisonOf (w k)
   comparison-of-at k t = ap File.comparisonOf (at k t) ∙ cut-comparison-of (w k)
@@ -278,8 +294,22 @@ module _ (u w : ℕ → Word) (same : (k : ℕ) → k < 8 → u k ≡ cut (w k))
         let s = step-of-at 5 6 tt tt i in
         cc
 
+    off-cut : File.offRow vars u expr ≡ File.offRow vars w expr
+    unfolding File.offRow
+    off-cut = checked-same _ _ _ _
+        (sooner-same (variable-at 1 tt) (sooner-same (variable-at 2 tt) (sooner-same (ordered-at 3 tt) (sooner-same (number-at 4 tt lowest highest lowest-below) (end-at 5 tt))))) λ h.
+        let (a, b) = sooner-yes _ _ h in
+        let (c, d) = sooner-yes _ _ b in
+        let (_, e) = sooner-yes _ _ d in
+        let (f, _) = sooner-yes _ _ e in
+        let v = variable-of-at 1 tt a in
+        let x = variable-of-at 2 tt c in
+        let o = comparison-of-at 3 tt in
+        let k = number-of-at 4 tt lowest highest lowest-below f in
+        cc
+
     named-cut : (n : Name) → File.namedRow vars u expr n ≡ File.namedRow vars w expr n
-    unfolding File.setRow File.cueRow File.whileRow File.doRow
+    unfolding File.setRow File.cueRow File.whileRow File.doRow File.holdRow
     named-cut Name.Set = checked-same _ _ _ _ (sooner-same (variable-at 1 tt) (sooner-same refl (end-at 3 tt))) λ h.
         let (a, b) = sooner-yes _ _ h in
         let (c, _) = sooner-yes _ _ b in
@@ -289,6 +319,7 @@ module _ (u w : ℕ → Word) (same : (k : ℕ) → k < 8 → u k ≡ cut (w k))
     named-cut Name.Sub = move-cut Name.Sub
     named-cut Name.Mul = move-cut Name.Mul
     named-cut Name.Div = move-cut Name.Div
+    named-cut Name.Off = off-cut
     named-cut Name.Cue =
         let b : Below (pos 0) (pos 9_999) = record { low = omega ints; high = omega ints } in
         checked-same _ _ _ _ (sooner-same (number-at 1 tt (pos 0) (pos 9_999) b) (end-at 2 tt)) λ h.
@@ -300,6 +331,9 @@ module _ (u w : ℕ → Word) (same : (k : ℕ) → k < 8 → u k ≡ cut (w k))
     named-cut Name.While = checked-same _ _ _ _ test-same λ h. let (a, b) = test-of-same h in cc
     named-cut Name.Do = checked-same _ _ _ _ test-same λ h. let (a, b) = test-of-same h in cc
     named-cut Name.For = for-cut
+    named-cut Name.Hold = checked-same _ _ _ _ (sooner-same (variable-at 1 tt) (end-at 2 tt)) λ h.
+        let (a, _) = sooner-yes _ _ h in
+        ap RowKind.Hold (variable-of-at 1 tt a)
 
     first-cut : (x : Word) → File.firstWord vars u expr (cut x) ≡ File.firstWord vars w expr x
     unfolding cut

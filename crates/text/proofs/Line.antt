@@ -62,7 +62,7 @@ no-text : (b : ℕ) (s : List ℕ) → b ≡ 10 → (k : ℕ) → spelling (b �
 unfolding spelling parts
 no-text b s e k = rw (eq-eqb b 10 e)
 
-pub next-none : (s : List ℕ) (at : ℕ) → Ends (drop at s) → at < length s → getD s at 0 ≡ 10 → Next s at (record { tag = 19; value = pos 0; end = at })
+pub next-none : (s : List ℕ) (at : ℕ) → Ends (drop at s) → at < length s → getD s at 0 ≡ 10 → Next s at (record { tag = 21; value = pos 0; end = at })
 unfolding cut wordIn
 next-none s at h l e = record {
   word = rw (drop-cons s at 0 l, no-more (getD s at 0) (drop (suc at) s) e 0);

@@ -73,7 +73,7 @@ pub record Packs (s : List ℕ) (n : ℕ) : Type 0 where
   pub same : n ≡ packed s
   pub bytes : Bytes s
 
--- every keyword and comparison: set, add, sub, mul, div, cue, for, while, do, end, else, pick, < <= > >= == !=
+-- every keyword and comparison: set, add, sub, mul, div, cue, off, for, while, do, end, else, pick, hold, < <= > >= == !=
 unfoldable pub keywords : List (List ℕ × Word)
 keywords =
     ((115 ∷ 101 ∷ 116 ∷ []), Keyword Name.Set) ∷
@@ -82,12 +82,14 @@ keywords =
     ((109 ∷ 117 ∷ 108 ∷ []), Keyword Name.Mul) ∷
     ((100 ∷ 105 ∷ 118 ∷ []), Keyword Name.Div) ∷
     ((99 ∷ 117 ∷ 101 ∷ []), Keyword Name.Cue) ∷
+    ((111 ∷ 102 ∷ 102 ∷ []), Keyword Name.Off) ∷
     ((102 ∷ 111 ∷ 114 ∷ []), Keyword Name.For) ∷
     ((119 ∷ 104 ∷ 105 ∷ 108 ∷ 101 ∷ []), Keyword Name.While) ∷
     ((100 ∷ 111 ∷ []), Keyword Name.Do) ∷
     ((101 ∷ 110 ∷ 100 ∷ []), Keyword Name.End) ∷
     ((101 ∷ 108 ∷ 115 ∷ 101 ∷ []), Keyword Name.Else) ∷
     ((112 ∷ 105 ∷ 99 ∷ 107 ∷ []), Keyword Name.Pick) ∷
+    ((104 ∷ 111 ∷ 108 ∷ 100 ∷ []), Keyword Name.Hold) ∷
     ((60 ∷ []), Compares Less) ∷
     ((60 ∷ 61 ∷ []), Compares AtMost) ∷
     ((62 ∷ []), Compares Greater) ∷
@@ -112,9 +114,9 @@ unfoldable pub variableWord : ℤ → Word
 variableWord (pos v) = Variable v
 variableWord (negsuc v) = Other
 
--- the word that a tag and a value say: 19 none, 20 a number, 21 a variable; below that the place of a keyword or comparison, and 18 any other word
+-- the word that a tag and a value say: 21 none, 22 a number, 23 a variable; below that the place of a keyword or comparison, and 20 any other word
 unfoldable pub wordIn : ℕ → ℤ → Word
-wordIn t z = cond (eqb t 19) Missing (cond (eqb t 20) (Number z) (cond (eqb t 21) (variableWord z) (wordAt keywords t)))
+wordIn t z = cond (eqb t 21) Missing (cond (eqb t 22) (Number z) (cond (eqb t 23) (variableWord z) (wordAt keywords t)))
 
 -- the word at the front of a text is read, its number cut off
 pub record Reads (s : List ℕ) (r : Found) : Type 0 where

@@ -160,37 +160,41 @@ const DIV: u32 = 4;
 
 const CUE: u32 = 5;
 
-const FOR: u32 = 6;
+const OFF: u32 = 6;
 
-const WHILE: u32 = 7;
+const FOR: u32 = 7;
 
-const DO: u32 = 8;
+const WHILE: u32 = 8;
 
-const END: u32 = 9;
+const DO: u32 = 9;
 
-const ELSE: u32 = 10;
+const END: u32 = 10;
 
-const PICK: u32 = 11;
+const ELSE: u32 = 11;
 
-const LESS: u32 = 12;
+const PICK: u32 = 12;
 
-const AT_MOST: u32 = 13;
+const HOLD: u32 = 13;
 
-const GREATER: u32 = 14;
+const LESS: u32 = 14;
 
-const AT_LEAST: u32 = 15;
+const AT_MOST: u32 = 15;
 
-const EQUAL: u32 = 16;
+const GREATER: u32 = 16;
 
-const DIFFERENT: u32 = 17;
+const AT_LEAST: u32 = 17;
 
-const OTHER: u32 = 18;
+const EQUAL: u32 = 18;
 
-const MISSING: u32 = 19;
+const DIFFERENT: u32 = 19;
 
-const NUMBER: u32 = 20;
+const OTHER: u32 = 20;
 
-const VARIABLE: u32 = 21;
+const MISSING: u32 = 21;
+
+const NUMBER: u32 = 22;
+
+const VARIABLE: u32 = 23;
 
 // The word that a tag and a value say.
 pub fn said(tag: u32, value: i32) -> Word
@@ -203,12 +207,14 @@ pub fn said(tag: u32, value: i32) -> Word
         MUL => Word::Keyword(Name::Mul),
         DIV => Word::Keyword(Name::Div),
         CUE => Word::Keyword(Name::Cue),
+        OFF => Word::Keyword(Name::Off),
         FOR => Word::Keyword(Name::For),
         WHILE => Word::Keyword(Name::While),
         DO => Word::Keyword(Name::Do),
         END => Word::Keyword(Name::End),
         ELSE => Word::Keyword(Name::Else),
         PICK => Word::Keyword(Name::Pick),
+        HOLD => Word::Keyword(Name::Hold),
         LESS => Word::Compares(Comparison::Less),
         AT_MOST => Word::Compares(Comparison::AtMost),
         GREATER => Word::Compares(Comparison::Greater),
@@ -240,6 +246,8 @@ const DIV_TEXT: u64 = b'd' as u64 + 256 * (b'i' as u64 + 256 * (b'v' as u64 + 25
 
 const CUE_TEXT: u64 = b'c' as u64 + 256 * (b'u' as u64 + 256 * (b'e' as u64 + 256));
 
+const OFF_TEXT: u64 = b'o' as u64 + 256 * (b'f' as u64 + 256 * (b'f' as u64 + 256));
+
 const FOR_TEXT: u64 = b'f' as u64 + 256 * (b'o' as u64 + 256 * (b'r' as u64 + 256));
 
 const WHILE_TEXT: u64 = b'w' as u64
@@ -254,6 +262,9 @@ const ELSE_TEXT: u64 = b'e' as u64
 
 const PICK_TEXT: u64 = b'p' as u64
     + 256 * (b'i' as u64 + 256 * (b'c' as u64 + 256 * (b'k' as u64 + 256)));
+
+const HOLD_TEXT: u64 = b'h' as u64
+    + 256 * (b'o' as u64 + 256 * (b'l' as u64 + 256 * (b'd' as u64 + 256)));
 
 const LESS_TEXT: u64 = b'<' as u64 + 256;
 
@@ -278,12 +289,14 @@ fn keyword(n: u64) -> u32
         MUL_TEXT => MUL,
         DIV_TEXT => DIV,
         CUE_TEXT => CUE,
+        OFF_TEXT => OFF,
         FOR_TEXT => FOR,
         WHILE_TEXT => WHILE,
         DO_TEXT => DO,
         END_TEXT => END,
         ELSE_TEXT => ELSE,
         PICK_TEXT => PICK,
+        HOLD_TEXT => HOLD,
         LESS_TEXT => LESS,
         AT_MOST_TEXT => AT_MOST,
         GREATER_TEXT => GREATER,

@@ -11,8 +11,8 @@ use native.Mathlib.Omega.{arith}
 use borrow.Author.Tests.{leb-true, leb-false, lt-ltb, le-ltb, le-leb, lt-leb}
 use lib.Dec.{leb}
 use Rattle.rules.specs.declared.Kind.{Kind}
-use Rattle.rules.specs.declared.Kind.the-variants.{Set, Move, Cue, Pick, Else, End, While, Do, For}
-use Rattle.rules.specs.Blocks.{Form, while, do-while, for, viewOf, kindOf}
+use Rattle.rules.specs.declared.Kind.the-variants.{Set, Move, Cue, Pick, Else, End, While, Do, For, Off, Hold}
+use Rattle.rules.specs.Blocks.{Form, while, do-while, hold, for, viewOf, kindOf}
 use Rattle.rules.specs.Bounds.{FinePrices}
 use Rattle.rules.specs.declared.Prices.{Prices}
 use Rattle.rules.specs.Figures.{loopTicks}
@@ -51,11 +51,12 @@ pub loop-ticks-is : (π : Prices) (form : Form) (all : ℕ) → loopTicks π for
 unfolding loopTicks
 loop-ticks-is π while all = refl
 loop-ticks-is π do-while all = omega arith
+loop-ticks-is π hold all = refl
 loop-ticks-is π (for x) all = omega arith
 
 -- any row but a do or a for
 abbrev one-test : List ℕ
-one-test = 0 ∷ 1 ∷ 2 ∷ 3 ∷ 4 ∷ 5 ∷ 6 ∷ []
+one-test = 0 ∷ 1 ∷ 2 ∷ 3 ∷ 4 ∷ 5 ∷ 6 ∷ 7 ∷ 10 ∷ []
 
 pub once-one : (π : Prices) (text : List ℕ) (k : Kind) → OneOf one-test (tagOf the-type k) → π .test ≡ once π (formOf text k)
 unfolding headOf viewOf kindOf
@@ -66,12 +67,15 @@ once-one π text Pick o = refl
 once-one π text Else o = refl
 once-one π text End o = refl
 once-one π text (While v c x) o = refl
-once-one π text (Do v c x) o = absurd (miss one-test 7 tt o)
-once-one π text (For v s c x d) o = absurd (miss one-test 8 tt o)
+once-one π text (Do v c x) o = absurd (miss one-test 8 tt o)
+once-one π text (For v s c x d) o = absurd (miss one-test 9 tt o)
+once-one π text (Off v w c k) o = refl
+once-one π text (Hold v) o = refl
 
 pub once-small : {π : Prices} → FinePrices π → (form : Form) → once π form ≤ 2_000
 once-small fine while = omega arith
 once-small fine do-while = omega arith
+once-small fine hold = omega arith
 once-small fine (for x) = omega arith
 
 -- ---- the first block over the limit

@@ -3,7 +3,7 @@ use mathlib.Core.Path.{_≡_}
 use mathlib.Core.Bool.{cond}
 use Prim.Native.Nat.{ℕ, _+_, min}
 use lib.Dec.{ltb, leb}
-use Rattle.rules.specs.Blocks.{Form, while, do-while, for}
+use Rattle.rules.specs.Blocks.{Form, while, do-while, hold, for}
 use Rattle.rules.specs.declared.Prices.{Prices}
 use Rattle.rules.specs.declared.Verdict.{Verdict}
 use Rattle.rules.specs.declared.Verdict.the-variants.{Passed as passed, Refused as refused}
@@ -16,6 +16,7 @@ capped n = min n 1_000_000_000_001
 abbrev pub once : Prices → Form → ℕ
 once π while = π .test
 once π do-while = 0
+once π hold = π .test
 once π (for x) = π .arithmetic + π .test
 
 -- the first block over the limit, as a verdict; 256 and more: none

@@ -36,7 +36,7 @@ pub fn times(n: u64, b: u64) -> u64
     if n <= MOST / b { n * b } else { MOST }
 }
 
-// What an entry takes beside its turns: a while its last test, a for its start too, a do nothing.
+// What an entry takes beside its turns: a while or a hold its last test, a for its start too, a do nothing.
 fn besides(kind: Kind, prices: Prices) -> u64
     requires { ⌜ FinePrices prices ⌝ }
     ensures { λ r. ⌜ ((text : List ℕ) → r ≡ once prices (formOf text kind)) ⌝ }

@@ -3,17 +3,19 @@ use mathlib.Core.Path.{_≡_}
 use mathlib.Core.Bool.{Bool, true, false, not, cond, _&&_}
 use mathlib.Core.List.{List}
 use Prim.Native.Nat.{ℕ, _<_}
-use lib.IntN.{pos, _-ℤ_}
+use lib.IntN.{ℤ, pos, _-ℤ_}
 use Rattle.rules.specs.declared.Row.{Row}
 use Rattle.rules.specs.declared.Step.{Step}
+use Rattle.rules.specs.declared.Step.the-variants.{Unknown}
 use Rattle.rules.specs.Expressions.{variable}
 use Rattle.rules.specs.declared.Comparison.{Comparison}
 use Rattle.rules.specs.Blocks.{Block}
 use Rattle.rules.specs.Steps.{assigns, step, isAdd, moving, difference}
-use Rattle.rules.specs.Ranges.{Range, Env, single, sort, ordered}
+use Rattle.rules.specs.Values.{opposite}
+use Rattle.rules.specs.Ranges.{Range, Env, single, sort, ordered, isHold}
 use Rattle.rules.specs.Bounds.{Ends}
 use Rattle.rules.specs.Trips as trips
-use Rattle.rules.specs.Trips.{nothing, untested, tries, keeps, own, copied, chase, wayOf, trip}
+use Rattle.rules.specs.Trips.{nothing, untested, tries, flag, keeps, own, broken, copied, chase, watched, toward, wayOf, trip}
 use Rattle.rules.specs.Questions.{known}
 use Rattle.table.specs.Code.{kindAt}
 use Rattle.steps.specs.Tree.{formOf, testOf}
@@ -32,23 +34,24 @@ abbrev pub leadOf : Lead → trips.Lead
 leadOf Lead.Nothing = nothing
 leadOf Lead.Untested = untested
 leadOf (Lead.Tries s) = tries (rangeOf s)
+leadOf (Lead.Flag s) = flag (rangeOf s)
 
 -- what is counted by starts from s, or from its difference from the limit's n
 abbrev pub startOf : Counter → Range → Range → Range
 startOf Counter.Own s n = s
-startOf Counter.Copy s n = s
+startOf Counter.Other s n = s
 startOf Counter.Difference s n = record { lo = s .lo -ℤ n .hi; hi = s .hi -ℤ n .lo }
 
 -- and is tested against the limit, or against 0
 abbrev pub limitOf : Counter → Range → Range
 limitOf Counter.Own n = n
-limitOf Counter.Copy n = n
+limitOf Counter.Other n = n
 limitOf Counter.Difference n = record { lo = pos 0; hi = pos 0 }
 
 -- the tested variable is not what is counted by
 abbrev pub freeOf : Counter → Bool
 freeOf Counter.Own = false
-freeOf Counter.Copy = true
+freeOf Counter.Other = true
 freeOf Counter.Difference = true
 
 -- the trip of the rules
@@ -62,12 +65,13 @@ tripOf t = record {
   lead = leadOf (t .lead);
   sure = t .sure;
   keeps = t .keeps;
+  terms = t .terms;
   free = freeOf (t .counter);
 }
 
 -- the tested variable's own trip from its parts
-abbrev pub ownFrom : Bool → Step → Comparison → Range → Range → Bool → trips.Trip
-ownFrom late st c s n keep = record {
+abbrev pub ownFrom : Bool → Bool → Step → Comparison → Range → Range → Bool → trips.Trip
+ownFrom terms late st c s n keep = record {
   step = st;
   comparison = c;
   start = s;
@@ -76,20 +80,22 @@ ownFrom late st c s n keep = record {
   lead = cond late untested nothing;
   sure = single s && single n;
   keeps = keep;
+  terms = terms;
   free = false;
 }
 
--- the trip of a copied variable from its parts; tested: the tested variable's start
-abbrev pub copyFrom : Bool → Step → Comparison → Range → Range → Bool → Bool → Range → trips.Trip
-copyFrom late st c s n keep ahead tested = record {
+-- the trip of a variable that the tested one's only row reads, from its parts; tested: the tested variable's start
+abbrev pub readFrom : trips.Lead → Step → Comparison → Range → Range → Bool → Bool → Range → trips.Trip
+readFrom lead st c s n keep ahead tested = record {
   step = st;
   comparison = c;
   start = s;
   limit = n;
   late = ahead;
-  lead = cond late untested (tries tested);
+  lead = lead;
   sure = single tested && (single s && single n);
   keeps = keep;
+  terms = true;
   free = true;
 }
 
@@ -104,6 +110,7 @@ chaseFrom late st c s n = record {
   lead = cond late untested nothing;
   sure = single s && single n;
   keeps = true;
+  terms = true;
   free = true;
 }
 
@@ -112,28 +119,42 @@ abbrev pub wayIs : Way → trips.Way
 wayIs Way.Own = own
 wayIs (Way.Copied w ahead moved) = copied w ahead
 wayIs (Way.Chase w apart) = chase w
+wayIs (Way.Watched w c k ahead moved) = watched w c k ahead
+wayIs Way.Broken = broken
 
 -- the other variable is one of the 16
 abbrev pub SmallWay : Way → Type 0
 SmallWay Way.Own = Unit {0}
 SmallWay (Way.Copied w ahead moved) = w < 16
 SmallWay (Way.Chase w apart) = w < 16
+SmallWay (Way.Watched w c k ahead moved) = w < 16
+SmallWay Way.Broken = Unit {0}
 
 -- and its step, or the step of the difference from v's, is that over the body
 abbrev pub WayStep : ℕ → Block → Way → Type 0
 WayStep v body Way.Own = Unit {0}
 WayStep v body (Way.Copied w ahead moved) = (moved ≡ step w body) × Ends 512 moved
 WayStep v body (Way.Chase w apart) = (apart ≡ difference (step v body) (step w body)) × Ends 512 apart
+WayStep v body (Way.Watched w c k ahead moved) = (moved ≡ step w body) × Ends 512 moved
+WayStep v body Way.Broken = Unit {0}
 
 -- the trip by a way, ρ the ranges at the loop's start
 abbrev pub tripFrom : Way → Env → Bool → Step → Comparison → Range → Range → Bool → trips.Trip
-tripFrom Way.Own ρ late st c s n keep = ownFrom late st c s n keep
-tripFrom (Way.Copied w ahead moved) ρ late st c s n keep = copyFrom late moved c (ρ w) n keep ahead s
+tripFrom Way.Own ρ late st c s n keep = ownFrom true late st c s n keep
+tripFrom (Way.Copied w ahead moved) ρ late st c s n keep = readFrom (cond late untested (tries s)) moved c (ρ w) n keep ahead s
 tripFrom (Way.Chase w apart) ρ late st c s n keep = chaseFrom late apart c s (ρ w)
+tripFrom (Way.Watched w d k ahead moved) ρ late st c s n keep = readFrom (flag s) moved (opposite d) (ρ w) (record { lo = k; hi = k }) true ahead s
+tripFrom Way.Broken ρ late st c s n keep = ownFrom false late st c s n keep
 
 -- the way of a loop at row i whose tested variable's only row copies w
 pub record CopiedAt (text : List ℕ) (rows : List Row) (count i : ℕ) (c : Comparison) (w : ℕ) (before after : Bool) (r : Way) : Type 0 where
   pub value : let st = step w (bodyAt text rows count i) in wayIs r ≡ cond (not (before && after) && (isAdd st && (moving st && ordered (sort c)))) (copied w before) own
+  pub small : SmallWay r
+  pub moves : WayStep (testOf text (kindAt rows i) .tested) (bodyAt text rows count i) r
+
+-- the way of a hold at row i whose flag's only row is an off that compares w with k
+pub record WatchedAt (text : List ℕ) (rows : List Row) (count i w : ℕ) (c : Comparison) (k : ℤ) (before after : Bool) (r : Way) : Type 0 where
+  pub value : wayIs r ≡ cond (not (before && after) && toward (step w (bodyAt text rows count i)) (sort (opposite c))) (watched w c k before) broken
   pub small : SmallWay r
   pub moves : WayStep (testOf text (kindAt rows i) .tested) (bodyAt text rows count i) r
 
@@ -147,9 +168,20 @@ pub record WayAt (text : List ℕ) (rows : List Row) (count i : ℕ) (r : Way) :
   pub small : SmallWay r
   pub moves : WayStep (testOf text (kindAt rows i) .tested) (bodyAt text rows count i) r
 
+-- the loop at row i is no hold
+abbrev pub NoHold : List ℕ → List Row → ℕ → Type 0
+NoHold text rows i = isHold (formOf text (kindAt rows i)) ≡ false
+
+-- its tested variable has no step of its own
+pub record SoleFrom (text : List ℕ) (rows : List Row) (count i : ℕ) : Type 0 where
+  pub loop : AtLoop text rows count i
+  pub form : NoHold text rows i
+  pub own : ownStep text rows count i ≡ Unknown
+
 -- its limit is the variable w, which the body assigns; st: the tested variable's own step, which is known
 pub record ChaseAt (text : List ℕ) (rows : List Row) (count i : ℕ) (h : Head) (st : Step) (w : ℕ) : Type 0 where
   pub loop : AtLoop text rows count i
+  pub form : NoHold text rows i
   pub head : HeadOf text (kindAt rows i) h
   pub own : st ≡ ownStep text rows count i
   pub near : Ends 256 st
@@ -161,14 +193,16 @@ pub record ChaseAt (text : List ℕ) (rows : List Row) (count i : ℕ) (h : Head
 -- question 10 has no; st as before
 pub record LimitAt (text : List ℕ) (rows : List Row) (count i : ℕ) (st : Step) : Type 0 where
   pub loop : AtLoop text rows count i
+  pub form : NoHold text rows i
   pub own : st ≡ ownStep text rows count i
   pub near : Ends 256 st
   pub sure : known st ≡ true
   pub changed : keeps (testOf text (kindAt rows i) .limit) (bodyAt text rows count i) ≡ false
 
--- st the tested variable's own step, kept question 10's answer
-pub record WayFrom (text : List ℕ) (rows : List Row) (count i : ℕ) (st : Step) (kept : Bool) : Type 0 where
+-- held: it is a hold; st the tested variable's own step, kept question 10's answer
+pub record WayFrom (text : List ℕ) (rows : List Row) (count i : ℕ) (held : Bool) (st : Step) (kept : Bool) : Type 0 where
   pub loop : AtLoop text rows count i
+  pub form : held ≡ isHold (formOf text (kindAt rows i))
   pub own : st ≡ ownStep text rows count i
   pub near : Ends 256 st
   pub limit : kept ≡ keeps (testOf text (kindAt rows i) .limit) (bodyAt text rows count i)

@@ -5,13 +5,14 @@ use rules::Comparison;
 use rules::Kind;
 use rules::Operand;
 use rules::Step;
+use steps::Read;
 use steps::Sole;
 use steps::body_moves;
 use steps::has;
 use steps::sole_of;
 use table::kind_at;
 ghost use mathlib.Core.Path.{_≡_};
-ghost use mathlib.Core.Bool.{not, cond, _&&_};
+ghost use mathlib.Core.Bool.{true, not, cond, _&&_};
 ghost use mathlib.Core.List.{List};
 ghost use Prim.Native.Nat.{ℕ, _<_};
 ghost use lib.ListN.{length, take, drop};
@@ -20,15 +21,17 @@ ghost use Rattle.rules.specs.Blocks.{Block, exprOf};
 ghost use Rattle.rules.specs.Written.{InText, WrittenOperand};
 ghost use Rattle.rules.specs.Steps.{assigns, isAdd, moving, difference};
 ghost use Rattle.rules.specs.Questions.{known};
-ghost use Rattle.rules.specs.Ranges.{bounds, isDo, isFor, single, sort, ordered};
+ghost use Rattle.rules.specs.Values.{opposite};
+ghost use Rattle.rules.specs.Ranges.{bounds, isDo, isHold, single, sort, ordered, suits};
 ghost use Rattle.rules.specs.Trips as trips;
 ghost use Rattle.rules.specs.Bounds.{Fine, FineOperand, Ends};
-ghost use Rattle.table.specs.Code.{rowsOf};
+ghost use Rattle.table.specs.Code.{kindAt, rowsOf};
 ghost use Rattle.steps.specs.Tree.{formOf};
 ghost use Rattle.steps.specs.Sets.{setOf};
 ghost use Rattle.steps.specs.Body.{AtLoop};
 ghost use Rattle.trips.specs.Env.{envOf, rangeOf, HeadOf};
-ghost use Rattle.trips.specs.Found.{leadOf, tripOf, ownFrom, copyFrom, chaseFrom, SmallWay, tripFrom, CopiedAt, ownStep, ChaseAt, LimitAt, WayFrom, WayAt, LoopAt};
+ghost use Rattle.trips.specs.Forms.{isFor, isRising, isFalling};
+ghost use Rattle.trips.specs.Found.{leadOf, tripOf, ownFrom, readFrom, chaseFrom, SmallWay, tripFrom, CopiedAt, WatchedAt, SoleFrom, ChaseAt, LimitAt, WayFrom, WayAt, LoopAt};
 
 // A pair of ends.
 pub struct Span {
@@ -107,6 +110,11 @@ fn head_of(kind: Kind) -> Head
             comparison: c,
             limit: x,
         },
+        Kind::Hold(v) => Head {
+            tested: v,
+            comparison: Comparison::Different,
+            limit: Operand::Constant(0),
+        },
         _ => NO_HEAD,
     }
 }
@@ -156,11 +164,13 @@ fn keeps(text: &[u8], limit: Operand, set: [bool; 16]) -> bool
     }
 }
 
-// What comes before the first counted test: nothing, a turn that is not tested (a do's), or a turn that tests another range.
+// What comes before the first counted test: nothing, a turn that is not tested (a do's), a turn that tests another range, or a turn if a
+// flag is not 0.
 pub enum Lead {
     Nothing,
     Untested,
     Tries(Span),
+    Flag(Span),
 }
 
 fn lead_of(untested: bool, first: Lead) -> Lead
@@ -169,17 +179,18 @@ fn lead_of(untested: bool, first: Lead) -> Lead
     if untested { Lead::Untested } else { first }
 }
 
-// What is counted by: the tested variable's own value; that of a variable copied into it; or the difference of the tested variable and the
-// limit. The tested variable is [-L, L] at the body's start and after the loop where it is not its own.
+// What is counted by: the tested variable's own value; that of another variable, which is copied into it or which its off watches; or the
+// difference of the tested variable and the limit. The tested variable is [-L, L] at the body's start and after the loop where it is not
+// its own.
 pub enum Counter {
     Own,
-    Copy,
+    Other,
     Difference,
 }
 
 // What is stepped and tested: the step that is read and its comparison, the ranges of its start and its limit (of a difference, those of
 // the two variables); whether the first counted test sees the start moved by one turn, and what comes before that test; whether all starts
-// are single numbers, question 10 has yes, and what is counted by.
+// are single numbers, questions 10 and 19 have yes, and what is counted by.
 pub struct Trip {
     pub step: Step,
     pub comparison: Comparison,
@@ -189,10 +200,11 @@ pub struct Trip {
     pub lead: Lead,
     pub sure: bool,
     pub keeps: bool,
+    pub terms: bool,
     pub counter: Counter,
 }
 
-// The tested variable's own step, from its start range to the limit's.
+// The tested variable's own step, from its start range to the limit's; terms: the answer to question 19.
 fn own_trip(
     untested: bool,
     step: Step,
@@ -200,8 +212,9 @@ fn own_trip(
     start: Span,
     limit: Span,
     keeps: bool,
+    terms: bool,
 ) -> Trip
-    ensures { λ r. ⌜ tripOf r ≡ ownFrom untested step comparison (rangeOf start) (rangeOf limit) keeps ⌝ }
+    ensures { λ r. ⌜ tripOf r ≡ ownFrom terms untested step comparison (rangeOf start) (rangeOf limit) keeps ⌝ }
 {
     let lead = lead_of(untested, Lead::Nothing);
     let sure = both(single(start), single(limit));
@@ -214,13 +227,14 @@ fn own_trip(
         lead: lead,
         sure: sure,
         keeps: keeps,
+        terms: terms,
         counter: Counter::Own,
     }
 }
 
-// The step of a variable that is copied into the tested one at a row; ahead: its rows come before that row.
-fn copy_trip(
-    untested: bool,
+// The step of a variable that the tested one's only row reads; ahead: its rows come before that row.
+fn read_trip(
+    lead: Lead,
     step: Step,
     comparison: Comparison,
     start: Span,
@@ -229,9 +243,8 @@ fn copy_trip(
     ahead: bool,
     tested: Span,
 ) -> Trip
-    ensures { λ r. ⌜ tripOf r ≡ copyFrom untested step comparison (rangeOf start) (rangeOf limit) keeps ahead (rangeOf tested) ⌝ }
+    ensures { λ r. ⌜ tripOf r ≡ readFrom (leadOf lead) step comparison (rangeOf start) (rangeOf limit) keeps ahead (rangeOf tested) ⌝ }
 {
-    let lead = lead_of(untested, Lead::Tries(tested));
     let sure = both(single(tested), both(single(start), single(limit)));
     Trip {
         step: step,
@@ -242,7 +255,8 @@ fn copy_trip(
         lead: lead,
         sure: sure,
         keeps: keeps,
-        counter: Counter::Copy,
+        terms: true,
+        counter: Counter::Other,
     }
 }
 
@@ -261,6 +275,7 @@ fn chase_trip(untested: bool, step: Step, comparison: Comparison, start: Span, o
         lead: lead,
         sure: sure,
         keeps: true,
+        terms: true,
         counter: Counter::Difference,
     }
 }
@@ -271,6 +286,16 @@ fn is_for(kind: Kind) -> bool
 {
     match kind {
         Kind::For(_, _, _, _, _) => true,
+        _ => false,
+    }
+}
+
+// A hold.
+fn is_hold(kind: Kind) -> bool
+    ensures { λ r. ⌜ ((text : List ℕ) → r ≡ isHold (formOf text kind)) ⌝ }
+{
+    match kind {
+        Kind::Hold(_) => true,
         _ => false,
     }
 }
@@ -310,13 +335,27 @@ pub fn moving(step: Step) -> bool
     }
 }
 
-// < <= > >=
-pub fn ordered(comparison: Comparison) -> bool
-    ensures { λ r. ⌜ r ≡ ordered (sort comparison) ⌝ }
+// < <=
+pub fn rises(comparison: Comparison) -> bool
+    ensures { λ r. ⌜ r ≡ isRising (sort comparison) ⌝ }
 {
     match comparison {
         Comparison::Less => true,
         Comparison::AtMost => true,
+        Comparison::Greater => false,
+        Comparison::AtLeast => false,
+        Comparison::Equal => false,
+        Comparison::Different => false,
+    }
+}
+
+// > >=
+pub fn falls(comparison: Comparison) -> bool
+    ensures { λ r. ⌜ r ≡ isFalling (sort comparison) ⌝ }
+{
+    match comparison {
+        Comparison::Less => false,
+        Comparison::AtMost => false,
         Comparison::Greater => true,
         Comparison::AtLeast => true,
         Comparison::Equal => false,
@@ -324,12 +363,60 @@ pub fn ordered(comparison: Comparison) -> bool
     }
 }
 
+// < <= > >=
+pub fn ordered(comparison: Comparison) -> bool
+    ensures { λ r. ⌜ r ≡ ordered (sort comparison) ⌝ }
+{
+    if rises(comparison) {
+        true
+    } else {
+        falls(comparison)
+    }
+}
+
+// 11: does the comparison fit?
+pub fn suits(step: Step, comparison: Comparison) -> bool
+    ensures { λ r. ⌜ r ≡ suits step (sort comparison) ⌝ }
+{
+    let up = rises(comparison);
+    let down = falls(comparison);
+    match step {
+        Step::Add(a, b) => {
+            if up {
+                1 <= a
+            } else {
+                if down { b <= -1 } else { true }
+            }
+        }
+        Step::Grow(_, _) => up,
+        Step::Shrink(_, _) => down,
+        Step::Unknown => false,
+    }
+}
+
+// The opposite comparison.
+fn opposite(comparison: Comparison) -> Comparison
+    ensures { λ r. ⌜ r ≡ opposite comparison ⌝ }
+{
+    match comparison {
+        Comparison::Less => Comparison::AtLeast,
+        Comparison::AtMost => Comparison::Greater,
+        Comparison::Greater => Comparison::AtMost,
+        Comparison::AtLeast => Comparison::Less,
+        Comparison::Equal => Comparison::Different,
+        Comparison::Different => Comparison::Equal,
+    }
+}
+
 // How turns are counted: by the tested variable's own step; by that of a variable copied into it, whose rows come before the copy or not;
-// or by that of its difference from the limit.
+// by that of its difference from the limit; by that of a variable that an off compares, whose rows come before the off or not; or not at
+// all, of a hold that breaks its terms.
 enum Way {
     Own,
     Copied(u8, bool, Step),
     Chase(u8, Step),
+    Watched(u8, Comparison, i32, bool, Step),
+    Broken,
 }
 
 // A copied variable counts: its rows stand on one side, it moves by Add, and the comparison is ordered.
@@ -364,9 +451,9 @@ fn copied_way(
     Way::Own
 }
 
-// Which way the loop at row i goes, by the only row of its tested variable, which has no step of its own.
+// Which way the while, do or for at row i goes, by the only row of its tested variable, which has no step of its own.
 fn sole_way(text: &[u8], rows: &[[u32; 9]; 256], count: usize, i: usize) -> Way
-    requires { ⌜ AtLoop (now text) (rowsOf (now rows)) count i × (ownStep (now text) (rowsOf (now rows)) count i ≡ Step.Unknown) ⌝ }
+    requires { ⌜ SoleFrom (now text) (rowsOf (now rows)) count i ⌝ }
     ensures { λ r. ⌜ WayAt (now (text .entry)) (rowsOf (now (rows .entry))) count i r ⌝ }
 {
     let kind = kind_at(rows, i);
@@ -377,16 +464,59 @@ fn sole_way(text: &[u8], rows: &[[u32; 9]; 256], count: usize, i: usize) -> Way
     let comparison = head.comparison;
     match sole_of(text, rows, count, i + 1, head.tested) {
         Sole::Other => Way::Own,
-        Sole::Copy(w, before, after) => copied_way(
-            text,
-            rows,
-            count,
-            i,
-            comparison,
-            w,
-            before,
-            after,
-        ),
+        Sole::Reads(w, read, before, after) => match read {
+            Read::Copy => copied_way(text, rows, count, i, comparison, w, before, after),
+            Read::Off(_, _) => Way::Own,
+        },
+    }
+}
+
+// A watched variable counts: its rows stand on one side of the off, and it moves by Add toward the off's comparison.
+fn watches(comparison: Comparison, step: Step, before: bool, after: bool) -> bool
+    ensures { λ r. ⌜ r ≡ not (before && after) && trips.toward step (sort (opposite comparison)) ⌝ }
+{
+    let against = opposite(comparison);
+    let fits = both(is_add(step), suits(step, against));
+    both(!both(before, after), both(ordered(against), fits))
+}
+
+// The flag's only row is an off that compares w with k.
+fn watched_way(
+    text: &[u8],
+    rows: &[[u32; 9]; 256],
+    count: usize,
+    i: usize,
+    w: u8,
+    comparison: Comparison,
+    k: i32,
+    before: bool,
+    after: bool,
+) -> Way
+    requires { ⌜ AtLoop (now text) (rowsOf (now rows)) count i × (w < 16) ⌝ }
+    ensures { λ r. ⌜ WatchedAt (now (text .entry)) (rowsOf (now (rows .entry))) count i w comparison k before after r ⌝ }
+{
+    let body = body_moves(text, rows, count, i, w);
+    let step = body.step;
+    if watches(comparison, step, before, after) {
+        return Way::Watched(w, comparison, k, before, step);
+    }
+    Way::Broken
+}
+
+// Which way the hold at row i goes, by the only row of its flag.
+fn hold_way(text: &[u8], rows: &[[u32; 9]; 256], count: usize, i: usize) -> Way
+    requires { ⌜ AtLoop (now text) (rowsOf (now rows)) count i × (isHold (formOf (now text) (kindAt (rowsOf (now rows)) i)) ≡ true) ⌝ }
+    ensures { λ r. ⌜ WayAt (now (text .entry)) (rowsOf (now (rows .entry))) count i r ⌝ }
+{
+    let kind = kind_at(rows, i);
+    let head = head_of(kind);
+    let flag = head.tested;
+    match sole_of(text, rows, count, i + 1, flag) {
+        Sole::Other => Way::Broken,
+        Sole::Reads(w, read, before, after) => match read {
+            Read::Copy => Way::Broken,
+            Read::Off(c, k) => watched_way(text, rows, count, i, w, c, k, before, after),
+        },
     }
 }
 
@@ -451,18 +581,22 @@ fn limit_way(text: &[u8], rows: &[[u32; 9]; 256], count: usize, i: usize, step: 
     }
 }
 
-// Which way the loop at row i goes; step: its tested variable's own; kept: the answer to question 10.
+// Which way the loop at row i goes; held: it is a hold; step: its tested variable's own; kept: the answer to question 10.
 fn way_of(
     text: &[u8],
     rows: &[[u32; 9]; 256],
     count: usize,
     i: usize,
+    held: bool,
     step: Step,
     kept: bool,
 ) -> Way
-    requires { ⌜ WayFrom (now text) (rowsOf (now rows)) count i step kept ⌝ }
+    requires { ⌜ WayFrom (now text) (rowsOf (now rows)) count i held step kept ⌝ }
     ensures { λ r. ⌜ WayAt (now (text .entry)) (rowsOf (now (rows .entry))) count i r ⌝ }
 {
+    if held {
+        return hold_way(text, rows, count, i);
+    }
     if !known(step) {
         return sole_way(text, rows, count, i);
     }
@@ -487,9 +621,9 @@ fn trip_by(
     ensures { λ r. ⌜ tripOf r ≡ tripFrom way (envOf (now (begun .entry))) untested step comparison (rangeOf start) (rangeOf limit) keeps ⌝ }
 {
     match way {
-        Way::Own => own_trip(untested, step, comparison, start, limit, keeps),
-        Way::Copied(w, ahead, moved) => copy_trip(
-            untested,
+        Way::Own => own_trip(untested, step, comparison, start, limit, keeps, true),
+        Way::Copied(w, ahead, moved) => read_trip(
+            lead_of(untested, Lead::Tries(start)),
             moved,
             comparison,
             span_at(begun, w),
@@ -499,6 +633,17 @@ fn trip_by(
             start,
         ),
         Way::Chase(w, apart) => chase_trip(untested, apart, comparison, start, span_at(begun, w)),
+        Way::Watched(w, c, k, ahead, moved) => read_trip(
+            Lead::Flag(start),
+            moved,
+            opposite(c),
+            span_at(begun, w),
+            Span { lo: k, hi: k },
+            true,
+            ahead,
+            start,
+        ),
+        Way::Broken => own_trip(untested, step, comparison, start, limit, keeps, false),
     }
 }
 
@@ -533,7 +678,7 @@ pub fn loop_at(
     let s = span_at(begun, v);
     let n = bounds(text, begun, limit);
     let kept = keeps(text, limit, set);
-    let way = way_of(text, rows, count, i, step, kept);
+    let way = way_of(text, rows, count, i, is_hold(kind), step, kept);
     let trip = trip_by(way, begun, is_do(kind), step, comparison, s, n, kept);
     Loop {
         trip: trip,

@@ -15,9 +15,9 @@ use Rattle.rules.specs.declared.Step.{Step}
 use Rattle.rules.specs.declared.Step.the-variants.{Add, Grow, Shrink, Unknown}
 use Rattle.rules.specs.Bounds.{Near, Ends}
 use Rattle.rules.specs.Steps.{cap, moving}
-use Rattle.rules.specs.Ranges.{Range, Sort, rising, falling, same, differ}
+use Rattle.rules.specs.Ranges.{Range, Sort, rising, falling, same, differ, suits}
 use Rattle.rules.specs.Turns.{powers, scale, share, apart, whileTurns, moved, atTest}
-use Rattle.rules.specs.Questions.{suits, hasFigure}
+use Rattle.rules.specs.Questions.{hasFigure}
 use Rattle.moves.proofs.Few.{climb-few}
 use Rattle.turns.specs.declared.Wide.{Wide}
 use Rattle.turns.specs.Needs.{rangeOf, Ranged, Begun, Countable}

@@ -2,7 +2,8 @@
 use mathlib.Core.Path.{_≡_, refl}
 use mathlib.Core.Bool.{true, false, false≢true}
 use Rattle.rules.specs.Ranges.{Sort, rising, falling, same, differ}
-use Rattle.turns.specs.Needs.{isRising, isFalling, isDiffer}
+use Rattle.trips.specs.Forms.{isRising, isFalling}
+use Rattle.turns.specs.Needs.{isDiffer}
 
 pub is-rising : (d : Sort) → isRising d ≡ true → d ≡ rising
 is-rising rising h = refl

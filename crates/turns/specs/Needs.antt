@@ -51,19 +51,7 @@ Countable (Step.Grow f g) d s n e = (pos 1 ≤ℤ s .lo) × Near 5 e × (2 ≤ f
 Countable (Step.Shrink f g) d s n e = (pos 1 ≤ℤ e) × Near 5 (s .hi) × (2 ≤ f) × (f ≤ 2_000_000_001)
 Countable Step.Unknown d s n e = Unit {0}
 
--- the sorts of tests, as answers
-abbrev pub isRising : Sort → Bool
-isRising rising = true
-isRising falling = false
-isRising same = false
-isRising differ = false
-
-abbrev pub isFalling : Sort → Bool
-isFalling rising = false
-isFalling falling = true
-isFalling same = false
-isFalling differ = false
-
+-- the sort of !=
 abbrev pub isDiffer : Sort → Bool
 isDiffer rising = false
 isDiffer falling = false

@@ -1,4 +1,4 @@
-// The questions 8 to 12 of one loop, and the turns of one entry.
+// The questions 19 and 8 to 12 of one loop, and the turns of one entry.
 use moves::climb;
 use moves::turned_up;
 use rules::AddLoop;
@@ -8,8 +8,11 @@ use trips::Counter;
 use trips::Lead;
 use trips::Span;
 use trips::Trip;
+use trips::falls;
 use trips::known;
 use trips::moving;
+use trips::rises;
+use trips::suits;
 use values::floor;
 ghost use mathlib.Core.Path.{_≡_};
 ghost use mathlib.Core.Bool.{true, cond};
@@ -20,12 +23,12 @@ ghost use Rattle.rules.specs.Bounds.{Near, Ends};
 ghost use Rattle.rules.specs.Steps.{moving, even};
 ghost use Rattle.rules.specs.Ranges.{edge, sort};
 ghost use Rattle.rules.specs.Turns.{powers, scale, share, apart, whileTurns, moved, atTest};
-ghost use Rattle.rules.specs.Trips.{misses, led, isExact};
-ghost use Rattle.rules.specs.Questions.{suits, hasFigure};
+ghost use Rattle.rules.specs.Trips.{misses, isZero, led, isExact};
+ghost use Rattle.rules.specs.Questions.{hasFigure};
 ghost use Rattle.trips.specs.Env as env;
 ghost use Rattle.trips.specs.declared.Counter.{Counter};
 ghost use Rattle.trips.specs.Found.{startOf, limitOf, leadOf, tripOf};
-ghost use Rattle.turns.specs.Needs.{rangeOf, Ranged, Unmoved, Begun, Countable, isRising, isFalling, isDiffer, meeting, FigureOf};
+ghost use Rattle.turns.specs.Needs.{rangeOf, Ranged, Unmoved, Begun, Countable, isDiffer, meeting, FigureOf};
 
 // How many k have t times f to the k at most e.
 fn powers(t: u64, e: u64, f: u64) -> u64
@@ -184,7 +187,7 @@ fn start_of(counter: Counter, s: Span, n: Span) -> Wide
 {
     match counter {
         Counter::Own => whole(s),
-        Counter::Copy => whole(s),
+        Counter::Other => whole(s),
         Counter::Difference => gap(s, n),
     }
 }
@@ -196,7 +199,7 @@ fn limit_of(counter: Counter, n: Span) -> Wide
 {
     match counter {
         Counter::Own => whole(n),
-        Counter::Copy => whole(n),
+        Counter::Other => whole(n),
         Counter::Difference => NONE,
     }
 }
@@ -234,52 +237,6 @@ fn at_test(late: bool, step: Step, s: Wide) -> Wide
         return moved(step, s);
     }
     s
-}
-
-fn rises(comparison: Comparison) -> bool
-    ensures { λ r. ⌜ r ≡ isRising (sort comparison) ⌝ }
-{
-    match comparison {
-        Comparison::Less => true,
-        Comparison::AtMost => true,
-        Comparison::Greater => false,
-        Comparison::AtLeast => false,
-        Comparison::Equal => false,
-        Comparison::Different => false,
-    }
-}
-
-fn falls(comparison: Comparison) -> bool
-    ensures { λ r. ⌜ r ≡ isFalling (sort comparison) ⌝ }
-{
-    match comparison {
-        Comparison::Less => false,
-        Comparison::AtMost => false,
-        Comparison::Greater => true,
-        Comparison::AtLeast => true,
-        Comparison::Equal => false,
-        Comparison::Different => false,
-    }
-}
-
-// 11: does the comparison fit?
-fn suits(step: Step, comparison: Comparison) -> bool
-    ensures { λ r. ⌜ r ≡ suits step (sort comparison) ⌝ }
-{
-    let up = rises(comparison);
-    let down = falls(comparison);
-    match step {
-        Step::Add(a, b) => {
-            if up {
-                1 <= a
-            } else {
-                if down { b <= -1 } else { true }
-            }
-        }
-        Step::Grow(_, _) => up,
-        Step::Shrink(_, _) => down,
-        Step::Unknown => false,
-    }
 }
 
 // The terms of the figure under !=, a the step, r what the first test sees.
@@ -362,6 +319,15 @@ fn misses(comparison: Comparison, s: Span, e: i64) -> bool
     }
 }
 
+// [0, 0]
+fn is_zero(s: Span) -> bool
+    ensures { λ r. ⌜ r ≡ isZero (env.rangeOf s) ⌝ }
+{
+    let lo = s.lo;
+    let hi = s.hi;
+    if lo == 0 { hi == 0 } else { false }
+}
+
 // The turns from the first counted test on, with what comes before it.
 fn led(lead: Lead, comparison: Comparison, e: i64, more: u64) -> u64
     requires { ⌜ more ≤ 2_048_000_000_001 ⌝ }
@@ -377,16 +343,20 @@ fn led(lead: Lead, comparison: Comparison, e: i64, more: u64) -> u64
                 more + 1
             }
         }
+        Lead::Flag(s) => { if is_zero(s) { 0 } else { more + 1 } }
     }
 }
 
-// The questions 8 to 12 of a trip in their order, then its turns.
+// The questions 19 and 8 to 12 of a trip in their order, then its turns.
 pub fn ask(trip: Trip) -> Figure
     requires { ⌜ Ends 512 (trip .step) ⌝ }
     ensures { λ r. ⌜ FigureOf (tripOf trip) r ⌝ }
 {
     let step = trip.step;
     let comparison = trip.comparison;
+    if !trip.terms {
+        return Figure::Refused(19);
+    }
     if !known(step) {
         return Figure::Refused(8);
     }

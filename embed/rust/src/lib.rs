@@ -1,6 +1,6 @@
 //! Safe Rust calls over the proved loader of effect scripts.
 //!
-//! A call of the library needs a scratch of 1,024 numbers and a stack of 36 KB (a report) or 40 KB (a run), no heap, and nothing else. The
+//! A call of the library needs a scratch of 1,024 numbers and a stack of 32 KB (a report) or 40 KB (a run), no heap, and nothing else. The
 //! scratch is measured and never touched: every number of it keeps its value, also past the first 1,024, where a patch list may lie. Only
 //! this crate's [`run`] takes heap, for the list of loops; [`numbers::run`] takes none.
 
@@ -22,7 +22,7 @@ pub const ONES: [u32; 4] = [1; 4];
 pub const REPORT: usize = 2_089;
 
 /// The bytes of stack that a report needs at most.
-pub const REPORT_STACK: usize = 36 * 1_024;
+pub const REPORT_STACK: usize = 32 * 1_024;
 
 /// The bytes of stack that a run needs at most.
 pub const RUN_STACK: usize = 40 * 1_024;
@@ -65,10 +65,12 @@ pub enum Question {
     Price = 16,
     /// More than 8 parentheses open together or more than 15 operators in one expression; asked after the shape of its line.
     Expression = 17,
+    /// A hold's body breaks its terms; asked in the place of 8 to 12.
+    Hold = 19,
 }
 
 impl Question {
-    const ALL: [Question; 17] = [
+    const ALL: [Question; 18] = [
         Question::Scratch,
         Question::File,
         Question::Shape,
@@ -86,6 +88,7 @@ impl Question {
         Question::Store,
         Question::Price,
         Question::Expression,
+        Question::Hold,
     ];
 
     /// The question's number.

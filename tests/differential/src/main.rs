@@ -9,7 +9,7 @@ mod stack;
 mod vectors;
 
 use diftanew::numbers::{self, ANSWER};
-use generate::{allowance, any_store, case, picks, store, wrong_prices, Case, Rng, SEED};
+use generate::{allowance, any_store, case, holds, picks, store, wrong_prices, Case, Rng, SEED};
 use oracle::{Ending, Plan, Refusal, Run, ONES, SCRATCH};
 use stack::Stack;
 use std::path::Path;
@@ -51,7 +51,7 @@ impl<T: Copy + PartialEq> Room<T> {
 #[derive(Default)]
 struct Tally {
     accepted: u64,
-    refused: [u64; 18],
+    refused: [u64; 20],
     reports: u64,
     runs: u64,
     endings: [u64; 4],
@@ -322,11 +322,12 @@ impl Checker {
     }
 }
 
-/// The files that need most stack: 256 rows, 16 loops, 8 deep, without expressions and with them; and words that are as long as a
-/// file can be, of which no part may be left to the stack.
-const WORST: [(&str, &[u8]); 5] = [
+/// The files that need most stack: 256 rows, 16 loops, 8 deep, without expressions, with them and with holds; and words that are as
+/// long as a file can be, of which no part may be left to the stack.
+const WORST: [(&str, &[u8]); 6] = [
     ("accepted-worst", include_bytes!("../../../crates/report_files/data/accepted-worst.script")),
     ("accepted-expression-worst", include_bytes!("../../../crates/report_files/data/accepted-expression-worst.script")),
+    ("accepted-hold-worst", include_bytes!("../../../crates/report_files/data/accepted-hold-worst.script")),
     ("refused-17-expression-of-8000-pairs", include_bytes!("../../../crates/report_files/data/refused-17-expression-of-8000-pairs.script")),
     ("refused-17-expression-of-8000-operators", include_bytes!("../../../crates/report_files/data/refused-17-expression-of-8000-operators.script")),
     ("refused-3-expression-of-16000-parentheses", include_bytes!("../../../crates/report_files/data/refused-3-expression-of-16000-parentheses.script")),
@@ -335,7 +336,7 @@ const WORST: [(&str, &[u8]); 5] = [
 /// The files that `generate` makes of a seed.
 fn generated(checker: &mut Checker, count: u64, seed: u64, first: u64) {
     let begin = Instant::now();
-    for (name, file) in WORST {
+    for (name, file) in WORST.into_iter().filter(|(name, _)| holds() || !name.contains("hold")) {
         checker.file = file.to_vec();
         checker.name = name.into();
         checker.prices = ONES.to_vec();
@@ -350,7 +351,7 @@ fn generated(checker: &mut Checker, count: u64, seed: u64, first: u64) {
         checker.case();
     }
     let t = &checker.tally;
-    let refused: Vec<String> = (2..=13).chain([16, 17]).map(|number| format!("{number}:{}", t.refused[number])).collect();
+    let refused: Vec<String> = (2..=13).chain([16, 17, 19]).map(|number| format!("{number}:{}", t.refused[number])).collect();
     println!(
         "no difference: {count} files of seed {seed}, {} accepted, refused {}; {} report calls; {} run calls ({} refused, \
          ended {}, spent {}, range {}, no pick {}, {} ticks); demand 3 held in {} runs with {} entries; \

@@ -1,5 +1,6 @@
 //! Change 5: loops whose limit moves too, with one of the terms broken now and then.
 
+use crate::holds;
 use crate::script::{distance, factor, value, within, Builder, Way};
 
 /// The rows that such a loop may need without the items in its body.
@@ -151,6 +152,10 @@ impl Builder<'_> {
                 let op = self.rng.one_of(&["mul", "div"]);
                 self.rows.push(format!("{op} v{v} {c}"));
             }
+            (Broken::TestedSet, _) if holds() && self.rng.chance(30) => {
+                let off = self.off(v);
+                self.rows.push(off);
+            }
             (Broken::TestedSet, _) => self.rows.push(format!("set v{v} 3")),
             (Broken::BothWays, _) if depth > 0 => {
                 self.rows.extend(["pick".into(), format!("add v{v} 4"), "else".into(), format!("sub v{v} 4"), "end".into()]);
@@ -172,6 +177,10 @@ impl Builder<'_> {
                 let c = factor(self.rng);
                 let op = self.rng.one_of(&["mul", "div"]);
                 self.rows.push(format!("{op} v{w} {c}"));
+            }
+            (Broken::LimitSet, _) if holds() && self.rng.chance(30) => {
+                let off = self.off(w);
+                self.rows.push(off);
             }
             (Broken::LimitSet, _) => {
                 let row = if self.rng.chance(50) { format!("set v{w} v{v}") } else { format!("set v{w} 7") };

@@ -1,5 +1,6 @@
 //! Damage to the bytes of a file.
 
+use crate::holds;
 use crate::rng::Rng;
 
 fn place_of(rng: &mut Rng, bytes: &[u8], wanted: impl Fn(u8) -> bool) -> Option<usize> {
@@ -108,12 +109,17 @@ fn once(rng: &mut Rng, mut bytes: Vec<u8>) -> Vec<u8> {
             let all = lines(&bytes);
             if let Some(line) = (!all.is_empty()).then(|| rng.below(all.len())) {
                 let mut all = all;
-                let words: [&[u8]; 12] = [
+                let words: [&[u8]; 24] = [
                     b"row=\n", b"row=cue v0\n", b"row=add v0 v0\n", b"row=set v0\n", b"row=while v0 =< 1\n",
                     b"row=for v0 1 <= 2 set 1\n", b"row=for v0 1 <= 2 add 1 \n", b"row=for v0 0 <= 1 add -1\n",
                     b"row=end\n", b"row=else\n", b"row=add v16 0\n", b"row=add v99 -1\n",
+                    b"row=hold\n", b"row=hold 0\n", b"row=hold v0 != 0\n", b"row=hold v16\n", b"row=off v0 v0 == 1\n", b"row=off v0 > 1\n",
+                    b"row=off v0 v0 > v0\n", b"row=off v0 v0 > 1+1\n", b"row=off v0 v0 > 1000000001\n", b"row=off v0 v0 != -1000000001\n",
+                    b"row=off v0 v16 < -1000000000\n", b"row=off v16 v0 <= 1000000001\n",
                 ];
-                all[line] = rng.one_of(&words).to_vec();
+                // The first twelve are older than change 12.
+                let words = if holds() { &words[..] } else { &words[..12] };
+                all[line] = rng.one_of(words).to_vec();
                 bytes = all.concat();
             }
         }

@@ -36,7 +36,7 @@ fn main() {
     }
     let accepted = spread.answers[0];
     println!("files={count} seed={seed} accepted={accepted} ({:.1} %)", 100.0 * accepted as f64 / count as f64);
-    for (number, answer) in spread.answers.iter().enumerate().filter(|(number, _)| matches!(number, 2..=13 | 17)) {
+    for (number, answer) in spread.answers.iter().enumerate().filter(|(number, _)| matches!(number, 2..=13 | 17 | 19)) {
         println!("refused by {number}: {answer}");
     }
     println!(

@@ -1,6 +1,6 @@
 //! Whole script files.
 
-use crate::{closing, copied, expressions, levels, triangles};
+use crate::{closing, copied, expressions, held, holds, levels, triangles};
 use crate::rng::Rng;
 
 const L: i64 = 1_000_000_000;
@@ -156,7 +156,9 @@ impl Builder<'_> {
 
     fn plain(&mut self, locked: u32) {
         let roll = self.rng.below(10);
+        let off = holds() && self.rng.chance(5);
         let row = match self.free(locked) {
+            Some(v) if off => self.off(v),
             Some(v) if roll < 3 => format!("set v{v} {}", self.operand()),
             Some(v) if roll < 8 => {
                 let row = self.arithmetic();
@@ -259,8 +261,19 @@ impl Builder<'_> {
         true
     }
 
+    /// A loop held by a flag, if there is room for it.
+    pub fn flagged(&mut self, depth: usize, locked: u32) -> bool {
+        if !holds() || depth == 0 || self.loops == 0 || self.left < held::ROWS {
+            return false;
+        }
+        let Some(flag) = self.free(locked) else { return false };
+        let Some(watched) = self.free(locked | 1 << flag).filter(|&w| w != flag) else { return false };
+        self.held(depth, locked, flag, watched);
+        true
+    }
+
     /// A loop that grows with the one round it, if there is room for them.
-    fn grown(&mut self, depth: usize, locked: u32) -> bool {
+    pub fn grown(&mut self, depth: usize, locked: u32) -> bool {
         if depth < triangles::DEPTH || self.loops < triangles::LOOPS || self.rows.len() + triangles::ROWS > 256 {
             return false;
         }
@@ -271,7 +284,10 @@ impl Builder<'_> {
     }
 
     fn looped(&mut self, depth: usize, locked: u32) {
-        if self.rng.chance(25) && self.requested(depth, locked) || self.rng.chance(10) && self.grown(depth, locked) {
+        if self.rng.chance(25) && self.requested(depth, locked)
+            || self.rng.chance(10) && self.grown(depth, locked)
+            || self.rng.chance(12) && self.flagged(depth, locked)
+        {
             return;
         }
         let Some(v) = self.free(locked) else {
@@ -428,15 +444,20 @@ fn build(rng: &mut Rng, careless: usize) -> Text {
     let depth = if rng.chance(30) { 8 } else { 1 + rng.below(4) };
     let mut builder = Builder { rng, vars, rows: Vec::new(), left, loops, careless };
     let requested = builder.rng.below(10);
-    if requested < 7 {
+    if requested < 8 {
         builder.requested(depth, 0);
     }
     if builder.rng.chance(40) {
         builder.loops = builder.loops.max(triangles::LOOPS);
         builder.grown(depth.max(triangles::DEPTH), 0);
     }
+    if builder.rng.chance(35) && builder.rows.len() + held::ROWS <= 256 {
+        builder.loops = builder.loops.max(1);
+        builder.left = builder.left.max(held::ROWS);
+        builder.flagged(depth, 0);
+    }
     builder.block(depth, 0, items);
-    if requested == 7 {
+    if requested == 8 {
         builder.requested(depth, 0);
     }
     if left == 256 {
@@ -541,7 +562,12 @@ pub fn aimed(rng: &mut Rng) -> Vec<u8> {
 fn deep(rng: &mut Rng) -> Vec<u8> {
     let depth = 7 + rng.below(4);
     let mut rows = Vec::new();
+    let held = if holds() { rng.below(12) } else { depth };
     for v in 0..depth {
+        if v == held {
+            rows.extend([format!("hold v{v}"), "add v15 1".into(), format!("off v{v} v15 > 2")]);
+            continue;
+        }
         rows.push(if rng.chance(50) { "pick".into() } else { format!("for v{v} 1 <= 2 add 1") });
         if rng.chance(20) {
             rows.extend(["pick".to_string(), "else".into(), "end".into()]);
@@ -558,10 +584,14 @@ fn many(rng: &mut Rng) -> Vec<u8> {
     let mut rows = Vec::new();
     let mut depth = 0;
     for _ in 0..14 + rng.below(6) {
-        rows.push(match rng.below(3) {
-            0 => format!("for v{depth} 3 > 1 sub 1"),
-            _ => format!("for v{depth} 1 <= 2 mul 2"),
-        });
+        match rng.below(4) {
+            0 => rows.push(format!("for v{depth} 3 > 1 sub 1")),
+            1 if holds() => {
+                let watched = depth + 8;
+                rows.extend([format!("hold v{depth}"), format!("off v{depth} v{watched} > 1"), format!("add v{watched} 1")]);
+            }
+            _ => rows.push(format!("for v{depth} 1 <= 2 mul 2")),
+        }
         depth += 1;
         while depth == 8 || depth > 0 && rng.chance(60) {
             rows.push("end".into());
@@ -571,7 +601,7 @@ fn many(rng: &mut Rng) -> Vec<u8> {
     for _ in 0..depth {
         rows.push("end".into());
     }
-    Text { ranges: vec![(-5, 1); 9], rows }.bytes()
+    Text { ranges: vec![(-5, 1); 16], rows }.bytes()
 }
 
 /// About as long as a file may be, by its last line or by one long number.
@@ -677,7 +707,11 @@ fn slow(rng: &mut Rng) -> Vec<u8> {
         _ => {
             let turns = rng.between(900, 1_100);
             rows.push(format!("set v3 {}", rng.between(-L, -L + 9)));
-            rows.push("while v3 < 0".into());
+            if holds() && rng.chance(50) {
+                rows.extend(["hold v4".into(), "off v4 v3 >= 0".to_string()]);
+            } else {
+                rows.push("while v3 < 0".into());
+            }
             rows.push("add v3 1".into());
             for _ in 0..rng.below(250) {
                 rows.push("cue 3".into());
@@ -687,7 +721,7 @@ fn slow(rng: &mut Rng) -> Vec<u8> {
             rows.push("for v1 -500000000 < 0 add 1".into());
             rows.extend(["end".to_string(), "end".into()]);
             while rows.len() > 256 {
-                rows.remove(3);
+                rows.remove(5);
             }
         }
     }

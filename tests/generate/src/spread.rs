@@ -1,7 +1,7 @@
 //! How the generated files are answered, and how many of them use each change request.
 
 use crate::{case, Case};
-use oracle::analyse::{blocks_over, closing, copied, counts_passes, grows_with, own_step, ClosingTerm, Term};
+use oracle::analyse::{blocks_over, closing, copied, counts_passes, grows_with, held, own_step, ClosingTerm, Term};
 use oracle::prices::prices;
 use oracle::read::{self, Kind, Loop, Operand};
 use oracle::{Counted, Line, Plan, Refusal, Row, Step, ONES, SCRATCH};
@@ -11,7 +11,7 @@ use std::collections::{BTreeMap, BTreeSet};
 pub struct Spread {
     pub files: u64,
     /// Files by their refusal's number with four ones; 0 is accepted.
-    pub answers: [u64; 18],
+    pub answers: [u64; 20],
     /// Files by what they use: a change's word, a colon and what it comes to. `WORD:` counts each file once.
     pub uses: BTreeMap<String, u64>,
 }
@@ -65,11 +65,12 @@ fn labels(file: &[u8], lent: &[u32], plan: &Result<Plan, Refusal>) -> BTreeSet<S
                 expressions(row, &mut labels);
             }
             triangles(plan, &mut labels);
+            offs(&plan.script.rows, &mut labels);
             if plan.rounded {
                 labels.insert("level: rounded down".into());
             }
         }
-        Err((number @ 8..=12, head)) => {
+        Err((number @ (8..=12 | 19), head)) => {
             let rows = read::script(file).expect("questions 2 to 7 have passed").rows;
             let Row::Loop(l) = rows[*head as usize] else { unreachable!("a head row") };
             refused(&rows, *number, *head as usize, &l, &mut labels);
@@ -79,6 +80,9 @@ fn labels(file: &[u8], lent: &[u32], plan: &Result<Plan, Refusal>) -> BTreeSet<S
             if *number == 17 {
                 labels.extend(over(lines[*line as usize - 1]));
             }
+        }
+        Err((number @ (3 | 4 | 5 | 7), line)) if lines.get(*line as usize - 1).is_some_and(|line| holding(line)) => {
+            labels.insert(format!("held: refused by {number}"));
         }
         Err((13, _)) => {
             let script = read::script(file).expect("questions 2 to 7 have passed");
@@ -100,6 +104,38 @@ fn labels(file: &[u8], lent: &[u32], plan: &Result<Plan, Refusal>) -> BTreeSet<S
 fn written(line: &[u8]) -> bool {
     let operates = |word: &[u8]| word.iter().any(|byte| b"+*()".contains(byte)) || word.iter().skip(1).any(|&byte| byte == b'-');
     line.strip_prefix(b"row=").is_some_and(|row| row.split(|&byte| byte == b' ').any(operates))
+}
+
+/// Whether a row line has one of change 12's words, in a good shape or not.
+fn holding(line: &[u8]) -> bool {
+    line.starts_with(b"row=hold") || line.starts_with(b"row=off")
+}
+
+/// Where the offs are that end no hold.
+fn offs(rows: &[Row], labels: &mut BTreeSet<String>) {
+    let mut open: Vec<&Row> = Vec::new();
+    for row in rows {
+        match row {
+            Row::Pick { .. } | Row::Loop(_) => open.push(row),
+            Row::End { .. } => {
+                open.pop();
+            }
+            Row::Off { v, w, .. } => {
+                let place = match open.last() {
+                    Some(Row::Loop(Loop { kind: Kind::Hold, v: flag, .. })) if flag == v => continue,
+                    Some(Row::Loop(Loop { kind: Kind::Hold, .. })) => "in another's hold",
+                    Some(Row::Loop(_)) => "in a loop",
+                    Some(_) => "in a pick",
+                    None => "outside all blocks",
+                };
+                labels.insert(format!("off: {place}"));
+                if v == w {
+                    labels.insert("off: watches its flag".into());
+                }
+            }
+            _ => {}
+        }
+    }
 }
 
 /// By which of its measures a line is refused, where it is by one more than the limit.
@@ -171,6 +207,15 @@ fn triangles(plan: &Plan, labels: &mut BTreeSet<String>) {
                     if loops[..k].iter().any(|(_, round)| round.end > o.end) {
                         labels.insert("triangle: in a loop".into());
                     }
+                    if loops[..k].iter().any(|(_, round)| round.end > o.end && round.kind == Kind::Hold) {
+                        labels.insert("held: round a triangle".into());
+                    }
+                    if inside.iter().any(|(further, f)| line.row < further.row && further.row < l.end as usize && f.kind == Kind::Hold) {
+                        labels.insert("held: in a triangle's inner".into());
+                    }
+                    if inside.iter().any(|(_, f)| f.kind == Kind::Hold) {
+                        labels.insert("held: in a triangle's outer".into());
+                    }
                     if inside.iter().any(|(further, _)| line.row < further.row && further.row < l.end as usize) {
                         labels.insert("triangle: with a loop further inside".into());
                     }
@@ -200,6 +245,7 @@ fn form(l: &Loop) -> &'static str {
         Kind::While => "while",
         Kind::Do => "do",
         Kind::For { .. } => "for",
+        Kind::Hold => "hold",
     }
 }
 
@@ -215,9 +261,14 @@ fn accepted(rows: &[Row], line: &Line, l: &Loop, labels: &mut BTreeSet<String>) 
             step if step == line.step => ("closing", "the limit stands"),
             _ => ("closing", "both move"),
         },
+        Counted::Held => match held(rows, line.row, l) {
+            Ok(held) if held.rows_first => ("held", "rows first"),
+            _ => ("held", "off first"),
+        },
     };
     labels.insert(format!("{word}: {}, {kind}", form(l)));
-    labels.insert(format!("{word}: {:?}", l.compare));
+    let compare = held(rows, line.row, l).map_or(l.compare, |held| held.compare);
+    labels.insert(format!("{word}: {compare:?}"));
     labels.insert(format!("{word}: {}", if line.exact { "exact" } else { "most" }));
     if line.turns < 2 {
         labels.insert(format!("{word}: {} of {} turns", form(l), line.turns));
@@ -225,6 +276,20 @@ fn accepted(rows: &[Row], line: &Line, l: &Loop, labels: &mut BTreeSet<String>) 
 }
 
 fn refused(rows: &[Row], number: u32, head: usize, l: &Loop, labels: &mut BTreeSet<String>) {
+    if let Err(term) = held(rows, head, l) {
+        if number == 19 {
+            labels.insert(format!("held: 19 for {term:?}"));
+            return;
+        }
+    }
+    let body = &rows[head + 1..l.end as usize];
+    let switched = |variable: u8| body.iter().any(|row| matches!(row, Row::Off { v, .. } if *v == variable));
+    if number == 8 && switched(l.v) {
+        labels.insert("off: refused by 8".into());
+    }
+    if number == 10 && matches!(l.limit, Operand::Variable(w) if switched(w)) {
+        labels.insert("off: refused by 10".into());
+    }
     let sets = rows[head + 1..l.end as usize].iter().filter_map(|row| match *row {
         Row::Set { v, x } if v == l.v => Some(x),
         _ => None,

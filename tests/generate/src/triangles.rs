@@ -1,5 +1,6 @@
 //! Change 9: a for that grows with the loop round it, with one of the terms broken now and then.
 
+use crate::held;
 use crate::script::{Builder, Way};
 
 /// The most rows of these loops without the items in their bodies.
@@ -32,7 +33,10 @@ enum Broken {
     NotKnown,
 }
 
-const BROKEN: [Broken; 18] = [
+const BROKEN: [Broken; 20] = [
+    // These are wanted more often.
+    Broken::Limit,
+    Broken::Limit,
     Broken::Assigned,
     Broken::Standing,
     Broken::InAPick,
@@ -61,6 +65,8 @@ struct Triangle {
     w: usize,
     /// Free for one more loop, a limit or a master.
     other: Option<usize>,
+    /// None of these, nor what is locked round both.
+    locked: u32,
     way: Way,
     broken: Broken,
 }
@@ -81,7 +87,7 @@ impl Builder<'_> {
         let way = if self.rng.chance(65) { Way::Up } else { Way::Down };
         let body_locked = locked | 1 << v | 1 << w;
         let other = self.free(body_locked).filter(|&u| u != v && u != w);
-        let mut triangle = Triangle { v, w, other, way, broken };
+        let mut triangle = Triangle { v, w, other, locked: other.map_or(body_locked, |u| body_locked | 1 << u), way, broken };
         let mut inside = depth - 1;
         let round = match other {
             Some(u) if broken == Broken::Nothing && depth > DEPTH && self.loops > 0 && self.rng.chance(25) => {
@@ -98,6 +104,10 @@ impl Builder<'_> {
         let tested_in_a_for = self.outer_head(triangle, &step);
         self.few(inside, body_locked, &[v]);
         self.before_the_inner(triangle);
+        if self.rng.chance(60) && self.rows.len() + ROWS + held::ROWS <= 256 {
+            // Room for a hold.
+            self.left = self.left.max(held::ROWS);
+        }
         self.inner_loops(inside, triangle);
         self.few(inside, body_locked, &[v, w]);
         if !tested_in_a_for {
@@ -222,6 +232,9 @@ impl Builder<'_> {
                 }
                 (_, 4) if depth > 1 && !wrapped => self.rows.extend(["pick".into(), format!("add v{w} 1"), "end".into()]),
                 (_, 5 | 6) => self.rows.push("cue 90".into()),
+                (_, 7 | 8) if !wrapped => {
+                    self.flagged(depth - 1, triangle.locked);
+                }
                 _ => {}
             }
             if broken == Broken::InnerWhile {

@@ -16,7 +16,7 @@ fn answer(file: &[u8]) -> Vec<u8> {
 fn every_refusal_occurs_and_enough_is_accepted() {
     let answers = Spread::of(20_000, SEED).answers;
     assert!(answers[0] >= 8_000, "{answers:?}");
-    assert!(answers[2..=13].iter().chain([&answers[17]]).all(|&count| count > 0), "{answers:?}");
+    assert!(answers[2..=13].iter().chain([&answers[17], &answers[19]]).all(|&count| count > 0), "{answers:?}");
 }
 
 /// At least a tenth of the files use a change, and each of these uses occurs in at least so many files.
@@ -182,6 +182,52 @@ fn a_tenth_counts_triangles() {
         assert!(spread.used(&format!("no triangle: for {label}")) >= files, "{label}: {:?}", spread.uses);
     }
     assert!(spread.used("no triangle: 4097 passes") >= 10, "{:?}", spread.uses);
+}
+
+#[test]
+fn a_tenth_is_held_by_a_flag() {
+    uses(
+        "held",
+        &[
+            ("hold, rows first", 1_000),
+            ("hold, off first", 1_000),
+            ("Lt", 400),
+            ("Le", 400),
+            ("Gt", 200),
+            ("Ge", 200),
+            ("exact", 800),
+            ("most", 800),
+            ("hold of 0 turns", 100),
+            ("hold of 1 turns", 200),
+            ("19 for None", 20),
+            ("19 for Second", 20),
+            ("19 for Direct", 20),
+            ("19 for Only", 20),
+            ("19 for Another", 20),
+            ("19 for Step", 80),
+            ("19 for Toward", 100),
+            ("19 for Sides", 30),
+            ("round a triangle", 30),
+            ("in a triangle's inner", 20),
+            ("in a triangle's outer", 20),
+            ("refused by 3", 50),
+            ("refused by 4", 5),
+            ("refused by 5", 20),
+            ("refused by 7", 30),
+        ],
+    );
+    uses(
+        "off",
+        &[
+            ("outside all blocks", 1_000),
+            ("in a pick", 800),
+            ("in a loop", 100),
+            ("in another's hold", 150),
+            ("watches its flag", 500),
+            ("refused by 8", 20),
+            ("refused by 10", 8),
+        ],
+    );
 }
 
 #[test]

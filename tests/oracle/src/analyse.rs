@@ -1,4 +1,4 @@
-//! The loop analysis: questions 8 to 13.
+//! The loop analysis: questions 8 to 13 and 19.
 
 use crate::expression::{fold, Item, Operator};
 use crate::read::{quotient, Change, Compare, Kind, Loop, Op, Operand, Row, Script, L};
@@ -65,7 +65,7 @@ pub fn step(rows: &[Row], from: usize, to: usize, v: u8) -> Step {
     let mut r = from;
     while r < to {
         let (part, next) = match rows[r] {
-            Row::Set { v: w, .. } if w == v => (Step::Unknown, r + 1),
+            Row::Set { v: w, .. } | Row::Off { v: w, .. } if w == v => (Step::Unknown, r + 1),
             Row::Change { v: w, by } if w == v => (Step::of(by), r + 1),
             Row::Pick { middle, end } => {
                 let (middle, end) = (middle as usize, end as usize);
@@ -88,7 +88,7 @@ pub fn step(rows: &[Row], from: usize, to: usize, v: u8) -> Step {
 /// The variable that a row assigns.
 fn assigned_by(row: &Row) -> Option<u8> {
     match *row {
-        Row::Set { v, .. } | Row::Change { v, .. } => Some(v),
+        Row::Set { v, .. } | Row::Change { v, .. } | Row::Off { v, .. } => Some(v),
         Row::Loop(Loop { kind: Kind::For { .. }, v, .. }) => Some(v),
         _ => None,
     }
@@ -186,7 +186,7 @@ pub fn own_step(rows: &[Row], head: usize, l: &Loop) -> Step {
     let body = step(rows, head + 1, l.end as usize, l.v);
     match l.kind {
         Kind::For { step: by, .. } => body.then(Step::of(by)),
-        Kind::While | Kind::Do => body,
+        Kind::While | Kind::Do | Kind::Hold => body,
     }
 }
 
@@ -220,6 +220,79 @@ pub fn closing(rows: &[Row], head: usize, l: &Loop) -> Result<Step, ClosingTerm>
         return Err(ClosingTerm::LimitStep);
     };
     Ok(Step::Add(a - most, b - least))
+}
+
+/// Change 12: what ends a hold.
+#[derive(Clone, Copy, Debug, PartialEq, Eq)]
+pub struct Held {
+    /// The watched variable and its step.
+    pub w: u8,
+    pub step: Step,
+    /// Whether its rows come before the off.
+    pub rows_first: bool,
+    /// The opposite of the off's comparison, and its number: the hold goes on while this is true at the off.
+    pub compare: Compare,
+    pub c: i32,
+}
+
+/// Change 12's terms; question 19 refuses a hold that breaks one.
+#[derive(Clone, Copy, Debug, PartialEq, Eq)]
+pub enum HoldTerm {
+    /// An off for the flag in the body, and no second one.
+    None,
+    Second,
+    /// Directly in the body.
+    Direct,
+    /// The flag is otherwise unassigned there.
+    Only,
+    /// The watched variable is another one.
+    Another,
+    /// It moves by Add.
+    Step,
+    /// Toward the comparison.
+    Toward,
+    /// All its rows on one side of the off.
+    Sides,
+}
+
+/// Change 12: what ends the hold, or the first term that is broken.
+pub fn held(rows: &[Row], head: usize, l: &Loop) -> Result<Held, HoldTerm> {
+    let end = l.end as usize;
+    let mut offs = (head + 1..end).filter(|&r| matches!(rows[r], Row::Off { v, .. } if v == l.v));
+    let at = offs.next().ok_or(HoldTerm::None)?;
+    if offs.next().is_some() {
+        return Err(HoldTerm::Second);
+    }
+    if !directly_in(rows, head, at) {
+        return Err(HoldTerm::Direct);
+    }
+    let (before, behind) = (&rows[head + 1..at], &rows[at + 1..end]);
+    if assign(before, l.v) || assign(behind, l.v) {
+        return Err(HoldTerm::Only);
+    }
+    let Row::Off { w, compare, c, .. } = rows[at] else { unreachable!("found above") };
+    if w == l.v {
+        return Err(HoldTerm::Another);
+    }
+    let step = step(rows, head + 1, end, w);
+    let Step::Add(a, b) = step else {
+        return Err(HoldTerm::Step);
+    };
+    let (toward, opposite) = match compare {
+        Compare::Gt => (a >= 1, Compare::Le),
+        Compare::Ge => (a >= 1, Compare::Lt),
+        Compare::Lt => (b <= -1, Compare::Ge),
+        Compare::Le => (b <= -1, Compare::Gt),
+        Compare::Eq | Compare::Ne => unreachable!("no off has it"),
+    };
+    if !toward {
+        return Err(HoldTerm::Toward);
+    }
+    let rows_first = assign(before, w);
+    if rows_first && assign(behind, w) {
+        return Err(HoldTerm::Sides);
+    }
+    Ok(Held { w, step, rows_first, compare: opposite, c })
 }
 
 /// Change 9: a loop of more turns is not counted pass by pass.
@@ -359,6 +432,8 @@ pub enum Counted {
     Copied,
     /// The difference between it and its limit.
     Closing,
+    /// The one that an off for it watches.
+    Held,
 }
 
 /// A loop's line of the report.
@@ -373,7 +448,7 @@ pub struct Line {
     pub exact: bool,
     /// Whether starts and limit are single numbers.
     pub single: bool,
-    /// Its start range, or that of the difference or of the variable that is copied.
+    /// Its start range, or that of the difference or of the variable that is copied or watched.
     pub start: Wide,
     /// Whether its total is a sum by change 9.
     pub summed: bool,
@@ -450,6 +525,8 @@ fn unequal_turns(a: i64, b: i64, s: Wide, n: Wide) -> Option<i64> {
 struct Counter {
     counted: Counted,
     step: Step,
+    /// The loop's, or the opposite of an off's.
+    compare: Compare,
     /// Start and limit.
     s: Wide,
     n: Wide,
@@ -457,7 +534,7 @@ struct Counter {
     moved: bool,
     /// The turns before that test.
     before: u64,
-    /// Whether no turn is taken: a copy's while whose first test fails from the best start.
+    /// Whether no turn is taken: a copy's while whose first test fails from the best start, or a hold whose flag is 0.
     never: bool,
     /// Whether starts and limit are single numbers.
     single: bool,
@@ -470,7 +547,8 @@ impl Counter {
     }
 
     /// The while figure from the start, and question 12.
-    fn figure(&self, compare: Compare) -> Result<u64, u32> {
+    fn figure(&self) -> Result<u64, u32> {
+        let compare = self.compare;
         let e = edge(compare, self.n);
         let figure = match self.step {
             Step::Add(a, b) if compare == Compare::Eq => equal_turns(self.added(a, b), self.n),
@@ -505,9 +583,9 @@ impl Counter {
     }
 }
 
-/// Questions 8 to 12 of one loop, and its turns; the error is the question's number. `changes` is whether the body assigns
-/// a variable of the limit.
-fn turns(l: &Loop, counter: &Counter, changes: bool) -> Result<u64, u32> {
+/// Questions 8 to 11 of one loop; the error is the question's number. `changes` is whether the body assigns a variable of the
+/// limit.
+fn ask(counter: &Counter, changes: bool) -> Result<(), u32> {
     let step = counter.step;
     // 8 and 9
     let moves = match step {
@@ -521,7 +599,7 @@ fn turns(l: &Loop, counter: &Counter, changes: bool) -> Result<u64, u32> {
     if changes && counter.counted != Counted::Closing {
         return Err(10);
     }
-    let fits = match (l.compare, step) {
+    let fits = match (counter.compare, step) {
         (Compare::Lt | Compare::Le, Step::Add(a, _)) => a >= 1,
         (Compare::Lt | Compare::Le, Step::Grow(..)) => true,
         (Compare::Gt | Compare::Ge, Step::Add(_, b)) => b <= -1,
@@ -529,10 +607,15 @@ fn turns(l: &Loop, counter: &Counter, changes: bool) -> Result<u64, u32> {
         (Compare::Eq | Compare::Ne, Step::Add(..)) => true,
         _ => false,
     };
-    if !fits {
-        return Err(11);
+    if fits { Ok(()) } else { Err(11) }
+}
+
+/// The turns of one loop, and its questions 8 to 12, of which a hold is asked none.
+fn turns(counter: &Counter, changes: bool) -> Result<u64, u32> {
+    if counter.counted != Counted::Held {
+        ask(counter, changes)?;
     }
-    let figure = counter.figure(l.compare)?;
+    let figure = counter.figure()?;
     Ok(if counter.never { 0 } else { counter.before + figure })
 }
 
@@ -614,6 +697,11 @@ impl Walk<'_> {
                     (prices.arithmetic as u128, r)
                 }
                 Row::Cue { .. } => (prices.cue as u128, r),
+                Row::Off { v, .. } => {
+                    let [lo, hi] = ranges[v as usize];
+                    ranges[v as usize] = [lo.min(0), hi.max(0)];
+                    (prices.arithmetic as u128, r)
+                }
                 Row::Pick { middle, end } => {
                     let (middle, end) = (middle as usize, end as usize);
                     let mut other = *ranges;
@@ -649,8 +737,28 @@ impl Walk<'_> {
         ticks
     }
 
+    /// Question 19, and the counter of a hold that is entered with `ranges`.
+    fn held_counter(&self, head: usize, l: &Loop, ranges: &Ranges) -> Result<Counter, u32> {
+        let held = held(self.rows, head, l).map_err(|_| 19u32)?;
+        let (flag, watched) = (ranges[l.v as usize], ranges[held.w as usize]);
+        Ok(Counter {
+            counted: Counted::Held,
+            step: held.step,
+            compare: held.compare,
+            s: wide(watched),
+            n: wide([held.c, held.c]),
+            moved: held.rows_first,
+            before: 1,
+            never: flag == [0, 0],
+            single: single(flag) && single(watched),
+        })
+    }
+
     /// The counter of a loop that is entered with `ranges`, a for's start assigned, and its limit with the range n.
-    fn counter(&self, head: usize, l: &Loop, ranges: &Ranges, n: Range) -> Counter {
+    fn counter(&self, head: usize, l: &Loop, ranges: &Ranges, n: Range) -> Result<Counter, u32> {
+        if l.kind == Kind::Hold {
+            return self.held_counter(head, l, ranges);
+        }
         let is_do = l.kind == Kind::Do;
         let s = ranges[l.v as usize];
         if let Ok(copy) = copied(self.rows, head, l) {
@@ -660,20 +768,22 @@ impl Walk<'_> {
                 Compare::Lt | Compare::Le => s[0] as i64 > e,
                 _ => (s[1] as i64) < e,
             };
-            return Counter {
+            return Ok(Counter {
                 counted: Counted::Copied,
                 step: copy.step,
+                compare: l.compare,
                 s: wide(from),
                 n: wide(n),
                 moved: copy.rows_first,
                 before: 1,
                 never: !is_do && best_fails,
                 single: single(s) && single(from) && single(n),
-            };
+            });
         }
         let counter = Counter {
             counted: Counted::Tested,
             step: own_step(self.rows, head, l),
+            compare: l.compare,
             s: wide(s),
             n: wide(n),
             moved: is_do,
@@ -681,13 +791,13 @@ impl Walk<'_> {
             never: false,
             single: single(s) && single(n),
         };
-        match closing(self.rows, head, l) {
+        Ok(match closing(self.rows, head, l) {
             Ok(step) => {
                 let (s, n) = (wide(s), wide(n));
                 Counter { counted: Counted::Closing, step, s: [s[0] - n[1], s[1] - n[0]], n: [0, 0], ..counter }
             }
             Err(_) => counter,
-        }
+        })
     }
 
     /// The ticks of a loop of so many turns, each of `body` ticks.
@@ -695,7 +805,7 @@ impl Walk<'_> {
         let (test, arithmetic) = (self.prices.test as u128, self.prices.arithmetic as u128);
         let times = |extra: u128| body.saturating_add(extra).saturating_mul(turns as u128);
         match l.kind {
-            Kind::While => times(test).saturating_add(test),
+            Kind::While | Kind::Hold => times(test).saturating_add(test),
             // The step and the test of each turn; the start and the last test.
             Kind::For { .. } => times(arithmetic + test).saturating_add(arithmetic + test),
             Kind::Do => times(test),
@@ -716,13 +826,14 @@ impl Walk<'_> {
             ranges[v] = self.range_of(start, ranges);
         }
         let n = self.range_of(l.limit, ranges);
-        let counter = self.counter(head, l, ranges, n);
+        let refused = |number: u32| (number, head as u64);
+        let counter = self.counter(head, l, ranges, n).map_err(refused)?;
         let assigned = loop_assigns(self.rows, head, l);
         let changes = l.limit.variables(self.items) & assigned != 0;
-        let turns = turns(l, &counter, changes).map_err(|number| (number, head as u64))?;
+        let turns = turns(&counter, changes).map_err(refused)?;
         // The turns of all passes of the outer loop, each with its value for a limit.
         let sum = outer.as_ref().map_or(0, |outer| {
-            let figure = |x| Counter { n: [x, x], ..counter }.figure(l.compare).expect("no question 12 of an Add step");
+            let figure = |x| Counter { n: [x, x], ..counter }.figure().expect("no question 12 of an Add step");
             outer.values().map(figure).sum::<u64>() as u128
         });
         let total = match &outer {
@@ -741,7 +852,8 @@ impl Walk<'_> {
 
         let (at_body, after) = match counter.counted {
             Counted::Tested => tested_ranges(l, step, ranges[v], n),
-            Counted::Copied | Counted::Closing => (ALL, ALL),
+            // A hold's flag; its watched variable is one that the body assigns.
+            Counted::Copied | Counted::Closing | Counted::Held => (ALL, ALL),
         };
         for (w, range) in ranges.iter_mut().enumerate() {
             if assigned & (1 << w) != 0 {
@@ -770,14 +882,14 @@ fn walk(script: &Script, prices: Prices, join: Join) -> Walk<'_> {
     Walk { rows: &script.rows, items: &script.items, prices, join, lines, over: Vec::new(), rounded: false }
 }
 
-/// The `end` rows of the blocks over the tick limit, in row order; questions 8 to 12 come first.
+/// The `end` rows of the blocks over the tick limit, in row order; questions 8 to 12 and 19 come first.
 pub fn blocks_over(script: &Script, prices: Prices) -> Result<Vec<usize>, Refusal> {
     let mut walk = walk(script, prices, join);
     walk.block(0, script.rows.len(), &mut script.ranges.clone(), 1, None)?;
     Ok(walk.over)
 }
 
-/// Questions 8 to 13.
+/// Questions 8 to 13 and 19.
 pub fn analyse(script: Script, prices: Prices) -> Result<Plan, Refusal> {
     analyse_by(join, script, prices)
 }

@@ -22,7 +22,7 @@ pub type Refusal = (u32, u64);
 /// Question 1's number, by change 7.
 pub const SCRATCH: usize = 1_024;
 
-/// Everything that both calls ask: 1 to 13, 16 and 17.
+/// Everything that both calls ask: 1 to 13, 16, 17 and 19.
 pub fn plan(file: &[u8], prices: &[u32], scratch_len: usize) -> Result<Plan, Refusal> {
     if scratch_len < SCRATCH {
         return Err((1, SCRATCH as u64));

@@ -5,7 +5,7 @@ use crate::Refusal;
 /// Ticks by kind of row.
 #[derive(Clone, Copy, Debug, PartialEq, Eq)]
 pub struct Prices {
-    /// Arithmetic, `set`, a for's start and a for's step.
+    /// Arithmetic, `set`, `off`, a for's start and a for's step.
     pub arithmetic: u64,
     pub cue: u64,
     pub pick: u64,

@@ -52,6 +52,8 @@ pub enum Kind {
     While,
     Do,
     For { start: Operand, step: Change },
+    /// Change 12: its variable is a flag, tested for != 0 before each turn.
+    Hold,
 }
 
 #[derive(Clone, Copy, Debug, PartialEq, Eq)]
@@ -71,6 +73,8 @@ pub enum Row {
     Set { v: u8, x: Operand },
     Change { v: u8, by: Change },
     Cue { n: i32 },
+    /// Change 12: v becomes 0 if the comparison of w with c is true.
+    Off { v: u8, w: u8, compare: Compare, c: i32 },
     /// `middle` is the row of its `else`, or of its `end` if it has none: the branches are the rows
     /// between head and middle, and between middle and end.
     Pick { middle: u16, end: u16 },
@@ -201,6 +205,7 @@ impl Row {
         let others = match *self {
             Row::Change { by, .. } => by.within_limits(),
             Row::Cue { n } => (0..=9_999).contains(&n),
+            Row::Off { c, .. } => limited(c),
             Row::Loop(Loop { kind: Kind::For { step, .. }, .. }) => step.within_limits(),
             Row::Loop(_) | Row::Set { .. } | Row::Pick { .. } | Row::Else { .. } | Row::End { .. } => true,
         };
@@ -211,6 +216,7 @@ impl Row {
     fn variables_below(&self, vars: usize, items: &[Item]) -> bool {
         let known = match *self {
             Row::Set { v, .. } | Row::Change { v, .. } | Row::Loop(Loop { v, .. }) => (v as usize) < vars,
+            Row::Off { v, w, .. } => (v.max(w) as usize) < vars,
             Row::Cue { .. } | Row::Pick { .. } | Row::Else { .. } | Row::End { .. } => true,
         };
         known && self.operands().all(|x| x.is_below(vars, items))
@@ -272,6 +278,11 @@ fn compare(word: &[u8]) -> Option<Compare> {
     })
 }
 
+/// An off has one of the four comparisons that order.
+fn ordering(word: &[u8]) -> Option<Compare> {
+    compare(word).filter(|compare| !matches!(compare, Compare::Eq | Compare::Ne))
+}
+
 /// Question 3 of a row line: what follows `row=`. The items of its expressions are put behind those that are there.
 fn row(text: &[u8], items: &mut Vec<Item>) -> Option<Row> {
     let mut words: [&[u8]; 7] = [b""; 7];
@@ -284,7 +295,7 @@ fn row(text: &[u8], items: &mut Vec<Item>) -> Option<Row> {
         count += 1;
     }
     let mut operand = |word| expression::operand(word, items);
-    let looped = |kind, v, cmp, limit| {
+    let looped = |kind, v, cmp: &[u8], limit| {
         Some(Row::Loop(Loop { kind, v: variable(v)?, compare: compare(cmp)?, limit, end: OPEN, index: 0 }))
     };
     match words[..count] {
@@ -297,6 +308,10 @@ fn row(text: &[u8], items: &mut Vec<Item>) -> Option<Row> {
         [b"do", v, cmp, x] => looped(Kind::Do, v, cmp, operand(x)?),
         [b"for", v, x, cmp, y, op, c] => {
             looped(Kind::For { start: operand(x)?, step: change(op, c)? }, v, cmp, operand(y)?)
+        }
+        [b"hold", v] => looped(Kind::Hold, v, b"!=", Operand::Constant(0)),
+        [b"off", v, w, cmp, c] => {
+            Some(Row::Off { v: variable(v)?, w: variable(w)?, compare: ordering(cmp)?, c: number(c)? })
         }
         [op, v, c] => Some(Row::Change { v: variable(v)?, by: change(op, c)? }),
         _ => None,
@@ -422,7 +437,7 @@ pub fn script(file: &[u8]) -> Result<Script, Refusal> {
                     loops += 1;
                 }
             }
-            Row::Set { .. } | Row::Change { .. } | Row::Cue { .. } => {}
+            Row::Set { .. } | Row::Change { .. } | Row::Cue { .. } | Row::Off { .. } => {}
         }
         rows.push(row);
     }

@@ -192,6 +192,13 @@ pub fn run<E: Listener, P: Picks>(
                 tick!(cue, r);
                 r += 1;
             }
+            Row::Off { v, w, compare, c } => {
+                tick!(arithmetic, r);
+                if compare.holds(store[*w as usize], *c) {
+                    store[*v as usize] = 0;
+                }
+                r += 1;
+            }
             Row::Pick { middle, .. } => {
                 tick!(pick, r);
                 let Some(byte) = picks.next(r, used) else {
@@ -214,7 +221,7 @@ pub fn run<E: Listener, P: Picks>(
                         tick!(arithmetic, r);
                         store[l.v as usize] = operand!(start, r);
                     }
-                    Kind::While => {}
+                    Kind::While | Kind::Hold => {}
                 }
                 test!(*l, r);
             }

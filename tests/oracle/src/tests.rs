@@ -1,5 +1,6 @@
 use crate::*;
 
+mod held;
 mod reach;
 mod sheet;
 

@@ -2,6 +2,7 @@
 //! N-th of the mistakes below, so that the harness can be seen to find them.
 
 mod expressions;
+mod held;
 mod triangles;
 
 use expressions::*;
@@ -61,7 +62,24 @@ fn taken(file: &[u8]) -> Cow<'_, [u8]> {
     }
 }
 
-/// Change 9's rules, with a mistake or without.
+/// Change 12's rules, with a mistake or without.
+fn held_rules() -> held::Rules {
+    let mistakes = [
+        // 52: a hold is charged one turn less.
+        (52, held::Rules { last: false, ..held::RIGHT }),
+        // 53: the opposite of > is <, and so on.
+        (53, held::Rules { opposite: false, ..held::RIGHT }),
+        // 54: rows before the off do not move the start on.
+        (54, held::Rules { moved: false, ..held::RIGHT }),
+        // 55: a flag of range [0,0] is charged its turns.
+        (55, held::Rules { zero: false, ..held::RIGHT }),
+        // 56: "exact" does not ask for the flag.
+        (56, held::Rules { flag: false, ..held::RIGHT }),
+    ];
+    mistakes.into_iter().find(|(mistake, _)| wrong(*mistake)).map_or(held::RIGHT, |(_, rules)| rules)
+}
+
+/// The rules of totals and ticks, with a mistake or without.
 fn rules() -> Rules {
     let mistakes = [
         // 40: the longest pass is charged each time.
@@ -88,6 +106,8 @@ fn rules() -> Rules {
         (50, Rules { times_round: false, ..RIGHT }),
         // 51: an outer loop of 4,096 turns is left out.
         (51, Rules { most_passes: 4_095, ..RIGHT }),
+        // 57: an off is free of charge.
+        (57, Rules { off_costs: false, ..RIGHT }),
     ];
     mistakes.into_iter().find(|(mistake, _)| wrong(*mistake)).map_or(RIGHT, |(_, rules)| rules)
 }
@@ -144,9 +164,7 @@ fn misread(file: &[u8], plan: &Result<Plan, Refusal>) -> Option<Result<Vec<u8>, 
             let Row::Loop(l) = rows[*head as usize] else { return None };
             (copied(&rows, *head as usize, &l) == Err(Term::Sides)).then_some(Err((9, *head)))
         }
-        // Without a mistake these figures are the oracle's.
-        Ok(plan) => Some(Ok(report_text(&figures(&too_many(plan), rules())))),
-        _ => None,
+        _ => misheld(file, plan),
     }
 }
 
@@ -165,6 +183,26 @@ fn too_many(plan: &Plan) -> Plan {
         line.turns += (mistaken || is_do && wrong(83)) as u64;
     }
     plan
+}
+
+/// The same, of holds and offs.
+fn misheld(file: &[u8], plan: &Result<Plan, Refusal>) -> Option<Result<Vec<u8>, Refusal>> {
+    let mistaken = match plan {
+        // 58: two offs pass.
+        Err((19, head)) if wrong(58) => held::second_off(file, *head),
+        // 59: an off in a pick is taken for the hold's own.  60: an off in an inner loop.
+        Err((19, head)) if wrong(59) || wrong(60) => held::off_inside(file, *head, wrong(59)),
+        // 61: 19 is asked behind the other loops' questions.
+        Err((19, head)) if wrong(61) => held::behind_the_others(file, *head),
+        // 62: an off outside all loops does not widen its flag's range.
+        Ok(plan) if wrong(62) => held::not_widened(plan),
+        // 63: a hold is asked question 8.
+        Ok(plan) if wrong(63) => plan.lines.iter().find(|line| line.counted == Counted::Held).map(|line| Err((8, line.row as u64))),
+        // Without a mistake these figures are the oracle's.
+        Ok(plan) => Some(Ok(figures(&too_many(&held::turns(plan, held_rules())), rules()))),
+        Err(_) => None,
+    };
+    mistaken.map(|answer| answer.map(|plan| report_text(&plan)))
 }
 
 /// The `end` row of the outermost block round a row.
@@ -284,7 +322,14 @@ pub unsafe extern "C" fn diftanew_run(
             }
             number
         }
-        Ok((counts, loops)) => {
+        Ok((mut counts, loops)) => {
+            // 64: a run's offs leave their flags alone.
+            if let (Ok(plan), true) = (oracle::plan(file, prices, length), wrong(64)) {
+                if plan.script.rows.iter().any(|row| matches!(row, Row::Off { .. })) {
+                    store.copy_from_slice(&before);
+                    counts = held::run_without_offs(&plan, store, picks, allowance);
+                }
+            }
             answer[0] = match counts.ending {
                 Ending::Ended => 0,
                 Ending::Spent => 1,

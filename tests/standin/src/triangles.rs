@@ -1,4 +1,4 @@
-//! Change 9's mistakes: totals and ticks a second time, from the turns of each loop, by rules that can be wrong.
+//! Mistakes of totals and ticks: both a second time, from the turns of each loop, by rules that can be wrong.
 
 use oracle::analyse::own_step;
 use oracle::read::{Compare, Kind, Loop, Operand};
@@ -21,6 +21,8 @@ pub struct Rules {
     pub multiply_on: bool,
     /// The sum is taken times the total of the loop round the outer.
     pub times_round: bool,
+    /// An off costs arithmetic.
+    pub off_costs: bool,
 }
 
 pub const RIGHT: Rules = Rules {
@@ -34,6 +36,7 @@ pub const RIGHT: Rules = Rules {
     in_parentheses: false,
     multiply_on: true,
     times_round: true,
+    off_costs: true,
 };
 
 /// A loop with what is known of it, and the total of the loop round it.
@@ -71,7 +74,8 @@ impl Walk<'_> {
         let mut r = from;
         while r < to {
             match self.plan.script.rows[r] {
-                Row::Set { .. } | Row::Change { .. } => ticks += prices.arithmetic as u128,
+                Row::Off { .. } if !self.rules.off_costs => {}
+                Row::Set { .. } | Row::Change { .. } | Row::Off { .. } => ticks += prices.arithmetic as u128,
                 Row::Cue { .. } => ticks += prices.cue as u128,
                 Row::Pick { middle, end } => {
                     let (middle, end) = (middle as usize, end as usize);
@@ -98,7 +102,7 @@ impl Walk<'_> {
         let (test, arithmetic) = (self.plan.prices.test as u128, self.plan.prices.arithmetic as u128);
         let turns = turns as u128;
         match l.kind {
-            Kind::While => turns * (body + test) + test,
+            Kind::While | Kind::Hold => turns * (body + test) + test,
             Kind::For { .. } => turns * (body + arithmetic + test) + arithmetic + test,
             Kind::Do => turns * (body + test),
         }

@@ -32,6 +32,10 @@ test-row-requires-3 c κs = tests-do (known (c .before .before .before .before .
 test-row-requires-4 : tie.Need-test-row-requires-4
 test-row-requires-4 c κs = tests-while (known (c .before .before .before .before .before .before) _ (c .before .before .before .kind3 .given .1))
 
+flag-row-requires : tie.Need-flag-row-requires
+unfolding kindOf
+flag-row-requires c κs = let q = known (c .before .before .before .before .before .before) _ (c .before .before .before .kind4 .given .1) in (q .rows .0, q .rows .1, q .below, q .room)
+
 returns : tie.Need-returns
 unfolding viewOf kindOf onEnd
 returns c = (λ rows shut opener. rw (c .before .enum-told .given .1, c .on .ensures) (passed _ _ _ _ _ (λ d. d) refl), search needs)
@@ -93,6 +97,14 @@ returns-11 : tie.Need-returns-11
 unfolding viewOf kindOf onEnd
 returns-11 c = (λ rows shut opener. rw (c .before .before .before .before .kind3 .given .1) (c .test-row4 .ensures .0), search needs)
 
+returns-12 : tie.Need-returns-12
+unfolding viewOf kindOf onEnd
+returns-12 c = (λ rows shut opener. rw (c .before .enum-told7 .given .1, c .on7 .ensures) (passed _ _ _ _ _ (λ d. d) refl), search needs)
+
+returns-13 : tie.Need-returns-13
+unfolding viewOf kindOf onEnd
+returns-13 c = (λ rows shut opener. rw (c .before .before .before .before .kind4 .given .1) (c .flag-row .ensures .0), search needs)
+
 pub end-row-spec : {M : Type 1} → statement M
 end-row-spec =
     tie.close
@@ -124,6 +136,11 @@ end-row-spec =
     test-row-requires-3
     (λ c. search needs)
     test-row-requires-4
+    (λ c. search needs)
+    (λ c. search needs)
+    (λ c κs. search needs)
+    (λ c. search needs)
+    flag-row-requires
     returns
     returns-2
     returns-3
@@ -139,4 +156,7 @@ end-row-spec =
     (λ c. search needs)
     returns-10
     (λ c. search needs)
-    returns-11)
+    returns-11
+    returns-12
+    (λ c. search needs)
+    returns-13)

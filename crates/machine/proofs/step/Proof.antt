@@ -1,10 +1,13 @@
 -- `machine::step` meets its contract. Assumes nothing.
-use Rattle.machine.proofs.Laws.{passed, after, tests-while, tests-for, tests-later, acts-row, steps-row, at-end, at-else, at-pick, at-plain, at-while, at-do, at-for}
+use Rattle.machine.proofs.Laws.{passed, after, tests-while, tests-for, tests-later, acts-row, steps-row, at-end, at-else, at-pick, at-plain, at-while, at-hold, at-do, at-for}
 use Rattle.actions.specs.States.{Doable}
-use Rattle.rules.specs.Blocks.{test, viewOf, kindOf}
-use Rattle.rules.specs.RowMachine.{begin, turn, tests}
+use Rattle.rules.specs.Blocks.{test, holdTest, viewOf, kindOf}
+use Rattle.rules.specs.RowMachine.{tallyOf, begin, turn, tests}
 use Rattle.rules.specs.declared.Kind.{Kind}
 use mathlib.Core.Path.{_≡_, refl, _∙_, ap, subst}
+use mir.Facts.{toZ-ofZ}
+use mir.Val.{SFits}
+use mir.Syntax.{w32}
 use denote.Ref.{now}
 use borrow.Author.Needs.{needs}
 use Rattle.machine.proofs.step.Statement.{statement}
@@ -28,6 +31,14 @@ test-row-requires c κs = tests-later refl (c .before .before .begin .ensures .r
 for-row-requires : tie.Need-for-row-requires
 unfolding kindOf
 for-row-requires c κs = let q = known (c .before .before .before .before .before .before .before) _ (c .before .before .before .kind4 .given .1) in (tests-for q, q .written .0, q .below .1)
+
+off-row-requires : tie.Need-off-row-requires
+unfolding kindOf
+off-row-requires c κs = let q = known (c .before .before .before .before .before .before) _ (c .before .before .kind5 .given .1) in (q .rows .0, q .below .0, q .below .1)
+
+flag-row-requires : tie.Need-flag-row-requires
+unfolding kindOf
+flag-row-requires c κs = let q = known (c .before .before .before .before .before .before .before .before .before) _ (c .before .before .before .before .before .kind6 .given .1) in (q .rows .0, q .rows .1, q .below, c .before .before .begin3 .ensures .room)
 
 returns : tie.Need-returns
 unfolding viewOf kindOf
@@ -95,6 +106,23 @@ returns-9 c =
     let s = c .before .before .before .before .before .before .before .before .before .args in
     (λ rows shut opener f. rw (c .before .before .before .before .before .kind4 .given .1) (acts-row _ (c .before .for-row .ensures .0) (λ t d. at-for (s .prices) rows shut opener (s .m .row) (s .e) (s .h) (viewOf (kindOf (now (s .text)) (s .head .kind))) f t d _ _ _ _ _ (s .m .testing))), search needs)
 
+returns-10 : tie.Need-returns-10
+unfolding viewOf kindOf
+returns-10 c =
+    let s = c .before .before .before .before .before .before .before .before .args in
+    let g : SFits w32 (c .before .before .before .before .kind5 .given .0 .1 .1 .1 .0) = search needs in
+    (λ rows shut opener f. rw (c .before .before .before .before .kind5 .given .1) (acts-row _ (simp (toZ-ofZ g) at (c .before .off-row .ensures (tallyOf (now (s .counts))))) (λ t d. at-plain (s .prices) rows shut opener (s .m .row) (s .e) (s .h) (viewOf (kindOf (now (s .text)) (s .head .kind))) f t d _ (s .m .testing))), search needs)
+
+returns-11 : tie.Need-returns-11
+unfolding viewOf kindOf
+returns-11 c =
+    let a = c .before .before .before .before .before .before .before .before .before .before .args in (
+      λ rows shut opener f.
+          rw (c .before .before .before .before .before .before .kind6 .given .1)
+          (acts-row _ (after (tests (a .prices) (a .m .row) (a .e) (holdTest _)) (begin (a .m .row)) (c .before .before .before .begin3 .ensures .same) (c .flag-row .ensures .0)) (λ t d. at-hold (a .prices) rows shut opener (a .m .row) (a .e) (a .h) (viewOf (kindOf (now (a .text)) (a .head .kind))) f t d _ _ (a .m .testing))),
+      search needs,
+    )
+
 pub step-spec : {M : Type 1} → statement M
 step-spec =
     tie.close
@@ -126,6 +154,11 @@ step-spec =
     (λ c. search needs)
     for-row-requires
     (λ c. search needs)
+    off-row-requires
+    (λ c. search needs)
+    (λ c κs. search needs)
+    flag-row-requires
+    (λ c. search needs)
     returns
     returns-2
     returns-3
@@ -138,4 +171,8 @@ step-spec =
     returns-7
     returns-8
     (λ c. search needs)
-    returns-9)
+    returns-9
+    (λ c. search needs)
+    returns-10
+    (λ c. search needs)
+    returns-11)

@@ -42,6 +42,14 @@ returns-9 : tie.Need-returns-9
 unfolding viewOf kindOf nestRow nestOf
 returns-9 c = let e = c .open-loop3 .ensures in (λ text. rw (c .before .enum-told9 .given .1) (e .0), e .1)
 
+returns-10 : tie.Need-returns-10
+unfolding viewOf kindOf nestRow nestedOf
+returns-10 c = (λ text. rw (c .enum-told10 .given .1), search needs)
+
+returns-11 : tie.Need-returns-11
+unfolding viewOf kindOf nestRow nestOf
+returns-11 c = let e = c .open-loop4 .ensures in (λ text. rw (c .before .enum-told11 .given .1) (e .0), e .1)
+
 pub nest-row-spec : {M : Type 1} → statement M
 nest-row-spec =
     tie.close
@@ -61,6 +69,9 @@ nest-row-spec =
     (λ c κs. search needs)
     (λ c. search needs)
     (λ c κs. search needs)
+    (λ c. search needs)
+    (λ c. search needs)
+    (λ c κs. search needs)
     returns
     returns-2
     returns-3
@@ -69,4 +80,6 @@ nest-row-spec =
     returns-6
     returns-7
     returns-8
-    returns-9)
+    returns-9
+    returns-10
+    returns-11)

@@ -54,6 +54,16 @@ returns-9 c =
     let a = c .before .before .before .before .before .before .before .before .before .args in
     rw (c .before .before .before .before .enum-told9 .given .1) (record { same = λ text. c .before .before .push5 .ensures .same (a .shut .now) (a .opener .now); deep = c .before .before .push5 .ensures .deep })
 
+returns-10 : tie.Need-returns-10
+unfolding viewOf kindOf pairRow
+returns-10 c = rw (c .enum-told10 .given .1) (record { same = λ text. refl; deep = omega arith })
+
+returns-11 : tie.Need-returns-11
+unfolding viewOf kindOf pairRow
+returns-11 c =
+    let a = c .before .before .before .before .before .before .before .before .before .args in
+    rw (c .before .before .before .before .enum-told11 .given .1) (record { same = λ text. c .before .before .push6 .ensures .same (a .shut .now) (a .opener .now); deep = c .before .before .push6 .ensures .deep })
+
 pub pair-row-spec : {M : Type 1} → statement M
 pair-row-spec =
     tie.close
@@ -76,6 +86,9 @@ pair-row-spec =
     (λ c κs. search needs)
     (λ c. search needs)
     (λ c. search needs)
+    (λ c κs. search needs)
+    (λ c. search needs)
+    (λ c. search needs)
     (λ c. search needs)
     returns
     (λ c. search needs)
@@ -92,4 +105,7 @@ pair-row-spec =
     (λ c. search needs)
     returns-8
     (λ c. search needs)
-    returns-9)
+    returns-9
+    returns-10
+    (λ c. search needs)
+    returns-11)

@@ -1,5 +1,4 @@
 -- `ranges::by_step` meets its contract.
-use borrow.Author.Needs.{sfits-of}
 use mir.Syntax.{w32}
 use mir.Val.{SFits}
 use mir.Facts.{toZ-ofZ}
@@ -22,13 +21,8 @@ unfolding byStep lowest highest
 returns-3 c = let f : SFits w32 (c .before .before .before .args .s .lo) = search needs in rw (c .before .enum-told2 .given .1) (simp (toZ-ofZ f))
 
 returns-4 : tie.Need-returns-4
-unfolding byStep lowest highest
-returns-4 c =
-    let f0 : SFits w32 (c .before .before .before .before .before .before .args .s .lo) = search needs in
-    let f1 : SFits w32 (c .before .before .before .before .before .before .args .s .hi) = search needs in
-    let g0 : SFits w32 (c .before .before .lower .result) = sfits-of (c .before .before .lower .ok) in
-    let g1 : SFits w32 (c .higher .result) = sfits-of (c .higher .ok) in
-    rw (toZ-ofZ g0, toZ-ofZ g1, c .before .before .lower .ensures, c .higher .ensures, c .before .before .before .before .enum-told3 .given .1) (simp (toZ-ofZ f0, toZ-ofZ f1))
+unfolding byStep
+returns-4 c = rw (c .before .enum-told3 .given .1) (c .with-zero .ensures)
 
 returns-5 : tie.Need-returns-5
 unfolding byStep lowest highest
@@ -41,7 +35,6 @@ by-step-spec =
     (λ c. search needs)
     (λ c. search needs)
     (λ c. search needs)
-    (λ c κs. search needs)
     (λ c κs. search needs)
     (λ c. search needs)
     returns

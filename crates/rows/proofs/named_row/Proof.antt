@@ -42,6 +42,12 @@ returns-11 c = rw (c .before .enum-told11 .given .1) (c .test-row2 .ensures)
 returns-12 : tie.Need-returns-12
 returns-12 c = rw (c .before .enum-told12 .given .1) (c .for-row .ensures)
 
+returns-13 : tie.Need-returns-13
+returns-13 c = rw (c .before .enum-told13 .given .1) (c .off-row .ensures _)
+
+returns-14 : tie.Need-returns-14
+returns-14 c = rw (c .before .enum-told14 .given .1) (c .hold-row .ensures _)
+
 pub named-row-spec : {M : Type 1} → statement M
 named-row-spec =
     tie.close
@@ -70,6 +76,10 @@ named-row-spec =
     (λ c κs. search needs)
     (λ c. search needs)
     (λ c κs. search needs)
+    (λ c. search needs)
+    (λ c κs. search needs)
+    (λ c. search needs)
+    (λ c κs. search needs)
     returns
     returns-2
     returns-3
@@ -81,4 +91,6 @@ named-row-spec =
     returns-9
     returns-10
     returns-11
-    returns-12)
+    returns-12
+    returns-13
+    returns-14)

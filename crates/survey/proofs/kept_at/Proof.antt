@@ -7,7 +7,7 @@ use Prim.Native.Nat.{ℕ}
 use types.Run.{OneOf, miss}
 use denote.Enum.Declared.{tagOf}
 use Rattle.rules.specs.declared.Kind.{Kind}
-use Rattle.rules.specs.declared.Kind.the-variants.{Set, Move, Cue, Pick, Else, End, While, Do, For}
+use Rattle.rules.specs.declared.Kind.the-variants.{Set, Move, Cue, Pick, Else, End, While, Do, For, Off, Hold}
 use Rattle.rules.specs.Blocks.{viewOf, kindOf}
 use Rattle.rules.specs.Steps.{starts}
 use Rattle.rules.proofs.Kind.{the-type}
@@ -17,7 +17,7 @@ use Rattle.survey.proofs.kept_at.Tie as tie
 
 -- any row but a for
 abbrev others : List ℕ
-others = 0 ∷ 1 ∷ 2 ∷ 3 ∷ 4 ∷ 5 ∷ 6 ∷ 7 ∷ []
+others = 0 ∷ 1 ∷ 2 ∷ 3 ∷ 4 ∷ 5 ∷ 6 ∷ 7 ∷ 8 ∷ 10 ∷ []
 
 same : (k : Bool) → k ≡ k && true
 same true = refl
@@ -33,7 +33,9 @@ no-for text v p (Move w c) o = same p
 no-for text v p (Cue n) o = same p
 no-for text v p (While w c x) o = same p
 no-for text v p (Do w c x) o = same p
-no-for text v p (For w s c x d) o = absurd (miss others 8 tt o)
+no-for text v p (For w s c x d) o = absurd (miss others 9 tt o)
+no-for text v p (Off w u c k) o = same p
+no-for text v p (Hold w) o = same p
 
 returns : tie.Need-returns
 unfolding headOf viewOf kindOf

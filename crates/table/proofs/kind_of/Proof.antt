@@ -1,5 +1,6 @@
 -- `table::kind_of` meets its contract.
-use borrow.Author.Needs.{needs}
+use mir.Facts.{toZ-ofZ}
+use borrow.Author.Needs.{needs, sfits-of}
 use Rattle.table.specs.Code.{kindBy, kindIn}
 use Rattle.table.proofs.kind_of.Statement.{statement}
 use Rattle.table.proofs.kind_of.Tie as tie
@@ -40,6 +41,14 @@ returns-9 : tie.Need-returns-9
 unfolding kindBy kindIn
 returns-9 c = rw (← c .before .before .before .before .before .tag-of .ensures, c .before .before .before .enum-told9 .given .1, c .step2 .ensures, c .before .limit3 .ensures, c .before .before .first-operand2 .ensures, c .before .before .before .before .before .before .before .byte .ensures, c .before .before .before .before .before .before .comparison .ensures)
 
+returns-10 : tie.Need-returns-10
+unfolding kindBy kindIn
+returns-10 c = rw (toZ-ofZ (sfits-of (c .constant .ok)), ← c .before .before .before .before .tag-of .ensures, c .before .before .enum-told10 .given .1, c .constant .ensures, c .before .byte2 .ensures, c .before .before .before .before .before .before .byte .ensures, c .before .before .before .before .before .comparison .ensures)
+
+returns-11 : tie.Need-returns-11
+unfolding kindBy kindIn
+returns-11 c = rw (← c .before .before .tag-of .ensures, c .enum-told11 .given .1, c .before .before .before .before .byte .ensures)
+
 pub kind-of-spec : {M : Type 1} → statement M
 kind-of-spec =
     tie.close
@@ -67,6 +76,12 @@ kind-of-spec =
     (λ c κs. search needs)
     (λ c κs. search needs)
     (λ c κs. search needs)
+    (λ c. search needs)
+    (λ c. search needs)
+    (λ c κs. search needs)
+    (λ c. search needs)
+    (λ c κs. search needs)
+    (λ c. search needs)
     returns
     returns-2
     returns-3
@@ -75,4 +90,6 @@ kind-of-spec =
     returns-6
     returns-7
     returns-8
-    returns-9)
+    returns-9
+    returns-10
+    returns-11)

@@ -1,4 +1,7 @@
 use mathlib.Core.Path.{refl}
+use mir.Syntax.{w32}
+use mir.Val.{SFits}
+use mir.Facts.{toZ-ofZ}
 use borrow.Author.Needs.{needs}
 use Rattle.table.proofs.row_code.Statement.{statement}
 use Rattle.table.proofs.row_code.Tie as tie
@@ -17,6 +20,14 @@ test-row-requires-2 c κs = let h = rw (c .before .kind5 .given .1) at (c .befor
 
 for-row-requires : tie.Need-for-row-requires
 for-row-requires c κs = let h = rw (c .before .kind6 .given .1) at (c .before .before .before .pre) in (h .0, h .1, h .2)
+
+off-row-requires : tie.Need-off-row-requires
+off-row-requires c κs =
+    let f : SFits w32 (c .before .kind7 .given .0 .1 .1 .1 .0) = search needs in
+    let h = rw (c .before .kind7 .given .1) at (c .before .before .before .pre) in rw (toZ-ofZ f) h
+
+hold-row-requires : tie.Need-hold-row-requires
+hold-row-requires c κs = let h = rw (c .before .kind8 .given .1) at (c .before .before .before .pre) in h
 
 returns : tie.Need-returns
 returns c = rw (c .before .enum-told .given .1) (c .bare-row .ensures .0 refl)
@@ -45,6 +56,14 @@ returns-8 c = rw (c .before .before .kind5 .given .1) (c .test-row2 .ensures .1 
 returns-9 : tie.Need-returns-9
 returns-9 c = rw (c .before .before .kind6 .given .1) (c .for-row .ensures)
 
+returns-10 : tie.Need-returns-10
+returns-10 c =
+    let f : SFits w32 (c .before .before .kind7 .given .0 .1 .1 .1 .0) = search needs in
+    rw (c .before .before .kind7 .given .1) (simp (toZ-ofZ f) at (c .off-row .ensures))
+
+returns-11 : tie.Need-returns-11
+returns-11 c = rw (c .before .before .kind8 .given .1) (c .hold-row .ensures)
+
 pub row-code-spec : {M : Type 1} → statement M
 row-code-spec =
     tie.close
@@ -67,6 +86,10 @@ row-code-spec =
     test-row-requires-2
     (λ c. search needs)
     for-row-requires
+    (λ c. search needs)
+    off-row-requires
+    (λ c. search needs)
+    hold-row-requires
     returns
     returns-2
     returns-3
@@ -75,4 +98,6 @@ row-code-spec =
     returns-6
     returns-7
     returns-8
-    returns-9)
+    returns-9
+    returns-10
+    returns-11)

@@ -45,11 +45,21 @@ returns-9 : tie.Need-returns-9
 unfolding kindBy viewOf kindOf
 returns-9 c = sym (ap shapeOf (kind-is (now (c .before .before .before .args .rows)) (c .before .before .before .args .i) (c .before .before .tag-at .ensures) (c .enum-told9 .given .1)))
 
+returns-10 : tie.Need-returns-10
+unfolding kindBy viewOf kindOf
+returns-10 c = sym (ap shapeOf (kind-is (now (c .before .before .before .args .rows)) (c .before .before .before .args .i) (c .before .before .tag-at .ensures) (c .enum-told10 .given .1)))
+
+returns-11 : tie.Need-returns-11
+unfolding kindBy viewOf kindOf
+returns-11 c = sym (ap shapeOf (kind-is (now (c .before .before .before .args .rows)) (c .before .before .before .args .i) (c .before .before .tag-at .ensures) (c .enum-told11 .given .1)))
+
 pub shape-at-spec : {M : Type 1} → statement M
 shape-at-spec =
     tie.close
     (tie.spec
     (λ c κs. search needs)
+    (λ c. search needs)
+    (λ c. search needs)
     (λ c. search needs)
     (λ c. search needs)
     (λ c. search needs)
@@ -67,4 +77,6 @@ shape-at-spec =
     returns-6
     returns-7
     returns-8
-    returns-9)
+    returns-9
+    returns-10
+    returns-11)

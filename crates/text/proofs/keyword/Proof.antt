@@ -3,10 +3,10 @@ use Rattle.text.specs.Words.{packed, keywords, packedWord, wordAt, wordI
 use Rattle.text.proofs.keyword.Statement.{statement}
 use Rattle.text.proofs.keyword.Tie as tie
 
-returns-19 : tie.Need-returns-19
+returns-21 : tie.Need-returns-21
 unfolding packed keywords packedWord wordAt wordIn
-returns-19 c = let r = c .match .rest in
-    rw (ne-eqb _ 24405363 (r .0 .0 .0 .0 .0 .0 .0 .0 .0 .0 .0 .0 .0 .0 .0 .0 .0 .1), ne-eqb _ 23356513 (r .0 .0 .0 .0 .0 .0 .0 .0 .0 .0 .0 .0 .0 .0 .0 .0 .1), ne-eqb _ 23229811 (r .0 .0 .0 .0 .0 .0 .0 .0 .0 .0 .0 .0 .0 .0 .0 .1), ne-eqb _ 23885165 (r .0 .0 .0 .0 .0 .0 .0 .0 .0 .0 .0 .0 .0 .0 .1), ne-eqb _ 24537444 (r .0 .0 .0 .0 .0 .0 .0 .0 .0 .0 .0 .0 .0 .1), ne-eqb _ 23426403 (r .0 .0 .0 .0 .0 .0 .0 .0 .0 .0 .0 .0 .1), ne-eqb _ 24276838 (r .0 .0 .0 .0 .0 .0 .0 .0 .0 .0 .0 .1), ne-eqb _ 1535122172023 (r .0 .0 .0 .0 .0 .0 .0 .0 .0 .0 .1), ne-eqb _ 94052 (r .0 .0 .0 .0 .0 .0 .0 .0 .0 .1), ne-eqb _ 23359077 (r .0 .0 .0 .0 .0 .0 .0 .0 .1), ne-eqb _ 5997030501 (r .0 .0 .0 .0 .0 .0 .0 .1), ne-eqb _ 6096644464 (r .0 .0 .0 .0 .0 .0 .1), ne-eqb _ 316 (r .0 .0 .0 .0 .0 .1), ne-eqb _ 81212 (r .0 .0 .0 .0 .1), ne-eqb _ 318 (r .0 .0 .0 .1), ne-eqb _ 81214 (r .0 .0 .1), ne-eqb _ 81213 (r .0 .1), ne-eqb _ 81185 (r .1))
+returns-21 c = let r = c .match .rest in
+    rw (ne-eqb _ 24405363 (r .0 .0 .0 .0 .0 .0 .0 .0 .0 .0 .0 .0 .0 .0 .0 .0 .0 .0 .0 .1), ne-eqb _ 23356513 (r .0 .0 .0 .0 .0 .0 .0 .0 .0 .0 .0 .0 .0 .0 .0 .0 .0 .0 .1), ne-eqb _ 23229811 (r .0 .0 .0 .0 .0 .0 .0 .0 .0 .0 .0 .0 .0 .0 .0 .0 .0 .1), ne-eqb _ 23885165 (r .0 .0 .0 .0 .0 .0 .0 .0 .0 .0 .0 .0 .0 .0 .0 .0 .1), ne-eqb _ 24537444 (r .0 .0 .0 .0 .0 .0 .0 .0 .0 .0 .0 .0 .0 .0 .0 .1), ne-eqb _ 23426403 (r .0 .0 .0 .0 .0 .0 .0 .0 .0 .0 .0 .0 .0 .0 .1), ne-eqb _ 23488111 (r .0 .0 .0 .0 .0 .0 .0 .0 .0 .0 .0 .0 .0 .1), ne-eqb _ 24276838 (r .0 .0 .0 .0 .0 .0 .0 .0 .0 .0 .0 .0 .1), ne-eqb _ 1535122172023 (r .0 .0 .0 .0 .0 .0 .0 .0 .0 .0 .0 .1), ne-eqb _ 94052 (r .0 .0 .0 .0 .0 .0 .0 .0 .0 .0 .1), ne-eqb _ 23359077 (r .0 .0 .0 .0 .0 .0 .0 .0 .0 .1), ne-eqb _ 5997030501 (r .0 .0 .0 .0 .0 .0 .0 .0 .1), ne-eqb _ 6096644464 (r .0 .0 .0 .0 .0 .0 .0 .1), ne-eqb _ 5979795304 (r .0 .0 .0 .0 .0 .0 .1), ne-eqb _ 316 (r .0 .0 .0 .0 .0 .1), ne-eqb _ 81212 (r .0 .0 .0 .0 .1), ne-eqb _ 318 (r .0 .0 .0 .1), ne-eqb _ 81214 (r .0 .0 .1), ne-eqb _ 81213 (r .0 .1), ne-eqb _ 81185 (r .1))
 
 pub keyword-spec : {M : Type 1} → statement M
 unfolding packed keywords packedWord wordAt wordIn
@@ -31,4 +31,6 @@ keyword-spec =
     (λ c. rw (c .match .keys16))
     (λ c. rw (c .match .keys17))
     (λ c. rw (c .match .keys18))
-    returns-19)
+    (λ c. rw (c .match .keys19))
+    (λ c. rw (c .match .keys20))
+    returns-21)

@@ -16,26 +16,27 @@ returns : tie.Need-returns
 unfolding wordIn
 returns c = let s = c .before .before in
     let e : ltZ (s .args .value) (pos 0) ≡ true = simp (toZ-ofZ (s .fits .value)) at (c .if1 .taken) in
-    rw (c .before .match .keys21) (no-variable _ e)
+    rw (c .before .match .keys23) (no-variable _ e)
 
-cast-t23 : tie.Need-cast-t23
-cast-t23 c = let s = c .before .before in
+cast-t25 : tie.Need-cast-t25
+cast-t25 c = let s = c .before .before in
     let e : ltZ (s .args .value) (pos 0) ≡ false = simp (toZ-ofZ (s .fits .value)) at (c .if1 .left) in
     rw (toZ-ofZ (s .fits .value)) (omega ints, record { fits = omega (ints, abs-parts (s .args .value)) })
 
-returns-22 : tie.Need-returns-22
+returns-24 : tie.Need-returns-24
 unfolding wordIn
-returns-22 c = let s = c .before .before in
+returns-24 c = let s = c .before .before in
     let e : ltZ (s .args .value) (pos 0) ≡ false = simp (toZ-ofZ (s .fits .value)) at (c .if1 .left) in
-    rw (toZ-ofZ (s .fits .value), c .before .match .keys21) (is-variable _ e)
+    rw (toZ-ofZ (s .fits .value), c .before .match .keys23) (is-variable _ e)
 
-returns-23 : tie.Need-returns-23
+returns-25 : tie.Need-returns-25
 unfolding keywords wordIn
-returns-23 c = let r = c .match .rest in
-    let a : 6 ≤ c .before .args .tag = omega (arith, r .0 .0 .0 .0 .0 .0 .0 .0 .0 .0 .0 .0 .0 .0 .0 .0 .0 .0 .0 .0, r .0 .0 .0 .0 .0 .0 .0 .0 .0 .0 .0 .0 .0 .0 .0 .0 .0 .0 .0 .1, r .0 .0 .0 .0 .0 .0 .0 .0 .0 .0 .0 .0 .0 .0 .0 .0 .0 .0 .1, r .0 .0 .0 .0 .0 .0 .0 .0 .0 .0 .0 .0 .0 .0 .0 .0 .0 .1, r .0 .0 .0 .0 .0 .0 .0 .0 .0 .0 .0 .0 .0 .0 .0 .0 .1, r .0 .0 .0 .0 .0 .0 .0 .0 .0 .0 .0 .0 .0 .0 .0 .1) in
-    let b : 12 ≤ c .before .args .tag = omega (arith, r .0 .0 .0 .0 .0 .0 .0 .0 .0 .0 .0 .0 .0 .0 .1, r .0 .0 .0 .0 .0 .0 .0 .0 .0 .0 .0 .0 .0 .1, r .0 .0 .0 .0 .0 .0 .0 .0 .0 .0 .0 .0 .1, r .0 .0 .0 .0 .0 .0 .0 .0 .0 .0 .0 .1, r .0 .0 .0 .0 .0 .0 .0 .0 .0 .0 .1, r .0 .0 .0 .0 .0 .0 .0 .0 .0 .1) in
-    let h : 18 ≤ c .before .args .tag = omega (arith, r .0 .0 .0 .0 .0 .0 .0 .0 .1, r .0 .0 .0 .0 .0 .0 .0 .1, r .0 .0 .0 .0 .0 .0 .1, r .0 .0 .0 .0 .0 .1, r .0 .0 .0 .0 .1, r .0 .0 .0 .1) in
-    rw (ne-eqb _ 19 (r .0 .0 .1), ne-eqb _ 20 (r .0 .1), ne-eqb _ 21 (r .1), word-past keywords _ h)
+returns-25 c = let r = c .match .rest in
+    let a : 6 ≤ c .before .args .tag = omega (arith, r .0 .0 .0 .0 .0 .0 .0 .0 .0 .0 .0 .0 .0 .0 .0 .0 .0 .0 .0 .0 .0 .0, r .0 .0 .0 .0 .0 .0 .0 .0 .0 .0 .0 .0 .0 .0 .0 .0 .0 .0 .0 .0 .0 .1, r .0 .0 .0 .0 .0 .0 .0 .0 .0 .0 .0 .0 .0 .0 .0 .0 .0 .0 .0 .0 .1, r .0 .0 .0 .0 .0 .0 .0 .0 .0 .0 .0 .0 .0 .0 .0 .0 .0 .0 .0 .1, r .0 .0 .0 .0 .0 .0 .0 .0 .0 .0 .0 .0 .0 .0 .0 .0 .0 .0 .1, r .0 .0 .0 .0 .0 .0 .0 .0 .0 .0 .0 .0 .0 .0 .0 .0 .0 .1) in
+    let b : 12 ≤ c .before .args .tag = omega (arith, r .0 .0 .0 .0 .0 .0 .0 .0 .0 .0 .0 .0 .0 .0 .0 .0 .1, r .0 .0 .0 .0 .0 .0 .0 .0 .0 .0 .0 .0 .0 .0 .0 .1, r .0 .0 .0 .0 .0 .0 .0 .0 .0 .0 .0 .0 .0 .0 .1, r .0 .0 .0 .0 .0 .0 .0 .0 .0 .0 .0 .0 .0 .1, r .0 .0 .0 .0 .0 .0 .0 .0 .0 .0 .0 .0 .1, r .0 .0 .0 .0 .0 .0 .0 .0 .0 .0 .0 .1) in
+    let d : 18 ≤ c .before .args .tag = omega (arith, r .0 .0 .0 .0 .0 .0 .0 .0 .0 .0 .1, r .0 .0 .0 .0 .0 .0 .0 .0 .0 .1, r .0 .0 .0 .0 .0 .0 .0 .0 .1, r .0 .0 .0 .0 .0 .0 .0 .1, r .0 .0 .0 .0 .0 .0 .1, r .0 .0 .0 .0 .0 .1) in
+    let h : 20 ≤ c .before .args .tag = omega (arith, r .0 .0 .0 .0 .1, r .0 .0 .0 .1) in
+    rw (ne-eqb _ 21 (r .0 .0 .1), ne-eqb _ 22 (r .0 .1), ne-eqb _ 23 (r .1), word-past keywords _ h)
 
 pub said-spec : {M : Type 1} → statement M
 unfolding keywords wordAt wordIn
@@ -43,7 +44,7 @@ said-spec =
     tie.close
     (tie.spec
     returns
-    cast-t23
+    cast-t25
     (λ c. rw (c .match .keys1))
     (λ c. rw (c .match .keys2))
     (λ c. rw (c .match .keys3))
@@ -63,6 +64,8 @@ said-spec =
     (λ c. rw (c .match .keys17))
     (λ c. rw (c .match .keys18))
     (λ c. rw (c .match .keys19))
-    (λ c. rw (c .match .keys20, toZ-ofZ (c .before .fits .value)))
-    returns-22
-    returns-23)
+    (λ c. rw (c .match .keys20))
+    (λ c. rw (c .match .keys21))
+    (λ c. rw (c .match .keys22, toZ-ofZ (c .before .fits .value)))
+    returns-24
+    returns-25)

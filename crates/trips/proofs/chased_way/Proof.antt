@@ -33,7 +33,7 @@ difference-requires c κs = (c .before .before .before .before .before .before .
 returns : tie.Need-returns
 returns c =
     let p = c .before .before .before .pre in
-    record { value = chase-way _ _ _ (ap known (sym (p .own)) ∙ p .sure) (p .limit) (p .changed) {p = true} (sym (eq-eqb _ _ (c .if1 .taken)) ∙ ap (eqb (c .before .before .before .args .w)) (p .head .tested)) refl; small = tt; moves = tt }
+    record { value = chase-way _ _ _ (p .form) (ap known (sym (p .own)) ∙ p .sure) (p .limit) (p .changed) {p = true} (sym (eq-eqb _ _ (c .if1 .taken)) ∙ ap (eqb (c .before .before .before .args .w)) (p .head .tested)) refl; small = tt; moves = tt }
 
 returns-2 : tie.Need-returns-2
 returns-2 c =
@@ -41,7 +41,7 @@ returns-2 c =
     let p = s .before .pre in
     let body = c .before .before .before .body-moves .ensures in
     record {
-      value = chase-way _ _ _ (ap known (sym (p .own)) ∙ p .sure) (p .limit) (p .changed) {p = false} {q = true} (sym (ne-eqb _ _ (c .before .before .before .before .if1 .left)) ∙ ap (eqb (s .before .args .w)) (p .head .tested)) (sym (c .before .if2 .taken) ∙ fits (c .before .before));
+      value = chase-way _ _ _ (p .form) (ap known (sym (p .own)) ∙ p .sure) (p .limit) (p .changed) {p = false} {q = true} (sym (ne-eqb _ _ (c .before .before .before .before .if1 .left)) ∙ ap (eqb (s .before .args .w)) (p .head .tested)) (sym (c .before .if2 .taken) ∙ fits (c .before .before));
       small = p .small;
       moves = (c .difference .ensures ∙ (λ j. difference (p .own j) (body .moves j)), subst (Ends 512) (sym (c .difference .ensures)) (difference-ends 256 256 _ _ (p .near) (body .near)));
     }
@@ -51,7 +51,7 @@ returns-3 c =
     let s = c .before .before .before .before .before in
     let p = s .before .pre in
     record {
-      value = chase-way _ _ _ (ap known (sym (p .own)) ∙ p .sure) (p .limit) (p .changed) {p = false} {q = false} (sym (ne-eqb _ _ (c .before .before .before .if1 .left)) ∙ ap (eqb (s .before .args .w)) (p .head .tested)) (sym (c .if2 .left) ∙ fits (c .before));
+      value = chase-way _ _ _ (p .form) (ap known (sym (p .own)) ∙ p .sure) (p .limit) (p .changed) {p = false} {q = false} (sym (ne-eqb _ _ (c .before .before .before .if1 .left)) ∙ ap (eqb (s .before .args .w)) (p .head .tested)) (sym (c .if2 .left) ∙ fits (c .before));
       small = tt;
       moves = tt;
     }

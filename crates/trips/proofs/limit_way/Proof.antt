@@ -37,6 +37,7 @@ chased-way-requires c κs =
     let e = sym (h .limit) ∙ ap (exprOf text) (c .before .limit .given .1) in
     record {
       loop = p .loop;
+      form = p .form;
       head = h;
       own = p .own;
       near = p .near;
@@ -53,7 +54,7 @@ returns c =
     let text = now (s .before .args .text) in
     let p = s .before .pre in
     let h = rw (c .before .before .before .kind-at .ensures) at (c .before .before .head-of .ensures text) in
-    record { value = constant-way _ _ _ (ap known (sym (p .own)) ∙ p .sure) (sym (h .limit) ∙ ap (exprOf text) (c .enum-told .given .1)); small = tt; moves = tt }
+    record { value = constant-way _ _ _ (p .form) (ap known (sym (p .own)) ∙ p .sure) (sym (h .limit) ∙ ap (exprOf text) (c .enum-told .given .1)); small = tt; moves = tt }
 
 returns-3 : tie.Need-returns-3
 unfolding exprOf
@@ -63,7 +64,7 @@ returns-3 c =
     let p = s .before .pre in
     let h = rw (c .before .before .before .kind-at .ensures) at (c .before .before .head-of .ensures text) in
     let w = subst (WrittenOperand text) (c .enum-told2 .given .1) (h .written (p .loop .ready .written _ (p .loop .inside))) in
-    record { value = composed-way _ _ _ (ap known (sym (p .own)) ∙ p .sure) (ap (exprOf text) (sym (c .enum-told2 .given .1)) ∙ h .limit) (w .composed); small = tt; moves = tt }
+    record { value = composed-way _ _ _ (p .form) (ap known (sym (p .own)) ∙ p .sure) (ap (exprOf text) (sym (c .enum-told2 .given .1)) ∙ h .limit) (w .composed); small = tt; moves = tt }
 
 pub limit-way-spec : {M : Type 1} → statement M
 limit-way-spec = tie.close (tie.spec (λ c κs. search needs) head-of-requires (λ c. search needs) (λ c. search needs) chased-way-requires (λ c. search needs) returns (λ c. c .chased-way .ensures) returns-3)

@@ -4,7 +4,7 @@ use mathlib.Core.Path.{sym, ap, subst, _∙_}
 use mathlib.Core.List.{[]}
 use Rattle.rules.specs.Written.{WrittenOperand}
 use Rattle.rules.specs.Steps.{step}
-use Rattle.rules.specs.Ranges.{bounds, isDo}
+use Rattle.rules.specs.Ranges.{bounds, isDo, isHold}
 use Rattle.rules.specs.Bounds.{Ends}
 use Rattle.rules.specs.Trips.{Trip, keeps}
 use Rattle.table.specs.Code.{kindAt, rowsOf}
@@ -33,17 +33,18 @@ keeps-requires c κs = (c .before .before .before .before .head-of .ensures [] .
 
 way-of-requires : tie.Need-way-of-requires
 way-of-requires c κs =
-    let s = c .before .before .before .before .before .before .before in
+    let s = c .before .before .before .before .before .before .before .before in
     let text = now (s .before .args .text) in
     let rows = rowsOf (now (s .before .args .rows)) in
     let body = bodyAt text rows (s .before .args .count) (s .before .args .i) in
-    let h = rw (c .before .before .before .before .before .before .kind-at .ensures) at (c .before .before .before .before .before .head-of .ensures text) in
-    let b = c .before .before .before .before .body-moves .ensures in
+    let h = rw (c .before .before .before .before .before .before .before .kind-at .ensures) at (c .before .before .before .before .before .before .head-of .ensures text) in
+    let b = c .before .before .before .before .before .body-moves .ensures in
     record {
       loop = s .before .pre .0;
+      form = c .is-hold .ensures text ∙ ap (λ d. isHold (formOf text d)) (c .before .before .before .before .before .before .before .kind-at .ensures);
       own = b .moves ∙ ap (λ v. step v body) (h .tested);
       near = b .near;
-      limit = c .keeps .ensures body (b .sets) ∙ ap (λ x. keeps x body) (h .limit);
+      limit = c .before .keeps .ensures body (b .sets) ∙ ap (λ x. keeps x body) (h .limit);
     }
 
 trip-by-requires : tie.Need-trip-by-requires
@@ -51,20 +52,20 @@ trip-by-requires c κs = c .before .way-of .ensures .small
 
 returns : tie.Need-returns
 returns c =
-    let a = c .before .before .before .before .before .before .before .before .before .before .before .args in
+    let a = c .before .before .before .before .before .before .before .before .before .before .before .before .args in
     let text = now (a .text) in
     let rows = rowsOf (now (a .rows)) in
     let k = kindAt rows (a .i) in
     let body = bodyAt text rows (a .count) (a .i) in
     let ρ = envOf (now (a .begun)) in
-    let same = c .before .before .before .before .before .before .before .before .before .kind-at .ensures in
-    let h = rw same at (c .before .before .before .before .before .before .before .before .head-of .ensures text) in
-    let b = c .before .before .before .before .before .before .before .body-moves .ensures in
+    let same = c .before .before .before .before .before .before .before .before .before .before .kind-at .ensures in
+    let h = rw same at (c .before .before .before .before .before .before .before .before .before .head-of .ensures text) in
+    let b = c .before .before .before .before .before .before .before .before .body-moves .ensures in
     let way = c .before .before .way-of .ensures in
     let r = c .trip-by .ensures in
     record {
       trip = r ∙ trip-is (formOf text k) ρ (testOf text k) body (c .before .before .way-of .result) (way .value) (way .moves) (c .before .is-do .ensures text ∙ ap (λ d. isDo (formOf text d)) same) (b .moves ∙ ap (λ v. step v body) (h .tested)) (h .comparison)
-          (c .before .before .before .before .before .span-at .ensures ∙ ap ρ (h .tested)) (c .before .before .before .before .bounds .ensures ∙ ap (bounds ρ) (h .limit)) (c .before .before .before .keeps .ensures body (b .sets) ∙ ap (λ x. keeps x body) (h .limit));
+          (c .before .before .before .before .before .before .span-at .ensures ∙ ap ρ (h .tested)) (c .before .before .before .before .before .bounds .ensures ∙ ap (bounds ρ) (h .limit)) (c .before .before .before .before .keeps .ensures body (b .sets) ∙ ap (λ x. keeps x body) (h .limit));
       tested = h .tested;
       small = h .small;
       sets = b .sets;
@@ -82,6 +83,7 @@ loop-at-spec =
     (λ c κs. c .before .before .head-of .ensures [] .small)
     bounds-requires
     keeps-requires
+    (λ c κs. search needs)
     way-of-requires
     (λ c κs. search needs)
     trip-by-requires

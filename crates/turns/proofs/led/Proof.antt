@@ -25,6 +25,14 @@ returns-4 : tie.Need-returns-4
 unfolding led
 returns-4 c = let f : SFits w64 (c .before .before .before .before .before .args .e) = search needs in let m = rw (toZ-ofZ f) at (c .before .misses .ensures) in rw (c .before .before .before .lead .given .1, sym m ∙ c .if1 .left) (add-one _)
 
+returns-5 : tie.Need-returns-5
+unfolding led
+returns-5 c = rw (c .before .before .before .lead2 .given .1, sym (c .before .is-zero .ensures) ∙ c .if2 .taken)
+
+returns-6 : tie.Need-returns-6
+unfolding led
+returns-6 c = rw (c .before .before .before .lead2 .given .1, sym (c .before .is-zero .ensures) ∙ c .if2 .left) (add-one _)
+
 pub led-spec : {M : Type 1} → statement M
 led-spec =
     tie.close
@@ -35,7 +43,12 @@ led-spec =
     (λ c. search needs)
     (λ c κs. search needs)
     (λ c. search needs)
+    (λ c. search needs)
+    (λ c κs. search needs)
+    (λ c. search needs)
     returns
     returns-2
     returns-3
-    returns-4)
+    returns-4
+    returns-5
+    returns-6)

@@ -92,6 +92,11 @@ fn main() {
     expressions_refused(&mut f);
     triangles(&mut f);
     no_triangles(&mut f);
+    holds(&mut f);
+    holds_with_others(&mut f);
+    offs(&mut f);
+    holds_refused(&mut f);
+    holds_in_order(&mut f);
     f.written.sort();
     let names: String = f.written.iter().map(|(name, _)| format!("{name}\n")).collect();
     let printed: String = f.written.iter().map(|(name, answer)| format!("{name}\n{answer}")).collect();
@@ -1124,4 +1129,314 @@ fn no_triangles(f: &mut Files) {
         "while v0 < v1, for v2 0 < v0 add 1, end, add v0 1, sub v1 1, end",
         "0 add 2 2 4 4 exact, 1 add 1 1 1000000000 4000000000 most, 8000000021",
     );
+}
+
+/// Change 12: a hold of N turns with two rows has 3N + 1 ticks.
+fn holds(f: &mut Files) {
+    // v0 is the flag, v1 watched.
+    let up: &[(i64, i64)] = &[(1, 1), (0, 0)];
+    let down: &[(i64, i64)] = &[(-3, -3), (10, 10)];
+    let mut hold = |name: &str, ranges: &[(i64, i64)], rows: &str, thought: &str| f.brief(&format!("accepted-hold-{name}"), ranges, &format!("hold v0, {rows}, end"), thought);
+    // What the off sees: 1 2 3 4 and 0 1 2 3 4; up to 3.
+    hold("gt-rows-first", up, "add v1 1, off v0 v1 > 3", "0 add 1 1 4 4 exact, 13");
+    hold("gt-off-first", up, "off v0 v1 > 3, add v1 1", "0 add 1 1 5 5 exact, 16");
+    hold("ge-rows-first", up, "add v1 1, off v0 v1 >= 3", "0 add 1 1 3 3 exact, 10");
+    hold("ge-off-first", up, "off v0 v1 >= 3, add v1 1", "0 add 1 1 4 4 exact, 13");
+    // 7 4 1 and 10 7 4 1; down to 4.
+    hold("lt-rows-first", down, "sub v1 3, off v0 v1 < 2", "0 add -3 -3 3 3 exact, 10");
+    hold("lt-off-first", down, "off v0 v1 < 2, sub v1 3", "0 add -3 -3 4 4 exact, 13");
+    hold("le-rows-first", down, "sub v1 3, off v0 v1 <= 4", "0 add -3 -3 2 2 exact, 7");
+    hold("le-off-first", down, "off v0 v1 <= 4, sub v1 3", "0 add -3 -3 3 3 exact, 10");
+    // At the number itself, and past it.
+    hold("gt-at-it", up, "off v0 v1 > 0, add v1 1", "0 add 1 1 2 2 exact, 7");
+    hold("ge-at-it", up, "off v0 v1 >= 0, add v1 1", "0 add 1 1 1 1 exact, 4");
+    hold("gt-past-it", up, "off v0 v1 > -1, add v1 1", "0 add 1 1 1 1 exact, 4");
+    hold("gt-moved-past-it", up, "add v1 9, off v0 v1 > 3", "0 add 9 9 1 1 exact, 4");
+    hold("far-past-it", &[(1, 1), (900, 900)], "add v1 1, off v0 v1 >= 3", "0 add 1 1 1 1 exact, 4");
+    hold("two-rows-of-the-watched", up, "add v1 3, sub v1 1, off v0 v1 > 7", "0 add 2 2 4 4 exact, 17");
+    // The flag.
+    let five = "off v0 v1 > 3, add v1 1";
+    hold("flag-zero", &[(0, 0), (0, 0)], five, "0 add 1 1 0 0 exact, 1");
+    hold("flag-zero-watched-not-single", &[(0, 0), (0, 1)], five, "0 add 1 1 0 0 most, 1");
+    hold("flag-zero-or-one", &[(0, 1), (0, 0)], five, "0 add 1 1 5 5 most, 16");
+    hold("flag-below-zero-or-zero", &[(-1, 0), (0, 0)], five, "0 add 1 1 5 5 most, 16");
+    hold("flag-on-both-sides-of-zero", &[(-1, 1), (0, 0)], five, "0 add 1 1 5 5 most, 16");
+    hold("flag-not-single", &[(1, 2), (0, 0)], five, "0 add 1 1 5 5 most, 16");
+    hold("flag-below-zero", &[(-7, -7), (0, 0)], five, "0 add 1 1 5 5 exact, 16");
+    hold("flag-at-the-limit", &[(L, L), (0, 0)], five, "0 add 1 1 5 5 exact, 16");
+    // The worst start, and the slowest step.
+    hold("watched-not-single", &[(1, 1), (-2, 3)], five, "0 add 1 1 7 7 most, 22");
+    hold("watched-not-single-falling", &[(1, 1), (8, 10)], "off v0 v1 < 3, sub v1 1", "0 add -1 -1 9 9 most, 28");
+    hold("watched-not-single-rows-first", &[(1, 1), (-2, 3)], "add v1 2, off v0 v1 > 3", "0 add 2 2 3 3 most, 10");
+    hold("step-not-single", up, "off v0 v1 > 3, pick, add v1 1, else, add v1 3, end", "0 add 1 3 5 5 most, 21");
+    hold("step-not-single-rows-first", up, "pick, add v1 2, else, add v1 3, end, off v0 v1 > 3", "0 add 2 3 2 2 most, 9");
+    hold("step-not-single-falling", down, "off v0 v1 < 0, pick, sub v1 4, else, sub v1 2, end", "0 add -4 -2 7 7 most, 29");
+    hold("ends-equal-in-a-pick", up, "pick, add v1 1, else, add v1 1, end, off v0 v1 > 3", "0 add 1 1 4 4 exact, 17");
+    // At the limits: from -L to L, and one turn.
+    hold("at-the-limits", &[(1, 1), ALL], "off v0 v1 > 1000000000, add v1 1", "0 add 1 1 2000000002 2000000002 most, 6000000007");
+    hold("at-the-limits-falling", &[(1, 1), ALL], "sub v1 1, off v0 v1 <= -1000000000", "0 add -1 -1 2000000000 2000000000 most, 6000000001");
+    hold("longest-step", &[(1, 1), (-L, -L)], "add v1 1000000000, add v1 1000000000, off v0 v1 >= 1000000000", "0 add 2000000000 2000000000 1 1 exact, 5");
+    // Rows of others, offs for others, and a flag that is watched.
+    hold(
+        "others-in-the-body",
+        &[(1, 1), (0, 0), (4, 4)],
+        "set v2 v1, off v0 v1 > 3, off v2 v0 < 1, cue 5, add v1 1, mul v2 2",
+        "0 add 1 1 5 5 exact, 36",
+    );
+    hold("off-of-another-reads-the-same", &[(1, 1), (0, 0), (4, 4)], "off v2 v1 > 3, off v0 v1 > 3, add v1 1", "0 add 1 1 5 5 exact, 21");
+    hold("watched-in-a-pick-without-else", up, "pick, add v1 1, end, add v1 1, off v0 v1 > 3", "0 add 1 2 4 4 most, 21");
+}
+
+/// Change 12: among loops.
+fn holds_with_others(f: &mut Files) {
+    let up: &[(i64, i64)] = &[(1, 1), (0, 0)];
+    let four: &[(i64, i64)] = &[(1, 1), (0, 0), (0, 0), (0, 0)];
+    let hold = "hold v0, off v0 v1 > 3, add v1 1";
+    // After it nothing is known of the two: from -L, L + 4 tests that fail, and the last turn.
+    f.brief("accepted-hold-twice", up, &format!("{hold}, end, set v0 1, {hold}, end"), "0 add 1 1 5 5 exact, 5 add 1 1 1000000005 1000000005 most, 3000000033");
+    f.brief("accepted-hold-twice-set-again", up, &format!("{hold}, end, set v0 1, set v1 0, {hold}, end"), "0 add 1 1 5 5 exact, 6 add 1 1 5 5 exact, 34");
+    // Also after one without a turn, and then the flag may be anything.
+    f.brief("accepted-hold-after-one-of-no-turn", &[(0, 0), (0, 0)], &format!("{hold}, end, set v1 0, {hold}, end"), "0 add 1 1 0 0 exact, 5 add 1 1 5 5 most, 18");
+    let after = |v: &str| format!("{hold}, end, for v2 0 < {v} add 1, end");
+    f.brief("accepted-hold-flag-after-it", four, &after("v0"), "0 add 1 1 5 5 exact, 4 add 1 1 1000000000 1000000000 most, 2000000018");
+    f.brief("accepted-hold-watched-after-it", four, &after("v1"), "0 add 1 1 5 5 exact, 4 add 1 1 1000000000 1000000000 most, 2000000018");
+    f.brief("accepted-hold-another-after-it", four, &after("v3"), "0 add 1 1 5 5 exact, 4 add 1 1 0 0 exact, 18");
+    // In the body nothing is known of them either: 5 turns of 2 + (2L + 2) + 1, and a test.
+    let inside = |v: &str| format!("hold v0, for v2 0 < {v} add 1, end, off v0 v1 > 3, add v1 1, end");
+    f.brief("accepted-hold-flag-inside", four, &inside("v0"), "0 add 1 1 5 5 exact, 1 add 1 1 1000000000 5000000000 most, 10000000026");
+    f.brief("accepted-hold-watched-inside", four, &inside("v1"), "0 add 1 1 5 5 exact, 1 add 1 1 1000000000 5000000000 most, 10000000026");
+    // A variable that the body assigns is not known after it.
+    f.brief("accepted-hold-assigned-after-it", four, &format!("{hold}, add v3 1, end, for v2 0 < v3 add 1, end"), "0 add 1 1 5 5 exact, 5 add 1 1 1000000000 1000000000 most, 2000000023");
+    // 16 ticks inside, and 2 + 2: 5 turns of 21, and a test.
+    f.brief(
+        "accepted-hold-in-a-hold",
+        four,
+        &format!("{hold}, set v2 1, set v3 0, hold v2, off v2 v3 > 3, add v3 1, end, end"),
+        "0 add 1 1 5 5 exact, 5 add 1 1 5 25 exact, 106",
+    );
+    f.brief("accepted-hold-in-a-for", four, &format!("for v2 0 < 3 add 1, set v0 1, set v1 0, {hold}, end, end"), "0 add 1 1 3 3 exact, 3 add 1 1 5 15 exact, 62");
+    f.brief("accepted-hold-in-a-pick", up, &format!("pick, {hold}, end, else, cue 1, end"), "1 add 1 1 5 5 exact, 17");
+    f.brief("accepted-hold-round-a-do", four, &format!("{hold}, set v2 0, do v2 < 3, add v2 1, end, end"), "0 add 1 1 5 5 exact, 4 add 1 1 3 15 exact, 51");
+    // A triangle has 10 turns in 4 passes, and 38 ticks; 5 turns of 2 + 38 + 1, and a test.
+    f.brief(
+        "accepted-hold-round-a-triangle",
+        four,
+        &format!("{hold}, for v2 1 <= 4 add 1, for v3 0 < v2 add 1, end, end, end"),
+        "0 add 1 1 5 5 exact, 3 add 1 1 4 20 exact, 4 add 1 1 4 50 most, 206",
+    );
+    // 10 turns inside with 18 + 2 ticks, 4 passes with 2, 4 turns with 2 and 2.
+    f.brief(
+        "accepted-hold-in-a-triangle-s-inner",
+        four,
+        &format!("for v2 1 <= 4 add 1, for v3 0 < v2 add 1, set v0 1, set v1 0, {hold}, end, end, end"),
+        "0 add 1 1 4 4 exact, 1 add 1 1 4 10 most, 4 add 1 1 5 50 exact, 218",
+    );
+    // Beside the inner loop: 4 passes with 18 and 2 more.
+    f.brief(
+        "accepted-hold-in-a-triangle-s-outer",
+        four,
+        &format!("for v2 1 <= 4 add 1, set v0 1, set v1 0, {hold}, end, for v3 0 < v2 add 1, end, end"),
+        "0 add 1 1 4 4 exact, 3 add 1 1 5 20 exact, 7 add 1 1 4 10 most, 110",
+    );
+    // No triangle: the hold is not of a base kind, and the for between is charged its longest pass.
+    f.brief("accepted-no-triangle-hold", four, &format!("{hold}, for v2 0 < v1 add 1, end, end"), "0 add 1 1 5 5 exact, 3 add 1 1 1000000000 5000000000 most, 10000000026");
+    f.brief(
+        "accepted-no-triangle-hold-between",
+        four,
+        "for v2 1 <= 4 add 1, set v0 1, set v1 0, hold v0, off v0 v1 > 3, for v3 0 < v2 add 1, end, add v1 1, end, end",
+        // 5 turns of 2 + 10 + 1, and a test; 4 passes with 2 and 2 more.
+        "0 add 1 1 4 4 exact, 3 add 1 1 5 20 exact, 5 add 1 1 4 80 most, 282",
+    );
+    // The watched start and the flag by expressions.
+    f.brief("accepted-hold-after-expressions", &[(0, 0), (0, 0), (5, 5)], "set v0 v2-4, set v1 2*v2-10, hold v0, off v0 v1 > 3, add v1 1, end", "2 add 1 1 5 5 exact, 18");
+    f.brief("accepted-hold-flag-zero-by-an-expression", &[(0, 0), (0, 0), (5, 5)], "set v0 v2-5, hold v0, off v0 v1 > 3, add v1 1, end", "1 add 1 1 0 0 exact, 2");
+    // A copied counter and a chase inside, whose variables the hold's body assigns.
+    f.brief(
+        "accepted-hold-round-a-copied-counter",
+        four,
+        &format!("{hold}, set v2 0, set v3 0, while v2 < 3, add v3 1, set v2 v3, end, end"),
+        "0 add 1 1 5 5 exact, 5 add 1 1 3 15 exact, 76",
+    );
+    f.brief(
+        "accepted-hold-round-a-chase",
+        four,
+        &format!("{hold}, set v2 0, set v3 6, while v2 < v3, add v2 1, sub v3 1, end, end"),
+        "0 add 1 1 5 5 exact, 5 add 2 2 3 15 exact, 76",
+    );
+    f.brief("accepted-hold-level-rounded-down", &[(1, 1), (-5, -5)], "div v1 2, hold v0, off v0 v1 > 0, add v1 1, end", "1 add 1 1 5 5 exact, 17");
+    let sixteen: Vec<&str> = ["set v0 1", "set v1 0", "hold v0", "add v1 1", "off v0 v1 > 3", "end"].repeat(16);
+    let lines: String = (0..16).map(|k| format!("{} add 1 1 4 4 exact, ", 6 * k + 2)).collect();
+    f.rows("accepted-hold-16-loops", up, &sixteen, &format!("{lines}240"));
+    let mut deep = vec!["pick"; 7];
+    deep.extend(["hold v0", "add v1 1", "off v0 v1 > 3", "end"]);
+    deep.extend(["end"; 7]);
+    f.rows("accepted-hold-8-deep", up, &deep, "7 add 1 1 4 4 exact, 20");
+    // Two towers of eight holds with two turns each, from -L, filled up with cues. From inside: 2(98 + 1) + 1 ticks, and then 2(T + 3) + 1.
+    let heads: Vec<[String; 3]> = (0..8).map(|v| [format!("hold v{v}"), format!("off v{v} v{} > -1000000000", v + 8), format!("add v{} 1", v + 8)]).collect();
+    let mut rows: Vec<&str> = Vec::new();
+    let mut lines = String::new();
+    for tower in 0..2 {
+        for (k, head) in heads.iter().enumerate() {
+            lines += &format!("{} add 1 1 2 {} {}, ", rows.len(), 2 << k, if (tower, k) == (0, 0) { "exact" } else { "most" });
+            rows.extend(head.iter().map(String::as_str));
+        }
+        rows.extend([&["cue 9999"; 96][..], &["end"; 8]].concat());
+    }
+    let ticks = (1..8).fold(2 * 99 + 1, |ticks, _| 2 * (ticks + 3) + 1);
+    f.rows("accepted-hold-worst", &[&[(1, 1); 8][..], &[(-L, -L); 8]].concat(), &rows, &format!("{lines}{}", 2 * ticks));
+    // 1000002 turns of 2 + 2000002 + 1 ticks.
+    f.brief(
+        "refused-13-hold",
+        &[(1, 1), (0, 0), (0, 0)],
+        "hold v0, off v0 v1 > 1000000, add v1 1, for v2 0 < 1000000 add 1, end, end",
+        "refused 13 5",
+    );
+    f.brief("refused-13-in-a-hold-of-no-turn", &[(0, 0), (0, 0), (0, 0), (0, 0)], "hold v0, off v0 v1 > 3, add v1 1, for v2 0 < 1000000 add 1, for v3 0 < 1000000 add 1, end, end, end", "refused 13 6");
+}
+
+/// Change 12: offs that end no hold.
+fn offs(f: &mut Files) {
+    f.row("accepted-off", "off v0 v1 > 3", "1");
+    f.row("accepted-off-lt", "off v0 v1 < -1000000000", "1");
+    f.row("accepted-off-le", "off v1 v0 <= 1000000000", "1");
+    f.row("accepted-off-ge", "off v0 v1 >= 0", "1");
+    f.row("accepted-off-watches-its-flag", "off v0 v0 > 0", "1");
+    // Widened by 0: from 3 to 7 it is from 0, from -7 to -3 up to 0.
+    let above: &[(i64, i64)] = &[(3, 7), (0, 0), (0, 0)];
+    let below: &[(i64, i64)] = &[(-7, -3), (0, 0), (0, 0)];
+    f.brief("accepted-off-widens-down", above, "off v0 v1 > 3, for v2 v0 <= 7 add 1, end", "1 add 1 1 8 8 most, 19");
+    f.brief("accepted-off-widens-up", below, "off v0 v1 > 3, for v2 -7 <= v0 add 1, end", "1 add 1 1 8 8 most, 19");
+    f.brief("accepted-off-keeps-the-other-end", above, "off v0 v1 > 3, for v2 0 <= v0 add 1, end", "1 add 1 1 8 8 most, 19");
+    f.brief("accepted-off-widens-a-single-one", &[(4, 4), (0, 0), (0, 0)], "off v0 v1 > 3, for v2 v0 < 4 add 1, end", "1 add 1 1 4 4 most, 11");
+    f.brief("accepted-off-widens-whatever-is-compared", above, "off v0 v1 > 1000000000, for v2 v0 <= 7 add 1, end", "1 add 1 1 8 8 most, 19");
+    f.brief("accepted-off-not-the-watched", above, "off v1 v0 > 3, for v2 v0 <= 7 add 1, end", "1 add 1 1 5 5 most, 13");
+    f.brief("accepted-off-in-a-pick", above, "pick, off v0 v1 > 3, else, add v0 2, end, for v2 v0 <= 9 add 1, end", "5 add 1 1 10 10 most, 24");
+    f.brief("accepted-off-zero-stays-zero", &[(0, 0), (0, 0)], "off v0 v1 < 3, hold v0, off v0 v1 > 3, add v1 1, end", "1 add 1 1 0 0 exact, 2");
+    f.brief("accepted-off-then-hold", &[(1, 1), (0, 0)], "off v0 v1 > 3, hold v0, off v0 v1 > 3, add v1 1, end", "1 add 1 1 5 5 most, 17");
+    // In a loop it assigns another variable than those that matter.
+    f.brief("accepted-off-in-a-while", &[(0, 0), (1, 1)], "while v0 < 5, add v0 1, off v1 v0 > 3, end", "0 add 1 1 5 5 exact, 16");
+    f.brief("accepted-off-reads-the-limit", &[(0, 0), (1, 1), (5, 5)], "while v0 < v2, add v0 1, off v1 v2 > 3, end", "0 add 1 1 5 5 exact, 16");
+    f.brief("accepted-off-beside-a-copy", &[(0, 0), (3, 3), (1, 1)], "while v0 < 10, add v1 1, off v2 v1 > 5, set v0 v1, end", "0 add 1 1 7 7 exact, 29");
+    f.brief("accepted-off-in-another-s-hold", &[(1, 1), (0, 0), (1, 1)], "hold v0, off v0 v1 > 3, off v2 v1 > 1, add v1 1, end", "0 add 1 1 5 5 exact, 21");
+    // An unknown step, an assigned limit, no only assignment.
+    let three: &[(i64, i64)] = &[(0, 0), (3, 3), (0, 0)];
+    let mut refused = |name: &str, rows: &str, thought: &str| f.brief(&format!("refused-{name}"), three, &format!("{rows}, end"), &format!("refused {thought}"));
+    refused("8-off-in-a-while", "while v0 < 5, add v0 1, off v0 v1 > 3", "8 0");
+    refused("8-off-in-a-do", "do v0 > -5, off v0 v1 > 3, sub v0 1", "8 0");
+    refused("8-off-in-a-for", "for v0 0 < 5 add 1, off v0 v0 > 3", "8 0");
+    refused("8-off-in-a-pick-of-a-while", "while v0 < 5, add v0 1, pick, off v0 v1 > 3, end", "8 0");
+    refused("8-off-on-a-copied-counter", "while v0 < 10, add v1 1, set v0 v1, off v0 v2 > 3", "8 0");
+    refused("8-off-on-a-master", "while v0 < 10, add v1 1, off v1 v2 > 3, set v0 v1", "8 0");
+    refused("8-hold-on-the-tested-variable", "while v0 < 5, hold v0, off v0 v1 > 9, add v1 1, end", "8 0");
+    refused("8-hold-watches-the-tested-variable", "while v1 < 5, hold v0, off v0 v1 > 9, add v1 1, end", "8 0");
+    refused("10-off-on-the-limit", "while v0 < v1, add v0 1, off v1 v2 > 3", "10 0");
+    refused("10-off-on-a-limit-that-would-close", "while v0 < v1, add v0 1, sub v1 1, off v1 v2 > 3", "10 0");
+    refused("10-off-on-a-limit-with-arithmetic", "while v0 < v1+2, add v0 1, off v1 v2 > 3", "10 0");
+    refused("10-hold-watches-the-limit", "while v2 < v1, add v2 1, hold v0, off v0 v1 > 9, add v1 1, end", "10 0");
+    refused("10-hold-on-the-limit", "while v2 < v0, add v2 1, hold v0, off v0 v1 > 9, add v1 1, end", "10 0");
+}
+
+/// Change 12: shapes, numbers, variables and blocks; and every broken term.
+fn holds_refused(f: &mut Files) {
+    for (name, row) in [
+        ("hold-alone", "hold"),
+        ("hold-number", "hold 0"),
+        ("hold-parentheses", "hold (v0)"),
+        ("hold-test", "hold v0 != 0"),
+        ("hold-space-at-the-end", "hold v0 "),
+        ("hold-leading-zero", "hold v00"),
+        ("off-alone", "off v0"),
+        ("off-without-a-number", "off v0 v1 >"),
+        ("off-without-the-watched", "off v0 > 1"),
+        ("off-without-a-comparison", "off v0 v1 1"),
+        ("off-equal", "off v0 v1 == 1"),
+        ("off-unequal", "off v0 v1 != 1"),
+        ("off-equal-past-the-limit", "off v0 v1 == 1000000001"),
+        ("off-comparison-turned", "off v0 v1 => 1"),
+        ("off-variable-for-the-number", "off v0 v1 > v1"),
+        ("off-expression", "off v0 v1 > 1+1"),
+        ("off-parentheses", "off v0 v1 > (1)"),
+        ("off-watches-an-expression", "off v0 v1+0 > 1"),
+        ("off-watches-a-number", "off v0 1 > 1"),
+        ("off-minus-zero", "off v0 v1 > -0"),
+        ("off-leading-zero", "off v0 v1 > 01"),
+        ("off-six-words", "off v0 v1 > 1 1"),
+    ] {
+        f.row(&format!("refused-3-{name}"), row, "refused 3 6");
+    }
+    f.row("refused-4-off", "off v0 v1 > 1000000001", "refused 4 6");
+    f.row("refused-4-off-below", "off v0 v1 < -1000000001", "refused 4 6");
+    f.row("refused-4-off-before-5", "off v9 v1 <= 99999999999999999999", "refused 4 6");
+    f.row("refused-5-hold", "hold v2", "refused 5 6");
+    f.row("refused-5-off", "off v2 v0 > 1", "refused 5 6");
+    f.row("refused-5-off-watched", "off v0 v2 > 1", "refused 5 6");
+    f.row("refused-6-hold-left-open", "hold v0", "refused 6 7");
+    f.brief("refused-6-else-in-a-hold", &[(1, 1), (0, 0)], "hold v0, else, end", "refused 6 7");
+    f.rows("refused-7-hold-nine-deep", &[(1, 1), (0, 0)], &[&["pick"; 8][..], &["hold v0"]].concat(), "refused 7 14");
+    f.rows("refused-7-hold-the-seventeenth", &[(1, 1), (0, 0)], &[&["for v0 1 < 9 add 1", "end"].repeat(16)[..], &["hold v0"]].concat(), "refused 7 38");
+    f.rows("refused-7-seventeenth-after-holds", &[(1, 1), (0, 0)], &["hold v0", "off v0 v1 > 1", "add v1 1", "end"].repeat(17), "refused 7 70");
+
+    let three: &[(i64, i64)] = &[(1, 1), (0, 0), (0, 0)];
+    let off = "off v0 v1 > 3";
+    let mut broken = |name: &str, rows: &str| f.brief(&format!("refused-19-{name}"), three, &format!("cue 1, hold v0, {rows}, end"), "refused 19 1");
+    broken("no-off", "add v1 1");
+    broken("no-row", "cue 1");
+    broken("off-for-another", "add v1 1, off v2 v1 > 3");
+    broken("off-behind-it", &format!("add v1 1, end, {off}, pick"));
+    broken("two-offs", &format!("add v1 1, {off}, {off}"));
+    broken("two-offs-of-two-watched", &format!("add v1 1, {off}, off v0 v2 > 3, add v2 1"));
+    broken("second-off-in-a-pick", &format!("add v1 1, {off}, pick, {off}, end"));
+    broken("second-off-in-a-loop", &format!("add v1 1, for v2 0 < 2 add 1, {off}, end, {off}"));
+    broken("off-in-a-pick", &format!("add v1 1, pick, {off}, end"));
+    broken("off-in-an-else", &format!("add v1 1, pick, else, {off}, end"));
+    broken("off-in-both-branches", &format!("add v1 1, pick, {off}, else, {off}, end"));
+    broken("off-in-a-loop", &format!("add v1 1, for v2 0 < 2 add 1, {off}, end"));
+    broken("off-in-an-inner-hold", &format!("hold v0, {off}, add v1 1, end"));
+    broken("off-in-an-inner-hold-and-its-own", &format!("hold v0, {off}, add v1 1, end, {off}"));
+    broken("flag-set", &format!("add v1 1, {off}, set v0 1"));
+    broken("flag-set-to-zero", &format!("add v1 1, set v0 0, {off}"));
+    broken("flag-standing-row", &format!("add v0 0, add v1 1, {off}"));
+    broken("flag-set-in-a-pick", &format!("add v1 1, {off}, pick, mul v0 1, end"));
+    broken("flag-of-a-for", &format!("add v1 1, {off}, for v0 0 < 1 add 1, end"));
+    broken("watches-its-flag", "add v1 1, off v0 v0 > 3");
+    broken("watches-its-flag-that-moves", "add v0 1, off v0 v0 > 3");
+    broken("watched-not-assigned", off);
+    broken("watched-stands", &format!("add v1 0, {off}"));
+    broken("watched-stands-by-mul", &format!("{off}, mul v1 1"));
+    broken("watched-may-stand", &format!("pick, add v1 1, end, {off}"));
+    broken("watched-both-ways", &format!("pick, add v1 1, else, sub v1 1, end, {off}"));
+    broken("watched-there-and-back", &format!("add v1 3, sub v1 3, {off}"));
+    broken("watched-grows", &format!("mul v1 2, {off}"));
+    broken("watched-shrinks", "div v1 2, off v0 v1 < 3");
+    broken("watched-set", &format!("set v1 v2, {off}"));
+    broken("watched-of-a-for", &format!("for v1 1 < 3 add 1, end, {off}"));
+    broken("watched-moved-in-a-loop", &format!("while v1 < 3, add v1 1, end, {off}"));
+    broken("watched-off", &format!("add v1 1, off v1 v2 > 3, {off}"));
+    broken("watched-off-by-the-flag", &format!("{off}, off v1 v0 > 3, add v1 1"));
+    broken("away-gt", &format!("sub v1 1, {off}"));
+    broken("away-ge", "off v0 v1 >= 3, sub v1 1");
+    broken("away-lt", "add v1 1, off v0 v1 < 3");
+    broken("away-le", "off v0 v1 <= 3, add v1 1");
+    broken("both-sides", &format!("add v1 1, {off}, add v1 1"));
+    broken("standing-row-behind", &format!("add v1 1, {off}, sub v1 0"));
+    broken("standing-row-before", &format!("div v1 1, {off}, add v1 1"));
+    broken("standing-row-behind-in-a-pick", &format!("add v1 1, {off}, pick, add v1 0, end"));
+    f.brief("refused-19-flag-zero", &[(0, 0), (0, 0)], "hold v0, add v1 1, end", "refused 19 0");
+}
+
+/// Change 12: 19 is asked loop by loop in row order, before 8 on that loop.
+fn holds_in_order(f: &mut Files) {
+    let mut order = |name: &str, rows: &str, thought: &str| f.brief(name, &[(1, 1), (0, 0), (0, 0)], rows, thought);
+    order("refused-8-before-19-of-a-later-hold", "while v2 < 3, set v2 1, end, hold v0, end", "refused 8 0");
+    order("refused-9-before-19-of-a-later-hold", "while v2 < 3, end, hold v0, end", "refused 9 0");
+    order("refused-10-before-19-of-a-later-hold", "while v2 < v1, add v2 1, mul v1 2, end, hold v0, end", "refused 10 0");
+    order("refused-11-before-19-of-a-later-hold", "while v2 > 3, add v2 1, end, hold v0, end", "refused 11 0");
+    order("refused-12-before-19-of-a-later-hold", "while v2 < 3, mul v2 2, end, hold v0, end", "refused 12 0");
+    order("refused-19-before-8-of-a-later-loop", "hold v0, end, while v2 < 3, set v2 1, end", "refused 19 0");
+    order("refused-19-before-8-of-an-inner-loop", "hold v0, while v2 < 3, set v2 1, end, end", "refused 19 0");
+    order("refused-9-of-an-outer-loop-before-19", "while v2 < 3, hold v0, end, end", "refused 9 0");
+    order("refused-19-of-an-inner-hold", "while v2 < 3, hold v0, end, add v2 1, end", "refused 19 1");
+    order("refused-9-of-a-loop-in-a-hold", "hold v0, off v0 v1 > 3, add v1 1, while v2 < 3, end, end", "refused 9 3");
+    order("refused-19-of-the-second-hold", "hold v0, off v0 v1 > 3, add v1 1, end, hold v0, end", "refused 19 4");
+    order("refused-19-before-13", "for v1 0 < 1000000000 add 1, for v2 0 < 1000000000 add 1, end, end, hold v0, end", "refused 19 4");
 }

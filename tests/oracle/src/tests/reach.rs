@@ -28,6 +28,7 @@ fn terms() {
     assert_eq!(meets(&["while v0 != 3", "add v0 1", "end"]), [false]);
     assert_eq!(meets(&["while v0 < 3", "add v1 1", "set v0 v1", "end"]), [false]);
     assert_eq!(meets(&["while v0 < v1", "add v0 2", "add v1 1", "end"]), [false]);
+    assert_eq!(meets(&["hold v1", "add v0 1", "off v1 v0 > 3", "end"]), [false]);
     assert_eq!(meets(&["while v0 < v2", "add v0 1", "end"]), [false]);
     assert_eq!(meets(&["while v2 < 9", "add v2 1", "end"]), [false]);
 }
