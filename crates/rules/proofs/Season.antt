@@ -1,19 +1,19 @@
 -- Cards 10 and 13: the season sheet, file by file, and its groups.
 use mathlib.Core.Path.{_≡_, refl, sym, _∙_, ap, subst, fun-ext}
 use mathlib.Core.Logic.{_⊎_, inl, inr}
-use mathlib.Core.Bool.{Bool, true, false, not, cond, _||_}
+use mathlib.Core.Bool.{Bool, true, false, not, cond, _||_, _&&_}
 use mathlib.Core.List.{List, [], _∷_, _++_, List·Memᴰ, List·Memᴰ·head, List·Memᴰ·tail, List·Memᴰ·cases-cons, List·Memᴰ·not-nil}
 use Prim.Native.Nat.{ℕ, _+_, max}
 use native.Mathlib.Omega.{arith}
 use lib.Dec.{T, eqb, eqb→eq, eqb-refl}
 use lib.ListN.{length}
-use Rattle.ints.proofs.Diffs.{cond-true}
+use Rattle.ints.proofs.Diffs.{cond-true, both}
 use Rattle.rules.specs.Text.{equals}
 use Rattle.rules.specs.Figures.{ones}
 use Rattle.rules.specs.Scripts.{Script, reportTicks}
 use Rattle.rules.specs.Report.{scriptReport}
 use Rattle.rules.specs.Calls.{Judged, accepted, refuses}
-use Rattle.rules.specs.Season.{scriptsOf, refusalsOf, met, sumOfTicks, mostTicks, sameGroup, among, firsts, Sheet, sheetOf, withAccepted, withRefused, SheetGrows, Apart, none-apart, more-apart, GroupsExact}
+use Rattle.rules.specs.Season.{scriptsOf, refusalsOf, met, sumOfTicks, mostTicks, sameGroup, among, firsts, Sheet, sheetOf, withAccepted, withRefused, SheetGrows, Apart, none-apart, more-apart, GroupsExact, SameGroupIs, GroupsFiner, Equivalence, sameReport, cuesOf}
 use Rattle.rules.proofs.Whole.{case}
 
 -- ---- lists, one more at the end
@@ -127,18 +127,29 @@ unfolding equals
 equals-refl [] = tt
 equals-refl (x ∷ a) = subst T (sym (cond-true (eqb x x) (equals a a) false (eqb-refl x))) (equals-refl a)
 
--- ---- one group: an equivalence
-pub group-refl : (a : Script) → T (sameGroup a a)
-unfolding sameGroup
-group-refl a = equals-refl (scriptReport ones a)
+-- ---- one group: equal reports and cue numbers, an equivalence
+and-yes : (a b : Bool) → T a → T b → T (a && b)
+and-yes true b h k = k
+and-yes false b h k = absurd h
 
-pub group-sym : (a b : Script) → T (sameGroup a b) → T (sameGroup b a)
-unfolding sameGroup
-group-sym a b h = subst (λ r. T (equals r (scriptReport ones a))) (equals-yes _ _ h) (equals-refl (scriptReport ones a))
+pub same-group-is : SameGroupIs
+unfolding SameGroupIs sameGroup sameReport
+same-group-is a b = (
+  λ h. let (r, c) = both (sameReport a b) _ h in (equals-yes _ _ r, equals-yes _ _ c),
+  λ (r, c). and-yes (sameReport a b) _ (subst (λ t. T (equals (scriptReport ones a) t)) r (equals-refl (scriptReport ones a))) (subst (λ t. T (equals (cuesOf (a .rows)) t)) c (equals-refl (cuesOf (a .rows)))),
+)
 
-pub group-trans : (a b c : Script) → T (sameGroup a b) → T (sameGroup b c) → T (sameGroup a c)
-unfolding sameGroup
-group-trans a b c h k = subst (λ r. T (equals (scriptReport ones a) r)) (equals-yes _ _ k) h
+pub groups-finer : GroupsFiner
+unfolding GroupsFiner sameGroup
+groups-finer a b h = both (sameReport a b) _ h .0
+
+pub one-group : Equivalence sameGroup
+unfolding SameGroupIs
+one-group = record {
+  reflexive = λ a. same-group-is a a .1 (refl, refl);
+  symmetric = λ a b h. let (r, c) = same-group-is a b .0 h in same-group-is b a .1 (sym r, sym c);
+  transitive = λ a b c h k. let (r, u) = same-group-is a b .0 h in let (s, v) = same-group-is b c .0 k in same-group-is a c .1 (r ∙ s, u ∙ v);
+}
 
 -- ---- the groups are exact
 or-cases : (a b : Bool) → T (a || b) → T a ⊎ T b
@@ -218,13 +229,13 @@ firsts-all seen (s ∷ ss) x m = by (among s seen) (λ k. k) (case (List·Memᴰ
 
     -- s is in a group before, and so is what is in one with s
     before : T (among s seen) → T (sameGroup s x) → T (among x seen)
-    before h g = let (t, m, k) = among-of s seen h in among-in x t seen m (group-trans t s x k g)
+    before h g = let (t, m, k) = among-of s seen h in among-in x t seen m (one-group .transitive t s x k g)
 
     by : (b : Bool) → (T b → T (among s seen)) → (x ≡ s) ⊎ (T (among x (seen ++ (s ∷ []))) ⊎ Found rest) → T (among x seen) ⊎ Found (cond b rest (s ∷ rest))
     by true f (inl e) = inl (subst (λ z. T (among z seen)) (sym e) (f tt))
     by true f (inr (inl h)) = case (among-end x s seen h) inl (λ g. inl (before (f tt) g))
     by true f (inr (inr w)) = inr w
-    by false f (inl e) = inr (s, List·Memᴰ·head refl, subst (λ z. T (sameGroup s z)) (sym e) (group-refl s))
+    by false f (inl e) = inr (s, List·Memᴰ·head refl, subst (λ z. T (sameGroup s z)) (sym e) (one-group .reflexive s))
     by false f (inr (inl h)) = case (among-end x s seen h) inl (λ g. inr (s, List·Memᴰ·head refl, g))
     by false f (inr (inr (t, m, g))) = inr (t, List·Memᴰ·tail m, g)
 
@@ -256,4 +267,4 @@ pub among-firsts : (s : Script) (ss : List Script) → among s (firsts [] ss) �
 unfolding GroupsExact
 among-firsts s ss = same-bool (among s (firsts [] ss)) (among s ss)
     (λ h. let (t, m, g) = among-of s (firsts [] ss) h in among-in s t ss (firsts-in [] ss t m) g)
-    (λ h. let (x, m, g) = among-of s ss h in let (t, n, k) = groups-exact ss .1 x m in among-in s t (firsts [] ss) n (group-trans t x s k g))
+    (λ h. let (x, m, g) = among-of s ss h in let (t, n, k) = groups-exact ss .1 x m in among-in s t (firsts [] ss) n (one-group .transitive t x s k g))

@@ -1,10 +1,12 @@
--- Card 10, "A season's figures": one sheet for a whole repertoire.
+-- Card 10, "A season's figures": one sheet for a whole repertoire; card 13, "When two effects are the same": its groups.
 use mathlib.Core.Path.{_≡_}
+use mathlib.Core.Logic.{_↔_}
 use mathlib.Core.Bool.{Bool, false, not, cond, _&&_, _||_}
 use mathlib.Core.List.{List, [], _∷_, _++_, List·Memᴰ}
 use Prim.Native.Nat.{ℕ, zero, suc, _+_, max}
 use lib.Dec.{T, leb, eqb}
 use lib.ListN.{length}
+use Rattle.rules.specs.Blocks.{assign, cue, RowKind, View, is-plain, is-pick, is-else, is-end, is-loop, viewOf}
 use Rattle.rules.specs.Figures.{ones}
 use Rattle.rules.specs.Scripts.{Script, reportTicks}
 use Rattle.rules.specs.Text.{lf, split, equals}
@@ -70,9 +72,27 @@ unfoldable pub mostTicks : List Script → ℕ
 mostTicks [] = 0
 mostTicks (s ∷ ss) = max (reportTicks ones s) (mostTicks ss)
 
--- two accepted files are in one group: their reports are equal
+-- card 10's groups, the old sheet's: their reports are equal
+unfoldable pub sameReport : Script → Script → Bool
+sameReport a b = equals (scriptReport ones a) (scriptReport ones b)
+
+-- a row's cue number
+unfoldable pub cueOf : View → List ℕ
+cueOf (is-plain (cue n)) = n ∷ []
+cueOf (is-plain (assign v x)) = []
+cueOf is-pick = []
+cueOf is-else = []
+cueOf is-end = []
+cueOf (is-loop form test last) = []
+
+-- "their cue numbers in row order": those of all cue rows of the file
+unfoldable pub cuesOf : List RowKind → List ℕ
+cuesOf [] = []
+cuesOf (r ∷ rs) = cueOf (viewOf r) ++ cuesOf rs
+
+-- two accepted files are in one group "exactly if their reports are equal and their cue numbers in row order are equal too"
 unfoldable pub sameGroup : Script → Script → Bool
-sameGroup a b = equals (scriptReport ones a) (scriptReport ones b)
+sameGroup a b = sameReport a b && equals (cuesOf (a .rows)) (cuesOf (b .rows))
 
 -- one of these is in the group of s
 unfoldable pub among : Script → List Script → Bool
@@ -93,7 +113,7 @@ pub record Sheet : Type 0 where
   pub greatest : ℕ
   pub groups : ℕ
 
--- of a list of files: "groups, the number of different reports among accepted files"
+-- of a list of files: `groups` is the number of groups among accepted files
 unfoldable pub sheetOf : List Judged → Sheet
 sheetOf js = record {
   accepted = length (scriptsOf js);
@@ -190,3 +210,18 @@ GroupsExact =
     (ss : List Script)
     → Apart (firsts [] ss)
     × ((s : Script) → List·Memᴰ s ss → (t : Script) × List·Memᴰ t (firsts [] ss) × T (sameGroup t s))
+
+-- ---- card 13
+-- the group is that of equal reports and equal cue numbers
+unfoldable pub SameGroupIs : Type 0
+SameGroupIs = (a b : Script) → T (sameGroup a b) ↔ (scriptReport ones a ≡ scriptReport ones b) × (cuesOf (a .rows) ≡ cuesOf (b .rows))
+
+-- "No group may hold files that the old sheet separated": what is in one group now was in one before
+unfoldable pub GroupsFiner : Type 0
+GroupsFiner = (a b : Script) → T (sameGroup a b) → T (sameReport a b)
+
+-- and to be in one group is an equivalence
+pub record Equivalence (same : Script → Script → Bool) : Type 0 where
+  pub reflexive : (a : Script) → T (same a a)
+  pub symmetric : (a b : Script) → T (same a b) → T (same b a)
+  pub transitive : (a b c : Script) → T (same a b) → T (same b c) → T (same a c)

@@ -15,8 +15,8 @@ abbrev pub Listed : ℕ → List ℕ → List ℕ → Type 0
 Listed line names lengths = (input : List ℕ) × Kept input line names lengths
 
 -- the sheet of these files and one more
-abbrev pub WithOne : List Judged → Sheet → List ℕ → List ℕ → List ℕ → Type 0
-WithOne js s counts firsts reports = (file : List ℕ) × Holds (js ++ (judged fourOnes 1_024 file ∷ [])) s counts firsts reports
+abbrev pub WithOne : List Judged → Sheet → List ℕ → List ℕ → List ℕ → List ℕ → List ℕ → Type 0
+WithOne js s counts firsts reports fired cues = (file : List ℕ) × Holds (js ++ (judged fourOnes 1_024 file ∷ [])) s counts firsts reports fired cues
 
 -- the sheet is that of some files, as many as there are names
 abbrev pub SheetOf : ℕ → Sheet → List ℕ → Type 0

@@ -84,13 +84,15 @@ fn add_named(
     counts: &mut [u64; 21],
     firsts: &mut [usize],
     reports: &mut [u8],
+    fired: &mut [usize],
+    cues: &mut [u32],
 ) -> Sheet
-    requires { ⌜ (k < 64) × (length (now names) ≡ 16_640) × Begun sheet (now counts) (now firsts) (now reports) ⌝ }
-    ensures { λ r. ⌜ ((js : List Judged) → Holds js sheet (now (counts .entry)) (now (firsts .entry)) (now (reports .entry)) → WithOne js r (now (counts .exit)) (now (firsts .exit)) (now (reports .exit))) ⌝ }
+    requires { ⌜ (k < 64) × (length (now names) ≡ 16_640) × Begun sheet (now counts) (now firsts) (now reports) (now fired) (now cues) ⌝ }
+    ensures { λ r. ⌜ ((js : List Judged) → Holds js sheet (now (counts .entry)) (now (firsts .entry)) (now (reports .entry)) (now (fired .entry)) (now (cues .entry)) → WithOne js r (now (counts .exit)) (now (firsts .exit)) (now (reports .exit)) (now (fired .exit)) (now (cues .exit))) ⌝ }
 {
     let mut file = [0u8; 16_385];
     let n = read_named(k, names, lengths, &mut file);
-    add_file(&file[..n], sheet, counts, firsts, reports)
+    add_file(&file[..n], sheet, counts, firsts, reports, fired, cues)
 }
 
 // The sheet of the first `count` names.
@@ -100,10 +102,22 @@ fn sheet_of(count: usize, names: &[u8], lengths: &[usize; 66], counts: &mut [u64
 {
     let mut firsts = [0usize; 64];
     let mut reports = [0u8; 133_696];
+    let mut fired = [0usize; 64];
+    let mut cues = [0u32; 16_384];
     let mut sheet = sheet::empty(counts);
     let mut k = 0;
     while k < count {
-        let next = add_named(k, names, lengths, sheet, counts, &mut firsts, &mut reports);
+        let next = add_named(
+            k,
+            names,
+            lengths,
+            sheet,
+            counts,
+            &mut firsts,
+            &mut reports,
+            &mut fired,
+            &mut cues,
+        );
         sheet = next;
         k += 1;
     }

@@ -42,8 +42,8 @@ module _ (old new : Sheet) (ticks : ℕ) (fresh : Bool) (a : new .accepted ≡ o
       by true = refl
       by false = refl
 
-  pub accepting : (len : ℕ) → new .used ≡ old .used + cond fresh len 0 → Accepting old ticks len fresh new
-  accepting len u = record { sheet = one-accepted; accepts = a; refusals = r; sum = t; classes = g; bytes = u }
+  pub accepting : (len count : ℕ) → new .used ≡ old .used + cond fresh len 0 → new .cued ≡ old .cued + cond fresh count 0 → Accepting old ticks len count fresh new
+  accepting len count u v = record { sheet = one-accepted; accepts = a; refusals = r; sum = t; classes = g; bytes = u; cues = v }
 
 -- a refused one: its counter is one more, or it has none
 one-more : (q : ℕ) (counts : List ℕ) → q < length counts → (k : ℕ) → getD (set counts q (getD counts q 0 + 1)) k 0 ≡ getD counts k 0 + cond (eqb k q) 1 0
@@ -60,7 +60,7 @@ pub not-counted : (q : ℕ) (counts : List ℕ) → length counts ≡ 21 → 21 
 not-counted q counts e l = record { long = e; numbers = λ k m. let f : eqb k q ≡ false = ne-eqb k q (λ g. omega (arith, g)) in rw f (omega arith) }
 
 module _ (old new : Sheet) (q : ℕ) (counts counts' : List ℕ) (a : new .accepted ≡ old .accepted) (r : new .refused ≡ old .refused + 1) (t : new .ticks ≡ old .ticks)
-    (m : new .greatest ≡ old .greatest) (g : new .groups ≡ old .groups) (u : new .used ≡ old .used) (n : Counted q counts counts') where
+    (m : new .greatest ≡ old .greatest) (g : new .groups ≡ old .groups) (u : new .used ≡ old .used) (v : new .cued ≡ old .cued) (n : Counted q counts counts') where
   one-refused : (js : List Judged) (p : ℕ) → Figures js old counts → Figures (js ++ (refuses q p ∷ [])) new counts'
   unfolding SheetGrows withRefused
   one-refused js p h =
@@ -75,7 +75,7 @@ module _ (old new : Sheet) (q : ℕ) (counts counts' : List ℕ) (a : new .accep
       }
 
   pub refusing : Refusing old q counts counts' new
-  refusing = record { sheet = one-refused; accepts = a; refusals = r; sum = t; classes = g; bytes = u; long = n .long; each = λ k l. by k (eqb k q) (n .numbers k l) }
+  refusing = record { sheet = one-refused; accepts = a; refusals = r; sum = t; classes = g; bytes = u; cues = v; long = n .long; each = λ k l. by k (eqb k q) (n .numbers k l) }
     where
       by : (k : ℕ) (b : Bool) → getD counts' k 0 ≡ getD counts k 0 + cond b 1 0 → getD counts' k 0 ≤ getD counts k 0 + 1
       by k true e = omega arith

@@ -35,13 +35,14 @@ pub record Figures (js : List Judged) (s : Sheet) (counts : List ℕ) : Type 0 w
   pub classes : s .groups ≡ sheetOf js .groups
 
 -- an accepted file more: it is the sheet with that file at the end; and what moved
-pub record Accepting (old : Sheet) (ticks len : ℕ) (fresh : Bool) (new : Sheet) : Type 0 where
+pub record Accepting (old : Sheet) (ticks len count : ℕ) (fresh : Bool) (new : Sheet) : Type 0 where
   pub sheet : (js : List Judged) (s : Script) (counts : List ℕ) → Figures js old counts → ticks ≡ reportTicks ones s → fresh ≡ not (among s (scriptsOf js)) → Figures (js ++ (accepted s ∷ [])) new counts
   pub accepts : new .accepted ≡ old .accepted + 1
   pub refusals : new .refused ≡ old .refused
   pub sum : new .ticks ≡ old .ticks + ticks
   pub classes : new .groups ≡ old .groups + cond fresh 1 0
   pub bytes : new .used ≡ old .used + cond fresh len 0
+  pub cues : new .cued ≡ old .cued + cond fresh count 0
 
 -- the counter of that number is one more; numbers from 21 on have none
 pub record Counted (q : ℕ) (old new : List ℕ) : Type 0 where
@@ -56,6 +57,7 @@ pub record Refusing (old : Sheet) (q : ℕ) (counts counts' : List ℕ) (new : S
   pub sum : new .ticks ≡ old .ticks
   pub classes : new .groups ≡ old .groups
   pub bytes : new .used ≡ old .used
+  pub cues : new .cued ≡ old .cued
   pub long : length counts' ≡ 21
   pub each : (k : ℕ) → k < 21 → getD counts' k 0 ≤ getD counts k 0 + 1
 

@@ -9,7 +9,7 @@ ghost use Rattle.rules.specs.Season.{refusalText};
 ghost use Rattle.pieces.specs.Pieces.{Wrote};
 ghost use Rattle.sheet.specs.Figures.{Figures, Accepting, Counted, Refusing, frontText, metText, numbersText, tailText, Told};
 
-// The figures, but for the refusals by number, which stand in an array of 21; and how many bytes the reports of the groups' first files take.
+// The figures, but for the refusals by number, which stand in an array of 21; and how many bytes the reports and how many numbers the cues of the groups' first files take.
 pub struct Sheet {
     pub accepted: u64,
     pub refused: u64,
@@ -17,6 +17,7 @@ pub struct Sheet {
     pub greatest: u64,
     pub groups: usize,
     pub used: usize,
+    pub cued: usize,
 }
 
 // The larger number.
@@ -28,7 +29,7 @@ fn larger(a: u64, b: u64) -> u64
 
 // The sheet of no file.
 pub fn empty(counts: &mut [u64; 21]) -> Sheet
-    ensures { λ r. ⌜ Figures [] r (now (counts .exit)) × (r .groups ≡ 0) × (r .used ≡ 0) × (length (now (counts .exit)) ≡ 21) ⌝ }
+    ensures { λ r. ⌜ Figures [] r (now (counts .exit)) × (r .groups ≡ 0) × (r .used ≡ 0) × (r .cued ≡ 0) × (length (now (counts .exit)) ≡ 21) ⌝ }
 {
     *counts = [0; 21];
     Sheet {
@@ -38,6 +39,7 @@ pub fn empty(counts: &mut [u64; 21]) -> Sheet
         greatest: 0,
         groups: 0,
         used: 0,
+        cued: 0,
     }
 }
 
@@ -51,14 +53,15 @@ fn if_fresh(fresh: bool, n: usize) -> usize
     0
 }
 
-// An accepted file more: its ticks, its report's length, and whether it is in a new group.
-pub fn with_accepted(sheet: Sheet, ticks: u64, len: usize, fresh: bool) -> Sheet
-    requires { ⌜ (sheet .accepted < 64) × (sheet .ticks ≤ 64_000_000_000_000) × (ticks ≤ 1_000_000_000_000) × (sheet .groups < 64) × (sheet .used + len ≤ 133_696) ⌝ }
-    ensures { λ r. ⌜ Accepting sheet ticks len fresh r ⌝ }
+// An accepted file more: its ticks, its report's length, how many cues it has, and whether it is in a new group.
+pub fn with_accepted(sheet: Sheet, ticks: u64, len: usize, count: usize, fresh: bool) -> Sheet
+    requires { ⌜ (sheet .accepted < 64) × (sheet .ticks ≤ 64_000_000_000_000) × (ticks ≤ 1_000_000_000_000) × (sheet .groups < 64) × (sheet .used + len ≤ 133_696) × (sheet .cued + count ≤ 16_384) ⌝ }
+    ensures { λ r. ⌜ Accepting sheet ticks len count fresh r ⌝ }
 {
     let most = larger(sheet.greatest, ticks);
     let one = if_fresh(fresh, 1);
     let bytes = if_fresh(fresh, len);
+    let numbers = if_fresh(fresh, count);
     Sheet {
         accepted: sheet.accepted + 1,
         refused: sheet.refused,
@@ -66,6 +69,7 @@ pub fn with_accepted(sheet: Sheet, ticks: u64, len: usize, fresh: bool) -> Sheet
         greatest: most,
         groups: sheet.groups + one,
         used: sheet.used + bytes,
+        cued: sheet.cued + numbers,
     }
 }
 
@@ -93,6 +97,7 @@ pub fn with_refused(sheet: Sheet, number: u32, counts: &mut [u64; 21]) -> Sheet
         greatest: sheet.greatest,
         groups: sheet.groups,
         used: sheet.used,
+        cued: sheet.cued,
     }
 }
 

@@ -273,7 +273,8 @@ fn seasons_have_their_answers() {
         assert_eq!(String::from_utf8(sheet).unwrap(), std::fs::read_to_string(printed).unwrap(), "{}", read.display());
     };
     check(&program.join("stdin"), &program.join("stdout"), &program.join("data"));
-    for (cases, folder, least) in [(tests.join("seasons"), program.join("data"), 52), (tests.join("vectors/10"), tests.join("vectors/10"), 14)] {
+    let vectors = |change: &str| (tests.join("vectors").join(change), tests.join("vectors").join(change), 14);
+    for (cases, folder, least) in [(tests.join("seasons"), program.join("data"), 54), vectors("10"), vectors("13")] {
         let mut inputs: Vec<_> = std::fs::read_dir(&cases).unwrap().map(|entry| entry.unwrap().path()).collect();
         inputs.retain(|file| file.extension().is_some_and(|word| word == "in"));
         assert!(inputs.len() >= least);

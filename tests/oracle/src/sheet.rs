@@ -1,6 +1,6 @@
 //! Change 10: the sheet of a season, from names on standard input.
 
-use crate::{desk, plan, report_text, Plan, Refusal, ONES, SCRATCH};
+use crate::{desk, plan, report_text, Plan, Refusal, Row, ONES, SCRATCH};
 use std::collections::{BTreeMap, BTreeSet};
 
 /// Question 18's limit.
@@ -23,9 +23,13 @@ pub fn opened(name: &[u8]) -> bool {
     (1..=NAME).contains(&name.len()) && !name.contains(&0)
 }
 
-/// Two accepted files are of one group if these are equal.
-fn group(plan: &Plan) -> Vec<u8> {
-    report_text(plan)
+/// Change 13: two accepted files are of one group if their reports are equal and their cue numbers in row order.
+fn group(plan: &Plan) -> (Vec<u8>, Vec<i32>) {
+    let cue = |row: &Row| match row {
+        Row::Cue { n } => Some(*n),
+        _ => None,
+    };
+    (report_text(plan), plan.script.rows.iter().filter_map(cue).collect())
 }
 
 /// The sheet of a list of files, by their bytes.

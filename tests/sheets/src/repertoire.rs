@@ -186,12 +186,14 @@ fn label(input: &[u8], folder: &Path, labels: &mut BTreeSet<&'static str>) {
     let files: Vec<Vec<u8>> = opened.map(|name| std::fs::read(folder.join(OsStr::from_bytes(name))).unwrap_or_default()).collect();
     let mut reports = BTreeSet::new();
     let mut contents = BTreeSet::new();
+    let mut cues = BTreeSet::new();
     let mut refusals = BTreeSet::new();
     for file in &files {
         match plan(file, &ONES, SCRATCH) {
             Ok(plan) => {
                 reports.insert(oracle::report_text(&plan));
                 contents.insert(file);
+                cues.insert(lines(file).into_iter().filter(|line| line.starts_with(b"row=cue ")).collect::<Vec<_>>());
             }
             Err((number, _)) => {
                 refusals.insert(number);
@@ -199,5 +201,9 @@ fn label(input: &[u8], folder: &Path, labels: &mut BTreeSet<&'static str>) {
         }
     }
     labels.extend((contents.len() > reports.len()).then_some("other files of one report"));
+    labels.extend((contents.len() > cues.len()).then_some("other files of the same cues"));
+    let groups = sheet::sheet(&files);
+    labels.extend((!groups.ends_with(format!("groups={}\n", reports.len()).as_bytes())).then_some("other cues of one report"));
+    labels.extend((!groups.ends_with(format!("groups={}\n", contents.len()).as_bytes())).then_some("other files of one group"));
     labels.extend((refusals.len() > 1).then_some("several refusal numbers"));
 }

@@ -9,33 +9,47 @@ use Rattle.groups.proofs.keep_first.Statement.{statement}
 use Rattle.groups.proofs.keep_first.Tie as tie
 
 is-known-requires : tie.Need-is-known-requires
-is-known-requires c κs = let s = c .before .before .before .before .before in rw length-take (omega (arith, s .pre .1, s .pre .2))
+is-known-requires c κs =
+    let p = c .before .before .before .before .before .before .before .before .before .before .pre in
+    (rw length-take (omega (arith, p .text, p .bytes)), rw (length-take, length-take) (omega (arith, p .same)), rw length-take (omega (arith, p .numbers, p .room)))
 
 returns : tie.Need-returns
-returns c = λ ss s h e l.
-    let k = known-is ss s _ _ _ _ _ h e (c .before .is-known .ensures) in
+returns c = λ ss s h e l f m.
+    let k = known-is ss s _ _ _ _ _ _ _ h e f (c .before .is-known .ensures) in
     let y = sym k ∙ c .if1 .taken in
-    (ap not (sym y), known-yes ss s _ _ _ _ h y)
+    (ap not (sym y), known-yes ss s _ _ _ _ _ h y (c .before .before .before .before .before .before .before .before .before .before .before .before .args .len) (c .before .before .before .before .before .before .before .before .before .before .before .before .args .count))
 
 returns-2 : tie.Need-returns-2
-returns-2 c = λ ss s h e l.
-    let k = known-is ss s _ _ _ _ _ h e (c .before .is-known .ensures) in
+returns-2 c = λ ss s h e l f m.
+    let k = known-is ss s _ _ _ _ _ _ _ h e f (c .before .is-known .ensures) in
     let n = sym k ∙ c .if1 .left in
-    (ap not (sym n), known-no ss s _ _ _ _ h n _ (c .before .before .before .before .before .before .before .pre .0) e l)
+    (ap not (sym n), known-no ss s _ _ _ _ _ h n _ _ (c .before .before .before .before .before .before .before .before .before .before .before .before .pre .place) (c .before .before .before .before .before .before .before .before .before .before .before .before .pre .same) e l f m)
 
 pub keep-first-spec : {M : Type 1} → statement M
 keep-first-spec = tie.close (tie.spec
+    (λ c. omega (arith, c .before .before .before .before .pre .bytes))
+    (λ c. omega (arith, c .before .before .before .before .pre .room))
+    (λ c. omega (arith, c .before .before .before .before .pre .place))
+    (λ c. rw length-take (omega (arith, c .before .before .before .before .before .pre .place)))
+    (λ c. rw length-take (omega (arith, c .before .before .before .before .before .before .pre .bytes)))
+    (λ c. omega (arith, c .before .before .before .before .before .before .pre .place, c .before .before .before .before .before .before .pre .same))
+    (λ c. rw length-take (omega (arith, c .before .before .before .before .before .before .before .pre .place, c .before .before .before .before .before .before .before .pre .same)))
+    (λ c. rw length-take (omega (arith, c .before .before .before .before .before .before .before .before .pre .room)))
     (λ c. search needs)
     (λ c. search needs)
-    (λ c. rw length-take (omega (arith, c .before .before .before .pre .0)))
-    (λ c. rw length-take (omega (arith, c .before .before .before .before .pre .2)))
+    (λ c. omega (arith, c .before .before .before .before .before .before .before .before .pre .bytes))
     (λ c. search needs)
     (λ c. search needs)
     (λ c. search needs)
+    (λ c. omega (arith, c .before .before .before .before .before .before .before .before .before .pre .room))
     is-known-requires
+    (λ c. search needs)
     (λ c. search needs)
     returns
     (λ c. search needs)
+    (λ c. omega (arith, c .before .before .before .before .before .before .before .before .before .before .before .before .pre .place))
+    (λ c. search needs)
+    (λ c. omega (arith, c .before .before .before .before .before .before .before .before .before .before .before .before .pre .place, c .before .before .before .before .before .before .before .before .before .before .before .before .pre .same))
     (λ c. search needs)
     (λ c. search needs)
     returns-2)

@@ -13,26 +13,27 @@ use Rattle.season.proofs.sheet_of.Statement.{statement}
 use Rattle.season.proofs.sheet_of.Tie as tie
 
 abbrev Inv-loop : tie.InvT-loop
-Inv-loop count names lengths counts₀ firsts₀ reports₀ sheet₀ k₀ counts firsts reports sheet k =
-    (files : List (List ℕ)) × (length files ≡ k) × (k ≤ count) × Holds (judgedAll files) sheet counts firsts reports
+Inv-loop count names lengths counts₀ firsts₀ reports₀ fired₀ cues₀ sheet₀ k₀ counts firsts reports fired cues sheet k =
+    (files : List (List ℕ)) × (length files ≡ k) × (k ≤ count) × Holds (judgedAll files) sheet counts firsts reports fired cues
 
 abbrev μ-loop : tie.MeasureT-loop
-μ-loop count names lengths counts₀ firsts₀ reports₀ sheet₀ k₀ counts firsts reports sheet k = count - k
+μ-loop count names lengths counts₀ firsts₀ reports₀ fired₀ cues₀ sheet₀ k₀ counts firsts reports fired cues sheet k = count - k
 
 loop-holds : tie.Need-loop-holds Inv-loop μ-loop
 unfolding judgedAll
-loop-holds c = ([], refl, omega arith, holds-none _ _ _ _ (c .empty .ensures) (length-replicate {A = ℕ} 64 0) (length-replicate {A = ℕ} 133_696 0))
+loop-holds c =
+    ([], refl, omega arith, holds-none _ _ _ _ _ _ (c .empty .ensures) (length-replicate {A = ℕ} 64 0) (length-replicate {A = ℕ} 133_696 0) (length-replicate {A = ℕ} 64 0) (length-replicate {A = ℕ} 16_384 0))
 
 add-named-requires : tie.Need-add-named-requires Inv-loop μ-loop
 add-named-requires c κs =
-    let (files, n, l, h) = c .before .before .before .before .loop .inv in
-    let s = c .before .before .before .before .before .before .before .before in
-    (omega (arith, c .before .before .before .loop-test .taken, s .pre .0), s .pre .1, (judgedAll files, h, omega (arith, judged-count files, n, c .before .before .before .loop-test .taken, s .pre .0)))
+    let (files, n, l, h) = c .before .before .before .before .before .before .loop .inv in
+    let s = c .before .before .before .before .before .before .before .before .before .before in
+    (omega (arith, c .before .before .before .before .before .loop-test .taken, s .pre .0), s .pre .1, (judgedAll files, h, omega (arith, judged-count files, n, c .before .before .before .before .before .loop-test .taken, s .pre .0)))
 
 loop-again : tie.Need-loop-again Inv-loop μ-loop
 loop-again c =
-    let (files, n, l, h) = c .before .before .before .before .before .before .before .loop .inv in
-    let (file, g) = c .before .before .add-named .ensures (judgedAll files) h in
+    let (files, n, l, h) = c .before .before .before .before .before .before .before .before .before .before .before .loop .inv in
+    let (file, g) = c .before .before .before .before .add-named .ensures (judgedAll files) h in
     (files ++ (file ∷ []), length-end files file ∙ ap (λ z. z + 1) n, omega arith, rw (judged-end files file) g)
 
 returns : tie.Need-returns Inv-loop μ-loop
@@ -44,6 +45,8 @@ sheet-of-spec = tie.close (tie.spec
     μ-loop
     (λ c κs. search needs)
     loop-holds
+    (λ c. search needs)
+    (λ c. search needs)
     (λ c. search needs)
     (λ c. search needs)
     add-named-requires

@@ -7,7 +7,7 @@ use Rattle.sheet.proofs.empty.Statement.{statement}
 use Rattle.sheet.proofs.empty.Tie as tie
 
 returns : tie.Need-returns
-returns c = (no-file refl refl (λ q l. getD-replicate 21 q 0 0 l) refl refl refl, refl, refl, length-replicate {A = ℕ} 21 0)
+returns c = (no-file refl refl (λ q l. getD-replicate 21 q 0 0 l) refl refl refl, refl, refl, refl, length-replicate {A = ℕ} 21 0)
 
 pub empty-spec : {M : Type 1} → statement M
 empty-spec = tie.close (tie.spec returns)

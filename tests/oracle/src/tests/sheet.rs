@@ -40,10 +40,29 @@ fn sheets() {
         printed(&[&grows, &cue, &stands, b"", &listing, &[b'x'; 16_385], &stands, &cue, &[b'x'; 16_384]]),
         "accepted=3\nrefused=6\nrefused-2=1\nrefused-3=2\nrefused-9=2\nrefused-12=1\nticks=34\ngreatest=32\ngroups=2\n"
     );
-    // The report decides: other ranges and other bytes are no matter, other ticks are.
+    // Report and cues decide: other ranges and other bytes are no matter, other ticks are.
     let groups = |files: &[&[u8]]| printed(files).lines().last().unwrap().to_string();
     assert_eq!(groups(&[&cue, &file(&[(0, 9)], &["cue 1"])]), "groups=1");
     assert_eq!(groups(&[&cue, &file(&[], &["cue 1", "cue 1"])]), "groups=2");
     assert_eq!(groups(&[&file(&[(0, 0)], &["for v0 1 < 3 add 1", "end"]), &file(&[(0, 0)], &["for v0 1 < 3 add 1", "end"])]), "groups=1");
     assert_eq!(groups(&[&file(&[(0, 0)], &["for v0 1 < 3 add 1", "end"]), &file(&[(0, 0)], &["for v0 3 > 1 sub 1", "end"])]), "groups=2");
+    // Change 13: all cues in row order, and the reports as before.
+    let rows = |rows: &[&str]| file(&[(0, 0), (0, 0)], rows);
+    for (one, other, same) in [
+        (&["cue 1", "cue 2"][..], &["cue 1", "cue 2"][..], true),
+        (&["cue 1", "cue 2"], &["cue 2", "cue 1"], false),
+        (&["cue 1", "cue 2"], &["cue 1", "cue 3"], false),
+        (&["cue 1", "cue 1", "cue 2"], &["cue 1", "cue 2", "cue 2"], false),
+        (&["cue 1", "cue 1", "cue 2"], &["cue 2", "cue 1", "cue 1"], false),
+        (&["cue 1", "add v0 1"], &["add v0 1", "cue 1"], true),
+        (&["cue 1", "add v0 1"], &["cue 1", "cue 1"], false),
+        (&["cue 1"], &["add v0 1"], false),
+        (&["pick", "cue 1", "else", "cue 2", "end"], &["pick", "cue 1", "else", "cue 3", "end"], false),
+        (&["pick", "cue 1", "else", "cue 2", "end"], &["pick", "add v0 1", "cue 2", "else", "end"], false),
+        (&["for v0 1 < 1 add 1", "cue 1", "end"], &["for v0 1 < 1 add 1", "cue 2", "end"], false),
+        (&["for v0 1 < 3 add 1", "cue 1", "end"], &["for v1 1 < 3 add 1", "cue 1", "end"], true),
+        (&["for v0 1 < 3 add 1", "cue 1", "end"], &["for v0 1 < 4 add 1", "cue 1", "end"], false),
+    ] {
+        assert_eq!(groups(&[&rows(one), &rows(other)]), if same { "groups=1" } else { "groups=2" }, "{one:?} {other:?}");
+    }
 }

@@ -2,7 +2,7 @@
 //! the harness can be seen to find them.
 
 use oracle::sheet::{names, opened, season};
-use oracle::{plan, report_text, Plan, ONES, SCRATCH};
+use oracle::{plan, report_text, Plan, Row, ONES, SCRATCH};
 use std::collections::BTreeSet;
 use std::ffi::OsStr;
 use std::io::{Read, Write};
@@ -20,6 +20,50 @@ fn with(sheet: &str, key: &str, value: u64) -> String {
 
 fn read(name: &[u8]) -> Option<Vec<u8>> {
     std::fs::read(OsStr::from_bytes(name)).ok()
+}
+
+/// The cue numbers of these rows.
+fn cues<'r>(rows: impl Iterator<Item = &'r Row>) -> Vec<i32> {
+    rows.filter_map(|row| match row {
+        Row::Cue { n } => Some(*n),
+        _ => None,
+    })
+    .collect()
+}
+
+/// Those that a run takes if every pick is answered with then.
+fn of_the_then_branches(plan: &Plan) -> Vec<i32> {
+    let mut left_out = 0..0;
+    cues(plan.script.rows.iter().enumerate().filter_map(|(r, row)| {
+        match row {
+            Row::Else { end } if !left_out.contains(&r) => left_out = r..*end as usize,
+            _ => {}
+        }
+        (!left_out.contains(&r)).then_some(row)
+    }))
+}
+
+/// A mistaken key of the groups.
+fn key(wrong: u32, plan: &Plan) -> (Vec<u8>, Vec<i32>) {
+    let (report, mut cues) = (report_text(plan), cues(plan.script.rows.iter()));
+    match wrong {
+        // 9: groups by length of the report.  10: by ticks.  11: by the number of rows; with the cues, all of them.
+        9 => (vec![report.len() as u8], cues),
+        10 => (plan.ticks.to_le_bytes().to_vec(), cues),
+        11 => (plan.script.rows.len().to_le_bytes().to_vec(), cues),
+        // 20: by the report alone.  21: by the cues alone.
+        20 => (report, Vec::new()),
+        21 => (Vec::new(), cues),
+        // 22: cues sorted.  23: as a set.  24: their number.  25: the first.  26: those of the then branches.
+        22 => {
+            cues.sort();
+            (report, cues)
+        }
+        23 => (report, cues.into_iter().collect::<BTreeSet<_>>().into_iter().collect()),
+        24 => (report, vec![cues.len() as i32]),
+        25 => (report, cues.into_iter().take(1).collect()),
+        _ => (report, of_the_then_branches(plan)),
+    }
 }
 
 /// The same path without `./` before it.
@@ -70,13 +114,12 @@ fn main() {
         _ => {}
     }
     let mut sheet = String::from_utf8(season(&input, read)).expect("a sheet");
-    let different = |key: &dyn Fn(&Plan) -> Vec<u8>| plans.iter().map(key).collect::<BTreeSet<_>>().len() as u64;
     if sheet.starts_with("accepted") {
         match wrong {
-            // 9: groups by length.  10: by ticks.  11: by the number of rows.
-            9 => sheet = with(&sheet, "groups", different(&|plan| vec![report_text(plan).len() as u8])),
-            10 => sheet = with(&sheet, "groups", different(&|plan| plan.ticks.to_le_bytes().to_vec())),
-            11 => sheet = with(&sheet, "groups", different(&|plan| plan.script.rows.len().to_le_bytes().to_vec())),
+            9..=11 | 20..=26 => {
+                let groups: BTreeSet<_> = plans.iter().map(|plan| key(wrong, plan)).collect();
+                sheet = with(&sheet, "groups", groups.len() as u64);
+            }
             // 12: every accepted file is a group.
             12 => sheet = with(&sheet, "groups", figure(&sheet, "accepted")),
             // 13: the greatest is the last.  14: the least.
