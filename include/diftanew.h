@@ -1,10 +1,10 @@
-/* Diftanew: the report and the run of an effect script, for C.
+/* Diftanew: the report and the run of an effect script, and several scripts in one frame, for C.
  *
  * Every input is taken or refused by number. The caller guarantees valid pointers: each pointer is to at least as many elements as the length
- * beside it says (a length of 0 may come with any non-null pointer), `place` to one number, `answer` to DIFTANEW_ANSWER numbers, and no two
- * of the lent parts overlap. Nothing else is asked.
+ * beside it says (a length of 0 may come with any non-null pointer), `place` to one number, `answer` to DIFTANEW_ANSWER numbers (of frames, to
+ * DIFTANEW_FRAMES_ANSWER), and no two of the lent parts overlap. Nothing else is asked.
  *
- * A call needs a scratch of 1,024 numbers and a stack of 32 KB (a report) or 40 KB (a run), no heap, and nothing else; it keeps no state. The
+ * A call needs a scratch of 1,024 numbers and a stack of 32 KB (a report), 40 KB (a run) or 192 KB (frames), no heap, and nothing else; it keeps no state. The
  * scratch is measured and never touched: every number of it keeps its value, also past the first 1,024, where a patch list may lie. */
 #ifndef DIFTANEW_H
 #define DIFTANEW_H
@@ -24,14 +24,18 @@ extern "C" {
 #define DIFTANEW_PRICES 4
 /* No report is longer: a buffer of so many bytes holds every one. */
 #define DIFTANEW_REPORT 2089
-/* The bytes of stack that a report and a run need at most. */
+/* The bytes of stack that a report, a run and a call of frames need at most. */
 #define DIFTANEW_REPORT_STACK 32768
 #define DIFTANEW_RUN_STACK 40960
+#define DIFTANEW_FRAMES_STACK 196608
 /* The numbers of a run's answer. */
 #define DIFTANEW_ANSWER 53
+/* The scripts that a call of frames takes at most, and the numbers of its answer. */
+#define DIFTANEW_SCRIPTS 8
+#define DIFTANEW_FRAMES_ANSWER 433
 
 /* Refusal numbers, in the words of document 01's questions; document 02's are 16, which is asked after 1 and before 2, 17, after 3 on its line, and 19, of a
- * hold in the place of 8 to 12. 18 is the program season's alone. */
+ * hold in the place of 8 to 12; 20 is asked by frames alone, before all others. 18 is the program season's. */
 enum {
     DIFTANEW_ACCEPTED = 0,
     DIFTANEW_SCRATCH_SHORT = 1,   /* place: 1024 */
@@ -51,7 +55,8 @@ enum {
     DIFTANEW_STORE = 15,          /* place: the first index wrong, missing or extra */
     DIFTANEW_PRICE = 16,          /* place: the first price, from 0, that is wrong, missing or extra */
     DIFTANEW_EXPRESSION = 17,     /* place: the line; more than 8 parentheses open together or more than 15 operators in one expression */
-    DIFTANEW_HOLD = 19            /* place: the hold's head row; its body breaks the terms of held loops; asked before 8 on that loop */
+    DIFTANEW_HOLD = 19,           /* place: the hold's head row; its body breaks the terms of held loops; asked before 8 on that loop */
+    DIFTANEW_FRAMES = 20          /* place: 0; no script or more than 8, lists of lengths that differ in number or do not add up to what is lent, q not 1 to 1,000,000 */
 };
 
 /* How a run ends: answer[0]. */
@@ -70,6 +75,18 @@ uint32_t diftanew_report(const uint8_t *file, size_t file_len, const uint32_t *p
 uint32_t diftanew_run(const uint8_t *file, size_t file_len, const uint32_t *prices, size_t prices_len,
                       uint32_t *scratch, size_t scratch_len, int32_t *store, size_t store_len,
                       const uint8_t *picks, size_t picks_len, uint64_t allowance, uint64_t *answer);
+
+/* Runs `file_count` scripts together, frame by frame, under one price list. Files, stores and picks are each lent end to end, with a list of their
+ * lengths. In every frame each unfinished script gets `q` ticks and runs on until it finishes or its next price does not fit; what is left it carries
+ * forward. A script whose report says T is finished by frame ceil(T/q), the first if T is 0, with the ending, store, ticks and turns of running alone
+ * with allowance T. Answers 0, with the final stores in `stores`, the most ticks that all together took in one frame in answer[0], and for script i
+ *   answer[1 + 54 i] the frame that it finished in, from 1, and from answer[2 + 54 i] on the 53 numbers of a run's answer;
+ * or a refusal's number, the first refused script's own after 20, 1 and 16, with its place in answer[0] and every store untouched. Numbers of the answer
+ * that are not named are 0. */
+uint32_t diftanew_frames(const uint8_t *files, size_t files_len, const size_t *file_lens, size_t file_count,
+                         int32_t *stores, size_t stores_len, const size_t *store_lens, size_t store_count,
+                         const uint8_t *picks, size_t picks_len, const size_t *pick_lens, size_t pick_count,
+                         const uint32_t *prices, size_t prices_len, uint64_t q, uint32_t *scratch, size_t scratch_len, uint64_t *answer);
 
 #ifdef __cplusplus
 }

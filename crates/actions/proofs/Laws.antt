@@ -21,15 +21,25 @@ use Rattle.rules.specs.declared.Ending.the-variants.{Spent, NoPick}
 use Rattle.rules.specs.Values.{lowest, highest, inLimits, put, Result, number, past, compares, tried, passes, fails, beyond, decide}
 use Rattle.values.specs.Results.{resultIn}
 use Rattle.rules.specs.Blocks.{Source, assign, cue, Test}
-use Rattle.rules.specs.Run.{State, choose, charge, write, result, exec, holds}
+use Rattle.rules.specs.Run.{State, Out, go, halt, choose, charge, write, result, exec, holds}
 use Rattle.rules.specs.declared.Prices.{Prices}
-use Rattle.rules.specs.RowMachine.{Tally, tallyOf, Next, begin, turn, fresh, to, chosen, outcome, paid, picked, tests}
+use Rattle.rules.specs.RowMachine.{Tally, tallyOf, Phase, Place, Next, begin, turn, fresh, to, chosen, outcome, paid, picked, tests}
 use Rattle.rules.specs.Scripts.{storeOf}
 use Rattle.rules.proofs.Laws.{put-set}
 use Rattle.actions.specs.declared.Machine.{Machine}
 use Rattle.actions.specs.declared.Status.{Status}
 use Rattle.actions.specs.declared.Status.the-variants.{Going, Over}
-use Rattle.actions.specs.States.{phaseOf, stateOf, byStatus, waitsBy, waitsOf, andTests, overAt, onAt, plainTo, putTo, pickTo, Acts, Steps, Begun, Room}
+use Rattle.actions.specs.States.{phaseOf, stateOf, placeOf, byStatus, nextOf, waitsBy, waitsOf, andTests, restBy, overAt, onAt, plainTo, putTo, pickTo, ActsIn, Acts, Steps, Begun, Room}
+
+-- ---- a machine that is not spent
+going-not : {A : Type 0} {i : ℕ} → Going ≡ Over Spent i → A
+going-not e = absurd (let z : _≡_ {A = ℕ} 0 1 = cc in omega arith)
+
+range-not : {A : Type 0} {i j : ℕ} → Over Ending.Range i ≡ Over Spent j → A
+range-not e = absurd (let z : _≡_ {A = ℕ} 0 1 = cc in omega arith)
+
+none-not : {A : Type 0} {i j : ℕ} → Over NoPick i ≡ Over Spent j → A
+none-not e = absurd (let z : _≡_ {A = ℕ} 0 1 = cc in omega arith)
 
 -- ---- a variable gets a result
 both : (a b : Bool) → (a && b) ≡ true → (a ≡ true) × (b ≡ true)
@@ -45,11 +55,11 @@ limits-fit z e = let (a, b) = both (leZ lowest z) (leZ z highest) e in omega int
 module _ (m : Machine) (store : List ℤ) (c : Tally) (p at v : ℕ) (z : ℤ) (j : ℕ) (b : Bool) where
   pub put-spent : m .left < p → Acts m (overAt m (m .left) Spent at) store store c c (putTo p at v z j b)
   unfolding outcome charge choose
-  put-spent e = record { same = λ picks. rw (lt-leb p (m .left) e); left = omega arith; used = refl }
+  put-spent e = record { same = λ picks. rw (lt-leb p (m .left) e); left = omega arith; used = refl; rests = λ picks at q. (refl, refl) }
 
   pub put-range : p ≤ m .left → inLimits z ≡ false → Acts m (overAt m (m .left - p) Ending.Range at) store store c c (putTo p at v z j b)
   unfolding outcome charge choose write
-  put-range e f = record { same = λ picks. rw (le-leb p (m .left) e, f); left = omega arith; used = refl }
+  put-range e f = record { same = λ picks. rw (le-leb p (m .left) e, f); left = omega arith; used = refl; rests = λ picks at q. range-not q }
 
   pub put-done : p ≤ m .left → inLimits z ≡ true → v < length store → Acts m (onAt m (m .left - p) j b) store (set store v z) c c (putTo p at v z j b)
   unfolding outcome charge choose write
@@ -57,6 +67,7 @@ module _ (m : Machine) (store : List ℤ) (c : Tally) (p at v : ℕ) (z : ℤ) (
     same = λ picks. rw (le-leb p (m .left) e, f) (λ i. to j (phaseOf b) (record { store = put-set store v z (pos 0) h i; left = m .left - p; picks = drop (m .used) picks }) c);
     left = omega arith;
     used = refl;
+    rests = λ picks at q. going-not q;
   }
 
 -- a number past ±L is written as a result past ±L is
@@ -83,29 +94,30 @@ module _ (π : Prices) {m r : Machine} {store store′ : List ℤ} {c c′ : Tal
         a .same picks ∙ (λ i. outcome (charge (π .arithmetic) at [] s (λ t. w t i)) c (λ u. to j (phaseOf b) u c)) ∙ (λ i. outcome (charge (π .arithmetic) at [] s (λ t. write at v (e i) t)) c (λ u. to j (phaseOf b) u c));
     left = a .left;
     used = a .used;
+    rests = a .rests;
   }
 
 -- ---- a cue
 module _ (π : Prices) (m : Machine) (store : List ℤ) (c : Tally) (at n j : ℕ) (b : Bool) where
   pub cue-spent : m .left < π .cue → Acts m (overAt m (m .left) Spent at) store store c c (plainTo π at (cue n) j b)
   unfolding outcome exec charge choose
-  cue-spent e = record { same = λ picks. rw (lt-leb (π .cue) (m .left) e); left = omega arith; used = refl }
+  cue-spent e = record { same = λ picks. rw (lt-leb (π .cue) (m .left) e); left = omega arith; used = refl; rests = λ picks at q. (refl, refl) }
 
   pub cue-done : π .cue ≤ m .left → Acts m (onAt m (m .left - π .cue) j b) store store c c (plainTo π at (cue n) j b)
   unfolding outcome exec charge choose
-  cue-done e = record { same = λ picks. rw (le-leb (π .cue) (m .left) e); left = omega arith; used = refl }
+  cue-done e = record { same = λ picks. rw (le-leb (π .cue) (m .left) e); left = omega arith; used = refl; rests = λ picks at q. going-not q }
 
 -- ---- a pick
 module _ (π : Prices) (m : Machine) (store : List ℤ) (picks : List ℕ) (c : Tally) (i j : ℕ) where
   pub pick-spent : m .left < π .pick → Steps m (overAt m (m .left) Spent i) store store picks c c (pickTo π i j)
   unfolding paid chosen
-  pick-spent e = record { same = rw (lt-leb (π .pick) (m .left) e); left = omega arith; used = λ h. h }
+  pick-spent e = record { same = rw (lt-leb (π .pick) (m .left) e); left = omega arith; used = λ h. h; rests = λ at q. (refl, refl) }
 
   pub pick-none : π .pick ≤ m .left → length picks ≤ m .used → Steps m (overAt m (m .left - π .pick) NoPick i) store store picks c c (pickTo π i j)
   unfolding paid chosen picked
   pick-none e h =
       let d : drop (m .used) picks ≡ [] = drop-of-length-le picks h in
-      record { same = rw (le-leb (π .pick) (m .left) e, d); left = omega arith; used = λ k. k }
+      record { same = rw (le-leb (π .pick) (m .left) e, d); left = omega arith; used = λ k. k; rests = λ at q. none-not q }
 
   -- m after the byte, on at row n, with so many bytes used
   abbrev pub pickedAt : ℕ → ℕ → Machine
@@ -116,7 +128,7 @@ module _ (π : Prices) (m : Machine) (store : List ℤ) (picks : List ℕ) (c : 
   unfolding paid chosen picked
   pick-one n used e h one q =
       let d : drop (m .used) picks ≡ getD picks (m .used) 0 ∷ drop (suc (m .used)) picks = drop-cons picks (m .used) 0 h in
-      record { same = rw (le-leb (π .pick) (m .left) e, d, q, one, add-one) (by (eqb (getD picks (m .used) 0) 0)); left = omega arith; used = λ k. omega arith }
+      record { same = rw (le-leb (π .pick) (m .left) e, d, q, one, add-one) (by (eqb (getD picks (m .used) 0) 0)); left = omega arith; used = λ k. omega arith; rests = λ at q. going-not q }
     where
       after : State
       after = record { store = storeOf store; left = m .left - π .pick; picks = drop (suc (m .used)) picks }
@@ -177,19 +189,19 @@ module _ (counts : List (List ℕ)) (h : ℕ) (l : h < length counts) where
 module _ (π : Prices) (m : Machine) (store : List ℤ) (c : Tally) (h e : ℕ) (t : Test) where
   pub test-spent : m .left < π .test → Acts m (overAt m (m .left) Spent h) store store c c (tests π h e t)
   unfolding tests paid chosen
-  test-spent q = record { same = λ picks. rw (lt-leb (π .test) (m .left) q); left = omega arith; used = refl }
+  test-spent q = record { same = λ picks. rw (lt-leb (π .test) (m .left) q); left = omega arith; used = refl; rests = λ picks at q. (refl, refl) }
 
   pub test-passed : (c′ : Tally) → π .test ≤ m .left → holds t (storeOf store) ≡ passes → c′ ≡ turn h c → Acts m (onAt m (m .left - π .test) (h + 1) false) store store c c′ (tests π h e t)
   unfolding tests paid chosen decide
-  test-passed c′ q y f = record { same = λ picks. rw (le-leb (π .test) (m .left) q, y, f, add-one); left = omega arith; used = refl }
+  test-passed c′ q y f = record { same = λ picks. rw (le-leb (π .test) (m .left) q, y, f, add-one); left = omega arith; used = refl; rests = λ picks at q. going-not q }
 
   pub test-failed : π .test ≤ m .left → holds t (storeOf store) ≡ fails → Acts m (onAt m (m .left - π .test) (e + 1) false) store store c c (tests π h e t)
   unfolding tests paid chosen decide
-  test-failed q n = record { same = λ picks. rw (le-leb (π .test) (m .left) q, n, add-one); left = omega arith; used = refl }
+  test-failed q n = record { same = λ picks. rw (le-leb (π .test) (m .left) q, n, add-one); left = omega arith; used = refl; rests = λ picks at q. going-not q }
 
   pub test-beyond : π .test ≤ m .left → holds t (storeOf store) ≡ beyond → Acts m (overAt m (m .left - π .test) Ending.Range h) store store c c (tests π h e t)
   unfolding tests paid chosen decide
-  test-beyond q n = record { same = λ picks. rw (le-leb (π .test) (m .left) q, n); left = omega arith; used = refl }
+  test-beyond q n = record { same = λ picks. rw (le-leb (π .test) (m .left) q, n); left = omega arith; used = refl; rests = λ picks at q. range-not q }
 
 -- by its limit as one number
 pub tried-past : (k : Comparison) (x z : ℤ) (y : Result) → eqZ z (pos 4_000_000_000) ≡ true → resultIn z ≡ y → tried k x y ≡ beyond
@@ -212,15 +224,41 @@ module _ (π : Prices) (h e : ℕ) (t : Test) (n : Machine) (store : List ℤ) (
   by-waits (Over a i) b true q = absurd (let z : _≡_ {A = ℕ} 0 1 = cc in omega arith)
   by-waits (Over a i) b false q = refl
 
+-- the row that a plain row leads to
+module _ (n : Machine) (store : List ℤ) (picks : List ℕ) (c d : Tally) (j : ℕ) (ph : Phase) where
+  by-going : (s : Status) (b : Bool) → waitsBy s b ≡ true → (o : Out) → byStatus s n store picks c ≡ outcome o d (λ u. to j ph u d) → n .row ≡ j
+  unfolding outcome
+  by-going Going b w (go u es) q = let same : placeOf n store picks c ≡ record { row = j; phase = ph; now = u; tally = d } = cc in ap (λ (p : Place). p .row) same
+  by-going Going b w (halt a i u es) q = absurd (let z : _≡_ {A = ℕ} 0 1 = cc in omega arith)
+  by-going (Over a i) b w o q = absurd (let z : _≡_ {A = ℕ} 0 1 = cc in omega arith)
+
+  pub waits-at : waitsOf n ≡ true → (o : Out) → nextOf n store picks c ≡ outcome o d (λ u. to j ph u d) → n .row ≡ j
+  waits-at w o q = by-going (n .status) (n .testing) w o q
+
 module _ (π : Prices) {m n : Machine} {store store₁ : List ℤ} {c d : Tally} (h e : ℕ) (t : Test) (f : State → Tally → Next) (a : Acts m n store store₁ c d f) where
+  abbrev rest : State → Tally → Phase
+  rest s k = restBy (phaseOf (m .testing)) (f s k)
+
+  rest-on : (picks : List ℕ) (s : Status) → waitsBy s (n .testing) ≡ true → phaseOf (n .testing) ≡ restBy (phaseOf (m .testing)) (byStatus s n store₁ picks d)
+  rest-on picks Going w = refl
+  rest-on picks (Over a i) w = absurd (let z : _≡_ {A = ℕ} 0 1 = cc in omega arith)
+
   -- it follows
-  pub then-tests : {r : Machine} {d′ : Tally} → waitsOf n ≡ true → Acts n r store₁ store₁ d d′ (tests π h e t) → Acts m r store store₁ c d′ (λ s k. andTests π h e t (f s k))
-  then-tests w b = record {
+  pub then-tests : {r : Machine} {d′ : Tally} → waitsOf n ≡ true → n .row ≡ m .row → Acts n r store₁ store₁ d d′ (tests π h e t) → ActsIn m r store store₁ c d′ (λ s k. andTests π h e t (f s k)) rest
+  then-tests w at b = record {
     same = λ picks. b .same picks ∙ sym (by-waits π h e t n store₁ picks d (n .status) (n .testing) true w) ∙ ap (andTests π h e t) (a .same picks);
     left = omega (arith, a .left, b .left);
     used = b .used ∙ a .used;
+    rests = λ picks i q. let (x, y) = b .rests picks i q in (x ∙ at, y ∙ rest-on picks (n .status) w ∙ ap (restBy (phaseOf (m .testing))) (a .same picks));
   }
 
   -- it does not
-  pub no-tests : waitsOf n ≡ false → Acts m n store store₁ c d (λ s k. andTests π h e t (f s k))
-  no-tests w = record { same = λ picks. sym (by-waits π h e t n store₁ picks d (n .status) (n .testing) false w) ∙ ap (andTests π h e t) (a .same picks); left = a .left; used = a .used }
+  pub no-tests : waitsOf n ≡ false → ActsIn m n store store₁ c d (λ s k. andTests π h e t (f s k)) rest
+  no-tests w = record {
+    same = λ picks. sym (by-waits π h e t n store₁ picks d (n .status) (n .testing) false w) ∙ ap (andTests π h e t) (a .same picks);
+    left = a .left;
+    used = a .used;
+    rests = λ picks i q.
+        let (x, y) = a .rests picks i q in
+        (x, y ∙ ap (λ s. restBy (phaseOf (m .testing)) (byStatus s n store₁ picks d)) (sym q) ∙ ap (restBy (phaseOf (m .testing))) (a .same picks));
+  }

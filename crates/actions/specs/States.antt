@@ -9,6 +9,7 @@ use Rattle.rules.specs.declared.Kind.{Kind}
 use Rattle.rules.specs.declared.Operand.{Operand}
 use Rattle.rules.specs.declared.Comparison.{Comparison}
 use Rattle.rules.specs.declared.Ending.{Ending}
+use Rattle.rules.specs.declared.Ending.the-variants.{Spent}
 use Rattle.rules.specs.Blocks.{exprOf, kindOf, RowKind, from, Plain, assign, Test, test, Form, while, do-while, hold, for, Last, no-step, step-by, View, is-plain, is-pick, is-else, is-end, is-loop, viewAt}
 use Rattle.rules.specs.declared.Prices.{Prices}
 use Rattle.rules.specs.Run.{State, charge, write, exec}
@@ -117,17 +118,67 @@ module _ (π : Prices) (rows : List RowKind) (shut opener : ℕ → ℕ) where
   rowTo is-end i ph s c = endTo (viewAt rows (opener i)) (opener i) i ph s c
   rowTo (is-loop form t last) i ph s c = started π form ph i (shut i) t (onRow π rows shut opener (is-loop form t last) i ph s c)
 
--- from m and a store and counts to r and others: f, without a pick
-pub record Acts (m r : Machine) (store store′ : List ℤ) (c c′ : Tally) (f : State → Tally → Next) : Type 0 where
+-- the phase in which the last of two steps begins, x what the first gave
+abbrev pub restBy : Phase → Next → Phase
+restBy ph (more p) = p .phase
+restBy ph (over e i s c) = ph
+
+-- by the rows of `rowTo`, `endTo` and `forTo`
+abbrev pub forRest : Prices → ℕ → ℕ → Expr → Bool → State → Tally → Phase
+forRest π i v y true s c = testing
+forRest π i v y false s c = restBy fresh (plainTo π i (assign v (from y)) i true s (begin i c))
+
+abbrev pub startRest : Form → Phase → Next → Phase
+startRest while ph n = ph
+startRest do-while ph n = ph
+startRest hold ph n = ph
+startRest (for x) fresh n = restBy fresh n
+startRest (for x) testing n = testing
+
+abbrev pub stepRest : Last → Phase → Next → Phase
+stepRest no-step ph n = ph
+stepRest (step-by p) fresh n = restBy fresh n
+stepRest (step-by p) testing n = testing
+
+module _ (π : Prices) (rows : List RowKind) (shut opener : ℕ → ℕ) where
+  abbrev pub endRest : View → ℕ → ℕ → Phase → State → Tally → Phase
+  endRest (is-plain p) h e ph s c = ph
+  endRest is-pick h e ph s c = ph
+  endRest is-else h e ph s c = ph
+  endRest is-end h e ph s c = ph
+  endRest (is-loop form t last) h e ph s c = stepRest last ph (onEnd π rows shut opener (is-loop form t last) h e ph s c)
+
+  abbrev pub rowRest : View → ℕ → Phase → State → Tally → Phase
+  rowRest (is-plain p) i ph s c = ph
+  rowRest is-pick i ph s c = ph
+  rowRest is-else i ph s c = ph
+  rowRest is-end i ph s c = endRest (viewAt rows (opener i)) (opener i) i ph s c
+  rowRest (is-loop form t last) i ph s c = startRest form ph (onRow π rows shut opener (is-loop form t last) i ph s c)
+
+-- a machine r that is spent waits at the row of m, in that phase
+abbrev pub Rests : Machine → Machine → Phase → Type 0
+Rests m r ph = (i : ℕ) → r .status ≡ Over Spent i → (r .row ≡ m .row) × (phaseOf (r .testing) ≡ ph)
+
+-- from m and a store and counts to r and others: f, without a pick; its last step begins in the phase g
+pub record ActsIn (m r : Machine) (store store′ : List ℤ) (c c′ : Tally) (f : State → Tally → Next) (g : State → Tally → Phase) : Type 0 where
   pub same : (picks : List ℕ) → nextOf r store′ picks c′ ≡ f (stateOf m store picks) c
   pub left : r .left ≤ m .left
   pub used : r .used ≡ m .used
+  pub rests : (picks : List ℕ) → Rests m r (g (stateOf m store picks) c)
+
+-- in one step
+abbrev pub Acts : Machine → Machine → List ℤ → List ℤ → Tally → Tally → (State → Tally → Next) → Type 0
+Acts m r store store′ c c′ f = ActsIn m r store store′ c c′ f (λ s k. phaseOf (m .testing))
 
 -- the same with the bytes of the picks
-pub record Steps (m r : Machine) (store store′ : List ℤ) (picks : List ℕ) (c c′ : Tally) (f : State → Tally → Next) : Type 0 where
+pub record StepsIn (m r : Machine) (store store′ : List ℤ) (picks : List ℕ) (c c′ : Tally) (f : State → Tally → Next) (g : State → Tally → Phase) : Type 0 where
   pub same : nextOf r store′ picks c′ ≡ f (stateOf m store picks) c
   pub left : r .left ≤ m .left
   pub used : m .used ≤ length picks → r .used ≤ length picks
+  pub rests : Rests m r (g (stateOf m store picks) c)
+
+abbrev pub Steps : Machine → Machine → List ℤ → List ℤ → List ℕ → Tally → Tally → (State → Tally → Next) → Type 0
+Steps m r store store′ picks c c′ f = StepsIn m r store store′ picks c c′ f (λ s k. phaseOf (m .testing))
 
 -- the bytes used after a pick: one more, where there is one
 pub record AfterByte (used : ℕ) (picks : List ℕ) (r : ℕ) : Type 0 where

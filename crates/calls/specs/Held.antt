@@ -6,9 +6,11 @@ use lib.IntN.{ℤ}
 use lib.ListN.{length}
 use Rattle.rules.specs.declared.Row.{Row}
 use Rattle.rules.specs.Written.{Written}
+use Rattle.rules.specs.declared.Verdict.{Verdict}
+use Rattle.rules.specs.declared.Verdict.the-variants.{Refused}
 use Rattle.rules.specs.Questions.{verdict}
 use Rattle.rules.specs.Scripts.{Script, BlankFrom, scriptOf, envOf, treeOf, Legal}
-use Rattle.rules.specs.Calls.{Judged, judgedBy, pricesOf}
+use Rattle.rules.specs.Calls.{Judged, accepted, refuses, judgedBy, pricesOf, storeVerdict}
 use Rattle.table.specs.Code.{kindAt}
 use Rattle.survey.specs.declared.Figures.{Figures}
 use Rattle.survey.specs.Whole.{SurveyOf}
@@ -25,6 +27,11 @@ pub record Given (text : List ℕ) (ranges : List (List ℤ)) (vars : ℕ) (rows
 -- the questions 8 to 13 of a script under lent prices
 abbrev pub judgedScript : List ℕ → Script → Judged
 judgedScript prices script = judgedBy script (verdict (pricesOf prices) (length (script .rows)) (envOf (script .ranges)) (treeOf (script .rows)))
+
+-- 15 of the store of a script that is accepted so far
+abbrev pub admitted : Judged → List ℤ → Verdict
+admitted (accepted script) store = storeVerdict 0 (script .ranges) store
+admitted (refuses q p) store = Refused q p
 
 -- what the survey found of a script of `count` rows
 pub record Found (prices : List ℕ) (script : Script) (count : ℕ) (s : Figures) (lines : List (List ℕ)) : Type 0 where

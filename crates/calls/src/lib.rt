@@ -20,7 +20,7 @@ ghost use Rattle.rules.specs.Scripts.{pairRanges, scriptOf};
 ghost use Rattle.rules.specs.Calls.{Priced, storeVerdict, runReply};
 ghost use Rattle.rules.specs.Claim.{Demand3Of};
 ghost use Rattle.survey.specs.Whole.{SurveyOf};
-ghost use Rattle.calls.specs.Held.{Given, judgedScript};
+ghost use Rattle.calls.specs.Held.{Given, judgedScript, admitted};
 ghost use Rattle.calls.specs.Told.{MeasuredAs, ToldNo, Ran, Runs, ranRows};
 
 // What a report call answers, and the script's ticks: 0 of a refused one.
@@ -185,6 +185,48 @@ fn ticks_of(
     let mut table = [zero; 256];
     put_rows(&mut table, rows, count);
     survey::survey(text, &table, count, ranges, vars, prices, &mut lines)
+}
+
+// The same for a script that is asked and not run. It is a function of its own because the compiler lays one that has one caller into that caller: with both callers a run
+// took 17 KB more stack.
+fn figures_of(
+    text: &[u8],
+    rows: [Row; 256],
+    count: usize,
+    ranges: [[i32; 2]; 16],
+    vars: usize,
+    prices: Prices,
+) -> Figures
+    requires { ⌜ Given (now text) ranges vars rows count × FinePrices prices ⌝ }
+    ensures { λ r. ⌜ ((lines : List (List ℕ)) × SurveyOf prices (scriptOf (now (text .entry)) ranges vars rows count) count r lines) ⌝ }
+{
+    let none: [u64; 7] = [0; 7];
+    let mut lines = [none; 16];
+    let zero: [u32; 9] = [0; 9];
+    let mut table = [zero; 256];
+    put_rows(&mut table, rows, count);
+    survey::survey(text, &table, count, ranges, vars, prices, &mut lines)
+}
+
+// The questions 8 to 13 and 15 of a script, and no run.
+pub fn ask_script(
+    text: &[u8],
+    rows: [Row; 256],
+    count: usize,
+    ranges: [[i32; 2]; 16],
+    vars: usize,
+    prices: &[u32],
+    store: &[i32],
+) -> Verdict
+    requires { ⌜ Given (now text) ranges vars rows count × Priced (now prices) ⌝ }
+    ensures { λ r. ⌜ r ≡ admitted (judgedScript (now (prices .entry)) (scriptOf (now (text .entry)) ranges vars rows count)) (now (store .entry)) ⌝ }
+{
+    let by_kind = prices_of(prices);
+    let figures = figures_of(text, rows, count, ranges, vars, by_kind);
+    if figures.number != 0 {
+        return Verdict::Refused(figures.number, figures.place);
+    }
+    ask_store(vars, &ranges, store)
 }
 
 // The run call: the questions 8 to 13 and 15, and the run. A refusal leaves the store as it was.

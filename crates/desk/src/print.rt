@@ -10,7 +10,7 @@ pub fn print_text(text: &[u8]) {
     io::write_all(STDOUT_FILENO, text);
 }
 
-fn print_number(n: u64) {
+pub fn print_number(n: u64) {
     io::print_decimal(STDOUT_FILENO, n);
 }
 
@@ -33,6 +33,10 @@ pub fn print_wrong_value(at: usize) {
     print_text(b"error=value ");
     print_number(at as u64);
     print_text(b" is not a number\n");
+}
+
+pub fn print_wrong_picks() {
+    print_text(b"error=picks are not 0 and 1\n");
 }
 
 pub fn print_wrong_prices() {

@@ -3,6 +3,7 @@ use crate::print::print_front;
 use crate::print::print_outcome;
 use crate::print::print_refusal;
 use crate::print::print_text;
+use crate::print::print_wrong_picks;
 use crate::print::print_wrong_value;
 use libc::STDIN_FILENO;
 use loader::REPORT;
@@ -73,7 +74,7 @@ pub fn read_file(path: &[u8], buffer: &mut [u8]) -> Input
     input
 }
 
-fn cannot_read() {
+pub fn cannot_read() {
     print_text(b"error=cannot read the file\n");
 }
 
@@ -144,7 +145,7 @@ fn run_word(
     if put_picks(word, picks) {
         run_file(path, prices, allowed, picks, store);
     } else {
-        print_text(b"error=picks are not 0 and 1\n");
+        print_wrong_picks();
     }
 }
 

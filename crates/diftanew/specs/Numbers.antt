@@ -1,14 +1,18 @@
 -- The answers of the calls as numbers, as the header lays them out.
 use mathlib.Core.Path.{_≡_}
-use mathlib.Core.List.{List}
+use mathlib.Core.List.{List, [], _∷_, _++_}
 use Prim.Native.Nat.{ℕ, zero, suc, _+_, _*_, min}
 use lib.IntN.{ℤ}
 use lib.ListN.{getD, set, replicate}
 use Rattle.rules.specs.declared.Reply.{Reply}
 use Rattle.rules.specs.declared.LoopCount.{LoopCount}
 use Rattle.rules.specs.Calls.{Judged}
+use Rattle.rules.specs.Frames.{Lent}
 use Rattle.calls.specs.declared.Outcome.{Outcome}
 use Rattle.loops.specs.Loops.{noCount}
+use Rattle.stage.specs.declared.Played.{Played}
+use Rattle.stage.specs.declared.Frames.{Frames}
+use Rattle.loader.specs.Framing.{mostBy, FramedCall}
 use Rattle.loader.specs.Kept.{numberOf, placeOf, verdictNumber, firstBy, Reported, KeptCall}
 
 -- a report call in numbers
@@ -42,3 +46,23 @@ pub record Told-in-numbers (prices : List ℕ) (judgement : Judged) (store new :
   pub kept : KeptCall prices judgement store new picks allowance outcome
   pub number : r ≡ verdictNumber (outcome .verdict)
   pub numbers : answer ≡ numbersOf outcome
+
+-- a script's 54 numbers in a call of frames: its frame, then those of a run's answer
+abbrev pub scriptNumbers : Played → List ℕ
+scriptNumbers x = x .frame ∷ numbersOf (x .outcome)
+
+-- one script after the other
+unfoldable pub allNumbers : List Played → List ℕ
+allNumbers [] = []
+allNumbers (x ∷ xs) = scriptNumbers x ++ allNumbers xs
+
+-- the most ticks in one frame, or a refusal's place, then the scripts
+unfoldable pub framesNumbers : Frames → List ℕ
+framesNumbers f = mostBy (f .verdict) (f .most) ∷ allNumbers (f .scripts)
+
+-- a call of frames in numbers: those of an answer that is document 02's, each script in time
+pub record Framed-in-numbers (prices : List ℕ) (scratch : ℕ) (l : Lent) (q : ℕ) (new : List ℤ) (r : ℕ) (answer : List ℕ) : Type 0 where
+  pub frames : Frames
+  pub framed : FramedCall prices scratch l q new frames
+  pub number : r ≡ verdictNumber (frames .verdict)
+  pub numbers : answer ≡ framesNumbers frames

@@ -1,13 +1,19 @@
-// The two calls for C and Rust: numbers and slices only.
+// The three calls for C and Rust: numbers and slices only.
 use calls::Outcome;
 use rules::Ending;
 use rules::Reply;
 use rules::Verdict;
+use stage::Frames;
+use stage::Played;
 ghost use mathlib.Core.Path.{_≡_};
-ghost use Prim.Native.Nat.{min};
+ghost use Prim.Native.Nat.{_+_, _≤_, min};
+ghost use lib.ListN.{length, set};
+ghost use lib.Seq.{paste};
 ghost use Rattle.rules.specs.Calls.{endingNumber};
 ghost use Rattle.loader.specs.Kept.{judgement, verdictNumber};
-ghost use Rattle.diftanew.specs.Numbers.{Reported-in-numbers, firstOf, numbersOf, Told-in-numbers};
+ghost use Rattle.loader.specs.Framing.{mostBy};
+ghost use Rattle.lists.specs.Parts.{lentOf};
+ghost use Rattle.diftanew.specs.Numbers.{Reported-in-numbers, firstOf, numbersOf, Told-in-numbers, framesNumbers, Framed-in-numbers};
 
 // The report of a file under four lent prices. Answers 0 for an accepted file, with the report's length in place, or the refusal's number with its place.
 #[no_mangle]
@@ -117,5 +123,81 @@ pub extern "C" fn diftanew_run(
     let n = numbers(o);
     *answer = n;
     let verdict = o.verdict;
+    verdict_number(verdict)
+}
+
+// One script's 54 numbers, from `at` on: its frame, then the numbers of a run's answer.
+fn put_script(p: Played, at: usize, answer: &mut [u64; 433])
+    requires { ⌜ (at + 54 ≤ 433) × (length (now answer) ≡ 433) ⌝ }
+    ensures { λ _. ⌜ now (answer .exit) ≡ paste (set (now (answer .entry)) at (p .frame)) (at + 1) (numbersOf (p .outcome)) 53 ⌝ }
+{
+    let o = p.outcome;
+    let n = numbers(o);
+    answer[at] = p.frame;
+    let mut i: usize = 0;
+    while i < 53 {
+        answer[at + 1 + i] = n[i];
+        i += 1;
+    }
+}
+
+// The first number of a call of frames: the most ticks in one frame, or a refusal's place.
+fn most_number(f: Frames) -> u64
+    ensures { λ r. ⌜ r ≡ mostBy (f .verdict) (f .most) ⌝ }
+{
+    let verdict = f.verdict;
+    match verdict {
+        Verdict::Passed => f.most,
+        Verdict::Refused(_, place) => place as u64,
+    }
+}
+
+// A call of frames as numbers.
+fn frames_numbers(f: Frames) -> [u64; 433]
+    ensures { λ r. ⌜ r ≡ framesNumbers f ⌝ }
+{
+    let scripts = f.scripts;
+    let mut a = [0u64; 433];
+    a[0] = most_number(f);
+    let mut k: usize = 0;
+    while k < 8 {
+        let p = scripts[k];
+        put_script(p, 1 + 54 * k, &mut a);
+        k += 1;
+    }
+    a
+}
+
+// The frames of up to 8 scripts under four lent prices. Answers 0, with the answer's numbers as the header lays them out, or the refusal's number, with its place first.
+#[no_mangle]
+pub extern "C" fn diftanew_frames(
+    files: &[u8],
+    file_lengths: &[usize],
+    stores: &mut [i32],
+    store_lengths: &[usize],
+    picks: &[u8],
+    pick_lengths: &[usize],
+    prices: &[u32],
+    q: u64,
+    scratch: &mut [u32],
+    answer: &mut [u64; 433],
+) -> u32
+    ensures answer { λ r. ⌜ Framed-in-numbers (now (prices .entry)) (length (now (scratch .entry))) (lentOf (now (files .entry)) (now («file_lengths» .entry)) (now (stores .entry)) (now («store_lengths» .entry)) (now (picks .entry)) (now («pick_lengths» .entry))) q (now (stores .exit)) r (now (answer .exit)) ⌝ }
+    ensures scratch { λ _. ⌜ now (scratch .exit) ≡ now (scratch .entry) ⌝ }
+{
+    let f = loader::frames(
+        files,
+        file_lengths,
+        stores,
+        store_lengths,
+        picks,
+        pick_lengths,
+        prices,
+        q,
+        scratch,
+    );
+    let n = frames_numbers(f);
+    *answer = n;
+    let verdict = f.verdict;
     verdict_number(verdict)
 }

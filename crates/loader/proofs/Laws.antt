@@ -2,23 +2,17 @@
 use mathlib.Core.Path.{_≡_, refl, sym, _∙_, ap, subst}
 use mathlib.Core.Bool.{Bool, true, false, cond}
 use mathlib.Core.List.{List, []}
-use Prim.Native.Nat.{ℕ}
+use Prim.Native.Nat.{ℕ, _≤_}
 use native.Mathlib.Omega.{arith}
 use lib.IntN.{ℤ}
 use lib.ListN.{length, take}
-use lib.Dec.{leb}
+use lib.Dec.{T, leb, leb→le}
 use Rattle.rules.specs.declared.Verdict.{Verdict}
 use Rattle.rules.specs.declared.Verdict.the-variants.{Passed, Refused}
 use Rattle.rules.specs.declared.Reply.{Reply}
-use Rattle.rules.specs.Scripts.{Script, scriptOf, Legal}
-use Rattle.rules.specs.File
-use Rattle.rules.specs.File.{Reading, fileScript}
+use Rattle.rules.specs.File.{fileScript}
 use Rattle.rules.specs.Calls.{Judged, refuses, pricesOf, pricesVerdict, Priced, judgedPriced, scratchSize, judgedFile, judged, replyOf, bufferOf, RunReply, ran, runReply, storeAfter}
-use Rattle.rules.proofs.Reading.{read-legal, read-short}
 use Rattle.rules.proofs.FromBytes.{demand3-call}
-use Rattle.reader.specs.declared.Loaded.{Loaded}
-use Rattle.reader.specs.Read.{Answer, answerOf, loadedAnswer, LoadedAs}
-use Rattle.calls.specs.Held.{Given, judgedScript}
 use Rattle.calls.specs.Told.{MeasuredAs, Told, Ran, ToldNo}
 use Rattle.calls.specs.declared.Measured.{Measured}
 use Rattle.calls.specs.declared.Outcome.{Outcome}
@@ -46,53 +40,19 @@ module _ (prices : List ℕ) (scratch : ℕ) where
     unfolding judgedPriced
     lent-yes file = judged-lent file ∙ ap (λ v. judgedPriced prices v file) e
 
+    pub lent-room : scratchSize ≤ scratch
+    lent-room = by (leb scratchSize scratch) (leb→le scratchSize scratch) e
+      where
+        by : (b : Bool) → (T b → scratchSize ≤ scratch) → cond b (pricesVerdict 4 0 prices) (Refused 1 scratchSize) ≡ Passed → scratchSize ≤ scratch
+        by true f e = f tt
+        by false f e = absurd (let z : _≡_ {A = ℕ} 0 1 = cc in omega arith)
+
     pub lent-priced : Priced prices
     lent-priced = by (leb scratchSize scratch) e
       where
         by : (b : Bool) → cond b (pricesVerdict 4 0 prices) (Refused 1 scratchSize) ≡ Passed → Priced prices
         by true e = e
         by false e = absurd (let z : _≡_ {A = ℕ} 0 1 = cc in omega arith)
-
-module _ (prices : List ℕ) (file : List ℕ) (l : Loaded) (ranges : List (List ℤ)) (e : LoadedAs file (fileScript file) l ranges) where
-  abbrev script : Script
-  script = scriptOf file ranges (l .vars) (l .rows) (l .count)
-
-  -- the file is refused
-  pub file-refused : {q p : ℕ} → l .verdict ≡ Refused q p → judgedFile (pricesOf prices) (fileScript file) ≡ refuses q p
-  unfolding judgedFile answerOf
-  file-refused {q} {p} z = go (fileScript file) (e .answer)
-    where
-      go : (r : Reading Script) → loadedAnswer file l ranges ≡ answerOf r → judgedFile (pricesOf prices) r ≡ refuses q p
-      go (File.read s rest) a =
-          let v : l .verdict ≡ Passed = ap (λ (x : Answer). x .verdict) a in
-          absurd (let y : _≡_ {A = ℕ} 0 1 = cc in omega arith)
-      go (File.refused n k) a =
-          let v : l .verdict ≡ Refused n k = ap (λ (x : Answer). x .verdict) a in
-          cc
-
-  module _ (z : l .verdict ≡ Passed) where
-    loaded : (rest : List (List ℕ)) × (fileScript file ≡ File.read script rest) × (l .vars ≡ length (script .ranges)) × (l .count ≡ length (script .rows))
-    unfolding answerOf
-    loaded = go (fileScript file) refl (e .answer)
-      where
-        go : (r : Reading Script) → fileScript file ≡ r → loadedAnswer file l ranges ≡ answerOf r
-            → (rest : List (List ℕ)) × (fileScript file ≡ File.read script rest) × (l .vars ≡ length (script .ranges)) × (l .count ≡ length (script .rows))
-        go (File.read s rest) f a =
-            let g : script ≡ s = ap (λ (x : Answer). x .script) a in
-            (rest, f ∙ ap (λ x. File.read x rest) (sym g), ap (λ (x : Answer). x .vars) a ∙ ap (λ (x : Script). length (x .ranges)) (sym g), ap (λ (x : Answer). x .count) a ∙ ap (λ (x : Script). length (x .rows)) (sym g))
-        go (File.refused n k) f a =
-            let v : l .verdict ≡ Refused n k = ap (λ (x : Answer). x .verdict) a in
-            absurd (let y : _≡_ {A = ℕ} 0 1 = cc in omega arith)
-
-    -- the file is read
-    pub file-read : judgedFile (pricesOf prices) (fileScript file) ≡ judgedScript prices script
-    unfolding judgedFile
-    file-read = rw (loaded .1)
-
-    pub file-given : Given file ranges (l .vars) (l .rows) (l .count)
-    file-given =
-        let legal : Legal script = read-legal file script (loaded .0) (loaded .1) in
-        record { legal = legal; long = sym (loaded .3); few = omega (arith, legal .sizes .0, loaded .2); blank = e .blank z; short = read-short file script (loaded .0) (loaded .1); written = e .written }
 
 -- a report that is refused, one that is judged as another is, and one of a file that is judged as its script is
 module _ {prices : List ℕ} {j : Judged} {old : List ℕ} where

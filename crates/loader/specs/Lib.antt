@@ -1,2 +1,3 @@
 -- The promises of the two calls.
 pub mod Kept
+pub mod Framing

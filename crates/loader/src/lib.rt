@@ -1,14 +1,18 @@
-// The public calls: the report of a script file, and its run. They take all inputs, always end, and refuse by number and place.
+// The public calls: the report of a script file, its run, and the frames of several scripts. They take all inputs, always end, and refuse by number and place.
 use calls::Outcome;
 use prices::ask_prices;
 use reader::load;
 use rules::Reply;
 use rules::Verdict;
+use stage::Frames;
 ghost use mathlib.Core.Path.{_≡_};
+ghost use lib.ListN.{length};
 ghost use Rattle.rules.specs.File.{fileScript};
 ghost use Rattle.rules.specs.Calls.{pricesOf, Priced, judgedFile, runReply};
 ghost use Rattle.calls.specs.Told.{Ran};
+ghost use Rattle.lists.specs.Parts.{lentOf};
 ghost use Rattle.loader.specs.Kept.{lentVerdict, judgement, Reported, KeptCall};
+ghost use Rattle.loader.specs.Framing.{FramedCall};
 
 // How many numbers the lent scratch has at least: question 1.
 pub const SCRATCH: usize = 1_024;
@@ -112,5 +116,50 @@ pub fn run(
     match lent {
         Verdict::Passed => run_file(file, prices, store, picks, allowance),
         Verdict::Refused(q, p) => calls::refusal(q, p),
+    }
+}
+
+// The frames of up to 8 scripts under four lent prices: the questions 20, 1 and 16, then script by script 2 to 13 and 15. Files, stores and picks are each lent end to end
+// with a list of their lengths. In every frame each script that is not finished gets q ticks and runs on; what is left it carries forward. The stores are overwritten with the
+// final ones; refused, they are untouched. Each script is finished by frame ceil(T/q), T its report's ticks, with the answer of its run alone with allowance T.
+pub fn frames(
+    files: &[u8],
+    file_lengths: &[usize],
+    stores: &mut [i32],
+    store_lengths: &[usize],
+    picks: &[u8],
+    pick_lengths: &[usize],
+    prices: &[u32],
+    q: u64,
+    scratch: &mut [u32],
+) -> Frames
+    ensures answer { λ r. ⌜ FramedCall (now (prices .entry)) (length (now (scratch .entry))) (lentOf (now (files .entry)) (now («file_lengths» .entry)) (now (stores .entry)) (now («store_lengths» .entry)) (now (picks .entry)) (now («pick_lengths» .entry))) q (now (stores .exit)) r ⌝ }
+    ensures scratch { λ _. ⌜ now (scratch .exit) ≡ now (scratch .entry) ⌝ }
+{
+    let fits = lists::fitting(
+        files,
+        file_lengths,
+        &stores[..],
+        store_lengths,
+        picks,
+        pick_lengths,
+        q,
+    );
+    if !fits {
+        return stage::refusal(20, 0);
+    }
+    let lent = ask_lent(prices, scratch.len());
+    match lent {
+        Verdict::Passed => stage::run_frames(
+            files,
+            file_lengths,
+            stores,
+            store_lengths,
+            picks,
+            pick_lengths,
+            prices,
+            q,
+        ),
+        Verdict::Refused(number, place) => stage::refusal(number, place),
     }
 }

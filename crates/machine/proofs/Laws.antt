@@ -1,7 +1,7 @@
 -- Each row does what `rules` says of it. Assumes nothing.
 use mathlib.Core.Path.{_≡_, refl, sym, _∙_, ap, subst}
 use mathlib.Core.Bool.{Bool, true, false}
-use mathlib.Core.List.{List}
+use mathlib.Core.List.{List, []}
 use Prim.Native.Nat.{ℕ, suc, _+_, _<_}
 use native.Mathlib.Numerals.{add-one}
 use native.Mathlib.Omega.{arith}
@@ -12,18 +12,19 @@ use Rattle.rules.specs.declared.Operand.{Operand}
 use Rattle.rules.specs.declared.Comparison.{Comparison}
 use Rattle.rules.specs.declared.Change.{Change}
 use Rattle.rules.specs.Blocks.{RowKind, exprOf, kindOf, from, assign, Plain, Test, test, while, do-while, hold, for, Last, View, is-plain, is-pick, is-else, is-end, is-loop, viewAt}
-use Rattle.rules.specs.Run.{State}
+use Rattle.rules.specs.Run.{State, exec}
 use Rattle.rules.specs.declared.Prices.{Prices}
-use Rattle.rules.specs.RowMachine.{Tally, Next, begin, turn, fresh, to, tests, onRow}
+use Rattle.rules.specs.RowMachine.{Tally, Phase, Next, begin, turn, fresh, testing, to, tests, onRow}
 use Rattle.rules.specs.Scripts.{ExprBelow}
 use Rattle.rules.specs.Expressions.{Expr}
 use Rattle.actions.specs.declared.Machine.{Machine}
-use Rattle.actions.specs.States.{phaseOf, stateOf, onAt, plainTo, pickTo, forTo, andTests, endTo, rowTo, Acts, Steps, Room, Testable, Doable, Fitting}
+use Rattle.actions.proofs.Laws.{waits-at, then-tests, no-tests}
+use Rattle.actions.specs.States.{phaseOf, stateOf, waitsOf, onAt, plainTo, pickTo, forTo, andTests, endTo, rowTo, restBy, forRest, endRest, rowRest, ActsIn, Acts, StepsIn, Room, Testable, Doable, Fitting}
 
 -- ---- rows
 -- on without a tick, the counts changed by g
 pub passed : (m : Machine) (store : List ℤ) (c c′ : Tally) (n : ℕ) (g : Tally → Tally) → c′ ≡ g c → Acts m (onAt m (m .left) (n + 1) false) store store c c′ (λ s d. to (suc n) fresh s (g d))
-passed m store c c′ n g e = record { same = λ picks. rw (e, add-one); left = omega arith; used = refl }
+passed m store c c′ n g e = record { same = λ picks. rw (e, add-one); left = omega arith; used = refl; rests = λ picks i q. absurd (let z : _≡_ {A = ℕ} 0 1 = cc in omega arith) }
 
 -- the tests of the three loops
 module _ {text : List ℕ} {e h : ℕ} {store : List ℤ} {counts : List (List ℕ)} where
@@ -44,56 +45,80 @@ pub tests-later : {text : List ℕ} {h e v : ℕ} {x : Operand} {store store′ 
 tests-later {text} {x} e r q = record { rows = q .rows; tested = omega (arith, q .tested); written = q .written; limit = subst (λ n. ExprBelow n (exprOf text x)) (sym e) (q .limit); room = r }
 
 -- by a flag
-pub by-flag : {m r : Machine} {store store′ : List ℤ} {c c′ : Tally} (b : Bool) (g : Bool → State → Tally → Next) (v : Bool) → b ≡ v → Acts m r store store′ c c′ (g v) → Acts m r store store′ c c′ (g b)
-by-flag {m} {r} {store} {store′} {c} {c′} b g v e a = subst (λ z. Acts m r store store′ c c′ (g z)) (sym e) a
+pub by-flag : {m r : Machine} {store store′ : List ℤ} {c c′ : Tally} (b : Bool) (f : Bool → State → Tally → Next) (g : Bool → State → Tally → Phase) (v : Bool) → b ≡ v → ActsIn m r store store′ c c′ (f v) (g v) → ActsIn m r store store′ c c′ (f b) (g b)
+by-flag {m} {r} {store} {store′} {c} {c′} b f g v e a = subst (λ z. ActsIn m r store store′ c c′ (f z) (g z)) (sym e) a
+
+-- in a phase that is known
+pub in-phase : {m r : Machine} {store store′ : List ℤ} {c c′ : Tally} {f : State → Tally → Next} {g h : State → Tally → Phase} → ((s : State) → g s c ≡ h s c) → ActsIn m r store store′ c c′ f g → ActsIn m r store store′ c c′ f h
+in-phase e a = record { same = a .same; left = a .left; used = a .used; rests = λ picks i q. let (x, y) = a .rests picks i q in (x, y ∙ e _) }
+
+-- a for's start or step, paid at row i, and then its test or not
+module _ (π : Prices) {m n : Machine} {store store₁ : List ℤ} {c d : Tally} (h e : ℕ) (t : Test) (i : ℕ) (p : Plain) (g : Tally → Tally) (new : m .testing ≡ false)
+    (a : Acts m n store store₁ c d (λ s k. plainTo π i p (m .row) true s (g k))) where
+  abbrev first : State → Tally → Next
+  first s k = plainTo π i p (m .row) true s (g k)
+
+  begins-fresh : {r : Machine} {d′ : Tally} {f : State → Tally → Next} → ActsIn m r store store₁ c d′ f (λ s k. restBy (phaseOf (m .testing)) (first s k))
+      → ActsIn m r store store₁ c d′ f (λ s k. restBy fresh (first s k))
+  begins-fresh x = in-phase (λ s. ap (λ b. restBy (phaseOf b) (first s c)) new) x
+
+  pub for-tests : {r : Machine} {d′ : Tally} → waitsOf n ≡ true → Acts n r store₁ store₁ d d′ (tests π h e t)
+      → ActsIn m r store store₁ c d′ (λ s k. andTests π h e t (first s k)) (λ s k. restBy fresh (first s k))
+  for-tests w b = begins-fresh (then-tests π h e t first a w (waits-at n store₁ [] d (g c) (m .row) testing w (exec π i p (stateOf m store [])) (a .same [])) b)
+
+  pub for-stops : waitsOf n ≡ false → ActsIn m n store store₁ c d (λ s k. andTests π h e t (first s k)) (λ s k. restBy fresh (first s k))
+  for-stops w = begins-fresh (no-tests π h e t first a w)
 
 -- after a change of the counts
 pub after : {m r : Machine} {store store′ : List ℤ} {c c₀ c′ : Tally} (f : State → Tally → Next) (g : Tally → Tally) → c₀ ≡ g c → Acts m r store store′ c₀ c′ f
     → Acts m r store store′ c c′ (λ s d. f s (g d))
-after {m} {store} f g e a = record { same = λ picks. a .same picks ∙ ap (f (stateOf m store picks)) e; left = a .left; used = a .used }
+after {m} {store} f g e a = record { same = λ picks. a .same picks ∙ ap (f (stateOf m store picks)) e; left = a .left; used = a .used; rests = a .rests }
 
 -- ---- each row does what `onRow` says
-pub acts-row : {m r : Machine} {store store′ : List ℤ} {c c′ : Tally} {f g : State → Tally → Next} (picks : List ℕ)
-    → Acts m r store store′ c c′ f → ((s : State) (d : Tally) → f s d ≡ g s d) → Steps m r store store′ picks c c′ g
-acts-row picks a e = record { same = a .same picks ∙ e _ _; left = a .left; used = λ h. omega (arith, a .used) }
+pub acts-row : {m r : Machine} {store store′ : List ℤ} {c c′ : Tally} {f f′ : State → Tally → Next} {g g′ : State → Tally → Phase} (picks : List ℕ)
+    → ActsIn m r store store′ c c′ f g → ((s : State) (d : Tally) → (f s d ≡ f′ s d) × (g s d ≡ g′ s d)) → StepsIn m r store store′ picks c c′ f′ g′
+acts-row picks a e = record { same = a .same picks ∙ e _ _ .0; left = a .left; used = λ h. omega (arith, a .used); rests = λ i q. let (x, y) = a .rests picks i q in (x, y ∙ e _ _ .1) }
 
-pub steps-row : {m r : Machine} {store store′ : List ℤ} {picks : List ℕ} {c c′ : Tally} {f g : State → Tally → Next}
-    → Steps m r store store′ picks c c′ f → ((s : State) (d : Tally) → f s d ≡ g s d) → Steps m r store store′ picks c c′ g
-steps-row a e = record { same = a .same ∙ e _ _; left = a .left; used = a .used }
+pub steps-row : {m r : Machine} {store store′ : List ℤ} {picks : List ℕ} {c c′ : Tally} {f f′ : State → Tally → Next} {g g′ : State → Tally → Phase}
+    → StepsIn m r store store′ picks c c′ f g → ((s : State) (d : Tally) → (f s d ≡ f′ s d) × (g s d ≡ g′ s d)) → StepsIn m r store store′ picks c c′ f′ g′
+steps-row a e = record { same = a .same ∙ e _ _ .0; left = a .left; used = a .used; rests = λ i q. let (x, y) = a .rests i q in (x, y ∙ e _ _ .1) }
 
 module _ (π : Prices) (rows : List RowKind) (shut opener : ℕ → ℕ) (i e h : ℕ) (w : View) (fit : Fitting rows shut opener i e h w) (s : State) (c : Tally) where
   -- row i, by its view
-  abbrev at-row : View → Bool → Next
-  at-row v b = rowTo π rows shut opener v i (phaseOf b) s c
+  abbrev At : Next → Phase → View → Bool → Type 0
+  At n ph v b = (n ≡ rowTo π rows shut opener v i (phaseOf b) s c) × (ph ≡ rowRest π rows shut opener v i (phaseOf b) s c)
 
-  pub at-end : (b : Bool) → endTo π rows shut opener w h i (phaseOf b) s c ≡ at-row is-end b
-  at-end b = sym ((λ t. endTo π rows shut opener (viewAt rows (fit .opens t)) (fit .opens t) i (phaseOf b) s c) ∙ ap (λ v. endTo π rows shut opener v h i (phaseOf b) s c) (fit .head))
+  pub at-end : (b : Bool) → At (endTo π rows shut opener w h i (phaseOf b) s c) (endRest π rows shut opener w h i (phaseOf b) s c) is-end b
+  at-end b = (
+    sym ((λ t. endTo π rows shut opener (viewAt rows (fit .opens t)) (fit .opens t) i (phaseOf b) s c) ∙ ap (λ v. endTo π rows shut opener v h i (phaseOf b) s c) (fit .head)),
+    sym ((λ t. endRest π rows shut opener (viewAt rows (fit .opens t)) (fit .opens t) i (phaseOf b) s c) ∙ ap (λ v. endRest π rows shut opener v h i (phaseOf b) s c) (fit .head)),
+  )
 
-  pub at-else : (b : Bool) → to (suc e) fresh s c ≡ at-row is-else b
+  pub at-else : (b : Bool) → At (to (suc e) fresh s c) (phaseOf b) is-else b
   unfolding onRow
-  at-else b = ap (λ z. to (suc z) fresh s c) (sym (fit .shuts))
+  at-else b = (ap (λ z. to (suc z) fresh s c) (sym (fit .shuts)), refl)
 
-  pub at-pick : (b : Bool) → pickTo π i (e + 1) s c ≡ at-row is-pick b
+  pub at-pick : (b : Bool) → At (pickTo π i (e + 1) s c) (phaseOf b) is-pick b
   unfolding onRow
-  at-pick b = ap (λ z. pickTo π i z s c) (add-one e ∙ ap suc (sym (fit .shuts)))
+  at-pick b = (ap (λ z. pickTo π i z s c) (add-one e ∙ ap suc (sym (fit .shuts))), refl)
 
-  pub at-plain : (p : Plain) (b : Bool) → plainTo π i p (i + 1) false s c ≡ at-row (is-plain p) b
+  pub at-plain : (p : Plain) (b : Bool) → At (plainTo π i p (i + 1) false s c) (phaseOf b) (is-plain p) b
   unfolding onRow
-  at-plain p b = ap (λ z. plainTo π i p z false s c) (add-one i)
+  at-plain p b = (ap (λ z. plainTo π i p z false s c) (add-one i), refl)
 
-  pub at-while : (t : Test) (l : Last) (b : Bool) → tests π i e t s (begin i c) ≡ at-row (is-loop while t l) b
+  pub at-while : (t : Test) (l : Last) (b : Bool) → At (tests π i e t s (begin i c)) (phaseOf b) (is-loop while t l) b
   unfolding onRow
-  at-while t l b = ap (λ z. tests π i z t s (begin i c)) (sym (fit .shuts))
+  at-while t l b = (ap (λ z. tests π i z t s (begin i c)) (sym (fit .shuts)), refl)
 
-  pub at-hold : (t : Test) (l : Last) (b : Bool) → tests π i e t s (begin i c) ≡ at-row (is-loop hold t l) b
+  pub at-hold : (t : Test) (l : Last) (b : Bool) → At (tests π i e t s (begin i c)) (phaseOf b) (is-loop hold t l) b
   unfolding onRow
-  at-hold t l b = ap (λ z. tests π i z t s (begin i c)) (sym (fit .shuts))
+  at-hold t l b = (ap (λ z. tests π i z t s (begin i c)) (sym (fit .shuts)), refl)
 
-  pub at-do : (t : Test) (l : Last) (b : Bool) → to (suc i) fresh s (turn i (begin i c)) ≡ at-row (is-loop do-while t l) b
+  pub at-do : (t : Test) (l : Last) (b : Bool) → At (to (suc i) fresh s (turn i (begin i c))) (phaseOf b) (is-loop do-while t l) b
   unfolding onRow
-  at-do t l b = refl
+  at-do t l b = (refl, refl)
 
-  pub at-for : (v : ℕ) (y : Expr) (d : Comparison) (x : Expr) (l : Last) (b : Bool) → forTo π i e v y d x b s c ≡ at-row (is-loop (for y) (test v d x) l) b
+  pub at-for : (v : ℕ) (y : Expr) (d : Comparison) (x : Expr) (l : Last) (b : Bool) → At (forTo π i e v y d x b s c) (forRest π i v y b s c) (is-loop (for y) (test v d x) l) b
   unfolding onRow
-  at-for v y d x l true = ap (λ j. tests π i j (test v d x) s c) (sym (fit .shuts))
-  at-for v y d x l false = ap (λ j. andTests π i j (test v d x) (plainTo π i (assign v (from y)) i true s (begin i c))) (sym (fit .shuts))
+  at-for v y d x l true = (ap (λ j. tests π i j (test v d x) s c) (sym (fit .shuts)), refl)
+  at-for v y d x l false = (ap (λ j. andTests π i j (test v d x) (plainTo π i (assign v (from y)) i true s (begin i c))) (sym (fit .shuts)), refl)

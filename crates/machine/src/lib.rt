@@ -13,7 +13,7 @@ ghost use Rattle.rules.specs.Scripts.{ExprBelow};
 ghost use Rattle.rules.specs.Blocks.{RowKind, holdTest, viewOf, exprOf, kindOf};
 ghost use Rattle.rules.specs.Written.{WrittenOperand};
 ghost use Rattle.rules.specs.RowMachine.{tallyOf, tests};
-ghost use Rattle.actions.specs.States.{endTo, forTo, rowTo, phaseOf, Acts, Steps, Room, Testable, Doable, Fitting};
+ghost use Rattle.actions.specs.States.{endTo, forTo, rowTo, endRest, forRest, rowRest, phaseOf, Acts, ActsIn, StepsIn, Room, Testable, Doable, Fitting};
 
 // The test of a hold: is its flag not 0?
 fn flag_row(
@@ -55,7 +55,7 @@ fn end_row(
     counts: &mut [[u64; 3]; 256],
 ) -> Machine
     requires { ⌜ Doable (now text) (m .row) h (head .kind) (now store) (now counts) ⌝ }
-    ensures { λ r. ⌜ (((rows : List RowKind) (shut opener : ℕ → ℕ) → Acts m r (now (store .entry)) (now (store .exit)) (tallyOf (now (counts .entry))) (tallyOf (now (counts .exit))) (endTo prices rows shut opener (viewOf (kindOf (now (text .entry)) (head .kind))) h (m .row) (phaseOf (m .testing)))) × (length (now (counts .exit)) ≡ 256)) ⌝ }
+    ensures { λ r. ⌜ (((rows : List RowKind) (shut opener : ℕ → ℕ) → ActsIn m r (now (store .entry)) (now (store .exit)) (tallyOf (now (counts .entry))) (tallyOf (now (counts .exit))) (endTo prices rows shut opener (viewOf (kindOf (now (text .entry)) (head .kind))) h (m .row) (phaseOf (m .testing))) (endRest prices rows shut opener (viewOf (kindOf (now (text .entry)) (head .kind))) h (m .row) (phaseOf (m .testing)))) × (length (now (counts .exit)) ≡ 256)) ⌝ }
 {
     let kind = head.kind;
     let e = m.row;
@@ -99,7 +99,7 @@ fn for_row(
     counts: &mut [[u64; 3]; 256],
 ) -> Machine
     requires { ⌜ Testable (now text) (m .row) e v x (now store) (now counts) × WrittenOperand (now text) y × ExprBelow (length (now store)) (exprOf (now text) y) ⌝ }
-    ensures { λ r. ⌜ Acts m r (now (store .entry)) (now (store .exit)) (tallyOf (now (counts .entry))) (tallyOf (now (counts .exit))) (forTo prices (m .row) e v (exprOf (now (text .entry)) y) c (exprOf (now (text .entry)) x) (m .testing)) × (length (now (counts .exit)) ≡ 256) ⌝ }
+    ensures { λ r. ⌜ ActsIn m r (now (store .entry)) (now (store .exit)) (tallyOf (now (counts .entry))) (tallyOf (now (counts .exit))) (forTo prices (m .row) e v (exprOf (now (text .entry)) y) c (exprOf (now (text .entry)) x) (m .testing)) (forRest prices (m .row) v (exprOf (now (text .entry)) y) (m .testing)) × (length (now (counts .exit)) ≡ 256) ⌝ }
 {
     let h = m.row;
     if m.testing {
@@ -128,7 +128,7 @@ pub fn step(
     counts: &mut [[u64; 3]; 256],
 ) -> Machine
     requires { ⌜ Doable (now text) e (m .row) (row .kind) (now store) (now counts) × Doable (now text) (m .row) h (head .kind) (now store) (now counts) ⌝ }
-    ensures { λ r. ⌜ (((rows : List RowKind) (shut opener : ℕ → ℕ) → Fitting rows shut opener (m .row) e h (viewOf (kindOf (now (text .entry)) (head .kind))) → Steps m r (now (store .entry)) (now (store .exit)) (now (picks .entry)) (tallyOf (now (counts .entry))) (tallyOf (now (counts .exit))) (rowTo prices rows shut opener (viewOf (kindOf (now (text .entry)) (row .kind))) (m .row) (phaseOf (m .testing)))) × (length (now (counts .exit)) ≡ 256)) ⌝ }
+    ensures { λ r. ⌜ (((rows : List RowKind) (shut opener : ℕ → ℕ) → Fitting rows shut opener (m .row) e h (viewOf (kindOf (now (text .entry)) (head .kind))) → StepsIn m r (now (store .entry)) (now (store .exit)) (now (picks .entry)) (tallyOf (now (counts .entry))) (tallyOf (now (counts .exit))) (rowTo prices rows shut opener (viewOf (kindOf (now (text .entry)) (row .kind))) (m .row) (phaseOf (m .testing))) (rowRest prices rows shut opener (viewOf (kindOf (now (text .entry)) (row .kind))) (m .row) (phaseOf (m .testing)))) × (length (now (counts .exit)) ≡ 256)) ⌝ }
 {
     let kind = row.kind;
     let i = m.row;

@@ -29,7 +29,8 @@ use Rattle.calls.specs.declared.Measured.{Measured}
 use Rattle.calls.specs.Told.{ticksOf, MeasuredAs}
 use Rattle.calls.specs.Held.{judgedScript}
 use Rattle.calls.proofs.Tables.{few-rows}
-use Rattle.loader.proofs.Laws.{lent-yes, file-read, file-given}
+use Rattle.cast.proofs.Loaded.{file-read, file-given}
+use Rattle.loader.proofs.Laws.{lent-yes}
 use Rattle.pieces.specs.Pieces.{Wrote}
 use Rattle.pieces.proofs.Laws.{wrote-length}
 use Rattle.groups.specs.Firsts.{total, partsOf, Firsts, more}

@@ -10,7 +10,7 @@ use lib.IntN.{ℤ}
 use Rattle.rules.specs.declared.Kind.{Kind}
 use Rattle.rules.specs.declared.Row.{Row}
 use Rattle.rules.specs.declared.Ending.{Ending}
-use Rattle.rules.specs.declared.Ending.the-variants.{Ended}
+use Rattle.rules.specs.declared.Ending.the-variants.{Ended, Spent}
 use Rattle.rules.specs.Values.{put, Tried, passes, fails, beyond}
 use Rattle.rules.specs.Blocks.{RowKind, End, kindOf, Test, Form, while, do-while, hold, for, Last, no-step, step-by, View, is-plain, is-pick, is-else, is-end, is-loop, viewOf, viewAt, kindsOf}
 use Rattle.rules.specs.declared.Prices.{Prices}
@@ -27,8 +27,8 @@ use Rattle.rules.specs.Nesting.{nest, nestRows}
 use Rattle.actions.specs.declared.Machine.{Machine}
 use Rattle.actions.specs.declared.Status.{Status}
 use Rattle.actions.specs.declared.Status.the-variants.{Going, Over}
-use Rattle.actions.specs.States.{phaseOf, stateOf, placeOf, byStatus, nextOf, andTests, endTo, rowTo, isGoing, overAt, Room, Doable, Fitting, Steps}
-use Rattle.runner.specs.Runs.{Roomy, roomy-over, roomy-more, Ready, Finished}
+use Rattle.actions.specs.States.{phaseOf, stateOf, placeOf, byStatus, nextOf, andTests, endTo, rowTo, restBy, endRest, rowRest, isGoing, overAt, Room, Doable, Fitting, StepsIn}
+use Rattle.runner.specs.Runs.{Roomy, roomy-over, roomy-more, Ready, Came, Finished}
 
 -- every element by its index
 pub all-index : {A : Type 0} {Q : A → Type 0} (l : List A) (i : ℕ) (d : A) → All Q l → i < length l → Q (getD l i d)
@@ -144,18 +144,29 @@ module _ (π : Prices) (rows : List RowKind) (shut opener : ℕ → ℕ) where
   step-more (suc n) (more p) m e = step-more n (next π rows shut opener p) m e
   step-more (suc n) (over f i s c) m e = absurd (let z : _≡_ {A = ℕ} 0 1 = cc in omega arith)
 
-  -- a step of the code: one step, or two
-  pub data Onto (m : Place) : Next → Type 0 where
-    one : {x : Next} → x ≡ next π rows shut opener m → Onto m x
-    two : {x : Next} (p : Place) → next π rows shut opener m ≡ more p → x ≡ next π rows shut opener p → Onto m x
+  -- a step of the code: one step, or two; the last one begins at the second place
+  pub data Onto (m : Place) : Place → Next → Type 0 where
+    one : {x : Next} → x ≡ next π rows shut opener m → Onto m m x
+    two : {x : Next} (p : Place) → next π rows shut opener m ≡ more p → x ≡ next π rows shut opener p → Onto m p x
+
+  -- in the same row, and in that phase
+  pub record Turned (m : Place) (x : Next) (ph : Phase) : Type 0 where
+    pub last : Place
+    pub onto : Onto m last x
+    pub row : last .row ≡ m .row
+    pub phase : last .phase ≡ ph
+
+  at-once : {m : Place} {x : Next} → x ≡ next π rows shut opener m → Turned m x (m .phase)
+  at-once {m} q = record { last = m; onto = one q; row = refl; phase = refl }
 
   -- a for's start or step, and then its test
-  onto-tests : (m : Place) (h e i : ℕ) (t : Test) (c : Tally) (o : Out) → next π rows shut opener m ≡ outcome o c (λ u. to i testing u c)
+  onto-tests : (h e i : ℕ) (t : Test) (s : State) (b c : Tally) (o : Out)
+      → let m : Place = record { row = i; phase = fresh; now = s; tally = b } in next π rows shut opener m ≡ outcome o c (λ u. to i testing u c)
       → ((u : State) → tests π h e t u c ≡ next π rows shut opener (record { row = i; phase = testing; now = u; tally = c }))
-      → Onto m (andTests π h e t (outcome o c (λ u. to i testing u c)))
+      → Turned m (andTests π h e t (outcome o c (λ u. to i testing u c))) (restBy fresh (outcome o c (λ u. to i testing u c)))
   unfolding outcome
-  onto-tests m h e i t c (go u es) q f = two _ q (f u)
-  onto-tests m h e i t c (halt a j u es) q f = one (sym q)
+  onto-tests h e i t s b c (go u es) q f = record { last = record { row = i; phase = testing; now = u; tally = c }; onto = two _ q (f u); row = refl; phase = refl }
+  onto-tests h e i t s b c (halt a j u es) q f = at-once (sym q)
 
   module _ (i : ℕ) (l : i < length rows) where
     -- row i, and an `end` of a block, by their views
@@ -168,27 +179,28 @@ module _ (π : Prices) (rows : List RowKind) (shut opener : ℕ → ℕ) where
     at-end w e q ph s c = ap (λ z. onEnd π rows shut opener z (opener i) i ph s c) (sym q) ∙ at-row is-end e ph s c
 
     onto-end : (w : View) → viewAt rows i ≡ is-end → viewAt rows (opener i) ≡ w → (ph : Phase) (s : State) (c : Tally)
-        → Onto (record { row = i; phase = ph; now = s; tally = c }) (endTo π rows shut opener w (opener i) i ph s c)
+        → Turned (record { row = i; phase = ph; now = s; tally = c }) (endTo π rows shut opener w (opener i) i ph s c) (endRest π rows shut opener w (opener i) i ph s c)
     unfolding onEnd
-    onto-end (is-plain p) e q ph s c = one (at-end _ e q ph s c)
-    onto-end is-pick e q ph s c = one (at-end _ e q ph s c)
-    onto-end is-else e q ph s c = one (at-end _ e q ph s c)
-    onto-end is-end e q ph s c = one (at-end _ e q ph s c)
-    onto-end (is-loop form t no-step) e q ph s c = one (at-end _ e q ph s c)
-    onto-end (is-loop form t (step-by p)) e q fresh s c = onto-tests _ (opener i) i i t c _ (sym (at-end _ e q fresh s c)) (λ u. at-end _ e q testing u c)
-    onto-end (is-loop form t (step-by p)) e q testing s c = one (at-end _ e q testing s c)
+    onto-end (is-plain p) e q ph s c = at-once (at-end _ e q ph s c)
+    onto-end is-pick e q ph s c = at-once (at-end _ e q ph s c)
+    onto-end is-else e q ph s c = at-once (at-end _ e q ph s c)
+    onto-end is-end e q ph s c = at-once (at-end _ e q ph s c)
+    onto-end (is-loop form t no-step) e q ph s c = at-once (at-end _ e q ph s c)
+    onto-end (is-loop form t (step-by p)) e q fresh s c = onto-tests (opener i) i i t s c c _ (sym (at-end _ e q fresh s c)) (λ u. at-end _ e q testing u c)
+    onto-end (is-loop form t (step-by p)) e q testing s c = at-once (at-end _ e q testing s c)
 
-    onto-row : (w : View) → viewAt rows i ≡ w → (ph : Phase) (s : State) (c : Tally) → Onto (record { row = i; phase = ph; now = s; tally = c }) (rowTo π rows shut opener w i ph s c)
+    onto-row : (w : View) → viewAt rows i ≡ w → (ph : Phase) (s : State) (c : Tally)
+        → Turned (record { row = i; phase = ph; now = s; tally = c }) (rowTo π rows shut opener w i ph s c) (rowRest π rows shut opener w i ph s c)
     unfolding onRow
-    onto-row (is-plain p) e ph s c = one (at-row _ e ph s c)
-    onto-row is-pick e ph s c = one (at-row _ e ph s c)
-    onto-row is-else e ph s c = one (at-row _ e ph s c)
+    onto-row (is-plain p) e ph s c = at-once (at-row _ e ph s c)
+    onto-row is-pick e ph s c = at-once (at-row _ e ph s c)
+    onto-row is-else e ph s c = at-once (at-row _ e ph s c)
     onto-row is-end e ph s c = onto-end _ e refl ph s c
-    onto-row (is-loop while t last) e ph s c = one (at-row _ e ph s c)
-    onto-row (is-loop hold t last) e ph s c = one (at-row _ e ph s c)
-    onto-row (is-loop do-while t last) e ph s c = one (at-row _ e ph s c)
-    onto-row (is-loop (for x) t last) e fresh s c = onto-tests _ i (shut i) i t (begin i c) _ (sym (at-row _ e fresh s c)) (λ u. at-row _ e testing u (begin i c))
-    onto-row (is-loop (for x) t last) e testing s c = one (at-row _ e testing s c)
+    onto-row (is-loop while t last) e ph s c = at-once (at-row _ e ph s c)
+    onto-row (is-loop hold t last) e ph s c = at-once (at-row _ e ph s c)
+    onto-row (is-loop do-while t last) e ph s c = at-once (at-row _ e ph s c)
+    onto-row (is-loop (for x) t last) e fresh s c = onto-tests i (shut i) i t s c (begin i c) _ (sym (at-row _ e fresh s c)) (λ u. at-row _ e testing u (begin i c))
+    onto-row (is-loop (for x) t last) e testing s c = at-once (at-row _ e testing s c)
 
   -- the state x is reached from the start, with room
   pub record Held (start x : Next) : Type 0 where
@@ -216,12 +228,18 @@ module _ (π : Prices) (rows : List RowKind) (shut opener : ℕ → ℕ) where
         (record { n = suc (h .n); same = step-more (h .n) start m (h .same) ∙ sym q; room = r }, l)
 
     -- the same over a step of the code
-    held-onto : (start : Next) (m : Place) (x : Next) → Held start (more m) → Onto m x → Held start x × (weight R x < suc (rank R m))
-    held-onto start m x h (one q) = held-next start m x h q
-    held-onto start m x h (two p e q) =
+    held-onto : (start : Next) (m w : Place) (x : Next) → Held start (more m) → Onto m w x → Held start x × (weight R x < suc (rank R m))
+    held-onto start m _ x h (one q) = held-next start m x h q
+    held-onto start m _ x h (two p e q) =
         let (h₁, l₁) = held-next start m (more p) h (sym e) in
         let (h₂, l₂) = held-next start p x h₁ q in
         (h₂, omega arith)
+
+  -- and the last step began there
+  came-onto : (start : Next) (m w : Place) (x : Next) (r : Machine) → Held start (more m) → Onto m w x → ((i : ℕ) → r .status ≡ Over Spent i → (r .row ≡ w .row) × (phaseOf (r .testing) ≡ w .phase))
+      → Came π rows shut opener start r x
+  came-onto start m _ x r h (one q) rests = record { k = h .n; w = m; reached = h .same; stepped = q; rests = rests }
+  came-onto start m _ x r h (two p e q) rests = record { k = suc (h .n); w = p; reached = step-more (h .n) start m (h .same) ∙ e; stepped = q; rests = rests }
 
 -- the tables that one pass finds
 pub partners-of : (rows : List RowKind) (n : ℕ) → nestRows rows (record { open-blocks = []; loops = 0 }) ≡ nest [] n → (t : Tables) → Found rows t → Partners rows (tableOf (t .shut)) (tableOf (t .opener))
@@ -237,6 +255,7 @@ kinds text rows count = take count (kindsOf text rows)
 pub record Runs (text : List ℕ) (π : Prices) (rows : List Row) (count : ℕ) (t : Tables) (picks : List ℕ) (m₀ : Machine) (store₀ : List ℤ) (counts₀ : List (List ℕ)) (m : Machine) (store : List ℤ) (counts : List (List ℕ)) : Type 0 where
   pub lengths : (length store ≡ length store₀) × (length counts ≡ 256)
   pub held : Held π (kinds text rows count) (tableOf (t .shut)) (tableOf (t .opener)) (nextOf m₀ store₀ picks (tallyOf counts₀)) (nextOf m store picks (tallyOf counts))
+  pub came : isGoing (m₀ .status) ≡ true → isGoing (m .status) ≡ false → Came π (kinds text rows count) (tableOf (t .shut)) (tableOf (t .opener)) (nextOf m₀ store₀ picks (tallyOf counts₀)) m (nextOf m store picks (tallyOf counts))
   pub left : m .left ≤ m₀ .left
   pub used : m .used ≤ length picks
 
@@ -269,7 +288,7 @@ module _ {text : List ℕ} (π : Prices) (rows : List Row) (count : ℕ) (t : Ta
       subst (λ n. opener i < n) e (subst (λ (g : ℕ → ℕ). g i < length ks) (sym (ready .found .openers)) (q .opener-in i))
 
   pub runs-start : Runs text π rows count t picks m₀ store₀ counts₀ m₀ store₀ counts₀
-  runs-start = record { lengths = (refl, ready .long); held = held-start π ks shut opener _ (ready .room); left = omega arith; used = ready .used }
+  runs-start = record { lengths = (refl, ready .long); held = held-start π ks shut opener _ (ready .room); came = λ a b. absurd (let z : _≡_ {A = ℕ} 0 1 = cc in omega arith); left = omega arith; used = ready .used }
 
   module _ (m : Machine) (store : List ℤ) (counts : List (List ℕ)) (now : Runs text π rows count t picks m₀ store₀ counts₀ m store counts) (on : isGoing (m .status) ≡ true) where
     abbrev here : Place
@@ -307,23 +326,32 @@ module _ {text : List ℕ} (π : Prices) (rows : List Row) (count : ℕ) (t : Ta
 
     -- another state that is a step of the code on
     runs-on : (r : Machine) (store′ : List ℤ) (counts′ : List (List ℕ)) → (length store′ ≡ length store) × (length counts′ ≡ 256)
-        → Onto π ks shut opener here (nextOf r store′ picks (tallyOf counts′)) → r .left ≤ m .left → r .used ≤ length picks
+        → (w : Place) → Onto π ks shut opener here w (nextOf r store′ picks (tallyOf counts′)) → ((i : ℕ) → r .status ≡ Over Spent i → (r .row ≡ w .row) × (phaseOf (r .testing) ≡ w .phase))
+        → r .left ≤ m .left → r .used ≤ length picks
         → Runs text π rows count t picks m₀ store₀ counts₀ r store′ counts′ × (weight (length ks) (nextOf r store′ picks (tallyOf counts′)) < weight (length ks) (nextOf m store picks (tallyOf counts)))
-    runs-on r store′ counts′ (a, b) q l u =
-        let (h, w) = held-onto π ks shut opener fit (ready .price) _ here _ held-here q in (
-          record { lengths = (a ∙ now .lengths .0, b); held = h; left = omega (arith, now .left); used = u },
-          subst (λ x. weight (length ks) (nextOf r store′ picks (tallyOf counts′)) < weight (length ks) x) (sym is-here) w,
+    runs-on r store′ counts′ (a, b) w q rests l u =
+        let (h, falls) = held-onto π ks shut opener fit (ready .price) _ here w _ held-here q in (
+          record {
+            lengths = (a ∙ now .lengths .0, b);
+            held = h;
+            came = λ _ _. came-onto π ks shut opener _ here w _ r held-here q rests;
+            left = omega (arith, now .left);
+            used = u;
+          },
+          subst (λ x. weight (length ks) (nextOf r store′ picks (tallyOf counts′)) < weight (length ks) x) (sym is-here) falls,
         )
 
     -- a row
     pub runs-step : (r : Machine) (store′ : List ℤ) (counts′ : List (List ℕ)) → (length store′ ≡ length store) × (length counts′ ≡ 256)
         → m .row < count
-        → Steps m r store store′ picks (tallyOf counts) (tallyOf counts′) (rowTo π ks shut opener (viewOf (kindOf text (getD rows (m .row) (record { kind = Kind.End }) .kind))) (m .row) (phaseOf (m .testing)))
+        → StepsIn m r store store′ picks (tallyOf counts) (tallyOf counts′) (rowTo π ks shut opener (viewOf (kindOf text (getD rows (m .row) (record { kind = Kind.End }) .kind))) (m .row) (phaseOf (m .testing)))
+        (rowRest π ks shut opener (viewOf (kindOf text (getD rows (m .row) (record { kind = Kind.End }) .kind))) (m .row) (phaseOf (m .testing)))
         → Runs text π rows count t picks m₀ store₀ counts₀ r store′ counts′ × (weight (length ks) (nextOf r store′ picks (tallyOf counts′)) < weight (length ks) (nextOf m store picks (tallyOf counts)))
     runs-step r store′ counts′ same l s =
         let n = size-is in
-        runs-on r store′ counts′ same
-        (subst (Onto π ks shut opener here) (sym (s .same)) (onto-row π ks shut opener (m .row) (omega arith) _ (ap viewOf (kind-of text count rows (m .row) l)) _ _ _)) (s .left) (s .used (now .used))
+        let t = onto-row π ks shut opener (m .row) (omega arith) _ (ap viewOf (kind-of text count rows (m .row) l)) (phaseOf (m .testing)) (stateOf m store picks) (tallyOf counts) in
+        runs-on r store′ counts′ same (t .last) (subst (Onto π ks shut opener here (t .last)) (sym (s .same)) (t .onto))
+        (λ i q. let (x, y) = s .rests i q in (x ∙ sym (t .row), y ∙ sym (t .phase))) (s .left) (s .used (now .used))
 
     -- past the last row
     pub runs-past : count ≤ m .row
@@ -331,10 +359,10 @@ module _ {text : List ℕ} (π : Prices) (rows : List Row) (count : ℕ) (t : Ta
         × (weight (length ks) (over Ended count (stateOf m store picks) (tallyOf counts)) < weight (length ks) (nextOf m store picks (tallyOf counts)))
     runs-past l =
         let n = size-is in
-        runs-on (overAt m (m .left) Ended count) store counts (refl, now .lengths .1)
-        (one (sym (next-past π ks shut opener (m .row) _ _ _ (omega arith) ∙ ap (λ k. over Ended k (stateOf m store picks) (tallyOf counts)) n))) (omega arith) (now .used)
+        runs-on (overAt m (m .left) Ended count) store counts (refl, now .lengths .1) here
+        (one (sym (next-past π ks shut opener (m .row) _ _ _ (omega arith) ∙ ap (λ k. over Ended k (stateOf m store picks) (tallyOf counts)) n))) (λ i q. absurd (let z : _≡_ {A = ℕ} 0 1 = cc in omega arith)) (omega arith) (now .used)
 
   -- it is over
   pub runs-over : (m : Machine) (store : List ℤ) (counts : List (List ℕ)) → Runs text π rows count t picks m₀ store₀ counts₀ m store counts → isGoing (m .status) ≡ false
       → Finished π ks t m₀ m store₀ store picks (tallyOf counts₀) (tallyOf counts)
-  runs-over m store counts now off = record { n = now .held .n; same = now .held .same; over = off; left = now .left; used = now .used }
+  runs-over m store counts now off = record { n = now .held .n; same = now .held .same; over = off; came = λ on. now .came on off; left = now .left; used = now .used }

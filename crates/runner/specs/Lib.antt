@@ -1,3 +1,4 @@
 -- The run in code, as `rules` has it.
 pub mod Runs
+pub mod Pauses
 pub mod Answered

@@ -1,6 +1,6 @@
 -- What the loop over the machine's steps asks and ensures.
 use mathlib.Core.Path.{_≡_}
-use mathlib.Core.Bool.{false}
+use mathlib.Core.Bool.{true, false}
 use mathlib.Core.List.{List, []}
 use Prim.Native.Nat.{ℕ, _+_, _≤_, _<_, _^_}
 use lib.ListN.{length, getD, take}
@@ -8,17 +8,19 @@ use lib.IntN.{ℤ}
 use Rattle.rules.specs.declared.Kind.{Kind}
 use Rattle.rules.specs.declared.Row.{Row}
 use Rattle.rules.specs.declared.Ending.{Ending}
+use Rattle.rules.specs.declared.Ending.the-variants.{Spent}
 use Rattle.rules.specs.Blocks.{RowKind, kindsOf}
 use Rattle.rules.specs.Written.{Written}
 use Rattle.rules.specs.Nesting.{nest, nestRows}
 use Rattle.rules.specs.declared.Prices.{Prices}
 use Rattle.rules.specs.Run.{State}
-use Rattle.rules.specs.RowMachine.{Tally, tallyOf, Place, Next, more, over, steps, rank}
+use Rattle.rules.specs.RowMachine.{Tally, tallyOf, Place, Next, more, over, next, steps, rank}
 use Rattle.rules.specs.Scripts.{All, RowLimits, RowBelow}
 use Rattle.pairs.specs.declared.Tables.{Tables}
 use Rattle.pairs.specs.Tables.{tableOf, Found}
 use Rattle.actions.specs.declared.Machine.{Machine}
-use Rattle.actions.specs.States.{nextOf, isGoing}
+use Rattle.actions.specs.declared.Status.the-variants.{Over}
+use Rattle.actions.specs.States.{phaseOf, nextOf, isGoing}
 
 -- the questions 4 to 7 of rows over so many variables
 pub record Runnable (vars : ℕ) (rows : List RowKind) : Type 0 where
@@ -42,10 +44,19 @@ pub record Ready (text : List ℕ) (π : Prices) (rows : List Row) (count : ℕ)
   pub room : Roomy (length (take count (kindsOf text rows))) (nextOf m store picks (tallyOf counts))
   pub used : m .used ≤ length picks
 
+-- the last step that led to r began at place w; spent, r waits there
+pub record Came (π : Prices) (rows : List RowKind) (shut opener : ℕ → ℕ) (start : Next) (r : Machine) (x : Next) : Type 0 where
+  pub k : ℕ
+  pub w : Place
+  pub reached : steps π rows shut opener k start ≡ more w
+  pub stepped : x ≡ next π rows shut opener w
+  pub rests : (i : ℕ) → r .status ≡ Over Spent i → (r .row ≡ w .row) × (phaseOf (r .testing) ≡ w .phase)
+
 -- some steps of `rules`' machine lead from m to r, and r is over
 pub record Finished (π : Prices) (rows : List RowKind) (t : Tables) (m r : Machine) (store store′ : List ℤ) (picks : List ℕ) (c c′ : Tally) : Type 0 where
   pub n : ℕ
   pub same : steps π rows (tableOf (t .shut)) (tableOf (t .opener)) n (nextOf m store picks c) ≡ nextOf r store′ picks c′
   pub over : isGoing (r .status) ≡ false
+  pub came : isGoing (m .status) ≡ true → Came π rows (tableOf (t .shut)) (tableOf (t .opener)) (nextOf m store picks c) r (nextOf r store′ picks c′)
   pub left : r .left ≤ m .left
   pub used : r .used ≤ length picks

@@ -12,6 +12,7 @@ ghost use Rattle.rules.specs.Blocks.{kindsOf};
 ghost use Rattle.rules.specs.RowMachine.{tallyOf};
 ghost use Rattle.actions.specs.States.{isGoing};
 ghost use Rattle.runner.specs.Runs.{Ready, Finished};
+ghost use Rattle.runner.specs.Pauses.{Paused, RanOn};
 ghost use Rattle.runner.specs.Answered.{Cleared, ranOf, runOf, Given, Answered};
 
 // Is the run still going?
@@ -38,7 +39,7 @@ pub fn resume(
     counts: &mut [[u64; 3]; 256],
 ) -> Machine
     requires { ⌜ Ready (now text) prices rows count tables from (now store) (now picks) (now counts) ⌝ }
-    ensures { λ r. ⌜ Finished prices (take count (kindsOf (now (text .entry)) rows)) tables from r (now (store .entry)) (now (store .exit)) (now (picks .entry)) (tallyOf (now (counts .entry))) (tallyOf (now (counts .exit))) ⌝ }
+    ensures { λ r. ⌜ Finished prices (take count (kindsOf (now (text .entry)) rows)) tables from r (now (store .entry)) (now (store .exit)) (now (picks .entry)) (tallyOf (now (counts .entry))) (tallyOf (now (counts .exit))) × (length (now (counts .exit)) ≡ 256) ⌝ }
 {
     let mut m = from;
     while going(m) {
@@ -54,6 +55,42 @@ pub fn resume(
         }
     }
     m
+}
+
+// A script that is not finished gets q ticks and runs on, until it finishes or its next price does not fit.
+pub fn run_on(
+    text: &[u8],
+    rows: [Row; 256],
+    count: usize,
+    tables: Tables,
+    by_kind: Prices,
+    q: u64,
+    from: Machine,
+    store: &mut [i32],
+    picks: &[u8],
+    counts: &mut [[u64; 3]; 256],
+) -> Machine
+    requires { ⌜ Paused (now text) «by_kind» rows count tables q from (now store) (now picks) (now counts) ⌝ }
+    ensures { λ r. ⌜ RanOn «by_kind» (take count (kindsOf (now (text .entry)) rows)) q from r (now (store .entry)) (now (store .exit)) (now (picks .entry)) (tallyOf (now (counts .entry))) (now (counts .exit)) ⌝ }
+{
+    let start = Machine {
+        row: from.row,
+        testing: from.testing,
+        left: from.left + q,
+        used: from.used,
+        status: Status::Going,
+    };
+    resume(
+        text,
+        rows,
+        count,
+        tables,
+        by_kind,
+        start,
+        store,
+        picks,
+        counts,
+    )
 }
 
 // All counts to 0.
@@ -77,7 +114,7 @@ pub struct Ran {
 }
 
 // The answer of a machine that is over, after `allowance` ticks less what is left.
-fn answer(m: Machine, allowance: u64) -> Ran
+pub fn answer(m: Machine, allowance: u64) -> Ran
     requires { ⌜ m .left ≤ allowance ⌝ }
     ensures { λ r. ⌜ r ≡ ranOf m allowance ⌝ }
 {

@@ -1,12 +1,12 @@
 //! Safe Rust calls over the proved loader of effect scripts.
 //!
-//! A call of the library needs a scratch of 1,024 numbers and a stack of 32 KB (a report) or 40 KB (a run), no heap, and nothing else. The
+//! A call of the library needs a scratch of 1,024 numbers and a stack of 32 KB (a report), 40 KB (a run) or 192 KB (frames), no heap, and nothing else. The
 //! scratch is measured and never touched: every number of it keeps its value, also past the first 1,024, where a patch list may lie. Only
-//! this crate's [`run`] takes heap, for the list of loops; [`numbers::run`] takes none.
+//! this crate's [`run`] and [`frames`] take heap, for lists of loops and of what is lent; [`numbers::run`] and [`numbers::frames`] take none.
 
 pub mod numbers;
 
-use numbers::ANSWER;
+use numbers::{ANSWER, FRAMES_ANSWER};
 
 /// The 32-bit numbers of scratch that a call wants.
 pub const SCRATCH: usize = 1_024;
@@ -26,6 +26,12 @@ pub const REPORT_STACK: usize = 32 * 1_024;
 
 /// The bytes of stack that a run needs at most.
 pub const RUN_STACK: usize = 40 * 1_024;
+
+/// The bytes of stack that a call of frames needs at most.
+pub const FRAMES_STACK: usize = 192 * 1_024;
+
+/// The scripts that a call of frames takes at most.
+pub const SCRIPTS: usize = 8;
 
 /// The questions that can refuse a call, by their numbers.
 #[derive(Clone, Copy, Debug, PartialEq, Eq)]
@@ -67,10 +73,13 @@ pub enum Question {
     Expression = 17,
     /// A hold's body breaks its terms; asked in the place of 8 to 12.
     Hold = 19,
+    /// No script or more than 8, lists of lengths that do not fit what is lent, or ticks of a frame that are not 1 to 1,000,000; asked by
+    /// frames alone, before all others.
+    Frames = 20,
 }
 
 impl Question {
-    const ALL: [Question; 18] = [
+    const ALL: [Question; 19] = [
         Question::Scratch,
         Question::File,
         Question::Shape,
@@ -89,6 +98,7 @@ impl Question {
         Question::Price,
         Question::Expression,
         Question::Hold,
+        Question::Frames,
     ];
 
     /// The question's number.
@@ -166,6 +176,50 @@ pub fn run(file: &[u8], prices: &[u32], scratch: &mut [u32], store: &mut [i32], 
     let mut answer = [0; ANSWER];
     match numbers::run(file, prices, scratch, store, picks, allowance, &mut answer) {
         0 => Ok(Run::of(&answer)),
+        number => Err(Refused::of(number, answer[0])),
+    }
+}
+
+/// One of several scripts: its file, its store, its picks.
+pub struct Script<'a> {
+    pub file: &'a [u8],
+    pub store: &'a mut [i32],
+    pub picks: &'a [u8],
+}
+
+/// The answer of several scripts in one frame: the most ticks that all together took in one, and of each script the frame that it finished in,
+/// from 1, and its run.
+#[derive(Clone, Debug, PartialEq, Eq)]
+pub struct Frames {
+    pub most: u64,
+    pub scripts: Vec<(u64, Run)>,
+}
+
+/// Runs the scripts together with these prices, `q` ticks a frame for each that is not finished. Refused, every store is untouched.
+pub fn frames(scripts: &mut [Script], prices: &[u32], q: u64, scratch: &mut [u32]) -> Result<Frames, Refused> {
+    let files: Vec<u8> = scripts.iter().flat_map(|s| s.file).copied().collect();
+    let mut stores: Vec<i32> = scripts.iter().flat_map(|s| s.store.iter()).copied().collect();
+    let picks: Vec<u8> = scripts.iter().flat_map(|s| s.picks).copied().collect();
+    let lent = numbers::Lent {
+        files: &files,
+        file_lengths: &scripts.iter().map(|s| s.file.len()).collect::<Vec<_>>(),
+        stores: &mut stores,
+        store_lengths: &scripts.iter().map(|s| s.store.len()).collect::<Vec<_>>(),
+        picks: &picks,
+        pick_lengths: &scripts.iter().map(|s| s.picks.len()).collect::<Vec<_>>(),
+    };
+    let mut answer = [0; FRAMES_ANSWER];
+    match numbers::frames(lent, prices, q, scratch, &mut answer) {
+        0 => {
+            let mut rest = &stores[..];
+            for script in scripts.iter_mut() {
+                let (own, later) = rest.split_at(script.store.len());
+                script.store.copy_from_slice(own);
+                rest = later;
+            }
+            let of = |a: &[u64]| (a[0], Run::of(a[1..].try_into().expect("a run's numbers")));
+            Ok(Frames { most: answer[0], scripts: answer[1..].chunks(1 + ANSWER).take(scripts.len()).map(of).collect() })
+        }
         number => Err(Refused::of(number, answer[0])),
     }
 }

@@ -27,11 +27,34 @@ mod c {
             allowance: u64,
             answer: *mut u64,
         ) -> u32;
+        pub fn diftanew_frames(
+            files: *const u8,
+            files_len: usize,
+            file_lens: *const usize,
+            file_count: usize,
+            stores: *mut i32,
+            stores_len: usize,
+            store_lens: *const usize,
+            store_count: usize,
+            picks: *const u8,
+            picks_len: usize,
+            pick_lens: *const usize,
+            pick_count: usize,
+            prices: *const u32,
+            prices_len: usize,
+            q: u64,
+            scratch: *mut u32,
+            scratch_len: usize,
+            answer: *mut u64,
+        ) -> u32;
     }
 }
 
 /// The numbers of a run's answer.
 pub const ANSWER: usize = 53;
+
+/// The numbers of the answer of frames: the most ticks in one frame, and for each of 8 scripts its frame and a run's answer.
+pub const FRAMES_ANSWER: usize = 1 + 8 * (1 + ANSWER);
 
 /// 0, with the report's length in `place`; or the refusal's number, with its place.
 #[inline]
@@ -77,6 +100,43 @@ pub fn run(
             picks.as_ptr(),
             picks.len(),
             allowance,
+            answer.as_mut_ptr(),
+        )
+    }
+}
+
+/// What several scripts are lent, each end to end with a list of their lengths.
+pub struct Lent<'a> {
+    pub files: &'a [u8],
+    pub file_lengths: &'a [usize],
+    pub stores: &'a mut [i32],
+    pub store_lengths: &'a [usize],
+    pub picks: &'a [u8],
+    pub pick_lengths: &'a [usize],
+}
+
+/// 0 and the answer of frames; or the refusal's number, with its place in `answer[0]`.
+pub fn frames(lent: Lent, prices: &[u32], q: u64, scratch: &mut [u32], answer: &mut [u64; FRAMES_ANSWER]) -> u32 {
+    // As above.
+    unsafe {
+        c::diftanew_frames(
+            lent.files.as_ptr(),
+            lent.files.len(),
+            lent.file_lengths.as_ptr(),
+            lent.file_lengths.len(),
+            lent.stores.as_mut_ptr(),
+            lent.stores.len(),
+            lent.store_lengths.as_ptr(),
+            lent.store_lengths.len(),
+            lent.picks.as_ptr(),
+            lent.picks.len(),
+            lent.pick_lengths.as_ptr(),
+            lent.pick_lengths.len(),
+            prices.as_ptr(),
+            prices.len(),
+            q,
+            scratch.as_mut_ptr(),
+            scratch.len(),
             answer.as_mut_ptr(),
         )
     }

@@ -1,11 +1,15 @@
 //! differential [COUNT [SEED [FIRST]]]: compares the library with the oracle on COUNT generated files, from
 //! file number FIRST on.
+//! differential frames [COUNT [SEED]]: the same for the call of several scripts, if the feature `frames` is on.
 //! differential reach [COUNT [SEED]]: searches the picks that bring loops to the turns of their report.
 //! differential vectors FOLDER: compares oracle and library with the stored answers in the folders of a folder.
 //! The first difference is printed with its file, and the exit code is 1.
 
+#[cfg(feature = "frames")]
+mod frames;
 mod reach;
 mod stack;
+#[cfg_attr(not(feature = "frames"), allow(dead_code))]
 mod vectors;
 
 use diftanew::numbers::{self, ANSWER};
@@ -79,6 +83,16 @@ fn word(ending: Ending) -> u64 {
         Ending::Range => 2,
         Ending::NoPick => 3,
     }
+}
+
+/// The oracle's answer as the library's numbers.
+fn answer_of(run: &Run) -> [u64; ANSWER] {
+    let mut numbers = [0; ANSWER];
+    numbers[..5].copy_from_slice(&[word(run.ending), run.row as u64, run.ticks, run.used as u64, run.loops.len() as u64]);
+    for (k, &(row, all, most)) in run.loops.iter().enumerate() {
+        numbers[5 + 3 * k..8 + 3 * k].copy_from_slice(&[row as u64, all, most]);
+    }
+    numbers
 }
 
 /// The oracle's answer in the crate's types.
@@ -206,16 +220,7 @@ impl Checker {
             Ok(run) => {
                 self.tally.endings[word(run.ending) as usize] += 1;
                 self.tally.ticks += run.ticks;
-                numbers[..5].copy_from_slice(&[
-                    word(run.ending),
-                    run.row as u64,
-                    run.ticks,
-                    run.used as u64,
-                    run.loops.len() as u64,
-                ]);
-                for (k, &(row, all, most)) in run.loops.iter().enumerate() {
-                    numbers[5 + 3 * k..8 + 3 * k].copy_from_slice(&[row as u64, all, most]);
-                }
+                numbers = answer_of(run);
                 self.same(call, "number", 0, number);
                 self.same(call, "store", &run.store[..], lent_store.lent());
                 self.same(call, "typed answer", typed(run), diftanew::Run::of((&*answer.lent()).try_into().unwrap()));
@@ -393,6 +398,8 @@ fn stored(checker: &mut Checker, folder: &Path) -> Result<(), String> {
         return Err(format!("{} has no vectors", folder.display()));
     }
     println!("vectors: {} files, {} report calls, {} run calls, no difference", files.len(), t.reports, t.runs);
+    #[cfg(feature = "frames")]
+    frames::FramesChecker::new().stored(checker, &folder.join("14"))?;
     Ok(())
 }
 
@@ -418,11 +425,15 @@ fn main() {
     let number = |at: usize, default: u64| {
         arguments.get(at).map_or(default, |word| {
             word.parse().unwrap_or_else(|_| {
-                println!("use: differential [COUNT [SEED [FIRST]]], differential reach [COUNT [SEED]], or differential vectors FOLDER");
+                println!("use: differential [COUNT [SEED [FIRST]]], differential frames|reach [COUNT [SEED]], or differential vectors FOLDER");
                 exit(2)
             })
         })
     };
+    #[cfg(feature = "frames")]
+    if arguments.first().is_some_and(|word| word == "frames") {
+        return frames::FramesChecker::new().generated(&mut checker, number(1, 2_000), number(2, SEED));
+    }
     if arguments.first().is_some_and(|word| word == "reach") {
         return reach::generated(&mut checker, number(1, 5_000), number(2, SEED));
     }

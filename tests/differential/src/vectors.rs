@@ -1,6 +1,8 @@
 //! Stored calls and their answers: NAME.eff is a script file, NAME.out has its calls. A call is a line `> report PRICES`
-//! or `> run PRICES STORE PICKS ALLOWANCE`, and below it stands what it answers.
+//! or `> run PRICES STORE PICKS ALLOWANCE`, and below it stands what it answers. In calls.out a call is a line
+//! `> frames Q PRICES N FILE STORE PICKS ..`, and below it each script's run with `frame=N`, and `most=N`.
 
+use oracle::frames::{Framed, Frames};
 use oracle::{Ending, Entry, Refusal, Run};
 use std::path::{Path, PathBuf};
 
@@ -99,8 +101,51 @@ fn call(head: &str, answer: &[&str]) -> Option<Call> {
     Some(Call { prices: list(prices)?, kind })
 }
 
+/// A call of several scripts.
+pub struct FramesCall {
+    pub q: u64,
+    pub prices: Vec<u32>,
+    /// The file's name, store and picks of each.
+    pub scripts: Vec<(String, Vec<i32>, Vec<u8>)>,
+    pub answer: Result<Frames, Refusal>,
+}
+
+fn frames(mut answer: &[&str]) -> Option<Frames> {
+    let mut scripts = Vec::new();
+    while let Some(end) = answer.iter().position(|line| line.starts_with("frame=")) {
+        let frame = answer[end].strip_prefix("frame=")?.parse().ok()?;
+        scripts.push(Framed { frame, run: run(&answer[..end])? });
+        answer = &answer[end + 1..];
+    }
+    let [most] = answer else { return None };
+    Some(Frames { scripts, most: most.strip_prefix("most=")?.parse().ok()? })
+}
+
+fn frames_call(head: &str, answer: &[&str]) -> Option<FramesCall> {
+    let words: Vec<&str> = head.split(' ').collect();
+    let ["frames", q, prices, count, scripts @ ..] = &words[..] else { return None };
+    if scripts.len() != 3 * count.parse::<usize>().ok()? {
+        return None;
+    }
+    let script = |words: &[&str]| Some((words[0].to_string(), list(words[1])?, bytes(words[2])?));
+    let answer = match refusal(answer) {
+        Some(refusal) => Err(refusal),
+        None => Ok(frames(answer)?),
+    };
+    Some(FramesCall { q: q.parse().ok()?, prices: list(prices)?, scripts: scripts.chunks(3).map(script).collect::<Option<_>>()?, answer })
+}
+
+/// The calls of a calls.out, or the line of a call that cannot be read.
+pub fn frames_calls(text: &str) -> Result<Vec<FramesCall>, String> {
+    read(text, frames_call)
+}
+
 /// The calls of a .out file, or the line of a call that cannot be read.
 pub fn calls(text: &str) -> Result<Vec<Call>, String> {
+    read(text, call)
+}
+
+fn read<C>(text: &str, call: impl Fn(&str, &[&str]) -> Option<C>) -> Result<Vec<C>, String> {
     let lines: Vec<&str> = text.lines().collect();
     let heads: Vec<usize> = (0..lines.len()).filter(|&at| lines[at].starts_with("> ")).collect();
     if heads.first() != Some(&0) {

@@ -5,6 +5,7 @@ mod closing;
 mod copied;
 mod damage;
 mod expressions;
+mod frames;
 mod held;
 mod levels;
 mod reach;
@@ -13,6 +14,7 @@ mod script;
 mod spread;
 mod triangles;
 
+pub use frames::{frames_case, FramesCase};
 pub use rng::Rng;
 pub use spread::Spread;
 

@@ -1,6 +1,6 @@
 //! What the generator and the script files promise.
 
-use generate::{reach_case, Spread, SEED};
+use generate::{frames_case, reach_case, Spread, SEED};
 use std::ffi::OsStr;
 use std::os::unix::ffi::OsStrExt;
 use std::path::Path;
@@ -280,6 +280,48 @@ fn seasons_have_their_answers() {
         assert!(inputs.len() >= least);
         inputs.iter().for_each(|file| check(file, &file.with_extension("out"), &folder));
     }
+}
+
+/// The calls of several scripts.
+#[test]
+fn frames_calls_of_every_kind() {
+    let (mut accepted, mut refused, mut scripts, mut by_20, mut waits, mut over) = (0, [0; 21], [0; 9], [0; 5], 0, 0);
+    let mut frames = [0; 3];
+    for index in 0..1_500 {
+        let case = frames_case(SEED, index);
+        let answer = oracle::frames::frames(case.lent(), &case.prices, case.q, case.scratch);
+        match answer {
+            Ok(answer) => {
+                accepted += 1;
+                scripts[answer.scripts.len()] += 1;
+                waits += case.prices.iter().any(|price| *price as u64 > case.q) as u64;
+                over += (answer.most > case.q * answer.scripts.len() as u64) as u64;
+                let last = answer.scripts.iter().map(|script| script.frame).max().unwrap();
+                frames[if last == 1 { 0 } else if last < 1_000 { 1 } else { 2 }] += 1;
+            }
+            Err((20, _)) => {
+                refused[20] += 1;
+                let count = case.file_lengths.len();
+                let wraps = |lengths: &[usize]| lengths.iter().try_fold(0usize, |sum, length| sum.checked_add(*length)).is_none();
+                let kinds = [
+                    count == 0,
+                    count > 8,
+                    !(1..=1_000_000).contains(&case.q),
+                    case.store_lengths.len() != count || case.pick_lengths.len() != count,
+                    [&case.file_lengths, &case.store_lengths, &case.pick_lengths].iter().any(|lengths| wraps(lengths)),
+                ];
+                kinds.iter().zip(&mut by_20).for_each(|(kind, count)| *count += *kind as u64);
+            }
+            Err((number, _)) => refused[number as usize] += 1,
+        }
+    }
+    assert!(accepted >= 1_050, "{accepted}");
+    assert!(scripts[1..].iter().all(|count| *count >= 50), "{scripts:?}");
+    assert!(refused[20] >= 75 && refused[15] >= 20 && refused[3] >= 10 && refused[1] >= 5 && refused[16] >= 5, "{refused:?}");
+    assert!(refused[2..=13].iter().sum::<u64>() >= 40, "{refused:?}");
+    assert!(by_20.iter().all(|count| *count >= 5), "{by_20:?}");
+    assert!(waits >= 300 && over >= 150, "{waits} {over}");
+    assert!(frames.iter().all(|count| *count >= 100), "{frames:?}");
 }
 
 /// The files for change 11.

@@ -5,6 +5,7 @@
 pub mod analyse;
 pub mod desk;
 pub mod expression;
+pub mod frames;
 pub mod prices;
 pub mod reach;
 pub mod read;
@@ -91,23 +92,29 @@ pub struct Run {
     pub loops: Vec<(usize, u64, u64)>,
 }
 
-/// The run of a file that has its plan.
-pub fn run_planned(plan: &Plan, store: &[i32], picks: &[u8], allowance: u64) -> Result<Run, Refusal> {
-    run::check_store(&plan.script, store)?;
+/// The run of a planned file from a store inside its ranges, whose entries and ticks a listener is told; the list of entries is empty.
+fn run_told<E: run::Listener>(plan: &Plan, store: &[i32], picks: &[u8], allowance: u64, listener: &mut E) -> Run {
     let mut values = [0; 16];
     values[..store.len()].copy_from_slice(store);
-    let mut list = run::List::default();
-    let counts = run::run(&plan.script, &plan.prices, &mut values, picks, allowance, &mut list);
+    let counts = run::run(&plan.script, &plan.prices, &mut values, picks, allowance, listener);
     let heads = plan.lines.iter().map(|line| line.row);
-    Ok(Run {
+    Run {
         ending: counts.ending,
         row: counts.row,
         ticks: counts.ticks,
         used: counts.used,
         store: values[..store.len()].to_vec(),
-        entries: list.entries,
+        entries: Vec::new(),
         loops: heads.enumerate().map(|(k, row)| (row, counts.all[k], counts.most[k])).collect(),
-    })
+    }
+}
+
+/// The run of a file that has its plan.
+pub fn run_planned(plan: &Plan, store: &[i32], picks: &[u8], allowance: u64) -> Result<Run, Refusal> {
+    run::check_store(&plan.script, store)?;
+    let mut list = run::List::default();
+    let run = run_told(plan, store, picks, allowance, &mut list);
+    Ok(Run { entries: list.entries, ..run })
 }
 
 /// The run call.

@@ -1,5 +1,6 @@
 //! oracle report < FILE
 //! oracle rehearse [prices=A,C,P,T] FILE ALLOWANCE PICKS [VALUE ..]
+//! oracle frames [prices=A,C,P,T] Q FILE PICKS VALUES ..
 //! oracle season < NAMES
 
 use oracle::{desk, plan, report_text, sheet, ONES, SCRATCH};
@@ -13,9 +14,12 @@ fn main() -> ExitCode {
     let words: Vec<&str> = arguments.iter().map(String::as_str).collect();
     let answer = match words[..] {
         ["report"] => input().map(|file| plan(&file, &ONES, SCRATCH).map_or_else(desk::refused, |plan| report_text(&plan))),
+        ["frames", ref words @ ..] => desk::frames(words, |name| std::fs::read(name).ok()),
         ["season"] => input().map(|names| sheet::season(&names, |name| std::fs::read(OsStr::from_bytes(name)).ok())),
         ["rehearse", ref words @ ..] if words.len() > 2 => desk::rehearse(words, |name| std::fs::read(name).ok()),
-        _ => Err("use: oracle report < FILE | oracle rehearse [prices=A,C,P,T] FILE ALLOWANCE PICKS [VALUE ..] | oracle season < NAMES".into()),
+        _ => Err("use: oracle report < FILE | oracle rehearse [prices=A,C,P,T] FILE ALLOWANCE PICKS [VALUE ..] | \
+             oracle frames [prices=A,C,P,T] Q FILE PICKS VALUES .. | oracle season < NAMES"
+            .into()),
     };
     let (text, code) = match answer {
         Ok(text) => (text, ExitCode::SUCCESS),

@@ -33,11 +33,14 @@ pub struct Counts {
     pub most: [u64; 16],
 }
 
-/// Who is told of the entries.
+/// Who is told of the entries and of the ticks.
 pub trait Listener {
     fn enter(&mut self, l: &Loop, row: usize);
     fn turn(&mut self, l: &Loop);
     fn leave(&mut self, l: &Loop);
+    /// A price is taken; all ticks so far.
+    #[inline]
+    fn tick(&mut self, _: u64) {}
 }
 
 /// Nobody.
@@ -130,6 +133,7 @@ pub fn run<E: Listener, P: Picks>(
                 end!(Ending::Spent, $row);
             }
             ticks += prices.$price;
+            listener.tick(ticks);
         };
     }
     macro_rules! turn {

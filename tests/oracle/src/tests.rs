@@ -1,5 +1,6 @@
 use crate::*;
 
+mod frames;
 mod held;
 mod reach;
 mod sheet;

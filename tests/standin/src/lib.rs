@@ -2,13 +2,14 @@
 //! N-th of the mistakes below, so that the harness can be seen to find them.
 
 mod expressions;
+mod frames;
 mod held;
 mod triangles;
 
 use expressions::*;
 use triangles::{figures, Rules, RIGHT};
 use oracle::analyse::{analyse, analyse_by, copied, own_step, Term};
-use oracle::{read, report_into, report_text, run_counts, Counted, Ending, Plan, Refusal, Row, Step, ONES};
+use oracle::{read, report_into, report_text, run_counts, Counted, Ending, Plan, Refusal, Row, Run, Step, ONES};
 use std::borrow::Cow;
 use std::slice;
 use std::sync::OnceLock;
@@ -217,6 +218,25 @@ fn outermost(file: &[u8], row: u64) -> u64 {
     ends.find(|end| *end >= row).unwrap_or(row)
 }
 
+fn word(ending: Ending) -> u64 {
+    match ending {
+        Ending::Ended => 0,
+        Ending::Spent => 1,
+        Ending::Range => 2,
+        Ending::NoPick => 3,
+    }
+}
+
+/// The numbers of a run's answer.
+fn answer_of(run: &Run) -> [u64; 53] {
+    let mut answer = [0; 53];
+    answer[..5].copy_from_slice(&[word(run.ending), run.row as u64, run.ticks, run.used as u64, run.loops.len() as u64]);
+    for ((row, all, most), numbers) in run.loops.iter().zip(answer[5..].chunks_mut(3)) {
+        numbers.copy_from_slice(&[*row as u64, *all, *most]);
+    }
+    answer
+}
+
 /// # Safety
 /// As the C interface says: every pointer is good for its length.
 #[no_mangle]
@@ -330,12 +350,7 @@ pub unsafe extern "C" fn diftanew_run(
                     counts = held::run_without_offs(&plan, store, picks, allowance);
                 }
             }
-            answer[0] = match counts.ending {
-                Ending::Ended => 0,
-                Ending::Spent => 1,
-                Ending::Range => 2,
-                Ending::NoPick => 3,
-            };
+            answer[0] = word(counts.ending);
             answer[1] = counts.row as u64;
             answer[2] = counts.ticks;
             answer[3] = counts.used as u64;

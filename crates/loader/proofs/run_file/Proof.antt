@@ -1,7 +1,8 @@
 -- `loader::run_file` meets its contract. Assumes nothing.
 use denote.Ref.{now}
 use borrow.Author.Needs.{needs}
-use Rattle.loader.proofs.Laws.{file-refused, file-read, file-given, ran-no, ran-same}
+use Rattle.cast.proofs.Loaded.{file-refused, file-read, file-given}
+use Rattle.loader.proofs.Laws.{ran-no, ran-same}
 use Rattle.loader.proofs.run_file.Statement.{statement}
 use Rattle.loader.proofs.run_file.Tie as tie
 

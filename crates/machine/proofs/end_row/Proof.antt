@@ -1,12 +1,11 @@
 -- `machine::end_row` meets its contract. Assumes nothing.
-use mathlib.Core.Path.{_≡_, refl, sym, _∙_, subst}
+use mathlib.Core.Path.{_≡_, refl, sym, _∙_, ap, subst}
 use mathlib.Core.Bool.{true, false}
 use Rattle.rules.specs.declared.Kind.{Kind}
 use Rattle.rules.specs.Blocks.{test, viewOf, kindOf}
 use Rattle.rules.specs.RowMachine.{onEnd}
-use Rattle.actions.specs.States.{Doable, phaseOf, endTo}
-use Rattle.actions.proofs.Laws.{then-tests, no-tests}
-use Rattle.machine.proofs.Laws.{passed, by-flag, tests-while, tests-do, tests-for, tests-later}
+use Rattle.actions.specs.States.{Doable, phaseOf, endTo, endRest}
+use Rattle.machine.proofs.Laws.{passed, by-flag, in-phase, for-tests, for-stops, tests-while, tests-do, tests-for, tests-later}
 use denote.Ref.{now}
 use borrow.Author.Needs.{needs}
 use Rattle.machine.proofs.end_row.Statement.{statement}
@@ -65,7 +64,7 @@ unfolding viewOf kindOf onEnd
 returns-7 c =
     let s = c .before .before .before .before .before .before .before .before .args in (
       λ rows shut opener.
-          by-flag (s .m .testing) (λ z. endTo (s .prices) rows shut opener (viewOf (kindOf (now (s .text)) (s .head .kind))) (s .h) (s .m .row) (phaseOf z)) true (c .before .before .before .if1 .taken) (rw (c .before .before .before .before .before .kind .given .1) (c .test-row .ensures .0)),
+          by-flag (s .m .testing) (λ z. endTo (s .prices) rows shut opener (viewOf (kindOf (now (s .text)) (s .head .kind))) (s .h) (s .m .row) (phaseOf z)) (λ z. endRest (s .prices) rows shut opener (viewOf (kindOf (now (s .text)) (s .head .kind))) (s .h) (s .m .row) (phaseOf z)) true (c .before .before .before .if1 .taken) (rw (c .before .before .before .before .before .kind .given .1) (in-phase (λ u. ap phaseOf (c .before .before .before .if1 .taken)) (c .test-row .ensures .0))),
       search needs,
     )
 
@@ -74,8 +73,8 @@ unfolding viewOf kindOf onEnd
 returns-8 c =
     let s = c .before .before .before .before .before .before .before .before .before .before .before .before .before .args in (
       λ rows shut opener.
-          by-flag (s .m .testing) (λ z. endTo (s .prices) rows shut opener (viewOf (kindOf (now (s .text)) (s .head .kind))) (s .h) (s .m .row) (phaseOf z)) false (c .before .before .before .before .before .before .before .before .if1 .left)
-          (rw (c .before .before .before .before .before .before .before .before .before .before .kind .given .1) (then-tests (s .prices) (s .h) (s .m .row) (test _ _ _) _ (c .before .before .before .before .before .before .move-row .ensures _) (sym (c .before .before .before .before .waits .ensures) ∙ c .before .before .before .if2 .taken) (c .test-row2 .ensures .0))),
+          by-flag (s .m .testing) (λ z. endTo (s .prices) rows shut opener (viewOf (kindOf (now (s .text)) (s .head .kind))) (s .h) (s .m .row) (phaseOf z)) (λ z. endRest (s .prices) rows shut opener (viewOf (kindOf (now (s .text)) (s .head .kind))) (s .h) (s .m .row) (phaseOf z)) false (c .before .before .before .before .before .before .before .before .if1 .left)
+          (rw (c .before .before .before .before .before .before .before .before .before .before .kind .given .1) (for-tests (s .prices) (s .h) (s .m .row) (test _ _ _) (s .h) _ (λ k. k) (c .before .before .before .before .before .before .before .before .if1 .left) (c .before .before .before .before .before .before .move-row .ensures _) (sym (c .before .before .before .before .waits .ensures) ∙ c .before .before .before .if2 .taken) (c .test-row2 .ensures .0))),
       search needs,
     )
 
@@ -84,8 +83,8 @@ unfolding viewOf kindOf onEnd
 returns-9 c =
     let s = c .before .before .before .before .before .before .before .before .before .before .args in (
       λ rows shut opener.
-          by-flag (s .m .testing) (λ z. endTo (s .prices) rows shut opener (viewOf (kindOf (now (s .text)) (s .head .kind))) (s .h) (s .m .row) (phaseOf z)) false (c .before .before .before .before .before .if1 .left)
-          (rw (c .before .before .before .before .before .before .before .kind .given .1) (no-tests (s .prices) (s .h) (s .m .row) (test _ _ _) _ (c .before .before .before .move-row .ensures _) (sym (c .before .waits .ensures) ∙ c .if2 .left))),
+          by-flag (s .m .testing) (λ z. endTo (s .prices) rows shut opener (viewOf (kindOf (now (s .text)) (s .head .kind))) (s .h) (s .m .row) (phaseOf z)) (λ z. endRest (s .prices) rows shut opener (viewOf (kindOf (now (s .text)) (s .head .kind))) (s .h) (s .m .row) (phaseOf z)) false (c .before .before .before .before .before .if1 .left)
+          (rw (c .before .before .before .before .before .before .before .kind .given .1) (for-stops (s .prices) (s .h) (s .m .row) (test _ _ _) (s .h) _ (λ k. k) (c .before .before .before .before .before .if1 .left) (c .before .before .before .move-row .ensures _) (sym (c .before .waits .ensures) ∙ c .if2 .left))),
       search needs,
     )
 

@@ -1,11 +1,10 @@
 -- `machine::for_row` meets its contract. Assumes nothing.
-use mathlib.Core.Path.{sym, _∙_}
+use mathlib.Core.Path.{sym, _∙_, ap}
 use mathlib.Core.Bool.{true, false}
 use Rattle.rules.specs.Blocks.{from, assign, test, exprOf}
 use Rattle.rules.specs.RowMachine.{begin}
-use Rattle.actions.specs.States.{plainTo, forTo}
-use Rattle.actions.proofs.Laws.{then-tests, no-tests}
-use Rattle.machine.proofs.Laws.{after, by-flag, tests-later}
+use Rattle.actions.specs.States.{phaseOf, plainTo, forTo, forRest}
+use Rattle.machine.proofs.Laws.{after, by-flag, in-phase, for-tests, for-stops, tests-later}
 use denote.Ref.{now}
 use borrow.Author.Needs.{needs}
 use Rattle.machine.proofs.for_row.Statement.{statement}
@@ -17,13 +16,13 @@ test-row-requires-2 c κs = tests-later (search needs) (c .before .before .befor
 returns : tie.Need-returns
 returns c =
     let a = c .before .before .before .before .before .args in
-    (by-flag (a .m .testing) (forTo (a .prices) (a .m .row) (a .e) (a .v) (exprOf (now (a .text)) (a .y)) (a .c) (exprOf (now (a .text)) (a .x))) true (c .before .before .before .if1 .taken) (c .test-row .ensures .0), search needs)
+    (by-flag (a .m .testing) (forTo (a .prices) (a .m .row) (a .e) (a .v) (exprOf (now (a .text)) (a .y)) (a .c) (exprOf (now (a .text)) (a .x))) (forRest (a .prices) (a .m .row) (a .v) (exprOf (now (a .text)) (a .y))) true (c .before .before .before .if1 .taken) (in-phase (λ u. ap phaseOf (c .before .before .before .if1 .taken)) (c .test-row .ensures .0)), search needs)
 
 returns-2 : tie.Need-returns-2
 returns-2 c =
     let a = c .before .before .before .before .before .before .before .before .before .before .before .before .args in (
-      by-flag (a .m .testing) (forTo (a .prices) (a .m .row) (a .e) (a .v) (exprOf (now (a .text)) (a .y)) (a .c) (exprOf (now (a .text)) (a .x))) false (c .before .before .before .before .before .before .before .before .before .before .if1 .left)
-          (then-tests (a .prices) (a .m .row) (a .e) (test (a .v) (a .c) (exprOf (now (a .text)) (a .x))) _ (after (plainTo (a .prices) (a .m .row) (assign (a .v) (from (exprOf (now (a .text)) (a .y)))) (a .m .row) true) (begin (a .m .row)) (c .before .before .before .before .before .before .before .before .begin .ensures .same) (c .before .before .before .before .before .before .set-row .ensures _))
+      by-flag (a .m .testing) (forTo (a .prices) (a .m .row) (a .e) (a .v) (exprOf (now (a .text)) (a .y)) (a .c) (exprOf (now (a .text)) (a .x))) (forRest (a .prices) (a .m .row) (a .v) (exprOf (now (a .text)) (a .y))) false (c .before .before .before .before .before .before .before .before .before .before .if1 .left)
+          (for-tests (a .prices) (a .m .row) (a .e) (test (a .v) (a .c) (exprOf (now (a .text)) (a .x))) (a .m .row) (assign (a .v) (from (exprOf (now (a .text)) (a .y)))) (begin (a .m .row)) (c .before .before .before .before .before .before .before .before .before .before .if1 .left) (after (plainTo (a .prices) (a .m .row) (assign (a .v) (from (exprOf (now (a .text)) (a .y)))) (a .m .row) true) (begin (a .m .row)) (c .before .before .before .before .before .before .before .before .begin .ensures .same) (c .before .before .before .before .before .before .set-row .ensures _))
           (sym (c .before .before .before .before .waits .ensures) ∙ c .before .before .before .if2 .taken) (c .test-row2 .ensures .0)),
       search needs,
     )
@@ -31,8 +30,9 @@ returns-2 c =
 returns-3 : tie.Need-returns-3
 returns-3 c =
     let a = c .before .before .before .before .before .before .before .before .before .args in (
-      by-flag (a .m .testing) (forTo (a .prices) (a .m .row) (a .e) (a .v) (exprOf (now (a .text)) (a .y)) (a .c) (exprOf (now (a .text)) (a .x))) false (c .before .before .before .before .before .before .before .if1 .left)
-          (no-tests (a .prices) (a .m .row) (a .e) (test (a .v) (a .c) (exprOf (now (a .text)) (a .x))) _ (after (plainTo (a .prices) (a .m .row) (assign (a .v) (from (exprOf (now (a .text)) (a .y)))) (a .m .row) true) (begin (a .m .row)) (c .before .before .before .before .before .begin .ensures .same) (c .before .before .before .set-row .ensures _)) (sym (c .before .waits .ensures) ∙ c .if2 .left)),
+      by-flag (a .m .testing) (forTo (a .prices) (a .m .row) (a .e) (a .v) (exprOf (now (a .text)) (a .y)) (a .c) (exprOf (now (a .text)) (a .x))) (forRest (a .prices) (a .m .row) (a .v) (exprOf (now (a .text)) (a .y))) false (c .before .before .before .before .before .before .before .if1 .left)
+          (for-stops (a .prices) (a .m .row) (a .e) (test (a .v) (a .c) (exprOf (now (a .text)) (a .x))) (a .m .row) (assign (a .v) (from (exprOf (now (a .text)) (a .y)))) (begin (a .m .row)) (c .before .before .before .before .before .before .before .if1 .left) (after (plainTo (a .prices) (a .m .row) (assign (a .v) (from (exprOf (now (a .text)) (a .y)))) (a .m .row) true) (begin (a .m .row)) (c .before .before .before .before .before .begin .ensures .same) (c .before .before .before .set-row .ensures _))
+          (sym (c .before .waits .ensures) ∙ c .if2 .left)),
       search needs,
     )
 

@@ -4,7 +4,8 @@ use native.Mathlib.Omega.{arith}
 use denote.Ref.{now}
 use borrow.Author.Needs.{needs}
 use Rattle.rules.specs.Calls.{fourOnes}
-use Rattle.loader.proofs.Laws.{lent-yes, file-refused, file-given}
+use Rattle.cast.proofs.Loaded.{file-refused, file-given}
+use Rattle.loader.proofs.Laws.{lent-yes}
 use Rattle.repertoire.proofs.Laws.{ones-priced, rows-few, found-read, found-no}
 use Rattle.repertoire.proofs.measure.Statement.{statement}
 use Rattle.repertoire.proofs.measure.Tie as tie

@@ -101,7 +101,7 @@ returns c =
     let s = c .before .before .before .before .before in
     let a = s .args in
     let l = c .before .before .loop in
-    runs-over (a .prices) (a .t2) (a .count) (a .t4) (a .picks .now) (a .from) (a .store .now) (a .counts .now) (full-rows s) (s .pre) (l .m) (l .store) (l .counts) (l .inv) (sym (c .before .going .ensures) ∙ c .if1 .left)
+    (runs-over (a .prices) (a .t2) (a .count) (a .t4) (a .picks .now) (a .from) (a .store .now) (a .counts .now) (full-rows s) (s .pre) (l .m) (l .store) (l .counts) (l .inv) (sym (c .before .going .ensures) ∙ c .if1 .left), l .inv .lengths .1)
 
 pub resume-spec : {M : Type 1} → statement M
 resume-spec =

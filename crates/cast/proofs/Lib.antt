@@ -1,0 +1,4 @@
+-- Laws of the cast.
+pub mod Loaded
+pub mod Casting
+pub mod Entering

@@ -1,0 +1,2 @@
+-- Scripts as they are held for the frames.
+pub mod Held

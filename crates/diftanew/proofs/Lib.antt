@@ -1,0 +1,2 @@
+-- How the numbers lie.
+pub mod Laid

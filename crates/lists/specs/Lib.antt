@@ -1,0 +1,2 @@
+-- What is lent, in parts.
+pub mod Parts

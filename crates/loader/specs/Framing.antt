@@ -1,0 +1,49 @@
+-- What the call of frames promises.
+use mathlib.Core.Path.{_≡_}
+use mathlib.Core.List.{List}
+use Prim.Native.Nat.{ℕ, _≤_, _<_}
+use lib.IntN.{ℤ}
+use lib.ListN.{length, getD}
+use Rattle.rules.specs.declared.Verdict.{Verdict}
+use Rattle.rules.specs.declared.Verdict.the-variants.{Passed, Refused}
+use Rattle.rules.specs.declared.Prices.{Prices}
+use Rattle.rules.specs.Scripts.{Script, reportTicks}
+use Rattle.rules.specs.Calls.{pricesOf}
+use Rattle.rules.specs.Frames.{Player, due, Lent, Part, partsOf, FramesReply, played, refuses, framesReply}
+use Rattle.rules.specs.InTime.{alone, Accepts}
+use Rattle.lists.specs.Parts.{partOf}
+use Rattle.cast.specs.Held.{noPart, noPlayer}
+use Rattle.stage.specs.declared.Played.{Played}
+use Rattle.stage.specs.declared.Frames.{Frames}
+use Rattle.stage.specs.Answers.{noAnswer, ToldPlayed, Framed}
+use Rattle.loader.specs.Kept.{verdictNumber}
+
+-- its answer by document 02's numbers: 0, or a refusal's number; the most ticks in one frame, or a refusal's place
+abbrev pub framesNumber : FramesReply → ℕ
+framesNumber (played rs m) = 0
+framesNumber (refuses q p) = q
+
+abbrev pub mostBy : Verdict → ℕ → ℕ
+mostBy Passed m = m
+mostBy (Refused q p) m = p
+
+abbrev pub framesFirst : FramesReply → ℕ
+framesFirst (played rs m) = m
+framesFirst (refuses q p) = p
+
+-- a script's answer, and its store after the call: it is finished by frame ceil(T/q), or the first if T is 0, "and its ending, store, ticks and turns equal those of running alone with allowance T"
+pub record OnTime (π : Prices) (q : ℕ) (script : Script) (h : Part) (x : Played) (store : List ℤ) : Type 0 where
+  pub frame : (1 ≤ x .frame) × (x .frame ≤ due q (reportTicks π script))
+  pub same : ToldPlayed x (alone π script (h .store) (h .picks) (reportTicks π script) (x .frame))
+  pub kept : store ≡ alone π script (h .store) (h .picks) (reportTicks π script) (x .frame) .store
+
+-- the call: its answer, also by its numbers, and the stores are document 02's; and if it is accepted, each script's own answer is in time
+pub record FramedCall (prices : List ℕ) (scratch : ℕ) (l : Lent) (q : ℕ) (new : List ℤ) (f : Frames) : Type 0 where
+  pub answer : Framed (framesReply prices scratch l q) (l .stores) new f
+  pub number : verdictNumber (f .verdict) ≡ framesNumber (framesReply prices scratch l q)
+  pub first : mostBy (f .verdict) (f .most) ≡ framesFirst (framesReply prices scratch l q)
+  pub in-time : f .verdict ≡ Passed
+      → (ps : List Player)
+      × Accepts prices scratch (partsOf l) ps
+      × ((j : ℕ) → j < length (l .fileLengths)
+      → OnTime (pricesOf prices) q (getD ps j noPlayer .script) (getD (partsOf l) j noPart) (getD (f .scripts) j noAnswer) (partOf (l .storeLengths) j new))
