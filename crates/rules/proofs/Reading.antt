@@ -24,7 +24,6 @@ use Rattle.rules.specs.Text.{lf, split, wordsOf, nextTexts, nextWords, n
 use Rattle.rules.specs.Parse.{Parsed, parsed, shapeless, parse, exprIn}
 use Rattle.rules.specs.File
 use Rattle.rules.specs.File.{RowRead, Read, Wrong}
-use Rattle.rules.specs.File
 
 -- a number is not 0 and a question too
 no-zero : {A : Type 0} (q : ℕ) → suc q ≡ 0 → A
