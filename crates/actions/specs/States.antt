@@ -10,7 +10,7 @@ use Rattle.rules.specs.declared.Operand.{Operand}
 use Rattle.rules.specs.declared.Comparison.{Comparison}
 use Rattle.rules.specs.declared.Ending.{Ending}
 use Rattle.rules.specs.declared.Ending.the-variants.{Spent}
-use Rattle.rules.specs.Blocks.{exprOf, kindOf, RowKind, from, Plain, assign, Test, test, Form, while, do-while, hold, for, Last, no-step, step-by, View, is-plain, is-pick, is-else, is-end, is-loop, viewAt}
+use Rattle.rules.specs.Blocks.{exprOf, kindOf, RowKind, from, Plain, assign, Test, test, holdTest, Form, while, do-while, hold, for, Last, no-step, step-by, View, is-plain, is-pick, is-else, is-end, is-loop, viewAt}
 use Rattle.rules.specs.declared.Prices.{Prices}
 use Rattle.rules.specs.Run.{State, charge, write, exec}
 use Rattle.rules.specs.RowMachine.{Tally, tallyOf, begin, Phase, fresh, testing, Place, Next, more, over, to, outcome, paid, picked, tests, onEnd, onRow}
@@ -122,6 +122,42 @@ module _ (π : Prices) (rows : List RowKind) (shut opener : ℕ → ℕ) where
 abbrev pub restBy : Phase → Next → Phase
 restBy ph (more p) = p .phase
 restBy ph (over e i s c) = ph
+
+-- a loop's test
+abbrev pub testIn : View → Test
+testIn (is-plain p) = holdTest 0
+testIn is-pick = holdTest 0
+testIn is-else = holdTest 0
+testIn is-end = holdTest 0
+testIn (is-loop form t last) = t
+
+-- the head of a for
+abbrev pub hasStart : View → Bool
+hasStart (is-plain p) = false
+hasStart is-pick = false
+hasStart is-else = false
+hasStart is-end = false
+hasStart (is-loop while t last) = false
+hasStart (is-loop do-while t last) = false
+hasStart (is-loop hold t last) = false
+hasStart (is-loop (for x) t last) = true
+
+-- a loop with a step row
+abbrev pub hasStep : View → Bool
+hasStep (is-plain p) = false
+hasStep is-pick = false
+hasStep is-else = false
+hasStep is-end = false
+hasStep (is-loop form t no-step) = false
+hasStep (is-loop form t (step-by p)) = true
+
+-- a for's test can be to come at a row of this view, w the view of the row that its block begins with
+abbrev pub awaits : View → View → Bool
+awaits (is-plain p) w = false
+awaits is-pick w = false
+awaits is-else w = false
+awaits is-end w = hasStep w
+awaits (is-loop form t last) w = hasStart (is-loop form t last)
 
 -- by the rows of `rowTo`, `endTo` and `forTo`
 abbrev pub forRest : Prices → ℕ → ℕ → Expr → Bool → State → Tally → Phase

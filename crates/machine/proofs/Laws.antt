@@ -85,7 +85,7 @@ steps-row a e = record { same = a .same ∙ e _ _ .0; left = a .left; used = a .
 
 module _ (π : Prices) (rows : List RowKind) (shut opener : ℕ → ℕ) (i e h : ℕ) (w : View) (fit : Fitting rows shut opener i e h w) (s : State) (c : Tally) where
   -- row i, by its view
-  abbrev At : Next → Phase → View → Bool → Type 0
+  abbrev pub At : Next → Phase → View → Bool → Type 0
   At n ph v b = (n ≡ rowTo π rows shut opener v i (phaseOf b) s c) × (ph ≡ rowRest π rows shut opener v i (phaseOf b) s c)
 
   pub at-end : (b : Bool) → At (endTo π rows shut opener w h i (phaseOf b) s c) (endRest π rows shut opener w h i (phaseOf b) s c) is-end b

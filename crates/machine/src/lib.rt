@@ -6,6 +6,7 @@ use rules::Operand;
 use rules::Prices;
 use rules::Row;
 ghost use mathlib.Core.Path.{_≡_};
+ghost use mathlib.Core.Bool.{true, false};
 ghost use mathlib.Core.List.{List};
 ghost use Prim.Native.Nat.{ℕ, _<_};
 ghost use lib.ListN.{length};
@@ -13,7 +14,7 @@ ghost use Rattle.rules.specs.Scripts.{ExprBelow};
 ghost use Rattle.rules.specs.Blocks.{RowKind, holdTest, viewOf, exprOf, kindOf};
 ghost use Rattle.rules.specs.Written.{WrittenOperand};
 ghost use Rattle.rules.specs.RowMachine.{tallyOf, tests};
-ghost use Rattle.actions.specs.States.{endTo, forTo, rowTo, endRest, forRest, rowRest, phaseOf, Acts, ActsIn, StepsIn, Room, Testable, Doable, Fitting};
+ghost use Rattle.actions.specs.States.{endTo, forTo, rowTo, endRest, forRest, rowRest, testIn, hasStep, awaits, isGoing, phaseOf, Acts, ActsIn, StepsIn, Room, Testable, Doable, Fitting};
 
 // The test of a hold: is its flag not 0?
 fn flag_row(
@@ -154,5 +155,60 @@ pub fn step(
             actions::begin(i, counts);
             flag_row(m, prices, i, e, v, text, store, counts)
         }
+    }
+}
+
+// The test of the for at row h, whose `end` is row e.
+fn for_test(
+    m: Machine,
+    kind: Kind,
+    h: usize,
+    e: usize,
+    prices: Prices,
+    text: &[u8],
+    store: &[i32],
+    counts: &mut [[u64; 3]; 256],
+) -> Machine
+    requires { ⌜ Doable (now text) e h kind (now store) (now counts) × (hasStep (viewOf (kindOf (now text) kind)) ≡ true) ⌝ }
+    ensures { λ r. ⌜ Acts m r (now (store .entry)) (now (store .entry)) (tallyOf (now (counts .entry))) (tallyOf (now (counts .exit))) (tests prices h e (testIn (viewOf (kindOf (now (text .entry)) kind)))) × (length (now (counts .exit)) ≡ 256) × (isGoing (r .status) ≡ true → r .testing ≡ false) ⌝ }
+{
+    match kind {
+        Kind::For(v, _, c, x, _) => actions::test_row(
+            m,
+            prices,
+            h,
+            e,
+            v,
+            c,
+            x,
+            text,
+            store,
+            counts,
+        ),
+        _ => m,
+    }
+}
+
+// One row of a machine that waits for a for's test: that test, at the for's head or at its `end`. The rows are those of `step`.
+pub fn test_again(
+    m: Machine,
+    row: Row,
+    e: usize,
+    head: Row,
+    h: usize,
+    prices: Prices,
+    text: &[u8],
+    store: &[i32],
+    counts: &mut [[u64; 3]; 256],
+) -> Machine
+    requires { ⌜ Doable (now text) e (m .row) (row .kind) (now store) (now counts) × Doable (now text) (m .row) h (head .kind) (now store) (now counts) × (m .testing ≡ true) × (awaits (viewOf (kindOf (now text) (row .kind))) (viewOf (kindOf (now text) (head .kind))) ≡ true) ⌝ }
+    ensures { λ r. ⌜ (((rows : List RowKind) (shut opener : ℕ → ℕ) (picks : List ℕ) → Fitting rows shut opener (m .row) e h (viewOf (kindOf (now (text .entry)) (head .kind))) → StepsIn m r (now (store .entry)) (now (store .entry)) picks (tallyOf (now (counts .entry))) (tallyOf (now (counts .exit))) (rowTo prices rows shut opener (viewOf (kindOf (now (text .entry)) (row .kind))) (m .row) (phaseOf (m .testing))) (rowRest prices rows shut opener (viewOf (kindOf (now (text .entry)) (row .kind))) (m .row) (phaseOf (m .testing)))) × (length (now (counts .exit)) ≡ 256) × (isGoing (r .status) ≡ true → r .testing ≡ false)) ⌝ }
+{
+    let kind = row.kind;
+    let begins = head.kind;
+    let i = m.row;
+    match kind {
+        Kind::End => for_test(m, begins, h, i, prices, text, store, counts),
+        _ => for_test(m, kind, i, e, prices, text, store, counts),
     }
 }

@@ -1,3 +1,4 @@
 pub mod Loop
 pub mod Start
 pub mod Waiting
+pub mod Awaiting

@@ -2,7 +2,7 @@
 use mathlib.Core.Path.{_≡_, refl, sym, _∙_, ap, subst}
 use mathlib.Core.Bool.{Bool, true, false, cond}
 use mathlib.Core.List.{List, [], _∷_}
-use Prim.Native.Nat.{ℕ, zero, suc, _≤_, _<_}
+use Prim.Native.Nat.{ℕ, zero, suc, _+_, _≤_, _<_}
 use native.Mathlib.Omega.{arith}
 use lib.Dec.{T, eqb, eqb→eq}
 use lib.ListN.{length, getD, take}
@@ -28,7 +28,7 @@ use Rattle.actions.specs.declared.Machine.{Machine}
 use Rattle.actions.specs.declared.Status.{Status}
 use Rattle.actions.specs.declared.Status.the-variants.{Going, Over}
 use Rattle.actions.specs.States.{phaseOf, stateOf, placeOf, byStatus, nextOf, andTests, endTo, rowTo, restBy, endRest, rowRest, isGoing, overAt, Room, Doable, Fitting, StepsIn}
-use Rattle.runner.specs.Runs.{Roomy, roomy-over, roomy-more, Ready, Came, Finished}
+use Rattle.runner.specs.Runs.{Runnable, Roomy, roomy-over, roomy-more, Ready, Came, Finished}
 
 -- every element by its index
 pub all-index : {A : Type 0} {Q : A → Type 0} (l : List A) (i : ℕ) (d : A) → All Q l → i < length l → Q (getD l i d)
@@ -143,6 +143,14 @@ module _ (π : Prices) (rows : List RowKind) (shut opener : ℕ → ℕ) where
   step-more zero a m e = ap (steps π rows shut opener 1) e
   step-more (suc n) (more p) m e = step-more n (next π rows shut opener p) m e
   step-more (suc n) (over f i s c) m e = absurd (let z : _≡_ {A = ℕ} 0 1 = cc in omega arith)
+
+  -- the last steps from where the first lead
+  pub steps-then : (n k : ℕ) (a : Next) → steps π rows shut opener (n + k) a ≡ steps π rows shut opener k (steps π rows shut opener n a)
+  unfolding steps
+  steps-then zero k a = let e : 0 + k ≡ k = omega arith in ap (λ z. steps π rows shut opener z a) e
+  steps-then (suc n) k (more p) = let e : suc n + k ≡ suc (n + k) = omega arith in ap (λ z. steps π rows shut opener z (more p)) e ∙ steps-then n k (next π rows shut opener p)
+  steps-then (suc n) zero (over f i s c) = let e : suc n + 0 ≡ suc n = omega arith in ap (λ z. steps π rows shut opener z (over f i s c)) e
+  steps-then (suc n) (suc k) (over f i s c) = let e : suc n + suc k ≡ suc (n + suc k) = omega arith in ap (λ z. steps π rows shut opener z (over f i s c)) e
 
   -- a step of the code: one step, or two; the last one begins at the second place
   pub data Onto (m : Place) : Place → Next → Type 0 where
@@ -260,7 +268,7 @@ pub record Runs (text : List ℕ) (π : Prices) (rows : List Row) (count : ℕ) 
   pub used : m .used ≤ length picks
 
 -- a machine that is going
-going-is : (s : Status) → isGoing s ≡ true → s ≡ Going
+pub going-is : (s : Status) → isGoing s ≡ true → s ≡ Going
 going-is Going e = refl
 going-is (Over x i) e = absurd (let z : _≡_ {A = ℕ} 0 1 = cc in omega arith)
 
@@ -366,3 +374,31 @@ module _ {text : List ℕ} (π : Prices) (rows : List Row) (count : ℕ) (t : Ta
   pub runs-over : (m : Machine) (store : List ℤ) (counts : List (List ℕ)) → Runs text π rows count t picks m₀ store₀ counts₀ m store counts → isGoing (m .status) ≡ false
       → Finished π ks t m₀ m store₀ store picks (tallyOf counts₀) (tallyOf counts)
   runs-over m store counts now off = record { n = now .held .n; same = now .held .same; over = off; came = λ on. now .came on off; left = now .left; used = now .used }
+
+  -- it has come this far and is going: the loop may begin there, and what that ends in, the whole ends in
+  module _ (m : Machine) (store : List ℤ) (counts : List (List ℕ)) (now : Runs text π rows count t picks m₀ store₀ counts₀ m store counts) (on : isGoing (m .status) ≡ true) where
+    pub ready-on : Ready text π rows count t m store picks counts
+    ready-on = record {
+      size = ready .size;
+      price = ready .price;
+      written = ready .written;
+      runs = subst (λ n. Runnable n ks) (sym (now .lengths .0)) (ready .runs);
+      found = ready .found;
+      long = now .lengths .1;
+      room = now .held .room;
+      used = now .used;
+    }
+
+    pub finished-on : (r : Machine) (store′ : List ℤ) (c′ : Tally) → Finished π ks t m r store store′ picks (tallyOf counts) c′ → Finished π ks t m₀ r store₀ store′ picks (tallyOf counts₀) c′
+    finished-on r store′ c′ f =
+        let here : (k : ℕ) → steps π ks shut opener (now .held .n + k) (nextOf m₀ store₀ picks (tallyOf counts₀)) ≡ steps π ks shut opener k (nextOf m store picks (tallyOf counts))
+        = λ k. steps-then π ks shut opener (now .held .n) k (nextOf m₀ store₀ picks (tallyOf counts₀)) ∙ ap (steps π ks shut opener k) (now .held .same) in
+        let last = f .came on in
+        record {
+          n = now .held .n + f .n;
+          same = here (f .n) ∙ f .same;
+          over = f .over;
+          came = λ _. record { k = now .held .n + last .k; w = last .w; reached = here (last .k) ∙ last .reached; stepped = last .stepped; rests = last .rests };
+          left = omega (arith, f .left, now .left);
+          used = f .used;
+        }

@@ -2,7 +2,7 @@
 use mathlib.Core.Path.{_≡_, refl, sym, _∙_, ap, subst}
 use mathlib.Core.Bool.{Bool, true, false}
 use mathlib.Core.List.{List}
-use Prim.Native.Nat.{ℕ}
+use Prim.Native.Nat.{ℕ, _<_}
 use native.Mathlib.Omega.{arith}
 use lib.ListN.{length, take}
 use lib.IntN.{ℤ}
@@ -14,15 +14,17 @@ use Rattle.rules.specs.Blocks.{RowKind, kindsOf}
 use Rattle.rules.specs.RowMachine.{Tally, tallyOf, Place, Next, more, over, next, pairs}
 use Rattle.rules.specs.Frames.{stopped, runsOn, given}
 use Rattle.rules.proofs.Pause.{runs-on-is}
+use Rattle.rules.proofs.Laws.{kinds-first, kind-of}
 use Rattle.pairs.specs.declared.Tables.{Tables}
 use Rattle.pairs.specs.Tables.{tableOf}
 use Rattle.actions.specs.declared.Machine.{Machine}
 use Rattle.actions.specs.declared.Status.{Status}
 use Rattle.actions.specs.declared.Status.the-variants.{Going, Over}
-use Rattle.actions.specs.States.{phaseOf, stateOf, placeOf, byStatus, nextOf, isGoing}
+use Rattle.actions.specs.States.{phaseOf, stateOf, placeOf, byStatus, nextOf, isGoing, onAt}
 use Rattle.runner.specs.Runs.{Ready, Came, Finished}
-use Rattle.runner.specs.Pauses.{standBy, standOf, withTicks, Paused, RanOn}
-use Rattle.runner.proofs.Loop.{partners-of}
+use Rattle.runner.specs.Pauses.{standBy, standOf, withTicks, Waiting, Awaits, no-place, at-place, MayTest, Tested, Paused, RanOn}
+use Rattle.runner.proofs.Loop.{partners-of, going-is, Runs, runs-start, doable, fitting, head-in, runs-step}
+use Rattle.runner.proofs.Awaiting.{waiting-at, is-testing, awaits-steps}
 
 -- it stops at its own row and phase
 stops-there : (w p : Place) (e : Ending) (i : ℕ) → (e ≡ Spent → (p .row ≡ w .row) × (p .phase ≡ w .phase)) → stopped p e i (p .now) (p .tally) ≡ stopped w e i (p .now) (p .tally)
@@ -31,6 +33,41 @@ stops-there w p Ended i f = refl
 stops-there w p Spent i f = let (a, b) = f refl in λ k. more (record { row = a k; phase = b k; now = p .now; tally = p .tally })
 stops-there w p Ending.Range i f = refl
 stops-there w p NoPick i f = refl
+
+-- going, and no test is to come
+pub fresh-again : (m : Machine) → isGoing (m .status) ≡ true → m .testing ≡ false → onAt m (m .left) (m .row) false ≡ m
+fresh-again m g f =
+    let a : false ≡ m .testing = sym f in
+    let b : Going ≡ m .status = sym (going-is (m .status) g) in
+    λ k. record { row = m .row; testing = a k; left = m .left; used = m .used; status = b k }
+
+-- a machine that waits for a for's test does it first
+module _ {text : List ℕ} (π : Prices) (rows : List Row) (count : ℕ) (t : Tables) (q : ℕ) (m : Machine) (store : List ℤ) (picks : List ℕ) (counts : List (List ℕ)) (full : length rows ≡ 256)
+    (paused : Paused text π rows count t q m store picks counts) (b : m .testing ≡ true) where
+  abbrev start : Machine
+  start = withTicks q m
+
+  begins : Runs text π rows count t picks start store counts start store counts
+  begins = runs-start π rows count t picks start store counts full (paused .ready)
+
+  row-in : m .row < count
+  row-in = let w = paused .waits b in omega (arith, w .row, kinds-first text count rows (omega (arith, paused .ready .size)))
+
+  pub may-test : tableOf (t .shut) (m .row) < 256 → MayTest text rows t start store counts
+  may-test small =
+      let l = row-in in
+      let h = head-in π rows count t picks start store counts full (paused .ready) start store counts begins refl l in
+      record {
+        row = doable π rows count t picks start store counts full (paused .ready) start store counts begins refl _ _ l small;
+        head = doable π rows count t picks start store counts full (paused .ready) start store counts begins refl _ _ h (omega (arith, paused .ready .size));
+        on = b;
+        waits = rw (sym (kind-of text count rows (m .row) l), sym (kind-of text count rows (tableOf (t .opener) (m .row)) h)) (paused .waits b .test);
+      }
+
+  pub test-runs : (r : Machine) (counts′ : List (List ℕ)) → Tested text π rows t start r store (tallyOf counts) counts′ → Runs text π rows count t picks start store counts r store counts′
+  test-runs r counts′ done =
+      runs-step π rows count t picks start store counts full (paused .ready) start store counts begins refl r store counts′ (refl, done .long) row-in
+      (done .step _ picks (fitting π rows count t picks start store counts full (paused .ready) start store counts begins refl row-in)) .0
 
 module _ {text : List ℕ} (π : Prices) (rows : List Row) (count : ℕ) (t : Tables) (q : ℕ) (m : Machine) (store : List ℤ) (picks : List ℕ) (counts : List (List ℕ))
     (paused : Paused text π rows count t q m store picks counts) (r : Machine) (store′ : List ℤ) (counts′ : List (List ℕ))
@@ -58,5 +95,22 @@ module _ {text : List ℕ} (π : Prices) (rows : List Row) (count : ℕ) (t : Ta
       by-status (r .status) refl (done .over)
       ∙ (λ k. runsOn π ks (paused .ready .found .shuts k) (paused .ready .found .openers k) (given q (placeOf m store picks (tallyOf counts))))
 
+  -- where it waits for a test, it waits at a for
+  waits-there : (i : ℕ) → r .status ≡ Over Spent i → r .testing ≡ true → Waiting ks (pairs ks (length ks) .opener) (r .row)
+  waits-there i e b =
+      let c = done .came refl in
+      let (row, phase) = c .rests i e in
+      let start : Awaits ks opener (more (placeOf (withTicks q m) store picks (tallyOf counts))) = at-place {p = placeOf (withTicks q m) store picks (tallyOf counts)} (λ z. paused .waits (is-testing (m .testing) z)) in
+      let waits = waiting-at (subst (Awaits ks opener) (c .reached) (awaits-steps π ks shut opener (c .k) _ start)) (sym phase ∙ ap phaseOf b) in
+      subst (λ g. Waiting ks g (r .row)) (paused .ready .found .openers) (subst (Waiting ks opener) (sym row) waits)
+
+  awaits-by : (s : Status) → r .status ≡ s → isGoing s ≡ false → Awaits ks (pairs ks (length ks) .opener) (standBy s r store′ picks (tallyOf counts′))
+  unfolding stopped
+  awaits-by Going e f = absurd (let z : _≡_ {A = ℕ} 0 1 = cc in omega arith)
+  awaits-by (Over Ended i) e f = no-place
+  awaits-by (Over Spent i) e f = at-place {p = placeOf r store′ picks (tallyOf counts′)} (λ z. waits-there i e (is-testing (r .testing) z))
+  awaits-by (Over Ending.Range i) e f = no-place
+  awaits-by (Over NoPick i) e f = no-place
+
   pub ran-on : length counts′ ≡ 256 → RanOn π ks q m r store store′ picks (tallyOf counts) counts′
-  ran-on long = record { stand = runs-there; left = done .left; used = done .used; long = long }
+  ran-on long = record { stand = runs-there; waits = awaits-by (r .status) refl (done .over); left = done .left; used = done .used; long = long }

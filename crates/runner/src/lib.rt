@@ -6,13 +6,14 @@ use rules::Ending;
 use rules::Prices;
 use rules::Row;
 ghost use mathlib.Core.Path.{_≡_};
+ghost use mathlib.Core.Bool.{false};
 ghost use Prim.Native.Nat.{_≤_};
 ghost use lib.ListN.{length, take};
 ghost use Rattle.rules.specs.Blocks.{kindsOf};
 ghost use Rattle.rules.specs.RowMachine.{tallyOf};
-ghost use Rattle.actions.specs.States.{isGoing};
+ghost use Rattle.actions.specs.States.{isGoing, onAt};
 ghost use Rattle.runner.specs.Runs.{Ready, Finished};
-ghost use Rattle.runner.specs.Pauses.{Paused, RanOn};
+ghost use Rattle.runner.specs.Pauses.{MayTest, Tested, Paused, RanOn};
 ghost use Rattle.runner.specs.Answered.{Cleared, ranOf, runOf, Given, Answered};
 
 // Is the run still going?
@@ -26,7 +27,7 @@ fn going(m: Machine) -> bool
     }
 }
 
-// From a state on until the run is over. A state that is over stays as it is.
+// From a row that is still to come until the run is over. That it is said once more, where the loop begins, lets the compiler leave a for's waiting test out of the loop.
 pub fn resume(
     text: &[u8],
     rows: [Row; 256],
@@ -38,10 +39,10 @@ pub fn resume(
     picks: &[u8],
     counts: &mut [[u64; 3]; 256],
 ) -> Machine
-    requires { ⌜ Ready (now text) prices rows count tables from (now store) (now picks) (now counts) ⌝ }
+    requires { ⌜ Ready (now text) prices rows count tables from (now store) (now picks) (now counts) × (onAt from (from .left) (from .row) false ≡ from) ⌝ }
     ensures { λ r. ⌜ Finished prices (take count (kindsOf (now (text .entry)) rows)) tables from r (now (store .entry)) (now (store .exit)) (now (picks .entry)) (tallyOf (now (counts .entry))) (tallyOf (now (counts .exit))) × (length (now (counts .exit)) ≡ 256) ⌝ }
 {
-    let mut m = from;
+    let mut m = actions::on(from, from.left, from.row, false);
     while going(m) {
         let i = m.row;
         if i < count {
@@ -57,7 +58,28 @@ pub fn resume(
     m
 }
 
-// A script that is not finished gets q ticks and runs on, until it finishes or its next price does not fit.
+// The test of a for that a machine waits for.
+fn tested(
+    text: &[u8],
+    rows: [Row; 256],
+    tables: Tables,
+    prices: Prices,
+    m: Machine,
+    store: &[i32],
+    counts: &mut [[u64; 3]; 256],
+) -> Machine
+    requires { ⌜ MayTest (now text) rows tables m (now store) (now counts) ⌝ }
+    ensures { λ r. ⌜ Tested (now (text .entry)) prices rows tables m r (now (store .entry)) (tallyOf (now (counts .entry))) (now (counts .exit)) ⌝ }
+{
+    let i = m.row;
+    let row = rows[i];
+    let e = tables.shut[i] as usize;
+    let h = tables.opener[i] as usize;
+    let head = rows[h];
+    machine::test_again(m, row, e, head, h, prices, text, store, counts)
+}
+
+// A script that is not finished gets q ticks and runs on, until it finishes or its next price does not fit. A for's test that it waits for comes first.
 pub fn run_on(
     text: &[u8],
     rows: [Row; 256],
@@ -80,6 +102,13 @@ pub fn run_on(
         used: from.used,
         status: Status::Going,
     };
+    if from.testing {
+        let m = tested(text, rows, tables, by_kind, start, &store[..], counts);
+        if !going(m) {
+            return m;
+        }
+        return resume(text, rows, count, tables, by_kind, m, store, picks, counts);
+    }
     resume(
         text,
         rows,

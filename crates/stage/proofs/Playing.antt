@@ -24,6 +24,7 @@ use Rattle.actions.specs.declared.Machine.{Machine}
 use Rattle.actions.specs.declared.Status.the-variants.{Going}
 use Rattle.runner.specs.Pauses.{Paused}
 use Rattle.runner.specs.Answered.{Cleared}
+use Rattle.runner.proofs.Awaiting.{anew}
 use Rattle.lists.specs.Parts.{lentOf, partOf, Fitted}
 use Rattle.lists.proofs.Spans.{part-length}
 use Rattle.cast.specs.declared.Held.{Held}
@@ -161,6 +162,7 @@ module _ (prices : List ℕ) (l : Lent) (q : ℕ) (ps : List Frames.Player) (hel
       let e = plays j h .is in
       record {
         stand = ap (λ (p : Frames.Player). p .stand) e ∙ (λ i. more (record { row = 0; phase = fresh; now = record { store = storeOf (partOf (l .storeLengths) j (l .stores)); left = 0; picks = partOf (l .pickLengths) j (l .picks) }; tally = sym (z .zero) i }));
+        waits = anew;
         frame = ap (λ (p : Frames.Player). p .frame) e;
         late = omega arith;
         left = omega arith;

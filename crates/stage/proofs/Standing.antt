@@ -25,10 +25,11 @@ use Rattle.rules.proofs.Frames.{due-less, settled-at, frames-as-alone}
 use Rattle.actions.specs.declared.Machine.{Machine}
 use Rattle.actions.specs.declared.Status.{Status}
 use Rattle.actions.specs.declared.Status.the-variants.{Going, Over}
-use Rattle.actions.specs.States.{placeOf}
+use Rattle.actions.specs.States.{phaseOf, placeOf}
 use Rattle.runner.specs.Runs.{Runnable, roomy-more}
-use Rattle.runner.specs.Pauses.{standBy, standOf, withTicks, Paused, RanOn}
+use Rattle.runner.specs.Pauses.{standBy, standOf, withTicks, Waiting, Awaits, Paused, RanOn}
 use Rattle.runner.proofs.Start.{runnable}
+use Rattle.runner.proofs.Awaiting.{waiting-at}
 use Rattle.cast.specs.declared.Held.{Held}
 use Rattle.cast.specs.Held.{HeldAs}
 use Rattle.stage.specs.declared.Player.{Player}
@@ -112,6 +113,7 @@ module _ (π : Prices) (q : ℕ) (p : Frames.Player) (n : ℕ) where
           let e = settled-at π q p n (suc n) (omega arith) is-done in
           record {
             stand = ap (λ (y : Frames.Player). y .stand) e ∙ s .stand;
+            waits = s .waits;
             frame = ap (λ (y : Frames.Player). y .frame) e ∙ s .frame;
             late = omega (arith, s .late);
             left = s .left;
@@ -137,6 +139,7 @@ module _ (π : Prices) (q : ℕ) (p : Frames.Player) (n : ℕ) where
         pub stands-on : Stands π q p (suc n) (record { machine = r; frame = n + 1 }) store′ picks counts′
         stands-on = record {
           stand = stands-there;
+          waits = rw rows (ran .waits);
           frame = frame-on _ waits-there .1 ∙ sym (add-one n);
           late = omega arith;
           left = omega (arith, ran .left, s .left, mul-le-mul-right q (s .late), add-mul n 1 q);
@@ -213,4 +216,7 @@ module _ (π : Prices) (one : 1 ≤ π .test) (p : Frames.Player) (ok : Accepted
             room = roomy-more {m = placeOf (withTicks q (x .machine)) store picks (tallyOf counts)} λ z. let (a, b) = carried .counts z in (roomy _ R _ short a refl, roomy _ R _ short b refl);
             used = s .used;
           };
+          waits = λ b.
+              let there = waiting-at (subst (Awaits (p .script .rows) (pairs (p .script .rows) (length (p .script .rows)) .opener)) (stand-waits (x .machine) store picks (tallyOf counts) (x .machine .status) w) (s .waits)) (ap phaseOf b) in
+              subst (λ g. Waiting ks g (x .machine .row)) (sym (held .found .openers)) (subst (λ (z : List RowKind). Waiting z (pairs z (length z) .opener) (x .machine .row)) (held .rows) there);
         }

@@ -9,7 +9,7 @@ use Rattle.rules.specs.declared.Ending.{Ending}
 use Rattle.rules.specs.declared.Ending.the-variants.{Ended, Spent, NoPick}
 use Rattle.rules.specs.declared.Prices.{Prices}
 use Rattle.rules.specs.Blocks.{kindsOf}
-use Rattle.rules.specs.RowMachine.{tallyOf}
+use Rattle.rules.specs.RowMachine.{tallyOf, pairs}
 use Rattle.rules.specs.Calls.{Priced, pricesOf, scratchSize}
 use Rattle.rules.specs.Frames
 use Rattle.rules.specs.Frames.{Lent, partsOf, after, most, ready, cast}
@@ -17,7 +17,7 @@ use Rattle.rules.specs.InTime.{Done}
 use Rattle.actions.specs.declared.Machine.{Machine}
 use Rattle.actions.specs.declared.Status.{Status}
 use Rattle.actions.specs.declared.Status.the-variants.{Going, Over}
-use Rattle.runner.specs.Pauses.{standOf, RanOn}
+use Rattle.runner.specs.Pauses.{standOf, Awaits, RanOn}
 use Rattle.runner.specs.Answered.{Cleared}
 use Rattle.lists.specs.Parts.{partOf, Fitted}
 use Rattle.cast.specs.declared.Held.{Held}
@@ -56,6 +56,7 @@ MayPlay prices l q held = (ps : List Frames.Player) × Onstage prices l q ps hel
 -- a script after n frames: where it stands, and the last frame that it ran in
 pub record Stands (π : Prices) (q : ℕ) (p : Frames.Player) (n : ℕ) (x : Player) (store : List ℤ) (picks : List ℕ) (counts : List (List ℕ)) : Type 0 where
   pub stand : after π q p n .stand ≡ standOf (x .machine) store picks (tallyOf counts)
+  pub waits : Awaits (p .script .rows) (pairs (p .script .rows) (length (p .script .rows)) .opener) (standOf (x .machine) store picks (tallyOf counts))
   pub frame : after π q p n .frame ≡ x .frame
   pub late : x .frame ≤ n
   pub left : x .machine .left ≤ x .frame * q

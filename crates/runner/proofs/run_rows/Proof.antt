@@ -1,7 +1,7 @@
 -- `runner::run_rows` meets its contract. Assumes nothing.
 use Rattle.runner.proofs.Start.{ready, answers}
 use lib.ListN.{length}
-use mathlib.Core.Path.{_≡_}
+use mathlib.Core.Path.{_≡_, refl}
 use denote.Ref.{now}
 use borrow.Author.Needs.{needs}
 use Rattle.runner.proofs.run_rows.Statement.{statement}
@@ -16,7 +16,7 @@ resume-requires c κs =
     let s = c .before .before .before .before .before .before .before in
     let a = s .args in
     let p = c .before .before .partners in
-    ready (a .prices) (a .rows) (a .count) (full-rows s) (a .store .now) (a .picks .now) (a .allowance) (s .pre .0) (p .result) (p .ensures (now (a .text))) _ (c .before .before .before .clear .ensures)
+    (ready (a .prices) (a .rows) (a .count) (full-rows s) (a .store .now) (a .picks .now) (a .allowance) (s .pre .0) (p .result) (p .ensures (now (a .text))) _ (c .before .before .before .clear .ensures), refl)
 
 returns : tie.Need-returns
 returns c =
