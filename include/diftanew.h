@@ -20,7 +20,7 @@ extern "C" {
 #define DIFTANEW_SCRATCH 1024
 /* The longest file that is taken (question 2). */
 #define DIFTANEW_FILE 16384
-/* The prices that a call is lent (question 16): ticks of arithmetic (set, for starts and for steps with it), cue, pick and test, each 1 to 1,000. */
+/* The prices that a call is lent (question 16): ticks of arithmetic (set, off, for starts and for steps with it), cue, pick and test, each 1 to 1,000. */
 #define DIFTANEW_PRICES 4
 /* No report is longer: a buffer of so many bytes holds every one. */
 #define DIFTANEW_REPORT 2089
@@ -34,7 +34,7 @@ extern "C" {
 #define DIFTANEW_SCRIPTS 8
 #define DIFTANEW_FRAMES_ANSWER 433
 
-/* Refusal numbers, in the words of document 01's questions; document 02's are 16, which is asked after 1 and before 2, 17, after 3 on its line, and 19, of a
+/* Refusal numbers, by document 01's questions; document 02's are 16, which is asked after 1 and before 2, 17, after 3 on its line, and 19, of a
  * hold in the place of 8 to 12; 20 is asked by frames alone, before all others. 18 is the program season's. */
 enum {
     DIFTANEW_ACCEPTED = 0,

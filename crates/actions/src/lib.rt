@@ -98,7 +98,7 @@ fn put(
     if left < price {
         return ended(m, left, Ending::Spent, at);
     }
-    if !values::within_limits(z) {
+    if !expressions::within(z) {
         return ended(m, left - price, Ending::Range, at);
     }
     let i = v as usize;

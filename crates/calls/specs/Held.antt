@@ -15,7 +15,7 @@ use Rattle.table.specs.Code.{kindAt}
 use Rattle.survey.specs.declared.Figures.{Figures}
 use Rattle.survey.specs.Whole.{SurveyOf}
 
--- it has passed the questions 2 to 7, has `count` rows, and its expressions stand in the text
+-- it has passed the questions 2 to 7 and 17, has `count` rows, and its expressions stand in the text
 pub record Given (text : List ℕ) (ranges : List (List ℤ)) (vars : ℕ) (rows : List Row) (count : ℕ) : Type 0 where
   pub legal : Legal (scriptOf text ranges vars rows count)
   pub long : length (scriptOf text ranges vars rows count .rows) ≡ count
@@ -24,7 +24,7 @@ pub record Given (text : List ℕ) (ranges : List (List ℤ)) (vars : ℕ) (rows
   pub few : vars ≤ 16
   pub blank : BlankFrom vars ranges
 
--- the questions 8 to 13 of a script under lent prices
+-- the questions 19 and 8 to 13 of a script under lent prices
 abbrev pub judgedScript : List ℕ → Script → Judged
 judgedScript prices script = judgedBy script (verdict (pricesOf prices) (length (script .rows)) (envOf (script .ranges)) (treeOf (script .rows)))
 

@@ -1,3 +1,3 @@
--- What the two calls on a script answer.
+-- What the calls on a script answer.
 pub mod Held
 pub mod Told

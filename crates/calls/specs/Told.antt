@@ -1,4 +1,4 @@
--- What the two calls answer, as code holds it.
+-- What the calls answer, as code holds it.
 use mathlib.Core.Path.{_≡_}
 use mathlib.Core.List.{List}
 use Prim.Native.Nat.{ℕ, _≤_, _<_}

@@ -29,7 +29,7 @@ pub struct Measured {
     pub ticks: u64,
 }
 
-// The report call: the questions 8 to 14, the report in the buffer, and its ticks.
+// The report call: the questions 19 and 8 to 14, the report in the buffer, and its ticks.
 pub fn measure_script(
     text: &[u8],
     rows: [Row; 256],
@@ -167,7 +167,7 @@ fn smaller(x: u64, y: u64) -> u64
     if x <= y { x } else { y }
 }
 
-// The questions 8 to 13 of a script, and its ticks. The table of its rows and the report's lines are gone when it is done.
+// The questions 19 and 8 to 13 of a script, and its ticks. The table of its rows and the report's lines are gone when it is done.
 fn ticks_of(
     text: &[u8],
     rows: [Row; 256],
@@ -208,7 +208,7 @@ fn figures_of(
     survey::survey(text, &table, count, ranges, vars, prices, &mut lines)
 }
 
-// The questions 8 to 13 and 15 of a script, and no run.
+// The questions 19, 8 to 13 and 15 of a script, and no run.
 pub fn ask_script(
     text: &[u8],
     rows: [Row; 256],
@@ -229,7 +229,7 @@ pub fn ask_script(
     ask_store(vars, &ranges, store)
 }
 
-// The run call: the questions 8 to 13 and 15, and the run. A refusal leaves the store as it was.
+// The run call: the questions 19, 8 to 13 and 15, and the run. A refusal leaves the store as it was.
 pub fn run_script(
     text: &[u8],
     rows: [Row; 256],

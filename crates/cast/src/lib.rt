@@ -61,7 +61,7 @@ pub struct Entered {
     pub held: Held,
 }
 
-// The questions 2 to 13 of a file, and 15 of its store.
+// The questions 2 to 13, 17 and 19 of a file, and 15 of its store.
 fn enter(file: &[u8], prices: &[u32], store: &[i32]) -> Entered
     requires { ⌜ Priced (now prices) ⌝ }
     ensures { λ r. ⌜ EnteredAs (now (prices .entry)) (now (file .entry)) (now (store .entry)) r ⌝ }

@@ -1,4 +1,4 @@
-// What the programs share: the words of a person at the desk, files by name, lists of lines, and what is printed.
+// What the programs share: files by name, prices, lists of lines, and what is printed.
 mod lines;
 mod prices;
 mod print;
@@ -6,6 +6,7 @@ mod script;
 
 pub use lines::Line;
 pub use lines::answer_input;
+pub use lines::read_values;
 pub use prices::Lent;
 pub use prices::read_prices;
 pub use print::print_front;
@@ -19,6 +20,7 @@ pub use print::print_wrong_value;
 pub use script::Input;
 pub use script::Values;
 pub use script::cannot_read;
+pub use script::read_all;
 pub use script::read_file;
 pub use script::read_some;
 pub use script::rehearse_file;

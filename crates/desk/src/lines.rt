@@ -9,7 +9,7 @@ use crate::script::report_file;
 use bytes::scan::find;
 use libc::STDIN_FILENO;
 use words::keep_value;
-ghost use Prim.Native.Nat.{_≤_};
+ghost use Prim.Native.Nat.{_+_, _≤_};
 ghost use lib.ListN.{length};
 
 // What a line is: the name of a file to report, or a run, `[prices=A,C,P,T] NAME ALLOWANCE PICKS VALUE ..`.
@@ -26,13 +26,15 @@ fn next(line: &[u8], end: usize) -> usize
     if end < line.len() { end + 1 } else { end }
 }
 
-// Keeps the values of a line's last words.
-fn read_values(words: &[u8], store: &mut [i32]) -> Values {
+// Keeps the values of a list, with a separator between them; the last of them begins before `stop`.
+pub fn read_values(list: &[u8], separator: u8, stop: usize, store: &mut [i32]) -> Values
+    requires { ⌜ stop ≤ length (now list) + 1 ⌝ }
+{
     let mut at = 0;
     let mut count = 0;
-    while at < words.len() {
-        let end = find(words, at, words.len(), b' ');
-        if !keep_value(&words[at..end], store, count) {
+    while at < stop {
+        let end = find(list, at, list.len(), separator);
+        if !keep_value(&list[at..end], store, count) {
             return Values::Wrong(count);
         }
         count += 1;
@@ -44,7 +46,7 @@ fn read_values(words: &[u8], store: &mut [i32]) -> Values {
 // Makes the run of a line under prices, from its name, allowance, picks and values.
 fn run_words(name: &[u8], prices: &[u32], allowance: &[u8], picks: &[u8], words: &[u8]) {
     let mut store = [0i32; 17];
-    let values = read_values(words, &mut store);
+    let values = read_values(words, b' ', words.len(), &mut store);
     rehearse_file(name, prices, allowance, picks, values, &mut store);
 }
 

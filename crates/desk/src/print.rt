@@ -43,7 +43,7 @@ pub fn print_wrong_prices() {
     print_text(b"error=prices are not four numbers\n");
 }
 
-// The report, at the front of its buffer.
+// A text, at the front of its buffer.
 pub fn print_front(buffer: &[u8], length: usize) {
     let n = within(length, buffer);
     print_text(&buffer[..n]);

@@ -41,7 +41,7 @@ pub fn read_some(fd: i32, rest: &mut [u8]) -> Input
 }
 
 // Reads until the buffer is full, the input ends or a read fails.
-fn read_all(fd: i32, buffer: &mut [u8]) -> Input
+pub fn read_all(fd: i32, buffer: &mut [u8]) -> Input
     ensures { λ r. ⌜ Counts (r .length) (now (buffer .exit)) ⌝ }
 {
     let mut at = 0;

@@ -14,9 +14,18 @@ use Rattle.rules.specs.Expressions.{Expr, constant, variable, group, apply}
 use Rattle.rules.specs.Text.{isDigit}
 use Rattle.rules.specs.Parse.{Parsed, parsed, shapeless, onward, upToMark, fromMark, leaf, atom, Ahead, operator, other, ahead, afterTerm, afterFactor, close, factorOf, expression, term, factor, readExpression, readTerm, readFactor, atEnd, parse}
 use Rattle.rules.proofs.Parsing.{expression-is, term-is, factor-is}
-use Rattle.expressions.specs.declared.Leaf.{Leaf}
-use Rattle.expressions.specs.Leaves.{cut, cutIn, said, LeafAt, bare, bareIn}
 use Rattle.expressions.proofs.Leaves.{atom-open}
+
+-- a constant or a variable alone, of what is read of a word; "an operator or a parenthesis makes it neither"
+unfoldable pub bare : Expr → List ℕ → Parsed
+bare (constant k) s = parsed (constant k) s
+bare (variable w) s = parsed (variable w) s
+bare (group x) s = shapeless
+bare (apply o x y) s = shapeless
+
+unfoldable pub bareIn : Parsed → Parsed
+bareIn (parsed x s) = bare x s
+bareIn shapeless = shapeless
 
 -- ---- once an operator is read, it is neither
 ahead-neither : (k : Ahead) (f : Operator → List ℕ → Parsed) (o : Operator) (l x : Expr) (r : List ℕ) → ((o : Operator) (t : List ℕ) → bareIn (f o t) ≡ shapeless) → bareIn (ahead k f (parsed (apply o l x) r)) ≡ shapeless
@@ -106,49 +115,3 @@ word-end w =
     chain-end (readTerm (λ x. x)) afterTerm readExpression expression-is look-term neither-sum w
     ∙ chain-end readFactor afterFactor readTerm term-is look-factor neither-product w
     ∙ factor-end w
-
--- ---- as code reads it
-bare-cut : (p : Parsed) → bareIn (cutIn p) ≡ cutIn (bareIn p)
-unfolding bareIn bare cutIn cut
-bare-cut (parsed (constant k) s) = refl
-bare-cut (parsed (variable w) s) = refl
-bare-cut (parsed (group x) s) = refl
-bare-cut (parsed (apply o x y) s) = refl
-bare-cut shapeless = refl
-
-end-cut : (p : Parsed) → cutIn (onward p atEnd) ≡ onward (cutIn p) atEnd
-unfolding onward atEnd cutIn
-end-cut (parsed x []) = refl
-end-cut (parsed x (b ∷ r)) = refl
-end-cut shapeless = refl
-
-said-end : (t : ℕ) (z : ℤ) → said t z [] ≡ bareIn (onward (said t z []) atEnd)
-unfolding said onward atEnd bareIn bare
-said-end t z = by (eqb t 1) (eqb t 2)
-  where
-    by : (p q : Bool) → cond p (parsed (constant z) []) (cond q (parsed (variable (natAbs z)) []) shapeless) ≡ bareIn (onward (cond p (parsed (constant z) []) (cond q (parsed (variable (natAbs z)) []) shapeless)) atEnd)
-    by true q = refl
-    by false true = refl
-    by false false = refl
-
-said-more : (t : ℕ) (z : ℤ) (b : ℕ) (s : List ℕ) → shapeless ≡ bareIn (onward (said t z (b ∷ s)) atEnd)
-unfolding said onward atEnd bareIn bare
-said-more t z b s = by (eqb t 1) (eqb t 2)
-  where
-    by : (p q : Bool) → shapeless ≡ bareIn (onward (cond p (parsed (constant z) (b ∷ s)) (cond q (parsed (variable (natAbs z)) (b ∷ s)) shapeless)) atEnd)
-    by true q = refl
-    by false true = refl
-    by false false = refl
-
-module _ (word : List ℕ) (l : Leaf) (h : LeafAt word 0 l) where
-  leaf-end : bareIn (onward (said (l .tag) (l .value) (drop (l .next) word)) atEnd) ≡ bareIn (cutIn (parse word))
-  leaf-end =
-      ap (λ p. bareIn (onward p atEnd)) (h .same) ∙ ap bareIn (sym (end-cut (atom word))) ∙ bare-cut (onward (atom word) atEnd)
-      ∙ ap cutIn (sym (word-end word)) ∙ sym (bare-cut (parse word))
-
-  pub alone-whole : length word ≤ l .next → said (l .tag) (l .value) [] ≡ bareIn (cutIn (parse word))
-  alone-whole e = said-end (l .tag) (l .value) ∙ ap (λ s. bareIn (onward (said (l .tag) (l .value) s) atEnd)) (sym (drop-of-length-le word e)) ∙ leaf-end
-
-  pub alone-not : l .next < length word → said 0 (pos 0) [] ≡ bareIn (cutIn (parse word))
-  unfolding said
-  alone-not e = said-more (l .tag) (l .value) (getD word (l .next) 0) (drop (suc (l .next)) word) ∙ ap (λ s. bareIn (onward (said (l .tag) (l .value) s) atEnd)) (sym (drop-cons word (l .next) 0 e)) ∙ leaf-end

@@ -4,7 +4,7 @@ mod Evaluating
 mod Passing
 mod Asking
 mod Scanning
-mod Bare
+pub mod Bare
 mod Filling
 mod Keeping
 pub mod Words

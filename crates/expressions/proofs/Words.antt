@@ -11,9 +11,8 @@ use Rattle.rules.specs.declared.Word.the-variants.{Missing, Number, Variable, C
 use Rattle.rules.specs.Expressions.{Expr, constant, variable, group, apply}
 use Rattle.rules.specs.Text.{isDigit, allDigits, isNatural, isNegative, isVariable, plainWord, wordOf}
 use Rattle.rules.specs.Parse.{Parsed, parsed, shapeless, onward, isMark, upToMark, fromMark, leaf, atom, factorOf, expression, readExpression, atEnd, parse}
-use Rattle.expressions.specs.Leaves.{bare, bareIn}
 use Rattle.expressions.proofs.Leaves.{digit-mark, leaf-plain}
-use Rattle.expressions.proofs.Bare.{word-end}
+use Rattle.expressions.proofs.Bare.{bare, bareIn, word-end}
 
 -- what a word is read as
 abbrev pub Alone : Word → Parsed → Type 0

@@ -18,7 +18,7 @@ ghost use Rattle.rules.specs.Steps.{assigns};
 ghost use Rattle.rules.specs.Trips.{keeps};
 ghost use Rattle.rules.specs.Scripts.{storeOf};
 ghost use Rattle.rules.specs.File.{turnOf, sooner, asksExpr};
-ghost use Rattle.expressions.specs.Leaves.{digitValue, atMark, DigitsAt, WholeAt, leafOf, LeafAt, ReadsWord};
+ghost use Rattle.expressions.specs.Leaves.{digitValue, atMark, DigitsAt, WholeAt, leafOf, LeafAt};
 ghost use Rattle.expressions.specs.Asking.{due, shut as afterFactor, sizesOf, ended, Ready, Steps, askedOf, operates};
 ghost use Rattle.expressions.specs.Evaluating.{operatorOf, valuesOf, endsOf, shut, sums, cameTo, JoinsRanges, JoinsRun, GivesRange, GivesRun};
 ghost use Rattle.rules.specs.Written.{Passed};
@@ -238,7 +238,7 @@ fn higher(a: i64, b: i64) -> i64
 const L: i64 = 1_000_000_000;
 
 // A number drawn back to -L or L if past it.
-fn drawn(s: i64) -> i32
+pub fn drawn(s: i64) -> i32
     ensures { λ r. ⌜ r ≡ drawn lowest highest s ⌝ }
 {
     if s < -L {
@@ -251,7 +251,7 @@ fn drawn(s: i64) -> i32
 }
 
 // Is a result within −L and L?
-fn within(z: i64) -> bool
+pub fn within(z: i64) -> bool
     ensures { λ r. ⌜ r ≡ inLimits z ⌝ }
 {
     -1_000_000_000 <= z && z <= 1_000_000_000
@@ -798,35 +798,6 @@ pub fn question(word: &[u8], vars: u32) -> u32
         } else {
             return 3;
         }
-    }
-}
-
-// What the reader learns of a word.
-pub struct Reading {
-    pub question: u32,
-    pub tag: u8,
-    pub value: i32,
-}
-
-// The first of the questions 3, 17, 4 and 5 that a word has no to as an expression, 0 for none; and the constant (tag 1) or variable (tag 2) that it is
-// alone, with its number cut off past every limit.
-pub fn read_expression(word: &[u8], vars: u32) -> Reading
-    requires { ⌜ vars ≤ 16 ⌝ }
-    ensures { λ r. ⌜ ReadsWord vars (now (word .entry)) r ⌝ }
-{
-    let asked = question(word, vars);
-    let leaf = leaf_at(word, 0);
-    if leaf.next < word.len() {
-        return Reading {
-            question: asked,
-            tag: NEITHER,
-            value: 0,
-        };
-    }
-    Reading {
-        question: asked,
-        tag: leaf.tag,
-        value: leaf.value,
     }
 }
 

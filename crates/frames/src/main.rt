@@ -1,7 +1,6 @@
 // frames [prices=A,C,P,T] Q [FILE PICKS VALUES] ..: runs up to 8 script files together, Q ticks a frame, and prints of each the frame that it finished in and its run as
 // `rehearse` does, and the most ticks that all together took in one frame. The prices are four ones if they are not given. PICKS is a word of 0 and 1 or `-`, and VALUES
 // the store, numbers with commas between them, or `-`.
-use bytes::scan::find;
 use desk::Lent;
 use desk::Values;
 use desk::print_text;
@@ -17,27 +16,12 @@ ghost use lib.ListN.{length};
 // A call is lent no more scripts.
 const SCRIPTS: usize = 8;
 
-// Keeps the values of a word with commas between them; the store's 17 places do, as for `rehearse`.
-fn read_list(list: &[u8], store: &mut [i32]) -> Values {
-    let mut at = 0;
-    let mut count = 0;
-    while at <= list.len() {
-        let end = find(list, at, list.len(), b',');
-        if !words::keep_value(&list[at..end], store, count) {
-            return Values::Wrong(count);
-        }
-        count += 1;
-        at = end + 1;
-    }
-    Values::Count(count)
-}
-
-// The same, or none for `-`.
+// Keeps the values of a word with commas between them, or none for `-`; the store's 17 places do, as for `rehearse`.
 fn read_values(word: &[u8], store: &mut [i32]) -> Values {
     if words::is_word(word, b"-") {
         return Values::Count(0);
     }
-    read_list(word, store)
+    desk::read_values(word, b',', word.len() + 1, store)
 }
 
 // What a script's words are: all three right, or the first wrong one.

@@ -1,3 +1,3 @@
--- The promises of the two calls.
+-- The promises of the three calls.
 pub mod Kept
 pub mod Framing

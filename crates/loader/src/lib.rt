@@ -30,7 +30,7 @@ fn ask_lent(prices: &[u32], scratch: usize) -> Verdict
     ask_prices(prices)
 }
 
-// The report of a file under prices that 16 has passed: the questions 2 to 14.
+// The report of a file under prices that 16 has passed: the questions 2 to 14, 17 and 19.
 fn report_file(file: &[u8], prices: &[u32], buffer: &mut [u8]) -> Reply
     requires { ⌜ Priced (now prices) ⌝ }
     ensures { λ r. ⌜ Reported (now (prices .entry)) (judgedFile (pricesOf (now (prices .entry))) (fileScript (now (file .entry)))) (now (buffer .entry)) (now (buffer .exit)) r ⌝ }
@@ -58,7 +58,7 @@ fn report_file(file: &[u8], prices: &[u32], buffer: &mut [u8]) -> Reply
     }
 }
 
-// The report of a file under four lent prices: the questions 1, 16 and 2 to 14. Accepted, the report is at the front of the buffer, and the answer
+// The report of a file under four lent prices: the questions 1, 16, 2 to 14, 17 and 19. Accepted, the report is at the front of the buffer, and the answer
 // is its length. Refused, the buffer is untouched. The scratch is measured, and never touched.
 pub fn report(file: &[u8], prices: &[u32], scratch: &mut [u32], buffer: &mut [u8]) -> Reply
     ensures answer { λ r. ⌜ Reported (now (prices .entry)) (judgement (now (prices .entry)) (now (scratch .entry)) (now (file .entry))) (now (buffer .entry)) (now (buffer .exit)) r ⌝ }
@@ -71,7 +71,7 @@ pub fn report(file: &[u8], prices: &[u32], scratch: &mut [u32], buffer: &mut [u8
     }
 }
 
-// The run of a file under prices that 16 has passed: the questions 2 to 13 and 15.
+// The run of a file under prices that 16 has passed: the questions 2 to 13, 15, 17 and 19.
 fn run_file(file: &[u8], prices: &[u32], store: &mut [i32], picks: &[u8], allowance: u64) -> Outcome
     requires { ⌜ Priced (now prices) ⌝ }
     ensures { λ r. ⌜ Ran (runReply (now (prices .entry)) (judgedFile (pricesOf (now (prices .entry))) (fileScript (now (file .entry)))) (now (store .entry)) (now (picks .entry)) allowance) (now (store .entry)) (now (store .exit)) r ⌝ }
@@ -99,7 +99,7 @@ fn run_file(file: &[u8], prices: &[u32], store: &mut [i32], picks: &[u8], allowa
     }
 }
 
-// The run of a file under four lent prices: the questions 1, 16, 2 to 13 and 15. The store is overwritten with the final one; refused, it is untouched.
+// The run of a file under four lent prices: the questions 1, 16, 2 to 13, 15, 17 and 19. The store is overwritten with the final one; refused, it is untouched.
 // With the ticks of the file's report under the same prices as allowance, the run keeps within that report: demand 3.
 pub fn run(
     file: &[u8],
@@ -119,7 +119,7 @@ pub fn run(
     }
 }
 
-// The frames of up to 8 scripts under four lent prices: the questions 20, 1 and 16, then script by script 2 to 13 and 15. Files, stores and picks are each lent end to end
+// The frames of up to 8 scripts under four lent prices: the questions 20, 1 and 16, then script by script 2 to 13, 15, 17 and 19. Files, stores and picks are each lent end to end
 // with a list of their lengths. In every frame each script that is not finished gets q ticks and runs on; what is left it carries forward. The stores are overwritten with the
 // final ones; refused, they are untouched. Each script is finished by frame ceil(T/q), T its report's ticks, with the answer of its run alone with allowance T.
 pub fn frames(

@@ -61,12 +61,6 @@ fn end_row(
     let kind = head.kind;
     let e = m.row;
     match kind {
-        Kind::End => actions::on(m, m.left, e + 1, false),
-        Kind::Else => actions::on(m, m.left, e + 1, false),
-        Kind::Pick => actions::on(m, m.left, e + 1, false),
-        Kind::Set(_, _) => actions::on(m, m.left, e + 1, false),
-        Kind::Move(_, _) => actions::on(m, m.left, e + 1, false),
-        Kind::Cue(_) => actions::on(m, m.left, e + 1, false),
         Kind::For(v, _, c, x, change) => {
             if m.testing {
                 actions::test_row(m, prices, h, e, v, c, x, text, store, counts)
@@ -81,8 +75,8 @@ fn end_row(
         }
         Kind::Do(v, c, x) => actions::test_row(m, prices, h, e, v, c, x, text, store, counts),
         Kind::While(v, c, x) => actions::test_row(m, prices, h, e, v, c, x, text, store, counts),
-        Kind::Off(_, _, _, _) => actions::on(m, m.left, e + 1, false),
         Kind::Hold(v) => flag_row(m, prices, h, e, v, text, store, counts),
+        _ => actions::on(m, m.left, e + 1, false),
     }
 }
 

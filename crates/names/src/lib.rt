@@ -22,16 +22,16 @@ const LONGEST: usize = 255;
 const MOST: usize = 64;
 
 // Nothing is read yet: line 0 is open.
-pub fn start(names: &mut [u8; 16_640], lengths: &mut [usize; 66]) -> usize
+pub fn start(names: &mut [u8; ROOM], lengths: &mut [usize; 66]) -> usize
     ensures { λ r. ⌜ Kept [] r (now (names .exit)) (now (lengths .exit)) ⌝ }
 {
-    *names = [0; 16_640];
+    *names = [0; ROOM];
     *lengths = [0; 66];
     0
 }
 
 // One byte more of the input. Line `at` is open; after 65 lines nothing is kept.
-fn push(at: usize, b: u8, names: &mut [u8; 16_640], lengths: &mut [usize; 66]) -> usize
+fn push(at: usize, b: u8, names: &mut [u8; ROOM], lengths: &mut [usize; 66]) -> usize
     ensures { λ r. ⌜ ((input : List ℕ) → Kept input at (now (names .entry)) (now (lengths .entry)) → Kept (input ++ (b ∷ [])) r (now (names .exit)) (now (lengths .exit))) ⌝ }
 {
     if at >= LINES {
@@ -50,12 +50,7 @@ fn push(at: usize, b: u8, names: &mut [u8; 16_640], lengths: &mut [usize; 66]) -
 }
 
 // A block more of the input.
-pub fn push_all(
-    at: usize,
-    block: &[u8],
-    names: &mut [u8; 16_640],
-    lengths: &mut [usize; 66],
-) -> usize
+pub fn push_all(at: usize, block: &[u8], names: &mut [u8; ROOM], lengths: &mut [usize; 66]) -> usize
     ensures { λ r. ⌜ ((input : List ℕ) → Kept input at (now (names .entry)) (now (lengths .entry)) → Kept (input ++ now (block .entry)) r (now (names .exit)) (now (lengths .exit))) ⌝ }
 {
     let mut line = at;

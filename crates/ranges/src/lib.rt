@@ -1,4 +1,5 @@
 // The known ranges of the variables, carried through a block.
+use expressions::drawn;
 use rules::Change;
 use rules::Comparison;
 use rules::Kind;
@@ -93,21 +94,6 @@ pub fn joined(a: [[i32; 2]; 16], b: [[i32; 2]; 16]) -> [[i32; 2]; 16]
         put(&mut r, i, s);
     }
     r
-}
-
-const L: i64 = 1_000_000_000;
-
-// A number drawn back to -L or L if past it.
-fn drawn(s: i64) -> i32
-    ensures { λ r. ⌜ r ≡ drawn lowest highest s ⌝ }
-{
-    if s < -L {
-        return -1_000_000_000;
-    }
-    if L < s {
-        return 1_000_000_000;
-    }
-    s as i32
 }
 
 // An arithmetic row applied to one end.

@@ -1,4 +1,4 @@
-// Reads a script file line by line: the questions 2 to 7. Each line's reader gets the unread rest of the file.
+// Reads a script file line by line: the questions 2 to 7 and 17. Each line's reader gets the unread rest of the file.
 use expressions::sooner;
 use nesting::Blocks;
 use nesting::nest_row;

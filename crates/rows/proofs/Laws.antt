@@ -30,7 +30,7 @@ use Rattle.rules.specs.File.{RowRead, Read, Wrong, sooner, asksEnd, asksNumber,
 use Rattle.rules.proofs.Name.{the-type}
 use Rattle.rules.proofs.Word as word
 use Rattle.rules.proofs.Reading.{variable-yes, number-yes, sooner-yes}
-use Rattle.expressions.specs.Leaves.{bare, bareIn}
+use Rattle.expressions.proofs.Bare.{bare, bareIn}
 use Rattle.expressions.proofs.Words.{Alone, alone, parse-none}
 use Rattle.text.specs.Words.{before, cut, parts, following, spelling, Next}
 use Rattle.text.specs.declared.Found.{Found}

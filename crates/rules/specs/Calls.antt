@@ -1,4 +1,4 @@
--- The two calls, report and run: the questions 1 to 16 in their order (1, 16, 2 to 15), and what is answered.
+-- The two calls, report and run: their questions in order (1, 16, 2 to 7 with 17 after 3, 19 and 8 to 13, then 14 or 15), and what is answered.
 use mathlib.Core.Path.{_≡_}
 use mathlib.Core.Bool.{Bool, true, false, cond, _&&_}
 use mathlib.Core.List.{List, [], _∷_, _++_}
@@ -27,7 +27,7 @@ pub data Judged : Type 0 where
   accepted : Script → Judged
   refuses : ℕ → ℕ → Judged
 
--- 8 to 13
+-- 19 and 8 to 13
 unfoldable pub judgedBy : Script → Verdict → Judged
 judgedBy script passed = accepted script
 judgedBy script (refused q p) = refuses q p

@@ -1,4 +1,4 @@
--- "The script file" and the questions 2 to 7: from a file's bytes to its script, or to the first no with number and place.
+-- "The script file" and the questions 2 to 7 and 17: from a file's bytes to its script, or to the first no with number and place.
 use mathlib.Core.Bool.{cond, _&&_}
 use mathlib.Core.List.{List, [], _∷_, _++_}
 use Prim.Native.Nat.{ℕ, zero, suc, _+_, _*_}

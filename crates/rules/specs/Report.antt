@@ -54,7 +54,7 @@ stepName (Grow f g) = 103 ∷ 114 ∷ 111 ∷ 119 ∷ []
 stepName (Shrink f g) = 115 ∷ 104 ∷ 114 ∷ 105 ∷ 110 ∷ 107 ∷ []
 stepName Unknown = []
 
--- the second
+-- the second end of a step
 unfoldable pub secondEnd : Step → ℤ
 secondEnd (Add a b) = b
 secondEnd (Grow f g) = pos g

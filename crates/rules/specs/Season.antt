@@ -34,11 +34,6 @@ holdsZero (b ∷ bs) = eqb b 0 || holdsZero bs
 unfoldable pub opens : List ℕ → Bool
 opens name = leb 1 (length name) && (leb (length name) 255 && not (holdsZero name))
 
--- the files, `read` what is read under a name: nothing if it cannot be opened or read. "A name listed twice counts twice"; a name that does not open "counts as an empty one"
-unfoldable pub filesOf : (List ℕ → List ℕ) → List (List ℕ) → List (List ℕ)
-filesOf read [] = []
-filesOf read (n ∷ ns) = cond (opens n) (read n) [] ∷ filesOf read ns
-
 -- ---- the sheet
 -- what the questions say of each file, with "four ones as prices"; every scratch that question 1 passes gives the same
 unfoldable pub judgedAll : List (List ℕ) → List Judged
@@ -163,11 +158,6 @@ sheetText s =
 -- `refused=NUMBER PLACE` and LF, "as by document 01's program"
 unfoldable pub refusalText : ℕ → ℕ → List ℕ
 refusalText q p = joined (refusedKey ∷ (decimal q ∷ (gap ∷ (decimal p ∷ (newline ∷ [])))))
-
--- what the program prints: "18, place 0, .. for no name or more than 64, before any file is read"
-unfoldable pub seasonText : List ℕ → (List ℕ → List ℕ) → List ℕ
-seasonText input read =
-    cond (leb 1 (length (namesOf input)) && leb (length (namesOf input)) 64) (sheetText (sheetOf (judgedAll (filesOf read (namesOf input))))) (refusalText 18 0)
 
 -- ---- what code needs: one more file at the end of the list
 -- an accepted one; `seen` are the accepted scripts before it

@@ -17,7 +17,7 @@ use Rattle.rules.specs.declared.Prices.{Prices}
 use Rattle.rules.specs.Run.{State, Out, go, halt, holds}
 use Rattle.rules.specs.RowMachine.{Tally, tallyOf, begin, turn, Phase, fresh, testing, Place, Next, more, over, to, chosen, decide, outcome, paid, picked, tests, onEnd, onRow, next, steps, Partners, pairs, rank}
 use Rattle.rules.specs.Scripts.{All, some, RowLimits, RowBelow}
-use Rattle.rules.proofs.RowSimulation.{falls-more, next-row, next-past}
+use Rattle.rules.proofs.RowSimulation.{falls-more, next-row, next-past, steps-add}
 use Rattle.rules.proofs.Pairing.{partners, pairs-in}
 use Rattle.rules.proofs.Nesting.{tree-of}
 use Rattle.rules.proofs.Laws.{kinds-first, kind-of}
@@ -143,14 +143,6 @@ module _ (π : Prices) (rows : List RowKind) (shut opener : ℕ → ℕ) where
   step-more zero a m e = ap (steps π rows shut opener 1) e
   step-more (suc n) (more p) m e = step-more n (next π rows shut opener p) m e
   step-more (suc n) (over f i s c) m e = absurd (let z : _≡_ {A = ℕ} 0 1 = cc in omega arith)
-
-  -- the last steps from where the first lead
-  pub steps-then : (n k : ℕ) (a : Next) → steps π rows shut opener (n + k) a ≡ steps π rows shut opener k (steps π rows shut opener n a)
-  unfolding steps
-  steps-then zero k a = let e : 0 + k ≡ k = omega arith in ap (λ z. steps π rows shut opener z a) e
-  steps-then (suc n) k (more p) = let e : suc n + k ≡ suc (n + k) = omega arith in ap (λ z. steps π rows shut opener z (more p)) e ∙ steps-then n k (next π rows shut opener p)
-  steps-then (suc n) zero (over f i s c) = let e : suc n + 0 ≡ suc n = omega arith in ap (λ z. steps π rows shut opener z (over f i s c)) e
-  steps-then (suc n) (suc k) (over f i s c) = let e : suc n + suc k ≡ suc (n + suc k) = omega arith in ap (λ z. steps π rows shut opener z (over f i s c)) e
 
   -- a step of the code: one step, or two; the last one begins at the second place
   pub data Onto (m : Place) : Place → Next → Type 0 where
@@ -392,7 +384,7 @@ module _ {text : List ℕ} (π : Prices) (rows : List Row) (count : ℕ) (t : Ta
     pub finished-on : (r : Machine) (store′ : List ℤ) (c′ : Tally) → Finished π ks t m r store store′ picks (tallyOf counts) c′ → Finished π ks t m₀ r store₀ store′ picks (tallyOf counts₀) c′
     finished-on r store′ c′ f =
         let here : (k : ℕ) → steps π ks shut opener (now .held .n + k) (nextOf m₀ store₀ picks (tallyOf counts₀)) ≡ steps π ks shut opener k (nextOf m store picks (tallyOf counts))
-        = λ k. steps-then π ks shut opener (now .held .n) k (nextOf m₀ store₀ picks (tallyOf counts₀)) ∙ ap (steps π ks shut opener k) (now .held .same) in
+        = λ k. steps-add π (ready .price) ks shut opener fit (now .held .n) k (nextOf m₀ store₀ picks (tallyOf counts₀)) ∙ ap (steps π ks shut opener k) (now .held .same) in
         let last = f .came on in
         record {
           n = now .held .n + f .n;

@@ -6,8 +6,13 @@ use desk::read_some;
 use libc::STDIN_FILENO;
 use names::LINE;
 use names::LINES;
+use names::ROOM;
+use repertoire::CUES;
+use repertoire::FILES;
+use repertoire::REPORTS;
 use repertoire::add_file;
 use sheet::Sheet;
+use sheet::TEXT;
 ghost use mathlib.Core.Path.{_≡_};
 ghost use mathlib.Core.List.{List};
 ghost use Prim.Native.Nat.{_≤_, _<_};
@@ -25,7 +30,7 @@ struct Listing {
 }
 
 // Reads a block of standard input. After 65 lines there is no need of more.
-fn read_block(line: usize, names: &mut [u8; 16_640], lengths: &mut [usize; 66]) -> Listing
+fn read_block(line: usize, names: &mut [u8; ROOM], lengths: &mut [usize; 66]) -> Listing
     ensures { λ r. ⌜ (Listed line (now (names .entry)) (now (lengths .entry)) → Listed (r .line) (now (names .exit)) (now (lengths .exit))) ⌝ }
 {
     let mut block = io::large_buffer();
@@ -40,7 +45,7 @@ fn read_block(line: usize, names: &mut [u8; 16_640], lengths: &mut [usize; 66]) 
 }
 
 // Reads the names. A proved loop has to end, and nothing says that standard input does: the loop counts its turns down, from a number that no run uses up.
-fn read_names(names: &mut [u8; 16_640], lengths: &mut [usize; 66]) -> Listing
+fn read_names(names: &mut [u8; ROOM], lengths: &mut [usize; 66]) -> Listing
     ensures { λ r. ⌜ Listed (r .line) (now (names .exit)) (now (lengths .exit)) ⌝ }
 {
     let mut line = names::start(names, lengths);
@@ -100,10 +105,10 @@ fn sheet_of(count: usize, names: &[u8], lengths: &[usize; 66], counts: &mut [u64
     requires { ⌜ (count ≤ 64) × (length (now names) ≡ 16_640) ⌝ }
     ensures { λ r. ⌜ SheetOf count r (now (counts .exit)) ⌝ }
 {
-    let mut firsts = [0usize; 64];
-    let mut reports = [0u8; 133_696];
-    let mut fired = [0usize; 64];
-    let mut cues = [0u32; 16_384];
+    let mut firsts = [0usize; FILES];
+    let mut reports = [0u8; REPORTS];
+    let mut fired = [0usize; FILES];
+    let mut cues = [0u32; CUES];
     let mut sheet = sheet::empty(counts);
     let mut k = 0;
     while k < count {
@@ -128,7 +133,7 @@ fn print_sheet(count: usize, names: &[u8], lengths: &[usize; 66])
     requires { ⌜ (count ≤ 64) × (length (now names) ≡ 16_640) ⌝ }
 {
     let mut counts = [0u64; 21];
-    let mut text = [0u8; 1_144];
+    let mut text = [0u8; TEXT];
     let sheet = sheet_of(count, names, lengths, &mut counts);
     let n = sheet::put_sheet(sheet, &counts, &mut text);
     print_front(&text, n);
@@ -141,7 +146,7 @@ fn print_no_sheet() {
 }
 
 fn main() {
-    let mut names = [0u8; 16_640];
+    let mut names = [0u8; ROOM];
     let mut lengths = [0usize; 66];
     let list = read_names(&mut names, &mut lengths);
     if list.failed {

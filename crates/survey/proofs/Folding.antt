@@ -23,7 +23,7 @@ use Rattle.ticks.specs.Capped.{capped}
 use Rattle.ticks.proofs.Caps.{cap-mul}
 use Rattle.passes.specs.declared.Round.{Round}
 use Rattle.passes.specs.Rounds.{roundOf, passIn}
-use Rattle.survey.specs.Fold.{loopCount, cut, cuts, State, folded, lastPrice}
+use Rattle.survey.specs.Fold.{loopCount, frontOf, restOf, cut, cuts, State, folded, lastPrice}
 
 -- ---- verdicts one after the other
 pub then-passed : (v : Verdict) → andThen v passed ≡ v
@@ -255,6 +255,24 @@ module _ (π : Prices) (r : Round) (x : State) where
         ∙ sym (then-assoc (x .over) _ _) ∙ sym (then-assoc _ q _))
         (lines-loop (x .lines) one inner (lines (roundOf r) (later s K) α rest) ∙ ap (λ k. ((x .lines ++ (cut one ∷ [])) ++ cuts inner) ++ cuts (lines (roundOf r) k α rest)) l)
         (omega arith)
+
+-- ---- the first row or block alone, then the rest
+module _ (π : Prices) (r : Round) (x : State) where
+  first-plain : (i : ℕ) (p : Plain) → folded π r x (plain i p done) ≡ pastPlain π r x p
+  first-plain i p = fold-plain π r x i p done ∙ fold-none π r (pastPlain π r x p) (omega arith)
+
+  pub first-pick : (i e : ℕ) (a b : Block) → folded π r x (pick i e a b done) ≡ pastPick π r x e a b
+  first-pick i e a b = fold-pick π r x i e a b done ∙ fold-none π r (pastPick π r x e a b) (omega arith)
+
+  pub first-loop : (i e : ℕ) (form : Form) (test : Test) (body : Block) → folded π r x (loop i e form test body done) ≡ pastLoop π r x i e form test body
+  first-loop i e form test body = fold-loop π r x i e form test body done ∙ fold-none π r (pastLoop π r x i e form test body) (omega arith)
+
+  pub fold-first : (b : Block) → x .spent ≤ 1_000_000_000_001 → folded π r x b ≡ folded π r (folded π r x (frontOf b)) (restOf b)
+  unfolding frontOf restOf
+  fold-first done h = ap (λ y. folded π r y done) (sym (fold-none π r x h))
+  fold-first (plain i p rest) h = fold-plain π r x i p rest ∙ ap (λ y. folded π r y rest) (sym (first-plain i p))
+  fold-first (pick i e a b rest) h = fold-pick π r x i e a b rest ∙ ap (λ y. folded π r y rest) (sym (first-pick i e a b))
+  fold-first (loop i e form test body rest) h = fold-loop π r x i e form test body rest ∙ ap (λ y. folded π r y rest) (sym (first-loop i e form test body))
 
 -- ---- a for's step row adds its price to its body, and nothing else
 pub record SameBody (π : Prices) (l : Last) (b c : Block) : Type 0 where

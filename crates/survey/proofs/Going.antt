@@ -1,11 +1,13 @@
 -- The survey's walk, row by row: what the code carries is what the fold carries.
 use mathlib.Core.Path.{_≡_, refl, sym, ap, ap₂, subst, _∙_, fun-ext}
+use mathlib.Core.Logic.{inl, inr}
 use mathlib.Core.Bool.{Bool, true, false, not, cond, _&&_}
 use mathlib.Core.List.{List, [], _∷_, _++_}
 use Prim.Native.Nat.{ℕ, _+_, _*_, _≤_, _<_, max}
 use native.Mathlib.Omega.{arith}
+use native.Mathlib.Nat.{mul-le-mul}
 use lib.Dec.{leb}
-use lib.IntN.{pos}
+use lib.IntN.{ℤ, pos}
 use Rattle.rules.specs.declared.Row.{Row}
 use Rattle.rules.specs.declared.Kind.{Kind}
 use Rattle.rules.specs.declared.Kind.the-variants.{Set, Move, Cue, Pick, Else, End, While, Do, For, Off, Hold}
@@ -26,6 +28,7 @@ use Rattle.rules.specs.declared.Verdict.{Verdict}
 use Rattle.rules.specs.declared.Verdict.the-variants.{Passed as passed, Refused as refused}
 use Rattle.rules.specs.Questions.{andThen, asked, tickLimit, ofTrip, loopsVerdict, blocksVerdict, loopVerdict}
 use Rattle.table.specs.declared.Shape.{Shape}
+use Rattle.table.proofs.Shape as shapes
 use lib.ListN.{length}
 use Rattle.lines.specs.Coded.{firstLines}
 use Rattle.table.specs.Code.{kindAt}
@@ -33,7 +36,9 @@ use Rattle.table.specs.Shapes.{shapeOf, plainOf}
 use Rattle.steps.specs.Tree.{blockAt, Whole, Ready, Walked, headOf, formOf, testOf}
 use Rattle.steps.specs.Body.{bodyAt}
 use Rattle.steps.proofs.Laws.{PickIs, LoopIs}
-use Rattle.steps.proofs.Walking.{Walking, plain-row, pick-row, loop-row}
+use Rattle.steps.proofs.Walking.{Walking, plain-row}
+use Rattle.trips.specs.Env.{envOf}
+use Rattle.ranges.specs.Env.{EnvIs}
 use Rattle.ticks.specs.Capped.{capped, once, overOf}
 use Rattle.ticks.proofs.Caps.{cap-mul, loop-ticks-is}
 use Rattle.passes.specs.declared.Round.{Round}
@@ -41,8 +46,8 @@ use Rattle.passes.specs.Rounds.{roundOf, passIn, FineRound, branchOf}
 use Rattle.passes.proofs.Loops.{walk-is}
 use Rattle.survey.specs.declared.Entered.{Entered}
 use Rattle.survey.specs.Enter.{walkedAt, Entry}
-use Rattle.survey.specs.Fold.{loopCount, cut, cuts, State, TallyLines, folded, tallied, lastPrice, lastTicks, lineFor, Restarted, PastRow, Lined, Closed, EndedAt, Walkable, Passed, Surveyed}
-use Rattle.survey.proofs.Folding.{state-is, cap-lines, later-in, fold-plain, fold-pick, fold-loop, pastPlain, pickTicks, pastPick, ownTicks, allTicks, pastLoop, SameBody, same-body}
+use Rattle.survey.specs.Fold.{loopCount, frontOf, restOf, cut, cuts, State, TallyLines, folded, tallied, lastPrice, lastTicks, lineFor, Restarted, PastRow, Lined, Closed, EndedAt, Walkable, Passed, Surveyed, IsBlock, PassedBlock}
+use Rattle.survey.proofs.Folding.{state-is, cap-lines, later-in, fold-plain, first-pick, first-loop, fold-first, pastPlain, pickTicks, pastPick, ownTicks, allTicks, pastLoop, SameBody, same-body}
 use Rattle.survey.proofs.Bodies.{body-known, body-sum, body-lines, own-passes, cap-often}
 
 -- what a walk over a block found, part by part, from a tally with these parts
@@ -112,6 +117,17 @@ no-last text π (For v s c x d) o = absurd (miss no-for 9 tt o)
 no-last text π (Off v w c k) o = refl
 no-last text π (Hold v) o = refl
 
+-- a row that is neither plain nor a close begins a block; a block that is no pick is a loop
+pub block-shape : (s : Shape) → OneOf (1 ∷ 2 ∷ []) (tagOf shapes.the-type s) → IsBlock s
+block-shape Shape.Plain o = absurd (miss (1 ∷ 2 ∷ []) 0 tt o)
+block-shape Shape.Branch o = inl refl
+block-shape Shape.Loop o = inr refl
+block-shape Shape.Close o = absurd (miss (1 ∷ 2 ∷ []) 3 tt o)
+
+pub loop-shape : (s : Shape) → OneOf (0 ∷ 2 ∷ 3 ∷ []) (tagOf shapes.the-type s) → IsBlock s → s ≡ Shape.Loop
+loop-shape s o (inl e) = absurd (miss (0 ∷ 2 ∷ 3 ∷ []) 1 tt (subst (λ x. OneOf (0 ∷ 2 ∷ 3 ∷ []) (tagOf shapes.the-type x)) e o))
+loop-shape s o (inr e) = e
+
 -- the walk is over
 pub closing : {text : List ℕ} {π : Prices} {rows : List Row} {count at i : ℕ} {outer : Round} {ρ ρ₀ : Env} {t t₀ r : TallyLines} → Walked text rows count at i (tallied t ρ) (folded π outer (tallied t₀ ρ₀)) → t .spent ≤ 1_000_000_000_001 → length (t .lines) ≡ 16 → EndedAt t i r
     → Passed text π rows count at ρ₀ outer t₀ r
@@ -152,216 +168,262 @@ pub record Going (text : List ℕ) (π : Prices) (rows : List Row) (count : ℕ)
   pub small : t .spent ≤ 1_000_000_000_001
   pub long : length (t .lines) ≡ 16
 
-module _ {text : List ℕ} (π : Prices) (rows : List Row) (count : ℕ) (round : Round) (at : ℕ) (x₀ : State) where
-  module _ {i : ℕ} {ρ : Env} {t : TallyLines} (k : Going text π rows count round at x₀ i ρ t) where
-    -- the loops that are left
-    pub room : folded π round x₀ (blockAt text rows count at) .loops ≡ t .loops + loopCount (blockAt text rows count i)
-    unfolding folded
-    room = ap (λ (x : State). x .loops) (k .walk .value)
+module _ {text : List ℕ} {π : Prices} {rows : List Row} {count : ℕ} {round : Round} {at : ℕ} {x₀ : State} {i : ℕ} {ρ : Env} {t : TallyLines} (k : Going text π rows count round at x₀ i ρ t) where
+  -- the loops that are left
+  pub room : x₀ .loops + loopCount (blockAt text rows count at) ≡ t .loops + loopCount (blockAt text rows count i)
+  unfolding folded
+  room = ap (λ (x : State). x .loops) (k .walk .value)
 
-    module _ (l : i < count) (built : Whole text rows count) where
-      pub go-plain : shapeOf (kindAt rows i) ≡ Shape.Plain → {σ : Env} {r : TallyLines} → σ ≡ afterRow ρ (plainOf text (kindAt rows i)) → PastRow π round t (plainOf text (kindAt rows i)) r → Going text π rows count round at x₀ (i + 1) σ r
-      go-plain h {σ} {r} a c =
-          let e : tallied r σ ≡ pastPlain π round (tallied t ρ) (plainOf text (kindAt rows i)) = c .value σ ∙ state-is a refl refl refl refl refl refl in
+  pub go-plain : i < count → Whole text rows count → shapeOf (kindAt rows i) ≡ Shape.Plain → {σ : Env} {r : TallyLines} → σ ≡ afterRow ρ (plainOf text (kindAt rows i)) → PastRow π round t (plainOf text (kindAt rows i)) r
+      → Going text π rows count round at x₀ (i + 1) σ r
+  go-plain l built h {σ} {r} a c =
+      let e : tallied r σ ≡ pastPlain π round (tallied t ρ) (plainOf text (kindAt rows i)) = c .value σ ∙ state-is a refl refl refl refl refl refl in
+      record {
+        walk = plain-row rows count (folded π round) at x₀ (k .walk) l built h (λ rest. fold-plain π round (tallied t ρ) i (plainOf text (kindAt rows i)) rest ∙ ap (λ y. folded π round y rest) (sym e));
+        small = let z = ap (λ (x : State). x .spent) (c .value σ) in omega arith;
+        long = ap length (c .same) ∙ k .long;
+      }
+
+  -- past a block, by its first row's own walk; or stopped in it
+  first-then : folded π round x₀ (blockAt text rows count at) ≡ folded π round (folded π round (tallied t ρ) (frontOf (blockAt text rows count i))) (restOf (blockAt text rows count i))
+  first-then = k .walk .value ∙ fold-first π round (tallied t ρ) (blockAt text rows count i) (k .small)
+
+  pub go-block : {ranges : List (List ℤ)} {r : TallyLines} → PassedBlock text π rows count i ρ round t ranges r → Going text π rows count round at x₀ (r .next + 1) (envOf ranges) r
+  go-block {ranges} {r} p =
+      let w = k .walk in
+      record {
+        walk = record { low = omega arith; high = omega arith; value = first-then ∙ ap₂ (folded π round) (sym (p .value)) (p .rest); place = w .place ∙ p .place };
+        small = p .small;
+        long = p .long;
+      }
+
+  pub block-stops : (n p : ℕ) → folded π round (tallied t ρ) (frontOf (blockAt text rows count i)) .verdict ≡ refused n p → folded π round x₀ (blockAt text rows count at) .verdict ≡ refused n p
+  unfolding folded andThen
+  block-stops n p h = ap (λ (x : State). x .verdict) first-then ∙ ap (λ v. andThen v (loopsVerdict (after ρ (frontOf (blockAt text rows count i))) (restOf (blockAt text rows count i)))) h
+
+-- ---- a block at row i, from the ranges ρ and the tally t
+module _ {text : List ℕ} (π : Prices) {rows : List Row} {count : ℕ} (round : Round) {i : ℕ} (ρ : Env) (t : TallyLines) where
+  -- ---- a pick
+  module _ {m q e : ℕ} (u : PickIs text rows count i m q e) where
+    abbrev A : Block
+    A = blockAt text rows count (i + 1)
+
+    abbrev B : Block
+    B = blockAt text rows count q
+
+    pub pick-room : t .loops + loopCount (blockAt text rows count i) ≤ 16 → t .loops + loopCount A + loopCount B ≤ 16
+    unfolding loopCount
+    pick-room h = omega (arith, ap loopCount (u .block))
+
+    pick-alone : folded π round (tallied t ρ) (frontOf (blockAt text rows count i)) ≡ pastPick π round (tallied t ρ) e A B
+    unfolding frontOf
+    pick-alone = ap (λ b. folded π round (tallied t ρ) (frontOf b)) (u .block) ∙ first-pick π round (tallied t ρ) i e A B
+
+    pub pick-first : (n p : ℕ) → loopsVerdict ρ A ≡ refused n p → folded π round (tallied t ρ) (frontOf (blockAt text rows count i)) .verdict ≡ refused n p
+    unfolding andThen
+    pick-first n p h = ap (λ (x : State). x .verdict) pick-alone ∙ ap (λ v. andThen v (loopsVerdict ρ B)) h
+
+    pub pick-second : (n p : ℕ) → loopsVerdict ρ A ≡ passed → loopsVerdict ρ B ≡ refused n p → folded π round (tallied t ρ) (frontOf (blockAt text rows count i)) .verdict ≡ refused n p
+    unfolding andThen
+    pick-second n p g h = ap (λ (x : State). x .verdict) pick-alone ∙ ap₂ (λ v w. andThen v w) g h
+
+    -- a part's ticks and lines
+    abbrev part : Round
+    part = branchOf round
+
+    part-ticks : (b : Block) → sumOver (passIn part false) (pos 0) 1 (λ j. ticks π j ρ b) ≡ ticks π any ρ b
+    part-ticks b = over-once (pos 0) (λ j. ticks π j ρ b)
+
+    part-lines : (b : Block) → cuts (lines (roundOf part) any ρ b) ≡ cuts (lines (alike (often (roundOf round))) any ρ b)
+    part-lines b = cap-lines 1 (pos 0) _ _ (omega arith) any ρ b
+
+    -- a part, walked with its ticks from the start
+    pub part-by : {at : ℕ} {p : Round} {x y z : TallyLines} → p ≡ part → Restarted x (x .kept) 0 y → Passed text π rows count at ρ p y z
+        → Part π part (x .kept) ρ 0 (overOf (x .over)) (firstLines (x .lines) (x .loops)) (x .loops) (blockAt text rows count at) z
+    part-by {at} {p} {x} {y} {z} e h g =
+        let ls = firstLines (x .lines) (x .loops) in
+        subst (λ q. Part π q (x .kept) ρ 0 (overOf (x .over)) ls (x .loops) (blockAt text rows count at) z) e (part-of (x .kept) 0 (overOf (x .over)) ls (x .loops) (h .value ρ) g)
+
+    pub past-pick : {a b : TallyLines} {ranges : List (List ℤ)} {r : TallyLines}
+        → Part π part (t .kept) ρ 0 (overOf (t .over)) (firstLines (t .lines) (t .loops)) (t .loops) A a
+        → Part π part (a .kept) ρ 0 (overOf (a .over)) (firstLines (a .lines) (a .loops)) (a .loops) B b
+        → Closed t b e (capped (π .pick + max (a .spent) (b .spent))) (capped (round .count * capped (π .pick + max (a .spent) (b .spent)))) (b .kept) r → EnvIs ranges (join (after ρ A) (after ρ B)) → PassedBlock text π rows count i ρ round t ranges r
+    unfolding andThen restOf
+    past-pick {a} {b} {ranges} {r} pa pb c s =
+        let G = pickTicks π round (tallied t ρ) A B in
+        let fg : capped (π .pick + max (a .spent) (b .spent)) ≡ capped G = omega (arith, pa .spent, pb .spent, part-ticks A, part-ticks B) in
+        let all : capped (round .count * capped (π .pick + max (a .spent) (b .spent))) ≡ capped (round .count * G) = ap (λ z. capped (round .count * z)) fg ∙ cap-mul (round .count) G in
+        let z : tallied r (envOf ranges) ≡ pastPick π round (tallied t ρ) e A B = state-is (s .value)
+        (c .kept ∙ pb .kept ∙ ap (λ p. p && not (assigns (round .v) B)) (pa .kept))
+        (sym (ap₂ (λ v w. andThen v w) (pa .verdict) (pb .verdict)))
+        (omega (arith, c .spent, all))
+        (c .over .value G fg ∙ ap (λ v. andThen v (asked 13 e (leb G tickLimit) passed)) (pb .over ∙ ap (λ v. andThen v (blocksVerdict π ρ B)) (pa .over)))
+        (ap₂ firstLines (c .same) (c .loops) ∙ pb .lined ∙ ap₂ (λ x y. x ++ y) (pa .lined ∙ ap (λ x. firstLines (t .lines) (t .loops) ++ x) (part-lines A)) (part-lines B))
+        (c .loops ∙ pb .count ∙ ap (λ x. x + loopCount B) (pa .count)) in
+        record {
+          value = z ∙ sym pick-alone;
+          rest = rw (c .next) (ap restOf (u .block));
+          place = rw (c .next) (u .end);
+          low = omega (arith, c .next);
+          high = omega (arith, c .next);
+          small = omega (arith, c .spent);
+          long = ap length (c .same) ∙ pb .long;
+          env-long = s .long;
+        }
+
+  -- ---- a loop
+  module _ {e : ℕ} (u : LoopIs text rows count (headOf text (kindAt rows i)) i e) where
+    abbrev form : Form
+    form = formOf text (kindAt rows i)
+
+    abbrev test : Test
+    test = testOf text (kindAt rows i)
+
+    abbrev body : Block
+    body = bodyAt text rows count i
+
+    abbrev σ : Env
+    σ = atStart form test ρ
+
+    abbrev β : Env
+    β = inside form σ test body
+
+    same : SameBody π (headOf text (kindAt rows i) .last) (blockAt text rows count (i + 1)) body
+    same = same-body π (headOf text (kindAt rows i) .last) i (blockAt text rows count (i + 1))
+
+    pub loop-room : t .loops + loopCount (blockAt text rows count i) ≤ 16 → t .loops + 1 + loopCount (blockAt text rows count (i + 1)) ≤ 16
+    unfolding loopCount
+    loop-room h = omega (arith, ap loopCount (u .block), same .count)
+
+    loop-alone : folded π round (tallied t ρ) (frontOf (blockAt text rows count i)) ≡ pastLoop π round (tallied t ρ) i e form test body
+    unfolding frontOf
+    loop-alone = ap (λ b. folded π round (tallied t ρ) (frontOf b)) (u .block) ∙ first-loop π round (tallied t ρ) i e form test body
+
+    pub loop-refused : (n p : ℕ) → ofTrip i (trip form σ test body) ≡ refused n p → folded π round (tallied t ρ) (frontOf (blockAt text rows count i)) .verdict ≡ refused n p
+    unfolding andThen
+    loop-refused n p g = ap (λ (x : State). x .verdict) loop-alone ∙ ap (λ v. andThen v (loopsVerdict β body)) g
+
+    pub body-refused : (n p : ℕ) → ofTrip i (trip form σ test body) ≡ passed → loopsVerdict β (blockAt text rows count (i + 1)) ≡ refused n p → folded π round (tallied t ρ) (frontOf (blockAt text rows count i)) .verdict ≡ refused n p
+    unfolding andThen
+    body-refused n p g h = ap (λ (x : State). x .verdict) loop-alone ∙ ap₂ (λ v w. andThen v w) g (same .loops β ∙ h)
+
+    -- what is known at its start, its turns in all passes, a pass with its test
+    abbrev κ : Pass
+    κ = passIn round (t .kept && not (starts (round .v) form test))
+
+    abbrev W : ℕ
+    W = walkedAt text round (t .kept) (kindAt rows i) (trip form σ test body)
+
+    abbrev turn : Pass → ℕ
+    turn j = ticks π j β body + π .test
+
+    start-is : startPass form test (passIn round (t .kept)) ≡ κ
+    start-is = later-in round (t .kept) (λ w. starts w form test)
+
+    turns-are : turnsWalk (roundOf round) κ form σ test body ≡ W
+    turns-are = walk-is form σ test body (roundOf round) κ
+
+    total-is : totalOf (roundOf round) κ form σ test body ≡ W * round .times
+    unfolding totalOf
+    total-is = ap (λ z. z * round .times) turns-are
+
+    -- G: the ticks of the passes as they are walked
+    module _ (x : Entered) {first : TallyLines} (en : Entry text π i (test .tested) round (kindAt rows i) (trip form σ test body) t x first) where
+      abbrev inner : (Pass → ℕ) → ℕ
+      inner f = sumOver (passIn (x .round) (x .round .known)) (x .round .by) (x .round .count) f
+
+      inner-is : (f : Pass → ℕ) → inner f ≡ sumOver (firstPass form σ test body) (inBody (roundOf round) κ form σ test body .by) (inBody (roundOf round) κ form σ test body .count) f
+      inner-is = body-sum round κ form σ test body (capped (W * round .times)) (x .round) (en .round)
+
+      sums-known : x .round .known ≡ sums form σ test body
+      sums-known = body-known round κ form σ test body (capped (W * round .times)) (x .round) (en .round)
+
+      pub with-last : inner (λ j. ticks π j β body) ≡ x .round .count * lastTicks text π (kindAt rows i) + inner (λ j. ticks π j β (blockAt text rows count (i + 1)))
+      with-last =
+          let p = lastTicks text π (kindAt rows i) in
+          ap inner (fun-ext λ j. same .ticked j β)
+          ∙ over-add (passIn (x .round) (x .round .known)) (x .round .by) (x .round .count) (λ _. p) (λ j. ticks π j β (blockAt text rows count (i + 1)))
+          ∙ ap (λ z. z + inner (λ j. ticks π j β (blockAt text rows count (i + 1)))) (over-same (passIn (x .round) (x .round .known)) (x .round .by) (x .round .count) p)
+
+      with-tests : inner (λ j. ticks π j β body) + x .ran .tests * π .test ≡ inner turn
+      with-tests =
+          omega (
+            arith,
+            ap (λ z. z * π .test) (en .ran .tests),
+            over-add (passIn (x .round) (x .round .known)) (x .round .by) (x .round .count) (λ j. ticks π j β body) (λ _. π .test),
+            over-same (passIn (x .round) (x .round .known)) (x .round .by) (x .round .count) (π .test),
+          )
+
+      own-is : capped (x .ran .own * (inner (λ j. ticks π j β body) + x .ran .tests * π .test) + 1 * once π form) ≡ capped (ownTicks π round (tallied t ρ) i e form test body)
+      own-is =
+          let n = turns form σ test body in
+          let a : x .ran .own ≡ cond (sums form σ test body) 1 n = en .ran .own ∙ ap (λ b. cond b 1 n) sums-known in
+          let g = with-tests ∙ inner-is turn in
+          let z : x .ran .own * (inner (λ j. ticks π j β body) + x .ran .tests * π .test) ≡ overPasses any form σ test body turn = (λ j. a j * g j) ∙ sym (own-passes round κ form σ test body turn) in
+          omega (arith, z, loop-ticks-is π form (overPasses any form σ test body turn))
+
+      all-is : capped (x .ran .all * (inner (λ j. ticks π j β body) + x .ran .tests * π .test) + round .count * once π form) ≡ capped (allTicks π round (tallied t ρ) i e form test body)
+      all-is =
+          let s = sums form σ test body in
+          let K = passIn round (t .kept) in
+          let o : ℕ = round .count * once π form in
+          let a : x .ran .all ≡ cond s (round .count) (capped W) = en .ran .all ∙ ap (λ b. cond b (round .count) (capped W)) sums-known in
+          let g = with-tests ∙ inner-is turn in
+          let G = sumOver (firstPass form σ test body) (inBody (roundOf round) κ form σ test body .by) (inBody (roundOf round) κ form σ test body .count) turn in
+          let f : Pass → ℕ = λ j. overPasses j form σ test body turn in
+          let walk : sumOver κ (round .by) (round .count) f ≡ cond s (round .count) W * G = passes-walk (roundOf round) κ form σ test body turn ∙ ap (λ z. cond s (round .count) z * G) turns-are in
+          let past : sumOver K (round .by) (round .count) (λ j. f (startPass form test j)) ≡ sumOver κ (round .by) (round .count) f
+          = over-past (λ w. starts w form test) K (round .by) (round .count) f ∙ ap (λ k. sumOver k (round .by) (round .count) f) start-is in
+          let loops : allTicks π round (tallied t ρ) i e form test body ≡ sumOver K (round .by) (round .count) (λ j. f (startPass form test j)) + o
+          = ap (sumOver K (round .by) (round .count)) (fun-ext λ j. loop-ticks-is π form (f (startPass form test j)))
+          ∙ over-add K (round .by) (round .count) (λ j. f (startPass form test j)) (λ _. once π form)
+          ∙ ap (λ z. sumOver K (round .by) (round .count) (λ j. f (startPass form test j)) + z) (over-same K (round .by) (round .count) (once π form)) in
+          (λ j. capped (a j * g j + o)) ∙ cap-often round κ form σ test body s (round .count) W G o ∙ ap (λ z. capped (z + o)) (sym walk ∙ sym past) ∙ ap capped (sym loops)
+
+      -- its body may be walked, and has been
+      pub body-walkable : Ready text rows count (i + 1) → FinePrices π → t .loops + loopCount (blockAt text rows count i) ≤ 16 → Walkable text π rows count (i + 1) (x .round) first
+      body-walkable k fine h = lined-walkable k fine (en .fine) (en .lined) (omega (arith, mul-le-mul (en .fine .few) (last-small fine text (kindAt rows i)))) (loop-room h)
+
+      pub body-by : {ρ′ : Env} {b : TallyLines} → ρ′ ≡ β → Passed text π rows count (i + 1) ρ′ (x .round) first b
+          → Part π (x .round) (x .round .known) β (x .round .count * lastTicks text π (kindAt rows i)) (overOf (t .over)) (firstLines (t .lines) (t .loops) ++ (lineFor i (trip form σ test body) (turns form σ test body) (capped (W * round .times)) ∷ [])) (t .loops + 1) (blockAt text rows count (i + 1)) b
+      body-by {ρ′} {b} e p =
+          let s = x .round .count * lastTicks text π (kindAt rows i) in
+          let ls = firstLines (t .lines) (t .loops) ++ (lineFor i (trip form σ test body) (turns form σ test body) (capped (W * round .times)) ∷ []) in
+          subst (λ z. Part π (x .round) (x .round .known) z s (overOf (t .over)) ls (t .loops + 1) (blockAt text rows count (i + 1)) b) e (part-of (x .round .known) s (overOf (t .over)) ls (t .loops + 1) (en .lined .value _) p)
+
+      pub past-loop : {ranges : List (List ℤ)} {b r : TallyLines} {keep : Bool}
+          → Part π (x .round) (x .round .known) β (x .round .count * lastTicks text π (kindAt rows i)) (overOf (t .over)) (firstLines (t .lines) (t .loops) ++ (lineFor i (trip form σ test body) (turns form σ test body) (capped (W * round .times)) ∷ [])) (t .loops + 1) (blockAt text rows count (i + 1)) b
+          → ((G : ℕ) → b .spent ≡ capped G → Closed t b e (capped (x .ran .own * (G + x .ran .tests * π .test) + 1 * once π form)) (capped (x .ran .all * (G + x .ran .tests * π .test) + round .count * once π form)) keep r)
+          → keep ≡ (t .kept && not (starts (round .v) form test)) && not (assigns (round .v) body) → EnvIs ranges (outside form σ test body) → PassedBlock text π rows count i ρ round t ranges r
+      unfolding andThen restOf
+      past-loop {ranges} {b} {r} {keep} p f kp s =
+          let n = turns form σ test body in
+          let G = inner (λ j. ticks π j β body) in
+          let F = ownTicks π round (tallied t ρ) i e form test body in
+          let c = f G (p .spent ∙ ap capped (sym with-last)) in
+          let L : lineFor i (trip form σ test body) n (capped (W * round .times)) ≡ cut (line (roundOf round) (startPass form test (passIn round (t .kept))) i form σ test body)
+          = ap (λ z. lineFor i (trip form σ test body) n (capped z)) (sym total-is ∙ ap (λ j. totalOf (roundOf round) j form σ test body) (sym start-is)) in
+          let lined : cuts (lines (roundOf (x .round)) (passIn (x .round) (x .round .known)) β (blockAt text rows count (i + 1))) ≡ cuts (lines (inBody (roundOf round) (startPass form test (passIn round (t .kept))) form σ test body) (firstPass form σ test body) β body)
+          = ap cuts (sym (same .lined (roundOf (x .round)) (passIn (x .round) (x .round .known)) β))
+          ∙ body-lines round κ form σ test body (capped (W * round .times)) (x .round) (en .round) (ap capped (sym total-is)) β body
+          ∙ ap (λ j. cuts (lines (inBody (roundOf round) j form σ test body) (firstPass form σ test body) β body)) (sym start-is) in
+          let y : tallied r (envOf ranges) ≡ pastLoop π round (tallied t ρ) i e form test body = state-is (s .value)
+          (c .kept ∙ kp)
+          (sym (ap₂ (λ a w. andThen a w) (en .verdict) (same .loops β ∙ p .verdict)))
+          (c .spent ∙ omega (arith, all-is))
+          (c .over .value F own-is ∙ ap (λ w. andThen w (asked 13 e (leb F tickLimit) passed)) (p .over ∙ ap (andThen (overOf (t .over))) (sym (same .over β))))
+          (ap₂ firstLines (c .same) (c .loops) ∙ p .lined ∙ ap₂ (λ a w. (firstLines (t .lines) (t .loops) ++ (a ∷ [])) ++ w) L lined)
+          (c .loops ∙ p .count ∙ ap (λ m. t .loops + 1 + m) (sym (same .count))) in
           record {
-            walk = plain-row rows count (folded π round) at x₀ (k .walk) l built h (λ rest. fold-plain π round (tallied t ρ) i (plainOf text (kindAt rows i)) rest ∙ ap (λ y. folded π round y rest) (sym e));
-            small = let z = ap (λ (x : State). x .spent) (c .value σ) in omega arith;
-            long = ap length (c .same) ∙ k .long;
+            value = y ∙ sym loop-alone;
+            rest = rw (c .next) (ap restOf (u .block));
+            place = rw (c .next) (u .end);
+            low = omega (arith, c .next);
+            high = omega (arith, c .next);
+            small = omega (arith, c .spent);
+            long = ap length (c .same) ∙ p .long;
+            env-long = s .long;
           }
-
-      -- ---- a pick
-      module _ {m q e : ℕ} (u : PickIs text rows count i m q e) where
-        abbrev A : Block
-        A = blockAt text rows count (i + 1)
-
-        abbrev B : Block
-        B = blockAt text rows count q
-
-        pub pick-room : x₀ .loops + loopCount (blockAt text rows count at) ≤ 16 → t .loops + loopCount A + loopCount B ≤ 16
-        unfolding folded loopCount
-        pick-room h = omega (arith, room, ap loopCount (u .block))
-
-        verdict-pick : folded π round x₀ (blockAt text rows count at) .verdict ≡ andThen (andThen (andThen passed (loopsVerdict ρ A)) (loopsVerdict ρ B)) (loopsVerdict (join (after ρ A) (after ρ B)) (blockAt text rows count (e + 1)))
-        unfolding folded
-        verdict-pick = ap (λ (x : State). x .verdict) (k .walk .value ∙ ap (folded π round (tallied t ρ)) (u .block) ∙ fold-pick π round (tallied t ρ) i e A B _)
-
-        pub pick-first : (n p : ℕ) → loopsVerdict ρ A ≡ refused n p → folded π round x₀ (blockAt text rows count at) .verdict ≡ refused n p
-        unfolding andThen
-        pick-first n p h = verdict-pick ∙ ap (λ v. andThen (andThen v (loopsVerdict ρ B)) (loopsVerdict (join (after ρ A) (after ρ B)) (blockAt text rows count (e + 1)))) h
-
-        pub pick-second : (n p : ℕ) → loopsVerdict ρ A ≡ passed → loopsVerdict ρ B ≡ refused n p → folded π round x₀ (blockAt text rows count at) .verdict ≡ refused n p
-        unfolding andThen
-        pick-second n p g h = verdict-pick ∙ ap₂ (λ v w. andThen (andThen v w) (loopsVerdict (join (after ρ A) (after ρ B)) (blockAt text rows count (e + 1)))) g h
-
-        -- a part's ticks and lines
-        abbrev part : Round
-        part = branchOf round
-
-        part-ticks : (b : Block) → sumOver (passIn part false) (pos 0) 1 (λ j. ticks π j ρ b) ≡ ticks π any ρ b
-        part-ticks b = over-once (pos 0) (λ j. ticks π j ρ b)
-
-        part-lines : (b : Block) → cuts (lines (roundOf part) any ρ b) ≡ cuts (lines (alike (often (roundOf round))) any ρ b)
-        part-lines b = cap-lines 1 (pos 0) _ _ (omega arith) any ρ b
-
-        pub go-pick : {a b : TallyLines} {σ : Env} {r : TallyLines}
-            → Part π part (t .kept) ρ 0 (overOf (t .over)) (firstLines (t .lines) (t .loops)) (t .loops) A a
-            → Part π part (a .kept) ρ 0 (overOf (a .over)) (firstLines (a .lines) (a .loops)) (a .loops) B b
-            → Closed t b e (capped (π .pick + max (a .spent) (b .spent))) (capped (round .count * capped (π .pick + max (a .spent) (b .spent)))) (b .kept) r → σ ≡ join (after ρ A) (after ρ B) → Going text π rows count round at x₀ (e + 1) σ r
-        unfolding andThen
-        go-pick {a} {b} {σ} {r} pa pb c s =
-            let G = pickTicks π round (tallied t ρ) A B in
-            let fg : capped (π .pick + max (a .spent) (b .spent)) ≡ capped G = omega (arith, pa .spent, pb .spent, part-ticks A, part-ticks B) in
-            let all : capped (round .count * capped (π .pick + max (a .spent) (b .spent))) ≡ capped (round .count * G) = ap (λ z. capped (round .count * z)) fg ∙ cap-mul (round .count) G in
-            let z : tallied r σ ≡ pastPick π round (tallied t ρ) e A B = state-is s
-            (c .kept ∙ pb .kept ∙ ap (λ p. p && not (assigns (round .v) B)) (pa .kept))
-            (sym (ap₂ (λ v w. andThen v w) (pa .verdict) (pb .verdict)))
-            (omega (arith, c .spent, all))
-            (c .over .value G fg ∙ ap (λ v. andThen v (asked 13 e (leb G tickLimit) passed)) (pb .over ∙ ap (λ v. andThen v (blocksVerdict π ρ B)) (pa .over)))
-            (ap₂ firstLines (c .same) (c .loops) ∙ pb .lined ∙ ap₂ (λ x y. x ++ y) (pa .lined ∙ ap (λ x. firstLines (t .lines) (t .loops) ++ x) (part-lines A)) (part-lines B))
-            (c .loops ∙ pb .count ∙ ap (λ x. x + loopCount B) (pa .count)) in
-            record {
-              walk = pick-row rows count (folded π round) at x₀ (k .walk) l built u (λ rest. fold-pick π round (tallied t ρ) i e A B rest ∙ ap (λ y. folded π round y rest) (sym z));
-              small = omega (arith, c .spent);
-              long = ap length (c .same) ∙ pb .long;
-            }
-
-      -- ---- a loop
-      module _ {e : ℕ} (u : LoopIs text rows count (headOf text (kindAt rows i)) i e) where
-        abbrev form : Form
-        form = formOf text (kindAt rows i)
-
-        abbrev test : Test
-        test = testOf text (kindAt rows i)
-
-        abbrev body : Block
-        body = bodyAt text rows count i
-
-        abbrev σ : Env
-        σ = atStart form test ρ
-
-        abbrev β : Env
-        β = inside form σ test body
-
-        same : SameBody π (headOf text (kindAt rows i) .last) (blockAt text rows count (i + 1)) body
-        same = same-body π (headOf text (kindAt rows i) .last) i (blockAt text rows count (i + 1))
-
-        pub loop-room : x₀ .loops + loopCount (blockAt text rows count at) ≤ 16 → t .loops + 1 + loopCount (blockAt text rows count (i + 1)) ≤ 16
-        unfolding folded loopCount
-        loop-room h = omega (arith, room, ap loopCount (u .block), same .count)
-
-        verdict-loop : folded π round x₀ (blockAt text rows count at) .verdict ≡ andThen (andThen (andThen passed (ofTrip i (trip form σ test body))) (loopsVerdict β body)) (loopsVerdict (outside form σ test body) (blockAt text rows count (e + 1)))
-        unfolding folded
-        verdict-loop = ap (λ (x : State). x .verdict) (k .walk .value ∙ ap (folded π round (tallied t ρ)) (u .block) ∙ fold-loop π round (tallied t ρ) i e form test body _)
-
-        pub loop-refused : (n p : ℕ) → ofTrip i (trip form σ test body) ≡ refused n p → folded π round x₀ (blockAt text rows count at) .verdict ≡ refused n p
-        unfolding andThen
-        loop-refused n p g = verdict-loop ∙ ap (λ v. andThen (andThen v (loopsVerdict β body)) (loopsVerdict (outside form σ test body) (blockAt text rows count (e + 1)))) g
-
-        pub body-refused : (n p : ℕ) → ofTrip i (trip form σ test body) ≡ passed → loopsVerdict β (blockAt text rows count (i + 1)) ≡ refused n p → folded π round x₀ (blockAt text rows count at) .verdict ≡ refused n p
-        unfolding andThen
-        body-refused n p g h = verdict-loop ∙ ap₂ (λ v w. andThen (andThen v w) (loopsVerdict (outside form σ test body) (blockAt text rows count (e + 1)))) g (same .loops β ∙ h)
-
-        -- what is known at its start, its turns in all passes, a pass with its test
-        abbrev κ : Pass
-        κ = passIn round (t .kept && not (starts (round .v) form test))
-
-        abbrev W : ℕ
-        W = walkedAt text round (t .kept) (kindAt rows i) (trip form σ test body)
-
-        abbrev turn : Pass → ℕ
-        turn j = ticks π j β body + π .test
-
-        start-is : startPass form test (passIn round (t .kept)) ≡ κ
-        start-is = later-in round (t .kept) (λ w. starts w form test)
-
-        turns-are : turnsWalk (roundOf round) κ form σ test body ≡ W
-        turns-are = walk-is form σ test body (roundOf round) κ
-
-        total-is : totalOf (roundOf round) κ form σ test body ≡ W * round .times
-        unfolding totalOf
-        total-is = ap (λ z. z * round .times) turns-are
-
-        -- G: the ticks of the passes as they are walked
-        module _ (x : Entered) {first : TallyLines} (en : Entry text π i (test .tested) round (kindAt rows i) (trip form σ test body) t x first) where
-          abbrev inner : (Pass → ℕ) → ℕ
-          inner f = sumOver (passIn (x .round) (x .round .known)) (x .round .by) (x .round .count) f
-
-          inner-is : (f : Pass → ℕ) → inner f ≡ sumOver (firstPass form σ test body) (inBody (roundOf round) κ form σ test body .by) (inBody (roundOf round) κ form σ test body .count) f
-          inner-is = body-sum round κ form σ test body (capped (W * round .times)) (x .round) (en .round)
-
-          sums-known : x .round .known ≡ sums form σ test body
-          sums-known = body-known round κ form σ test body (capped (W * round .times)) (x .round) (en .round)
-
-          pub with-last : inner (λ j. ticks π j β body) ≡ x .round .count * lastTicks text π (kindAt rows i) + inner (λ j. ticks π j β (blockAt text rows count (i + 1)))
-          with-last =
-              let p = lastTicks text π (kindAt rows i) in
-              ap inner (fun-ext λ j. same .ticked j β)
-              ∙ over-add (passIn (x .round) (x .round .known)) (x .round .by) (x .round .count) (λ _. p) (λ j. ticks π j β (blockAt text rows count (i + 1)))
-              ∙ ap (λ z. z + inner (λ j. ticks π j β (blockAt text rows count (i + 1)))) (over-same (passIn (x .round) (x .round .known)) (x .round .by) (x .round .count) p)
-
-          with-tests : inner (λ j. ticks π j β body) + x .ran .tests * π .test ≡ inner turn
-          with-tests =
-              omega (
-                arith,
-                ap (λ z. z * π .test) (en .ran .tests),
-                over-add (passIn (x .round) (x .round .known)) (x .round .by) (x .round .count) (λ j. ticks π j β body) (λ _. π .test),
-                over-same (passIn (x .round) (x .round .known)) (x .round .by) (x .round .count) (π .test),
-              )
-
-          own-is : capped (x .ran .own * (inner (λ j. ticks π j β body) + x .ran .tests * π .test) + 1 * once π form) ≡ capped (ownTicks π round (tallied t ρ) i e form test body)
-          own-is =
-              let n = turns form σ test body in
-              let a : x .ran .own ≡ cond (sums form σ test body) 1 n = en .ran .own ∙ ap (λ b. cond b 1 n) sums-known in
-              let g = with-tests ∙ inner-is turn in
-              let z : x .ran .own * (inner (λ j. ticks π j β body) + x .ran .tests * π .test) ≡ overPasses any form σ test body turn = (λ j. a j * g j) ∙ sym (own-passes round κ form σ test body turn) in
-              omega (arith, z, loop-ticks-is π form (overPasses any form σ test body turn))
-
-          all-is : capped (x .ran .all * (inner (λ j. ticks π j β body) + x .ran .tests * π .test) + round .count * once π form) ≡ capped (allTicks π round (tallied t ρ) i e form test body)
-          all-is =
-              let s = sums form σ test body in
-              let K = passIn round (t .kept) in
-              let o : ℕ = round .count * once π form in
-              let a : x .ran .all ≡ cond s (round .count) (capped W) = en .ran .all ∙ ap (λ b. cond b (round .count) (capped W)) sums-known in
-              let g = with-tests ∙ inner-is turn in
-              let G = sumOver (firstPass form σ test body) (inBody (roundOf round) κ form σ test body .by) (inBody (roundOf round) κ form σ test body .count) turn in
-              let f : Pass → ℕ = λ j. overPasses j form σ test body turn in
-              let walk : sumOver κ (round .by) (round .count) f ≡ cond s (round .count) W * G = passes-walk (roundOf round) κ form σ test body turn ∙ ap (λ z. cond s (round .count) z * G) turns-are in
-              let past : sumOver K (round .by) (round .count) (λ j. f (startPass form test j)) ≡ sumOver κ (round .by) (round .count) f
-              = over-past (λ w. starts w form test) K (round .by) (round .count) f ∙ ap (λ k. sumOver k (round .by) (round .count) f) start-is in
-              let loops : allTicks π round (tallied t ρ) i e form test body ≡ sumOver K (round .by) (round .count) (λ j. f (startPass form test j)) + o
-              = ap (sumOver K (round .by) (round .count)) (fun-ext λ j. loop-ticks-is π form (f (startPass form test j)))
-              ∙ over-add K (round .by) (round .count) (λ j. f (startPass form test j)) (λ _. once π form)
-              ∙ ap (λ z. sumOver K (round .by) (round .count) (λ j. f (startPass form test j)) + z) (over-same K (round .by) (round .count) (once π form)) in
-              (λ j. capped (a j * g j + o)) ∙ cap-often round κ form σ test body s (round .count) W G o ∙ ap (λ z. capped (z + o)) (sym walk ∙ sym past) ∙ ap capped (sym loops)
-
-          pub go-loop : {α : Env} {b r : TallyLines} {keep : Bool}
-              → Part π (x .round) (x .round .known) β (x .round .count * lastTicks text π (kindAt rows i)) (overOf (t .over)) (firstLines (t .lines) (t .loops) ++ (lineFor i (trip form σ test body) (turns form σ test body) (capped (W * round .times)) ∷ [])) (t .loops + 1) (blockAt text rows count (i + 1)) b
-              → ((G : ℕ) → b .spent ≡ capped G → Closed t b e (capped (x .ran .own * (G + x .ran .tests * π .test) + 1 * once π form)) (capped (x .ran .all * (G + x .ran .tests * π .test) + round .count * once π form)) keep r)
-              → keep ≡ (t .kept && not (starts (round .v) form test)) && not (assigns (round .v) body) → α ≡ outside form σ test body → Going text π rows count round at x₀ (e + 1) α r
-          unfolding andThen
-          go-loop {α} {b} {r} {keep} p f kp s =
-              let n = turns form σ test body in
-              let G = inner (λ j. ticks π j β body) in
-              let F = ownTicks π round (tallied t ρ) i e form test body in
-              let c = f G (p .spent ∙ ap capped (sym with-last)) in
-              let L : lineFor i (trip form σ test body) n (capped (W * round .times)) ≡ cut (line (roundOf round) (startPass form test (passIn round (t .kept))) i form σ test body)
-              = ap (λ z. lineFor i (trip form σ test body) n (capped z)) (sym total-is ∙ ap (λ j. totalOf (roundOf round) j form σ test body) (sym start-is)) in
-              let lined : cuts (lines (roundOf (x .round)) (passIn (x .round) (x .round .known)) β (blockAt text rows count (i + 1))) ≡ cuts (lines (inBody (roundOf round) (startPass form test (passIn round (t .kept))) form σ test body) (firstPass form σ test body) β body)
-              = ap cuts (sym (same .lined (roundOf (x .round)) (passIn (x .round) (x .round .known)) β))
-              ∙ body-lines round κ form σ test body (capped (W * round .times)) (x .round) (en .round) (ap capped (sym total-is)) β body
-              ∙ ap (λ j. cuts (lines (inBody (roundOf round) j form σ test body) (firstPass form σ test body) β body)) (sym start-is) in
-              let y : tallied r α ≡ pastLoop π round (tallied t ρ) i e form test body = state-is s
-              (c .kept ∙ kp)
-              (sym (ap₂ (λ a w. andThen a w) (en .verdict) (same .loops β ∙ p .verdict)))
-              (c .spent ∙ omega (arith, all-is))
-              (c .over .value F own-is ∙ ap (λ w. andThen w (asked 13 e (leb F tickLimit) passed)) (p .over ∙ ap (andThen (overOf (t .over))) (sym (same .over β))))
-              (ap₂ firstLines (c .same) (c .loops) ∙ p .lined ∙ ap₂ (λ a w. (firstLines (t .lines) (t .loops) ++ (a ∷ [])) ++ w) L lined)
-              (c .loops ∙ p .count ∙ ap (λ m. t .loops + 1 + m) (sym (same .count))) in
-              record {
-                walk = loop-row rows count (folded π round) at x₀ (k .walk) l built u (λ rest. fold-loop π round (tallied t ρ) i e form test body rest ∙ ap (λ w. folded π round w rest) (sym y));
-                small = omega (arith, c .spent);
-                long = ap length (c .same) ∙ p .long;
-              }
 
 -- no question has the number 0
 asked-number : (n p : ℕ) (b : Bool) (v : Verdict) (q : ℕ) → (n ≡ 0 → ⊥) → (v ≡ refused 0 q → ⊥) → asked n p b v ≡ refused 0 q → ⊥

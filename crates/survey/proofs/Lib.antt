@@ -10,3 +10,4 @@ pub mod Verdicts
 pub mod Counts
 pub mod Legals
 pub mod Results
+pub mod Own

@@ -1,8 +1,10 @@
 -- The survey as one fold over a block: ranges, verdicts, ticks, lines, in all passes of one entry of the loop round it. Ticks and totals stop just past the limit.
 use mathlib.Core.Path.{_≡_}
+use mathlib.Core.Logic.{_⊎_}
 use mathlib.Core.Bool.{Bool, not, _&&_}
 use mathlib.Core.List.{List, [], _∷_, _++_}
-use Prim.Native.Nat.{ℕ, _+_, _*_, _≤_}
+use Prim.Native.Nat.{ℕ, _+_, _*_, _≤_, _<_}
+use lib.IntN.{ℤ}
 use lib.ListN.{length}
 use Rattle.rules.specs.declared.Row.{Row}
 use Rattle.rules.specs.declared.Kind.{Kind}
@@ -17,8 +19,12 @@ use Rattle.rules.specs.Figures.{price, ticks, Line, lines}
 use Rattle.rules.specs.declared.Verdict.{Verdict}
 use Rattle.rules.specs.declared.Verdict.the-variants.{Passed as passed, Refused as refused}
 use Rattle.rules.specs.Questions.{andThen, loopsVerdict, blocksVerdict}
+use Rattle.table.specs.declared.Shape.{Shape}
+use Rattle.table.specs.Code.{kindAt}
+use Rattle.table.specs.Shapes.{shapeOf}
 use Rattle.lines.specs.Coded.{firstLines}
 use Rattle.steps.specs.Tree.{blockAt, endAt, Ready, headOf}
+use Rattle.trips.specs.Env.{envOf}
 use Rattle.ticks.specs.Capped.{capped, overOf, OverOf}
 use Rattle.passes.specs.declared.Round.{Round}
 use Rattle.passes.specs.Rounds.{roundOf, passIn, FineRound}
@@ -30,6 +36,19 @@ loopCount done = 0
 loopCount (plain i p rest) = loopCount rest
 loopCount (pick i e a b rest) = loopCount a + loopCount b + loopCount rest
 loopCount (loop i e form test body rest) = 1 + loopCount body + loopCount rest
+
+-- the first row or block of a block, alone, and what follows it
+unfoldable pub frontOf : Block → Block
+frontOf done = done
+frontOf (plain i p rest) = plain i p done
+frontOf (pick i e a b rest) = pick i e a b done
+frontOf (loop i e form test body rest) = loop i e form test body done
+
+unfoldable pub restOf : Block → Block
+restOf done = done
+restOf (plain i p rest) = rest
+restOf (pick i e a b rest) = rest
+restOf (loop i e form test body rest) = rest
 
 -- a line whose total stops just past the limit
 abbrev pub cut : Line → Line
@@ -114,11 +133,13 @@ pub record Lined (t : TallyLines) (i : ℕ) (τ : Trip) (turns total spent : ℕ
 
 -- own: the block's own ticks; all: those in all passes
 pub record Closed (t inner : TallyLines) (e own all : ℕ) (keep : Bool) (r : TallyLines) : Type 0 where
+  pub number : r .number ≡ 0
   pub kept : r .kept ≡ keep
   pub spent : r .spent ≡ capped (t .spent + all)
   pub over : OverOf (inner .over) e own (r .over)
   pub same : r .lines ≡ inner .lines
   pub loops : r .loops ≡ inner .loops
+  pub next : r .next ≡ e
 
 pub record EndedAt (t : TallyLines) (i : ℕ) (r : TallyLines) : Type 0 where
   pub same : r .lines ≡ t .lines
@@ -148,3 +169,30 @@ pub record Passed (text : List ℕ) (π : Prices) (rows : List Row) (count at : 
 pub record Surveyed (text : List ℕ) (π : Prices) (rows : List Row) (count at : ℕ) (ρ : Env) (round : Round) (t r : TallyLines) : Type 0 where
   pub stopped : (r .number ≡ 0 → ⊥) → folded π round (tallied t ρ) (blockAt text rows count at) .verdict ≡ refused (r .number) (r .place)
   pub whole : r .number ≡ 0 → Passed text π rows count at ρ round t r
+
+-- a row that begins a block
+abbrev pub IsBlock : Shape → Type 0
+IsBlock s = (s ≡ Shape.Branch) ⊎ (s ≡ Shape.Loop)
+
+-- a block of this shape stands at row i; ranges: those before it
+pub record AtBlock (text : List ℕ) (π : Prices) (rows : List Row) (count i : ℕ) (shape : Shape) (round : Round) (t : TallyLines) (ranges : List (List ℤ)) : Type 0 where
+  pub walk : Walkable text π rows count i round t
+  pub inside : i < count
+  pub is : shapeOf (kindAt rows i) ≡ shape
+  pub long : length ranges ≡ 16
+
+-- the block at row i has been walked, to its end at r .next: no loop refused; ranges: those after it
+pub record PassedBlock (text : List ℕ) (π : Prices) (rows : List Row) (count i : ℕ) (ρ : Env) (round : Round) (t : TallyLines) (ranges : List (List ℤ)) (r : TallyLines) : Type 0 where
+  pub value : tallied r (envOf ranges) ≡ folded π round (tallied t ρ) (frontOf (blockAt text rows count i))
+  pub rest : restOf (blockAt text rows count i) ≡ blockAt text rows count (r .next + 1)
+  pub place : endAt text rows count i ≡ endAt text rows count (r .next + 1)
+  pub low : i < r .next
+  pub high : r .next < count
+  pub small : r .spent ≤ 1_000_000_000_001
+  pub long : length (r .lines) ≡ 16
+  pub env-long : length ranges ≡ 16
+
+-- or the first loop refused
+pub record PastBlock (text : List ℕ) (π : Prices) (rows : List Row) (count i : ℕ) (ρ : Env) (round : Round) (t : TallyLines) (ranges : List (List ℤ)) (r : TallyLines) : Type 0 where
+  pub stopped : (r .number ≡ 0 → ⊥) → folded π round (tallied t ρ) (frontOf (blockAt text rows count i)) .verdict ≡ refused (r .number) (r .place)
+  pub whole : r .number ≡ 0 → PassedBlock text π rows count i ρ round t ranges r

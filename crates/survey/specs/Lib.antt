@@ -2,3 +2,4 @@
 pub mod Fold
 pub mod Enter
 pub mod Whole
+pub mod Own

@@ -1,4 +1,4 @@
--- The answer of the survey: the questions 8 to 13 of the whole file, and the report's ticks and lines.
+-- The answer of the survey: the questions 19 and 8 to 13 of the whole file, and the report's ticks and lines.
 use mathlib.Core.Path.{_≡_}
 use mathlib.Core.List.{List}
 use Prim.Native.Nat.{ℕ, _≤_, _<_}

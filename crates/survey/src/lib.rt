@@ -54,9 +54,10 @@ ghost use Rattle.trips.specs.Env.{envOf};
 ghost use Rattle.trips.specs.Found.{tripOf};
 ghost use Rattle.ticks.specs.Capped.{capped};
 ghost use Rattle.passes.specs.Rounds.{FineRound};
-ghost use Rattle.survey.specs.Fold.{withLines, lastTicks, PastRow, Restarted, Lined, Closed, EndedAt, Walkable, Surveyed};
+ghost use Rattle.survey.specs.Fold.{loopCount, withLines, lastTicks, PastRow, Restarted, Lined, Closed, EndedAt, Walkable, Surveyed, IsBlock, AtBlock, PastBlock};
 ghost use Rattle.survey.specs.Enter.{ExitOf, RanOf, EnteredAt, LeftLoop};
 ghost use Rattle.survey.specs.Whole.{FirstNo, SurveyOf};
+ghost use Rattle.survey.specs.Own.{ownTicks};
 
 // What a walk has found: a refusal of 19 or 8 to 12 (number 0: none), whether the variable of the loop round the block is known and not
 // assigned so far, the first block over the limit (256: none), the ticks of all passes of one entry of that loop, how many lines there
@@ -205,7 +206,7 @@ fn closed(t: Tally, inner: Tally, e: usize, own: u64, all: u64, kept: bool) -> T
         over: first_over(inner.over, e, own),
         spent: plus(t.spent, all),
         loops: inner.loops,
-        next: 0,
+        next: e,
     }
 }
 
@@ -395,6 +396,97 @@ fn leave_pick(price: u64, count: u64, t: Tally, a: Tally, b: Tally) -> Tally
     closed(t, b, e, own, times(count, own), b.kept)
 }
 
+// The pick at row i, from the ranges before it to those after it: its two parts by the walk.
+fn walk_pick(
+    text: &[u8],
+    rows: &[[u32; 9]; 256],
+    count: usize,
+    i: usize,
+    round: Round,
+    prices: Prices,
+    lines: &mut [[u64; 7]; 16],
+    t: Tally,
+    r: &mut [[i32; 2]; 16],
+) -> Tally
+    requires { ⌜ AtBlock (now text) prices (rowsOf (now rows)) count i Shape.Branch round (withLines t (now lines)) (now r) ⌝ }
+    ensures { λ x. ⌜ PastBlock (now (text .entry)) prices (rowsOf (now (rows .entry))) count i (envOf (now (r .entry))) round (withLines t (now (lines .entry))) (now (r .exit)) (withLines x (now (lines .exit))) ⌝ }
+{
+    let part = branch(round);
+    let begun = restarted(t, 0);
+    let a = walk(text, rows, count, i + 1, *r, part, prices, lines, begun);
+    if a.number != 0 {
+        return a;
+    }
+    let second = past_else(rows, a.next);
+    let again = restarted(a, 0);
+    let b = walk(text, rows, count, second, *r, part, prices, lines, again);
+    if b.number != 0 {
+        return b;
+    }
+    let x = after_pick(text, rows, count, i + 1, second, *r);
+    *r = x;
+    leave_pick(prices.pick, round.count, t, a, b)
+}
+
+// The loop at row i, from the ranges before it to those after it: its body by the walk.
+fn walk_loop(
+    text: &[u8],
+    rows: &[[u32; 9]; 256],
+    count: usize,
+    i: usize,
+    round: Round,
+    prices: Prices,
+    lines: &mut [[u64; 7]; 16],
+    t: Tally,
+    r: &mut [[i32; 2]; 16],
+) -> Tally
+    requires { ⌜ AtBlock (now text) prices (rowsOf (now rows)) count i Shape.Loop round (withLines t (now lines)) (now r) ⌝ }
+    ensures { λ x. ⌜ PastBlock (now (text .entry)) prices (rowsOf (now (rows .entry))) count i (envOf (now (r .entry))) round (withLines t (now (lines .entry))) (now (r .exit)) (withLines x (now (lines .exit))) ⌝ }
+{
+    let entered = enter_loop(text, rows, count, i, round, prices, lines, t, r);
+    let first = entered.first;
+    if first.number != 0 {
+        return first;
+    }
+    let inner = entered.round;
+    let body = walk(text, rows, count, i + 1, *r, inner, prices, lines, first);
+    if body.number != 0 {
+        return body;
+    }
+    leave_loop(
+        rows,
+        i,
+        entered.exit,
+        round,
+        entered.ran,
+        prices,
+        t,
+        body,
+        r,
+    )
+}
+
+// The pick or loop at row i, from the ranges before it to those after it.
+fn walk_block(
+    text: &[u8],
+    rows: &[[u32; 9]; 256],
+    count: usize,
+    i: usize,
+    round: Round,
+    prices: Prices,
+    lines: &mut [[u64; 7]; 16],
+    t: Tally,
+    r: &mut [[i32; 2]; 16],
+) -> Tally
+    requires { ⌜ AtBlock (now text) prices (rowsOf (now rows)) count i (shapeOf (kindAt (rowsOf (now rows)) i)) round (withLines t (now lines)) (now r) × IsBlock (shapeOf (kindAt (rowsOf (now rows)) i)) ⌝ }
+    ensures { λ x. ⌜ PastBlock (now (text .entry)) prices (rowsOf (now (rows .entry))) count i (envOf (now (r .entry))) round (withLines t (now (lines .entry))) (now (r .exit)) (withLines x (now (lines .exit))) ⌝ }
+{
+    match shape_at(rows, i) {
+        Shape::Branch => walk_pick(text, rows, count, i, round, prices, lines, t, r),
+        _ => walk_loop(text, rows, count, i, round, prices, lines, t, r),
+    }
+}
+
 // The block that starts at row `at`: its rows from the first, nested blocks by the same walk.
 fn walk(
     text: &[u8],
@@ -420,41 +512,15 @@ fn walk(
                 t = past_row(rows, i, prices, round, t);
                 i = i + 1;
             }
-            Shape::Branch => {
-                let part = branch(round);
-                let begun = restarted(t, 0);
-                let a = walk(text, rows, count, i + 1, r, part, prices, lines, begun);
-                if a.number != 0 {
-                    return a;
-                }
-                let second = past_else(rows, a.next);
-                let again = restarted(a, 0);
-                let b = walk(text, rows, count, second, r, part, prices, lines, again);
-                if b.number != 0 {
-                    return b;
-                }
-                let x = after_pick(text, rows, count, i + 1, second, r);
-                r = x;
-                t = leave_pick(prices.pick, round.count, t, a, b);
-                i = b.next + 1;
-            }
-            Shape::Loop => {
-                let entered = enter_loop(text, rows, count, i, round, prices, lines, t, &mut r);
-                let first = entered.first;
-                if first.number != 0 {
-                    return first;
-                }
-                let inner = entered.round;
-                let body = walk(text, rows, count, i + 1, r, inner, prices, lines, first);
-                if body.number != 0 {
-                    return body;
-                }
-                let exit = entered.exit;
-                t = leave_loop(rows, i, exit, round, entered.ran, prices, t, body, &mut r);
-                i = exit.next + 1;
-            }
             Shape::Close => {
                 return ended(t, i);
+            }
+            _ => {
+                t = walk_block(text, rows, count, i, round, prices, lines, t, &mut r);
+                if t.number != 0 {
+                    return t;
+                }
+                i = t.next + 1;
             }
         }
     }
@@ -505,6 +571,17 @@ const ALONE: Round = Round {
     known: false,
 };
 
+// Nothing is found yet.
+const EMPTY: Tally = Tally {
+    number: 0,
+    kept: false,
+    place: 0,
+    over: 256,
+    spent: 0,
+    loops: 0,
+    next: 0,
+};
+
 // The questions 19 and 8 to 13 of a file (number 0: all have yes), and the report's figures; all 0 for a refused file.
 pub struct Figures {
     pub number: u32,
@@ -526,16 +603,7 @@ pub fn survey(
     requires { ⌜ Legal (scriptOf (now text) ranges vars (rowsOf (now rows)) count) × (count ≤ 256) × (count ≤ length (now rows)) × BlankFrom vars ranges × FinePrices prices × (length (now lines) ≡ 16) × (length (now text) ≤ 16_384) × ((i : ℕ) → i < count → Written (now text) (kindAt (rowsOf (now rows)) i)) ⌝ }
     ensures { λ r. ⌜ SurveyOf prices (scriptOf (now (text .entry)) ranges vars (rowsOf (now (rows .entry))) count) count r (now (lines .exit)) ⌝ }
 {
-    let empty = Tally {
-        number: 0,
-        kept: false,
-        place: 0,
-        over: 256,
-        spent: 0,
-        loops: 0,
-        next: 0,
-    };
-    let t = walk(text, rows, count, 0, ranges, ALONE, prices, lines, empty);
+    let t = walk(text, rows, count, 0, ranges, ALONE, prices, lines, EMPTY);
     let no = first_no(t, count);
     if no.number != 0 {
         return Figures {
@@ -550,5 +618,43 @@ pub fn survey(
         place: no.place,
         ticks: t.spent,
         loops: t.loops,
+    }
+}
+
+// The block that row i begins: its own ticks, from the ranges before it; 0 if the row begins none, or a loop of it is refused.
+pub fn own_ticks(
+    text: &[u8],
+    rows: &[[u32; 9]; 256],
+    count: usize,
+    i: usize,
+    ranges: [[i32; 2]; 16],
+    prices: Prices,
+) -> u64
+    requires { ⌜ Ready (now text) (rowsOf (now rows)) count i × (i < count) × FinePrices prices × (loopCount (blockAt (now text) (rowsOf (now rows)) count i) ≤ 16) ⌝ }
+    ensures { λ r. ⌜ r ≡ ownTicks prices (envOf ranges) (blockAt (now (text .entry)) (rowsOf (now (rows .entry))) count i) ⌝ }
+{
+    match shape_at(rows, i) {
+        Shape::Plain => 0,
+        Shape::Close => 0,
+        _ => {
+            let none: [u64; 7] = [0; 7];
+            let mut lines = [none; 16];
+            let mut r = ranges;
+            let t = walk_block(
+                text,
+                rows,
+                count,
+                i,
+                ALONE,
+                prices,
+                &mut lines,
+                EMPTY,
+                &mut r,
+            );
+            if t.number != 0 {
+                return 0;
+            }
+            t.spent
+        }
     }
 }

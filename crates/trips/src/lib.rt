@@ -189,8 +189,8 @@ pub enum Counter {
 }
 
 // What is stepped and tested: the step that is read and its comparison, the ranges of its start and its limit (of a difference, those of
-// the two variables); whether the first counted test sees the start moved by one turn, and what comes before that test; whether all starts
-// are single numbers, questions 10 and 19 have yes, and what is counted by.
+// the two variables); whether the first counted test sees the start moved by one turn, and what comes before that test; whether the starts
+// and the limit are single numbers, questions 10 and 19 have yes, and what is counted by.
 pub struct Trip {
     pub step: Step,
     pub comparison: Comparison,

@@ -397,7 +397,7 @@ fn even(step: Step) -> bool
     }
 }
 
-// Exact: the ends of the step are equal, and all starts are single numbers.
+// Exact: the ends of the step are equal, and the starts and the limit are single numbers.
 pub fn exact(trip: Trip) -> bool
     ensures { λ r. ⌜ r ≡ isExact (tripOf trip) ⌝ }
 {

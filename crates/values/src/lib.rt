@@ -8,7 +8,7 @@ ghost use lib.ListN.{length, take, drop};
 ghost use lib.IntN.{ℤ};
 ghost use lib.Signed.{ltZ};
 ghost use Rattle.ints.specs.Ints.{eqZ, floorZ};
-ghost use Rattle.rules.specs.Values.{value, quotient, applied, compares, inLimits};
+ghost use Rattle.rules.specs.Values.{value, quotient, applied, compares};
 ghost use Rattle.rules.specs.Scripts.{storeOf, ExprBelow, ChangeLimits};
 ghost use Rattle.rules.specs.Blocks.{exprOf};
 ghost use Rattle.rules.specs.Parse.{exprIn, parse};
@@ -111,11 +111,4 @@ pub fn holds(comparison: Comparison, x: i64, y: i64) -> bool
         return by_order(comparison, false, true);
     }
     by_order(comparison, false, false)
-}
-
-// Is a result within −L and L?
-pub fn within_limits(z: i64) -> bool
-    ensures { λ r. ⌜ r ≡ inLimits z ⌝ }
-{
-    -1_000_000_000 <= z && z <= 1_000_000_000
 }

@@ -14,8 +14,8 @@ pub const SCRATCH: usize = 1_024;
 /// The longest file that is taken.
 pub const FILE: usize = 16_384;
 
-/// Four ones: every row takes one tick. A list of prices has the ticks of arithmetic (set, for starts and for steps with it), cue, pick and
-/// test, each 1 to 1,000.
+/// Four ones: every priced row takes one tick. A list of prices has the ticks of arithmetic (set, off, for starts and for steps with it), cue,
+/// pick and test, each 1 to 1,000.
 pub const ONES: [u32; 4] = [1; 4];
 
 /// No report is longer: a buffer of so many bytes holds every one.

@@ -1,7 +1,7 @@
 //! bench [quick]: times the library against the oracle. Both are called in this process with the same
 //! input; the answers are compared before anything is timed.
 
-use diftanew::numbers::{self, ANSWER};
+use diftanew::numbers::{self, ANSWER, FRAMES_ANSWER};
 use oracle::{Ending, ONES, SCRATCH};
 use std::hint::black_box;
 use std::time::{Duration, Instant};
@@ -113,6 +113,26 @@ fn nested(turns: u64) -> Vec<u8> {
     )
 }
 
+/// A loop of each kind that document 02 adds: a copied counter, two closing chases, a hold.
+fn kinds() -> Vec<u8> {
+    file(
+        &[(0, 0), (0, 0), (0, 0), (100, 100), (1, 1), (0, 0)],
+        &rows("while v0 < 9, add v1 1, set v0 v1, end, while v2 < v3, add v2 1, sub v3 2, end, hold v4, add v5 1, off v4 v5 > 9, end"),
+    )
+}
+
+fn copied(turns: u64) -> Vec<u8> {
+    file(&[(0, 0), (0, 0)], &rows(&format!("while v0 < {turns}, add v1 1, set v0 v1, end")))
+}
+
+fn closing(turns: u64) -> Vec<u8> {
+    file(&[(0, 0), (2 * turns as i64, 2 * turns as i64)], &rows("while v0 < v1, add v0 1, sub v1 1, end"))
+}
+
+fn held(turns: u64) -> Vec<u8> {
+    file(&[(1, 1), (0, 0)], &rows(&format!("hold v0, add v1 1, off v0 v1 >= {turns}, end")))
+}
+
 /// For each of the two the shortest of several rounds, each of as many calls as fill a while; the rounds take turns.
 fn time(quick: bool, mut first: impl FnMut(), mut second: impl FnMut()) -> (Duration, Duration) {
     fn round(calls: u32, call: &mut impl FnMut()) -> Duration {
@@ -199,6 +219,50 @@ impl Bench {
         );
         self.line(&format!("run: {name}, {} ticks", counts.ticks), library, oracle);
     }
+
+    /// Eight scripts together, q ticks a frame.
+    fn frames(&mut self, name: &str, file: &[u8], store: &[i32], q: u64) {
+        let files = file.repeat(8);
+        let (file_lengths, store_lengths, pick_lengths) = ([file.len(); 8], [store.len(); 8], [0; 8]);
+        let stores = store.repeat(8);
+        let mut ours = stores.clone();
+        let mut answer = [0; FRAMES_ANSWER];
+        let lent = oracle::frames::Lent {
+            files: &files,
+            file_lengths: &file_lengths,
+            stores: &stores,
+            store_lengths: &store_lengths,
+            picks: &[],
+            pick_lengths: &pick_lengths,
+        };
+        let scratch = &mut self.scratch;
+        let mut call = || {
+            ours.copy_from_slice(&stores);
+            let lent = numbers::Lent {
+                files: black_box(&files),
+                file_lengths: &file_lengths,
+                stores: &mut ours,
+                store_lengths: &store_lengths,
+                picks: &[],
+                pick_lengths: &pick_lengths,
+            };
+            let number = numbers::frames(lent, &ONES, q, scratch, &mut answer);
+            (number, answer[0], answer[1])
+        };
+        let expected = oracle::frames::frames(lent, &ONES, q, SCRATCH).expect(name);
+        let frame = expected.scripts[0].frame;
+        assert_eq!(call(), (0, expected.most, frame), "{name}");
+        let (library, oracle) = time(
+            self.quick,
+            || {
+                black_box(call());
+            },
+            || {
+                let _ = black_box(oracle::frames::frames(lent, &ONES, q, SCRATCH));
+            },
+        );
+        self.line(&format!("frames: 8 of {name}, q = {q}, {frame} frames"), library, oracle);
+    }
 }
 
 fn main() {
@@ -218,6 +282,7 @@ fn main() {
     for count in [3, 30, 256] {
         bench.report(&format!("one loop, {count} rows"), &body(count));
     }
+    bench.report("the loops of document 02", &kinds());
     bench.report("long expressions", &expressions());
     bench.report("8 sums of 4096", &triangles());
     bench.report("15 sums of the same 4096", &fifteen());
@@ -228,6 +293,10 @@ fn main() {
     for rig in [2_499, 24_999, 249_999] {
         bench.run("while v0 < 2*v1+2", &twice_plus_two(rig), &[0, rig as i32], &[]);
     }
+    let turns = if quick { 50_000 } else { 5_000_000 };
+    bench.run("copied counter", &copied(turns), &[0, 0], &[]);
+    bench.run("closing chases", &closing(turns), &[0, 2 * turns as i32], &[]);
+    bench.run("hold", &held(turns), &[1, 0], &[]);
     let most = if quick { 10_000 } else { 1_000_000 };
     let picks: Vec<u8> = (0..3 * most).map(|i: u64| (i.wrapping_mul(0x9e37_79b9_7f4a_7c15) >> 62) as u8 & 1).collect();
     for turns in [most / 100, most / 10, most] {
@@ -236,5 +305,8 @@ fn main() {
     let most = if quick { 1_000 } else { 100_000 };
     for turns in [most / 100, most / 10, most] {
         bench.run("fors, 3 deep", &nested(turns), &[0; 4], &[]);
+    }
+    for q in [1, 100, 10_000] {
+        bench.frames("while", &counting(if quick { 1_000 } else { 20_000 }), &[0], q);
     }
 }

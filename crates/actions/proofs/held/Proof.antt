@@ -10,18 +10,9 @@ use borrow.Author.Needs.{needs, sfits-of}
 use Rattle.actions.proofs.held.Statement.{statement}
 use Rattle.actions.proofs.held.Tie as tie
 
-cast-passes : tie.Need-cast-passes
-cast-passes c = let f : SFits w32 (c .args .k) = c .fits .k in rw (toZ-ofZ f) (sfits-widen tt f)
-
 -- whether the comparison is true
 off-told : (c : tie.After-passes) → let a = c .before .args in c .passes .result ≡ compares (a .comparison) (storeOf (now (a .store)) (a .w)) (a .k)
 off-told c = let f : SFits w32 (c .before .args .k) = c .before .fits .k in simp (toZ-ofZ f, toZ-ofZ (sfits-widen {w′ = w64} tt f)) at (c .passes .ensures)
-
-returns : tie.Need-returns
-returns c = rw (sym (off-told (c .before)) ∙ c .if1 .taken)
-
-cast-result : tie.Need-cast-result
-cast-result c = let f : SFits w32 (c .stored .result) = sfits-of (c .stored .ok) in rw (toZ-ofZ f) (sfits-widen tt f)
 
 returns-2 : tie.Need-returns-2
 returns-2 c = let f : SFits w32 (c .stored .result) = sfits-of (c .stored .ok) in
@@ -29,4 +20,11 @@ returns-2 c = let f : SFits w32 (c .stored .result) = sfits-of (c .stored .ok) i
 
 pub held-spec : {M : Type 1} → statement M
 held-spec =
-    tie.close (tie.spec cast-passes (λ c κs. search needs) returns (λ c κs. search needs) cast-result returns-2)
+    tie.close
+    (tie.spec
+    (λ c. let f : SFits w32 (c .args .k) = c .fits .k in rw (toZ-ofZ f) (sfits-widen tt f))
+    (λ c κs. search needs)
+    (λ c. rw (sym (off-told (c .before)) ∙ c .if1 .taken))
+    (λ c κs. search needs)
+    (λ c. let f : SFits w32 (c .stored .result) = sfits-of (c .stored .ok) in rw (toZ-ofZ f) (sfits-widen tt f))
+    returns-2)

@@ -8,25 +8,19 @@ use Rattle.expressions.proofs.Leaves.{minus-fits, minus-is}
 use Rattle.expressions.proofs.leaf_of.Statement.{statement}
 use Rattle.expressions.proofs.leaf_of.Tie as tie
 
-returns : tie.Need-returns
-unfolding leafOf
-returns c = rw (c .before .before .before .before .if1 .taken, c .before .before .if2 .taken, eq-eqb _ _ (c .if3 .taken))
-
-sub-t9 : tie.Need-sub-t9
-sub-t9 c = let h = c .before .before .before .before .before .pre in rw (minus-is _ h) (minus-fits _ h)
-
 returns-2 : tie.Need-returns-2
 unfolding leafOf
 returns-2 c = let h = c .before .before .before .before .before .pre in
     rw (c .before .before .before .before .if1 .taken, c .before .before .if2 .taken, ne-eqb _ _ (c .if3 .left), minus-is _ h, toZ-ofZ w32 _ (minus-fits _ h))
 
-returns-3 : tie.Need-returns-3
-unfolding leafOf
-returns-3 c = rw (c .before .before .if1 .taken, c .if2 .left, toZ-pos w32 (c .before .before .before .args .n .value) (omega (arith, c .before .before .before .pre)))
-
-returns-4 : tie.Need-returns-4
-unfolding leafOf
-returns-4 c = rw (c .if1 .left)
-
 pub leaf-of-spec : {M : Type 1} → statement M
-leaf-of-spec = tie.close (tie.spec (λ c. search needs) returns sub-t9 returns-2 returns-3 returns-4)
+unfolding leafOf
+leaf-of-spec =
+    tie.close
+    (tie.spec
+    (λ c. search needs)
+    (λ c. rw (c .before .before .before .before .if1 .taken, c .before .before .if2 .taken, eq-eqb _ _ (c .if3 .taken)))
+    (λ c. let h = c .before .before .before .before .before .pre in rw (minus-is _ h) (minus-fits _ h))
+    returns-2
+    (λ c. rw (c .before .before .if1 .taken, c .if2 .left, toZ-pos w32 (c .before .before .before .args .n .value) (omega (arith, c .before .before .before .pre))))
+    (λ c. rw (c .if1 .left)))

@@ -7,15 +7,6 @@ use Rattle.names.proofs.Laws.{opened-none, opened-all, name-size, name-
 use Rattle.names.proofs.opened.Statement.{statement}
 use Rattle.names.proofs.opened.Tie as tie
 
-returns : tie.Need-returns
-returns c = (λ input at h l m. absurd (omega (arith, c .if1 .taken)), omega arith)
-
-returns-2 : tie.Need-returns-2
-returns-2 c = (λ input at h l m. opened-none (name-long input at _ _ h _ l m (c .if2 .taken)) refl, omega arith)
-
-returns-3 : tie.Need-returns-3
-returns-3 c = (λ input at h l m. absurd (omega (arith, name-room input at _ _ h _ l m (c .before .if2 .left), c .if3 .taken)), omega arith)
-
 returns-4 : tie.Need-returns-4
 returns-4 c = (
   λ input at h l m.
@@ -32,17 +23,14 @@ returns-5 c = (
 )
 
 pub opened-spec : {M : Type 1} → statement M
-opened-spec = tie.close (tie.spec
-    returns
-    (λ c. search needs)
-    (λ c. search needs)
-    returns-2
-    (λ c. search needs)
-    (λ c. search needs)
-    returns-3
-    (λ c. search needs)
-    (λ c. search needs)
-    (λ c. search needs)
-    (λ c κs. search needs)
+opened-spec =
+    tie.close
+    (tie.spec
+    (λ c. (λ input at h l m. absurd (omega (arith, c .if1 .taken)), omega arith))
+    (λ c. search needs) (λ c. search needs)
+    (λ c. (λ input at h l m. opened-none (name-long input at _ _ h _ l m (c .if2 .taken)) refl, omega arith))
+    (λ c. search needs) (λ c. search needs)
+    (λ c. (λ input at h l m. absurd (omega (arith, name-room input at _ _ h _ l m (c .before .if2 .left), c .if3 .taken)), omega arith))
+    (λ c. search needs) (λ c. search needs) (λ c. search needs) (λ c κs. search needs)
     returns-4
     returns-5)

@@ -6,34 +6,18 @@ use Rattle.names.proofs.Laws.{kept-full, kept-lf, kept-past, kept-byte}
 use Rattle.names.proofs.push.Statement.{statement}
 use Rattle.names.proofs.push.Tie as tie
 
-returns : tie.Need-returns
-returns c = λ input h. kept-full input _ _ _ h _ (c .if1 .taken)
-
-returns-2 : tie.Need-returns-2
-returns-2 c = λ input h. rw (c .if2 .taken) (kept-lf input _ _ _ h (c .before .if1 .left))
-
 returns-3 : tie.Need-returns-3
 returns-3 c = λ input h.
     kept-byte input _ _ _ h (c .before .before .before .if1 .left) _ (ne-eqb _ _ (c .before .before .if2 .left)) (c .if3 .taken) _ (omega arith)
 
-returns-4 : tie.Need-returns-4
-returns-4 c = λ input h. kept-past input _ _ _ h (c .before .before .before .if1 .left) _ (ne-eqb _ _ (c .before .before .if2 .left)) (c .if3 .left)
-
 pub push-spec : {M : Type 1} → statement M
-push-spec = tie.close (tie.spec
-    returns
-    (λ c. search needs)
-    (λ c. search needs)
-    (λ c. search needs)
-    (λ c. search needs)
-    returns-2
-    (λ c. search needs)
-    (λ c. search needs)
-    (λ c. search needs)
-    (λ c. search needs)
-    (λ c. search needs)
-    (λ c. search needs)
-    (λ c. search needs)
+push-spec =
+    tie.close
+    (tie.spec
+    (λ c. λ input h. kept-full input _ _ _ h _ (c .if1 .taken))
+    (λ c. search needs) (λ c. search needs) (λ c. search needs) (λ c. search needs)
+    (λ c. λ input h. rw (c .if2 .taken) (kept-lf input _ _ _ h (c .before .if1 .left)))
+    (λ c. search needs) (λ c. search needs) (λ c. search needs) (λ c. search needs) (λ c. search needs) (λ c. search needs) (λ c. search needs)
     (λ c. search needs)
     returns-3
-    returns-4)
+    (λ c. λ input h. kept-past input _ _ _ h (c .before .before .before .if1 .left) _ (ne-eqb _ _ (c .before .before .if2 .left)) (c .if3 .left)))

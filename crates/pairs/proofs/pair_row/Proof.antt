@@ -24,18 +24,6 @@ returns-3 c =
     let a = c .before .before .before .before .before .before .before .before .before .args in
     rw (c .before .before .before .before .enum-told3 .given .1) (record { same = λ text. c .before .before .push2 .ensures .same (a .shut .now) (a .opener .now); deep = c .before .before .push2 .ensures .deep })
 
-returns-4 : tie.Need-returns-4
-unfolding viewOf kindOf pairRow
-returns-4 c = rw (c .enum-told4 .given .1) (record { same = λ text. refl; deep = omega arith })
-
-returns-5 : tie.Need-returns-5
-unfolding viewOf kindOf pairRow
-returns-5 c = rw (c .enum-told5 .given .1) (record { same = λ text. refl; deep = omega arith })
-
-returns-6 : tie.Need-returns-6
-unfolding viewOf kindOf pairRow
-returns-6 c = rw (c .enum-told6 .given .1) (record { same = λ text. refl; deep = omega arith })
-
 returns-7 : tie.Need-returns-7
 unfolding viewOf kindOf pairRow
 returns-7 c =
@@ -54,10 +42,6 @@ returns-9 c =
     let a = c .before .before .before .before .before .before .before .before .before .args in
     rw (c .before .before .before .before .enum-told9 .given .1) (record { same = λ text. c .before .before .push5 .ensures .same (a .shut .now) (a .opener .now); deep = c .before .before .push5 .ensures .deep })
 
-returns-10 : tie.Need-returns-10
-unfolding viewOf kindOf pairRow
-returns-10 c = rw (c .enum-told10 .given .1) (record { same = λ text. refl; deep = omega arith })
-
 returns-11 : tie.Need-returns-11
 unfolding viewOf kindOf pairRow
 returns-11 c =
@@ -65,47 +49,28 @@ returns-11 c =
     rw (c .before .before .before .before .enum-told11 .given .1) (record { same = λ text. c .before .before .push6 .ensures .same (a .shut .now) (a .opener .now); deep = c .before .before .push6 .ensures .deep })
 
 pub pair-row-spec : {M : Type 1} → statement M
+unfolding viewOf kindOf pairRow
 pair-row-spec =
     tie.close
     (tie.spec
-    (λ c. search needs)
-    (λ c κs. search needs)
-    (λ c. search needs)
-    (λ c κs. search needs)
-    (λ c κs. search needs)
-    (λ c. search needs)
-    (λ c κs. search needs)
-    (λ c. search needs)
-    (λ c. search needs)
-    (λ c. search needs)
-    (λ c. search needs)
-    (λ c κs. search needs)
-    (λ c. search needs)
-    (λ c κs. search needs)
-    (λ c. search needs)
-    (λ c κs. search needs)
-    (λ c. search needs)
-    (λ c. search needs)
-    (λ c κs. search needs)
-    (λ c. search needs)
-    (λ c. search needs)
-    (λ c. search needs)
+    (λ c. search needs) (λ c κs. search needs) (λ c. search needs) (λ c κs. search needs) (λ c κs. search needs) (λ c. search needs)
+    (λ c κs. search needs) (λ c. search needs) (λ c. search needs) (λ c. search needs) (λ c. search needs) (λ c κs. search needs) (λ c. search needs)
+    (λ c κs. search needs) (λ c. search needs) (λ c κs. search needs) (λ c. search needs) (λ c. search needs) (λ c κs. search needs) (λ c. search needs)
+    (λ c. search needs) (λ c. search needs)
     returns
-    (λ c. search needs)
-    (λ c. search needs)
-    (λ c. search needs)
+    (λ c. search needs) (λ c. search needs) (λ c. search needs)
     returns-2
     (λ c. search needs)
     returns-3
-    returns-4
-    returns-5
-    returns-6
+    (λ c. rw (c .enum-told4 .given .1) (record { same = λ text. refl; deep = omega arith }))
+    (λ c. rw (c .enum-told5 .given .1) (record { same = λ text. refl; deep = omega arith }))
+    (λ c. rw (c .enum-told6 .given .1) (record { same = λ text. refl; deep = omega arith }))
     (λ c. search needs)
     returns-7
     (λ c. search needs)
     returns-8
     (λ c. search needs)
     returns-9
-    returns-10
+    (λ c. rw (c .enum-told10 .given .1) (record { same = λ text. refl; deep = omega arith }))
     (λ c. search needs)
     returns-11)

@@ -10,32 +10,20 @@ use Rattle.pieces.proofs.Laws.{wrote-nothing}
 use Rattle.pieces.proofs.put_piece.Statement.{statement}
 use Rattle.pieces.proofs.put_piece.Tie as tie
 
-put-digits-requires : tie.Need-put-digits-requires
-unfolding decimal
-put-digits-requires c κs = omega (arith, ap (λ (p : Piece). length (pieceText p)) (c .before .before .piece2 .given .1))
-
-put-label-requires : tie.Need-put-label-requires
-put-label-requires c κs = omega (arith, ap (λ (p : Piece). length (pieceText p)) (c .before .before .piece .given .1))
-
 returns : tie.Need-returns
 returns c = rw (c .enum-told .given .1) (wrote-nothing _)
 
-returns-2 : tie.Need-returns-2
-returns-2 c = rw (c .before .before .before .before .before .piece .given .1) (c .before .before .put-label .ensures)
-
-returns-3 : tie.Need-returns-3
-unfolding decimal
-returns-3 c = rw (c .before .before .before .before .before .piece2 .given .1) (c .before .before .put-digits .ensures)
-
 pub put-piece-spec : {M : Type 1} → statement M
-put-piece-spec = tie.close (tie.spec
+unfolding decimal
+put-piece-spec =
+    tie.close
+    (tie.spec
+    (λ c. search needs) (λ c. search needs)
+    (λ c κs. omega (arith, ap (λ (p : Piece). length (pieceText p)) (c .before .before .piece .given .1)))
     (λ c. search needs)
-    (λ c. search needs)
-    put-label-requires
-    (λ c. search needs)
-    put-digits-requires
+    (λ c κs. omega (arith, ap (λ (p : Piece). length (pieceText p)) (c .before .before .piece2 .given .1)))
     returns
     (λ c. search needs)
-    returns-2
+    (λ c. rw (c .before .before .before .before .before .piece .given .1) (c .before .before .put-label .ensures))
     (λ c. search needs)
-    returns-3)
+    (λ c. rw (c .before .before .before .before .before .piece2 .given .1) (c .before .before .put-digits .ensures)))

@@ -6,17 +6,12 @@ use Rattle.rules.specs.Trips.{innerOf}
 use Rattle.ranges.proofs.inner.Statement.{statement}
 use Rattle.ranges.proofs.inner.Tie as tie
 
-returns : tie.Need-returns
-unfolding innerOf
-returns c = rw (c .before .enum-told .given .1) (c .inside-span .ensures)
-
-returns-2 : tie.Need-returns-2
-unfolding innerOf lowest highest
-returns-2 c = rw (c .enum-told2 .given .1)
-
-returns-3 : tie.Need-returns-3
-unfolding innerOf lowest highest
-returns-3 c = rw (c .enum-told3 .given .1)
-
 pub inner-spec : {M : Type 1} → statement M
-inner-spec = tie.close (tie.spec (λ c. search needs) (λ c κs. search needs) (λ c. search needs) (λ c. search needs) returns returns-2 returns-3)
+unfolding innerOf lowest highest
+inner-spec =
+    tie.close
+    (tie.spec
+    (λ c. search needs) (λ c κs. search needs) (λ c. search needs) (λ c. search needs)
+    (λ c. rw (c .before .enum-told .given .1) (c .inside-span .ensures))
+    (λ c. rw (c .enum-told2 .given .1))
+    (λ c. rw (c .enum-told3 .given .1)))

@@ -36,33 +36,9 @@ is-off c = let s = c .before .before .before .before .args in kind-is (now (s .r
 fine-off : (c : tie.After-enum-told3) → let s = c .before .before .before .before .args in Fine (kindBy Tag.Off (numbersAt (now (s .rows)) (s .i)))
 fine-off c = subst Fine (is-off c) (c .before .before .before .before .pre .1)
 
-bounds-requires : tie.Need-bounds-requires
-unfolding kindBy
-bounds-requires c κs = rw (c .operand-at .ensures) (fine-set (c .before .before) .1, written-set (c .before .before), c .before .before .before .before .before .before .pre .3)
-
-put-requires : tie.Need-put-requires
-unfolding kindBy
-put-requires c κs = (rw (c .variable-at .ensures) (fine-set (c .before .before .before .before .before) .0), c .before .before .before .before .before .before .before .before .before .pre .3)
-
-span-at-requires : tie.Need-span-at-requires
-unfolding kindBy
-span-at-requires c κs = rw (c .before .variable-at2 .ensures) (fine-move (c .before .before) .0)
-
-changed-span-requires : tie.Need-changed-span-requires
-unfolding kindBy
-changed-span-requires c κs = rw (c .change-at .ensures) (fine-move (c .before .before .before .before) .1)
-
 put-requires-2 : tie.Need-put-requires-2
 unfolding kindBy
 put-requires-2 c κs = (rw (c .before .before .before .before .before .variable-at2 .ensures) (fine-move (c .before .before .before .before .before .before) .0), c .before .before .before .before .before .before .before .before .before .before .pre .3)
-
-span-at-requires-2 : tie.Need-span-at-requires-2
-unfolding kindBy
-span-at-requires-2 c κs = rw (c .before .variable-at3 .ensures) (fine-off (c .before .before) .0)
-
-put-requires-3 : tie.Need-put-requires-3
-unfolding kindBy
-put-requires-3 c κs = (rw (c .before .before .before .before .variable-at3 .ensures) (fine-off (c .before .before .before .before .before) .0), c .before .before .before .before .before .before .before .before .before .pre .3)
 
 returns : tie.Need-returns
 returns c = let p = c .put .ensures in record { long = p .long; value = p .value ∙ rw (is-set (c .before .before .before .before .before .before)) (after-set _ _ _ (c .before .variable-at .ensures) (c .before .before .before .before .operand-at .ensures) (c .before .before .before .bounds .ensures)) }
@@ -81,26 +57,23 @@ returns-4 c =
     record { long = s .before .pre .3; value = subst (λ k. ρ ≡ afterRow ρ (plainOf (now (s .before .args .text)) k)) (sym e) (after-other (now (s .before .args .text)) ρ (numbersAt (now (s .before .args .rows)) (s .before .args .i)) (c .before .tag-at .result) (c .match .keys4) (subst (λ k. shapeOf k ≡ Shape.Plain) e (s .before .pre .2))) }
 
 pub step-row-spec : {M : Type 1} → statement M
+unfolding kindBy
 step-row-spec =
     tie.close
     (tie.spec
+    (λ c κs. search needs) (λ c. search needs) (λ c κs. search needs)
+    (λ c κs. rw (c .operand-at .ensures) (fine-set (c .before .before) .1, written-set (c .before .before), c .before .before .before .before .before .before .pre .3))
     (λ c κs. search needs)
-    (λ c. search needs)
+    (λ c κs. (rw (c .variable-at .ensures) (fine-set (c .before .before .before .before .before) .0), c .before .before .before .before .before .before .before .before .before .pre .3))
+    (λ c. search needs) (λ c κs. search needs)
+    (λ c κs. rw (c .before .variable-at2 .ensures) (fine-move (c .before .before) .0))
     (λ c κs. search needs)
-    bounds-requires
-    (λ c κs. search needs)
-    put-requires
-    (λ c. search needs)
-    (λ c κs. search needs)
-    span-at-requires
-    (λ c κs. search needs)
-    changed-span-requires
+    (λ c κs. rw (c .change-at .ensures) (fine-move (c .before .before .before .before) .1))
     put-requires-2
-    (λ c. search needs)
+    (λ c. search needs) (λ c κs. search needs)
+    (λ c κs. rw (c .before .variable-at3 .ensures) (fine-off (c .before .before) .0))
     (λ c κs. search needs)
-    span-at-requires-2
-    (λ c κs. search needs)
-    put-requires-3
+    (λ c κs. (rw (c .before .before .before .before .variable-at3 .ensures) (fine-off (c .before .before .before .before .before) .0), c .before .before .before .before .before .before .before .before .before .pre .3))
     returns
     returns-2
     returns-3

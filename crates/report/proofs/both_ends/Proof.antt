@@ -14,25 +14,13 @@ returns c =
     let g : SFits w64 (c .before .step .given .0 .1 .0) = search needs in
     rw (c .before .step .given .1) (toZ-ofZ f, toZ-ofZ g)
 
-returns-2 : tie.Need-returns-2
-unfolding firstEnd secondEnd
-returns-2 c = rw (c .before .step2 .given .1) (refl, refl)
-
-returns-3 : tie.Need-returns-3
-unfolding firstEnd secondEnd
-returns-3 c = rw (c .before .step3 .given .1) (refl, refl)
-
-returns-4 : tie.Need-returns-4
-unfolding firstEnd secondEnd
-returns-4 c = rw (c .enum-told .given .1) (refl, refl)
-
 pub both-ends-spec : {M : Type 1} → statement M
-both-ends-spec = tie.close (tie.spec
-    (λ c. search needs)
-    (λ c. search needs)
-    (λ c. search needs)
-    (λ c. search needs)
+unfolding firstEnd secondEnd
+both-ends-spec =
+    tie.close
+    (tie.spec
+    (λ c. search needs) (λ c. search needs) (λ c. search needs) (λ c. search needs)
     returns
-    returns-2
-    returns-3
-    returns-4)
+    (λ c. rw (c .before .step2 .given .1) (refl, refl))
+    (λ c. rw (c .before .step3 .given .1) (refl, refl))
+    (λ c. rw (c .enum-told .given .1) (refl, refl)))

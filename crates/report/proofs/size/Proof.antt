@@ -12,12 +12,6 @@ use Rattle.report.proofs.size.Tie as tie
 known : (c : tie.Then1) → Below (c .before .args .z)
 known c = let f = c .before .fits .z in below _ (simp (toZ-ofZ f) at (c .if1 .taken)) f
 
-add-result : tie.Need-add-result
-add-result c = rw (toZ-ofZ (c .before .fits .z)) (known c .up)
-
-sub-result : tie.Need-sub-result
-sub-result c = let k = known c in rw (toZ-ofZ (c .before .fits .z), toZ-ofZ (k .up)) (k .down)
-
 cast-result : tie.Need-cast-result
 cast-result c =
     let k = known c in
@@ -33,13 +27,14 @@ returns c =
     let k = known c in
     rw (toZ-ofZ (c .before .fits .z), toZ-ofZ (k .up), toZ-ofZ (k .down), k .is) (k .whole)
 
-cast-result-2 : tie.Need-cast-result-2
-cast-result-2 c = let f = c .before .fits .z in rw (toZ-ofZ f) (above _ (simp (toZ-ofZ f) at (c .if1 .left)) f)
-
-returns-2 : tie.Need-returns-2
-returns-2 c = let f = c .before .fits .z in rw (toZ-ofZ f) (above-size _ (simp (toZ-ofZ f) at (c .if1 .left)))
-
 pub size-spec : {M : Type 1} → statement M
 size-spec =
     tie.close
-    (tie.spec add-result sub-result cast-result add-result-2 returns cast-result-2 returns-2)
+    (tie.spec
+    (λ c. rw (toZ-ofZ (c .before .fits .z)) (known c .up))
+    (λ c. let k = known c in rw (toZ-ofZ (c .before .fits .z), toZ-ofZ (k .up)) (k .down))
+    cast-result
+    add-result-2
+    returns
+    (λ c. let f = c .before .fits .z in rw (toZ-ofZ f) (above _ (simp (toZ-ofZ f) at (c .if1 .left)) f))
+    (λ c. let f = c .before .fits .z in rw (toZ-ofZ f) (above-size _ (simp (toZ-ofZ f) at (c .if1 .left)))))

@@ -3,15 +3,11 @@ use borrow.Author.Needs.{needs}
 use Rattle.rows.proofs.step_of.Statement.{statement}
 use Rattle.rows.proofs.step_of.Tie as tie
 
-change-of-requires : tie.Need-change-of-requires
-change-of-requires c κs = rw (c .before .x .given .1) at (c .before .before .before .pre)
-
-returns : tie.Need-returns
-returns c = rw (c .before .before .x .given .1) (c .change-of .ensures)
-
-returns-2 : tie.Need-returns-2
-returns-2 c = no-keyword (c .before .args .x) (c .match .keys2) .0 _ .1
-
 pub step-of-spec : {M : Type 1} → statement M
 step-of-spec =
-    tie.close (tie.spec (λ c. search needs) change-of-requires returns returns-2)
+    tie.close
+    (tie.spec
+    (λ c. search needs)
+    (λ c κs. rw (c .before .x .given .1) at (c .before .before .before .pre))
+    (λ c. rw (c .before .before .x .given .1) (c .change-of .ensures))
+    (λ c. no-keyword (c .before .args .x) (c .match .keys2) .0 _ .1))

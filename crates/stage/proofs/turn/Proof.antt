@@ -8,9 +8,6 @@ use borrow.Author.Needs.{needs}
 use Rattle.stage.proofs.turn.Statement.{statement}
 use Rattle.stage.proofs.turn.Tie as tie
 
-part-requires : tie.Need-part-requires
-part-requires c κs = let s = c .before .before .before .before .before in (s .pre .1, omega (arith, s .pre .0 .file-sum))
-
 part-requires-2 : tie.Need-part-requires-2
 part-requires-2 c κs = let s = c .before .before .before .before .before .before in (omega (arith, s .pre .1, s .pre .0 .stores), omega (arith, s .pre .0 .store-sum))
 
@@ -26,36 +23,6 @@ in-stores c = let s = c .before .before .before .before .before .before .before 
 
 in-picks : (c : tie.After-tables) → let f = c .before .before .part3 .result in (f .from ≤ f .to) × (f .to ≤ length (c .before .before .before .before .before .before .before .before .before .before .args .picks .now))
 in-picks c = let s = c .before .before .before .before .before .before .before .before .before .before in span-within _ _ _ (c .before .before .part3 .ensures) (s .args .picks .now) (omega (arith, s .pre .1, s .pre .0 .picks)) (s .pre .0 .pick-sum)
-
-sub-run-on : tie.Need-sub-run-on
-sub-run-on c = omega (arith, in-files c .0)
-
-part-run-on-start : tie.Need-part-run-on-start
-part-run-on-start c = omega (arith, in-files c .0)
-
-part-run-on-end : tie.Need-part-run-on-end
-part-run-on-end c = omega (arith, in-files c .1)
-
-sub-run-on-2 : tie.Need-sub-run-on-2
-sub-run-on-2 c = omega (arith, in-stores (c .before) .0)
-
-part-run-on-start-2 : tie.Need-part-run-on-start-2
-part-run-on-start-2 c = omega (arith, in-stores (c .before) .0)
-
-part-run-on-end-2 : tie.Need-part-run-on-end-2
-part-run-on-end-2 c = omega (arith, in-stores (c .before) .1)
-
-sub-run-on-3 : tie.Need-sub-run-on-3
-sub-run-on-3 c = omega (arith, in-picks (c .before .before) .0)
-
-part-run-on-start-3 : tie.Need-part-run-on-start-3
-part-run-on-start-3 c = omega (arith, in-picks (c .before .before) .0)
-
-part-run-on-end-3 : tie.Need-part-run-on-end-3
-part-run-on-end-3 c = omega (arith, in-picks (c .before .before) .1)
-
-mul-run-on : tie.Need-mul-run-on
-mul-run-on c = let (a, b) = in-stores (c .before) in search needs
 
 run-on-requires : tie.Need-run-on-requires
 run-on-requires c κs =
@@ -74,19 +41,19 @@ pub turn-spec : {M : Type 1} → statement M
 turn-spec =
     tie.close
     (tie.spec
-    part-requires
+    (λ c κs. let s = c .before .before .before .before .before in (s .pre .1, omega (arith, s .pre .0 .file-sum)))
     part-requires-2
     part-requires-3
-    sub-run-on
-    part-run-on-start
-    part-run-on-end
-    mul-run-on
-    sub-run-on-2
-    part-run-on-start-2
-    part-run-on-end-2
-    sub-run-on-3
-    part-run-on-start-3
-    part-run-on-end-3
+    (λ c. omega (arith, in-files c .0))
+    (λ c. omega (arith, in-files c .0))
+    (λ c. omega (arith, in-files c .1))
+    (λ c. let (a, b) = in-stores (c .before) in search needs)
+    (λ c. omega (arith, in-stores (c .before) .0))
+    (λ c. omega (arith, in-stores (c .before) .0))
+    (λ c. omega (arith, in-stores (c .before) .1))
+    (λ c. omega (arith, in-picks (c .before .before) .0))
+    (λ c. omega (arith, in-picks (c .before .before) .0))
+    (λ c. omega (arith, in-picks (c .before .before) .1))
     run-on-requires
     (λ c. search needs)
     returns)

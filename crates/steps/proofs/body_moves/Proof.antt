@@ -11,15 +11,6 @@ use borrow.Author.Needs.{needs}
 use Rattle.steps.proofs.body_moves.Statement.{statement}
 use Rattle.steps.proofs.body_moves.Tie as tie
 
-moves-of-requires : tie.Need-moves-of-requires
-moves-of-requires c κs = (ready (c .before .before .pre .0 .ready) (search needs), search needs, search needs)
-
-add-row-requires : tie.Need-add-row-requires
-add-row-requires c κs = (search needs, c .before .before .before .before .pre .0 .ready .fine _ (c .before .before .before .before .pre .0 .inside), c .before .moves-of .ensures .long)
-
-row-step-requires : tie.Need-row-step-requires
-row-step-requires c κs = (search needs, c .before .before .before .before .before .pre .0 .ready .fine _ (c .before .before .before .before .before .pre .0 .inside))
-
 then-requires : tie.Need-then-requires
 then-requires c κs = (near-room (c .before .before .before .before .before .before .pre .0 .ready .few) (c .before .before .before .moves-of .ensures), rw (c .row-step .ensures (now (c .before .before .before .before .before .before .args .text))) (row-room (c .before .before .before .before .before .before .args .v) (now (c .before .before .before .before .before .before .args .text)) (kindAt (rowsOf (now (c .before .before .before .before .before .before .args .rows))) (c .before .before .before .before .before .before .args .i)) (c .before .before .before .before .before .before .pre .0 .ready .fine _ (c .before .before .before .before .before .before .pre .0 .inside))))
 
@@ -32,8 +23,8 @@ body-moves-spec =
     tie.close
     (tie.spec
     (λ c. search needs)
-    moves-of-requires
-    add-row-requires
-    row-step-requires
+    (λ c κs. (ready (c .before .before .pre .0 .ready) (search needs), search needs, search needs))
+    (λ c κs. (search needs, c .before .before .before .before .pre .0 .ready .fine _ (c .before .before .before .before .pre .0 .inside), c .before .moves-of .ensures .long))
+    (λ c κs. (search needs, c .before .before .before .before .before .pre .0 .ready .fine _ (c .before .before .before .before .before .pre .0 .inside)))
     then-requires
     returns)

@@ -10,26 +10,17 @@ use mathlib.Core.Path.{refl, ap}
 use Rattle.table.proofs.assigns.Statement.{statement}
 use Rattle.table.proofs.assigns.Tie as tie
 
-returns : tie.Need-returns
-unfolding kindBy viewOf kindOf sets
-returns c = λ text w. ap (λ k. sets w (plainOf text k)) (kind-is (now (c .before .before .before .args .rows)) (c .before .before .before .args .i) (c .before .before .tag-at .ensures) (c .enum-told .given .1))
-
-returns-2 : tie.Need-returns-2
-unfolding kindBy viewOf kindOf sets
-returns-2 c = λ text w. ap (λ k. sets w (plainOf text k)) (kind-is (now (c .before .before .before .args .rows)) (c .before .before .before .args .i) (c .before .before .tag-at .ensures) (c .enum-told2 .given .1))
-
-returns-3 : tie.Need-returns-3
-unfolding kindBy viewOf kindOf sets
-returns-3 c = λ text w. ap (λ k. sets w (plainOf text k)) (kind-is (now (c .before .before .before .args .rows)) (c .before .before .before .args .i) (c .before .before .tag-at .ensures) (c .enum-told3 .given .1))
-
-returns-4 : tie.Need-returns-4
-unfolding kindBy viewOf kindOf sets
-returns-4 c = λ text w. ap (λ k. sets w (plainOf text k)) (kind-is (now (c .before .before .before .args .rows)) (c .before .before .before .args .i) (c .before .before .tag-at .ensures) (c .enum-told4 .given .1))
-
 returns-5 : tie.Need-returns-5
 returns-5 c = λ text w. rw (kind-is _ _ (c .before .tag-at .ensures) refl) (not-assigned text _ _ (c .match .keys5) w)
 
 pub assigns-spec : {M : Type 1} → statement M
+unfolding kindBy viewOf kindOf sets
 assigns-spec =
     tie.close
-    (tie.spec (λ c κs. search needs) (λ c. search needs) (λ c. search needs) (λ c. search needs) (λ c. search needs) returns returns-2 returns-3 returns-4 returns-5)
+    (tie.spec
+    (λ c κs. search needs) (λ c. search needs) (λ c. search needs) (λ c. search needs) (λ c. search needs)
+    (λ c. λ text w. ap (λ k. sets w (plainOf text k)) (kind-is (now (c .before .before .before .args .rows)) (c .before .before .before .args .i) (c .before .before .tag-at .ensures) (c .enum-told .given .1)))
+    (λ c. λ text w. ap (λ k. sets w (plainOf text k)) (kind-is (now (c .before .before .before .args .rows)) (c .before .before .before .args .i) (c .before .before .tag-at .ensures) (c .enum-told2 .given .1)))
+    (λ c. λ text w. ap (λ k. sets w (plainOf text k)) (kind-is (now (c .before .before .before .args .rows)) (c .before .before .before .args .i) (c .before .before .tag-at .ensures) (c .enum-told3 .given .1)))
+    (λ c. λ text w. ap (λ k. sets w (plainOf text k)) (kind-is (now (c .before .before .before .args .rows)) (c .before .before .before .args .i) (c .before .before .tag-at .ensures) (c .enum-told4 .given .1)))
+    returns-5)

@@ -5,38 +5,6 @@ use Rattle.table.specs.Code.{kindBy, kindIn}
 use Rattle.table.proofs.kind_of.Statement.{statement}
 use Rattle.table.proofs.kind_of.Tie as tie
 
-returns : tie.Need-returns
-unfolding kindBy kindIn
-returns c = rw (← c .before .before .tag-of .ensures, c .enum-told .given .1)
-
-returns-2 : tie.Need-returns-2
-unfolding kindBy kindIn
-returns-2 c = rw (← c .before .before .tag-of .ensures, c .enum-told2 .given .1)
-
-returns-3 : tie.Need-returns-3
-unfolding kindBy kindIn
-returns-3 c = rw (← c .before .before .tag-of .ensures, c .enum-told3 .given .1)
-
-returns-4 : tie.Need-returns-4
-unfolding kindBy kindIn
-returns-4 c = rw (← c .before .before .before .tag-of .ensures, c .before .enum-told4 .given .1, c .first-operand .ensures, c .before .before .before .before .before .byte .ensures)
-
-returns-5 : tie.Need-returns-5
-unfolding kindBy kindIn
-returns-5 c = rw (← c .before .before .before .tag-of .ensures, c .before .enum-told5 .given .1, c .step .ensures, c .before .before .before .before .before .byte .ensures)
-
-returns-6 : tie.Need-returns-6
-unfolding kindBy kindIn
-returns-6 c = rw (← c .before .before .tag-of .ensures, c .enum-told6 .given .1)
-
-returns-7 : tie.Need-returns-7
-unfolding kindBy kindIn
-returns-7 c = rw (← c .before .before .before .tag-of .ensures, c .before .enum-told7 .given .1, c .limit .ensures, c .before .before .before .before .before .byte .ensures, c .before .before .before .before .comparison .ensures)
-
-returns-8 : tie.Need-returns-8
-unfolding kindBy kindIn
-returns-8 c = rw (← c .before .before .before .tag-of .ensures, c .before .enum-told8 .given .1, c .limit2 .ensures, c .before .before .before .before .before .byte .ensures, c .before .before .before .before .comparison .ensures)
-
 returns-9 : tie.Need-returns-9
 unfolding kindBy kindIn
 returns-9 c = rw (← c .before .before .before .before .before .tag-of .ensures, c .before .before .before .enum-told9 .given .1, c .step2 .ensures, c .before .limit3 .ensures, c .before .before .first-operand2 .ensures, c .before .before .before .before .before .before .before .byte .ensures, c .before .before .before .before .before .before .comparison .ensures)
@@ -45,51 +13,24 @@ returns-10 : tie.Need-returns-10
 unfolding kindBy kindIn
 returns-10 c = rw (toZ-ofZ (sfits-of (c .constant .ok)), ← c .before .before .before .before .tag-of .ensures, c .before .before .enum-told10 .given .1, c .constant .ensures, c .before .byte2 .ensures, c .before .before .before .before .before .before .byte .ensures, c .before .before .before .before .before .comparison .ensures)
 
-returns-11 : tie.Need-returns-11
-unfolding kindBy kindIn
-returns-11 c = rw (← c .before .before .tag-of .ensures, c .enum-told11 .given .1, c .before .before .before .before .byte .ensures)
-
 pub kind-of-spec : {M : Type 1} → statement M
+unfolding kindBy kindIn
 kind-of-spec =
     tie.close
     (tie.spec
-    (λ c. search needs)
-    (λ c κs. search needs)
-    (λ c. search needs)
-    (λ c κs. search needs)
-    (λ c. search needs)
-    (λ c κs. search needs)
-    (λ c. search needs)
-    (λ c. search needs)
-    (λ c. search needs)
-    (λ c. search needs)
-    (λ c κs. search needs)
-    (λ c. search needs)
-    (λ c κs. search needs)
-    (λ c. search needs)
-    (λ c. search needs)
-    (λ c. search needs)
-    (λ c κs. search needs)
-    (λ c. search needs)
-    (λ c κs. search needs)
-    (λ c. search needs)
-    (λ c κs. search needs)
-    (λ c κs. search needs)
-    (λ c κs. search needs)
-    (λ c. search needs)
-    (λ c. search needs)
-    (λ c κs. search needs)
-    (λ c. search needs)
-    (λ c κs. search needs)
-    (λ c. search needs)
-    returns
-    returns-2
-    returns-3
-    returns-4
-    returns-5
-    returns-6
-    returns-7
-    returns-8
+    (λ c. search needs) (λ c κs. search needs) (λ c. search needs) (λ c κs. search needs) (λ c. search needs) (λ c κs. search needs) (λ c. search needs)
+    (λ c. search needs) (λ c. search needs) (λ c. search needs) (λ c κs. search needs) (λ c. search needs) (λ c κs. search needs) (λ c. search needs)
+    (λ c. search needs) (λ c. search needs) (λ c κs. search needs) (λ c. search needs) (λ c κs. search needs) (λ c. search needs) (λ c κs. search needs)
+    (λ c κs. search needs) (λ c κs. search needs) (λ c. search needs) (λ c. search needs) (λ c κs. search needs) (λ c. search needs)
+    (λ c κs. search needs) (λ c. search needs)
+    (λ c. rw (← c .before .before .tag-of .ensures, c .enum-told .given .1))
+    (λ c. rw (← c .before .before .tag-of .ensures, c .enum-told2 .given .1))
+    (λ c. rw (← c .before .before .tag-of .ensures, c .enum-told3 .given .1))
+    (λ c. rw (← c .before .before .before .tag-of .ensures, c .before .enum-told4 .given .1, c .first-operand .ensures, c .before .before .before .before .before .byte .ensures))
+    (λ c. rw (← c .before .before .before .tag-of .ensures, c .before .enum-told5 .given .1, c .step .ensures, c .before .before .before .before .before .byte .ensures))
+    (λ c. rw (← c .before .before .tag-of .ensures, c .enum-told6 .given .1))
+    (λ c. rw (← c .before .before .before .tag-of .ensures, c .before .enum-told7 .given .1, c .limit .ensures, c .before .before .before .before .before .byte .ensures, c .before .before .before .before .comparison .ensures))
+    (λ c. rw (← c .before .before .before .tag-of .ensures, c .before .enum-told8 .given .1, c .limit2 .ensures, c .before .before .before .before .before .byte .ensures, c .before .before .before .before .comparison .ensures))
     returns-9
     returns-10
-    returns-11)
+    (λ c. rw (← c .before .before .tag-of .ensures, c .enum-told11 .given .1, c .before .before .before .before .byte .ensures)))

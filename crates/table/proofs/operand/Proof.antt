@@ -4,14 +4,13 @@ use borrow.Author.Tests.{eq-eqb, ne-eqb}
 use Rattle.table.proofs.operand.Statement.{statement}
 use Rattle.table.proofs.operand.Tie as tie
 
-returns : tie.Need-returns
-returns c = rw (toZ-ofZ (sfits-of (c .constant .ok)), eq-eqb _ _ (c .before .if1 .taken), c .constant .ensures)
-
-returns-2 : tie.Need-returns-2
-returns-2 c = rw (ne-eqb _ _ (c .before .before .if1 .left), eq-eqb _ _ (c .before .if2 .taken), c .byte .ensures)
-
-returns-3 : tie.Need-returns-3
-returns-3 c = rw (ne-eqb _ _ (c .before .if1 .left), ne-eqb _ _ (c .if2 .left))
-
 pub operand-spec : {M : Type 1} → statement M
-operand-spec = tie.close (tie.spec (λ c κs. search needs) returns (λ c κs. search needs) returns-2 (λ c. search needs) (λ c. search needs) returns-3)
+operand-spec =
+    tie.close
+    (tie.spec
+    (λ c κs. search needs)
+    (λ c. rw (toZ-ofZ (sfits-of (c .constant .ok)), eq-eqb _ _ (c .before .if1 .taken), c .constant .ensures))
+    (λ c κs. search needs)
+    (λ c. rw (ne-eqb _ _ (c .before .before .if1 .left), eq-eqb _ _ (c .before .if2 .taken), c .byte .ensures))
+    (λ c. search needs) (λ c. search needs)
+    (λ c. rw (ne-eqb _ _ (c .before .if1 .left), ne-eqb _ _ (c .if2 .left))))

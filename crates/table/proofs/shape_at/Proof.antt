@@ -1,82 +1,34 @@
 -- `table::shape_at` meets its contract.
-use mathlib.Core.Path.{sym, ap}
+use mathlib.Core.Path.{_≡_, sym, ap}
 use denote.Ref.{now}
 use borrow.Author.Needs.{needs}
+use Rattle.table.specs.declared.Tag.{Tag}
 use Rattle.rules.specs.Blocks.{viewOf, kindOf}
-use Rattle.table.specs.Code.{kindBy}
+use Rattle.table.specs.Code.{numbersAt, rowTag, kindBy, kindAt, rowsOf}
 use Rattle.table.specs.Shapes.{shapeOf}
 use Rattle.table.proofs.Laws.{kind-is}
 use Rattle.table.proofs.shape_at.Statement.{statement}
 use Rattle.table.proofs.shape_at.Tie as tie
 
-returns : tie.Need-returns
-unfolding kindBy viewOf kindOf
-returns c = sym (ap shapeOf (kind-is (now (c .before .before .before .args .rows)) (c .before .before .before .args .i) (c .before .before .tag-at .ensures) (c .enum-told .given .1)))
-
-returns-2 : tie.Need-returns-2
-unfolding kindBy viewOf kindOf
-returns-2 c = sym (ap shapeOf (kind-is (now (c .before .before .before .args .rows)) (c .before .before .before .args .i) (c .before .before .tag-at .ensures) (c .enum-told2 .given .1)))
-
-returns-3 : tie.Need-returns-3
-unfolding kindBy viewOf kindOf
-returns-3 c = sym (ap shapeOf (kind-is (now (c .before .before .before .args .rows)) (c .before .before .before .args .i) (c .before .before .tag-at .ensures) (c .enum-told3 .given .1)))
-
-returns-4 : tie.Need-returns-4
-unfolding kindBy viewOf kindOf
-returns-4 c = sym (ap shapeOf (kind-is (now (c .before .before .before .args .rows)) (c .before .before .before .args .i) (c .before .before .tag-at .ensures) (c .enum-told4 .given .1)))
-
-returns-5 : tie.Need-returns-5
-unfolding kindBy viewOf kindOf
-returns-5 c = sym (ap shapeOf (kind-is (now (c .before .before .before .args .rows)) (c .before .before .before .args .i) (c .before .before .tag-at .ensures) (c .enum-told5 .given .1)))
-
-returns-6 : tie.Need-returns-6
-unfolding kindBy viewOf kindOf
-returns-6 c = sym (ap shapeOf (kind-is (now (c .before .before .before .args .rows)) (c .before .before .before .args .i) (c .before .before .tag-at .ensures) (c .enum-told6 .given .1)))
-
-returns-7 : tie.Need-returns-7
-unfolding kindBy viewOf kindOf
-returns-7 c = sym (ap shapeOf (kind-is (now (c .before .before .before .args .rows)) (c .before .before .before .args .i) (c .before .before .tag-at .ensures) (c .enum-told7 .given .1)))
-
-returns-8 : tie.Need-returns-8
-unfolding kindBy viewOf kindOf
-returns-8 c = sym (ap shapeOf (kind-is (now (c .before .before .before .args .rows)) (c .before .before .before .args .i) (c .before .before .tag-at .ensures) (c .enum-told8 .given .1)))
-
-returns-9 : tie.Need-returns-9
-unfolding kindBy viewOf kindOf
-returns-9 c = sym (ap shapeOf (kind-is (now (c .before .before .before .args .rows)) (c .before .before .before .args .i) (c .before .before .tag-at .ensures) (c .enum-told9 .given .1)))
-
-returns-10 : tie.Need-returns-10
-unfolding kindBy viewOf kindOf
-returns-10 c = sym (ap shapeOf (kind-is (now (c .before .before .before .args .rows)) (c .before .before .before .args .i) (c .before .before .tag-at .ensures) (c .enum-told10 .given .1)))
-
-returns-11 : tie.Need-returns-11
-unfolding kindBy viewOf kindOf
-returns-11 c = sym (ap shapeOf (kind-is (now (c .before .before .before .args .rows)) (c .before .before .before .args .i) (c .before .before .tag-at .ensures) (c .enum-told11 .given .1)))
+-- the shape of a row whose tag is known
+is : (s : tie.Start) {g h : Tag} → g ≡ rowTag (numbersAt (now (s .args .rows)) (s .args .i)) → g ≡ h → shapeOf (kindBy h (numbersAt (now (s .args .rows)) (s .args .i))) ≡ shapeOf (kindAt (rowsOf (now (s .args .rows))) (s .args .i))
+is s p q = sym (ap shapeOf (kind-is (now (s .args .rows)) (s .args .i) p q))
 
 pub shape-at-spec : {M : Type 1} → statement M
+unfolding kindBy viewOf kindOf
 shape-at-spec =
     tie.close
     (tie.spec
-    (λ c κs. search needs)
-    (λ c. search needs)
-    (λ c. search needs)
-    (λ c. search needs)
-    (λ c. search needs)
-    (λ c. search needs)
-    (λ c. search needs)
-    (λ c. search needs)
-    (λ c. search needs)
-    (λ c. search needs)
-    (λ c. search needs)
-    (λ c. search needs)
-    returns
-    returns-2
-    returns-3
-    returns-4
-    returns-5
-    returns-6
-    returns-7
-    returns-8
-    returns-9
-    returns-10
-    returns-11)
+    (λ c κs. search needs) (λ c. search needs) (λ c. search needs) (λ c. search needs) (λ c. search needs) (λ c. search needs) (λ c. search needs)
+    (λ c. search needs) (λ c. search needs) (λ c. search needs) (λ c. search needs) (λ c. search needs)
+    (λ c. is (c .before .before .before) (c .before .before .tag-at .ensures) (c .enum-told .given .1))
+    (λ c. is (c .before .before .before) (c .before .before .tag-at .ensures) (c .enum-told2 .given .1))
+    (λ c. is (c .before .before .before) (c .before .before .tag-at .ensures) (c .enum-told3 .given .1))
+    (λ c. is (c .before .before .before) (c .before .before .tag-at .ensures) (c .enum-told4 .given .1))
+    (λ c. is (c .before .before .before) (c .before .before .tag-at .ensures) (c .enum-told5 .given .1))
+    (λ c. is (c .before .before .before) (c .before .before .tag-at .ensures) (c .enum-told6 .given .1))
+    (λ c. is (c .before .before .before) (c .before .before .tag-at .ensures) (c .enum-told7 .given .1))
+    (λ c. is (c .before .before .before) (c .before .before .tag-at .ensures) (c .enum-told8 .given .1))
+    (λ c. is (c .before .before .before) (c .before .before .tag-at .ensures) (c .enum-told9 .given .1))
+    (λ c. is (c .before .before .before) (c .before .before .tag-at .ensures) (c .enum-told10 .given .1))
+    (λ c. is (c .before .before .before) (c .before .before .tag-at .ensures) (c .enum-told11 .given .1)))

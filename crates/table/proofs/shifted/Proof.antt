@@ -8,17 +8,14 @@ use Rattle.table.proofs.shifted.Tie as tie
 wide : (c : tie.Start) → Shifted 2_147_483_648 (c .args .k)
 wide c = let n = neg-parts (pos 1_000_000_000) in let m = neg-parts (pos 2_147_483_648) in let h = c .pre in shifted _ _ (omega ints) (omega (ints, n, m)) (omega (ints, n, m))
 
-cast-result : tie.Need-cast-result
-cast-result c = simp (toZ-ofZ (c .fits .k)) (wide c .wide)
-
-add-result : tie.Need-add-result
-add-result c = let h = wide c in simp (toZ-ofZ (c .fits .k), toZ-ofZ (h .wide)) (h .more)
-
 cast-result-2 : tie.Need-cast-result-2
 cast-result-2 c = let h = wide c in simp (toZ-ofZ (c .fits .k), toZ-ofZ (h .wide), toZ-ofZ (h .more)) (h .whole, record { fits = omega ints })
 
-returns : tie.Need-returns
-returns c = let h = wide c in simp (toZ-ofZ (c .fits .k), toZ-ofZ (h .wide), toZ-ofZ (h .more)) (h .back)
-
 pub shifted-spec : {M : Type 1} → statement M
-shifted-spec = tie.close (tie.spec cast-result add-result cast-result-2 returns)
+shifted-spec =
+    tie.close
+    (tie.spec
+    (λ c. simp (toZ-ofZ (c .fits .k)) (wide c .wide))
+    (λ c. let h = wide c in simp (toZ-ofZ (c .fits .k), toZ-ofZ (h .wide)) (h .more))
+    cast-result-2
+    (λ c. let h = wide c in simp (toZ-ofZ (c .fits .k), toZ-ofZ (h .wide), toZ-ofZ (h .more)) (h .back)))

@@ -8,16 +8,12 @@ use Rattle.ticks.proofs.Caps.{once-one}
 use Rattle.ticks.proofs.besides.Statement.{statement}
 use Rattle.ticks.proofs.besides.Tie as tie
 
-returns : tie.Need-returns
-unfolding headOf viewOf kindOf
-returns c = λ text. sym (ap (λ k. once (c .before .before .args .prices) (formOf text k)) (c .enum-told .given .1))
-
-returns-2 : tie.Need-returns-2
-unfolding headOf viewOf kindOf
-returns-2 c = λ text. sym (ap (λ k. once (c .before .before .before .args .prices) (formOf text k)) (c .before .enum-told2 .given .1))
-
-returns-3 : tie.Need-returns-3
-returns-3 c = λ text. once-one (c .before .args .prices) text (c .before .args .kind) (c .match .keys3)
-
 pub besides-spec : {M : Type 1} → statement M
-besides-spec = tie.close (tie.spec (λ c. search needs) (λ c. search needs) (λ c. search needs) returns returns-2 returns-3)
+unfolding headOf viewOf kindOf
+besides-spec =
+    tie.close
+    (tie.spec
+    (λ c. search needs) (λ c. search needs) (λ c. search needs)
+    (λ c. λ text. sym (ap (λ k. once (c .before .before .args .prices) (formOf text k)) (c .enum-told .given .1)))
+    (λ c. λ text. sym (ap (λ k. once (c .before .before .before .args .prices) (formOf text k)) (c .before .enum-told2 .given .1)))
+    (λ c. λ text. once-one (c .before .args .prices) text (c .before .args .kind) (c .match .keys3)))

@@ -53,23 +53,19 @@ ends c =
     let q = rw (c .before .y .given .1) at (s .pre .1) in
     (fit _ _ (p .0) (q .1), fit _ _ (p .1) (q .0))
 
-sub-t9 : tie.Need-sub-t9
-sub-t9 c = let k = ends c .0 in simp (toZ-ofZ (k .first), toZ-ofZ (k .second)) (k .apart)
-
-sub-t10 : tie.Need-sub-t10
-sub-t10 c = let k = ends c .1 in simp (toZ-ofZ (k .first), toZ-ofZ (k .second)) (k .apart)
-
 returns : tie.Need-returns
 unfolding difference
 returns c =
     let k = ends c in
     rw (c .before .before .before .before .x .given .1, c .before .y .given .1) (simp (toZ-ofZ (k .0 .first), toZ-ofZ (k .0 .second), toZ-ofZ (k .1 .first), toZ-ofZ (k .1 .second), toZ-ofZ (k .0 .apart), toZ-ofZ (k .1 .apart)))
 
-returns-2 : tie.Need-returns-2
-returns-2 c = rw (c .before .before .x .given .1) (second-other _ _ (c .before .before .before .before .args .y) (c .match2 .keys2))
-
-returns-3 : tie.Need-returns-3
-returns-3 c = first-other (c .before .args .x) (c .before .args .y) (c .match .keys2)
-
 pub difference-spec : {M : Type 1} → statement M
-difference-spec = tie.close (tie.spec (λ c. search needs) (λ c. search needs) sub-t9 sub-t10 returns returns-2 returns-3)
+difference-spec =
+    tie.close
+    (tie.spec
+    (λ c. search needs) (λ c. search needs)
+    (λ c. let k = ends c .0 in simp (toZ-ofZ (k .first), toZ-ofZ (k .second)) (k .apart))
+    (λ c. let k = ends c .1 in simp (toZ-ofZ (k .first), toZ-ofZ (k .second)) (k .apart))
+    returns
+    (λ c. rw (c .before .before .x .given .1) (second-other _ _ (c .before .before .before .before .args .y) (c .match2 .keys2)))
+    (λ c. first-other (c .before .args .x) (c .before .args .y) (c .match .keys2)))

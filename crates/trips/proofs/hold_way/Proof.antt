@@ -35,17 +35,8 @@ way-is c =
     let found = c .sole-of .ensures .value ∙ ap (λ v. soleOf v b) (h .tested) ∙ ap (soleOf (testOf text k .tested)) (sym (held-last text k (s .pre .1) (a .i) b)) in
     ap (holdWay (bodyAt text rows (a .count) (a .i))) found ∙ by-off (testOf text k) _ (formOf text k) (s .pre .1)
 
-head-of-requires : tie.Need-head-of-requires
-head-of-requires c κs = rw (c .kind-at .ensures) (c .before .before .pre .0 .ready .fine _ (c .before .before .pre .0 .inside))
-
-sole-of-requires : tie.Need-sole-of-requires
-sole-of-requires c κs = (ready (c .before .before .before .pre .0 .ready) (search needs), c .head-of .ensures [] .small)
-
 watched-way-requires : tie.Need-watched-way-requires
 watched-way-requires c κs = (c .before .before .before .before .before .before .before .before .before .before .pre .0, rw (c .before .before .before .before .w .given .1) at (c .before .before .before .before .before .before .sole-of .ensures .small))
-
-returns : tie.Need-returns
-returns c = record { value = no-off _ ∙ ap (holdWay _) (ap soleIs (sym (c .enum-told .given .1))) ∙ way-is (c .before .before); small = tt; moves = tt }
 
 returns-2 : tie.Need-returns-2
 returns-2 c =
@@ -71,14 +62,11 @@ hold-way-spec =
     tie.close
     (tie.spec
     (λ c κs. search needs)
-    head-of-requires
+    (λ c κs. rw (c .kind-at .ensures) (c .before .before .pre .0 .ready .fine _ (c .before .before .pre .0 .inside)))
     (λ c. search needs)
-    sole-of-requires
-    (λ c. search needs)
-    (λ c. search needs)
-    (λ c. search needs)
-    (λ c. search needs)
+    (λ c κs. (ready (c .before .before .before .pre .0 .ready) (search needs), c .head-of .ensures [] .small))
+    (λ c. search needs) (λ c. search needs) (λ c. search needs) (λ c. search needs)
     watched-way-requires
-    returns
+    (λ c. record { value = no-off _ ∙ ap (holdWay _) (ap soleIs (sym (c .enum-told .given .1))) ∙ way-is (c .before .before); small = tt; moves = tt })
     returns-2
     returns-3)

@@ -4,21 +4,13 @@ use Rattle.rules.specs.Steps.{isAdd}
 use Rattle.trips.proofs.is_add.Statement.{statement}
 use Rattle.trips.proofs.is_add.Tie as tie
 
-returns : tie.Need-returns
-unfolding isAdd
-returns c = rw (c .enum-told .given .1)
-
-returns-2 : tie.Need-returns-2
-unfolding isAdd
-returns-2 c = rw (c .enum-told2 .given .1)
-
-returns-3 : tie.Need-returns-3
-unfolding isAdd
-returns-3 c = rw (c .enum-told3 .given .1)
-
-returns-4 : tie.Need-returns-4
-unfolding isAdd
-returns-4 c = rw (c .enum-told4 .given .1)
-
 pub is-add-spec : {M : Type 1} → statement M
-is-add-spec = tie.close (tie.spec (λ c. search needs) (λ c. search needs) (λ c. search needs) (λ c. search needs) returns returns-2 returns-3 returns-4)
+unfolding isAdd
+is-add-spec =
+    tie.close
+    (tie.spec
+    (λ c. search needs) (λ c. search needs) (λ c. search needs) (λ c. search needs)
+    (λ c. rw (c .enum-told .given .1))
+    (λ c. rw (c .enum-told2 .given .1))
+    (λ c. rw (c .enum-told3 .given .1))
+    (λ c. rw (c .enum-told4 .given .1)))

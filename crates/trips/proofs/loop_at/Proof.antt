@@ -16,20 +16,11 @@ use borrow.Author.Needs.{needs}
 use Rattle.trips.proofs.loop_at.Statement.{statement}
 use Rattle.trips.proofs.loop_at.Tie as tie
 
-head-of-requires : tie.Need-head-of-requires
-head-of-requires c κs = rw (c .kind-at .ensures) (c .before .before .pre .0 .ready .fine _ (c .before .before .pre .0 .inside))
-
 -- the limit's expression stands in the text
 limit-written : (c : tie.After-head-of) → let s = c .before .before .before in WrittenOperand (now (s .args .text)) (c .head-of .result .limit)
 limit-written c =
     let s = c .before .before .before in
     c .head-of .ensures (now (s .args .text)) .written (rw (c .before .kind-at .ensures) (s .pre .0 .ready .written _ (s .pre .0 .inside)))
-
-bounds-requires : tie.Need-bounds-requires
-bounds-requires c κs = (c .before .before .before .head-of .ensures [] .fine, limit-written (c .before .before .before), c .before .before .before .before .before .before .pre .1)
-
-keeps-requires : tie.Need-keeps-requires
-keeps-requires c κs = (c .before .before .before .before .head-of .ensures [] .fine, limit-written (c .before .before .before .before))
 
 way-of-requires : tie.Need-way-of-requires
 way-of-requires c κs =
@@ -46,9 +37,6 @@ way-of-requires c κs =
       near = b .near;
       limit = c .before .keeps .ensures body (b .sets) ∙ ap (λ x. keeps x body) (h .limit);
     }
-
-trip-by-requires : tie.Need-trip-by-requires
-trip-by-requires c κs = c .before .way-of .ensures .small
 
 returns : tie.Need-returns
 returns c =
@@ -78,13 +66,13 @@ loop-at-spec =
     tie.close
     (tie.spec
     (λ c κs. search needs)
-    head-of-requires
+    (λ c κs. rw (c .kind-at .ensures) (c .before .before .pre .0 .ready .fine _ (c .before .before .pre .0 .inside)))
     (λ c κs. (c .before .before .before .pre .0, c .head-of .ensures [] .small))
     (λ c κs. c .before .before .head-of .ensures [] .small)
-    bounds-requires
-    keeps-requires
+    (λ c κs. (c .before .before .before .head-of .ensures [] .fine, limit-written (c .before .before .before), c .before .before .before .before .before .before .pre .1))
+    (λ c κs. (c .before .before .before .before .head-of .ensures [] .fine, limit-written (c .before .before .before .before)))
     (λ c κs. search needs)
     way-of-requires
     (λ c κs. search needs)
-    trip-by-requires
+    (λ c κs. c .before .way-of .ensures .small)
     returns)

@@ -23,28 +23,14 @@ returns-2 c =
     let t = simp (toZ-ofZ fa) at (c .if1 .left) in
     rw (c .before .before .step .given .1, t) (simp (toZ-ofZ fb))
 
-returns-3 : tie.Need-returns-3
-unfolding moving
-returns-3 c = rw (c .before .step2 .given .1)
-
-returns-4 : tie.Need-returns-4
-unfolding moving
-returns-4 c = rw (c .before .step3 .given .1)
-
-returns-5 : tie.Need-returns-5
-unfolding moving
-returns-5 c = rw (c .enum-told .given .1)
-
 pub moving-spec : {M : Type 1} → statement M
+unfolding moving
 moving-spec =
     tie.close
     (tie.spec
-    (λ c. search needs)
-    (λ c. search needs)
-    (λ c. search needs)
-    (λ c. search needs)
+    (λ c. search needs) (λ c. search needs) (λ c. search needs) (λ c. search needs)
     returns
     returns-2
-    returns-3
-    returns-4
-    returns-5)
+    (λ c. rw (c .before .step2 .given .1))
+    (λ c. rw (c .before .step3 .given .1))
+    (λ c. rw (c .enum-told .given .1)))

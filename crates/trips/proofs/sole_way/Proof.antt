@@ -39,18 +39,6 @@ way-is : (c : tie.After-sole-of) → let text = now (c .before .before .before .
     soleWay (testOf text (kindAt rows i)) body (soleIs (c .sole-of .result)) ≡ wayOf (formOf text (kindAt rows i)) (testOf text (kindAt rows i)) body
 way-is c = ap (soleWay _ _) (sole-is c) ∙ by-sole _ _ _ (sym (for-is (c .before .before .before)) ∙ c .before .before .if1 .left) (c .before .before .before .before .before .before .pre .form)
 
-head-of-requires : tie.Need-head-of-requires
-head-of-requires c κs = rw (c .before .before .kind-at .ensures) (c .before .before .before .before .pre .loop .ready .fine _ (c .before .before .before .before .pre .loop .inside))
-
-sole-of-requires : tie.Need-sole-of-requires
-sole-of-requires c κs = (ready (c .before .before .before .before .before .pre .loop .ready) (search needs), c .head-of .ensures [] .small)
-
-copied-way-requires : tie.Need-copied-way-requires
-copied-way-requires c κs = (c .before .before .before .before .before .before .before .before .before .before .before .pre .loop, rw (c .before .before .before .w .given .1) at (c .before .before .before .before .before .sole-of .ensures .small))
-
-returns : tie.Need-returns
-returns c = record { value = for-way _ _ (c .before .before .before .before .pre .own) _ (sym (for-is (c .before)) ∙ c .if1 .taken); small = tt; moves = tt }
-
 returns-2 : tie.Need-returns-2
 returns-2 c =
     record { value = other-way _ _ (c .before .before .before .before .before .before .before .before .pre .own) ∙ ap (soleWay _ _) (ap soleIs (sym (c .enum-told .given .1))) ∙ way-is (c .before .before); small = tt; moves = tt }
@@ -78,16 +66,13 @@ pub sole-way-spec : {M : Type 1} → statement M
 sole-way-spec =
     tie.close
     (tie.spec
-    (λ c κs. search needs)
-    (λ c κs. search needs)
-    returns
-    head-of-requires
+    (λ c κs. search needs) (λ c κs. search needs)
+    (λ c. record { value = for-way _ _ (c .before .before .before .before .pre .own) _ (sym (for-is (c .before)) ∙ c .if1 .taken); small = tt; moves = tt })
+    (λ c κs. rw (c .before .before .kind-at .ensures) (c .before .before .before .before .pre .loop .ready .fine _ (c .before .before .before .before .pre .loop .inside)))
     (λ c. search needs)
-    sole-of-requires
-    (λ c. search needs)
-    (λ c. search needs)
-    (λ c. search needs)
-    copied-way-requires
+    (λ c κs. (ready (c .before .before .before .before .before .pre .loop .ready) (search needs), c .head-of .ensures [] .small))
+    (λ c. search needs) (λ c. search needs) (λ c. search needs)
+    (λ c κs. (c .before .before .before .before .before .before .before .before .before .before .before .pre .loop, rw (c .before .before .before .w .given .1) at (c .before .before .before .before .before .sole-of .ensures .small)))
     (λ c. search needs)
     returns-2
     returns-3

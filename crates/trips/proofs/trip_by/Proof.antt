@@ -11,29 +11,17 @@ use Rattle.trips.specs.Found.{readFrom, chaseFrom}
 use Rattle.trips.proofs.trip_by.Statement.{statement}
 use Rattle.trips.proofs.trip_by.Tie as tie
 
-span-at-requires : tie.Need-span-at-requires
-span-at-requires c κs = rw (c .before .before .way .given .1) at (c .before .before .before .before .pre)
-
-returns : tie.Need-returns
-returns c = rw (c .before .enum-told .given .1) (c .own-trip .ensures)
-
 returns-2 : tie.Need-returns-2
 returns-2 c =
     let a = c .before .before .before .before .before .before .args in
     let (w, (ahead, (moved, _))) = c .before .before .before .before .way .given .0 in
     rw (c .before .before .before .before .way .given .1) (c .read-trip .ensures ∙ (λ j. readFrom (c .before .before .lead-of .ensures j) moved (a .comparison) (c .before .span-at .ensures j) (rangeOf (a .limit)) (a .keeps) ahead (rangeOf (a .start))))
 
-span-at-requires-2 : tie.Need-span-at-requires-2
-span-at-requires-2 c κs = rw (c .before .way2 .given .1) at (c .before .before .before .pre)
-
 returns-3 : tie.Need-returns-3
 returns-3 c =
     let a = c .before .before .before .before .before .args in
     let (w, (apart, _)) = c .before .before .before .way2 .given .0 in
     rw (c .before .before .before .way2 .given .1) (c .chase-trip .ensures ∙ ap (λ s. chaseFrom (a .untested) apart (a .comparison) (rangeOf (a .start)) s) (c .before .span-at2 .ensures))
-
-span-at-requires-3 : tie.Need-span-at-requires-3
-span-at-requires-3 c κs = rw (c .before .before .way3 .given .1) at (c .before .before .before .before .pre)
 
 returns-4 : tie.Need-returns-4
 returns-4 c =
@@ -42,30 +30,19 @@ returns-4 c =
     let f : SFits w32 k = search needs in
     rw (c .before .before .before .before .way3 .given .1) ((simp (toZ-ofZ f) at (c .read-trip2 .ensures)) ∙ (λ j. readFrom (flag (rangeOf (a .start))) moved (c .before .before .opposite .ensures j) (c .before .span-at3 .ensures j) (record { lo = k; hi = k }) true ahead (rangeOf (a .start))))
 
-returns-5 : tie.Need-returns-5
-returns-5 c = rw (c .before .enum-told2 .given .1) (c .own-trip2 .ensures)
-
 pub trip-by-spec : {M : Type 1} → statement M
 trip-by-spec =
     tie.close
     (tie.spec
-    (λ c. search needs)
-    (λ c κs. search needs)
-    (λ c. search needs)
-    (λ c κs. search needs)
-    span-at-requires
-    (λ c κs. search needs)
-    (λ c. search needs)
-    span-at-requires-2
-    (λ c κs. search needs)
-    (λ c. search needs)
-    (λ c κs. search needs)
-    span-at-requires-3
-    (λ c κs. search needs)
-    (λ c. search needs)
-    (λ c κs. search needs)
-    returns
+    (λ c. search needs) (λ c κs. search needs) (λ c. search needs) (λ c κs. search needs)
+    (λ c κs. rw (c .before .before .way .given .1) at (c .before .before .before .before .pre))
+    (λ c κs. search needs) (λ c. search needs)
+    (λ c κs. rw (c .before .way2 .given .1) at (c .before .before .before .pre))
+    (λ c κs. search needs) (λ c. search needs) (λ c κs. search needs)
+    (λ c κs. rw (c .before .before .way3 .given .1) at (c .before .before .before .before .pre))
+    (λ c κs. search needs) (λ c. search needs) (λ c κs. search needs)
+    (λ c. rw (c .before .enum-told .given .1) (c .own-trip .ensures))
     returns-2
     returns-3
     returns-4
-    returns-5)
+    (λ c. rw (c .before .enum-told2 .given .1) (c .own-trip2 .ensures)))

@@ -19,12 +19,6 @@ use Rattle.turns.proofs.Verdicts.{refused-19, refused-8, refused-9, ref
 use Rattle.turns.proofs.ask.Statement.{statement}
 use Rattle.turns.proofs.ask.Tie as tie
 
-returns : tie.Need-returns
-returns c = refused-19 (tripOf (c .before .before .args .trip)) (not-yes (c .if1 .taken))
-
-returns-2 : tie.Need-returns-2
-returns-2 c = refused-8 (tripOf (c .before .before .before .before .args .trip)) (not-no (c .before .before .if1 .left)) (sym (c .before .known .ensures) ∙ not-yes (c .if2 .taken))
-
 returns-3 : tie.Need-returns-3
 returns-3 c = refused-9 (tripOf (c .before .before .before .before .before .before .args .trip)) (not-no (c .before .before .before .before .if1 .left)) (sym (c .before .before .before .known .ensures) ∙ not-no (c .before .before .if2 .left)) (sym (c .before .moving .ensures) ∙ not-yes (c .if3 .taken))
 
@@ -50,9 +44,6 @@ yes c = record {
   keeps = not-no (c .before .before .if4 .left);
   suits = sym (c .before .suits .ensures) ∙ not-no (c .if5 .left);
 }
-
-edge-requires : tie.Need-edge-requires
-edge-requires c κs = c .limit-of .ensures .1
 
 at-test-requires : tie.Need-at-test-requires
 at-test-requires c κs = (c .before .before .before .before .before .before .before .before .before .before .before .before .before .before .before .pre, yes (c .before .before .before .before .before) .moves, c .before .before .start-of .ensures .1)
@@ -110,17 +101,16 @@ pub ask-spec : {M : Type 1} → statement M
 ask-spec =
     tie.close
     (tie.spec
-    returns
+    (λ c. refused-19 (tripOf (c .before .before .args .trip)) (not-yes (c .if1 .taken)))
     (λ c κs. search needs)
-    returns-2
+    (λ c. refused-8 (tripOf (c .before .before .before .before .args .trip)) (not-no (c .before .before .if1 .left)) (sym (c .before .known .ensures) ∙ not-yes (c .if2 .taken)))
     (λ c κs. search needs)
     returns-3
     returns-4
     (λ c κs. search needs)
     returns-5
-    (λ c κs. search needs)
-    (λ c κs. search needs)
-    edge-requires
+    (λ c κs. search needs) (λ c κs. search needs)
+    (λ c κs. c .limit-of .ensures .1)
     at-test-requires
     has-figure-requires
     returns-6

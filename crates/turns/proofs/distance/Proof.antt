@@ -40,23 +40,11 @@ above c =
     let s = c .before in
     known (s .args .y) (s .args .x) (s .pre .1) (s .pre .0) (simp (toZ-ofZ (s .fits .x), toZ-ofZ (s .fits .y)) at (c .if1 .left))
 
-sub-result : tie.Need-sub-result
-sub-result c = let k = below c in search needs
-
-cast-result : tie.Need-cast-result
-cast-result c = let k = below c in search needs
-
-sub-result-2 : tie.Need-sub-result-2
-sub-result-2 c = let k = above c in search needs
-
-cast-result-2 : tie.Need-cast-result-2
-cast-result-2 c = let k = above c in search needs
-
-returns : tie.Need-returns
-returns c = let k = below c in simp (toZ-ofZ (k .x64), toZ-ofZ (k .y64), toZ-ofZ (k .gap)) (k .same)
-
-returns-2 : tie.Need-returns-2
-returns-2 c = let k = above c in simp (toZ-ofZ (k .x64), toZ-ofZ (k .y64), toZ-ofZ (k .gap))
-
 pub distance-spec : {M : Type 1} → statement M
-distance-spec = tie.close (tie.spec sub-result cast-result sub-result-2 cast-result-2 returns returns-2)
+distance-spec =
+    tie.close
+    (tie.spec
+    (λ c. let k = below c in search needs) (λ c. let k = below c in search needs) (λ c. let k = above c in search needs)
+    (λ c. let k = above c in search needs)
+    (λ c. let k = below c in simp (toZ-ofZ (k .x64), toZ-ofZ (k .y64), toZ-ofZ (k .gap)) (k .same))
+    (λ c. let k = above c in simp (toZ-ofZ (k .x64), toZ-ofZ (k .y64), toZ-ofZ (k .gap))))

@@ -15,27 +15,13 @@ returns c =
     let fb : SFits w64 (c .before .step .given .0 .1 .0) = sfits-of (c .known-told .given .1 .0 .1) in
     rw (c .before .step .given .1) (eq-test fa fb)
 
-returns-2 : tie.Need-returns-2
-unfolding even
-returns-2 c = rw (c .before .step2 .given .1)
-
-returns-3 : tie.Need-returns-3
-unfolding even
-returns-3 c = rw (c .before .step3 .given .1)
-
-returns-4 : tie.Need-returns-4
-unfolding even
-returns-4 c = rw (c .enum-told .given .1)
-
 pub even-spec : {M : Type 1} → statement M
+unfolding even
 even-spec =
     tie.close
     (tie.spec
-    (λ c. search needs)
-    (λ c. search needs)
-    (λ c. search needs)
-    (λ c. search needs)
+    (λ c. search needs) (λ c. search needs) (λ c. search needs) (λ c. search needs)
     returns
-    returns-2
-    returns-3
-    returns-4)
+    (λ c. rw (c .before .step2 .given .1))
+    (λ c. rw (c .before .step3 .given .1))
+    (λ c. rw (c .enum-told .given .1)))

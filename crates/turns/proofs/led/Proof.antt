@@ -9,14 +9,6 @@ use Rattle.rules.specs.Trips.{led}
 use Rattle.turns.proofs.led.Statement.{statement}
 use Rattle.turns.proofs.led.Tie as tie
 
-returns : tie.Need-returns
-unfolding led
-returns c = rw (c .enum-told .given .1)
-
-returns-2 : tie.Need-returns-2
-unfolding led
-returns-2 c = rw (c .enum-told2 .given .1) (add-one _)
-
 returns-3 : tie.Need-returns-3
 unfolding led
 returns-3 c = let f : SFits w64 (c .before .before .before .before .before .args .e) = search needs in let m = rw (toZ-ofZ f) at (c .before .misses .ensures) in rw (c .before .before .before .lead .given .1, sym m ∙ c .if1 .taken)
@@ -25,30 +17,16 @@ returns-4 : tie.Need-returns-4
 unfolding led
 returns-4 c = let f : SFits w64 (c .before .before .before .before .before .args .e) = search needs in let m = rw (toZ-ofZ f) at (c .before .misses .ensures) in rw (c .before .before .before .lead .given .1, sym m ∙ c .if1 .left) (add-one _)
 
-returns-5 : tie.Need-returns-5
-unfolding led
-returns-5 c = rw (c .before .before .before .lead2 .given .1, sym (c .before .is-zero .ensures) ∙ c .if2 .taken)
-
-returns-6 : tie.Need-returns-6
-unfolding led
-returns-6 c = rw (c .before .before .before .lead2 .given .1, sym (c .before .is-zero .ensures) ∙ c .if2 .left) (add-one _)
-
 pub led-spec : {M : Type 1} → statement M
+unfolding led
 led-spec =
     tie.close
     (tie.spec
-    (λ c. search needs)
-    (λ c. search needs)
-    (λ c. search needs)
-    (λ c. search needs)
-    (λ c κs. search needs)
-    (λ c. search needs)
-    (λ c. search needs)
-    (λ c κs. search needs)
-    (λ c. search needs)
-    returns
-    returns-2
+    (λ c. search needs) (λ c. search needs) (λ c. search needs) (λ c. search needs) (λ c κs. search needs) (λ c. search needs) (λ c. search needs)
+    (λ c κs. search needs) (λ c. search needs)
+    (λ c. rw (c .enum-told .given .1))
+    (λ c. rw (c .enum-told2 .given .1) (add-one _))
     returns-3
     returns-4
-    returns-5
-    returns-6)
+    (λ c. rw (c .before .before .before .lead2 .given .1, sym (c .before .is-zero .ensures) ∙ c .if2 .taken))
+    (λ c. rw (c .before .before .before .lead2 .given .1, sym (c .before .is-zero .ensures) ∙ c .if2 .left) (add-one _)))

@@ -10,14 +10,11 @@ use Rattle.turns.proofs.limit_of.Tie as tie
 none : Short (pos 0)
 none = omega (ints, neg-parts (pos 4_294_967_296))
 
-returns : tie.Need-returns
-returns c = rw (c .before .enum-told .given .1) (c .whole .ensures)
-
-returns-2 : tie.Need-returns-2
-returns-2 c = rw (c .before .enum-told2 .given .1) (c .whole2 .ensures)
-
-returns-3 : tie.Need-returns-3
-returns-3 c = rw (c .enum-told3 .given .1) (refl, record { low = none; high = none })
-
 pub limit-of-spec : {M : Type 1} → statement M
-limit-of-spec = tie.close (tie.spec (λ c. search needs) (λ c κs. search needs) (λ c. search needs) (λ c κs. search needs) (λ c. search needs) returns returns-2 returns-3)
+limit-of-spec =
+    tie.close
+    (tie.spec
+    (λ c. search needs) (λ c κs. search needs) (λ c. search needs) (λ c κs. search needs) (λ c. search needs)
+    (λ c. rw (c .before .enum-told .given .1) (c .whole .ensures))
+    (λ c. rw (c .before .enum-told2 .given .1) (c .whole2 .ensures))
+    (λ c. rw (c .enum-told3 .given .1) (refl, record { low = none; high = none })))

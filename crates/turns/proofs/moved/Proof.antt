@@ -25,12 +25,6 @@ sums c =
     let e = rw (c .before .step .given .1) at (s .pre .0) in
     (summed _ _ (s .pre .2 .low) (e .0), summed _ _ (s .pre .2 .high) (e .1))
 
-add-t10 : tie.Need-add-t10
-add-t10 c = let k = sums c .0 in simp (toZ-ofZ (low (c .before .before .before .before .before) .a64), toZ-ofZ (k .a64)) (k .sum)
-
-add-t11 : tie.Need-add-t11
-add-t11 c = let k = sums c .1 in simp (toZ-ofZ (high (c .before .before .before .before .before) .a64), toZ-ofZ (k .a64)) (k .sum)
-
 grown : (c : tie.After-known-told2) → let s = c .before .before .before .before .before in Scaled (s .args .s .lo) (c .before .step2 .given .0 .0) × Scaled (s .args .s .hi) (c .before .step2 .given .0 .0)
 unfolding cap
 grown c =
@@ -38,14 +32,8 @@ grown c =
     let e = rw (c .before .step2 .given .1) at (s .pre .0) in
     (scaled _ _ (s .pre .2 .low) (e .first), scaled _ _ (s .pre .2 .high) (e .first))
 
-cast-t12 : tie.Need-cast-t12
-cast-t12 c = let k = grown c in search needs
-
 mul-t13 : tie.Need-mul-t13
 mul-t13 c = let k = grown c .0 in simp (toZ-ofZ (low (c .before .before .before .before .before) .a64), toZ-ofZ (k .f64)) (k .product)
-
-cast-t14 : tie.Need-cast-t14
-cast-t14 c = let k = grown c in search needs
 
 mul-t15 : tie.Need-mul-t15
 mul-t15 c = let k = grown c .1 in simp (toZ-ofZ (high (c .before .before .before .before .before) .a64), toZ-ofZ (k .f64)) (k .product)
@@ -57,12 +45,6 @@ shrunk c =
     let e = rw (c .before .step3 .given .1) at (s .pre .0) in
     let m = rw (c .before .step3 .given .1) at (s .pre .1) in
     (scaled _ _ (s .pre .2 .high) (e .first), leb-true _ _ m, e .first)
-
-floor-requires : tie.Need-floor-requires
-floor-requires c κs = let k = shrunk c in omega (arith, k .1, k .2)
-
-floor-requires-2 : tie.Need-floor-requires-2
-floor-requires-2 c κs = let k = shrunk (c .before) in omega (arith, k .1, k .2)
 
 returns : tie.Need-returns
 unfolding moved
@@ -89,27 +71,23 @@ returns-3 c =
     let b = simp (toZ-ofZ (high s .a64)) at (c .floor2 .ensures) in
     rw (c .before .before .before .step3 .given .1) (simp (toZ-ofZ p, toZ-ofZ q) (simp (a, b) (refl, k .0 .near)))
 
-returns-4 : tie.Need-returns-4
-unfolding moved
-returns-4 c = rw (c .enum-told .given .1) (refl, tt)
-
 pub moved-spec : {M : Type 1} → statement M
+unfolding moved
 moved-spec =
     tie.close
     (tie.spec
     (λ c. search needs)
-    add-t10
-    add-t11
-    (λ c. search needs)
-    cast-t12
+    (λ c. let k = sums c .0 in simp (toZ-ofZ (low (c .before .before .before .before .before) .a64), toZ-ofZ (k .a64)) (k .sum))
+    (λ c. let k = sums c .1 in simp (toZ-ofZ (high (c .before .before .before .before .before) .a64), toZ-ofZ (k .a64)) (k .sum))
+    (λ c. search needs) (λ c. let k = grown c in search needs)
     mul-t13
-    cast-t14
+    (λ c. let k = grown c in search needs)
     mul-t15
     (λ c. search needs)
-    floor-requires
-    floor-requires-2
+    (λ c κs. let k = shrunk c in omega (arith, k .1, k .2))
+    (λ c κs. let k = shrunk (c .before) in omega (arith, k .1, k .2))
     (λ c. search needs)
     returns
     returns-2
     returns-3
-    returns-4)
+    (λ c. rw (c .enum-told .given .1) (refl, tt)))

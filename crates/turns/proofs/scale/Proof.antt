@@ -38,15 +38,6 @@ returns c =
     let ft = c .before .fits .t in
     simp (simp toZ-ofZ at (c .if1 .taken))
 
-cast-powers : tie.Need-cast-powers
-cast-powers c = let k = known c in search needs
-
-cast-powers-2 : tie.Need-cast-powers-2
-cast-powers-2 c = let k = known c in search needs
-
-powers-requires : tie.Need-powers-requires
-powers-requires c κs = let k = known c in search needs
-
 returns-2 : tie.Need-returns-2
 unfolding scale
 returns-2 c =
@@ -56,4 +47,9 @@ returns-2 c =
     simp (k .after, c .powers .ensures, toZ-ofZ)
 
 pub scale-spec : {M : Type 1} → statement M
-scale-spec = tie.close (tie.spec returns cast-powers cast-powers-2 powers-requires returns-2)
+scale-spec =
+    tie.close
+    (tie.spec
+    returns
+    (λ c. let k = known c in search needs) (λ c. let k = known c in search needs) (λ c κs. let k = known c in search needs)
+    returns-2)

@@ -7,45 +7,22 @@ use Rattle.values.proofs.Order.{by-order}
 use Rattle.values.proofs.by_order.Statement.{statement}
 use Rattle.values.proofs.by_order.Tie as tie
 
-returns : tie.Need-returns
-returns c = λ x y p q. rw (c .enum-told .given .1) (by-order x y Less _ _ p q)
-
-returns-2 : tie.Need-returns-2
-returns-2 c = λ x y p q. rw (c .before .enum-told2 .given .1) (c .if1 .taken ∙ by-order x y AtMost _ _ (p ∙ c .if1 .taken) q)
-
-returns-3 : tie.Need-returns-3
-returns-3 c = λ x y p q. rw (c .before .enum-told2 .given .1) (by-order x y AtMost _ _ (p ∙ c .if1 .left) q)
-
 returns-4 : tie.Need-returns-4
 returns-4 c = let e = c .before .before .before .args .equal in λ x y p q. rw (c .before .enum-told3 .given .1) (ap (λ b. b && not e) (sym (c .if2 .taken)) ∙ by-order x y Greater _ _ p q)
 
 returns-5 : tie.Need-returns-5
 returns-5 c = let e = c .before .before .before .args .equal in λ x y p q. rw (c .before .enum-told3 .given .1) (c .if2 .left ∙ ap (λ b. b && not e) (sym (c .if2 .left)) ∙ by-order x y Greater _ _ p q)
 
-returns-6 : tie.Need-returns-6
-returns-6 c = λ x y p q. rw (c .enum-told4 .given .1) (by-order x y AtLeast _ _ p q)
-
-returns-7 : tie.Need-returns-7
-returns-7 c = λ x y p q. rw (c .enum-told5 .given .1) (by-order x y Equal _ _ p q)
-
-returns-8 : tie.Need-returns-8
-returns-8 c = λ x y p q. rw (c .enum-told6 .given .1) (by-order x y Different _ _ p q)
-
 pub by-order-spec : {M : Type 1} → statement M
 by-order-spec =
     tie.close
     (tie.spec
-    (λ c. search needs)
-    (λ c. search needs)
-    (λ c. search needs)
-    (λ c. search needs)
-    (λ c. search needs)
-    (λ c. search needs)
-    returns
-    returns-2
-    returns-3
+    (λ c. search needs) (λ c. search needs) (λ c. search needs) (λ c. search needs) (λ c. search needs) (λ c. search needs)
+    (λ c. λ x y p q. rw (c .enum-told .given .1) (by-order x y Less _ _ p q))
+    (λ c. λ x y p q. rw (c .before .enum-told2 .given .1) (c .if1 .taken ∙ by-order x y AtMost _ _ (p ∙ c .if1 .taken) q))
+    (λ c. λ x y p q. rw (c .before .enum-told2 .given .1) (by-order x y AtMost _ _ (p ∙ c .if1 .left) q))
     returns-4
     returns-5
-    returns-6
-    returns-7
-    returns-8)
+    (λ c. λ x y p q. rw (c .enum-told4 .given .1) (by-order x y AtLeast _ _ p q))
+    (λ c. λ x y p q. rw (c .enum-told5 .given .1) (by-order x y Equal _ _ p q))
+    (λ c. λ x y p q. rw (c .enum-told6 .given .1) (by-order x y Different _ _ p q)))

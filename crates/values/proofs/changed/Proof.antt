@@ -15,32 +15,20 @@ use Rattle.values.proofs.changed.Tie as tie
 known : (s : tie.Start) (n : ℕ) → Fits w32 n → Wide (s .args .x) n
 known s n f = wide (s .args .x) n (s .fits .x) f
 
-cast-result : tie.Need-cast-result
-cast-result c = let h = known (c .before .before .before) 0 (search needs) in search needs
-
 add-result : tie.Need-add-result
 add-result c =
     let h = known (c .before .before .before) (c .before .change .given .0 .0) (search needs) in
     simp (toZ-ofZ (h .x32), toZ-ofZ (h .x64), toZ-ofZ (h .c64)) (h .sum)
-
-cast-result-3 : tie.Need-cast-result-3
-cast-result-3 c = let h = known (c .before .before .before) 0 (search needs) in search needs
 
 sub-result : tie.Need-sub-result
 sub-result c =
     let h = known (c .before .before .before) (c .before .change2 .given .0 .0) (search needs) in
     simp (toZ-ofZ (h .x32), toZ-ofZ (h .x64), toZ-ofZ (h .c64)) (h .difference)
 
-cast-result-5 : tie.Need-cast-result-5
-cast-result-5 c = let h = known (c .before .before .before) 0 (search needs) in search needs
-
 mul-result : tie.Need-mul-result
 mul-result c =
     let h = known (c .before .before .before) (c .before .change3 .given .0 .0) (search needs) in
     simp (toZ-ofZ (h .x32), toZ-ofZ (h .x64), toZ-ofZ (h .c64)) (h .product)
-
-quotient-of-requires : tie.Need-quotient-of-requires
-quotient-of-requires c κs = subst ChangeLimits (c .before .change4 .given .1) (c .before .before .before .pre) .0
 
 returns : tie.Need-returns
 unfolding applied
@@ -70,20 +58,14 @@ pub changed-spec : {M : Type 1} → statement M
 changed-spec =
     tie.close
     (tie.spec
-    (λ c. search needs)
-    cast-result
-    (λ c. search needs)
+    (λ c. search needs) (λ c. let h = known (c .before .before .before) 0 (search needs) in search needs) (λ c. search needs)
     add-result
-    (λ c. search needs)
-    cast-result-3
-    (λ c. search needs)
+    (λ c. search needs) (λ c. let h = known (c .before .before .before) 0 (search needs) in search needs) (λ c. search needs)
     sub-result
-    (λ c. search needs)
-    cast-result-5
-    (λ c. search needs)
+    (λ c. search needs) (λ c. let h = known (c .before .before .before) 0 (search needs) in search needs) (λ c. search needs)
     mul-result
     (λ c. search needs)
-    quotient-of-requires
+    (λ c κs. subst ChangeLimits (c .before .change4 .given .1) (c .before .before .before .pre) .0)
     returns
     returns-2
     returns-3

@@ -20,18 +20,8 @@ use Rattle.values.proofs.value_of.Tie as tie
 known : (s : tie.Start) (x : Operand) → s .args .x ≡ x → WrittenOperand (now (s .args .text)) x × ExprBelow (length (now (s .args .store))) (exprOf (now (s .args .text)) x)
 known s x e = subst (λ y. WrittenOperand (now (s .args .text)) y × ExprBelow (length (now (s .args .store))) (exprOf (now (s .args .text)) y)) e (s .pre)
 
-come-to-requires : tie.Need-come-to-requires
-come-to-requires c κs = known (c .before .before .before .before) _ (c .before .x .given .1) .0
-
 cast-result : tie.Need-cast-result
 cast-result c = let f : SFits w32 (c .before .x2 .given .0 .0) = sfits-of (c .known-told2 .given .0 .1) in rw (toZ-ofZ f) (sfits-widen tt f)
-
-stored-requires : tie.Need-stored-requires
-unfolding exprOf ExprBelow
-stored-requires c κs = known (c .before .before .before .before) _ (c .before .x3 .given .1) .1
-
-cast-result-2 : tie.Need-cast-result-2
-cast-result-2 c = let f : SFits w32 (c .stored .result) = sfits-of (c .stored .ok) in rw (toZ-ofZ f) (sfits-widen tt f)
 
 returns : tie.Need-returns
 unfolding exprOf
@@ -54,16 +44,17 @@ returns-3 c =
     rw (c .before .before .x3 .given .1, toZ-ofZ f, toZ-ofZ g) (in-number _ f ∙ ap number (c .stored .ensures))
 
 pub value-of-spec : {M : Type 1} → statement M
+unfolding exprOf ExprBelow
 value-of-spec =
     tie.close
     (tie.spec
     (λ c. search needs)
-    come-to-requires
+    (λ c κs. known (c .before .before .before .before) _ (c .before .x .given .1) .0)
     (λ c. search needs)
     cast-result
     (λ c. search needs)
-    stored-requires
-    cast-result-2
+    (λ c κs. known (c .before .before .before .before) _ (c .before .x3 .given .1) .1)
+    (λ c. let f : SFits w32 (c .stored .result) = sfits-of (c .stored .ok) in rw (toZ-ofZ f) (sfits-widen tt f))
     returns
     returns-2
     returns-3)

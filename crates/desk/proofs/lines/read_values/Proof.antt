@@ -1,4 +1,4 @@
--- `lines::read_values` is safe and ends: there are no more values than bytes, and the measure is what is left of the words. Assumes nothing.
+-- `lines::read_values` is safe and ends: there are no more values than bytes and one, and the measure is what is left of the list. Assumes nothing.
 use borrow.Author.Needs.{needs}
 use Prim.Native.Nat.{_+_, _-_, _≤_}
 use lib.ListN.{length}
@@ -7,10 +7,10 @@ use Rattle.desk.proofs.lines.read_values.Statement.{statement}
 use Rattle.desk.proofs.lines.read_values.Tie as tie
 
 abbrev Inv-loop : tie.InvT-loop
-Inv-loop words store₀ at₀ count₀ store at count = (count ≤ at) × (length store ≡ length store₀)
+Inv-loop list separator stop store₀ at₀ count₀ store at count = (count ≤ at) × (length store ≡ length store₀)
 
 abbrev μ-loop : tie.MeasureT-loop
-μ-loop words store₀ at₀ count₀ store at count = length words + 1 - at
+μ-loop list separator stop store₀ at₀ count₀ store at count = length list + 1 - at
 
 pub read-values-spec : {M : Type 1} → statement M
 read-values-spec =

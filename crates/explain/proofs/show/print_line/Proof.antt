@@ -1,0 +1,37 @@
+-- `explain::show::print_line` is safe: a line stands in its file. Assumes nothing.
+use mathlib.Core.Path.{subst}
+use denote.Ref.{now}
+use borrow.Author.Needs.{needs}
+use native.Mathlib.Omega.{arith}
+use Rattle.margin.specs.Places.{LineOf}
+use Rattle.margin.specs.declared.place.Found.the-variants.{At}
+use Rattle.explain.proofs.show.print_line.Statement.{statement}
+use Rattle.explain.proofs.show.print_line.Tie as tie
+
+sub-least : tie.Need-sub-least
+sub-least c =
+    let h : LineOf (now (c .before .before .before .before .before .args .file)) (c .before .before .before .before .before .args .k) (At (c .before .line .given .0 .0) (c .before .line .given .0 .1 .0)) = subst (LineOf _ _) (c .before .line .given .1) (c .before .before .before .line-of .ensures) in
+    omega (arith, h .0)
+
+add-from : tie.Need-add-from
+add-from c =
+    let h : LineOf (now (c .before .before .before .before .before .before .args .file)) (c .before .before .before .before .before .before .args .k) (At (c .before .before .line .given .0 .0) (c .before .before .line .given .0 .1 .0)) = subst (LineOf _ _) (c .before .before .line .given .1) (c .before .before .before .before .line-of .ensures) in
+    record { fits = omega (arith, h .0, h .1) }
+
+sub-print-wrapped : tie.Need-sub-print-wrapped
+sub-print-wrapped c =
+    let h : LineOf (now (c .before .before .before .before .before .before .args .file)) (c .before .before .before .before .before .before .args .k) (At (c .before .before .line .given .0 .0) (c .before .before .line .given .0 .1 .0)) = subst (LineOf _ _) (c .before .before .line .given .1) (c .before .before .before .before .line-of .ensures) in
+    omega (arith, h .0)
+
+part-print-wrapped-start : tie.Need-part-print-wrapped-start
+part-print-wrapped-start c =
+    let h : LineOf (now (c .before .before .before .before .before .before .args .file)) (c .before .before .before .before .before .before .args .k) (At (c .before .before .line .given .0 .0) (c .before .before .line .given .0 .1 .0)) = subst (LineOf _ _) (c .before .before .line .given .1) (c .before .before .before .before .line-of .ensures) in
+    omega (arith, h .0)
+
+part-print-wrapped-end : tie.Need-part-print-wrapped-end
+part-print-wrapped-end c =
+    let h : LineOf (now (c .before .before .before .before .before .before .args .file)) (c .before .before .before .before .before .before .args .k) (At (c .before .before .line .given .0 .0) (c .before .before .line .given .0 .1 .0)) = subst (LineOf _ _) (c .before .before .line .given .1) (c .before .before .before .before .line-of .ensures) in
+    omega (arith, h .1)
+
+pub print-line-spec : {M : Type 1} → statement M
+print-line-spec = tie.close (tie.spec (λ c κs. search needs) (λ c. search needs) sub-least (λ c κs. search needs) add-from sub-print-wrapped part-print-wrapped-start part-print-wrapped-end (λ c κs. search needs) (λ c. search needs) (λ c. search needs) (λ c κs. search needs) (λ c. search needs) (λ c. search needs))

@@ -1,0 +1,226 @@
+// What is printed of an accepted script: its ticks, and each row behind its margin.
+use desk::print_front;
+use desk::print_number;
+use desk::print_text;
+use margin::EXACT;
+use margin::Found;
+use margin::IS_EXACT;
+use margin::LINE;
+use margin::NO_LOOP;
+use margin::Nest;
+use margin::OUTSIDE;
+use margin::TICKS;
+use margin::TOTAL;
+use margin::TURNS;
+use margin::Widths;
+use margin::after_row;
+use margin::begins;
+use margin::column;
+use margin::cut;
+use margin::greatest;
+use margin::indent;
+use margin::is_head;
+use margin::line_of;
+use margin::passes_here;
+use margin::put_shown;
+use margin::room;
+use margin::share;
+use table::tag_at;
+use ticks::cap;
+use ticks::times;
+use words::least;
+ghost use mathlib.Core.Path.{_≡_};
+ghost use Prim.Native.Nat.{_≤_, _<_};
+ghost use lib.ListN.{length};
+ghost use Rattle.margin.specs.Columns.{Narrow};
+
+// The `row=` of a row's line.
+const KEY: usize = 4;
+
+// The bar's marks, and a hundred per cent.
+const MARKS: u64 = 10;
+
+const PER_CENT: u64 = 100;
+
+pub fn print_spaces(n: usize) {
+    let blank = [b' '; LINE];
+    print_front(&blank, n);
+}
+
+// A number at the right end of a column.
+fn print_right(n: u64, width: usize) {
+    let mut text = [0u8; 20];
+    let k = pieces::put_number(b"", n, &mut text);
+    print_spaces(width - least(k, width));
+    print_front(&text, k);
+}
+
+// A heading of five letters at the right end of a column.
+fn print_heading(word: &[u8], width: usize) {
+    print_spaces(width - least(word.len(), width));
+    print_text(word);
+}
+
+fn print_headings(w: Widths) {
+    print_text(b"row ");
+    print_heading(b"turns", w.turns);
+    print_text(b" ");
+    print_heading(b"total", w.total);
+    print_text(b"       ");
+    print_heading(b"ticks", w.ticks);
+    print_text(b" share              script\n");
+}
+
+// Of a loop its turns, total and exact or most; of another row nothing.
+fn print_turns(figures: [u64; 4], w: Widths)
+    requires { ⌜ Narrow w ⌝ }
+{
+    if figures[EXACT] == NO_LOOP {
+        print_spaces(w.turns + 1 + w.total + 6);
+        return;
+    }
+    print_right(figures[TURNS], w.turns);
+    print_text(b" ");
+    print_right(figures[TOTAL], w.total);
+    if figures[EXACT] == IS_EXACT {
+        print_text(b" exact");
+    } else {
+        print_text(b" most ");
+    }
+}
+
+// The bar of a part of the whole, and the share in per cent.
+fn print_bar(part: u64, whole: u64)
+    requires { ⌜ whole ≤ 1_000_000_000_001 ⌝ }
+{
+    let marks = [b'#'; 10];
+    let n = share(part, whole, MARKS) as usize;
+    print_text(b" [");
+    print_front(&marks, n);
+    print_spaces(10 - least(n, 10));
+    print_text(b"] ");
+    print_right(share(part, whole, PER_CENT), 3);
+    print_text(b"%  ");
+}
+
+// Of a block the ticks of one pass, and the share of all its passes.
+fn print_block(head: bool, ticks: u64, passes: u64, whole: u64, w: Widths)
+    requires { ⌜ Narrow w ⌝ }
+{
+    if head {
+        print_text(b" ");
+        print_right(ticks, w.ticks);
+        print_bar(times(passes, cap(ticks)), cap(whole));
+    } else {
+        print_spaces(w.ticks + 21);
+    }
+}
+
+// At most a line of a text.
+fn print_shown(text: &[u8]) {
+    let mut line = [0u8; LINE];
+    let n = put_shown(text, &mut line);
+    print_front(&line, n);
+}
+
+// A text from a column on, in as many lines as it takes.
+pub fn print_wrapped(text: &[u8], column: usize) {
+    let width = room(column);
+    let mut at: usize = 0;
+    while at < text.len() {
+        if at > 0 {
+            print_text(b"\n");
+            print_spaces(column);
+        }
+        let end = cut(at, width, text.len());
+        print_shown(&text[at..end]);
+        at = end;
+    }
+    print_text(b"\n");
+}
+
+// The text of line k without its first bytes, from a column on.
+pub fn print_line(file: &[u8], k: usize, without: usize, column: usize) {
+    let line = line_of(file, k);
+    match line {
+        Found::At(start, end) => {
+            let from = start + least(without, end - start);
+            print_wrapped(&file[from..end], column);
+        }
+        Found::Missing => print_text(b"\n"),
+    }
+}
+
+// Row i with its margin.
+fn print_row(
+    file: &[u8],
+    vars: usize,
+    rows: &[[u32; 9]; 256],
+    i: usize,
+    figures: [u64; 4],
+    nest: Nest,
+    w: Widths,
+    whole: u64,
+)
+    requires { ⌜ (i < 256) × (vars ≤ 16) × Narrow w ⌝ }
+{
+    print_right(i as u64, 3);
+    print_text(b" ");
+    print_turns(figures, w);
+    print_block(
+        is_head(rows, i),
+        figures[TICKS],
+        passes_here(nest),
+        whole,
+        w,
+    );
+    let inner = indent(tag_at(rows, i), nest.depth);
+    print_spaces(inner);
+    print_line(file, 3 + vars + i, KEY, begins(w) + inner);
+}
+
+// The rows one after the other.
+fn print_rows(
+    file: &[u8],
+    vars: usize,
+    rows: &[[u32; 9]; 256],
+    count: usize,
+    figures: &[[u64; 4]; 256],
+    w: Widths,
+    whole: u64,
+)
+    requires { ⌜ (count ≤ 256) × (vars ≤ 16) × (length (now figures) ≡ 256) × Narrow w ⌝ }
+{
+    let mut nest = OUTSIDE;
+    let mut i: usize = 0;
+    while i < count {
+        let row = figures[i];
+        print_row(file, vars, rows, i, row, nest, w, whole);
+        let next = after_row(nest, tag_at(rows, i), row[TOTAL]);
+        nest = next;
+        i += 1;
+    }
+}
+
+// The whole file's ticks, and its rows.
+pub fn print_script(
+    file: &[u8],
+    vars: usize,
+    rows: &[[u32; 9]; 256],
+    count: usize,
+    figures: &[[u64; 4]; 256],
+    whole: u64,
+)
+    requires { ⌜ (count ≤ 256) × (vars ≤ 16) × (length (now figures) ≡ 256) ⌝ }
+{
+    let w = Widths {
+        turns: column(greatest(figures, TURNS)),
+        total: column(greatest(figures, TOTAL)),
+        ticks: column(greatest(figures, TICKS)),
+    };
+    print_text(b"ticks=");
+    print_number(whole);
+    print_text(b"\n\n");
+    print_headings(w);
+    print_rows(file, vars, rows, count, figures, w, whole);
+}

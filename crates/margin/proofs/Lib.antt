@@ -1,0 +1,2 @@
+-- Laws of the margin.
+pub mod Laws

@@ -1,0 +1,33 @@
+// What stands in the margin of a script: its figures by row, how wide its columns are, how deep a row stands and how often it is passed; and where a refusal points.
+mod columns;
+mod figures;
+mod nest;
+mod place;
+
+pub use columns::LINE;
+pub use columns::Widths;
+pub use columns::begins;
+pub use columns::column;
+pub use columns::cut;
+pub use columns::room;
+pub use columns::share;
+pub use figures::EXACT;
+pub use figures::IS_EXACT;
+pub use figures::NO_LOOP;
+pub use figures::TICKS;
+pub use figures::TOTAL;
+pub use figures::TURNS;
+pub use figures::greatest;
+pub use figures::is_head;
+pub use figures::put_lines;
+pub use figures::put_own;
+pub use nest::Nest;
+pub use nest::OUTSIDE;
+pub use nest::after_row;
+pub use nest::indent;
+pub use nest::passes_here;
+pub use place::Found;
+pub use place::Place;
+pub use place::line_of;
+pub use place::place_of;
+pub use place::put_shown;
