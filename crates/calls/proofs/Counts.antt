@@ -5,17 +5,17 @@ use Prim.Native.Nat.{ℕ, suc}
 use lib.ListN.{length, take}
 use Rattle.rules.specs.Run.{Entry}
 use Rattle.rules.specs.Answers.{sumAt, mostAt}
-use Rattle.rules.specs.RowMachine.{Tally}
+use Rattle.rules.specs.RowMachine.{TurnCounts}
 use Rattle.rules.specs.Calls.{countsAt}
-use Rattle.loops.specs.declared.Loops.{Loops}
-use Rattle.loops.specs.Loops.{countsIn, Counted}
+use Rattle.run_loops.specs.declared.Loops.{Loops}
+use Rattle.run_loops.specs.Loops.{countsIn, Counted}
 
 counts-length : (es : List Entry) (ps : List ℕ) → length (countsAt es ps) ≡ length ps
 unfolding countsAt
 counts-length es [] = refl
 counts-length es (p ∷ ps) = ap suc (counts-length es ps)
 
-module _ (es : List Entry) (c : Tally) (sums : (p : ℕ) → c .sum p ≡ sumAt p es) (mosts : (p : ℕ) → c .most p ≡ mostAt p es) where
+module _ (es : List Entry) (c : TurnCounts) (sums : (p : ℕ) → c .sum p ≡ sumAt p es) (mosts : (p : ℕ) → c .most p ≡ mostAt p es) where
   counts-told : (ps : List ℕ) → countsIn c ps ≡ countsAt es ps
   unfolding countsIn countsAt
   counts-told [] = refl

@@ -1,4 +1,4 @@
--- What the survey's figures say of the two calls. Assumes nothing.
+-- What the analysis' figures say of the two calls. Assumes nothing.
 use mathlib.Core.Path.{_≡_, refl, sym, _∙_, ap}
 use mathlib.Core.List.{List}
 use Prim.Native.Nat.{ℕ, zero, suc, _≤_}
@@ -9,32 +9,32 @@ use Rattle.rules.specs.declared.Reply.{Reply}
 use Rattle.rules.specs.declared.Reply.the-variants.{Refused}
 use Rattle.rules.specs.declared.Verdict.the-variants.{Passed as passed}
 use Rattle.rules.specs.Questions.{tickLimit, verdict}
-use Rattle.rules.specs.Scripts.{Script, envOf, treeOf, reportTicks, Legal, Accepted}
+use Rattle.rules.specs.Scripts.{Script, startEnv, treeOf, reportTicks, Legal, Accepted}
 use Rattle.rules.specs.Report.{reportText, scriptReport}
-use Rattle.lines.specs.Coded.{firstLines}
+use Rattle.analysis_lines.specs.Coded.{firstLines}
 use Rattle.rules.specs.Calls.{accepted, refuses, judgedBy, pricesOf, fitting, written, replyOf, bufferOf}
 use Rattle.rules.proofs.Accepted.{then-yes, asked-yes}
-use Rattle.turns.specs.Needs.{answer}
-use Rattle.survey.specs.declared.Figures.{Figures}
+use Rattle.analysis_turns.specs.Needs.{verdictOf}
+use Rattle.analysis.specs.declared.Figures.{Figures}
 use Rattle.calls.specs.Held.{judgedScript, Found}
 use Rattle.calls.specs.Told.{ticksOf, MeasuredAs}
 
-by-number : (script : Script) (n p : ℕ) → (n ≡ 0 → ⊥) → judgedBy script (answer n p) ≡ refuses n p
-unfolding answer judgedBy
+by-number : (script : Script) (n p : ℕ) → (n ≡ 0 → ⊥) → judgedBy script (verdictOf n p) ≡ refuses n p
+unfolding verdictOf judgedBy
 by-number script zero p h = absurd (h refl)
 by-number script (suc n) p h = refl
 
 module _ (prices : List ℕ) (script : Script) (count : ℕ) (s : Figures) (ls : List (List ℕ)) (found : Found prices script count s ls) where
-  asked : verdict (pricesOf prices) (length (script .rows)) (envOf (script .ranges)) (treeOf (script .rows)) ≡ answer (s .number) (s .place)
-  asked = ap (λ n. verdict (pricesOf prices) n (envOf (script .ranges)) (treeOf (script .rows))) (found .long) ∙ found .figures .verdict
+  asked : verdict (pricesOf prices) (length (script .rows)) (startEnv (script .ranges)) (treeOf (script .rows)) ≡ verdictOf (s .number) (s .place)
+  asked = ap (λ n. verdict (pricesOf prices) n (startEnv (script .ranges)) (treeOf (script .rows))) (found .long) ∙ found .figures .verdict
 
   pub judged-no : (s .number ≡ 0 → ⊥) → judgedScript prices script ≡ refuses (s .number) (s .place)
   judged-no h = ap (judgedBy script) asked ∙ by-number script (s .number) (s .place) h
 
   module _ (z : s .number ≡ 0) where
-    passes : verdict (pricesOf prices) (length (script .rows)) (envOf (script .ranges)) (treeOf (script .rows)) ≡ passed
-    unfolding answer
-    passes = asked ∙ ap (λ n. answer n (s .place)) z
+    passes : verdict (pricesOf prices) (length (script .rows)) (startEnv (script .ranges)) (treeOf (script .rows)) ≡ passed
+    unfolding verdictOf
+    passes = asked ∙ ap (λ n. verdictOf n (s .place)) z
 
     pub judged-yes : judgedScript prices script ≡ accepted script
     unfolding judgedBy

@@ -16,7 +16,7 @@ use Rattle.rules.proofs.FromBytes.{Says, fine-prices, store-in}
 use Rattle.rules.proofs.Capped.{run-capped}
 use Rattle.runner.specs.Runs.{Runnable}
 use Rattle.runner.proofs.Start.{runnable}
-use Rattle.survey.specs.declared.Figures.{Figures}
+use Rattle.analysis.specs.declared.Figures.{Figures}
 use Rattle.calls.specs.declared.Outcome.{Outcome}
 use Rattle.calls.specs.Held.{judgedScript, Found}
 use Rattle.calls.specs.Told.{ToldNo, Told, Ran, ranRows}

@@ -15,7 +15,7 @@ use Rattle.rules.specs.Ranges.{Range}
 use Rattle.rules.specs.Scripts.{pairRange, pairRanges}
 use Rattle.rules.specs.Calls.{storeVerdict}
 use Rattle.rules.proofs.Laws.{pairs-length}
-use Rattle.survey.proofs.Legals.{pairs-at}
+use Rattle.analysis.proofs.Legals.{pairs-at}
 
 module _ (r : List (List ℤ)) (n : ℕ) (xs : List ℤ) where
   abbrev rs : List Range

@@ -14,12 +14,12 @@ use Rattle.rules.specs.Calls.{pricesOf, Priced}
 use Rattle.rules.specs.Scripts.{Script, pairRanges, BlankFrom, scriptOf, RowLimits, RowBelow, Legal}
 use Rattle.rules.proofs.Laws.{kind-of}
 use Rattle.rules.proofs.FromBytes.{prices-pass, fine-prices}
-use Rattle.table.specs.Code.{rowsOf, kindAt, Packed}
-use Rattle.table.proofs.Limits.{row-fine}
-use Rattle.table.proofs.Whole.{packed-kinds, packed-at}
-use Rattle.survey.specs.declared.Figures.{Figures}
-use Rattle.survey.specs.Whole.{SurveyOf}
-use Rattle.survey.proofs.Legals.{all-get}
+use Rattle.analysis_table.specs.Code.{rowsOf, kindAt, Packed}
+use Rattle.analysis_table.proofs.Limits.{row-fine}
+use Rattle.analysis_table.proofs.Whole.{packed-kinds, packed-at}
+use Rattle.analysis.specs.declared.Figures.{Figures}
+use Rattle.analysis.specs.Whole.{AnalysisOf}
+use Rattle.analysis.proofs.Legals.{all-get}
 use Rattle.calls.specs.Held.{Given, Found}
 
 -- four prices that question 16 passes, and the struct of them
@@ -47,14 +47,14 @@ module _ (text : List ℕ) (ranges : List (List ℤ)) (vars : ℕ) (rows : List 
     unfolding scriptOf
     same = ap {B = Script} (λ ks. record { ranges = take vars (pairRanges ranges); rows = ks }) (packed-kinds text count rows t p)
 
-    pub survey-asks : {π : Prices} {L : Type 0} → length t ≡ 256 → FinePrices π → L
+    pub analyse-asks : {π : Prices} {L : Type 0} → length t ≡ 256 → FinePrices π → L
         → Legal (scriptOf text ranges vars (rowsOf t) count) × (count ≤ 256) × (count ≤ length t) × BlankFrom vars ranges × FinePrices π × L × (length text ≤ 16_384) × ((i : ℕ) → i < count → Written text (kindAt (rowsOf t) i))
-    survey-asks l f n =
+    analyse-asks l f n =
         (subst Legal (sym same) (g .legal), few-rows, omega (arith, few-rows), g .blank, f, n, g .short, λ i h. subst (Written text) (sym (packed-at count rows t p i h)) (g .written i h))
 
-    pub survey-same : {π : Prices} {s : Figures} {lines : List (List ℕ)} → SurveyOf π (scriptOf text ranges vars (rowsOf t) count) count s lines → SurveyOf π (scriptOf text ranges vars rows count) count s lines
-    survey-same {π} {s} {lines} f = subst (λ x. SurveyOf π x count s lines) same f
+    pub analyse-same : {π : Prices} {s : Figures} {lines : List (List ℕ)} → AnalysisOf π (scriptOf text ranges vars (rowsOf t) count) count s lines → AnalysisOf π (scriptOf text ranges vars rows count) count s lines
+    analyse-same {π} {s} {lines} f = subst (λ x. AnalysisOf π x count s lines) same f
 
   -- what the analysis found, under the lent prices
-  pub found-by : (prices : List ℕ) {π : Prices} → π ≡ pricesOf prices → (s : Figures) (lines : List (List ℕ)) → SurveyOf π (scriptOf text ranges vars rows count) count s lines → Found prices (scriptOf text ranges vars rows count) count s lines
-  found-by prices e s lines f = record { long = g .long; figures = subst (λ ρ. SurveyOf ρ (scriptOf text ranges vars rows count) count s lines) e f }
+  pub found-by : (prices : List ℕ) {π : Prices} → π ≡ pricesOf prices → (s : Figures) (lines : List (List ℕ)) → AnalysisOf π (scriptOf text ranges vars rows count) count s lines → Found prices (scriptOf text ranges vars rows count) count s lines
+  found-by prices e s lines f = record { long = g .long; figures = subst (λ ρ. AnalysisOf ρ (scriptOf text ranges vars rows count) count s lines) e f }

@@ -11,11 +11,11 @@ use Rattle.rules.specs.declared.LoopCount.{LoopCount}
 use Rattle.rules.specs.declared.Verdict.the-variants.{Passed, Refused}
 use Rattle.rules.specs.Blocks.{kindsOf}
 use Rattle.rules.specs.Written.{Written}
-use Rattle.table.specs.Code.{kindAt}
+use Rattle.analysis_table.specs.Code.{kindAt}
 use Rattle.rules.specs.Answers.{Answer}
 use Rattle.rules.specs.Scripts.{reportTicks}
 use Rattle.rules.specs.Calls.{Judged, accepted, pricesOf, replyOf, bufferOf, RunReply, ran, refuses, loopRows, countsAt, storeAfter}
-use Rattle.loops.specs.Loops.{NoneFrom}
+use Rattle.run_loops.specs.Loops.{NoneFrom}
 use Rattle.runner.specs.Runs.{Runnable}
 use Rattle.runner.specs.Answered.{runOf}
 use Rattle.calls.specs.declared.Measured.{Measured}

@@ -1,14 +1,14 @@
 // The two calls on a script that has been read: its report, and its run.
-use loops::NO_COUNT;
-use prices::prices_of;
+use analysis::Figures;
+use analysis_table::put_rows;
+use calls_prices::prices_of;
 use rules::Ending;
 use rules::LoopCount;
 use rules::Prices;
 use rules::Reply;
 use rules::Row;
 use rules::Verdict;
-use survey::Figures;
-use table::put_rows;
+use run_loops::NO_COUNT;
 ghost use mathlib.Core.Path.{_≡_};
 ghost use mathlib.Core.Bool.{_&&_};
 ghost use mathlib.Core.List.{List};
@@ -19,7 +19,7 @@ ghost use Rattle.rules.specs.Bounds.{FinePrices};
 ghost use Rattle.rules.specs.Scripts.{pairRanges, scriptOf};
 ghost use Rattle.rules.specs.Calls.{Priced, storeVerdict, runReply};
 ghost use Rattle.rules.specs.Claim.{Demand3Of};
-ghost use Rattle.survey.specs.Whole.{SurveyOf};
+ghost use Rattle.analysis.specs.Whole.{AnalysisOf};
 ghost use Rattle.calls.specs.Held.{Given, judgedScript, admitted};
 ghost use Rattle.calls.specs.Told.{MeasuredAs, ToldNo, Ran, Runs, ranRows};
 
@@ -48,7 +48,7 @@ pub fn measure_script(
     let mut table = [zero; 256];
     put_rows(&mut table, rows, count);
     let by_kind = prices_of(prices);
-    let figures = survey::survey(text, &table, count, ranges, vars, by_kind, &mut lines);
+    let figures = analysis::analyse(text, &table, count, ranges, vars, by_kind, &mut lines);
     if figures.number != 0 {
         let no = Reply::Refused(figures.number, figures.place);
         return Measured {
@@ -134,7 +134,7 @@ fn run_accepted(
     requires { ⌜ Runs (now text) prices rows count (now store) allowance ⌝ }
     ensures { λ r. ⌜ Ran (ranRows (now (text .entry)) prices rows count (now (store .entry)) (now (picks .entry)) allowance) (now (store .entry)) (now (store .exit)) r ⌝ }
 {
-    let heads = loops::heads_of(rows, count);
+    let heads = run_loops::heads_of(rows, count);
     let mut table: [[u64; 3]; 256] = [[0; 3]; 256];
     let ran = runner::run_rows(
         text,
@@ -146,7 +146,7 @@ fn run_accepted(
         allowance,
         &mut table,
     );
-    let loops = loops::loops_of(heads, &table);
+    let loops = run_loops::loops_of(heads, &table);
     let counts = loops.counts;
     let ending = ran.ending;
     let verdict = Verdict::Passed;
@@ -177,14 +177,14 @@ fn ticks_of(
     prices: Prices,
 ) -> Figures
     requires { ⌜ Given (now text) ranges vars rows count × FinePrices prices ⌝ }
-    ensures { λ r. ⌜ ((lines : List (List ℕ)) × SurveyOf prices (scriptOf (now (text .entry)) ranges vars rows count) count r lines) ⌝ }
+    ensures { λ r. ⌜ ((lines : List (List ℕ)) × AnalysisOf prices (scriptOf (now (text .entry)) ranges vars rows count) count r lines) ⌝ }
 {
     let none: [u64; 7] = [0; 7];
     let mut lines = [none; 16];
     let zero: [u32; 9] = [0; 9];
     let mut table = [zero; 256];
     put_rows(&mut table, rows, count);
-    survey::survey(text, &table, count, ranges, vars, prices, &mut lines)
+    analysis::analyse(text, &table, count, ranges, vars, prices, &mut lines)
 }
 
 // The same for a script that is asked and not run. It is a function of its own because the compiler lays one that has one caller into that caller: with both callers a run
@@ -198,14 +198,14 @@ fn figures_of(
     prices: Prices,
 ) -> Figures
     requires { ⌜ Given (now text) ranges vars rows count × FinePrices prices ⌝ }
-    ensures { λ r. ⌜ ((lines : List (List ℕ)) × SurveyOf prices (scriptOf (now (text .entry)) ranges vars rows count) count r lines) ⌝ }
+    ensures { λ r. ⌜ ((lines : List (List ℕ)) × AnalysisOf prices (scriptOf (now (text .entry)) ranges vars rows count) count r lines) ⌝ }
 {
     let none: [u64; 7] = [0; 7];
     let mut lines = [none; 16];
     let zero: [u32; 9] = [0; 9];
     let mut table = [zero; 256];
     put_rows(&mut table, rows, count);
-    survey::survey(text, &table, count, ranges, vars, prices, &mut lines)
+    analysis::analyse(text, &table, count, ranges, vars, prices, &mut lines)
 }
 
 // The questions 19, 8 to 13 and 15 of a script, and no run.

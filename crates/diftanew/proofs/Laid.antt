@@ -8,8 +8,8 @@ use lib.ListN.{length, getD, set, take, drop, replicate, length-append, length-s
 use lib.Seq.{take-all, take-at, drop-at, set-at, append-snoc, length-take-le, paste}
 use Rattle.rules.specs.declared.LoopCount.{LoopCount}
 use Rattle.calls.specs.declared.Outcome.{Outcome}
-use Rattle.stage.specs.declared.Played.{Played}
-use Rattle.diftanew.specs.Numbers.{headOf, upTo, numbersOf, scriptNumbers, allNumbers}
+use Rattle.calls_frames.specs.declared.Played.{Played}
+use Rattle.diftanew.specs.Numbers.{headNumbers, upTo, numbersOf, scriptNumbers, allNumbers}
 
 -- a run's answer has 53 numbers
 up-to-length : (k : ℕ) (counts : List LoopCount) (head : List ℕ) → length (upTo k counts head) ≡ length head
@@ -18,7 +18,7 @@ up-to-length zero counts head = refl
 up-to-length (suc k) counts head = simp length-set (up-to-length k counts head)
 
 pub numbers-length : (o : Outcome) → length (numbersOf o) ≡ 53
-unfolding numbersOf headOf
+unfolding numbersOf headNumbers
 numbers-length o = up-to-length _ (o .counts) _ ∙ simp length-set (length-replicate {A = ℕ} 53 0)
 
 all-length : (xs : List Played) → length (allNumbers xs) ≡ 54 * length xs

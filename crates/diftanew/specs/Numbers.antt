@@ -9,9 +9,9 @@ use Rattle.rules.specs.declared.LoopCount.{LoopCount}
 use Rattle.rules.specs.Calls.{Judged}
 use Rattle.rules.specs.Frames.{Lent}
 use Rattle.calls.specs.declared.Outcome.{Outcome}
-use Rattle.loops.specs.Loops.{noCount}
-use Rattle.stage.specs.declared.Played.{Played}
-use Rattle.stage.specs.declared.Frames.{Frames}
+use Rattle.run_loops.specs.Loops.{noCount}
+use Rattle.calls_frames.specs.declared.Played.{Played}
+use Rattle.calls_frames.specs.declared.Frames.{Frames}
 use Rattle.loader.specs.Framing.{mostBy, FramedCall}
 use Rattle.loader.specs.Kept.{numberOf, placeOf, verdictNumber, firstBy, Reported, KeptCall}
 
@@ -27,8 +27,8 @@ unfoldable pub firstOf : Outcome → ℕ
 firstOf o = firstBy (o .verdict) (o .ending)
 
 -- then row, ticks, bytes used, and the number of loops
-unfoldable pub headOf : Outcome → List ℕ
-headOf o = set (set (set (set (set (replicate 53 0) 0 (firstOf o)) 1 (o .row)) 2 (o .ticks)) 3 (o .used)) 4 (o .loops)
+unfoldable pub headNumbers : Outcome → List ℕ
+headNumbers o = set (set (set (set (set (replicate 53 0) 0 (firstOf o)) 1 (o .row)) 2 (o .ticks)) 3 (o .used)) 4 (o .loops)
 
 -- then for loop k its row, all turns and the most in one entry, at 5 + 3k, 6 + 3k and 7 + 3k
 unfoldable pub upTo : ℕ → List LoopCount → List ℕ → List ℕ
@@ -38,7 +38,7 @@ upTo (suc k) counts head =
     set (set (set (upTo k counts head) (5 + 3 * k) (c .row)) (6 + 3 * k) (c .all)) (7 + 3 * k) (c .most)
 
 unfoldable pub numbersOf : Outcome → List ℕ
-numbersOf o = upTo (min (o .loops) 16) (o .counts) (headOf o)
+numbersOf o = upTo (min (o .loops) 16) (o .counts) (headNumbers o)
 
 -- a run call's answer in numbers: those of an outcome that is document 01's, and that keeps within the report
 pub record Told-in-numbers (prices : List ℕ) (judgement : Judged) (store new : List ℤ) (picks : List ℕ) (allowance r : ℕ) (answer : List ℕ) : Type 0 where

@@ -1,10 +1,10 @@
 // The three calls for C and Rust: numbers and slices only.
 use calls::Outcome;
+use calls_frames::Frames;
+use calls_frames::Played;
 use rules::Ending;
 use rules::Reply;
 use rules::Verdict;
-use stage::Frames;
-use stage::Played;
 ghost use mathlib.Core.Path.{_≡_};
 ghost use Prim.Native.Nat.{_+_, _≤_, min};
 ghost use lib.ListN.{length, set};
@@ -12,7 +12,7 @@ ghost use lib.Seq.{paste};
 ghost use Rattle.rules.specs.Calls.{endingNumber};
 ghost use Rattle.loader.specs.Kept.{judgement, verdictNumber};
 ghost use Rattle.loader.specs.Framing.{mostBy};
-ghost use Rattle.lists.specs.Parts.{lentOf};
+ghost use Rattle.calls_lists.specs.Parts.{lentOf};
 ghost use Rattle.diftanew.specs.Numbers.{Reported-in-numbers, firstOf, numbersOf, Told-in-numbers, framesNumbers, Framed-in-numbers};
 
 // The report of a file under four lent prices. Answers 0 for an accepted file, with the report's length in place, or the refusal's number with its place.

@@ -8,7 +8,7 @@ use lib.Dec.{eqb}
 use lib.ListN.{length, getD, set}
 use lib.Seq.{getD-set-same, getD-set-other}
 use borrow.Author.Tests.{eqb-true, eqb-false}
-use Rattle.margin.specs.Figures.{withTicks}
+use Rattle.explain_margin.specs.Figures.{withTicks}
 use Rattle.explain.specs.Asked.{Ticked}
 
 pub ticked-none : (P : ℕ → ℕ → Type 0) (old : List (List ℕ)) → Ticked P 0 old old

@@ -9,10 +9,10 @@ use Rattle.rules.specs.declared.Prices.{Prices}
 use Rattle.rules.specs.Bounds.{FinePrices}
 use Rattle.rules.specs.Written.{Written}
 use Rattle.rules.specs.Scripts.{scriptOf, BlankFrom, Legal}
-use Rattle.table.specs.Code.{kindAt, rowsOf}
-use Rattle.table.specs.Shapes.{shapeOf}
-use Rattle.blocks.specs.Figure.{FigureOf}
-use Rattle.margin.specs.Figures.{isHead, withTicks}
+use Rattle.analysis_table.specs.Code.{kindAt, rowsOf}
+use Rattle.analysis_table.specs.Shapes.{shapeOf}
+use Rattle.analysis_blocks.specs.Figure.{FigureOf}
+use Rattle.explain_margin.specs.Figures.{isHead, withTicks}
 
 -- it has passed the questions 2 to 7, its expressions stand in the text, and 16 has passed the prices
 pub record Asked (text : List ℕ) (ranges : List (List ℤ)) (vars : ℕ) (table : List (List ℕ)) (count : ℕ) (π : Prices) : Type 0 where

@@ -1,7 +1,7 @@
 // The ticks of all blocks of a script, in the margin's figures.
-use blocks::block_ticks;
-use margin::is_head;
-use margin::put_own;
+use analysis_blocks::block_ticks;
+use explain_margin::is_head;
+use explain_margin::put_own;
 use rules::Prices;
 ghost use mathlib.Core.Path.{_≡_};
 ghost use Prim.Native.Nat.{_<_};

@@ -5,18 +5,18 @@ mod refusal;
 mod remedies;
 mod show;
 
-use desk::Lent;
-use desk::print_text;
+use analysis_table::put_rows;
+use calls_prices::ask_prices;
+use calls_prices::prices_of;
 use libc::STDIN_FILENO;
-use prices::ask_prices;
-use prices::prices_of;
+use program_parts::Lent;
+use program_parts::print_text;
 use reader::load;
 use refusal::print_refused;
 use rules::Prices;
 use rules::Row;
 use rules::Verdict;
 use show::print_script;
-use table::put_rows;
 ghost use mathlib.Core.Path.{_≡_};
 ghost use lib.ListN.{length};
 ghost use Rattle.rules.specs.Calls.{Priced};
@@ -36,14 +36,14 @@ fn explain_rows(
 {
     let none: [u64; 7] = [0; 7];
     let mut lines = [none; 16];
-    let found = survey::survey(file, rows, count, ranges, vars, prices, &mut lines);
+    let found = analysis::analyse(file, rows, count, ranges, vars, prices, &mut lines);
     if found.number != 0 {
         print_refused(file, vars, count, found.number, found.place);
         return;
     }
     let zero: [u64; 4] = [0; 4];
     let mut figures = [zero; 256];
-    margin::put_lines(&lines, found.loops, &mut figures);
+    explain_margin::put_lines(&lines, found.loops, &mut figures);
     figures::put_ticks(file, rows, count, ranges, vars, prices, &mut figures);
     print_script(file, vars, rows, count, &figures, found.ticks);
 }
@@ -95,10 +95,10 @@ fn explain_file(file: &[u8], prices: &[u32]) {
 // The file on standard input.
 fn explain_input(prices: &[u32]) {
     let mut file = [0u8; 16385];
-    let input = desk::read_all(STDIN_FILENO, &mut file);
+    let input = program_parts::read_all(STDIN_FILENO, &mut file);
     let length = input.length;
     if input.failed {
-        desk::cannot_read();
+        program_parts::cannot_read();
         return;
     }
     explain_file(&file[..length], prices);
@@ -111,10 +111,10 @@ fn explain_named(i: usize, prices: &[u32]) {
     print_text(&path[..n]);
     print_text(b"\n");
     let mut file = [0u8; 16385];
-    let input = desk::read_file(&path[..n], &mut file);
+    let input = program_parts::read_file(&path[..n], &mut file);
     let length = input.length;
     if input.failed {
-        desk::cannot_read();
+        program_parts::cannot_read();
         return;
     }
     explain_file(&file[..length], prices);
@@ -141,10 +141,10 @@ fn main() {
     let mut word = io::buffer();
     let n = os::arg(1, &mut word);
     let mut prices = [1u32; 4];
-    let lent = desk::read_prices(&word[..n], &mut prices);
+    let lent = program_parts::read_prices(&word[..n], &mut prices);
     match lent {
         Lent::Nothing => explain_all(1, arguments, &prices),
         Lent::Four => explain_all(2, arguments, &prices),
-        Lent::Malformed => desk::print_wrong_prices(),
+        Lent::Malformed => program_parts::print_wrong_prices(),
     }
 }

@@ -3,13 +3,13 @@ use crate::remedies::print_cause;
 use crate::remedies::print_remedy;
 use crate::show::print_line;
 use crate::show::print_spaces;
-use desk::print_number;
-use desk::print_refusal;
-use desk::print_text;
-use margin::Found;
-use margin::Place;
-use margin::line_of;
-use margin::place_of;
+use explain_margin::Found;
+use explain_margin::Place;
+use explain_margin::line_of;
+use explain_margin::place_of;
+use program_parts::print_number;
+use program_parts::print_refusal;
+use program_parts::print_text;
 ghost use Prim.Native.Nat.{_≤_};
 
 // Where the texts stand.

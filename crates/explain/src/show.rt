@@ -1,38 +1,38 @@
 // What is printed of an accepted script: its ticks, and each row behind its margin.
-use desk::print_front;
-use desk::print_number;
-use desk::print_text;
-use margin::EXACT;
-use margin::Found;
-use margin::IS_EXACT;
-use margin::LINE;
-use margin::NO_LOOP;
-use margin::Nest;
-use margin::OUTSIDE;
-use margin::TICKS;
-use margin::TOTAL;
-use margin::TURNS;
-use margin::Widths;
-use margin::after_row;
-use margin::begins;
-use margin::column;
-use margin::cut;
-use margin::greatest;
-use margin::indent;
-use margin::is_head;
-use margin::line_of;
-use margin::passes_here;
-use margin::put_shown;
-use margin::room;
-use margin::share;
-use table::tag_at;
-use ticks::cap;
-use ticks::times;
-use words::least;
+use analysis_table::tag_at;
+use analysis_ticks::cap;
+use analysis_ticks::times;
+use explain_margin::EXACT;
+use explain_margin::Found;
+use explain_margin::IS_EXACT;
+use explain_margin::LINE;
+use explain_margin::NO_LOOP;
+use explain_margin::Nest;
+use explain_margin::OUTSIDE;
+use explain_margin::TICKS;
+use explain_margin::TOTAL;
+use explain_margin::TURNS;
+use explain_margin::Widths;
+use explain_margin::after_row;
+use explain_margin::begins;
+use explain_margin::column;
+use explain_margin::cut;
+use explain_margin::greatest;
+use explain_margin::indent;
+use explain_margin::is_head;
+use explain_margin::line_of;
+use explain_margin::passes_here;
+use explain_margin::put_shown;
+use explain_margin::room;
+use explain_margin::share;
+use program_parts::print_front;
+use program_parts::print_number;
+use program_parts::print_text;
+use program_words::least;
 ghost use mathlib.Core.Path.{_≡_};
 ghost use Prim.Native.Nat.{_≤_, _<_};
 ghost use lib.ListN.{length};
-ghost use Rattle.margin.specs.Columns.{Narrow};
+ghost use Rattle.explain_margin.specs.Columns.{Narrow};
 
 // The `row=` of a row's line.
 const KEY: usize = 4;
@@ -50,7 +50,7 @@ pub fn print_spaces(n: usize) {
 // A number at the right end of a column.
 fn print_right(n: u64, width: usize) {
     let mut text = [0u8; 20];
-    let k = pieces::put_number(b"", n, &mut text);
+    let k = report_pieces::put_number(b"", n, &mut text);
     print_spaces(width - least(k, width));
     print_front(&text, k);
 }

@@ -18,22 +18,22 @@ use Rattle.rules.specs.declared.Operator.{Operator}
 use Rattle.rules.specs.Expressions.{Expr, constant, variable, group, apply}
 use Rattle.rules.specs.Text.{minus, wordOf}
 use Rattle.rules.specs.Parse.{Parsed, parsed, shapeless, onward, isMark, upToMark, fromMark, leaf, atom, Ahead, operator, other, ahead, afterTerm, afterFactor, close, factorOf, expression, term, factor, readExpression, readTerm, readFactor, atEnd, parse, depth, operators}
-use Rattle.rules.specs.File.{turnOf, sooner, asksSize, asksLeaves, asksExpr}
+use Rattle.rules.specs.File.{turnOf, firstRefusal, asksSize, asksLeaves, asksExpr}
 use Rattle.rules.proofs.Parsing.{After, after-length, Short, short, nothing as no-short, Later, later, stop as no-later, after-term, after-factor, short-expression, short-term, short-factor, expression-is, term-is, factor-is}
 use Rattle.expressions.specs.Asking.{Sizes, nothing, noted, oneMore, counted, decided, Mode, due, inside, shut, Act, stop, on, goes, leafAct, closeAct, markAct, act, finished, ended, walk}
 
 -- ---- what is counted
-sooner-none : (p : ℕ) → sooner p 0 ≡ p
-unfolding sooner
-sooner-none zero = refl
-sooner-none (suc p) = refl
+refusal-none : (p : ℕ) → firstRefusal p 0 ≡ p
+unfolding firstRefusal
+refusal-none zero = refl
+refusal-none (suc p) = refl
 
-sooner-assoc : (p q r : ℕ) → sooner (sooner p q) r ≡ sooner p (sooner q r)
-unfolding sooner
-sooner-assoc zero q r = refl
-sooner-assoc (suc p) zero r = refl
-sooner-assoc (suc p) (suc q) zero = sooner-none (cond (leb (turnOf (suc p)) (turnOf (suc q))) (suc p) (suc q))
-sooner-assoc (suc p) (suc q) (suc r) = by (leb P Q) (leb Q R) (leb P R) refl refl refl
+refusal-assoc : (p q r : ℕ) → firstRefusal (firstRefusal p q) r ≡ firstRefusal p (firstRefusal q r)
+unfolding firstRefusal
+refusal-assoc zero q r = refl
+refusal-assoc (suc p) zero r = refl
+refusal-assoc (suc p) (suc q) zero = refusal-none (cond (leb (turnOf (suc p)) (turnOf (suc q))) (suc p) (suc q))
+refusal-assoc (suc p) (suc q) (suc r) = by (leb P Q) (leb Q R) (leb P R) refl refl refl
   where
     P : ℕ
     P = turnOf (suc p)
@@ -44,7 +44,7 @@ sooner-assoc (suc p) (suc q) (suc r) = by (leb P Q) (leb Q R) (leb P R) refl ref
     R : ℕ
     R = turnOf (suc r)
 
-    by : (a b c : Bool) → leb P Q ≡ a → leb Q R ≡ b → leb P R ≡ c → sooner (cond a (suc p) (suc q)) (suc r) ≡ sooner (suc p) (cond b (suc q) (suc r))
+    by : (a b c : Bool) → leb P Q ≡ a → leb Q R ≡ b → leb P R ≡ c → firstRefusal (cond a (suc p) (suc q)) (suc r) ≡ firstRefusal (suc p) (cond b (suc q) (suc r))
     by true true true d e f = rw (d, f)
     by true true false d e f = absurd (omega (arith, leb-true P Q d, leb-true Q R e, leb-false P R f))
     by true false c d e f = rw f
@@ -54,24 +54,24 @@ sooner-assoc (suc p) (suc q) (suc r) = by (leb P Q) (leb Q R) (leb P R) refl ref
 
 -- a tree's sizes, after others
 unfoldable after-all : ℕ → ℕ → Expr → Sizes → Sizes
-after-all vars d x a = record { deep = max (a .deep) (d + depth x); ops = a .ops + operators x; asks = sooner (a .asks) (asksLeaves vars x) }
+after-all vars d x a = record { deep = max (a .deep) (d + depth x); ops = a .ops + operators x; asks = firstRefusal (a .asks) (asksLeaves vars x) }
 
 counted-is : (vars d : ℕ) (x : Expr) (a : Sizes) → counted vars d x a ≡ after-all vars d x a
 unfolding counted noted oneMore depth operators asksLeaves after-all
-counted-is vars d (constant k) a = let e : d ≡ d + 0 = omega arith in let n : a .ops ≡ a .ops + 0 = omega arith in λ t. record { deep = max (a .deep) (e t); ops = n t; asks = sooner (a .asks) (asksLeaves vars (constant k)) }
-counted-is vars d (variable w) a = let e : d ≡ d + 0 = omega arith in let n : a .ops ≡ a .ops + 0 = omega arith in λ t. record { deep = max (a .deep) (e t); ops = n t; asks = sooner (a .asks) (asksLeaves vars (variable w)) }
-counted-is vars d (group x) a = counted-is vars (suc d) x a ∙ (let e : suc d + depth x ≡ d + suc (depth x) = omega arith in λ t. record { deep = max (a .deep) (e t); ops = a .ops + operators x; asks = sooner (a .asks) (asksLeaves vars x) })
+counted-is vars d (constant k) a = let e : d ≡ d + 0 = omega arith in let n : a .ops ≡ a .ops + 0 = omega arith in λ t. record { deep = max (a .deep) (e t); ops = n t; asks = firstRefusal (a .asks) (asksLeaves vars (constant k)) }
+counted-is vars d (variable w) a = let e : d ≡ d + 0 = omega arith in let n : a .ops ≡ a .ops + 0 = omega arith in λ t. record { deep = max (a .deep) (e t); ops = n t; asks = firstRefusal (a .asks) (asksLeaves vars (variable w)) }
+counted-is vars d (group x) a = counted-is vars (suc d) x a ∙ (let e : suc d + depth x ≡ d + suc (depth x) = omega arith in λ t. record { deep = max (a .deep) (e t); ops = a .ops + operators x; asks = firstRefusal (a .asks) (asksLeaves vars x) })
 counted-is vars d (apply o x y) a =
     let m : max (max (a .deep) (d + depth x)) (d + depth y) ≡ max (a .deep) (d + max (depth x) (depth y)) = omega arith in
     let n : suc (a .ops + operators x) + operators y ≡ a .ops + suc (operators x + operators y) = omega arith in
     ap (λ b. counted vars d y (oneMore b)) (counted-is vars d x a) ∙ counted-is vars d y (oneMore (after-all vars d x a))
-    ∙ (λ t. record { deep = m t; ops = n t; asks = sooner-assoc (a .asks) (asksLeaves vars x) (asksLeaves vars y) t })
+    ∙ (λ t. record { deep = m t; ops = n t; asks = refusal-assoc (a .asks) (asksLeaves vars x) (asksLeaves vars y) t })
 
-counted-whole : (vars : ℕ) (x : Expr) → decided (counted vars 0 x nothing) ≡ sooner (asksSize x) (asksLeaves vars x)
-unfolding decided asksSize after-all sooner
+counted-whole : (vars : ℕ) (x : Expr) → decided (counted vars 0 x nothing) ≡ firstRefusal (asksSize x) (asksLeaves vars x)
+unfolding decided asksSize after-all firstRefusal
 counted-whole vars x =
     ap decided (counted-is vars 0 x nothing)
-    ∙ (let m : max 0 (0 + depth x) ≡ depth x = omega arith in let n : 0 + operators x ≡ operators x = omega arith in λ t. sooner (cond (leb (m t) 8 && leb (n t) 15) 0 17) (asksLeaves vars x))
+    ∙ (let m : max 0 (0 + depth x) ≡ depth x = omega arith in let n : 0 + operators x ≡ operators x = omega arith in λ t. firstRefusal (cond (leb (m t) 8 && leb (n t) 15) 0 17) (asksLeaves vars x))
 
 -- ---- a number that is cut off is as far past its limits
 cut-parts : (z : ℤ) → (P (cutZ z) ≡ min (P z) 2_000_000_001) × (N (cutZ z) ≡ min (N z) 2_000_000_001)
@@ -273,8 +273,8 @@ module _ (vars : ℕ) where
     where
       leaf-cut : (d : ℕ) (a : Sizes) (w : Word) (s : List ℕ) → follow (cutIn (leaf w s)) (λ x r. atShut d (counted vars d x a) r) ≡ follow (leaf w s) (λ x r. atShut d (counted vars d x a) r)
       leaf-cut d a Missing s = unfold cutIn follow in refl
-      leaf-cut d a (Number z) s = unfold cutIn follow cut counted noted asksLeaves in ap (λ (k : Bool). atShut d (record { deep = max (a .deep) d; ops = a .ops; asks = sooner (a .asks) (cond k 0 4) }) s) (cut-limits z)
-      leaf-cut d a (Variable v) s = unfold cutIn follow cut counted noted asksLeaves ceiling in ap (λ (k : Bool). atShut d (record { deep = max (a .deep) d; ops = a .ops; asks = sooner (a .asks) (cond k 0 5) }) s) (cut-below v vars f)
+      leaf-cut d a (Number z) s = unfold cutIn follow cut counted noted asksLeaves in ap (λ (k : Bool). atShut d (record { deep = max (a .deep) d; ops = a .ops; asks = firstRefusal (a .asks) (cond k 0 4) }) s) (cut-limits z)
+      leaf-cut d a (Variable v) s = unfold cutIn follow cut counted noted asksLeaves ceiling in ap (λ (k : Bool). atShut d (record { deep = max (a .deep) d; ops = a .ops; asks = firstRefusal (a .asks) (cond k 0 5) }) s) (cut-below v vars f)
       leaf-cut d a (Compares c) s = unfold cutIn follow in refl
       leaf-cut d a (Keyword n) s = unfold cutIn follow in refl
       leaf-cut d a Other s = unfold cutIn follow in refl

@@ -12,16 +12,16 @@ use Rattle.rules.proofs.Expressions.{limits}
 use Rattle.rules.specs.Expressions.{Expr, constant, variable, group, apply, Numbers, meaning}
 use Rattle.rules.specs.Values.{lowest, highest, inLimits}
 use Rattle.rules.specs.Parse.{Parsed, parsed, shapeless, onward, atEnd, parse, exprIn, readExpression}
-use Rattle.rules.specs.File.{turnOf, sooner, asksSize, asksLeaves, asksExpr}
+use Rattle.rules.specs.File.{turnOf, firstRefusal, asksSize, asksLeaves, asksExpr}
 use Rattle.expressions.specs.Leaves.{ceiling, cutZ, cut}
 use Rattle.expressions.specs.Evaluating.{Gives}
 use Rattle.rules.specs.Written.{Passed}
 
-sooner-none : (p q : ℕ) → sooner p q ≡ 0 → (p ≡ 0) × (q ≡ 0)
-unfolding sooner
-sooner-none zero q e = (refl, e)
-sooner-none (suc p) zero e = absurd (omega arith)
-sooner-none (suc p) (suc q) e = by (leb (turnOf (suc p)) (turnOf (suc q))) e
+refusal-none : (p q : ℕ) → firstRefusal p q ≡ 0 → (p ≡ 0) × (q ≡ 0)
+unfolding firstRefusal
+refusal-none zero q e = (refl, e)
+refusal-none (suc p) zero e = absurd (omega arith)
+refusal-none (suc p) (suc q) e = by (leb (turnOf (suc p)) (turnOf (suc q))) e
   where
     by : (t : Bool) → cond t (suc p) (suc q) ≡ 0 → (suc p ≡ 0) × (suc q ≡ 0)
     by true k = absurd (omega arith)
@@ -46,7 +46,7 @@ cut-same vars f (variable v) e = ap variable (by (ltb v vars) refl e)
     by false l k = absurd (omega arith)
 cut-same vars f (group x) e = ap group (cut-same vars f x e)
 cut-same vars f (apply o x y) e =
-    let (a, b) = sooner-none (asksLeaves vars x) (asksLeaves vars y) e in
+    let (a, b) = refusal-none (asksLeaves vars x) (asksLeaves vars y) e in
     λ t. apply o (cut-same vars f x a t) (cut-same vars f y b t)
 
 record Whole (p : Parsed) : Type 0 where
@@ -56,7 +56,7 @@ record Whole (p : Parsed) : Type 0 where
   kept : cut tree ≡ tree
 
 whole : (p : Parsed) (vars : ℕ) → vars ≤ 16 → asksExpr vars p ≡ 0 → Whole p
-whole (parsed x s) vars f e = record { tree = x; rest = s; same = refl; kept = cut-same vars f x (sooner-none (asksSize x) (asksLeaves vars x) e .1) }
+whole (parsed x s) vars f e = record { tree = x; rest = s; same = refl; kept = cut-same vars f x (refusal-none (asksSize x) (asksLeaves vars x) e .1) }
 whole shapeless vars f e = absurd (omega arith)
 
 whole-read : (p : Parsed) (x : Expr) (s : List ℕ) → onward p atEnd ≡ parsed x s → p ≡ parsed x []

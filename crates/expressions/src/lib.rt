@@ -6,20 +6,20 @@ ghost use Prim.Native.Nat.{ℕ, _+_, _*_, _-_, _≤_, _<_, min, max};
 ghost use lib.Dec.{eqb};
 ghost use lib.ListN.{length, drop, getD};
 ghost use lib.IntN.{pos, natAbs};
-ghost use Rattle.ints.specs.Ints.{minZ, maxZ, drawn};
+ghost use Rattle.ints.specs.Ints.{minZ, maxZ, clamp};
 ghost use Rattle.rules.specs.Text.{isDigit};
 ghost use Rattle.rules.specs.Expressions.{operate};
 ghost use Rattle.rules.specs.Values.{lowest, highest, inLimits, value};
 ghost use Rattle.rules.specs.Parse.{isMark, atom, readExpression, readTerm, readFactor, exprIn, parse};
-ghost use Rattle.rules.specs.Evaluate.{rangeOf, held, evaluated, resultOf};
+ghost use Rattle.rules.specs.Evaluate.{rangeIn, held, evaluated, resultOf};
 ghost use Rattle.rules.specs.Ranges.{bounds};
 ghost use Rattle.rules.specs.Blocks.{Block};
 ghost use Rattle.rules.specs.Steps.{assigns};
 ghost use Rattle.rules.specs.Trips.{keeps};
 ghost use Rattle.rules.specs.Scripts.{storeOf};
-ghost use Rattle.rules.specs.File.{turnOf, sooner, asksExpr};
+ghost use Rattle.rules.specs.File.{turnOf, firstRefusal, asksExpr};
 ghost use Rattle.expressions.specs.Leaves.{digitValue, atMark, DigitsAt, WholeAt, leafOf, LeafAt};
-ghost use Rattle.expressions.specs.Asking.{due, shut as afterFactor, sizesOf, ended, Ready, Steps, askedOf, operates};
+ghost use Rattle.expressions.specs.Asking.{due, shut as afterFactor, sizesOf, ended, MayScan, Steps, askedOf, operates};
 ghost use Rattle.expressions.specs.Evaluating.{operatorOf, valuesOf, endsOf, shut, sums, cameTo, JoinsRanges, JoinsRun, GivesRange, GivesRun};
 ghost use Rattle.rules.specs.Written.{Passed};
 
@@ -238,8 +238,8 @@ fn higher(a: i64, b: i64) -> i64
 const L: i64 = 1_000_000_000;
 
 // A number drawn back to -L or L if past it.
-pub fn drawn(s: i64) -> i32
-    ensures { λ r. ⌜ r ≡ drawn lowest highest s ⌝ }
+pub fn clamp(s: i64) -> i32
+    ensures { λ r. ⌜ r ≡ clamp lowest highest s ⌝ }
 {
     if s < -L {
         return -1_000_000_000;
@@ -262,8 +262,8 @@ fn held(least: i64, most: i64) -> Value
     ensures { λ r. ⌜ r ≡ held least most ⌝ }
 {
     Value {
-        lo: drawn(least),
-        hi: drawn(most),
+        lo: clamp(least),
+        hi: clamp(most),
         past: !(within(least) & within(most)),
     }
 }
@@ -438,7 +438,7 @@ pub fn evaluate(text: &[u8], los: &[i32], his: &[i32]) -> Value
 // The range of such an expression, from the variables' ranges.
 pub fn bounds_in(text: &[u8], ranges: &[[i32; 2]; 16]) -> Value
     requires { ⌜ Passed (now text) × (length (now ranges) ≡ 16) ⌝ }
-    ensures { λ r. ⌜ rangeOf r ≡ bounds (endsOf (now (ranges .entry))) (exprIn (parse (now (text .entry)))) ⌝ }
+    ensures { λ r. ⌜ rangeIn r ≡ bounds (endsOf (now (ranges .entry))) (exprIn (parse (now (text .entry)))) ⌝ }
 {
     let mut los = [0i32; 16];
     let mut his = [0i32; 16];
@@ -620,8 +620,8 @@ fn turn(q: u32) -> u64
 }
 
 // The question that comes first; 0 is none.
-pub fn sooner(p: u32, q: u32) -> u32
-    ensures { λ r. ⌜ r ≡ sooner p q ⌝ }
+pub fn first_refusal(p: u32, q: u32) -> u32
+    ensures { λ r. ⌜ r ≡ firstRefusal p q ⌝ }
 {
     if p == 0 {
         return q;
@@ -658,7 +658,7 @@ fn larger(a: usize, b: usize) -> usize
 
 // Where a factor is due: a parenthesis, or a constant or a variable.
 fn step_due(word: &[u8], vars: u32, c: Scan) -> Scan
-    requires { ⌜ (vars ≤ 16) × (c .due ≡ true) × Ready (now word) c ⌝ }
+    requires { ⌜ (vars ≤ 16) × (c .due ≡ true) × MayScan (now word) c ⌝ }
     ensures { λ r. ⌜ Steps vars (now (word .entry)) c r ⌝ }
 {
     let at = c.at;
@@ -693,7 +693,7 @@ fn step_due(word: &[u8], vars: u32, c: Scan) -> Scan
         depth: c.depth,
         deep: larger(c.deep, c.depth),
         ops: c.ops,
-        asks: sooner(c.asks, asks_leaf(tag, leaf.value, vars)),
+        asks: first_refusal(c.asks, asks_leaf(tag, leaf.value, vars)),
         at: next,
     }
 }
@@ -710,7 +710,7 @@ fn operates(b: u8) -> bool
 
 // After a factor: an operator, or a parenthesis.
 fn step_after(word: &[u8], vars: u32, c: Scan) -> Scan
-    requires { ⌜ (c .due ≡ false) × Ready (now word) c ⌝ }
+    requires { ⌜ (c .due ≡ false) × MayScan (now word) c ⌝ }
     ensures { λ r. ⌜ Steps vars (now (word .entry)) c r ⌝ }
 {
     let at = c.at;
@@ -767,7 +767,7 @@ fn verdict(c: Scan) -> u32
             return asks;
         }
     }
-    sooner(17, asks)
+    first_refusal(17, asks)
 }
 
 // The first of the questions 3, 17, 4 and 5 that a word has no to as an expression; 0 for none.

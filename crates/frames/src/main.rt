@@ -1,14 +1,14 @@
 // frames [prices=A,C,P,T] Q [FILE PICKS VALUES] ..: runs up to 8 script files together, Q ticks a frame, and prints of each the frame that it finished in and its run as
 // `rehearse` does, and the most ticks that all together took in one frame. The prices are four ones if they are not given. PICKS is a word of 0 and 1 or `-`, and VALUES
 // the store, numbers with commas between them, or `-`.
-use desk::Lent;
-use desk::Values;
-use desk::print_text;
+use calls_frames::Frames;
+use calls_frames::Played;
 use loader::SCRATCH;
+use program_parts::Lent;
+use program_parts::Values;
+use program_parts::print_text;
+use program_words::Number;
 use rules::Verdict;
-use stage::Frames;
-use stage::Played;
-use words::Number;
 ghost use mathlib.Core.Path.{_≡_};
 ghost use Prim.Native.Nat.{_+_, _*_, _≤_, _<_};
 ghost use lib.ListN.{length};
@@ -18,10 +18,10 @@ const SCRIPTS: usize = 8;
 
 // Keeps the values of a word with commas between them, or none for `-`; the store's 17 places do, as for `rehearse`.
 fn read_values(word: &[u8], store: &mut [i32]) -> Values {
-    if words::is_word(word, b"-") {
+    if program_words::is_word(word, b"-") {
         return Values::Count(0);
     }
-    desk::read_values(word, b',', word.len() + 1, store)
+    program_parts::read_values(word, b',', word.len() + 1, store)
 }
 
 // What a script's words are: all three right, or the first wrong one.
@@ -63,7 +63,7 @@ fn read_last(i: usize, file: usize, picks: usize, store: &mut [i32]) -> Part
             words: Words::Right,
             file,
             picks,
-            values: words::least(count, store.len()),
+            values: program_words::least(count, store.len()),
         },
         Values::Wrong(at) => wrong(Words::NoValue(at)),
     }
@@ -76,8 +76,8 @@ fn read_picks(i: usize, file: usize, picks: &mut [u8], store: &mut [i32]) -> Par
 {
     let mut word = [0u8; 131072];
     let n = os::arg(i, &mut word);
-    let count = words::pick_count(&word[..n], &picks[..]);
-    if words::put_picks(&word[..n], &mut picks[0..count]) {
+    let count = program_words::pick_count(&word[..n], &picks[..]);
+    if program_words::put_picks(&word[..n], &mut picks[0..count]) {
         return read_last(i + 1, file, count, store);
     }
     wrong(Words::NoPicks)
@@ -90,7 +90,7 @@ fn read_script(i: usize, file: &mut [u8], picks: &mut [u8], store: &mut [i32]) -
 {
     let mut path = io::buffer();
     let n = os::arg(i, &mut path);
-    let input = desk::read_file(&path[..n], file);
+    let input = program_parts::read_file(&path[..n], file);
     if input.failed {
         return wrong(Words::NoFile);
     }
@@ -159,11 +159,11 @@ fn read_scripts(
 fn print_script(k: usize, p: Played, store: &[i32]) {
     let o = p.outcome;
     print_text(b"script=");
-    desk::print_number(k as u64);
+    program_parts::print_number(k as u64);
     print_text(b"\nframe=");
-    desk::print_number(p.frame);
+    program_parts::print_number(p.frame);
     print_text(b"\n");
-    desk::print_outcome(o, store);
+    program_parts::print_outcome(o, store);
 }
 
 // Prints the scripts' answers one after the other, each with its part of the stores, and the most ticks.
@@ -173,14 +173,14 @@ fn print_scripts(f: Frames, stores: &[i32], lengths: &[usize]) {
     let mut k: usize = 0;
     while k < lengths.len() && k < SCRIPTS {
         let p = scripts[k];
-        let n = words::least(lengths[k], stores.len() - at);
+        let n = program_words::least(lengths[k], stores.len() - at);
         let to = at + n;
         print_script(k, p, &stores[at..to]);
         at = to;
         k += 1;
     }
     print_text(b"most=");
-    desk::print_number(f.most);
+    program_parts::print_number(f.most);
     print_text(b"\n");
 }
 
@@ -189,7 +189,7 @@ fn print_frames(f: Frames, stores: &[i32], lengths: &[usize]) {
     let verdict = f.verdict;
     match verdict {
         Verdict::Passed => print_scripts(f, stores, lengths),
-        Verdict::Refused(number, place) => desk::print_refusal(number, place),
+        Verdict::Refused(number, place) => program_parts::print_refusal(number, place),
     }
 }
 
@@ -260,9 +260,9 @@ fn read_and_play(
             prices,
             q,
         ),
-        Words::NoFile => desk::cannot_read(),
-        Words::NoPicks => desk::print_wrong_picks(),
-        Words::NoValue(at) => desk::print_wrong_value(at),
+        Words::NoFile => program_parts::cannot_read(),
+        Words::NoPicks => program_parts::print_wrong_picks(),
+        Words::NoValue(at) => program_parts::print_wrong_value(at),
     }
 }
 
@@ -308,7 +308,7 @@ fn start(first: usize, arguments: usize, prices: &[u32], q: u64)
         return;
     }
     if SCRIPTS < scripts {
-        desk::print_refusal(20, 0);
+        program_parts::print_refusal(20, 0);
         return;
     }
     with_room(first, scripts, prices, q);
@@ -324,7 +324,7 @@ fn read_q(at: usize, arguments: usize, prices: &[u32])
         usage();
         return;
     }
-    let q = words::read_number(&word[..n]);
+    let q = program_words::read_number(&word[..n]);
     match q {
         Number::Is(ticks) => start(at + 1, arguments, prices, ticks),
         Number::Malformed => print_text(b"error=Q is not a number\n"),
@@ -336,10 +336,10 @@ fn main() {
     let mut word = io::buffer();
     let n = os::arg(1, &mut word);
     let mut prices = [1u32; 4];
-    let lent = desk::read_prices(&word[..n], &mut prices);
+    let lent = program_parts::read_prices(&word[..n], &mut prices);
     match lent {
         Lent::Nothing => read_q(1, arguments, &prices),
         Lent::Four => read_q(2, arguments, &prices),
-        Lent::Malformed => desk::print_wrong_prices(),
+        Lent::Malformed => program_parts::print_wrong_prices(),
     }
 }

@@ -20,13 +20,13 @@ use Rattle.rules.specs.InTime.{alone, Accepts, Alone, AllInTime}
 use Rattle.rules.proofs.Frames.{all-in-time}
 use Rattle.rules.proofs.FromBytes.{same-from-any-scratch, store-in}
 use Rattle.rules.proofs.Cut.{cut-length, cut-at}
-use Rattle.lists.specs.Parts.{partOf, Fitted}
-use Rattle.lists.proofs.Fits.{fitted}
-use Rattle.lists.proofs.Spans.{part-length}
-use Rattle.cast.specs.Held.{noPart, noPlayer}
-use Rattle.cast.proofs.Casting.{plays-at}
-use Rattle.stage.specs.declared.Frames as code
-use Rattle.stage.specs.Answers.{noAnswer, noFrames, ToldPlayed, noPlayed, ToldFrames, Told, Framed}
+use Rattle.calls_lists.specs.Parts.{partOf, Fitted}
+use Rattle.calls_lists.proofs.Fits.{fitted}
+use Rattle.calls_lists.proofs.Spans.{part-length}
+use Rattle.calls_scripts.specs.Held.{noPart, noPlayer}
+use Rattle.calls_scripts.proofs.Casting.{plays-at}
+use Rattle.calls_frames.specs.declared.Frames as code
+use Rattle.calls_frames.specs.Answers.{noAnswer, noFrames, ToldPlayed, noPlayed, ToldFrames, Told, Framed}
 use Rattle.loader.specs.Kept.{verdictNumber, lentVerdict}
 use Rattle.loader.specs.Framing.{framesNumber, mostBy, framesFirst, OnTime, FramedCall}
 use Rattle.loader.proofs.Laws.{lent-no, lent-room}

@@ -11,11 +11,11 @@ use Rattle.rules.specs.Scripts.{Script, reportTicks}
 use Rattle.rules.specs.Calls.{pricesOf}
 use Rattle.rules.specs.Frames.{Player, due, Lent, Part, partsOf, FramesReply, played, refuses, framesReply}
 use Rattle.rules.specs.InTime.{alone, Accepts}
-use Rattle.lists.specs.Parts.{partOf}
-use Rattle.cast.specs.Held.{noPart, noPlayer}
-use Rattle.stage.specs.declared.Played.{Played}
-use Rattle.stage.specs.declared.Frames.{Frames}
-use Rattle.stage.specs.Answers.{noAnswer, ToldPlayed, Framed}
+use Rattle.calls_lists.specs.Parts.{partOf}
+use Rattle.calls_scripts.specs.Held.{noPart, noPlayer}
+use Rattle.calls_frames.specs.declared.Played.{Played}
+use Rattle.calls_frames.specs.declared.Frames.{Frames}
+use Rattle.calls_frames.specs.Answers.{noAnswer, ToldPlayed, Framed}
 use Rattle.loader.specs.Kept.{verdictNumber}
 
 -- its answer by document 02's numbers: 0, or a refusal's number; the most ticks in one frame, or a refusal's place

@@ -1,16 +1,16 @@
 // The public calls: the report of a script file, its run, and the frames of several scripts. They take all inputs, always end, and refuse by number and place.
 use calls::Outcome;
-use prices::ask_prices;
+use calls_frames::Frames;
+use calls_prices::ask_prices;
 use reader::load;
 use rules::Reply;
 use rules::Verdict;
-use stage::Frames;
 ghost use mathlib.Core.Path.{_≡_};
 ghost use lib.ListN.{length};
 ghost use Rattle.rules.specs.File.{fileScript};
 ghost use Rattle.rules.specs.Calls.{pricesOf, Priced, judgedFile, runReply};
 ghost use Rattle.calls.specs.Told.{Ran};
-ghost use Rattle.lists.specs.Parts.{lentOf};
+ghost use Rattle.calls_lists.specs.Parts.{lentOf};
 ghost use Rattle.loader.specs.Kept.{lentVerdict, judgement, Reported, KeptCall};
 ghost use Rattle.loader.specs.Framing.{FramedCall};
 
@@ -136,7 +136,7 @@ pub fn frames(
     ensures answer { λ r. ⌜ FramedCall (now (prices .entry)) (length (now (scratch .entry))) (lentOf (now (files .entry)) (now («file_lengths» .entry)) (now (stores .entry)) (now («store_lengths» .entry)) (now (picks .entry)) (now («pick_lengths» .entry))) q (now (stores .exit)) r ⌝ }
     ensures scratch { λ _. ⌜ now (scratch .exit) ≡ now (scratch .entry) ⌝ }
 {
-    let fits = lists::fitting(
+    let fits = calls_lists::fitting(
         files,
         file_lengths,
         &stores[..],
@@ -146,11 +146,11 @@ pub fn frames(
         q,
     );
     if !fits {
-        return stage::refusal(20, 0);
+        return calls_frames::refusal(20, 0);
     }
     let lent = ask_lent(prices, scratch.len());
     match lent {
-        Verdict::Passed => stage::run_frames(
+        Verdict::Passed => calls_frames::run_frames(
             files,
             file_lengths,
             stores,
@@ -160,6 +160,6 @@ pub fn frames(
             prices,
             q,
         ),
-        Verdict::Refused(number, place) => stage::refusal(number, place),
+        Verdict::Refused(number, place) => calls_frames::refusal(number, place),
     }
 }

@@ -1,4 +1,4 @@
 // Reads a script file from standard input and prints its report, or `refused=NUMBER PLACE`.
 fn main() {
-    desk::report_input();
+    program_parts::report_input();
 }

@@ -16,16 +16,16 @@ use Rattle.rules.specs.Values.{lowest, highest}
 use Rattle.rules.specs.Ranges.{Range}
 use Rattle.rules.specs.Text.{wordsOf, nextTexts, nextWords, nextLines}
 use Rattle.rules.specs.File
-use Rattle.rules.specs.File.{Reading, refused, unless, sooner, asksEnd, asksNumber, asksOne, asksOrder, asksRange, numberOf, countLine, scriptLine, scriptKey, rangeKey, rowKey, turnOf, Wrong, wordsRow, rowOf}
-use Rattle.rules.proofs.Reading.{sooner-yes, number-yes, amount-yes}
-use Rattle.text.specs.Words.{before, cut, parts}
-use Rattle.text.proofs.Cut.{cut-number, cut-number-of, cut-one, range-cut, range-of-cut}
+use Rattle.rules.specs.File.{Reading, refused, unless, firstRefusal, asksEnd, asksNumber, asksOne, asksOrder, asksRange, numberOf, countLine, scriptLine, scriptKey, rangeKey, rowKey, turnOf, Wrong, wordsRow, rowOf}
+use Rattle.rules.proofs.Reading.{refusal-yes, number-yes, amount-yes}
+use Rattle.reading_text.specs.Words.{before, cut, parts}
+use Rattle.reading_text.proofs.Cut.{cut-number, cut-number-of, cut-one, range-cut, range-of-cut}
 use Rattle.reader.specs.declared.Counted.{Counted}
 use Rattle.reader.specs.declared.Ranged.{Ranged}
-use Rattle.reader.specs.Read.{lines, keyed, clean, countOf, Within, CountRead, rangeOf, RangeRead, LineRead}
+use Rattle.reader.specs.Read.{lines, keyed, clean, countOf, Within, CountRead, rangeRead, RangeRead, LineRead}
 use Rattle.reader.proofs.Lines.{next-none, lines-next, last, Keyed, keyed-at, at-none}
-use Rattle.rows.specs.declared.Line.{Line}
-use Rattle.rows.specs.Words.{Rowed}
+use Rattle.reading_rows.specs.declared.Line.{Line}
+use Rattle.reading_rows.specs.Words.{Rowed}
 
 -- a word that passes a question stands on a line
 line-there : (key s : List ℕ) (f : Word → ℕ) → f Missing ≡ 3 → f (nextWords key (lines s) 0) ≡ 0 → before 10 s < length s
@@ -51,12 +51,12 @@ unless-no (suc q) p r h = refl
 
 -- a count line: its first word x, the question l of what stands after it, and the byte n where it ends. F are the words after the key
 module _ (key s : List ℕ) (F : ℕ → Word) (words : nextWords key (lines s) ≡ F) (most : ℤ) (x : Word) (n l q : ℕ) (first : x ≡ cut (F 0)) (second : l ≡ asksEnd (F 1))
-    (at : asksEnd (F 1) ≡ 0 → n ≡ before 10 s) (low : pos 0 ≤ℤ most) (high : most ≤ℤ pos 1_000_000_000) (asked : q ≡ sooner (asksNumber (pos 0) most x) l) where
+    (at : asksEnd (F 1) ≡ 0 → n ≡ before 10 s) (low : pos 0 ≤ℤ most) (high : most ≤ℤ pos 1_000_000_000) (asked : q ≡ firstRefusal (asksNumber (pos 0) most x) l) where
   true-limit : pos (natAbs most) ≡ most
   true-limit = pos-natAbs most (yes-nonNeg low)
 
   -- the same question of the true words
-  truly : q ≡ sooner (asksNumber (pos 0) (pos (natAbs most)) (nextWords key (lines s) 0)) (asksEnd (nextWords key (lines s) 1))
+  truly : q ≡ firstRefusal (asksNumber (pos 0) (pos (natAbs most)) (nextWords key (lines s) 0)) (asksEnd (nextWords key (lines s) 1))
   truly = asked ∙ rw (first, second, words, cut-number (pos 0) most (F 0) (record { low = omega ints; high = omega ints }), true-limit)
 
   pub count-wrong : (q ≡ 0 → ⊥) → CountRead key s (natAbs most) (Counted.Wrong q)
@@ -65,13 +65,13 @@ module _ (key s : List ℕ) (F : ℕ → Word) (words : nextWords key (lines s) 
 
   module _ (z : q ≡ 0) where
     yes : asksNumber (pos 0) (pos (natAbs most)) (nextWords key (lines s) 0) ≡ 0
-    yes = sooner-yes _ _ (sym truly ∙ z) .0
+    yes = refusal-yes _ _ (sym truly ∙ z) .0
 
     there : before 10 s < length s
     there = line-there key s (asksNumber (pos 0) (pos (natAbs most))) refl yes
 
     ended : n ≡ before 10 s
-    ended = at (rw words at (sooner-yes _ _ (sym truly ∙ z) .1))
+    ended = at (rw words at (refusal-yes _ _ (sym truly ∙ z) .1))
 
     value : numberOf x ≡ numberOf (nextWords key (lines s) 0)
     value =
@@ -98,13 +98,13 @@ module _ (key s : List ℕ) (F : ℕ → Word) (words : nextWords key (lines s) 
 
 -- no such line
 pub count-none : (key s : List ℕ) (most : ℕ) → nextTexts key (lines s) ≡ [] → CountRead key s most (Counted.Wrong 3)
-unfolding countLine countOf sooner unless wordsOf
+unfolding countLine countOf firstRefusal unless wordsOf
 count-none key s most e = record { line = λ p. rw e; within = λ (z : _≡_ {A = ℕ} 3 0). omega arith }
 
 -- `script=1`
 module _ (s : List ℕ) (F : ℕ → Word) (words : nextWords scriptKey (lines s) ≡ F) (x : Word) (n l q : ℕ) (first : x ≡ cut (F 0)) (second : l ≡ asksEnd (F 1))
-    (at : asksEnd (F 1) ≡ 0 → n ≡ before 10 s) (asked : q ≡ sooner (asksOne x) l) where
-  one-truly : q ≡ sooner (asksOne (nextWords scriptKey (lines s) 0)) (asksEnd (nextWords scriptKey (lines s) 1))
+    (at : asksEnd (F 1) ≡ 0 → n ≡ before 10 s) (asked : q ≡ firstRefusal (asksOne x) l) where
+  one-truly : q ≡ firstRefusal (asksOne (nextWords scriptKey (lines s) 0)) (asksEnd (nextWords scriptKey (lines s) 1))
   one-truly = asked ∙ rw (first, second, words, cut-one (F 0))
 
   pub script-wrong : (q ≡ 0 → ⊥) → (scriptLine (lines s) ≡ countOf s 1 (Counted.Wrong q)) × Within s 1 (Counted.Wrong q)
@@ -113,10 +113,10 @@ module _ (s : List ℕ) (F : ℕ → Word) (words : nextWords scriptKey (lines s
 
   module _ (z : q ≡ 0) where
     script-there : before 10 s < length s
-    script-there = line-there scriptKey s asksOne refl (sooner-yes _ _ (sym one-truly ∙ z) .0)
+    script-there = line-there scriptKey s asksOne refl (refusal-yes _ _ (sym one-truly ∙ z) .0)
 
     script-ended : n ≡ before 10 s
-    script-ended = at (rw words at (sooner-yes _ _ (sym one-truly ∙ z) .1))
+    script-ended = at (rw words at (refusal-yes _ _ (sym one-truly ∙ z) .1))
 
     pub script-long : n + 1 ≤ length s
     script-long = omega (arith, script-there, script-ended)
@@ -128,7 +128,7 @@ module _ (s : List ℕ) (F : ℕ → Word) (words : nextWords scriptKey (lines s
         (rw (← one-truly) (unless-zero q 1 _ z ∙ rw e₂ refl), (omega arith, script-long))
 
 pub script-none : (s : List ℕ) → nextTexts scriptKey (lines s) ≡ [] → (scriptLine (lines s) ≡ countOf s 1 (Counted.Wrong 3)) × Within s 1 (Counted.Wrong 3)
-unfolding scriptLine countOf sooner unless wordsOf turnOf
+unfolding scriptLine countOf firstRefusal unless wordsOf turnOf
 script-none s e = (rw e, λ (z : _≡_ {A = ℕ} 3 0). omega arith)
 
 -- `range=LO HI`
@@ -137,34 +137,34 @@ module _ (s : List ℕ) (F : ℕ → Word) (words : nextWords rangeKey (lines s)
   range-truly = asked ∙ range-cut (λ k. cut (F k)) F (λ k h. refl) ∙ ap asksRange (sym words)
 
   pub range-wrong : (q ≡ 0 → ⊥) → RangeRead s (Ranged.Wrong q)
-  unfolding rangeOf
+  unfolding rangeRead
   range-wrong z = record { line = λ p f. rw (← range-truly) (unless-no q p _ z); within = z }
 
   module _ (z : q ≡ 0) where
     range-there : before 10 s < length s
     unfolding asksRange
-    range-there = line-there rangeKey s (asksNumber lowest highest) refl (sooner-yes _ _ (sym range-truly ∙ z) .0)
+    range-there = line-there rangeKey s (asksNumber lowest highest) refl (refusal-yes _ _ (sym range-truly ∙ z) .0)
 
     range-ended : n ≡ before 10 s
     unfolding asksRange
     range-ended =
-        let (_, a) = sooner-yes _ _ (sym range-truly ∙ z) in
-        let (_, b) = sooner-yes _ _ a in
-        at (rw words at (sooner-yes _ _ b .0))
+        let (_, a) = refusal-yes _ _ (sym range-truly ∙ z) in
+        let (_, b) = refusal-yes _ _ a in
+        at (rw words at (refusal-yes _ _ b .0))
 
     pub range-long : n + 1 ≤ length s
     range-long = omega (arith, range-there, range-ended)
 
     pub range-read : (a b : ℤ) → a ≡ numberOf (cut (F 0)) → b ≡ numberOf (cut (F 1)) → RangeRead s (Ranged.Range a b (n + 1))
-    unfolding rangeOf
+    unfolding rangeRead
     range-read a b e f =
-        let same : File.rangeOf (λ k. cut (F k)) ≡ File.rangeOf F = range-of-cut (λ k. cut (F k)) F (λ k h. refl) (rw words at (sym range-truly ∙ z)) in
-        let mine : File.rangeOf (nextWords rangeKey (lines s)) ≡ record { lo = a; hi = b } = ap File.rangeOf words ∙ sym same ∙ (unfold File.rangeOf in (rw (e, f) refl)) in
+        let same : File.rangeWords (λ k. cut (F k)) ≡ File.rangeWords F = range-of-cut (λ k. cut (F k)) F (λ k h. refl) (rw words at (sym range-truly ∙ z)) in
+        let mine : File.rangeWords (nextWords rangeKey (lines s)) ≡ record { lo = a; hi = b } = ap File.rangeWords words ∙ sym same ∙ (unfold File.rangeWords in (rw (e, f) refl)) in
         let e₂ : nextLines (lines s) ≡ lines (drop (n + 1) s) = lines-next s range-there ∙ ap (λ m. lines (drop (m + 1) s)) (sym range-ended) in
         record { line = λ p g. rw (← range-truly) (unless-zero q p _ z ∙ rw (mine, e₂) refl); within = range-long }
 
 pub range-none : (s : List ℕ) → nextTexts rangeKey (lines s) ≡ [] → RangeRead s (Ranged.Wrong 3)
-unfolding rangeOf asksRange sooner unless asksOrder wordsOf turnOf
+unfolding rangeRead asksRange firstRefusal unless asksOrder wordsOf turnOf
 range-none s e = record { line = λ p f. rw e; within = λ (z : _≡_ {A = ℕ} 3 0). omega arith }
 
 -- a row line

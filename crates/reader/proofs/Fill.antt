@@ -24,15 +24,15 @@ use Rattle.rules.specs.Text.{wordsOf, nextTexts, nextLines}
 use Rattle.rules.specs.File.{RowRead, Read, Wrong, Reading, read, refused, Rows, checked, bareRow, setRow, moveRow, offRow, cueRow, whileRow, doRow, forRow, holdRow, namedRow, firstWord, wordsRow, rowOf, rowKey, rangeLines, placed, rowLine, rowLines, noRows}
 use Rattle.rules.specs.File
 use Rattle.rules.proofs.Laws.{kinds-more, pairs-length, pairs-set}
-use Rattle.text.specs.Words.{before}
-use Rattle.nesting.specs.declared.Blocks.{Blocks}
-use Rattle.nesting.specs.declared.Placed.{Placed}
-use Rattle.nesting.specs.Open.{nestOf, nestedOf, Shallow}
-use Rattle.nesting.proofs.Laws.{nest-none}
+use Rattle.reading_text.specs.Words.{before}
+use Rattle.reading_nesting.specs.declared.Blocks.{Blocks}
+use Rattle.reading_nesting.specs.declared.Placed.{Placed}
+use Rattle.reading_nesting.specs.Open.{nestOf, nestedOf, Shallow}
+use Rattle.reading_nesting.proofs.Laws.{nest-none}
 use Rattle.reader.specs.declared.Ranged.{Ranged}
 use Rattle.reader.specs.declared.Ranges.{Ranges}
-use Rattle.rows.specs.declared.Line.{Line}
-use Rattle.reader.specs.Read.{lines, rangeOf, RangeRead, Pairs, rangesOf, RangesRead, LineRead, WrittenRows}
+use Rattle.reading_rows.specs.declared.Line.{Line}
+use Rattle.reader.specs.Read.{lines, rangeRead, RangeRead, Pairs, rangesOf, RangesRead, LineRead, WrittenRows}
 use Rattle.rules.specs.Scripts.{pairRange, pairRanges, BlankFrom}
 use Rattle.reader.proofs.Lines.{next-none, lines-next}
 
@@ -63,12 +63,12 @@ less-one n i h = omega arith
 module _ (file : List ℕ) (at n : ℕ) (ranges : List (List ℤ)) (next i : ℕ) (u : RangesUpto file at n ranges next i) (small : n ≤ 16) (h : i < n) where
   -- the next line, and then the others
   step : (r : Ranged) → RangeRead (drop next file) r
-      → rangeLines n 3 (lines (drop at file)) [] ≡ rangeOf (drop next file) (3 + i) (λ x ls. rangeLines (n - (i + 1)) (suc (3 + i)) ls (take i (pairRanges ranges) ++ (x ∷ []))) r
+      → rangeLines n 3 (lines (drop at file)) [] ≡ rangeRead (drop next file) (3 + i) (λ x ls. rangeLines (n - (i + 1)) (suc (3 + i)) ls (take i (pairRanges ranges) ++ (x ∷ []))) r
   unfolding rangeLines
   step r f = u .same ∙ ap (λ m. rangeLines m (3 + i) (lines (drop next file)) (take i (pairRanges ranges))) (less-one n i h) ∙ f .line (3 + i) (λ x ls. rangeLines (n - (i + 1)) (suc (3 + i)) ls (take i (pairRanges ranges) ++ (x ∷ [])))
 
   pub ranges-more : (a b : ℤ) (k : ℕ) → RangeRead (drop next file) (Ranged.Range a b k) → RangesUpto file at n (set ranges i (a ∷ (b ∷ []))) (next + k) (i + 1)
-  unfolding rangeOf
+  unfolding rangeRead
   ranges-more a b k f = record {
     few = omega arith;
     within = omega (arith, f .within, length-drop next file, u .within);
@@ -80,7 +80,7 @@ module _ (file : List ℕ) (at n : ℕ) (ranges : List (List ℤ)) (next i : ℕ
   }
 
   pub ranges-wrong : (q : ℕ) → RangeRead (drop next file) (Ranged.Wrong q) → rangeLines n 3 (lines (drop at file)) [] ≡ refused q (3 + i)
-  unfolding rangeOf
+  unfolding rangeRead
   ranges-wrong q f = step (Ranged.Wrong q) f
 
 pub ranges-all : (file : List ℕ) (at n : ℕ) (ranges : List (List ℤ)) (next i : ℕ) → RangesUpto file at n ranges next i → n ≤ i → RangesRead file at n (Ranges.Until next) ranges

@@ -19,14 +19,14 @@ use borrow.Author.Tests.{eq-eqb, ne-eqb, eqb-true, eqb-false, le-leb, lt-leb, lt
 use Rattle.rules.specs.Ranges.{Range}
 use Rattle.rules.specs.Scripts.{Script, pairRanges, BlankFrom, scriptOf}
 use Rattle.rules.specs.Text.{prefixed, split}
-use Rattle.rules.specs.File.{Reading, read, refused, andThen, unless, turnOf, sooner, asksRest, asksClosed, lastLine, rowLines, noRows, countLine, varsKey, scriptLine, rowsKey, rowPart, rangePart, linesScript, fileScript}
-use Rattle.nesting.specs.Open.{nestOf}
-use Rattle.nesting.proofs.Laws.{closed-depth, open-depth}
+use Rattle.rules.specs.File.{Reading, read, refused, andThen, unless, turnOf, firstRefusal, asksRest, asksClosed, lastLine, rowLines, noRows, countLine, varsKey, scriptLine, rowsKey, rowPart, rangePart, linesScript, fileScript}
+use Rattle.reading_nesting.specs.Open.{nestOf}
+use Rattle.reading_nesting.proofs.Laws.{closed-depth, open-depth}
 use Rattle.reader.specs.declared.Counted.{Counted}
 use Rattle.reader.specs.declared.Ranges.{Ranges}
 use Rattle.reader.specs.declared.Head.{Head}
 use Rattle.reader.specs.declared.Loaded.{Loaded}
-use Rattle.reader.specs.Read.{lines, countOf, CountRead, Pairs, rangesOf, RangesWithin, RangesRead, noHead, HeadWithin, CountPart, HeadRead, Sized, passing, headOf, rowsVerdict, ifRead, answerOf, loadedAnswer, WrittenRows, RowsPart, LoadedAs}
+use Rattle.reader.specs.Read.{lines, countOf, CountRead, Pairs, rangesOf, RangesWithin, RangesRead, noHead, HeadWithin, CountPart, HeadRead, Sized, passing, headRead, rowsVerdict, ifRead, answerOf, loadedAnswer, WrittenRows, RowsPart, LoadedAs}
 use Rattle.reader.proofs.Lines.{split-some}
 use Rattle.reader.proofs.Fill.{Stop, given, RowsRead}
 
@@ -68,18 +68,18 @@ module _ (file : List ℕ) (at vars n : ℕ) (l : Stop) (f : RowsRead file at va
         go false e = g (open-depth (l .blocks) (eqb-false _ _ e))
 
     pub bytes-after : l .at < length file → andThen (rowLines vars n (4 + vars) (lines (drop at file)) noRows) (lastLine (4 + vars + n) ranges) ≡ refused 3 (4 + vars + n)
-    unfolding lastLine unless sooner turnOf
+    unfolding lastLine unless firstRefusal turnOf
     bytes-after h =
         let r : asksRest (lines (drop (l .at) file)) ≡ 3 = rest-some (drop (l .at) file) (omega (arith, length-drop (l .at) file)) in
         last ∙ by-depth (λ e. rw (r, e) refl) (λ e. rw (r, e) refl)
 
     pub left-open : length file ≤ l .at → (l .blocks .depth ≡ 0 → ⊥) → andThen (rowLines vars n (4 + vars) (lines (drop at file)) noRows) (lastLine (4 + vars + n) ranges) ≡ refused 6 (4 + vars + n)
-    unfolding lastLine unless sooner asksRest
+    unfolding lastLine unless firstRefusal asksRest
     left-open h o = last ∙ rw (ends-at h, open-depth (l .blocks) o) refl
 
     pub all-read : length file ≤ l .at → l .blocks .depth ≡ 0
         → andThen (rowLines vars n (4 + vars) (lines (drop at file)) noRows) (lastLine (4 + vars + n) ranges) ≡ read (record { ranges = ranges; rows = take n (kindsOf file (l .rows)) }) ([] ∷ [])
-    unfolding lastLine unless sooner asksRest
+    unfolding lastLine unless firstRefusal asksRest
     all-read h o = last ∙ rw (ends-at h, closed-depth (l .blocks) o) refl
 
 -- a part that the next one follows
@@ -97,7 +97,7 @@ none-within : (file : List ℕ) (q p : ℕ) → HeadWithin file (noHead q p)
 none-within file q p = record { start = omega arith; vars = omega arith; count = omega arith }
 
 pub head-refused : (file : List ℕ) (ranges : List (List ℤ)) (reading : Reading Script) (h : Head) (q p : ℕ) → h ≡ noHead q p → reading ≡ refused q p → HeadRead file reading h ranges
-unfolding headOf passing
+unfolding headRead passing
 head-refused file ranges reading h q p e f =
     rw (e, f) (record { script = refl; pairs = λ z. absurd (let y : _≡_ {A = ℕ} 0 1 = cc in omega arith); within = none-within file q p })
 
@@ -113,7 +113,7 @@ module _ (file : List ℕ) (at vars : ℕ) where
   rows-on rs n more = andThen (rowLines vars n (4 + vars) more noRows) (λ rows rest. lastLine (4 + vars + n) rs rows rest)
 
   pub count-refused : (h : Head) (q : ℕ) → h ≡ noHead q (3 + vars) → CountRead rowsKey (drop at file) 256 (Counted.Wrong q) → CountPart file at vars h
-  unfolding headOf passing rowPart
+  unfolding headRead passing rowPart
   count-refused h q e r = rw e (record {
     script = λ ranges. sym (after-wrong rowsKey (drop at file) 256 (3 + vars) q (rows-on (take vars (pairRanges ranges))) r);
     same = λ z. absurd (let y : _≡_ {A = ℕ} 0 1 = cc in omega arith);
@@ -121,7 +121,7 @@ module _ (file : List ℕ) (at vars : ℕ) where
   })
 
   pub count-says : (n k : ℕ) → CountRead rowsKey (drop at file) 256 (Counted.Count n k) → at ≤ length file → vars ≤ 16 → CountPart file at vars (record { verdict = Passed; vars = vars; count = n; at = at + k })
-  unfolding headOf passing rowPart
+  unfolding headRead passing rowPart
   count-says n k r h small = record {
     script = λ ranges. sym (after-count rowsKey file at 256 (3 + vars) n k (rows-on (take vars (pairRanges ranges))) r);
     same = λ z. refl;
@@ -186,8 +186,8 @@ module _ (file : List ℕ) (ranges : List (List ℤ)) (h : Head) (l : Stop) (f :
       go true false false x y w = rw (x, y, w) (sym (left-open file (h .at) (h .vars) (h .count) l f _ (eqb-true _ _ x) (ltb-false _ _ y) (eqb-false _ _ w)))
       go true false true x y w = rw (x, y, w) (sym (all-read file (h .at) (h .vars) (h .count) l f _ (eqb-true _ _ x) (ltb-false _ _ y) (eqb-true _ _ w)))
 
-  pub load-read : passing (Questions.andThen (h .verdict) later) whole ≡ headOf file ranges h
-  unfolding headOf passing Questions.andThen
+  pub load-read : passing (Questions.andThen (h .verdict) later) whole ≡ headRead file ranges h
+  unfolding headRead passing Questions.andThen
   load-read = go (h .verdict)
     where
       go : (v : Verdict) → passing (Questions.andThen v later) whole ≡ passing v tail

@@ -17,9 +17,9 @@ use Rattle.rules.specs.declared.Verdict.the-variants.{Passed, Refused}
 use Rattle.rules.specs.Questions.{asked}
 use Rattle.rules.specs.File
 use Rattle.rules.specs.File.{Reading, read, refused, unless, countLine, asksRange, rangeKey, rowKey, rowOf, rangeLines, rowLines, noRows, andThen, lastLine, rowPart}
-use Rattle.text.specs.Words.{before}
-use Rattle.rows.specs.declared.Line.{Line}
-use Rattle.rows.specs.Words.{Rowed}
+use Rattle.reading_text.specs.Words.{before}
+use Rattle.reading_rows.specs.declared.Line.{Line}
+use Rattle.reading_rows.specs.Words.{Rowed}
 use Rattle.reader.specs.declared.Counted.{Counted}
 use Rattle.reader.specs.declared.Ranged.{Ranged}
 use Rattle.reader.specs.declared.Ranges.{Ranges}
@@ -55,9 +55,9 @@ pub record CountRead (key rest : List ℕ) (most : ℕ) (r : Counted) : Type 0 w
   pub within : Within rest most r
 
 -- what a range line reads, and then f
-unfoldable pub rangeOf : List ℕ → ℕ → (Range → List (List ℕ) → Reading (List Range)) → Ranged → Reading (List Range)
-rangeOf rest p f (Ranged.Range a b k) = f (record { lo = a; hi = b }) (lines (drop k rest))
-rangeOf rest p f (Ranged.Wrong q) = refused q p
+unfoldable pub rangeRead : List ℕ → ℕ → (Range → List (List ℕ) → Reading (List Range)) → Ranged → Reading (List Range)
+rangeRead rest p f (Ranged.Range a b k) = f (record { lo = a; hi = b }) (lines (drop k rest))
+rangeRead rest p f (Ranged.Wrong q) = refused q p
 
 abbrev pub RangeWithin : List ℕ → Ranged → Type 0
 RangeWithin rest (Ranged.Range a b k) = k ≤ length rest
@@ -65,7 +65,7 @@ RangeWithin rest (Ranged.Wrong q) = q ≡ 0 → ⊥
 
 pub record RangeRead (rest : List ℕ) (r : Ranged) : Type 0 where
   pub line : (p : ℕ) (f : Range → List (List ℕ) → Reading (List Range))
-      → unless (asksRange (nextWords rangeKey (lines rest))) p (f (File.rangeOf (nextWords rangeKey (lines rest))) (nextLines (lines rest))) ≡ rangeOf rest p f r
+      → unless (asksRange (nextWords rangeKey (lines rest))) p (f (File.rangeWords (nextWords rangeKey (lines rest))) (nextLines (lines rest))) ≡ rangeRead rest p f r
   pub within : RangeWithin rest r
 
 -- what a row line reads: the row, and its length without the LF; `rest` begins at the file's byte `base`
@@ -96,8 +96,8 @@ passing Passed r = r
 passing (Refused q p) r = refused q p
 
 -- what the rest of a file gives after its head
-unfoldable pub headOf : List ℕ → List (List ℤ) → Head → Reading Script
-headOf file ranges h =
+unfoldable pub headRead : List ℕ → List (List ℤ) → Head → Reading Script
+headRead file ranges h =
     passing (h .verdict)
     (andThen (rowLines (h .vars) (h .count) (4 + h .vars) (lines (drop (h .at) file)) noRows) (lastLine (4 + h .vars + h .count) (take (h .vars) (pairRanges ranges))))
 
@@ -112,13 +112,13 @@ pub record HeadWithin (file : List ℕ) (h : Head) : Type 0 where
 
 -- what the line `rows=R` and the rest give, whatever the ranges are
 pub record CountPart (file : List ℕ) (at vars : ℕ) (h : Head) : Type 0 where
-  pub script : (ranges : List (List ℤ)) → headOf file ranges h ≡ rowPart vars (take vars (pairRanges ranges)) (lines (drop at file))
+  pub script : (ranges : List (List ℤ)) → headRead file ranges h ≡ rowPart vars (take vars (pairRanges ranges)) (lines (drop at file))
   pub same : h .verdict ≡ Passed → h .vars ≡ vars
   pub within : HeadWithin file h
 
 -- a head whose file gives this reading
 pub record HeadRead (file : List ℕ) (reading : Reading Script) (h : Head) (ranges : List (List ℤ)) : Type 0 where
-  pub script : headOf file ranges h ≡ reading
+  pub script : headRead file ranges h ≡ reading
   pub pairs : h .verdict ≡ Passed → Pairs (h .vars) ranges
   pub within : HeadWithin file h
 
@@ -141,7 +141,7 @@ ifRead (Refused q p) n = 0
 
 -- the rows after a head: its file's script, or the first no
 pub record RowsPart (file : List ℕ) (h : Head) (r : Loaded) : Type 0 where
-  pub script : (ranges : List (List ℤ)) → passing (r .verdict) (read (scriptOf file ranges (h .vars) (r .rows) (h .count)) ([] ∷ [])) ≡ headOf file ranges h
+  pub script : (ranges : List (List ℤ)) → passing (r .verdict) (read (scriptOf file ranges (h .vars) (r .rows) (h .count)) ([] ∷ [])) ≡ headRead file ranges h
   pub passes : r .verdict ≡ Passed → h .verdict ≡ Passed
   pub vars : r .vars ≡ ifRead (r .verdict) (h .vars)
   pub count : r .count ≡ ifRead (r .verdict) (h .count)

@@ -1,21 +1,21 @@
 // Reads a script file line by line: the questions 2 to 7 and 17. Each line's reader gets the unread rest of the file.
-use expressions::sooner;
-use nesting::Blocks;
-use nesting::nest_row;
-use rows::Line;
-use rows::asks_last;
-use rows::asks_number;
-use rows::asks_one;
-use rows::asks_order;
-use rows::number_of;
-use rows::row_of;
+use expressions::first_refusal;
+use reading_nesting::Blocks;
+use reading_nesting::nest_row;
+use reading_rows::Line;
+use reading_rows::asks_last;
+use reading_rows::asks_number;
+use reading_rows::asks_one;
+use reading_rows::asks_order;
+use reading_rows::number_of;
+use reading_rows::row_of;
+use reading_text::next_word;
+use reading_text::position;
+use reading_text::said;
+use reading_text::starts_with;
 use rules::BLANK;
 use rules::Row;
 use rules::Verdict;
-use text::next_word;
-use text::position;
-use text::said;
-use text::starts_with;
 ghost use mathlib.Core.Path.{_≡_};
 ghost use mathlib.Core.Bool.{true};
 ghost use Prim.Native.Nat.{_+_, _≤_};
@@ -25,7 +25,7 @@ ghost use lib.Signed.{_≤ℤ_};
 ghost use lib.ListN.{length, drop};
 ghost use Rattle.rules.specs.Questions;
 ghost use Rattle.rules.specs.File.{andThen, varsKey, scriptLine, countLine, rangePart, fileScript};
-ghost use Rattle.text.specs.Words.{before};
+ghost use Rattle.reading_text.specs.Words.{before};
 ghost use Rattle.reader.specs.Read.{keyed, clean, lines, countOf, CountRead, Within, RangeRead, LineRead, RangesRead, noHead, HeadWithin, CountPart, HeadRead, Sized, rowsVerdict, ifRead, LoadedAs};
 
 // Whether an LF ends the next line.
@@ -67,7 +67,7 @@ fn count_line(rest: &[u8], key: &[u8], most: i32) -> Counted
         let f = next_word(rest, key.len() - 1);
         let x = said(f.tag, f.value);
         let end = f.end;
-        let q = sooner(asks_number(0, most, x), asks_last(rest, end));
+        let q = first_refusal(asks_number(0, most, x), asks_last(rest, end));
         if q == 0 {
             return Counted::Count(number_of(x) as usize, end + 1);
         }
@@ -84,7 +84,7 @@ fn script_line(rest: &[u8]) -> Counted
         let f = next_word(rest, 6);
         let x = said(f.tag, f.value);
         let end = f.end;
-        let q = sooner(asks_one(x), asks_last(rest, end));
+        let q = first_refusal(asks_one(x), asks_last(rest, end));
         if q == 0 {
             return Counted::Count(1, end + 1);
         }
@@ -109,9 +109,9 @@ fn range_line(rest: &[u8]) -> Ranged
         let g = next_word(rest, f.end);
         let hi = said(g.tag, g.value);
         let end = g.end;
-        let ends = sooner(asks_last(rest, end), asks_order(lo, hi));
-        let high = sooner(asks_number(-1_000_000_000, 1_000_000_000, hi), ends);
-        let q = sooner(asks_number(-1_000_000_000, 1_000_000_000, lo), high);
+        let ends = first_refusal(asks_last(rest, end), asks_order(lo, hi));
+        let high = first_refusal(asks_number(-1_000_000_000, 1_000_000_000, hi), ends);
+        let q = first_refusal(asks_number(-1_000_000_000, 1_000_000_000, lo), high);
         if q == 0 {
             return Ranged::Range(number_of(lo), number_of(hi), end + 1);
         }

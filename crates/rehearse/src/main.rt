@@ -2,15 +2,15 @@
 // store and the turns of its loops. The prices are four ones if they are not given. ALLOWANCE is a number or `plan`, PICKS a word of 0 and 1 or `-`,
 // and the values are the store.
 
-use desk::Lent;
-use desk::Values;
+use program_parts::Lent;
+use program_parts::Values;
 ghost use Prim.Native.Nat.{_≤_};
 
 // Keeps argument i as the store's value at `at`; false if it is none. No value has more than 11 bytes, and a longer word is read as empty.
 fn keep_argument(i: usize, store: &mut [i32], at: usize) -> bool {
     let mut word = [0u8; 11];
     let n = os::arg(i, &mut word);
-    words::keep_value(&word[..n], store, at)
+    program_words::keep_value(&word[..n], store, at)
 }
 
 // Reads the store's values: argument `first` and all after it.
@@ -38,7 +38,7 @@ fn rehearse(file: usize, arguments: usize, prices: &[u32])
     let k = os::arg(file + 2, &mut picks);
     let mut store = [0i32; 17];
     let values = read_values(file + 3, arguments, &mut store);
-    desk::rehearse_file(
+    program_parts::rehearse_file(
         &path[..p],
         prices,
         &allowance[..a],
@@ -53,7 +53,7 @@ fn start(file: usize, arguments: usize, prices: &[u32])
     requires { ⌜ file ≤ 2 ⌝ }
 {
     if arguments < file + 3 {
-        desk::print_text(
+        program_parts::print_text(
             b"error=usage: rehearse [prices=A,C,P,T] FILE ALLOWANCE PICKS [VALUE ..]\n",
         );
         return;
@@ -66,10 +66,10 @@ fn main() {
     let mut word = io::buffer();
     let n = os::arg(1, &mut word);
     let mut prices = [1u32; 4];
-    let lent = desk::read_prices(&word[..n], &mut prices);
+    let lent = program_parts::read_prices(&word[..n], &mut prices);
     match lent {
         Lent::Nothing => start(1, arguments, &prices),
         Lent::Four => start(2, arguments, &prices),
-        Lent::Malformed => desk::print_wrong_prices(),
+        Lent::Malformed => program_parts::print_wrong_prices(),
     }
 }

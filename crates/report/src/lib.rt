@@ -1,7 +1,7 @@
 // Writing the report, line by line, into the unused rest of the buffer.
-use lines::line_at;
-use pieces::Label;
-use pieces::Piece;
+use analysis_lines::line_at;
+use report_pieces::Label;
+use report_pieces::Piece;
 use rules::LoopLine;
 use rules::Reply;
 use rules::Step;
@@ -10,8 +10,8 @@ ghost use Prim.Native.Nat.{_≤_};
 ghost use lib.ListN.{length};
 ghost use Rattle.rules.specs.Calls.{fitting, written};
 ghost use Rattle.rules.specs.Report.{joined, decimal, sign, size, stepName, firstEnd, secondEnd, exactName, loopLine, lineOf, reportText};
-ghost use Rattle.lines.specs.Coded.{linesIn, firstLines, Lent};
-ghost use Rattle.pieces.specs.Pieces.{pieceText, pieceTexts, Wrote};
+ghost use Rattle.analysis_lines.specs.Coded.{linesIn, firstLines, Lent};
+ghost use Rattle.report_pieces.specs.Pieces.{pieceText, pieceTexts, Wrote};
 ghost use Rattle.report.specs.Lines.{endOf, headText, loopsText};
 
 // How far z is from 0.
@@ -141,8 +141,9 @@ fn loop_line(line: LoopLine) -> [Piece; 17]
 fn head_len(rows: usize, loops: usize) -> usize
     ensures { λ r. ⌜ (r ≡ length (headText rows loops)) × (r ≤ 84) ⌝ }
 {
-    let first = pieces::key_len(Label::Report, 1) + pieces::key_len(Label::Rows, rows as u64);
-    first + pieces::key_len(Label::Loops, loops as u64)
+    let first = report_pieces::key_len(Label::Report, 1)
+        + report_pieces::key_len(Label::Rows, rows as u64);
+    first + report_pieces::key_len(Label::Loops, loops as u64)
 }
 
 // The loops' lines: how many bytes they have.
@@ -154,7 +155,7 @@ fn loops_len(lines: &[[u64; 7]; 16], loops: usize) -> usize
     let mut k: usize = 0;
     while k < loops {
         let line = line_at(lines, k);
-        len += pieces::line_len(loop_line(line));
+        len += report_pieces::line_len(loop_line(line));
         k += 1;
     }
     len
@@ -166,7 +167,7 @@ pub fn report_len(rows: usize, lines: &[[u64; 7]; 16], loops: usize, ticks: u64)
     ensures { λ r. ⌜ r ≡ length (reportText rows (firstLines (now (lines .entry)) loops) ticks) ⌝ }
 {
     let before = head_len(rows, loops) + loops_len(lines, loops);
-    before + pieces::key_len(Label::Ticks, ticks)
+    before + report_pieces::key_len(Label::Ticks, ticks)
 }
 
 // Writes the lines before the loops'.
@@ -174,9 +175,9 @@ fn put_head(rows: usize, loops: usize, buffer: &mut [u8]) -> usize
     requires { ⌜ length (headText rows loops) ≤ length (now buffer) ⌝ }
     ensures { λ r. ⌜ Wrote (headText rows loops) (now (buffer .entry)) (now (buffer .exit)) r ⌝ }
 {
-    let a = pieces::put_key(Label::Report, 1, buffer);
-    let b = a + pieces::put_key(Label::Rows, rows as u64, &mut buffer[a..]);
-    b + pieces::put_key(Label::Loops, loops as u64, &mut buffer[b..])
+    let a = report_pieces::put_key(Label::Report, 1, buffer);
+    let b = a + report_pieces::put_key(Label::Rows, rows as u64, &mut buffer[a..]);
+    b + report_pieces::put_key(Label::Loops, loops as u64, &mut buffer[b..])
 }
 
 // Writes the loops' lines, each into the unused rest of the buffer.
@@ -188,7 +189,7 @@ fn put_loops(lines: &[[u64; 7]; 16], loops: usize, buffer: &mut [u8]) -> usize
     let mut k: usize = 0;
     while k < loops {
         let line = line_at(lines, k);
-        at += pieces::put_line(loop_line(line), &mut buffer[at..]);
+        at += report_pieces::put_line(loop_line(line), &mut buffer[at..]);
         k += 1;
     }
     at
@@ -207,7 +208,7 @@ fn put_lines(
 {
     let a = put_head(rows, loops, buffer);
     let b = a + put_loops(lines, loops, &mut buffer[a..]);
-    b + pieces::put_key(Label::Ticks, ticks, &mut buffer[b..])
+    b + report_pieces::put_key(Label::Ticks, ticks, &mut buffer[b..])
 }
 
 // Writes the report, if the buffer is long enough (question 14).

@@ -7,7 +7,7 @@ use Rattle.rules.specs.Trips.{trip, inside, outside, after}
 use Rattle.rules.specs.Passes.{Pass, any}
 use Rattle.rules.specs.Figures.{Round, alike, lines}
 use Rattle.rules.specs.Questions.{passed, loopsVerdict, verdict}
-use Rattle.rules.specs.Scripts.{Pairwise, no-more, and-then, envOf, treeOf}
+use Rattle.rules.specs.Scripts.{Pairwise, no-more, and-then, startEnv, treeOf}
 use Rattle.rules.specs.Count.{tripsIn, FiguresCounted, CountedLine, LinesCounted}
 use Rattle.rules.proofs.Accepted.{then-yes}
 use Rattle.rules.proofs.Counting.{figures-counted}
@@ -36,5 +36,5 @@ pub lines-counted : LinesCounted
 unfolding LinesCounted verdict
 lines-counted prices scratch file script e =
     let ok = file-accepted prices scratch file script e .script-accepted in
-    let (passes, _) = then-yes (loopsVerdict (envOf (script .ranges)) (treeOf (script .rows))) _ (ok .loops) in
-    counted-lines (alike 1) any (treeOf (script .rows)) (envOf (script .ranges)) passes
+    let (passes, _) = then-yes (loopsVerdict (startEnv (script .ranges)) (treeOf (script .rows))) _ (ok .loops) in
+    counted-lines (alike 1) any (treeOf (script .rows)) (startEnv (script .ranges)) passes

@@ -5,8 +5,8 @@ use Prim.Native.Nat.{ℕ}
 use native.Mathlib.Omega.{arith}
 use lib.Dec.{T}
 use lib.IntN.{ℤ, pos, negsuc}
-use Rattle.ints.specs.Ints.{minZ, maxZ, drawn}
-use Rattle.ints.proofs.Parts.{ints, drawn-parts, min-parts, max-parts, eq-out, add-parts, minus-parts}
+use Rattle.ints.specs.Ints.{minZ, maxZ, clamp}
+use Rattle.ints.proofs.Parts.{ints, clamp-parts, min-parts, max-parts, eq-out, add-parts, minus-parts}
 use Rattle.ints.proofs.Diffs.{of, _≼_}
 use Rattle.ints.proofs.Products.{product-between}
 use Rattle.rules.specs.declared.Value.{Value}
@@ -16,11 +16,11 @@ use Rattle.rules.specs.Expressions.{Expr, constant, variable, group, app
 use Rattle.rules.specs.Values.{lowest, highest, inLimits, Store, choose, Result, number, past, limited, operated, value}
 use Rattle.rules.specs.Ranges.{Env, spread, bounds}
 use Rattle.rules.specs.Scripts.{ExprLimits}
-use Rattle.rules.specs.Evaluate.{between, rangeOf, least, most, held, combined, evaluated, ofRanges, ofStore, resultOf}
+use Rattle.rules.specs.Evaluate.{between, rangeIn, least, most, held, combined, evaluated, ofRanges, ofStore, resultOf}
 use Rattle.rules.proofs.Expressions.{limits}
 
 -- ---- the ends are the range's
-pub evaluated-range : (ρ : Env) (e : Expr) → rangeOf (evaluated (ofRanges ρ) e) ≡ bounds ρ e
+pub evaluated-range : (ρ : Env) (e : Expr) → rangeIn (evaluated (ofRanges ρ) e) ≡ bounds ρ e
 unfolding evaluated combined held least most bounds spread meaning
 evaluated-range ρ (constant k) = refl
 evaluated-range ρ (variable w) = refl
@@ -43,8 +43,8 @@ min-same z = eq-out (minZ z z) z (omega (arith, min-parts z z))
 max-same : (z : ℤ) → maxZ z z ≡ z
 max-same z = eq-out (maxZ z z) z (omega (arith, max-parts z z))
 
-drawn-same : (z : ℤ) → T (inLimits z) → drawn lowest highest z ≡ z
-drawn-same z h = let (a, b) = limits z h in eq-out (drawn lowest highest z) z (omega (arith, drawn-parts lowest highest z))
+clamp-same : (z : ℤ) → T (inLimits z) → clamp lowest highest z ≡ z
+clamp-same z h = let (a, b) = limits z h in eq-out (clamp lowest highest z) z (omega (arith, clamp-parts lowest highest z))
 
 one-combined : (o : Operator) (x y : ℤ) → Stands (combined o (between x x) (between y y)) (limited (operate o x y))
 unfolding combined held least most limited choose
@@ -53,16 +53,16 @@ one-combined o x y = by (inLimits (operate o x y)) (λ t. t) refl
     z : ℤ
     z = operate o x y
 
-    lo : least o (rangeOf (between x x)) (rangeOf (between y y)) ≡ z
+    lo : least o (rangeIn (between x x)) (rangeIn (between y y)) ≡ z
     lo = (λ t. minZ (min-same z t) (min-same z t)) ∙ min-same z
 
-    hi : most o (rangeOf (between x x)) (rangeOf (between y y)) ≡ z
+    hi : most o (rangeIn (between x x)) (rangeIn (between y y)) ≡ z
     hi = (λ t. maxZ (max-same z t) (max-same z t)) ∙ max-same z
 
     by : (b : Bool) → (T b → T (inLimits z)) → inLimits z ≡ b → Stands (combined o (between x x) (between y y)) (choose b (number z) past)
-    by true f e = let d = drawn-same z (f tt) in λ t. record {
-      lo = (ap (drawn lowest highest) lo ∙ d) t;
-      hi = (ap (drawn lowest highest) hi ∙ d) t;
+    by true f e = let d = clamp-same z (f tt) in λ t. record {
+      lo = (ap (clamp lowest highest) lo ∙ d) t;
+      hi = (ap (clamp lowest highest) hi ∙ d) t;
       past = not ((ap inLimits lo ∙ e) t && (ap inLimits hi ∙ e) t);
     }
     by false f e = λ t. not ((ap inLimits lo ∙ e) t && (ap inLimits hi ∙ e) t)
@@ -70,8 +70,8 @@ one-combined o x y = by (inLimits (operate o x y)) (λ t. t) refl
 operated-stands : (o : Operator) (a b : Value) (p q : Result) → Stands a p → Stands b q → Stands (combined o a b) (operated o p q)
 unfolding operated combined held
 operated-stands o a b (number x) (number y) h k = subst (λ v. Stands v (limited (operate o x y))) (λ t. combined o (sym h t) (sym k t)) (one-combined o x y)
-operated-stands o a b (number x) past h k = λ t. or-true (a .past) k t || held (least o (rangeOf a) (rangeOf b)) (most o (rangeOf a) (rangeOf b)) .past
-operated-stands o a b past q h k = λ t. h t || b .past || held (least o (rangeOf a) (rangeOf b)) (most o (rangeOf a) (rangeOf b)) .past
+operated-stands o a b (number x) past h k = λ t. or-true (a .past) k t || held (least o (rangeIn a) (rangeIn b)) (most o (rangeIn a) (rangeIn b)) .past
+operated-stands o a b past q h k = λ t. h t || b .past || held (least o (rangeIn a) (rangeIn b)) (most o (rangeIn a) (rangeIn b)) .past
 
 value-stands : (f : Store) (e : Expr) → Stands (evaluated (ofStore f) e) (value e f)
 unfolding evaluated value meaning
@@ -92,9 +92,9 @@ evaluated-value f e = by (value e f) (value-stands f e)
 abbrev pub Limited : ℤ → Type 0
 Limited z = (of lowest ≼ of z) × (of z ≼ of highest)
 
-drawn-limited : (z : ℤ) → Limited (drawn lowest highest z)
+clamp-limited : (z : ℤ) → Limited (clamp lowest highest z)
 unfolding lowest highest
-drawn-limited z = omega (arith, drawn-parts lowest highest z)
+clamp-limited z = omega (arith, clamp-parts lowest highest z)
 
 -- every number that an evaluator holds
 pub evaluated-limited : (f : ℕ → Value) → ((w : ℕ) → Limited (f w .lo) × Limited (f w .hi)) → (e : Expr) → ExprLimits e → Limited (evaluated f e .lo) × Limited (evaluated f e .hi)
@@ -102,7 +102,7 @@ unfolding evaluated combined held meaning ExprLimits
 evaluated-limited f h (constant k) (a, b) = omega ints
 evaluated-limited f h (variable w) l = h w
 evaluated-limited f h (group e) l = evaluated-limited f h e l
-evaluated-limited f h (apply o d e) l = (drawn-limited _, drawn-limited _)
+evaluated-limited f h (apply o d e) l = (clamp-limited _, clamp-limited _)
 
 -- every result before it is drawn back: L times L fits 64 bits
 pub result-fits : (o : Operator) (x y : ℤ) → Limited x → Limited y

@@ -4,7 +4,7 @@ use mathlib.Core.Bool.{false}
 use mathlib.Core.List.{List, [], _∷_}
 use Prim.Native.Nat.{ℕ}
 use lib.IntN.{pos, negℤ}
-use Rattle.ints.specs.Ints.{minZ, maxZ, drawn}
+use Rattle.ints.specs.Ints.{minZ, maxZ, clamp}
 use Rattle.rules.specs.declared.Comparison.the-variants.{Less}
 use Rattle.rules.specs.declared.Change.{Change}
 use Rattle.rules.specs.declared.Ending.{Ending}
@@ -19,7 +19,7 @@ use Rattle.rules.specs.Figures.{ones}
 use Rattle.rules.specs.Run.{prepend, bind, closing, charge, write, result, exec, iter, starting, turning, enter, run}
 use Rattle.rules.specs.Scripts.{storeOf, treeOf}
 use Rattle.rules.specs.Answers.{Answer, answer, runTree}
-use Rattle.rules.specs.File.{turnOf, sooner, asksSize, asksLeaves, asksExpr}
+use Rattle.rules.specs.File.{turnOf, firstRefusal, asksSize, asksLeaves, asksExpr}
 
 abbrev whole : ℕ → Expr
 whole n = constant (pos n)
@@ -117,7 +117,7 @@ words =
 
 -- 8 open; 9 open; 9 open, one after the other; 15 operators; 16 operators; 9 open and past L; 9 open and not shut; past L, and no such variable; no such variable; both inside
 all-words : asked words ≡ 0 ∷ 17 ∷ 0 ∷ 0 ∷ 17 ∷ 17 ∷ 3 ∷ 4 ∷ 5 ∷ 0 ∷ []
-unfolding asked words turnOf sooner asksSize asksLeaves depth operators lowest highest parse readExpression expression onward ahead afterTerm afterFactor factorOf close atom atEnd isMark upToMark fromMark wordOf isNatural isNegative isVariable isDigit allDigits valueFrom plainWord blockWord comparisonWord equals
+unfolding asked words turnOf firstRefusal asksSize asksLeaves depth operators lowest highest parse readExpression expression onward ahead afterTerm afterFactor factorOf close atom atEnd isMark upToMark fromMark wordOf isNatural isNegative isVariable isDigit allDigits valueFrom plainWord blockWord comparisonWord equals
 all-words = refl
 
 -- ---- twice the rig plus two: its range for a rig of 3 to 5, its value for a rig of 4
@@ -125,7 +125,7 @@ abbrev rig : Expr
 rig = apply Add (apply Mul (whole 2) (variable 1)) (whole 2)
 
 rig-range : bounds (λ w. record { lo = pos 3; hi = pos 5 }) rig ≡ record { lo = pos 8; hi = pos 12 }
-unfolding bounds meaning spread operate drawn minZ maxZ lowest highest
+unfolding bounds meaning spread operate clamp minZ maxZ lowest highest
 rig-range = refl
 
 rig-value : value rig (λ w. pos 4) ≡ number (pos 10)
@@ -134,11 +134,11 @@ rig-value = refl
 
 -- the four results on the ends, drawn back: −2 to 3 times −5 to 4
 signs-range : spread Mul (record { lo = negℤ (pos 2); hi = pos 3 }) (record { lo = negℤ (pos 5); hi = pos 4 }) ≡ record { lo = negℤ (pos 15); hi = pos 12 }
-unfolding spread operate drawn minZ maxZ lowest highest
+unfolding spread operate clamp minZ maxZ lowest highest
 signs-range = refl
 
 square-range : bounds (λ w. record { lo = pos 0; hi = pos 100_000 }) (apply Mul (variable 0) (variable 0)) ≡ record { lo = pos 0; hi = highest }
-unfolding bounds meaning spread operate drawn minZ maxZ lowest highest
+unfolding bounds meaning spread operate clamp minZ maxZ lowest highest
 square-range = refl
 
 -- a result on the way that is past ±L, though the last one would not be

@@ -15,7 +15,7 @@ use Rattle.rules.specs.Bounds.{FinePrice, FinePrices}
 use Rattle.rules.specs.Ranges.{Range}
 use Rattle.rules.specs.Figures.{Prices}
 use Rattle.rules.specs.Questions.{Verdict, passed, refused, verdict}
-use Rattle.rules.specs.Scripts.{Pairwise, Script, envOf, storeOf, treeOf, Legal, Accepted, StoreIn}
+use Rattle.rules.specs.Scripts.{Pairwise, Script, startEnv, storeOf, treeOf, Legal, Accepted, StoreIn}
 use Rattle.rules.specs.File
 use Rattle.rules.specs.Calls.{Judged, accepted, refuses, judgedBy, judgedFile, pricesOf, pricesVerdict, Priced, judgedPriced, scratchSize, judged, SameFromAnyScratch, storeVerdict, RunReply, ran, runScript, ranScript, stored, runReply}
 use Rattle.rules.specs.Claim.{Unspent, Counts-fit, Demand3, Demand3File, Demand3Of}
@@ -34,7 +34,7 @@ pub record FileAccepted (prices : List ℕ) (scratch : ℕ) (file : List ℕ) (s
   pub script-accepted : Accepted (pricesOf prices) script
 
 -- a legal script that the questions 8 to 13 accept
-pub judged-accepted : (π : Prices) (s script : Script) (v : Verdict) → Legal s → verdict π (length (s .rows)) (envOf (s .ranges)) (treeOf (s .rows)) ≡ v
+pub judged-accepted : (π : Prices) (s script : Script) (v : Verdict) → Legal s → verdict π (length (s .rows)) (startEnv (s .ranges)) (treeOf (s .rows)) ≡ v
     → judgedBy s v ≡ accepted script → (s ≡ script) × Accepted π script
 unfolding judgedBy
 judged-accepted π s script passed legal v h =
@@ -104,7 +104,7 @@ test-priced prices e = fine-prices prices e .test .some
 
 -- a store that passes question 15
 abbrev Each : List Range → List ℤ → Type 0
-Each rs xs = (w : ℕ) → w < length rs → (envOf rs w .lo ≤ℤ storeOf xs w) × (storeOf xs w ≤ℤ envOf rs w .hi)
+Each rs xs = (w : ℕ) → w < length rs → (startEnv rs w .lo ≤ℤ storeOf xs w) × (storeOf xs w ≤ℤ startEnv rs w .hi)
 
 pub store-passes : (i : ℕ) (rs : List Range) (xs : List ℤ) → storeVerdict i rs xs ≡ passed → (length xs ≡ length rs) × Each rs xs
 unfolding storeVerdict
@@ -155,6 +155,6 @@ module _ (prices : List ℕ) (store : List ℤ) (picks : List ℕ) (allowance : 
   demand3-call scratch file = demand3-judged _ (λ script e. let f = file-accepted prices scratch file script e in (f .priced, f .script-accepted))
 
   pub demand3-script : Priced prices → (script : Script) → Legal script
-      → let j : Judged = judgedBy script (verdict (pricesOf prices) (length (script .rows)) (envOf (script .ranges)) (treeOf (script .rows))) in
+      → let j : Judged = judgedBy script (verdict (pricesOf prices) (length (script .rows)) (startEnv (script .ranges)) (treeOf (script .rows))) in
       Says (runReply prices j store picks allowance) ending ticks counts → Demand3Of prices j store picks allowance ending ticks counts
   demand3-script q script legal = demand3-judged _ (λ s e. (q, judged-accepted (pricesOf prices) script s _ legal refl e .1))

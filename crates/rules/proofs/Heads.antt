@@ -14,7 +14,7 @@ use Rattle.rules.specs.Trips.{inside, outside, after}
 use Rattle.rules.specs.Steps.{sets, starts, assigns}
 use Rattle.rules.specs.Passes.{Pass, any, later, startPass, firstPass}
 use Rattle.rules.specs.Figures.{Line, Round, alike, often, inBody, lines}
-use Rattle.rules.specs.Scripts.{Script, envOf, ofBuilt, treeOf, reportLines, Legal}
+use Rattle.rules.specs.Scripts.{Script, startEnv, ofBuilt, treeOf, reportLines, Legal}
 use Rattle.rules.specs.Calls.{isLoop, loopRows}
 use Rattle.rules.specs.Claim.{lineRows}
 use Rattle.rules.proofs.Nesting.{tree-of}
@@ -139,7 +139,7 @@ tree-heads rows n e =
 -- the rows of the report's lines are the head rows of the file's loops, in row order
 pub lines-at-heads : (script : Script) → Legal script → lineRows (reportLines script) ≡ loopRows 0 (script .rows)
 lines-at-heads script legal =
-    line-heads (alike 1) any (treeOf (script .rows)) (envOf (script .ranges)) ∙ tree-heads (script .rows) _ (legal .closed .1)
+    line-heads (alike 1) any (treeOf (script .rows)) (startEnv (script .ranges)) ∙ tree-heads (script .rows) _ (legal .closed .1)
 
 -- ---- at most 16 loops
 module _ (last : Nest) where

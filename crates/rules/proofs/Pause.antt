@@ -15,7 +15,7 @@ use Rattle.rules.proofs.Outcomes.{decide-both}
 use Rattle.rules.specs.Figures.{Prices, price}
 use Rattle.rules.specs.Run.{State, go, halt, choose, charge, write, result, exec, holds}
 use Rattle.rules.specs.Claim.{Unspent}
-use Rattle.rules.specs.RowMachine.{Tally, begin, turn, Phase, fresh, testing, Place, Next, more, over, to, outcome, paid, picked, tests, onEnd, onRow, next, steps, Partners, rank, chosen}
+use Rattle.rules.specs.RowMachine.{TurnCounts, begin, turn, Phase, fresh, testing, Place, Next, more, over, to, outcome, paid, picked, tests, onEnd, onRow, next, steps, Partners, rank, chosen}
 use Rattle.rules.specs.Frames.{stopped, onward, runsOn, given, leftOf}
 use Rattle.rules.specs.InTime.{dearest, Resumed}
 use Rattle.rules.proofs.Resume.{plus, fits-more, less-more}
@@ -23,16 +23,16 @@ use Rattle.rules.proofs.RowSimulation.{falls-more, steps-over}
 
 -- ---- one step, and the same step with d more ticks
 -- what is written, or a result past ±L
-wrote : ℕ → ℕ → Result → Tally → (State → Next) → State → Next
+wrote : ℕ → ℕ → Result → TurnCounts → (State → Next) → State → Next
 wrote i v (number y) c k t = chosen (inLimits y) (k (record { store = put (t .store) v y; left = t .left; picks = t .picks })) (over Ending.Range i t c)
 wrote i v past c k t = over Ending.Range i t c
 
 -- what a plain row, a for's start or step does once it is paid
-acted : ℕ → Plain → Tally → (State → Next) → State → Next
+acted : ℕ → Plain → TurnCounts → (State → Next) → State → Next
 acted i (assign v x) c k t = wrote i v (result x (t .store v) (t .store)) c k t
 acted i (cue n) c k t = k t
 
-exec-paid : (π : Prices) (i : ℕ) (p : Plain) (s : State) (c : Tally) (k : State → Next) → outcome (exec π i p s) c k ≡ paid (price π p) i s c (acted i p c k)
+exec-paid : (π : Prices) (i : ℕ) (p : Plain) (s : State) (c : TurnCounts) (k : State → Next) → outcome (exec π i p s) c k ≡ paid (price π p) i s c (acted i p c k)
 unfolding outcome exec charge write choose paid acted wrote price
 exec-paid π i (assign v x) s c k = by (leb (π .arithmetic) (s .left)) (result x (s .store v) (s .store)) _
   where
@@ -51,7 +51,7 @@ exec-paid π i (cue n) s c k = by (leb (π .cue) (s .left)) _
     by false u = refl
 
 -- the counts where the machine waits: an entry that begins there has begun
-unfoldable pub begun : View → Phase → ℕ → Tally → Tally
+unfoldable pub begun : View → Phase → ℕ → TurnCounts → TurnCounts
 begun (is-plain p) ph i c = c
 begun is-pick ph i c = c
 begun is-else ph i c = c
@@ -63,19 +63,19 @@ begun (is-loop (for x) t last) fresh i c = begin i c
 begun (is-loop (for x) t last) testing i c = c
 
 -- the counts c are at most n above b
-pub data Above (n : ℕ) (b c : Tally) : Type 0 where
+pub data Above (n : ℕ) (b c : TurnCounts) : Type 0 where
   above : ((p : ℕ) → (c .turns p ≤ b .turns p + n) × (c .sum p ≤ b .sum p + n)) → Above n b c
 
-pub above-same : (c : Tally) → Above 0 c c
+pub above-same : (c : TurnCounts) → Above 0 c c
 above-same c = above λ p. (omega arith, omega arith)
 
-above-one : {b c : Tally} → Above 0 b c → Above 1 b c
+above-one : {b c : TurnCounts} → Above 0 b c → Above 1 b c
 above-one (above f) = above λ p. let (x, y) = f p in (omega arith, omega arith)
 
-pub above-above : {n m : ℕ} {a b c : Tally} → Above n a b → Above m b c → Above (n + m) a c
+pub above-above : {n m : ℕ} {a b c : TurnCounts} → Above n a b → Above m b c → Above (n + m) a c
 above-above (above f) (above g) = above λ p. let (x, y) = f p in let (u, v) = g p in (omega arith, omega arith)
 
-above-begin : (h : ℕ) (c : Tally) → Above 0 c (begin h c)
+above-begin : (h : ℕ) (c : TurnCounts) → Above 0 c (begin h c)
 unfolding begin
 above-begin h c = above λ p. (by (eqb p h) (c .turns p), omega arith)
   where
@@ -83,7 +83,7 @@ above-begin h c = above λ p. (by (eqb p h) (c .turns p), omega arith)
     by true n = omega arith
     by false n = omega arith
 
-above-turn : (h : ℕ) {b c : Tally} → Above 0 b c → Above 1 b (turn h c)
+above-turn : (h : ℕ) {b c : TurnCounts} → Above 0 b c → Above 1 b (turn h c)
 unfolding turn
 above-turn h {b} {c} (above f) = above λ p.
     let (x, y) = f p in
@@ -95,17 +95,17 @@ above-turn h {b} {c} (above f) = above λ p.
 
 module _ (π : Prices) (d : ℕ) where
   -- from the state s and the counts b it goes on or ends, and so it does with d more ticks; or it waits, with the counts c and less than a price
-  data Step (s : State) (b c : Tally) : Next → Next → Type 0 where
+  data Step (s : State) (b c : TurnCounts) : Next → Next → Type 0 where
     on : {m : Place} → m .now .left ≤ s .left → Above 1 b (m .tally) → Step s b c (more m) (more (given d m))
-    ends : {e : Ending} {i : ℕ} {t : State} {c′ : Tally} → Unspent e → t .left ≤ s .left → Step s b c (over e i t c′) (over e i (plus d t) c′)
+    ends : {e : Ending} {i : ℕ} {t : State} {c′ : TurnCounts} → Unspent e → t .left ≤ s .left → Step s b c (over e i t c′) (over e i (plus d t) c′)
     waits : {i : ℕ} {a : Next} → s .left < dearest π → Above 0 b c → Step s b c (over Spent i s c) a
 
-  step-chosen : {s : State} {b c : Tally} (t : Bool) {x y u v : Next} → Step s b c x u → Step s b c y v → Step s b c (chosen t x y) (chosen t u v)
+  step-chosen : {s : State} {b c : TurnCounts} (t : Bool) {x y u v : Next} → Step s b c x u → Step s b c y v → Step s b c (chosen t x y) (chosen t u v)
   unfolding chosen
   step-chosen true h k = h
   step-chosen false h k = k
 
-  step-paid : (p i : ℕ) (s : State) {b : Tally} (c : Tally) (k : State → Next) → Above 0 b c → p ≤ dearest π
+  step-paid : (p i : ℕ) (s : State) {b : TurnCounts} (c : TurnCounts) (k : State → Next) → Above 0 b c → p ≤ dearest π
       → ((t : State) → t .left ≤ s .left → Step s b c (k t) (k (plus d t))) → Step s b c (paid p i s c k) (paid p i (plus d s) c k)
   unfolding paid chosen
   step-paid p i s {b} c k z h f = by (leb p (s .left)) (leb p (s .left + d)) (fits-more d p (s .left)) (less-more d p (s .left)) (nleb→lt p (s .left))
@@ -119,22 +119,22 @@ module _ (π : Prices) (d : ℕ) where
       by true false g e l = absurd (g tt)
       by false v g e l = waits (omega (arith, l tt)) z
 
-  step-picked : (i j : ℕ) (l : List ℕ) (s t : State) (c : Tally) → t .left ≤ s .left → Step s c c (picked i j l t c) (picked i j l (plus d t) c)
+  step-picked : (i j : ℕ) (l : List ℕ) (s t : State) (c : TurnCounts) → t .left ≤ s .left → Step s c c (picked i j l t c) (picked i j l (plus d t) c)
   unfolding picked
   step-picked i j [] s t c h = ends tt h
   step-picked i j (x ∷ xs) s t c h = step-chosen (eqb x 0) (on h (above-one (above-same c))) (on h (above-one (above-same c)))
 
-  step-tests : (h e : ℕ) (t : Test) (s : State) {b c : Tally} → Above 0 b c → Step s b c (tests π h e t s c) (tests π h e t (plus d s) c)
+  step-tests : (h e : ℕ) (t : Test) (s : State) {b c : TurnCounts} → Above 0 b c → Step s b c (tests π h e t s c) (tests π h e t (plus d s) c)
   unfolding tests
   step-tests h e t s {b} {c} z = step-paid _ h s c _ z (omega arith) λ u l. decide-both (Step s b c) (holds t (u .store)) (on l (above-turn h z)) (on l (above-one z)) (ends tt l)
 
-  step-wrote : (i v : ℕ) (r : Result) (s t : State) {b c : Tally} (j : ℕ) (ph : Phase) → Above 0 b c → t .left ≤ s .left
+  step-wrote : (i v : ℕ) (r : Result) (s t : State) {b c : TurnCounts} (j : ℕ) (ph : Phase) → Above 0 b c → t .left ≤ s .left
       → Step s b c (wrote i v r c (λ u. to j ph u c) t) (wrote i v r c (λ u. to j ph u c) (plus d t))
   unfolding wrote
   step-wrote i v (number y) s t j ph z h = step-chosen (inLimits y) (on h (above-one z)) (ends tt h)
   step-wrote i v past s t j ph z h = ends tt h
 
-  step-acted : (i : ℕ) (p : Plain) (s t : State) {b c : Tally} (j : ℕ) (ph : Phase) → Above 0 b c → t .left ≤ s .left
+  step-acted : (i : ℕ) (p : Plain) (s t : State) {b c : TurnCounts} (j : ℕ) (ph : Phase) → Above 0 b c → t .left ≤ s .left
       → Step s b c (acted i p c (λ u. to j ph u c) t) (acted i p c (λ u. to j ph u c) (plus d t))
   unfolding acted
   step-acted i (assign v x) s t j ph z h = step-wrote i v _ s t j ph z h
@@ -145,17 +145,17 @@ module _ (π : Prices) (d : ℕ) where
   price-most (assign v x) = omega arith
   price-most (cue n) = omega arith
 
-  step-exec : (i : ℕ) (p : Plain) (s : State) {b c : Tally} (j : ℕ) (ph : Phase) → Above 0 b c
+  step-exec : (i : ℕ) (p : Plain) (s : State) {b c : TurnCounts} (j : ℕ) (ph : Phase) → Above 0 b c
       → Step s b c (outcome (exec π i p s) c (λ u. to j ph u c)) (outcome (exec π i p (plus d s)) c (λ u. to j ph u c))
   step-exec i p s {b} {c} j ph z =
       subst₂ (Step s b c) (sym (exec-paid π i p s c _)) (sym (exec-paid π i p (plus d s) c _)) (step-paid (price π p) i s c _ z (price-most p) λ t l. step-acted i p s t j ph z l)
 
   -- to another row
-  step-to : (j : ℕ) (ph : Phase) (s : State) {b c x : Tally} → Above 1 b x → Step s b c (to j ph s x) (to j ph (plus d s) x)
+  step-to : (j : ℕ) (ph : Phase) (s : State) {b c x : TurnCounts} → Above 1 b x → Step s b c (to j ph s x) (to j ph (plus d s) x)
   step-to j ph s z = on (le-refl _) z
 
   module _ (rows : List RowKind) (shut opener : ℕ → ℕ) where
-    step-end : (r : View) (h e : ℕ) (ph : Phase) (s : State) (c : Tally) → Step s c c (onEnd π rows shut opener r h e ph s c) (onEnd π rows shut opener r h e ph (plus d s) c)
+    step-end : (r : View) (h e : ℕ) (ph : Phase) (s : State) (c : TurnCounts) → Step s c c (onEnd π rows shut opener r h e ph s c) (onEnd π rows shut opener r h e ph (plus d s) c)
     unfolding onEnd
     step-end (is-plain p) h e ph s c = step-to _ _ s (above-one (above-same c))
     step-end is-pick h e ph s c = step-to _ _ s (above-one (above-same c))
@@ -165,7 +165,7 @@ module _ (π : Prices) (d : ℕ) where
     step-end (is-loop form t (step-by p)) h e fresh s c = step-exec h p s e testing (above-same c)
     step-end (is-loop form t (step-by p)) h e testing s c = step-tests h e t s (above-same c)
 
-    step-row : (r : View) (i : ℕ) (ph : Phase) (s : State) (c : Tally)
+    step-row : (r : View) (i : ℕ) (ph : Phase) (s : State) (c : TurnCounts)
         → Step s c (begun r ph i c) (onRow π rows shut opener r i ph s c) (onRow π rows shut opener r i ph (plus d s) c)
     unfolding onRow begun
     step-row (is-plain p) i ph s c = step-exec i p s _ _ (above-same c)
@@ -183,7 +183,7 @@ module _ (π : Prices) (d : ℕ) where
     step-next m = step-chosen (ltb (m .row) (length rows)) (step-row (viewAt rows (m .row)) (m .row) (m .phase) (m .now) (m .tally)) (ends tt (omega arith))
 
 -- to begin it again changes nothing
-begin-again : (h : ℕ) (c : Tally) → begin h (begin h c) ≡ begin h c
+begin-again : (h : ℕ) (c : TurnCounts) → begin h (begin h c) ≡ begin h c
 unfolding begin
 begin-again h c = λ k. record { turns = λ w. twice (eqb w h) (c .turns w) k; sum = c .sum; most = c .most }
   where
@@ -192,7 +192,7 @@ begin-again h c = λ k. record { turns = λ w. twice (eqb w h) (c .turns w) k; s
     twice false x = refl
 
 module _ (π : Prices) (rows : List RowKind) (shut opener : ℕ → ℕ) where
-  row-again : (r : View) (i : ℕ) (ph : Phase) (s : State) (c : Tally) → onRow π rows shut opener r i ph s (begun r ph i c) ≡ onRow π rows shut opener r i ph s c
+  row-again : (r : View) (i : ℕ) (ph : Phase) (s : State) (c : TurnCounts) → onRow π rows shut opener r i ph s (begun r ph i c) ≡ onRow π rows shut opener r i ph s c
   unfolding onRow begun
   row-again (is-plain p) i ph s c = refl
   row-again is-pick i ph s c = refl
@@ -205,7 +205,7 @@ module _ (π : Prices) (rows : List RowKind) (shut opener : ℕ → ℕ) where
   row-again (is-loop (for x) t last) i testing s c = refl
 
   -- the counts and the place where it waits
-  abbrev waitTally : Place → Tally
+  abbrev waitTally : Place → TurnCounts
   waitTally m = begun (viewAt rows (m .row)) (m .phase) (m .row) (m .tally)
 
   abbrev waitPlace : Place → Place
@@ -219,13 +219,13 @@ module _ (π : Prices) (rows : List RowKind) (shut opener : ℕ → ℕ) where
     pub again : (s : State) → next π rows shut opener (record { row = m .row; phase = m .phase; now = s; tally = waitTally m })
         ≡ next π rows shut opener (record { row = m .row; phase = m .phase; now = s; tally = m .tally })
 
-  waits-next : (m : Place) (i : ℕ) (s : State) (c : Tally) → next π rows shut opener m ≡ over Spent i s c → (s ≡ m .now) × (c ≡ waitTally m) × Waits m i
+  waits-next : (m : Place) (i : ℕ) (s : State) (c : TurnCounts) → next π rows shut opener m ≡ over Spent i s c → (s ≡ m .now) × (c ≡ waitTally m) × Waits m i
   unfolding next chosen
   waits-next m i s c e =
       let (p, q, l, z) = spent (subst (λ x. Step π 0 (m .now) (m .tally) (waitTally m) x (next π rows shut opener (given 0 m))) e (step-next π 0 rows shut opener m)) in
       (p, q, record { stop = e ∙ (λ k. over Spent i (p k) (q k)); carried = l; fewer = z; again = by (ltb (m .row) (length rows)) _ e })
     where
-      spent : {s t : State} {b c c′ : Tally} {y : Next} → Step π 0 s b c (over Spent i t c′) y → (t ≡ s) × (c′ ≡ c) × (s .left < dearest π) × Above 0 b c
+      spent : {s t : State} {b c c′ : TurnCounts} {y : Next} → Step π 0 s b c (over Spent i t c′) y → (t ≡ s) × (c′ ≡ c) × (s .left < dearest π) × Above 0 b c
       spent (ends u l) = absurd u
       spent (waits l z) = (refl, refl, l, z)
 
@@ -243,7 +243,7 @@ module _ (π : Prices) (some-ticks : 1 ≤ π .test) (rows : List RowKind) (shut
   reached-more d zero m p e = let same : m ≡ p = cc in ap (λ z. more (given d z)) same
   reached-more d (suc n) m p e = by (step-next π d rows shut opener m) e (λ w. reached-more d n w p)
     where
-      by : {s : State} {b c : Tally} {x y : Next} → Step π d s b c x y → steps π rows shut opener n x ≡ more p
+      by : {s : State} {b c : TurnCounts} {x y : Next} → Step π d s b c x y → steps π rows shut opener n x ≡ more p
           → ((w : Place) → steps π rows shut opener n (more w) ≡ more p → steps π rows shut opener n (more (given d w)) ≡ more (given d p)) → steps π rows shut opener n y ≡ more (given d p)
       by (on {m = w} l z) e ih = ih w e
       by (ends {e = f} {i = i} {t = t} {c′ = c} u l) e ih = absurd (let z : _≡_ {A = ℕ} 0 1 = cc (steps-over π some-ticks rows shut opener fit n f i t c) in omega arith)
@@ -255,14 +255,14 @@ module _ (π : Prices) (some-ticks : 1 ≤ π .test) (rows : List RowKind) (shut
   steps-less zero a = omega arith
   steps-less (suc n) (more m) = omega (arith, steps-less n (next π rows shut opener m), by (step-next π 0 rows shut opener m))
     where
-      by : {s : State} {b c : Tally} {x y : Next} → Step π 0 s b c x y → leftOf x ≤ s .left
+      by : {s : State} {b c : TurnCounts} {x y : Next} → Step π 0 s b c x y → leftOf x ≤ s .left
       by (on l z) = l
       by (ends u l) = l
       by (waits l z) = omega arith
   steps-less (suc n) (over e i s c) = omega arith
 
   -- no count rises by more than the rank falls
-  pub steps-room : (n : ℕ) (m p : Place) → steps π rows shut opener n (more m) ≡ more p → (b : Tally) (k : ℕ) → Above k b (m .tally)
+  pub steps-room : (n : ℕ) (m p : Place) → steps π rows shut opener n (more m) ≡ more p → (b : TurnCounts) (k : ℕ) → Above k b (m .tally)
       → (j : ℕ) × Above j b (p .tally) × (j + rank (length rows) p ≤ k + rank (length rows) m)
   unfolding steps
   steps-room zero m p e b k z =
@@ -270,7 +270,7 @@ module _ (π : Prices) (some-ticks : 1 ≤ π .test) (rows : List RowKind) (shut
       subst (λ r. (j : ℕ) × Above j b (r .tally) × (j + rank (length rows) r ≤ k + rank (length rows) m)) same (k, z, omega arith)
   steps-room (suc n) m p e b k z = by (next π rows shut opener m) refl (step-next π 0 rows shut opener m) e (λ w r y. steps-room n w p r b (k + 1) y)
     where
-      by : (x : Next) → next π rows shut opener m ≡ x → {s : State} {c : Tally} {y : Next} → Step π 0 s (m .tally) c x y → steps π rows shut opener n x ≡ more p
+      by : (x : Next) → next π rows shut opener m ≡ x → {s : State} {c : TurnCounts} {y : Next} → Step π 0 s (m .tally) c x y → steps π rows shut opener n x ≡ more p
           → ((w : Place) → steps π rows shut opener n (more w) ≡ more p → Above (k + 1) b (w .tally) → (j : ℕ) × Above j b (p .tally) × (j + rank (length rows) p ≤ k + 1 + rank (length rows) w))
           → (j : ℕ) × Above j b (p .tally) × (j + rank (length rows) p ≤ k + rank (length rows) m)
       by (more w) q (on l y) e ih =
@@ -281,7 +281,7 @@ module _ (π : Prices) (some-ticks : 1 ≤ π .test) (rows : List RowKind) (shut
 
   -- from a on it ends so; or it waits there, with its counts
   pub data Pauses (a : Next) : Next → Type 0 where
-    finished : {e : Ending} {i : ℕ} {s : State} {c : Tally} (n : ℕ) → steps π rows shut opener n a ≡ over e i s c → Unspent e → Pauses a (over e i s c)
+    finished : {e : Ending} {i : ℕ} {s : State} {c : TurnCounts} (n : ℕ) → steps π rows shut opener n a ≡ over e i s c → Unspent e → Pauses a (over e i s c)
     waiting : {m : Place} {i : ℕ} (n : ℕ) → steps π rows shut opener n a ≡ more m → Waits π rows shut opener m i → Pauses a (more (waitPlace π rows shut opener m))
 
   -- one step more
@@ -291,7 +291,7 @@ module _ (π : Prices) (some-ticks : 1 ≤ π .test) (rows : List RowKind) (shut
   step-more (suc n) (more p) m e = step-more n (next π rows shut opener p) m e
   step-more (suc n) (over f i s c) m e = absurd (let z : _≡_ {A = ℕ} 0 1 = cc in omega arith)
 
-  stopped-pauses : (a : Next) (k : ℕ) (m : Place) → steps π rows shut opener k a ≡ more m → (e : Ending) (i : ℕ) (s : State) (c : Tally)
+  stopped-pauses : (a : Next) (k : ℕ) (m : Place) → steps π rows shut opener k a ≡ more m → (e : Ending) (i : ℕ) (s : State) (c : TurnCounts)
       → next π rows shut opener m ≡ over e i s c → Pauses a (stopped m e i s c)
   unfolding stopped
   stopped-pauses a k m r Ended i s c q = finished (suc k) (step-more k a m r ∙ q) tt
@@ -311,7 +311,7 @@ module _ (π : Prices) (some-ticks : 1 ≤ π .test) (rows : List RowKind) (shut
   onward-pauses a (suc n) k m r l (over e i s c) q = stopped-pauses a k m r e i s c q
 
   -- of the place from which it runs on only row and phase are kept where it stops
-  onward-from : (n : ℕ) (m : Place) (c : Tally) (x : Next)
+  onward-from : (n : ℕ) (m : Place) (c : TurnCounts) (x : Next)
       → onward π rows shut opener (suc n) m x ≡ onward π rows shut opener (suc n) (record { row = m .row; phase = m .phase; now = m .now; tally = c }) x
   unfolding onward stopped
   onward-from n m c (more p) = refl
@@ -345,7 +345,7 @@ module _ (π : Prices) (some-ticks : 1 ≤ π .test) (rows : List RowKind) (shut
 
   -- ---- it pauses in one way
   data Final : Next → Next → Type 0 where
-    at-end : {e : Ending} {i : ℕ} {s : State} {c : Tally} → Unspent e → Final (over e i s c) (over e i s c)
+    at-end : {e : Ending} {i : ℕ} {s : State} {c : TurnCounts} → Unspent e → Final (over e i s c) (over e i s c)
     at-wait : {m : Place} {i : ℕ} → Waits π rows shut opener m i → Final (more m) (more (waitPlace π rows shut opener m))
 
   final-once : {a x y : Next} → Final a x → Final a y → x ≡ y
@@ -358,7 +358,7 @@ module _ (π : Prices) (some-ticks : 1 ≤ π .test) (rows : List RowKind) (shut
   final-last n (at-end u) g = final-once (at-end u) g
   final-last n {y = y} (at-wait {i = i} w) g = by (subst (λ z. Final z y) (ap (steps π rows shut opener n) (w .stop) ∙ steps-over π some-ticks rows shut opener fit n Spent i _ _) g)
     where
-      by : {A : Type 0} {s : State} {c : Tally} {y : Next} → Final (over Spent i s c) y → A
+      by : {A : Type 0} {s : State} {c : TurnCounts} {y : Next} → Final (over Spent i s c) y → A
       by (at-end u) = absurd u
 
   final-steps : (n k : ℕ) (a : Next) {x y : Next} → Final (steps π rows shut opener n a) x → Final (steps π rows shut opener k a) y → x ≡ y
@@ -377,7 +377,7 @@ module _ (π : Prices) (some-ticks : 1 ≤ π .test) (rows : List RowKind) (shut
   pauses-once {a} h k = final-steps (final h .0) (final k .0) a (final h .1) (final k .1)
 
   -- for code: some steps to place m, and a last one from there
-  pub runs-on-is : (k : ℕ) (m w : Place) (e : Ending) (i : ℕ) (s : State) (c : Tally) → steps π rows shut opener k (more m) ≡ more w → next π rows shut opener w ≡ over e i s c
+  pub runs-on-is : (k : ℕ) (m w : Place) (e : Ending) (i : ℕ) (s : State) (c : TurnCounts) → steps π rows shut opener k (more m) ≡ more w → next π rows shut opener w ≡ over e i s c
       → runsOn π rows shut opener m ≡ stopped w e i s c
   runs-on-is k m w e i s c r q = pauses-once (runs-on m) (stopped-pauses (more m) k w r e i s c q)
 

@@ -17,7 +17,7 @@ use Rattle.rules.specs.declared.Ending.{Ending}
 use Rattle.rules.specs.declared.Ending.the-variants.{Ended, Spent, NoPick}
 use Rattle.rules.specs.Values.{Store, compares, upward, passes}
 use Rattle.rules.specs.Blocks.{Test, Form, while, do-while, for, Block, done, pick, loop, hold}
-use Rattle.rules.specs.Steps.{step, even}
+use Rattle.rules.specs.Steps.{step, equalEnds}
 use Rattle.rules.specs.Ranges.{Range, Env, single, bounds, edge, Sort, rising, falling, ordered, sort, isDo, atStart}
 use Rattle.rules.specs.Trips.{nothing, untested, led, turnsOf, isOwn, wayOf, ownTrip, trip, turns, inside, after}
 use Rattle.rules.specs.Turns.{turnedUp, climb, scale, whileTurns, moved, atTest}
@@ -27,7 +27,7 @@ use Rattle.rules.specs.Questions.{verdict, loopsVerdict}
 use Rattle.rules.specs.Count.{worstStart}
 use Rattle.rules.specs.Run.{State, Entry, Out, go, holds, turning, run}
 use Rattle.rules.specs.Answers.{answer, runTree, own, sumAt, mostAt}
-use Rattle.rules.specs.Scripts.{All, none, some, and-then, Pairwise, envOf, storeOf, treeOf, reportTicks, reportLines}
+use Rattle.rules.specs.Scripts.{All, none, some, and-then, Pairwise, startEnv, storeOf, treeOf, reportTicks, reportLines}
 use Rattle.rules.specs.Calls.{pricesOf, loopRows, countsAt, runScript}
 use Rattle.rules.specs.Claim.{Counts-fit, Unspent, Keeps, Demand3}
 use Rattle.rules.specs.Reached.{Outside, here, after-row, after-pick, after-loop, Reached, Bytes, CanHappen, FiguresHappen, FiguresHappenFile}
@@ -51,18 +51,18 @@ use Rattle.rules.proofs.Ways.{CourseOf, Good-trip, inside-full, limit, 
 
 -- ---- the slow step: it fits where the step does, its ends are equal, and its figure is the same
 abbrev Slows : Bool → Sort → Step → Range → Range → Range → Range → ℤ → Type 0
-Slows up d st s r r′ n e = Fit (slowed up st) d s r′ n e × T (even (slowed up st)) × (whileTurns (slowed up st) d r′ n e ≡ whileTurns st d r n e)
+Slows up d st s r r′ n e = Fit (slowed up st) d s r′ n e × T (equalEnds (slowed up st)) × (whileTurns (slowed up st) d r′ n e ≡ whileTurns st d r n e)
 
 module _ (s r r′ n : Range) (e : ℤ) where
   slows-up : (st : Step) → r′ .lo ≡ r .lo → Fit st rising s r n e → Slows true rising st s r r′ n e
-  unfolding Fit even whileTurns
+  unfolding Fit equalEnds whileTurns
   slows-up (Add a b) h fit = (fit, eq-refl a, ap (λ t. climb (record { start = t; limit = e; step = a })) h)
   slows-up (Grow f g) h fit = (fit, eqb-refl f, ap (λ t. scale t e f) h)
   slows-up (Shrink f g) h fit = absurd fit
   slows-up Unknown h fit = absurd fit
 
   slows-down : (st : Step) → r′ .hi ≡ r .hi → Fit st falling s r n e → Slows false falling st s r r′ n e
-  unfolding Fit even whileTurns
+  unfolding Fit equalEnds whileTurns
   slows-down (Add a b) h fit = (fit, eq-refl b, ap (λ t. climb (turnedUp (record { start = t; limit = e; step = b }))) h)
   slows-down (Grow f g) h fit = absurd fit
   slows-down (Shrink f g) h fit = (fit, eqb-refl f, ap (λ t. scale e t f) h)
@@ -330,8 +330,8 @@ pub figures-happen : FiguresHappen
 unfolding FiguresHappen CanHappen Demand3 runScript runTree verdict
 figures-happen π one script ok store h l m form test body ρ at own o s n never =
     let tree = tree-along Right right script (ok .legal) in
-    let (yes-loops, _) = then-yes (loopsVerdict (envOf (script .ranges)) (treeOf (script .rows))) _ (ok .loops) in
-    let same = all-at _ (lines-of (treeOf (script .rows)) (alike 1) any (envOf (script .ranges)) 0 (length (script .rows)) (tree .placed)) m .only _ (line-in at) refl in
+    let (yes-loops, _) = then-yes (loopsVerdict (startEnv (script .ranges)) (treeOf (script .rows))) _ (ok .loops) in
+    let same = all-at _ (lines-of (treeOf (script .rows)) (alike 1) any (startEnv (script .ranges)) 0 (length (script .rows)) (tree .placed)) m .only _ (line-in at) refl in
     let e : turns form ρ test body ≡ l .turns = ap (λ (k : Line). k .turns) same in
     let t : totalOf (alike 1) any form ρ test body ≡ l .total = ap (λ (k : Line). k .total) same in
     finish l _ _ _ never (λ picks. within picks .unspent) (λ picks. all-at _ (counts-kept _ _ (loopRows 0 (script .rows)) (within picks .counted)) m) (omega (arith, once form ρ test body))

@@ -30,11 +30,11 @@ no-zero : {A : Type 0} (q : ℕ) → suc q ≡ 0 → A
 no-zero q e = absurd (omega arith)
 
 -- of two questions that have yes
-pub sooner-yes : (p q : ℕ) → File.sooner p q ≡ 0 → (p ≡ 0) × (q ≡ 0)
-unfolding File.sooner
-sooner-yes zero q e = (refl, e)
-sooner-yes (suc p) zero e = no-zero p e
-sooner-yes (suc p) (suc q) e = go (leb (File.turnOf (suc p)) (File.turnOf (suc q))) e
+pub refusal-yes : (p q : ℕ) → File.firstRefusal p q ≡ 0 → (p ≡ 0) × (q ≡ 0)
+unfolding File.firstRefusal
+refusal-yes zero q e = (refl, e)
+refusal-yes (suc p) zero e = no-zero p e
+refusal-yes (suc p) (suc q) e = go (leb (File.turnOf (suc p)) (File.turnOf (suc q))) e
   where
     go : (b : Bool) → cond b (suc p) (suc q) ≡ 0 → (suc p ≡ 0) × (suc q ≡ 0)
     go true h = no-zero p h
@@ -68,13 +68,13 @@ leaves-yes vars (constant z) e =
 leaves-yes vars (variable v) e = (tt, ltb→lt v vars (yes-of (ltb v vars) 4 e))
 leaves-yes vars (group x) e = leaves-yes vars x e
 leaves-yes vars (apply o x y) e =
-    let (a, b) = sooner-yes _ _ e in
+    let (a, b) = refusal-yes _ _ e in
     let (c, d) = leaves-yes vars x a in
     let (f, g) = leaves-yes vars y b in
     ((c, f), (d, g))
 
 pub expr-yes : (vars : ℕ) (p : Parsed) → File.asksExpr vars p ≡ 0 → ExprLimits (exprIn p) × ExprBelow vars (exprIn p)
-expr-yes vars (parsed x s) e = leaves-yes vars x (sooner-yes _ _ e .1)
+expr-yes vars (parsed x s) e = leaves-yes vars x (refusal-yes _ _ e .1)
 expr-yes vars shapeless e = no-zero _ e
 
 -- a number not below k, as a natural number
@@ -122,16 +122,16 @@ module _ (vars : ℕ) (w : ℕ → Word) (x : ℕ → Parsed) where
   move-fine : (n : Name) (k : RowKind) → File.moveRow vars w x n ≡ Read k → Fine vars k
   unfolding File.moveRow
   move-fine n k e = checked-yes (Fine vars) _ _ k e λ h.
-      let (a, b) = sooner-yes _ _ h in
-      let (c, _) = sooner-yes _ _ b in
+      let (a, b) = refusal-yes _ _ h in
+      let (c, _) = refusal-yes _ _ b in
       (change-yes n (w 2) c, variable-yes vars (w 1) a)
 
   test-fine : File.asksTest vars w x ≡ 0 → (File.variableOf (w 1) < vars) × ExprLimits (exprIn (x 3)) × ExprBelow vars (exprIn (x 3))
   unfolding File.asksTest
   test-fine h =
-      let (a, b) = sooner-yes _ _ h in
-      let (_, d) = sooner-yes _ _ b in
-      let (e, _) = sooner-yes _ _ d in
+      let (a, b) = refusal-yes _ _ h in
+      let (_, d) = refusal-yes _ _ b in
+      let (e, _) = refusal-yes _ _ d in
       let (f, g) = expr-yes vars (x 3) e in
       (variable-yes vars (w 1) a, f, g)
 
@@ -142,8 +142,8 @@ module _ (vars : ℕ) (w : ℕ → Word) (x : ℕ → Parsed) where
   named-fine : (n : Name) (k : RowKind) → File.namedRow vars w x n ≡ Read k → Fine vars k
   unfolding File.setRow File.cueRow File.whileRow File.doRow File.forRow File.asksFor File.offRow File.holdRow
   named-fine Name.Set k e = checked-yes (Fine vars) _ _ k e λ h.
-      let (a, b) = sooner-yes _ _ h in
-      let (c, _) = sooner-yes _ _ b in
+      let (a, b) = refusal-yes _ _ h in
+      let (c, _) = refusal-yes _ _ b in
       let (f, g) = expr-yes vars (x 2) c in
       (f, (variable-yes vars (w 1) a, g))
   named-fine Name.Add k e = move-fine Name.Add k e
@@ -151,24 +151,24 @@ module _ (vars : ℕ) (w : ℕ → Word) (x : ℕ → Parsed) where
   named-fine Name.Mul k e = move-fine Name.Mul k e
   named-fine Name.Div k e = move-fine Name.Div k e
   named-fine Name.Off k e = checked-yes (Fine vars) _ _ k e λ h.
-      let (a, b) = sooner-yes _ _ h in
-      let (c, d) = sooner-yes _ _ b in
-      let (_, f) = sooner-yes _ _ d in
-      let (g, _) = sooner-yes _ _ f in
+      let (a, b) = refusal-yes _ _ h in
+      let (c, d) = refusal-yes _ _ b in
+      let (_, f) = refusal-yes _ _ d in
+      let (g, _) = refusal-yes _ _ f in
       (number-yes lowest highest (w 4) g, (variable-yes vars (w 1) a, variable-yes vars (w 2) c))
-  named-fine Name.Hold k e = checked-yes (Fine vars) _ _ k e λ h. let (a, _) = sooner-yes _ _ h in (tt, variable-yes vars (w 1) a)
-  named-fine Name.Cue k e = checked-yes (Fine vars) _ _ k e λ h. let (a, _) = sooner-yes _ _ h in (omega (ints, amount-yes 0 (pos 9_999) (w 1) a .1), tt)
+  named-fine Name.Hold k e = checked-yes (Fine vars) _ _ k e λ h. let (a, _) = refusal-yes _ _ h in (tt, variable-yes vars (w 1) a)
+  named-fine Name.Cue k e = checked-yes (Fine vars) _ _ k e λ h. let (a, _) = refusal-yes _ _ h in (omega (ints, amount-yes 0 (pos 9_999) (w 1) a .1), tt)
   named-fine Name.Pick k e = bare-fine RowKind.Pick k (tt, tt) e
   named-fine Name.Else k e = bare-fine RowKind.Else k (tt, tt) e
   named-fine Name.End k e = bare-fine RowKind.End k (tt, tt) e
   named-fine Name.While k e = checked-yes (Fine vars) _ _ k e λ h. let (a, b, c) = test-fine h in (b, (a, c))
   named-fine Name.Do k e = checked-yes (Fine vars) _ _ k e λ h. let (a, b, c) = test-fine h in (b, (a, c))
   named-fine Name.For k e = checked-yes (Fine vars) _ _ k e λ h.
-      let (a, b) = sooner-yes _ _ h in
-      let (c, d) = sooner-yes _ _ b in
-      let (_, f) = sooner-yes _ _ d in
-      let (g, i) = sooner-yes _ _ f in
-      let (j, _) = sooner-yes _ _ i in
+      let (a, b) = refusal-yes _ _ h in
+      let (c, d) = refusal-yes _ _ b in
+      let (_, f) = refusal-yes _ _ d in
+      let (g, i) = refusal-yes _ _ f in
+      let (j, _) = refusal-yes _ _ i in
       let (sl, sb) = expr-yes vars (x 2) c in
       let (xl, xb) = expr-yes vars (x 4) g in
       ((sl, xl, step-yes (w 5) (w 6) j), (variable-yes vars (w 1) a, sb, xb))
@@ -208,12 +208,12 @@ all-snoc [] x none q = some q none
 all-snoc (y ∷ l) x (some p a) q = some p (all-snoc l x a q)
 
 -- the ranges
-range-fine : (w : ℕ → Word) → File.asksRange w ≡ 0 → RangeLimits (File.rangeOf w)
-unfolding File.asksRange File.rangeOf File.asksOrder
+range-fine : (w : ℕ → Word) → File.asksRange w ≡ 0 → RangeLimits (File.rangeWords w)
+unfolding File.asksRange File.rangeWords File.asksOrder
 range-fine w h =
-    let (a, b) = sooner-yes _ _ h in
-    let (c, d) = sooner-yes _ _ b in
-    let (_, f) = sooner-yes _ _ d in
+    let (a, b) = refusal-yes _ _ h in
+    let (c, d) = refusal-yes _ _ b in
+    let (_, f) = refusal-yes _ _ d in
     (number-yes lowest highest (w 0) a .0, leZ-yes (yes-of (leZ (File.numberOf (w 0)) (File.numberOf (w 1))) 3 f), number-yes lowest highest (w 1) c .1)
 
 ranges-fine : (n p : ℕ) (ls : List (List ℕ)) (done rs : List Range) (ms : List (List ℕ)) → All RangeLimits done
@@ -223,8 +223,8 @@ ranges-fine zero p ls done rs ms a e = let h : done ≡ rs = cc in (subst (All R
 ranges-fine (suc n) p ls done rs ms a e =
     let w = nextWords File.rangeKey ls in
     let (q, f) = unless-yes _ p _ rs ms e in
-    let (g, l) = ranges-fine n (suc p) (nextLines ls) (done ++ (File.rangeOf w ∷ [])) rs ms (all-snoc done _ a (range-fine w q)) f in
-    (g, omega (arith, length-append done (File.rangeOf w ∷ [])))
+    let (g, l) = ranges-fine n (suc p) (nextLines ls) (done ++ (File.rangeWords w ∷ [])) rs ms (all-snoc done _ a (range-fine w q)) f in
+    (g, omega (arith, length-append done (File.rangeWords w ∷ [])))
 
 -- the rows
 pub nest-snoc : (ks : List RowKind) (k : RowKind) (s : Nest) → nestRows (ks ++ (k ∷ [])) s ≡ andRows (nestRows ks s) (nestRow (viewOf k))
@@ -283,7 +283,7 @@ count-fine : (key : List ℕ) (most p : ℕ) (ls ms : List (List ℕ)) (n : ℕ)
 unfolding File.countLine
 count-fine key most p ls ms n e =
     let (q, f) = unless-yes _ p _ n ms e in
-    let (a, _) = sooner-yes _ _ q in
+    let (a, _) = refusal-yes _ _ q in
     let h : natAbs (File.numberOf (nextWords key ls 0)) ≡ n = cc in
     omega (ints, amount-yes 0 (pos most) (nextWords key ls 0) a .1, h)
 
@@ -307,7 +307,7 @@ rows-legal vars ranges ls ms script v a l e = by-count (then-yes _ _ script ms e
     by-rows : (n : ℕ) → n ≤ 256 → (k : List (List ℕ)) → First (File.rowLines vars n (4 + vars) k File.noRows) (λ rows rest. File.lastLine (4 + vars + n) ranges rows rest) script ms → Legal script
     by-rows n h k (first rows rest e₁ e₂) =
         let (q, f) = unless-yes _ (4 + vars + n) _ script ms e₂ in
-        let (_, closed) = sooner-yes _ _ q in
+        let (_, closed) = refusal-yes _ _ q in
         let (s, len) = rows-fine vars n (4 + vars) k File.noRows rows rest (no-rows vars) e₁ in
         let same : record { ranges = ranges; rows = rows .kinds } ≡ script = cc in
         subst Legal same (record {

@@ -16,7 +16,7 @@ use Rattle.rules.specs.declared.Ending.the-variants.{Ended, Spent, NoPic
 use Rattle.rules.specs.Ranges.{Range}
 use Rattle.rules.specs.Figures.{Prices}
 use Rattle.rules.specs.Questions.{Verdict, passed, refused, verdict}
-use Rattle.rules.specs.Scripts.{Script, envOf, storeOf, treeOf}
+use Rattle.rules.specs.Scripts.{Script, startEnv, storeOf, treeOf}
 use Rattle.rules.specs.File.{Reading, read, fileScript}
 use Rattle.rules.specs.Report.{scriptReport}
 use Rattle.rules.specs.Run.{Entry}
@@ -34,7 +34,7 @@ judgedBy script (refused q p) = refuses q p
 
 -- 2 to 13
 unfoldable pub judgedFile : Prices → Reading Script → Judged
-judgedFile π (read script ls) = judgedBy script (verdict π (length (script .rows)) (envOf (script .ranges)) (treeOf (script .rows)))
+judgedFile π (read script ls) = judgedBy script (verdict π (length (script .rows)) (startEnv (script .ranges)) (treeOf (script .rows)))
 judgedFile π (Reading.refused q p) = refuses q p
 
 -- "The caller lends four prices, 1 to 1,000 each: arithmetic (set, for starts and for steps with it), cue, pick, test"

@@ -2,7 +2,7 @@
 use mathlib.Core.Bool.{Bool, false, not, cond, _&&_, _||_}
 use Prim.Native.Nat.{ℕ}
 use lib.IntN.{ℤ}
-use Rattle.ints.specs.Ints.{minZ, maxZ, drawn}
+use Rattle.ints.specs.Ints.{minZ, maxZ, clamp}
 use Rattle.rules.specs.declared.Value.{Value}
 use Rattle.rules.specs.declared.Operator.{Operator}
 use Rattle.rules.specs.Expressions.{operate, Expr, meaning}
@@ -14,8 +14,8 @@ abbrev pub between : ℤ → ℤ → Value
 between lo hi = record { lo = lo; hi = hi; past = false }
 
 -- the range of a value
-abbrev pub rangeOf : Value → Range
-rangeOf v = record { lo = v .lo; hi = v .hi }
+abbrev pub rangeIn : Value → Range
+rangeIn v = record { lo = v .lo; hi = v .hi }
 
 -- the least of the four results on the ends, and the largest
 unfoldable pub least : Operator → Range → Range → ℤ
@@ -26,12 +26,12 @@ most o r s = maxZ (maxZ (operate o (r .lo) (s .lo)) (operate o (r .lo) (s .hi)))
 
 -- from a least to a largest result: drawn back, and whether one is past ±L
 unfoldable pub held : ℤ → ℤ → Value
-held l m = record { lo = drawn lowest highest l; hi = drawn lowest highest m; past = not (inLimits l && inLimits m) }
+held l m = record { lo = clamp lowest highest l; hi = clamp lowest highest m; past = not (inLimits l && inLimits m) }
 
 -- an operator on two values
 unfoldable pub combined : Operator → Value → Value → Value
 combined o a b =
-    let v = held (least o (rangeOf a) (rangeOf b)) (most o (rangeOf a) (rangeOf b)) in
+    let v = held (least o (rangeIn a) (rangeIn b)) (most o (rangeIn a) (rangeIn b)) in
     record { lo = v .lo; hi = v .hi; past = a .past || b .past || v .past }
 
 -- an expression

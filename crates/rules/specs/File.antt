@@ -27,10 +27,10 @@ unfoldable pub turnOf : ℕ → ℕ
 turnOf q = cond (eqb q 17) 7 (2 * q)
 
 -- Questions 3, 17, 4 and 5 are asked of each word; 0: all have yes. All of them on one line go in order, so the line's first no has the least turn.
-unfoldable pub sooner : ℕ → ℕ → ℕ
-sooner zero q = q
-sooner (suc p) zero = suc p
-sooner (suc p) (suc q) = cond (leb (turnOf (suc p)) (turnOf (suc q))) (suc p) (suc q)
+unfoldable pub firstRefusal : ℕ → ℕ → ℕ
+firstRefusal zero q = q
+firstRefusal (suc p) zero = suc p
+firstRefusal (suc p) (suc q) = cond (leb (turnOf (suc p)) (turnOf (suc q))) (suc p) (suc q)
 
 -- nothing after the last word
 abbrev pub asksEnd : Word → ℕ
@@ -68,11 +68,11 @@ unfoldable pub asksLeaves : ℕ → Expr → ℕ
 asksLeaves vars (constant z) = cond (leZ lowest z && leZ z highest) 0 4
 asksLeaves vars (variable v) = cond (ltb v vars) 0 5
 asksLeaves vars (group x) = asksLeaves vars x
-asksLeaves vars (apply o x y) = sooner (asksLeaves vars x) (asksLeaves vars y)
+asksLeaves vars (apply o x y) = firstRefusal (asksLeaves vars x) (asksLeaves vars y)
 
 -- X: an expression
 abbrev pub asksExpr : ℕ → Parsed → ℕ
-asksExpr vars (parsed x s) = sooner (asksSize x) (asksLeaves vars x)
+asksExpr vars (parsed x s) = firstRefusal (asksSize x) (asksLeaves vars x)
 asksExpr vars shapeless = 3
 
 -- a comparison
@@ -190,25 +190,25 @@ module _ (vars : ℕ) (word : ℕ → Word) (expr : ℕ → Parsed) where
 
   -- `set v0 X`
   unfoldable pub setRow : RowRead
-  setRow = checked (sooner (asksVariable vars (word 1)) (sooner (asksExpr vars (expr 2)) (asksEnd (word 3)))) (Set (variableOf (word 1)) (exprIn (expr 2)))
+  setRow = checked (firstRefusal (asksVariable vars (word 1)) (firstRefusal (asksExpr vars (expr 2)) (asksEnd (word 3)))) (Set (variableOf (word 1)) (exprIn (expr 2)))
 
   -- `add v0 C`, `sub v0 C`, `mul v0 C`, `div v0 C`
   unfoldable pub moveRow : Name → RowRead
-  moveRow n = checked (sooner (asksVariable vars (word 1)) (sooner (asksChange n (word 2)) (asksEnd (word 3)))) (Move (variableOf (word 1)) (changeOf n (word 2)))
+  moveRow n = checked (firstRefusal (asksVariable vars (word 1)) (firstRefusal (asksChange n (word 2)) (asksEnd (word 3)))) (Move (variableOf (word 1)) (changeOf n (word 2)))
 
   -- card 12: `off v0 v1 > C` (< <= > >=; C from −L to L)
   unfoldable pub offRow : RowRead
   offRow =
-      checked (sooner (asksVariable vars (word 1)) (sooner (asksVariable vars (word 2)) (sooner (asksOrdered (word 3)) (sooner (asksNumber lowest highest (word 4)) (asksEnd (word 5))))))
+      checked (firstRefusal (asksVariable vars (word 1)) (firstRefusal (asksVariable vars (word 2)) (firstRefusal (asksOrdered (word 3)) (firstRefusal (asksNumber lowest highest (word 4)) (asksEnd (word 5))))))
       (Off (variableOf (word 1)) (variableOf (word 2)) (comparisonOf (word 3)) (numberOf (word 4)))
 
   -- `cue N` (0 to 9,999)
   unfoldable pub cueRow : RowRead
-  cueRow = checked (sooner (asksNumber (pos 0) (pos 9_999) (word 1)) (asksEnd (word 2))) (Cue (natAbs (numberOf (word 1))))
+  cueRow = checked (firstRefusal (asksNumber (pos 0) (pos 9_999) (word 1)) (asksEnd (word 2))) (Cue (natAbs (numberOf (word 1))))
 
   -- the test of a `while v0 <= X` or `do v0 <= X`
   unfoldable pub asksTest : ℕ
-  asksTest = sooner (asksVariable vars (word 1)) (sooner (asksComparison (word 2)) (sooner (asksExpr vars (expr 3)) (asksEnd (word 4))))
+  asksTest = firstRefusal (asksVariable vars (word 1)) (firstRefusal (asksComparison (word 2)) (firstRefusal (asksExpr vars (expr 3)) (asksEnd (word 4))))
 
   -- `while v0 <= X`
   unfoldable pub whileRow : RowRead
@@ -221,8 +221,8 @@ module _ (vars : ℕ) (word : ℕ → Word) (expr : ℕ → Parsed) where
   -- the words of `for v0 X <= Y add C`
   unfoldable pub asksFor : ℕ
   asksFor =
-      sooner (asksVariable vars (word 1)) (sooner (asksExpr vars (expr 2)) (sooner (asksComparison (word 3)) (sooner (asksExpr vars (expr 4))
-      (sooner (asksStep (word 5) (word 6)) (asksEnd (word 7))))))
+      firstRefusal (asksVariable vars (word 1)) (firstRefusal (asksExpr vars (expr 2)) (firstRefusal (asksComparison (word 3)) (firstRefusal (asksExpr vars (expr 4))
+      (firstRefusal (asksStep (word 5) (word 6)) (asksEnd (word 7))))))
 
   -- "start X, limit Y"
   unfoldable pub forRow : RowRead
@@ -230,7 +230,7 @@ module _ (vars : ℕ) (word : ℕ → Word) (expr : ℕ → Parsed) where
 
   -- card 12: `hold v0`
   unfoldable pub holdRow : RowRead
-  holdRow = checked (sooner (asksVariable vars (word 1)) (asksEnd (word 2))) (Hold (variableOf (word 1)))
+  holdRow = checked (firstRefusal (asksVariable vars (word 1)) (asksEnd (word 2))) (Hold (variableOf (word 1)))
 
   -- "Every row is one of these kinds", by its name
   abbrev pub namedRow : Name → RowRead
@@ -312,12 +312,12 @@ asksOne Other = 3
 
 -- `script=1`
 unfoldable pub scriptLine : List (List ℕ) → Reading ℕ
-scriptLine ls = unless (sooner (asksOne (nextWords scriptKey ls 0)) (asksEnd (nextWords scriptKey ls 1))) 1 (read 1 (nextLines ls))
+scriptLine ls = unless (firstRefusal (asksOne (nextWords scriptKey ls 0)) (asksEnd (nextWords scriptKey ls 1))) 1 (read 1 (nextLines ls))
 
 -- `vars=V` (0 to 16), `rows=R` (0 to 256)
 unfoldable pub countLine : List ℕ → ℕ → ℕ → List (List ℕ) → Reading ℕ
 countLine key most p ls =
-    unless (sooner (asksNumber (pos 0) (pos most) (nextWords key ls 0)) (asksEnd (nextWords key ls 1))) p
+    unless (firstRefusal (asksNumber (pos 0) (pos most) (nextWords key ls 0)) (asksEnd (nextWords key ls 1))) p
     (read (natAbs (numberOf (nextWords key ls 0))) (nextLines ls))
 
 -- "LO at most HI"
@@ -327,17 +327,17 @@ asksOrder lo hi = cond (leZ (numberOf lo) (numberOf hi)) 0 4
 -- "`range=LO HI` (−L to L, LO at most HI)"
 unfoldable pub asksRange : (ℕ → Word) → ℕ
 asksRange w =
-    sooner (asksNumber lowest highest (w 0)) (sooner (asksNumber lowest highest (w 1)) (sooner (asksEnd (w 2)) (asksOrder (w 0) (w 1))))
+    firstRefusal (asksNumber lowest highest (w 0)) (firstRefusal (asksNumber lowest highest (w 1)) (firstRefusal (asksEnd (w 2)) (asksOrder (w 0) (w 1))))
 
 -- the range of a line's words
-unfoldable pub rangeOf : (ℕ → Word) → Range
-rangeOf w = record { lo = numberOf (w 0); hi = numberOf (w 1) }
+unfoldable pub rangeWords : (ℕ → Word) → Range
+rangeWords w = record { lo = numberOf (w 0); hi = numberOf (w 1) }
 
 -- "V lines `range=LO HI` (first for v0)": n lines from line p on, after those read
 unfoldable pub rangeLines : ℕ → ℕ → List (List ℕ) → List Range → Reading (List Range)
 rangeLines zero p ls done = read done ls
 rangeLines (suc n) p ls done =
-    unless (asksRange (nextWords rangeKey ls)) p (rangeLines n (suc p) (nextLines ls) (done ++ (rangeOf (nextWords rangeKey ls) ∷ [])))
+    unless (asksRange (nextWords rangeKey ls)) p (rangeLines n (suc p) (nextLines ls) (done ++ (rangeWords (nextWords rangeKey ls) ∷ [])))
 
 -- the rows read, and the blocks that are open after them
 pub record Rows : Type 0 where
@@ -375,7 +375,7 @@ asksClosed (o ∷ os) = 6
 -- both; then the script
 unfoldable pub lastLine : ℕ → List Range → Rows → List (List ℕ) → Reading Script
 lastLine p ranges rows ls =
-    unless (sooner (asksRest ls) (asksClosed (rows .nest .open-blocks))) p (read (record { ranges = ranges; rows = rows .kinds }) ls)
+    unless (firstRefusal (asksRest ls) (asksClosed (rows .nest .open-blocks))) p (read (record { ranges = ranges; rows = rows .kinds }) ls)
 
 -- no row yet
 abbrev pub noRows : Rows

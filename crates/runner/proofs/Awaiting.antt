@@ -12,8 +12,8 @@ use Rattle.rules.specs.declared.Ending.the-variants.{Ended}
 use Rattle.rules.specs.Values.{Tried, passes, fails, beyond}
 use Rattle.rules.specs.Blocks.{RowKind, Test, while, do-while, hold, for, no-step, step-by, View, is-plain, is-pick, is-else, is-end, is-loop, viewAt}
 use Rattle.rules.specs.Run.{State, Out, go, halt, holds}
-use Rattle.rules.specs.RowMachine.{Tally, begin, Phase, fresh, testing, Next, Place, more, over, to, chosen, decide, outcome, paid, picked, tests, onEnd, onRow, next, steps}
-use Rattle.actions.specs.States.{phaseOf, awaits}
+use Rattle.rules.specs.RowMachine.{TurnCounts, begin, Phase, fresh, testing, Next, Place, more, over, to, chosen, decide, outcome, paid, picked, tests, onEnd, onRow, next, steps}
+use Rattle.run_actions.specs.States.{phaseOf, awaits}
 use Rattle.runner.specs.Pauses.{Waiting, Awaits, no-place, at-place}
 
 pub is-testing : (b : Bool) → phaseOf b ≡ testing → b ≡ true
@@ -21,10 +21,10 @@ is-testing true e = refl
 is-testing false e = absurd (let z : _≡_ {A = ℕ} 0 1 = cc in omega arith)
 
 module _ {rows : List RowKind} {opener : ℕ → ℕ} where
-  pub anew : {j : ℕ} {s : State} {c : Tally} → Awaits rows opener (to j fresh s c)
+  pub anew : {j : ℕ} {s : State} {c : TurnCounts} → Awaits rows opener (to j fresh s c)
   anew {j} {s} {c} = at-place {p = record { row = j; phase = fresh; now = s; tally = c }} λ e. absurd (let z : _≡_ {A = ℕ} 0 1 = cc in omega arith)
 
-  at-test : (j : ℕ) (s : State) (c : Tally) → Waiting rows opener j → Awaits rows opener (to j testing s c)
+  at-test : (j : ℕ) (s : State) (c : TurnCounts) → Waiting rows opener j → Awaits rows opener (to j testing s c)
   at-test j s c w = at-place {p = record { row = j; phase = testing; now = s; tally = c }} λ e. w
 
   by-chosen : (b : Bool) {x y : Next} → Awaits rows opener x → Awaits rows opener y → Awaits rows opener (chosen b x y)
@@ -38,22 +38,22 @@ module _ {rows : List RowKind} {opener : ℕ → ℕ} where
   by-decide fails f g h = g
   by-decide beyond f g h = h
 
-  by-outcome : (o : Out) (c : Tally) (k : State → Next) → ((s : State) → Awaits rows opener (k s)) → Awaits rows opener (outcome o c k)
+  by-outcome : (o : Out) (c : TurnCounts) (k : State → Next) → ((s : State) → Awaits rows opener (k s)) → Awaits rows opener (outcome o c k)
   unfolding outcome
   by-outcome (go s es) c k f = f s
   by-outcome (halt e i s es) c k f = no-place
 
-  by-picked : (i j : ℕ) (l : List ℕ) (s : State) (c : Tally) → Awaits rows opener (picked i j l s c)
+  by-picked : (i j : ℕ) (l : List ℕ) (s : State) (c : TurnCounts) → Awaits rows opener (picked i j l s c)
   unfolding picked
   by-picked i j [] s c = no-place
   by-picked i j (x ∷ xs) s c = by-chosen (eqb x 0) anew anew
 
 module _ (rows : List RowKind) (opener : ℕ → ℕ) (π : Prices) (shut : ℕ → ℕ) where
-  by-tests : (h e : ℕ) (t : Test) (s : State) (c : Tally) → Awaits rows opener (tests π h e t s c)
+  by-tests : (h e : ℕ) (t : Test) (s : State) (c : TurnCounts) → Awaits rows opener (tests π h e t s c)
   unfolding tests paid
   by-tests h e t s c = by-chosen _ (by-decide (holds t (s .store)) anew anew no-place) no-place
 
-  by-end : (w : View) (e : ℕ) → e < length rows → viewAt rows e ≡ is-end → viewAt rows (opener e) ≡ w → (ph : Phase) (s : State) (c : Tally) → Awaits rows opener (onEnd π rows shut opener w (opener e) e ph s c)
+  by-end : (w : View) (e : ℕ) → e < length rows → viewAt rows e ≡ is-end → viewAt rows (opener e) ≡ w → (ph : Phase) (s : State) (c : TurnCounts) → Awaits rows opener (onEnd π rows shut opener w (opener e) e ph s c)
   unfolding onEnd
   by-end (is-plain p) e l a b ph s c = anew
   by-end is-pick e l a b ph s c = anew
@@ -63,7 +63,7 @@ module _ (rows : List RowKind) (opener : ℕ → ℕ) (π : Prices) (shut : ℕ 
   by-end (is-loop form t (step-by p)) e l a b fresh s c = by-outcome _ c _ (λ u. at-test e u c (record { row = l; test = rw (a, b) }))
   by-end (is-loop form t (step-by p)) e l a b testing s c = by-tests _ _ t s c
 
-  by-row : (w : View) (i : ℕ) → i < length rows → viewAt rows i ≡ w → (ph : Phase) (s : State) (c : Tally) → Awaits rows opener (onRow π rows shut opener w i ph s c)
+  by-row : (w : View) (i : ℕ) → i < length rows → viewAt rows i ≡ w → (ph : Phase) (s : State) (c : TurnCounts) → Awaits rows opener (onRow π rows shut opener w i ph s c)
   unfolding onRow paid
   by-row (is-plain p) i l a ph s c = by-outcome _ c _ (λ u. anew)
   by-row is-pick i l a ph s c = by-chosen _ (by-picked i _ (s .picks) _ c) no-place

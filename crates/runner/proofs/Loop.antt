@@ -15,20 +15,20 @@ use Rattle.rules.specs.Values.{put, Tried, passes, fails, beyond}
 use Rattle.rules.specs.Blocks.{RowKind, End, kindOf, Test, Form, while, do-while, hold, for, Last, no-step, step-by, View, is-plain, is-pick, is-else, is-end, is-loop, viewOf, viewAt, kindsOf}
 use Rattle.rules.specs.declared.Prices.{Prices}
 use Rattle.rules.specs.Run.{State, Out, go, halt, holds}
-use Rattle.rules.specs.RowMachine.{Tally, tallyOf, begin, turn, Phase, fresh, testing, Place, Next, more, over, to, chosen, decide, outcome, paid, picked, tests, onEnd, onRow, next, steps, Partners, pairs, rank}
+use Rattle.rules.specs.RowMachine.{TurnCounts, tallyOf, begin, turn, Phase, fresh, testing, Place, Next, more, over, to, chosen, decide, outcome, paid, picked, tests, onEnd, onRow, next, steps, Partners, pairs, rank}
 use Rattle.rules.specs.Scripts.{All, some, RowLimits, RowBelow}
 use Rattle.rules.proofs.RowSimulation.{falls-more, next-row, next-past, steps-add}
 use Rattle.rules.proofs.Pairing.{partners, pairs-in}
 use Rattle.rules.proofs.Nesting.{tree-of}
 use Rattle.rules.proofs.Laws.{kinds-first, kind-of}
-use Rattle.pairs.specs.declared.Tables.{Tables}
-use Rattle.pairs.specs.Tables.{tableOf, Found}
+use Rattle.run_pairs.specs.declared.Tables.{Tables}
+use Rattle.run_pairs.specs.Tables.{tableOf, Found}
 use Rattle.rules.specs.Nesting.{nest, nestRows}
-use Rattle.actions.specs.declared.Machine.{Machine}
-use Rattle.actions.specs.declared.Status.{Status}
-use Rattle.actions.specs.declared.Status.the-variants.{Going, Over}
-use Rattle.actions.specs.States.{phaseOf, stateOf, placeOf, byStatus, nextOf, andTests, endTo, rowTo, restBy, endRest, rowRest, isGoing, overAt, Room, Doable, Fitting, StepsIn}
-use Rattle.runner.specs.Runs.{Runnable, Roomy, roomy-over, roomy-more, Ready, Came, Finished}
+use Rattle.run_actions.specs.declared.Machine.{Machine}
+use Rattle.run_actions.specs.declared.Status.{Status}
+use Rattle.run_actions.specs.declared.Status.the-variants.{Going, Over}
+use Rattle.run_actions.specs.States.{phaseOf, stateOf, placeOf, byStatus, nextOf, andTests, endTo, rowTo, restBy, endRest, rowRest, isGoing, overAt, Room, Doable, Fitting, StepsIn}
+use Rattle.runner.specs.Runs.{Runnable, Roomy, roomy-over, roomy-more, MayStep, Came, Finished}
 
 -- every element by its index
 pub all-index : {A : Type 0} {Q : A → Type 0} (l : List A) (i : ℕ) (d : A) → All Q l → i < length l → Q (getD l i d)
@@ -37,15 +37,15 @@ all-index (x ∷ xs) zero d (some q h) l = q
 all-index (x ∷ xs) (suc i) d (some q h) l = all-index xs i d h (omega arith)
 
 -- ---- a step adds at most one turn to each count
-data Near (c : Tally) : Next → Type 0 where
-  near-over : {e : Ending} {i : ℕ} {s : State} {d : Tally} → Near c (over e i s d)
+data Near (c : TurnCounts) : Next → Type 0 where
+  near-over : {e : Ending} {i : ℕ} {s : State} {d : TurnCounts} → Near c (over e i s d)
   near-more : {m : Place} → ((p : ℕ) → (m .tally .turns p ≤ suc (c .turns p)) × (m .tally .sum p ≤ suc (c .sum p))) → Near c (more m)
 
 -- a tally that is not above c
-data Less (c : Tally) (d : Tally) : Type 0 where
+data Less (c : TurnCounts) (d : TurnCounts) : Type 0 where
   less : ((p : ℕ) → (d .turns p ≤ c .turns p) × (d .sum p ≤ c .sum p)) → Less c d
 
-less-same : (c : Tally) → Less c c
+less-same : (c : TurnCounts) → Less c c
 less-same c = less λ p. (omega arith, omega arith)
 
 put-less : (f : ℕ → ℕ) (h p : ℕ) → put f h 0 p ≤ f p
@@ -55,7 +55,7 @@ put-less f h p = by (eqb p h)
     by true = omega arith
     by false = omega arith
 
-less-begin : (h : ℕ) (c : Tally) → Less c (begin h c)
+less-begin : (h : ℕ) (c : TurnCounts) → Less c (begin h c)
 unfolding begin
 less-begin h c = less λ p. (put-less (c .turns) h p, omega arith)
 
@@ -67,7 +67,7 @@ put-one f h p = by (eqb p h) (eqb→eq p h)
     by true q = omega (arith, ap f (q tt))
     by false q = omega arith
 
-module _ {c d : Tally} where
+module _ {c d : TurnCounts} where
   near-to : (j : ℕ) (ph : Phase) (s : State) → Less c d → Near c (to j ph s d)
   near-to j ph s (less f) = near-more {m = record { row = j; phase = ph; now = s; tally = d }} λ p. let (a, b) = f p in (omega arith, omega arith)
 
@@ -75,34 +75,34 @@ module _ {c d : Tally} where
   unfolding turn
   near-turn j h ph s (less f) = near-more {m = record { row = j; phase = ph; now = s; tally = turn h d }} λ p. let (a, b) = f p in (omega (arith, put-one (d .turns) h p), omega (arith, put-one (d .sum) h p))
 
-near-chosen : {c : Tally} (b : Bool) {x y : Next} → Near c x → Near c y → Near c (chosen b x y)
+near-chosen : {c : TurnCounts} (b : Bool) {x y : Next} → Near c x → Near c y → Near c (chosen b x y)
 unfolding chosen
 near-chosen true f g = f
 near-chosen false f g = g
 
-near-decide : {c : Tally} (w : Tried) {x y z : Next} → Near c x → Near c y → Near c z → Near c (decide w x y z)
+near-decide : {c : TurnCounts} (w : Tried) {x y z : Next} → Near c x → Near c y → Near c z → Near c (decide w x y z)
 unfolding decide
 near-decide passes f g h = f
 near-decide fails f g h = g
 near-decide beyond f g h = h
 
 module _ (π : Prices) where
-  near-tests : {c d : Tally} (h e : ℕ) (t : Test) (s : State) → Less c d → Near c (tests π h e t s d)
+  near-tests : {c d : TurnCounts} (h e : ℕ) (t : Test) (s : State) → Less c d → Near c (tests π h e t s d)
   unfolding tests paid
   near-tests h e t s l = near-chosen _ (near-decide (holds t (s .store)) (near-turn _ _ _ _ l) (near-to _ _ _ l) near-over) near-over
 
-  near-outcome : {c d : Tally} (o : Out) (j : ℕ) (ph : Phase) → Less c d → Near c (outcome o d (λ u. to j ph u d))
+  near-outcome : {c d : TurnCounts} (o : Out) (j : ℕ) (ph : Phase) → Less c d → Near c (outcome o d (λ u. to j ph u d))
   unfolding outcome
   near-outcome (go s es) j ph l = near-to j ph s l
   near-outcome (halt e i s es) j ph l = near-over
 
-  near-picked : (i j : ℕ) (l : List ℕ) (s : State) (c : Tally) → Near c (picked i j l s c)
+  near-picked : (i j : ℕ) (l : List ℕ) (s : State) (c : TurnCounts) → Near c (picked i j l s c)
   unfolding picked
   near-picked i j [] s c = near-over
   near-picked i j (x ∷ xs) s c = near-chosen (eqb x 0) (near-to _ _ _ (less-same c)) (near-to _ _ _ (less-same c))
 
   module _ (rows : List RowKind) (shut opener : ℕ → ℕ) where
-    near-end : (w : View) (h e : ℕ) (ph : Phase) (s : State) (c : Tally) → Near c (onEnd π rows shut opener w h e ph s c)
+    near-end : (w : View) (h e : ℕ) (ph : Phase) (s : State) (c : TurnCounts) → Near c (onEnd π rows shut opener w h e ph s c)
     unfolding onEnd
     near-end (is-plain p) h e ph s c = near-to _ _ _ (less-same c)
     near-end is-pick h e ph s c = near-to _ _ _ (less-same c)
@@ -112,7 +112,7 @@ module _ (π : Prices) where
     near-end (is-loop form t (step-by p)) h e fresh s c = near-outcome _ _ _ (less-same c)
     near-end (is-loop form t (step-by p)) h e testing s c = near-tests h e t s (less-same c)
 
-    near-row : (w : View) (i : ℕ) (ph : Phase) (s : State) (c : Tally) → Near c (onRow π rows shut opener w i ph s c)
+    near-row : (w : View) (i : ℕ) (ph : Phase) (s : State) (c : TurnCounts) → Near c (onRow π rows shut opener w i ph s c)
     unfolding onRow paid
     near-row (is-plain p) i ph s c = near-outcome _ _ _ (less-same c)
     near-row is-pick i ph s c = near-chosen _ (near-picked i _ (s .picks) _ c) near-over
@@ -160,7 +160,7 @@ module _ (π : Prices) (rows : List RowKind) (shut opener : ℕ → ℕ) where
   at-once {m} q = record { last = m; onto = one q; row = refl; phase = refl }
 
   -- a for's start or step, and then its test
-  onto-tests : (h e i : ℕ) (t : Test) (s : State) (b c : Tally) (o : Out)
+  onto-tests : (h e i : ℕ) (t : Test) (s : State) (b c : TurnCounts) (o : Out)
       → let m : Place = record { row = i; phase = fresh; now = s; tally = b } in next π rows shut opener m ≡ outcome o c (λ u. to i testing u c)
       → ((u : State) → tests π h e t u c ≡ next π rows shut opener (record { row = i; phase = testing; now = u; tally = c }))
       → Turned m (andTests π h e t (outcome o c (λ u. to i testing u c))) (restBy fresh (outcome o c (λ u. to i testing u c)))
@@ -170,15 +170,15 @@ module _ (π : Prices) (rows : List RowKind) (shut opener : ℕ → ℕ) where
 
   module _ (i : ℕ) (l : i < length rows) where
     -- row i, and an `end` of a block, by their views
-    at-row : (w : View) → viewAt rows i ≡ w → (ph : Phase) (s : State) (c : Tally) → onRow π rows shut opener w i ph s c ≡ next π rows shut opener (record { row = i; phase = ph; now = s; tally = c })
+    at-row : (w : View) → viewAt rows i ≡ w → (ph : Phase) (s : State) (c : TurnCounts) → onRow π rows shut opener w i ph s c ≡ next π rows shut opener (record { row = i; phase = ph; now = s; tally = c })
     at-row w e ph s c = sym (next-row π rows shut opener i w ph s c l e)
 
-    at-end : (w : View) → viewAt rows i ≡ is-end → viewAt rows (opener i) ≡ w → (ph : Phase) (s : State) (c : Tally)
+    at-end : (w : View) → viewAt rows i ≡ is-end → viewAt rows (opener i) ≡ w → (ph : Phase) (s : State) (c : TurnCounts)
         → onEnd π rows shut opener w (opener i) i ph s c ≡ next π rows shut opener (record { row = i; phase = ph; now = s; tally = c })
     unfolding onRow
     at-end w e q ph s c = ap (λ z. onEnd π rows shut opener z (opener i) i ph s c) (sym q) ∙ at-row is-end e ph s c
 
-    onto-end : (w : View) → viewAt rows i ≡ is-end → viewAt rows (opener i) ≡ w → (ph : Phase) (s : State) (c : Tally)
+    onto-end : (w : View) → viewAt rows i ≡ is-end → viewAt rows (opener i) ≡ w → (ph : Phase) (s : State) (c : TurnCounts)
         → Turned (record { row = i; phase = ph; now = s; tally = c }) (endTo π rows shut opener w (opener i) i ph s c) (endRest π rows shut opener w (opener i) i ph s c)
     unfolding onEnd
     onto-end (is-plain p) e q ph s c = at-once (at-end _ e q ph s c)
@@ -189,7 +189,7 @@ module _ (π : Prices) (rows : List RowKind) (shut opener : ℕ → ℕ) where
     onto-end (is-loop form t (step-by p)) e q fresh s c = onto-tests (opener i) i i t s c c _ (sym (at-end _ e q fresh s c)) (λ u. at-end _ e q testing u c)
     onto-end (is-loop form t (step-by p)) e q testing s c = at-once (at-end _ e q testing s c)
 
-    onto-row : (w : View) → viewAt rows i ≡ w → (ph : Phase) (s : State) (c : Tally)
+    onto-row : (w : View) → viewAt rows i ≡ w → (ph : Phase) (s : State) (c : TurnCounts)
         → Turned (record { row = i; phase = ph; now = s; tally = c }) (rowTo π rows shut opener w i ph s c) (rowRest π rows shut opener w i ph s c)
     unfolding onRow
     onto-row (is-plain p) e ph s c = at-once (at-row _ e ph s c)
@@ -265,7 +265,7 @@ going-is Going e = refl
 going-is (Over x i) e = absurd (let z : _≡_ {A = ℕ} 0 1 = cc in omega arith)
 
 module _ {text : List ℕ} (π : Prices) (rows : List Row) (count : ℕ) (t : Tables) (picks : List ℕ) (m₀ : Machine) (store₀ : List ℤ) (counts₀ : List (List ℕ)) (full : length rows ≡ 256)
-    (ready : Ready text π rows count t m₀ store₀ picks counts₀) where
+    (ready : MayStep text π rows count t m₀ store₀ picks counts₀) where
   abbrev ks : List RowKind
   ks = kinds text rows count
 
@@ -369,7 +369,7 @@ module _ {text : List ℕ} (π : Prices) (rows : List Row) (count : ℕ) (t : Ta
 
   -- it has come this far and is going: the loop may begin there, and what that ends in, the whole ends in
   module _ (m : Machine) (store : List ℤ) (counts : List (List ℕ)) (now : Runs text π rows count t picks m₀ store₀ counts₀ m store counts) (on : isGoing (m .status) ≡ true) where
-    pub ready-on : Ready text π rows count t m store picks counts
+    pub ready-on : MayStep text π rows count t m store picks counts
     ready-on = record {
       size = ready .size;
       price = ready .price;
@@ -381,7 +381,7 @@ module _ {text : List ℕ} (π : Prices) (rows : List Row) (count : ℕ) (t : Ta
       used = now .used;
     }
 
-    pub finished-on : (r : Machine) (store′ : List ℤ) (c′ : Tally) → Finished π ks t m r store store′ picks (tallyOf counts) c′ → Finished π ks t m₀ r store₀ store′ picks (tallyOf counts₀) c′
+    pub finished-on : (r : Machine) (store′ : List ℤ) (c′ : TurnCounts) → Finished π ks t m r store store′ picks (tallyOf counts) c′ → Finished π ks t m₀ r store₀ store′ picks (tallyOf counts₀) c′
     finished-on r store′ c′ f =
         let here : (k : ℕ) → steps π ks shut opener (now .held .n + k) (nextOf m₀ store₀ picks (tallyOf counts₀)) ≡ steps π ks shut opener k (nextOf m store picks (tallyOf counts))
         = λ k. steps-add π (ready .price) ks shut opener fit (now .held .n) k (nextOf m₀ store₀ picks (tallyOf counts₀)) ∙ ap (steps π ks shut opener k) (now .held .same) in

@@ -14,19 +14,19 @@ use Rattle.rules.specs.declared.Row.{Row}
 use Rattle.rules.specs.Blocks.{kindsOf}
 use Rattle.rules.specs.declared.Prices.{Prices}
 use Rattle.rules.specs.Answers.{storeList}
-use Rattle.rules.specs.RowMachine.{Tally, tallyOf, more, over, steps, start, rank}
+use Rattle.rules.specs.RowMachine.{TurnCounts, tallyOf, more, over, steps, start, rank}
 use Rattle.rules.specs.Scripts.{Script, Legal, storeOf}
 use Rattle.rules.proofs.RowSimulation.{row-answer}
 use Rattle.rules.proofs.Nesting.{tree-of}
 use Rattle.rules.proofs.Laws.{kinds-first, list-of-store}
-use Rattle.pairs.specs.declared.Tables.{Tables}
-use Rattle.pairs.specs.Tables.{tableOf, Found}
-use Rattle.actions.specs.declared.Machine.{Machine}
-use Rattle.actions.specs.declared.Status.{Status}
-use Rattle.actions.specs.declared.Status.the-variants.{Going, Over}
-use Rattle.actions.specs.States.{stateOf, placeOf, byStatus, isGoing}
-use Rattle.runner.specs.Runs.{Runnable, roomy-more, Ready, Finished}
-use Rattle.runner.specs.Answered.{runOf, Cleared, ranBy, Given, Answered}
+use Rattle.run_pairs.specs.declared.Tables.{Tables}
+use Rattle.run_pairs.specs.Tables.{tableOf, Found}
+use Rattle.run_actions.specs.declared.Machine.{Machine}
+use Rattle.run_actions.specs.declared.Status.{Status}
+use Rattle.run_actions.specs.declared.Status.the-variants.{Going, Over}
+use Rattle.run_actions.specs.States.{stateOf, placeOf, byStatus, isGoing}
+use Rattle.runner.specs.Runs.{Runnable, roomy-more, MayStep, Finished}
+use Rattle.runner.specs.Answered.{runOf, Cleared, ranBy, MayRun, Answered}
 use Rattle.runner.proofs.Loop.{partners-of}
 
 -- a script that passes the questions 4 to 7 may run
@@ -71,9 +71,9 @@ zeros-all l h z = record { zero = λ i. record { turns = λ p. at p 0 i; sum = �
 abbrev pub startOf : ℕ → Machine
 startOf allowance = record { row = 0; testing = false; left = allowance; used = 0; status = Going }
 
-module _ {text : List ℕ} (π : Prices) (rows : List Row) (count : ℕ) (full : length rows ≡ 256) (store : List ℤ) (picks : List ℕ) (allowance : ℕ) (given : Given text π rows count store allowance)
+module _ {text : List ℕ} (π : Prices) (rows : List Row) (count : ℕ) (full : length rows ≡ 256) (store : List ℤ) (picks : List ℕ) (allowance : ℕ) (given : MayRun text π rows count store allowance)
     (t : Tables) (found : Found (take count (kindsOf text rows)) t) (counts : List (List ℕ)) (clear : Cleared counts) where
-  pub ready : Ready text π rows count t (startOf allowance) store picks counts
+  pub ready : MayStep text π rows count t (startOf allowance) store picks counts
   unfolding rank
   ready =
       let n = kinds-first text count rows (omega (arith, given .size)) in
@@ -87,7 +87,7 @@ module _ {text : List ℕ} (π : Prices) (rows : List Row) (count : ℕ) (full :
         runs = given .runs;
         found = found;
         long = clear .long;
-        room = roomy-more {m = placeOf (startOf allowance) store picks (tallyOf counts)} λ p. (omega (arith, ap (λ (c : Tally). c .turns p) (clear .zero)), omega (arith, ap (λ (c : Tally). c .sum p) (clear .zero)));
+        room = roomy-more {m = placeOf (startOf allowance) store picks (tallyOf counts)} λ p. (omega (arith, ap (λ (c : TurnCounts). c .turns p) (clear .zero)), omega (arith, ap (λ (c : TurnCounts). c .sum p) (clear .zero)));
         used = omega arith;
       }
 

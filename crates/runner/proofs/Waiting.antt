@@ -11,17 +11,17 @@ use Rattle.rules.specs.declared.Prices.{Prices}
 use Rattle.rules.specs.declared.Ending.{Ending}
 use Rattle.rules.specs.declared.Ending.the-variants.{Ended, Spent, NoPick}
 use Rattle.rules.specs.Blocks.{RowKind, kindsOf}
-use Rattle.rules.specs.RowMachine.{Tally, tallyOf, Place, Next, more, over, next, pairs}
+use Rattle.rules.specs.RowMachine.{TurnCounts, tallyOf, Place, Next, more, over, next, pairs}
 use Rattle.rules.specs.Frames.{stopped, runsOn, given}
 use Rattle.rules.proofs.Pause.{runs-on-is}
 use Rattle.rules.proofs.Laws.{kinds-first, kind-of}
-use Rattle.pairs.specs.declared.Tables.{Tables}
-use Rattle.pairs.specs.Tables.{tableOf}
-use Rattle.actions.specs.declared.Machine.{Machine}
-use Rattle.actions.specs.declared.Status.{Status}
-use Rattle.actions.specs.declared.Status.the-variants.{Going, Over}
-use Rattle.actions.specs.States.{phaseOf, stateOf, placeOf, byStatus, nextOf, isGoing, onAt}
-use Rattle.runner.specs.Runs.{Ready, Came, Finished}
+use Rattle.run_pairs.specs.declared.Tables.{Tables}
+use Rattle.run_pairs.specs.Tables.{tableOf}
+use Rattle.run_actions.specs.declared.Machine.{Machine}
+use Rattle.run_actions.specs.declared.Status.{Status}
+use Rattle.run_actions.specs.declared.Status.the-variants.{Going, Over}
+use Rattle.run_actions.specs.States.{phaseOf, stateOf, placeOf, byStatus, nextOf, isGoing, onAt}
+use Rattle.runner.specs.Runs.{MayStep, Came, Finished}
 use Rattle.runner.specs.Pauses.{standBy, standOf, withTicks, Waiting, Awaits, no-place, at-place, MayTest, Tested, Paused, RanOn}
 use Rattle.runner.proofs.Loop.{partners-of, going-is, Runs, runs-start, doable, fitting, head-in, runs-step}
 use Rattle.runner.proofs.Awaiting.{waiting-at, is-testing, awaits-steps}

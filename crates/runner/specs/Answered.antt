@@ -10,12 +10,12 @@ use Rattle.rules.specs.declared.Ending.the-variants.{Spent}
 use Rattle.rules.specs.Blocks.{RowKind, kindsOf}
 use Rattle.rules.specs.Written.{Written}
 use Rattle.rules.specs.declared.Prices.{Prices}
-use Rattle.rules.specs.RowMachine.{Tally, tallyOf}
+use Rattle.rules.specs.RowMachine.{TurnCounts, tallyOf}
 use Rattle.rules.specs.Answers.{Answer, runTree, storeList, sumAt, mostAt}
 use Rattle.rules.specs.Scripts.{storeOf, treeOf}
-use Rattle.actions.specs.declared.Machine.{Machine}
-use Rattle.actions.specs.declared.Status.{Status}
-use Rattle.actions.specs.declared.Status.the-variants.{Going, Over}
+use Rattle.run_actions.specs.declared.Machine.{Machine}
+use Rattle.run_actions.specs.declared.Status.{Status}
+use Rattle.run_actions.specs.declared.Status.the-variants.{Going, Over}
 use Rattle.runner.specs.declared.Ran.{Ran}
 use Rattle.runner.specs.Runs.{Runnable}
 
@@ -37,7 +37,7 @@ abbrev pub ranOf : Machine → ℕ → Ran
 ranOf m allowance = ranBy (m .status) m allowance
 
 -- rows, with their expressions in the text, that pass the questions 4 to 7 over the store's variables, a price for each test, and at most 1,000,000,000,000 ticks
-pub record Given (text : List ℕ) (π : Prices) (rows : List Row) (count : ℕ) (store : List ℤ) (allowance : ℕ) : Type 0 where
+pub record MayRun (text : List ℕ) (π : Prices) (rows : List Row) (count : ℕ) (store : List ℤ) (allowance : ℕ) : Type 0 where
   pub size : count ≤ 256
   pub price : 1 ≤ π .test
   pub written : (i : ℕ) → i < count → Written text (getD rows i (record { kind = Kind.End }) .kind)
@@ -45,7 +45,7 @@ pub record Given (text : List ℕ) (π : Prices) (rows : List Row) (count : ℕ)
   pub ticks : allowance ≤ 1_000_000_000_000
 
 -- the answer, the store of `vars` variables, and the counts by row are a's
-pub record Answered (a : Answer) (r : Ran) (vars : ℕ) (store : List ℤ) (c : Tally) : Type 0 where
+pub record Answered (a : Answer) (r : Ran) (vars : ℕ) (store : List ℤ) (c : TurnCounts) : Type 0 where
   pub ending : r .ending ≡ a .ending
   pub row : r .row ≡ a .row
   pub ticks : r .ticks ≡ a .ticks

@@ -10,23 +10,23 @@ use Rattle.rules.specs.declared.Row.{Row}
 use Rattle.rules.specs.declared.Ending.{Ending}
 use Rattle.rules.specs.declared.Prices.{Prices}
 use Rattle.rules.specs.Blocks.{RowKind, viewOf, viewAt, kindOf, kindsOf}
-use Rattle.rules.specs.RowMachine.{Tally, tallyOf, testing, Place, Next, more, over, pairs}
+use Rattle.rules.specs.RowMachine.{TurnCounts, tallyOf, testing, Place, Next, more, over, pairs}
 use Rattle.rules.specs.Run.{State}
 use Rattle.rules.specs.Frames.{stopped, runsOn, given}
-use Rattle.pairs.specs.declared.Tables.{Tables}
-use Rattle.pairs.specs.Tables.{tableOf}
-use Rattle.actions.specs.declared.Machine.{Machine}
-use Rattle.actions.specs.declared.Status.{Status}
-use Rattle.actions.specs.declared.Status.the-variants.{Going, Over}
-use Rattle.actions.specs.States.{phaseOf, stateOf, placeOf, isGoing, rowTo, rowRest, awaits, StepsIn, Doable, Fitting}
-use Rattle.runner.specs.Runs.{Ready}
+use Rattle.run_pairs.specs.declared.Tables.{Tables}
+use Rattle.run_pairs.specs.Tables.{tableOf}
+use Rattle.run_actions.specs.declared.Machine.{Machine}
+use Rattle.run_actions.specs.declared.Status.{Status}
+use Rattle.run_actions.specs.declared.Status.the-variants.{Going, Over}
+use Rattle.run_actions.specs.States.{phaseOf, stateOf, placeOf, isGoing, rowTo, rowRest, awaits, StepsIn, Doable, Fitting}
+use Rattle.runner.specs.Runs.{MayStep}
 
 -- where a machine stands between two frames: spent, it waits where it is
-abbrev pub standBy : Status → Machine → List ℤ → List ℕ → Tally → Next
+abbrev pub standBy : Status → Machine → List ℤ → List ℕ → TurnCounts → Next
 standBy Going m store picks c = more (placeOf m store picks c)
 standBy (Over e i) m store picks c = stopped (placeOf m store picks c) e i (stateOf m store picks) c
 
-abbrev pub standOf : Machine → List ℤ → List ℕ → Tally → Next
+abbrev pub standOf : Machine → List ℤ → List ℕ → TurnCounts → Next
 standOf m store picks c = standBy (m .status) m store picks c
 
 -- m going, with q ticks more
@@ -40,17 +40,17 @@ pub record Waiting (rows : List RowKind) (opener : ℕ → ℕ) (i : ℕ) : Type
 
 -- where a test is to come, it is a for's
 pub data Awaits (rows : List RowKind) (opener : ℕ → ℕ) : Next → Type 0 where
-  no-place : {e : Ending} {i : ℕ} {s : State} {c : Tally} → Awaits rows opener (over e i s c)
+  no-place : {e : Ending} {i : ℕ} {s : State} {c : TurnCounts} → Awaits rows opener (over e i s c)
   at-place : {p : Place} → (p .phase ≡ testing → Waiting rows opener (p .row)) → Awaits rows opener (more p)
 
 -- it may get q ticks and run on
 pub record Paused (text : List ℕ) (π : Prices) (rows : List Row) (count : ℕ) (t : Tables) (q : ℕ) (m : Machine) (store : List ℤ) (picks : List ℕ) (counts : List (List ℕ)) : Type 0 where
   pub few : m .left + q < 2 ^ 63
-  pub ready : Ready text π rows count t (withTicks q m) store picks counts
+  pub ready : MayStep text π rows count t (withTicks q m) store picks counts
   pub waits : m .testing ≡ true → Waiting (take count (kindsOf text rows)) (tableOf (t .opener)) (m .row)
 
 -- it has run on, "until it finishes or its next price does not fit"
-pub record RanOn (π : Prices) (rows : List RowKind) (q : ℕ) (m r : Machine) (store store′ : List ℤ) (picks : List ℕ) (c : Tally) (counts′ : List (List ℕ)) : Type 0 where
+pub record RanOn (π : Prices) (rows : List RowKind) (q : ℕ) (m r : Machine) (store store′ : List ℤ) (picks : List ℕ) (c : TurnCounts) (counts′ : List (List ℕ)) : Type 0 where
   pub stand : standOf r store′ picks (tallyOf counts′) ≡ runsOn π rows (pairs rows (length rows) .shut) (pairs rows (length rows) .opener) (given q (placeOf m store picks c))
   pub waits : Awaits rows (pairs rows (length rows) .opener) (standOf r store′ picks (tallyOf counts′))
   pub left : r .left ≤ m .left + q
@@ -69,7 +69,7 @@ pub record MayTest (text : List ℕ) (rows : List Row) (t : Tables) (m : Machine
   pub waits : awaits (viewOf (kindOf text (kindIn rows (m .row)))) (viewOf (kindOf text (kindIn rows (tableOf (t .opener) (m .row))))) ≡ true
 
 -- it has been done: one step of `rules`' machine, after which no other test is to come
-pub record Tested (text : List ℕ) (π : Prices) (rows : List Row) (t : Tables) (m r : Machine) (store : List ℤ) (c : Tally) (counts′ : List (List ℕ)) : Type 0 where
+pub record Tested (text : List ℕ) (π : Prices) (rows : List Row) (t : Tables) (m r : Machine) (store : List ℤ) (c : TurnCounts) (counts′ : List (List ℕ)) : Type 0 where
   pub step : (ks : List RowKind) (picks : List ℕ)
       → Fitting ks (tableOf (t .shut)) (tableOf (t .opener)) (m .row) (tableOf (t .shut) (m .row)) (tableOf (t .opener) (m .row)) (viewOf (kindOf text (kindIn rows (tableOf (t .opener) (m .row)))))
       → StepsIn m r store store picks c (tallyOf counts′) (rowTo π ks (tableOf (t .shut)) (tableOf (t .opener)) (viewOf (kindOf text (kindIn rows (m .row)))) (m .row) (phaseOf (m .testing)))

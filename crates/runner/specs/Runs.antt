@@ -14,13 +14,13 @@ use Rattle.rules.specs.Written.{Written}
 use Rattle.rules.specs.Nesting.{nest, nestRows}
 use Rattle.rules.specs.declared.Prices.{Prices}
 use Rattle.rules.specs.Run.{State}
-use Rattle.rules.specs.RowMachine.{Tally, tallyOf, Place, Next, more, over, next, steps, rank}
+use Rattle.rules.specs.RowMachine.{TurnCounts, tallyOf, Place, Next, more, over, next, steps, rank}
 use Rattle.rules.specs.Scripts.{All, RowLimits, RowBelow}
-use Rattle.pairs.specs.declared.Tables.{Tables}
-use Rattle.pairs.specs.Tables.{tableOf, Found}
-use Rattle.actions.specs.declared.Machine.{Machine}
-use Rattle.actions.specs.declared.Status.the-variants.{Over}
-use Rattle.actions.specs.States.{phaseOf, nextOf, isGoing}
+use Rattle.run_pairs.specs.declared.Tables.{Tables}
+use Rattle.run_pairs.specs.Tables.{tableOf, Found}
+use Rattle.run_actions.specs.declared.Machine.{Machine}
+use Rattle.run_actions.specs.declared.Status.the-variants.{Over}
+use Rattle.run_actions.specs.States.{phaseOf, nextOf, isGoing}
 
 -- the questions 4 to 7 of rows over so many variables
 pub record Runnable (vars : ℕ) (rows : List RowKind) : Type 0 where
@@ -30,11 +30,11 @@ pub record Runnable (vars : ℕ) (rows : List RowKind) : Type 0 where
 
 -- no count outgrows 64 bits on the way to the end
 pub data Roomy (R : ℕ) : Next → Type 0 where
-  roomy-over : {e : Ending} {i : ℕ} {s : State} {c : Tally} → Roomy R (over e i s c)
+  roomy-over : {e : Ending} {i : ℕ} {s : State} {c : TurnCounts} → Roomy R (over e i s c)
   roomy-more : {m : Place} → ((p : ℕ) → (m .tally .turns p + rank R m < 2 ^ 63) × (m .tally .sum p + rank R m < 2 ^ 63)) → Roomy R (more m)
 
 -- the loop may begin; the rows' expressions stand in the text
-pub record Ready (text : List ℕ) (π : Prices) (rows : List Row) (count : ℕ) (t : Tables) (m : Machine) (store : List ℤ) (picks : List ℕ) (counts : List (List ℕ)) : Type 0 where
+pub record MayStep (text : List ℕ) (π : Prices) (rows : List Row) (count : ℕ) (t : Tables) (m : Machine) (store : List ℤ) (picks : List ℕ) (counts : List (List ℕ)) : Type 0 where
   pub size : count ≤ 256
   pub price : 1 ≤ π .test
   pub written : (i : ℕ) → i < count → Written text (getD rows i (record { kind = Kind.End }) .kind)
@@ -53,7 +53,7 @@ pub record Came (π : Prices) (rows : List RowKind) (shut opener : ℕ → ℕ) 
   pub rests : (i : ℕ) → r .status ≡ Over Spent i → (r .row ≡ w .row) × (phaseOf (r .testing) ≡ w .phase)
 
 -- some steps of `rules`' machine lead from m to r, and r is over
-pub record Finished (π : Prices) (rows : List RowKind) (t : Tables) (m r : Machine) (store store′ : List ℤ) (picks : List ℕ) (c c′ : Tally) : Type 0 where
+pub record Finished (π : Prices) (rows : List RowKind) (t : Tables) (m r : Machine) (store store′ : List ℤ) (picks : List ℕ) (c c′ : TurnCounts) : Type 0 where
   pub n : ℕ
   pub same : steps π rows (tableOf (t .shut)) (tableOf (t .opener)) n (nextOf m store picks c) ≡ nextOf r store′ picks c′
   pub over : isGoing (r .status) ≡ false

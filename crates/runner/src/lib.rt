@@ -1,20 +1,20 @@
 // The run of a script: the machine from its start to its end, and its answer.
-use actions::Machine;
-use actions::Status;
-use pairs::Tables;
 use rules::Ending;
 use rules::Prices;
 use rules::Row;
+use run_actions::Machine;
+use run_actions::Status;
+use run_pairs::Tables;
 ghost use mathlib.Core.Path.{_≡_};
 ghost use mathlib.Core.Bool.{false};
 ghost use Prim.Native.Nat.{_≤_};
 ghost use lib.ListN.{length, take};
 ghost use Rattle.rules.specs.Blocks.{kindsOf};
 ghost use Rattle.rules.specs.RowMachine.{tallyOf};
-ghost use Rattle.actions.specs.States.{isGoing, onAt};
-ghost use Rattle.runner.specs.Runs.{Ready, Finished};
+ghost use Rattle.run_actions.specs.States.{isGoing, onAt};
+ghost use Rattle.runner.specs.Runs.{MayStep, Finished};
 ghost use Rattle.runner.specs.Pauses.{MayTest, Tested, Paused, RanOn};
-ghost use Rattle.runner.specs.Answered.{Cleared, ranOf, runOf, Given, Answered};
+ghost use Rattle.runner.specs.Answered.{Cleared, ranOf, runOf, MayRun, Answered};
 
 // Is the run still going?
 fn going(m: Machine) -> bool
@@ -39,10 +39,10 @@ pub fn resume(
     picks: &[u8],
     counts: &mut [[u64; 3]; 256],
 ) -> Machine
-    requires { ⌜ Ready (now text) prices rows count tables from (now store) (now picks) (now counts) × (onAt from (from .left) (from .row) false ≡ from) ⌝ }
+    requires { ⌜ MayStep (now text) prices rows count tables from (now store) (now picks) (now counts) × (onAt from (from .left) (from .row) false ≡ from) ⌝ }
     ensures { λ r. ⌜ Finished prices (take count (kindsOf (now (text .entry)) rows)) tables from r (now (store .entry)) (now (store .exit)) (now (picks .entry)) (tallyOf (now (counts .entry))) (tallyOf (now (counts .exit))) × (length (now (counts .exit)) ≡ 256) ⌝ }
 {
-    let mut m = actions::on(from, from.left, from.row, false);
+    let mut m = run_actions::on(from, from.left, from.row, false);
     while going(m) {
         let i = m.row;
         if i < count {
@@ -50,9 +50,9 @@ pub fn resume(
             let e = tables.shut[i] as usize;
             let h = tables.opener[i] as usize;
             let head = rows[h];
-            m = machine::step(m, row, e, head, h, prices, text, store, picks, counts);
+            m = run_machine::step(m, row, e, head, h, prices, text, store, picks, counts);
         } else {
-            m = actions::ended(m, m.left, Ending::Ended, count);
+            m = run_actions::ended(m, m.left, Ending::Ended, count);
         }
     }
     m
@@ -76,7 +76,7 @@ fn tested(
     let e = tables.shut[i] as usize;
     let h = tables.opener[i] as usize;
     let head = rows[h];
-    machine::test_again(m, row, e, head, h, prices, text, store, counts)
+    run_machine::test_again(m, row, e, head, h, prices, text, store, counts)
 }
 
 // A script that is not finished gets q ticks and runs on, until it finishes or its next price does not fit. A for's test that it waits for comes first.
@@ -175,11 +175,11 @@ pub fn run_rows(
     allowance: u64,
     counts: &mut [[u64; 3]; 256],
 ) -> Ran
-    requires { ⌜ Given (now text) prices rows count (now store) allowance × (length (now counts) ≡ 256) ⌝ }
+    requires { ⌜ MayRun (now text) prices rows count (now store) allowance × (length (now counts) ≡ 256) ⌝ }
     ensures { λ r. ⌜ Answered (runOf prices (take count (kindsOf (now (text .entry)) rows)) (now (store .entry)) (now (picks .entry)) allowance) r (length (now (store .entry))) (now (store .exit)) (tallyOf (now (counts .exit))) ⌝ }
 {
     clear(counts);
-    let tables = pairs::partners(rows, count);
+    let tables = run_pairs::partners(rows, count);
     let start = Machine {
         row: 0,
         testing: false,

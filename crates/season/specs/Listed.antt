@@ -5,10 +5,10 @@ use Prim.Native.Nat.{ℕ}
 use lib.ListN.{length}
 use Rattle.rules.specs.Calls.{Judged, fourOnes, judged}
 use Rattle.rules.specs.Season.{judgedAll}
-use Rattle.names.specs.Kept.{Kept}
-use Rattle.sheet.specs.declared.Sheet.{Sheet}
-use Rattle.sheet.specs.Figures.{Figures}
-use Rattle.repertoire.specs.Holds.{Holds}
+use Rattle.season_names.specs.Kept.{Kept}
+use Rattle.season_sheet.specs.declared.Sheet.{Sheet}
+use Rattle.season_sheet.specs.Figures.{Figures}
+use Rattle.season_files.specs.Holds.{Holds}
 
 -- the names are those of some input
 abbrev pub Listed : ℕ → List ℕ → List ℕ → Type 0

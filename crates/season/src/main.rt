@@ -1,25 +1,25 @@
 // Reads file names from standard input, one a line, and prints the season's sheet of the files, or `refused=18 0` for no name or more than 64.
-use desk::print_front;
-use desk::print_text;
-use desk::read_file;
-use desk::read_some;
 use libc::STDIN_FILENO;
-use names::LINE;
-use names::LINES;
-use names::ROOM;
-use repertoire::CUES;
-use repertoire::FILES;
-use repertoire::REPORTS;
-use repertoire::add_file;
-use sheet::Sheet;
-use sheet::TEXT;
+use program_parts::print_front;
+use program_parts::print_text;
+use program_parts::read_file;
+use program_parts::read_some;
+use season_files::CUES;
+use season_files::FILES;
+use season_files::REPORTS;
+use season_files::add_file;
+use season_names::LINE;
+use season_names::LINES;
+use season_names::ROOM;
+use season_sheet::Sheet;
+use season_sheet::TEXT;
 ghost use mathlib.Core.Path.{_≡_};
 ghost use mathlib.Core.List.{List};
 ghost use Prim.Native.Nat.{_≤_, _<_};
 ghost use lib.ListN.{length};
 ghost use Rattle.rules.specs.Calls.{Judged};
 ghost use Rattle.io.specs.Counts.{Counts};
-ghost use Rattle.repertoire.specs.Holds.{Holds, Begun};
+ghost use Rattle.season_files.specs.Holds.{Holds, Begun};
 ghost use Rattle.season.specs.Listed.{Listed, WithOne, SheetOf};
 
 // The names so far: the line that is open, whether more is to be read, and whether a read failed.
@@ -36,7 +36,7 @@ fn read_block(line: usize, names: &mut [u8; ROOM], lengths: &mut [usize; 66]) ->
     let mut block = io::large_buffer();
     let input = read_some(STDIN_FILENO, &mut block);
     let n = input.length;
-    let next = names::push_all(line, &block[..n], names, lengths);
+    let next = season_names::push_all(line, &block[..n], names, lengths);
     Listing {
         line: next,
         more: n > 0 && next < LINES,
@@ -48,7 +48,7 @@ fn read_block(line: usize, names: &mut [u8; ROOM], lengths: &mut [usize; 66]) ->
 fn read_names(names: &mut [u8; ROOM], lengths: &mut [usize; 66]) -> Listing
     ensures { λ r. ⌜ Listed (r .line) (now (names .exit)) (now (lengths .exit)) ⌝ }
 {
-    let mut line = names::start(names, lengths);
+    let mut line = season_names::start(names, lengths);
     let mut more = true;
     let mut failed = false;
     let mut turns = u64::MAX;
@@ -67,7 +67,7 @@ fn read_named(k: usize, names: &[u8], lengths: &[usize; 66], file: &mut [u8]) ->
     requires { ⌜ (k < 64) × (length (now names) ≡ 16_640) ⌝ }
     ensures { λ r. ⌜ Counts r (now (file .exit)) ⌝ }
 {
-    let n = names::opened(k, names, lengths);
+    let n = season_names::opened(k, names, lengths);
     if n == 0 {
         return 0;
     }
@@ -109,7 +109,7 @@ fn sheet_of(count: usize, names: &[u8], lengths: &[usize; 66], counts: &mut [u64
     let mut reports = [0u8; REPORTS];
     let mut fired = [0usize; FILES];
     let mut cues = [0u32; CUES];
-    let mut sheet = sheet::empty(counts);
+    let mut sheet = season_sheet::empty(counts);
     let mut k = 0;
     while k < count {
         let next = add_named(
@@ -135,13 +135,13 @@ fn print_sheet(count: usize, names: &[u8], lengths: &[usize; 66])
     let mut counts = [0u64; 21];
     let mut text = [0u8; TEXT];
     let sheet = sheet_of(count, names, lengths, &mut counts);
-    let n = sheet::put_sheet(sheet, &counts, &mut text);
+    let n = season_sheet::put_sheet(sheet, &counts, &mut text);
     print_front(&text, n);
 }
 
 fn print_no_sheet() {
     let mut text = [0u8; 64];
-    let n = sheet::put_refusal(&mut text);
+    let n = season_sheet::put_refusal(&mut text);
     print_front(&text, n);
 }
 
@@ -153,7 +153,7 @@ fn main() {
         print_text(b"error=cannot read the names\n");
         return;
     }
-    let count = names::count(list.line, &lengths);
+    let count = season_names::count(list.line, &lengths);
     if count == 0 {
         print_no_sheet();
         return;

@@ -2,7 +2,7 @@
 use mathlib.Core.Path.{_≡_}
 use Rattle.rules.specs.Scripts.{Script, scriptOf}
 use Rattle.calls.specs.Held.{Found}
-use Rattle.calls.proofs.Tables.{four, fine, few-rows, fine-rows, survey-asks, survey-same, found-by}
+use Rattle.calls.proofs.Tables.{four, fine, few-rows, fine-rows, analyse-asks, analyse-same, found-by}
 use Rattle.calls.proofs.Judging.{reported, not-reported}
 use borrow.Author.Needs.{needs}
 use Rattle.calls.proofs.measure_script.Statement.{statement}
@@ -18,38 +18,38 @@ put-rows-requires c κs = let s = c .before .before .before .before in (search n
 prices-of-requires : tie.Need-prices-of-requires
 prices-of-requires c κs = four _ (c .before .before .before .before .before .pre .1)
 
-survey-requires : tie.Need-survey-requires
-survey-requires c κs =
+analyse-requires : tie.Need-analyse-requires
+analyse-requires c κs =
     let s = c .before .before .before .before .before .before .before .before in
     let p = c .before .before .before .put-rows in
-    survey-asks (s .args .text .now) (s .args .ranges) (s .args .vars) (s .args .rows) (s .args .count) (s .pre .0) (p .last .0) (p .ensures .1) (p .ensures .0) (fine (s .args .prices .now) (s .pre .1) (c .before .before .prices-of .ensures)) (search needs)
+    analyse-asks (s .args .text .now) (s .args .ranges) (s .args .vars) (s .args .rows) (s .args .count) (s .pre .0) (p .last .0) (p .ensures .1) (p .ensures .0) (fine (s .args .prices .now) (s .pre .1) (c .before .before .prices-of .ensures)) (search needs)
 
--- what the survey found of it
-found : (c : tie.After-survey) → Found (c .before .before .before .before .before .before .before .before .before .args .prices .now) (script (c .before .before .before .before .before .before .before .before .before)) (c .before .before .before .before .before .before .before .before .before .args .count) (c .survey .result) (c .survey .last .1 .1 .1 .1 .1 .1 .0)
+-- what the analysis found of it
+found : (c : tie.After-analyse) → Found (c .before .before .before .before .before .before .before .before .before .args .prices .now) (script (c .before .before .before .before .before .before .before .before .before)) (c .before .before .before .before .before .before .before .before .before .args .count) (c .analyse .result) (c .analyse .last .1 .1 .1 .1 .1 .1 .0)
 found c =
     let s = c .before .before .before .before .before .before .before .before .before in
     let p = c .before .before .before .before .put-rows in
-    found-by _ _ _ _ _ (s .pre .0) (s .args .prices .now) (c .before .before .before .prices-of .ensures) (c .survey .result) _ (survey-same _ _ _ _ _ (s .pre .0) (p .last .0) (p .ensures .1) (c .survey .ensures))
+    found-by _ _ _ _ _ (s .pre .0) (s .args .prices .now) (c .before .before .before .prices-of .ensures) (c .analyse .result) _ (analyse-same _ _ _ _ _ (s .pre .0) (p .last .0) (p .ensures .1) (c .analyse .ensures))
 
 returns : tie.Need-returns
 returns c =
     let s = c .before .before .before .before .before .before .before .before .before .before .before in
-    let f = c .before .before .survey in
+    let f = c .before .before .analyse in
     let h : f .result .number ≡ 0 → ⊥ = search needs in
     not-reported (s .args .prices .now) (script s) (s .args .count) (f .result) _ (found (c .before .before)) h _
 
 write-report-requires : tie.Need-write-report-requires
 write-report-requires c κs =
-    let f = c .before .before .before .before .survey in
+    let f = c .before .before .before .before .analyse in
     let z : f .result .number ≡ 0 = search needs in
     record { few = f .ensures .loops z; long = f .ensures .long z }
 
 returns-2 : tie.Need-returns-2
 returns-2 c =
     let s = c .before .before .before .before .before .before .before .before .before .before .before .before .before .before .before .before in
-    let f = c .before .before .before .before .before .before .before .survey in
+    let f = c .before .before .before .before .before .before .before .analyse in
     let z : f .result .number ≡ 0 = search needs in
     reported (s .args .prices .now) (script s) (s .args .count) (f .result) _ (found (c .before .before .before .before .before .before .before)) z _ _ _ (c .before .before .write-report .ensures)
 
 pub measure-script-spec : {M : Type 1} → statement M
-measure-script-spec = tie.close (tie.spec put-rows-requires prices-of-requires survey-requires returns write-report-requires (λ c. search needs) returns-2)
+measure-script-spec = tie.close (tie.spec put-rows-requires prices-of-requires analyse-requires returns write-report-requires (λ c. search needs) returns-2)

@@ -1,6 +1,6 @@
 -- `calls::refusal` meets its contract. Assumes nothing.
 use mathlib.Core.Path.{refl}
-use Rattle.loops.proofs.Listing.{none-first}
+use Rattle.run_loops.proofs.Listing.{none-first}
 use Rattle.calls.proofs.refusal.Statement.{statement}
 use Rattle.calls.proofs.refusal.Tie as tie
 

@@ -2,7 +2,7 @@
 use mathlib.Core.Path.{_≡_, refl}
 use Prim.Native.Nat.{_-_, _≤_, min}
 use native.Mathlib.Numerals.{add-one}
-use Rattle.diftanew.specs.Numbers.{upTo, headOf, numbersOf}
+use Rattle.diftanew.specs.Numbers.{upTo, headNumbers, numbersOf}
 use borrow.Author.Needs.{needs}
 use native.Mathlib.Omega.{arith}
 use Rattle.diftanew.proofs.numbers.Statement.{statement}
@@ -35,7 +35,7 @@ unfolding upTo
 loop-again c = (omega (arith, c .before .loop-test .taken), rw (add-one, c .before .before .loop .inv .1) refl)
 
 returns : tie.Need-returns Inv-loop μ-loop
-unfolding numbersOf headOf
+unfolding numbersOf headNumbers
 returns c = let e : c .before .loop .k ≡ min (c .before .before .before .before .before .args .o .loops) 16 = omega (arith, c .loop-test .left, c .before .loop .inv .0, c .before .before .before .at-most-16 .ensures) in
     rw (← c .before .before .first-number .ensures, ← e) (c .before .loop .inv .1)
 

@@ -1,7 +1,7 @@
 -- `explain::explain_priced` is safe: a file that was read is given to the analysis. Assumes nothing.
 use denote.Ref.{now}
 use borrow.Author.Needs.{needs}
-use Rattle.cast.proofs.Loaded.{file-given}
+use Rattle.calls_scripts.proofs.Loaded.{file-given}
 use Rattle.explain.proofs.explain_priced.Statement.{statement}
 use Rattle.explain.proofs.explain_priced.Tie as tie
 

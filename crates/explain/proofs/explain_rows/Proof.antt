@@ -4,16 +4,16 @@ use borrow.Author.Needs.{needs}
 use Rattle.explain.proofs.explain_rows.Statement.{statement}
 use Rattle.explain.proofs.explain_rows.Tie as tie
 
-survey-requires : tie.Need-survey-requires
-survey-requires c κs =
+analyse-requires : tie.Need-analyse-requires
+analyse-requires c κs =
     let p = c .before .before .pre in
     (p .legal, p .rows, p .held, p .blank, p .prices, search needs, p .short, p .written)
 
 put-lines-requires : tie.Need-put-lines-requires
 put-lines-requires c κs =
-    let f = c .before .before .before .before .survey in
+    let f = c .before .before .before .before .analyse in
     let z : f .result .number ≡ 0 = search needs in
     (f .ensures .loops z, f .ensures .long z, search needs)
 
 pub explain-rows-spec : {M : Type 1} → statement M
-explain-rows-spec = tie.close (tie.spec survey-requires (λ c κs. search needs) (λ c. search needs) put-lines-requires (λ c κs. search needs) (λ c κs. search needs) (λ c. search needs))
+explain-rows-spec = tie.close (tie.spec analyse-requires (λ c κs. search needs) (λ c. search needs) put-lines-requires (λ c κs. search needs) (λ c κs. search needs) (λ c. search needs))

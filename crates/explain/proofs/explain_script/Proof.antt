@@ -1,6 +1,6 @@
 -- `explain::explain_script` is safe: its table has its script. Assumes nothing.
 use borrow.Author.Needs.{needs}
-use Rattle.calls.proofs.Tables.{four, fine, few-rows, fine-rows, survey-asks}
+use Rattle.calls.proofs.Tables.{four, fine, few-rows, fine-rows, analyse-asks}
 use Rattle.explain.proofs.explain_script.Statement.{statement}
 use Rattle.explain.proofs.explain_script.Tie as tie
 
@@ -14,7 +14,7 @@ explain-rows-requires : tie.Need-explain-rows-requires
 explain-rows-requires c κs =
     let s = c .before .before .before .before .before .before in
     let p = c .before .before .put-rows in
-    let a = survey-asks (s .args .file .now) (s .args .ranges) (s .args .vars) (s .args .rows) (s .args .count) (s .pre .0) (p .last .0) (p .ensures .1) (p .ensures .0) (fine (s .args .prices .now) (s .pre .1) (c .before .prices-of .ensures)) (p .ensures .0) in
+    let a = analyse-asks (s .args .file .now) (s .args .ranges) (s .args .vars) (s .args .rows) (s .args .count) (s .pre .0) (p .last .0) (p .ensures .1) (p .ensures .0) (fine (s .args .prices .now) (s .pre .1) (c .before .prices-of .ensures)) (p .ensures .0) in
     record { legal = a .0; rows = a .1; held = a .2; few = s .pre .0 .few; blank = a .3; prices = a .4; short = a .6; written = a .7 }
 
 pub explain-script-spec : {M : Type 1} → statement M

@@ -4,8 +4,8 @@ use lib.ListN.{length, drop}
 use denote.Ref.{now}
 use Rattle.reader.proofs.Counts.{count-read, count-wrong, count-small, count-long, count-none}
 use Rattle.reader.proofs.Lines.{Keyed, keyed-at, keyed-end, at-none, last-length}
-use Rattle.text.proofs.Line.{Reached, reach-none, reach-word}
-use Rattle.text.specs.Words.{before, cut, following}
+use Rattle.reading_text.proofs.Line.{Reached, reach-none, reach-word}
+use Rattle.reading_text.specs.Words.{before, cut, following}
 use mir.Facts.{toZ-ofZ}
 use mir.Syntax.{w32}
 use mir.Val.{SFits}
@@ -14,7 +14,7 @@ use native.Mathlib.Omega.{arith}
 use lib.IntN.{pos, natAbs}
 use lib.Signed.{_≤ℤ_}
 use Rattle.ints.proofs.Parts.{ints, abs-parts}
-use Rattle.rules.specs.File.{sooner, asksEnd, asksNumber, numberOf}
+use Rattle.rules.specs.File.{firstRefusal, asksEnd, asksNumber, numberOf}
 use Rattle.reader.proofs.count_line.Statement.{statement}
 use Rattle.reader.proofs.count_line.Tie as tie
 
@@ -31,20 +31,20 @@ word : (c : tie.After-said) → let a = c .before .before .before .before .befor
 word c = reach-word _ _ 0 _ (reach-none _ _ (key-at (c .before .before .before) .ends)) _ (c .before .before .next-word .ensures) _ (search needs, c .said .ensures)
 
 -- the question after the first word, and where the line ends
-second : (c : tie.After-sooner) → let a = c .before .before .before .before .before .before .before .before .before .before .args in c .before .asks-last .result ≡ asksEnd (following (drop (length (now (a .key)) - 1) (now (a .rest))) 1)
+second : (c : tie.After-first-refusal) → let a = c .before .before .before .before .before .before .before .before .before .before .args in c .before .asks-last .result ≡ asksEnd (following (drop (length (now (a .key)) - 1) (now (a .rest))) 1)
 second c = c .before .asks-last .ensures ∙ ap asksEnd (sym (c .before .before .before .before .before .next-word .ensures .more 0))
 
-ended : (c : tie.After-sooner) → let a = c .before .before .before .before .before .before .before .before .before .before .args in asksEnd (following (drop (length (now (a .key)) - 1) (now (a .rest))) 1) ≡ 0 → c .before .before .before .before .before .next-word .result .end ≡ before 10 (now (a .rest))
+ended : (c : tie.After-first-refusal) → let a = c .before .before .before .before .before .before .before .before .before .before .args in asksEnd (following (drop (length (now (a .key)) - 1) (now (a .rest))) 1) ≡ 0 → c .before .before .before .before .before .next-word .result .end ≡ before 10 (now (a .rest))
 ended c z = keyed-end _ _ _ 1 _ (key-at (c .before .before .before .before .before .before)) (word (c .before .before .before) .1) z
 
-asked : (c : tie.After-sooner) → c .sooner .result ≡ sooner (asksNumber (pos 0) (c .before .before .before .before .before .before .before .before .before .before .args .most) (c .before .before .before .said .result)) (c .before .asks-last .result)
-asked c = rw (c .sooner .ensures, simp (toZ-ofZ (c .before .before .before .before .before .before .before .before .before .before .fits .most)) at (c .before .before .asks-number .ensures))
+asked : (c : tie.After-first-refusal) → c .first-refusal .result ≡ firstRefusal (asksNumber (pos 0) (c .before .before .before .before .before .before .before .before .before .before .args .most) (c .before .before .before .said .result)) (c .before .asks-last .result)
+asked c = rw (c .first-refusal .ensures, simp (toZ-ofZ (c .before .before .before .before .before .before .before .before .before .before .fits .most)) at (c .before .before .asks-number .ensures))
 
-small : (c : tie.After-sooner) → c .sooner .result ≡ 0 → (pos 0 ≤ℤ numberOf (c .before .before .before .said .result)) × (numberOf (c .before .before .before .said .result) ≤ℤ pos 1_000_000_000)
+small : (c : tie.After-first-refusal) → c .first-refusal .result ≡ 0 → (pos 0 ≤ℤ numberOf (c .before .before .before .said .result)) × (numberOf (c .before .before .before .said .result) ≤ℤ pos 1_000_000_000)
 small c z = let s = c .before .before .before .before .before .before .before .before .before .before in
     count-small _ _ _ (key-at (c .before .before .before .before .before .before) .words) _ _ _ _ _ (word (c .before .before .before) .0) (second c) (ended c) (s .pre .0) (s .pre .1) (asked c) z
 
-long : (c : tie.After-sooner) → c .sooner .result ≡ 0 → c .before .before .before .before .before .next-word .result .end + 1 ≤ length (now (c .before .before .before .before .before .before .before .before .before .before .args .rest))
+long : (c : tie.After-first-refusal) → c .first-refusal .result ≡ 0 → c .before .before .before .before .before .next-word .result .end + 1 ≤ length (now (c .before .before .before .before .before .before .before .before .before .before .args .rest))
 long c z = let s = c .before .before .before .before .before .before .before .before .before .before in
     count-long _ _ _ (key-at (c .before .before .before .before .before .before) .words) _ _ _ _ _ (word (c .before .before .before) .0) (second c) (ended c) (s .pre .0) (s .pre .1) (asked c) z
 

@@ -3,7 +3,7 @@ use mathlib.Core.Logic.{⊎-elim}
 use Prim.Native.Nat.{_+_, _-_, _≤_}
 use lib.ListN.{length, drop, length-drop}
 use denote.Ref.{now}
-use Rattle.text.proofs.Laws.{part-rest}
+use Rattle.reading_text.proofs.Laws.{part-rest}
 use Rattle.reader.specs.Read.{LineRead}
 use Rattle.reader.proofs.Fill.{RowsUpto, RowsRead, rows-none, rows-more, rows-wrong, rows-misplaced, rows-long, rows-all}
 use Rattle.reader.proofs.Loads.{load-read, then-passed, rows-passed, loads}

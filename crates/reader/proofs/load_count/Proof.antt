@@ -2,7 +2,7 @@ use mathlib.Core.Path.{refl, subst}
 use lib.ListN.{drop, length-drop}
 use denote.Ref.{now}
 use Rattle.rules.specs.File.{rowsKey}
-use Rattle.text.proofs.Laws.{part-rest}
+use Rattle.reading_text.proofs.Laws.{part-rest}
 use Rattle.reader.specs.Read.{clean, CountRead}
 use Rattle.reader.proofs.Loads.{count-refused, count-says}
 use borrow.Author.Needs.{needs}

@@ -2,7 +2,7 @@ use mathlib.Core.Path.{refl, sym, _∙_, subst}
 use lib.ListN.{drop, length-drop}
 use denote.Ref.{now}
 use Rattle.rules.specs.File.{varsKey, rangePart}
-use Rattle.text.proofs.Laws.{part-rest}
+use Rattle.reading_text.proofs.Laws.{part-rest}
 use Rattle.reader.specs.Read.{clean, CountRead, HeadRead}
 use Rattle.reader.proofs.Loads.{after-count, after-wrong, head-refused}
 use borrow.Author.Needs.{needs}

@@ -4,8 +4,8 @@ use denote.Ref.{now}
 use Rattle.reader.proofs.Counts.{range-read, range-wrong, range-long, range-none}
 use Rattle.reader.proofs.Lines.{Keyed, keyed-at, keyed-end, at-none, last}
 use Rattle.reader.specs.Read.{clean}
-use Rattle.text.proofs.Line.{Reached, reach-two, reach-last}
-use Rattle.text.specs.Words.{before, cut, following}
+use Rattle.reading_text.proofs.Line.{Reached, reach-two, reach-last}
+use Rattle.reading_text.specs.Words.{before, cut, following}
 use mir.Facts.{toZ-ofZ}
 use mir.Syntax.{w32}
 use mir.Val.{SFits}
@@ -26,13 +26,13 @@ words : (c : tie.After-said2) → let s = now (c .before .before .before .before
 words c = reach-two _ _ (key-at (c .before .before .before .before .before .before) .ends) _ (c .before .before .before .before .before .next-word .ensures) _ (search needs, c .before .before .before .said .ensures) _ (c .before .before .next-word2 .ensures) _ (search needs, c .said2 .ensures)
 
 -- where the line ends, and the question of the words
-ended : (c : tie.After-sooner3) → let s = now (c .before .before .before .before .before .before .before .before .before .before .before .before .before .before .before .before .before .args .rest) in asksEnd (following (drop 5 s) 2) ≡ 0 → c .before .before .before .before .before .before .before .before .before .next-word2 .result .end ≡ before 10 s
+ended : (c : tie.After-first-refusal3) → let s = now (c .before .before .before .before .before .before .before .before .before .before .before .before .before .before .before .before .before .args .rest) in asksEnd (following (drop 5 s) 2) ≡ 0 → c .before .before .before .before .before .before .before .before .before .next-word2 .result .end ≡ before 10 s
 ended c z = keyed-end _ _ _ 2 _ (key-at (c .before .before .before .before .before .before .before .before .before .before .before .before .before)) (words (c .before .before .before .before .before .before .before) .2) z
 
-asked : (c : tie.After-sooner3) → c .sooner3 .result ≡ asksRange (λ k. cut (following (drop 5 (now (c .before .before .before .before .before .before .before .before .before .before .before .before .before .before .before .before .before .args .rest))) k))
+asked : (c : tie.After-first-refusal3) → c .first-refusal3 .result ≡ asksRange (λ k. cut (following (drop 5 (now (c .before .before .before .before .before .before .before .before .before .before .before .before .before .before .before .before .before .args .rest))) k))
 unfolding asksRange lowest highest
 asked c = let (a, b, r) = words (c .before .before .before .before .before .before .before) in
-    rw (c .sooner3 .ensures, c .before .asks-number2 .ensures, c .before .before .sooner2 .ensures, c .before .before .before .asks-number .ensures, c .before .before .before .before .sooner .ensures, c .before .before .before .before .before .asks-order .ensures, c .before .before .before .before .before .before .asks-last .ensures, a, b, reach-last _ _ 2 _ r)
+    rw (c .first-refusal3 .ensures, c .before .asks-number2 .ensures, c .before .before .first-refusal2 .ensures, c .before .before .before .asks-number .ensures, c .before .before .before .before .first-refusal .ensures, c .before .before .before .before .before .asks-order .ensures, c .before .before .before .before .before .before .asks-last .ensures, a, b, reach-last _ _ 2 _ r)
 
 next-word-requires : tie.Need-next-word-requires
 next-word-requires c κs = key-at c .ends

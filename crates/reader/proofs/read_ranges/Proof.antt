@@ -5,7 +5,7 @@ use denote.Ref.{now}
 use mir.Facts.{toZ-ofZ}
 use mir.Syntax.{w32}
 use mir.Val.{SFits}
-use Rattle.text.proofs.Laws.{part-rest}
+use Rattle.reading_text.proofs.Laws.{part-rest}
 use Rattle.reader.specs.Read.{rangesOf, RangeRead}
 use Rattle.reader.proofs.Fill.{RangesUpto, ranges-none, ranges-more, ranges-wrong, ranges-all}
 use borrow.Author.Needs.{needs}

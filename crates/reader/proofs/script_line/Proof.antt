@@ -4,10 +4,10 @@ use denote.Ref.{now}
 use Rattle.reader.proofs.Counts.{script-read, script-wrong, script-long, script-none}
 use Rattle.reader.proofs.Lines.{Keyed, keyed-at, keyed-end, at-none, last}
 use Rattle.reader.specs.Read.{clean}
-use Rattle.text.proofs.Line.{Reached, reach-none, reach-word}
-use Rattle.text.specs.Words.{before, cut, following}
+use Rattle.reading_text.proofs.Line.{Reached, reach-none, reach-word}
+use Rattle.reading_text.specs.Words.{before, cut, following}
 use borrow.Author.Needs.{needs}
-use Rattle.rules.specs.File.{sooner, asksEnd, asksOne, scriptKey}
+use Rattle.rules.specs.File.{firstRefusal, asksEnd, asksOne, scriptKey}
 use Rattle.reader.proofs.script_line.Statement.{statement}
 use Rattle.reader.proofs.script_line.Tie as tie
 
@@ -21,14 +21,14 @@ word : (c : tie.After-said) → let s = now (c .before .before .before .before .
 word c = reach-word _ _ 0 _ (reach-none _ _ (key-at (c .before .before .before) .ends)) _ (c .before .before .next-word .ensures) _ (search needs, c .said .ensures)
 
 -- the question after the first word, and where the line ends
-second : (c : tie.After-sooner) → c .before .asks-last .result ≡ asksEnd (following (drop 6 (now (c .before .before .before .before .before .before .before .before .before .before .args .rest))) 1)
+second : (c : tie.After-first-refusal) → c .before .asks-last .result ≡ asksEnd (following (drop 6 (now (c .before .before .before .before .before .before .before .before .before .before .args .rest))) 1)
 second c = c .before .asks-last .ensures ∙ ap asksEnd (sym (c .before .before .before .before .before .next-word .ensures .more 0))
 
-ended : (c : tie.After-sooner) → let s = now (c .before .before .before .before .before .before .before .before .before .before .args .rest) in asksEnd (following (drop 6 s) 1) ≡ 0 → c .before .before .before .before .before .next-word .result .end ≡ before 10 s
+ended : (c : tie.After-first-refusal) → let s = now (c .before .before .before .before .before .before .before .before .before .before .args .rest) in asksEnd (following (drop 6 s) 1) ≡ 0 → c .before .before .before .before .before .next-word .result .end ≡ before 10 s
 ended c z = keyed-end _ _ _ 1 _ (key-at (c .before .before .before .before .before .before)) (word (c .before .before .before) .1) z
 
-asked : (c : tie.After-sooner) → c .sooner .result ≡ sooner (asksOne (c .before .before .before .said .result)) (c .before .asks-last .result)
-asked c = rw (c .sooner .ensures, c .before .before .asks-one .ensures)
+asked : (c : tie.After-first-refusal) → c .first-refusal .result ≡ firstRefusal (asksOne (c .before .before .before .said .result)) (c .before .asks-last .result)
+asked c = rw (c .first-refusal .ensures, c .before .before .asks-one .ensures)
 
 next-word-requires : tie.Need-next-word-requires
 next-word-requires c κs = key-at c .ends

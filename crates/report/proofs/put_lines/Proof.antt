@@ -6,11 +6,11 @@ use mathlib.Core.List.{[], _∷_}
 use Prim.Native.Nat.{_≤_}
 use lib.ListN.{length, length-drop}
 use Rattle.rules.specs.Report.{joined, keyLine, ticksKey}
-use Rattle.lines.specs.Coded.{linesIn}
-use Rattle.lines.proofs.Laws.{lent-room}
+use Rattle.analysis_lines.specs.Coded.{linesIn}
+use Rattle.analysis_lines.proofs.Laws.{lent-room}
 use Rattle.report.specs.Lines.{headText, loopsText}
 use Rattle.report.proofs.Laws.{report-parts}
-use Rattle.pieces.proofs.Laws.{first-room, second-room, second-written, third-room, third-written, writing-all, part-rest}
+use Rattle.report_pieces.proofs.Laws.{first-room, second-room, second-written, third-room, third-written, writing-all, part-rest}
 use Rattle.report.proofs.put_lines.Statement.{statement}
 use Rattle.report.proofs.put_lines.Tie as tie
 

@@ -4,8 +4,8 @@ use native.Mathlib.Omega.{arith}
 use mathlib.Core.Path.{_≡_, ap, _∙_}
 use lib.ListN.{length}
 use Rattle.rules.specs.Report.{keyLine, ticksKey}
-use Rattle.lines.specs.Coded.{linesIn}
-use Rattle.lines.proofs.Laws.{lent-room}
+use Rattle.analysis_lines.specs.Coded.{linesIn}
+use Rattle.analysis_lines.proofs.Laws.{lent-room}
 use Rattle.report.specs.Lines.{headText, loopsText}
 use Rattle.report.proofs.Laws.{report-parts, three-length}
 use Rattle.report.proofs.report_len.Statement.{statement}

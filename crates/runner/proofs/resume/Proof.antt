@@ -1,7 +1,7 @@
 -- `runner::resume` meets its contract. The invariant: the state is reached by steps from the first one. The measure: the weight of the state. Assumes nothing.
 use Rattle.runner.proofs.Loop.{Runs, weight, runs-start, doable, fitting, head-in, runs-step, runs-past, runs-over}
-use Rattle.actions.specs.States.{nextOf}
-use Rattle.runner.specs.Runs.{Ready}
+use Rattle.run_actions.specs.States.{nextOf}
+use Rattle.runner.specs.Runs.{MayStep}
 use Rattle.rules.specs.RowMachine.{tallyOf}
 use Rattle.rules.specs.Blocks.{kindsOf}
 use mir.Val.{Fits}
@@ -37,7 +37,7 @@ same-start o = o .on .ensures ∙ o .before .before .before .pre .1
 
 begun : (o : tie.After-on Inv-loop μ-loop)
     → let a = o .before .before .before .args in
-    Ready (now (a .text)) (a .prices) (a .t2) (a .count) (a .t4) (o .on .result) (a .store .now) (a .picks .now) (a .counts .now)
+    MayStep (now (a .text)) (a .prices) (a .t2) (a .count) (a .t4) (o .on .result) (a .store .now) (a .picks .now) (a .counts .now)
 begun o = rw (same-start o) (o .before .before .before .pre .0)
 
 -- one turn: a row's step

@@ -7,8 +7,8 @@ use Prim.Native.Nat.{ℕ, _+_, _-_, _≤_}
 use lib.ListN.{length, length-replicate}
 use Rattle.rules.specs.Season.{judgedAll}
 use Rattle.rules.proofs.Season.{length-end}
-use Rattle.repertoire.specs.Holds.{Holds}
-use Rattle.repertoire.proofs.Laws.{holds-none, judged-end, judged-count}
+use Rattle.season_files.specs.Holds.{Holds}
+use Rattle.season_files.proofs.Laws.{holds-none, judged-end, judged-count}
 use Rattle.season.proofs.sheet_of.Statement.{statement}
 use Rattle.season.proofs.sheet_of.Tie as tie
 

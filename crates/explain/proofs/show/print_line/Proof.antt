@@ -3,8 +3,8 @@ use mathlib.Core.Path.{subst}
 use denote.Ref.{now}
 use borrow.Author.Needs.{needs}
 use native.Mathlib.Omega.{arith}
-use Rattle.margin.specs.Places.{LineOf}
-use Rattle.margin.specs.declared.place.Found.the-variants.{At}
+use Rattle.explain_margin.specs.Places.{LineOf}
+use Rattle.explain_margin.specs.declared.place.Found.the-variants.{At}
 use Rattle.explain.proofs.show.print_line.Statement.{statement}
 use Rattle.explain.proofs.show.print_line.Tie as tie
 

@@ -1,0 +1,447 @@
+-- The analysis' walk, row by row: what the code carries is what the fold carries.
+use mathlib.Core.Path.{_≡_, refl, sym, ap, ap₂, subst, _∙_, fun-ext}
+use mathlib.Core.Logic.{inl, inr}
+use mathlib.Core.Bool.{Bool, true, false, not, cond, _&&_}
+use mathlib.Core.List.{List, [], _∷_, _++_}
+use Prim.Native.Nat.{ℕ, _+_, _*_, _≤_, _<_, max}
+use native.Mathlib.Omega.{arith}
+use native.Mathlib.Nat.{mul-le-mul}
+use lib.Dec.{leb}
+use lib.IntN.{ℤ, pos}
+use Rattle.rules.specs.declared.Row.{Row}
+use Rattle.rules.specs.declared.Kind.{Kind}
+use Rattle.rules.specs.declared.Kind.the-variants.{Set, Move, Cue, Pick, Else, End, While, Do, For, Off, Hold}
+use Rattle.rules.proofs.Kind.{the-type}
+use types.Run.{OneOf, miss}
+use denote.Enum.Declared.{tagOf}
+use Rattle.rules.specs.Blocks.{Plain, assign, cue, Test, Form, Last, no-step, step-by, viewOf, kindOf, Block, pick}
+use Rattle.rules.specs.Steps.{starts, assigns}
+use Rattle.rules.specs.Ranges.{Env, full, afterRow, join, atStart}
+use Rattle.rules.specs.Trips.{Trip, trip, turns, inside, outside, after}
+use Rattle.rules.specs.Bounds.{FinePrices}
+use Rattle.rules.specs.declared.Prices.{Prices}
+use Rattle.rules.specs.Passes.{Pass, any, startPass, sumOver, sums, firstPass, overPasses}
+use Rattle.rules.specs.Figures.{price, ticks, Line, alike, often, totalOf, inBody, line, lines}
+use Rattle.rules.proofs.Triangles.{over-same, over-past}
+use Rattle.rules.proofs.Walk.{over-add, over-once, turnsWalk, passes-walk}
+use Rattle.rules.specs.declared.Verdict.{Verdict}
+use Rattle.rules.specs.declared.Verdict.the-variants.{Passed as passed, Refused as refused}
+use Rattle.rules.specs.Questions.{andThen, asked, tickLimit, ofTrip, loopsVerdict, blocksVerdict, loopVerdict}
+use Rattle.analysis_table.specs.declared.Shape.{Shape}
+use Rattle.analysis_table.proofs.Shape as shapes
+use lib.ListN.{length}
+use Rattle.analysis_lines.specs.Coded.{firstLines}
+use Rattle.analysis_table.specs.Code.{kindAt}
+use Rattle.analysis_table.specs.Shapes.{shapeOf, plainOf}
+use Rattle.analysis_steps.specs.Tree.{blockAt, Whole, Ready, Walked, headOf, formOf, testOf}
+use Rattle.analysis_steps.specs.Body.{bodyAt}
+use Rattle.analysis_steps.proofs.Laws.{PickIs, LoopIs}
+use Rattle.analysis_steps.proofs.Walking.{Walking, plain-row}
+use Rattle.analysis_trips.specs.Env.{envOf}
+use Rattle.analysis_ranges.specs.Env.{EnvIs}
+use Rattle.analysis_ticks.specs.Capped.{capped, once, overOf}
+use Rattle.analysis_ticks.proofs.Caps.{cap-mul, loop-ticks-is}
+use Rattle.analysis_passes.specs.declared.Round.{Round}
+use Rattle.analysis_passes.specs.Rounds.{roundOf, passIn, FineRound, branchOf}
+use Rattle.analysis_passes.proofs.Loops.{walk-is}
+use Rattle.analysis.specs.declared.Entered.{Entered}
+use Rattle.analysis.specs.Enter.{walkedAt, Entry}
+use Rattle.analysis.specs.Fold.{loopCount, frontOf, restOf, cut, cuts, State, TallyLines, folded, tallied, lastPrice, lastTicks, lineFor, Restarted, PastRow, Lined, Closed, EndedAt, Walkable, Passed, Analysed, IsBlock, PassedBlock}
+use Rattle.analysis.proofs.Folding.{state-is, cap-lines, later-in, fold-plain, first-pick, first-loop, fold-first, pastPlain, pickTicks, pastPick, ownTicks, allTicks, pastLoop, SameBody, same-body}
+use Rattle.analysis.proofs.Bodies.{body-known, body-sum, body-lines, own-passes, cap-often}
+
+-- what a walk over a block found, part by part, from a tally with these parts
+pub record Part (π : Prices) (q : Round) (k : Bool) (ρ : Env) (s : ℕ) (o : Verdict) (ls : List Line) (n : ℕ) (b : Block) (r : TallyLines) : Type 0 where
+  pub kept : r .kept ≡ k && not (assigns (q .v) b)
+  pub verdict : loopsVerdict ρ b ≡ passed
+  pub spent : r .spent ≡ capped (s + sumOver (passIn q k) (q .by) (q .count) (λ j. ticks π j ρ b))
+  pub over : overOf (r .over) ≡ andThen o (blocksVerdict π ρ b)
+  pub lined : firstLines (r .lines) (r .loops) ≡ ls ++ cuts (lines (roundOf q) (passIn q k) ρ b)
+  pub count : r .loops ≡ n + loopCount b
+  pub long : length (r .lines) ≡ 16
+
+abbrev pub from-parts : Env → Bool → ℕ → Verdict → List Line → ℕ → State
+from-parts ρ k s o ls n = record { env = ρ; kept = k; verdict = passed; spent = s; over = o; lines = ls; loops = n }
+
+pub part-of : {text : List ℕ} {π : Prices} {rows : List Row} {count at : ℕ} {q : Round} {ρ : Env} {t r : TallyLines} (k : Bool) (s : ℕ) (o : Verdict) (ls : List Line) (n : ℕ) → tallied t ρ ≡ from-parts ρ k s o ls n
+    → Passed text π rows count at ρ q t r → Part π q k ρ s o ls n (blockAt text rows count at) r
+unfolding folded andThen
+part-of {text} {π} {rows} {count} {at} {q} {ρ} {t} {r} k s o ls n e p =
+    let b = blockAt text rows count at in
+    let v : tallied r (after ρ b) ≡ folded π q (from-parts ρ k s o ls n) b = p .value ∙ ap (λ x. folded π q x b) e in
+    record {
+      kept = ap (λ (x : State). x .kept) v;
+      verdict = sym (ap (λ (x : State). x .verdict) v);
+      spent = ap (λ (x : State). x .spent) v;
+      over = ap (λ (x : State). x .over) v;
+      lined = ap (λ (x : State). x .lines) v;
+      count = ap (λ (x : State). x .loops) v;
+      long = p .long;
+    }
+
+-- or which loop it refused
+pub refused-in : {text : List ℕ} {π : Prices} {rows : List Row} {count at : ℕ} {q : Round} {ρ : Env} {t r : TallyLines} → Analysed text π rows count at ρ q t r → (r .number ≡ 0 → ⊥)
+    → loopsVerdict ρ (blockAt text rows count at) ≡ refused (r .number) (r .place)
+unfolding folded andThen
+refused-in s h = s .stopped h
+
+-- what a row and a body's last row take is small
+module _ {π : Prices} (fine : FinePrices π) where
+  pub price-small : (p : Plain) → price π p ≤ 1_000
+  unfolding price
+  price-small (assign v x) = fine .arithmetic .small
+  price-small (cue n) = fine .cue .small
+
+  last-price-small : (l : Last) → lastPrice π l ≤ 1_000
+  last-price-small no-step = omega arith
+  last-price-small (step-by p) = price-small p
+
+  pub last-small : (text : List ℕ) (k : Kind) → lastTicks text π k ≤ 1_000
+  last-small text k = last-price-small (headOf text k .last)
+
+-- any row but a for
+abbrev no-for : List ℕ
+no-for = 0 ∷ 1 ∷ 2 ∷ 3 ∷ 4 ∷ 5 ∷ 6 ∷ 7 ∷ 8 ∷ 10 ∷ []
+
+pub no-last : (text : List ℕ) (π : Prices) (k : Kind) → OneOf no-for (tagOf the-type k) → 0 ≡ lastTicks text π k
+unfolding headOf viewOf kindOf
+no-last text π End o = refl
+no-last text π Else o = refl
+no-last text π Pick o = refl
+no-last text π (Set v x) o = refl
+no-last text π (Move v c) o = refl
+no-last text π (Cue n) o = refl
+no-last text π (While v c x) o = refl
+no-last text π (Do v c x) o = refl
+no-last text π (For v s c x d) o = absurd (miss no-for 9 tt o)
+no-last text π (Off v w c k) o = refl
+no-last text π (Hold v) o = refl
+
+-- a row that is neither plain nor a close begins a block; a block that is no pick is a loop
+pub block-shape : (s : Shape) → OneOf (1 ∷ 2 ∷ []) (tagOf shapes.the-type s) → IsBlock s
+block-shape Shape.Plain o = absurd (miss (1 ∷ 2 ∷ []) 0 tt o)
+block-shape Shape.Branch o = inl refl
+block-shape Shape.Loop o = inr refl
+block-shape Shape.Close o = absurd (miss (1 ∷ 2 ∷ []) 3 tt o)
+
+pub loop-shape : (s : Shape) → OneOf (0 ∷ 2 ∷ 3 ∷ []) (tagOf shapes.the-type s) → IsBlock s → s ≡ Shape.Loop
+loop-shape s o (inl e) = absurd (miss (0 ∷ 2 ∷ 3 ∷ []) 1 tt (subst (λ x. OneOf (0 ∷ 2 ∷ 3 ∷ []) (tagOf shapes.the-type x)) e o))
+loop-shape s o (inr e) = e
+
+-- the walk is over
+pub closing : {text : List ℕ} {π : Prices} {rows : List Row} {count at i : ℕ} {outer : Round} {ρ ρ₀ : Env} {t t₀ r : TallyLines} → Walked text rows count at i (tallied t ρ) (folded π outer (tallied t₀ ρ₀)) → t .spent ≤ 1_000_000_000_001 → length (t .lines) ≡ 16 → EndedAt t i r
+    → Passed text π rows count at ρ₀ outer t₀ r
+unfolding folded
+closing {text} {π} {rows} {count} {at} {i} {outer} {ρ} {ρ₀} {t} {t₀} {r} w s m h =
+    let b = blockAt text rows count at in
+    let e : ρ ≡ after ρ₀ b = ap (λ (x : State). x .env) (w .value) in
+    let q : r .spent ≡ t .spent = ap (λ (x : State). x .spent) (h .value ρ) in
+    record {
+      value = ap (tallied r) (sym e) ∙ h .value ρ ∙ w .value;
+      place = h .next ∙ w .place;
+      low = omega (arith, h .next, w .low);
+      high = omega (arith, h .next, w .high);
+      small = omega arith;
+      long = ap length (h .same) ∙ m;
+    }
+
+nowhere : Env
+nowhere w = full
+
+-- a tally that a walk may start from
+pub restart-walkable : {text : List ℕ} {π : Prices} {rows : List Row} {count a s : ℕ} {kept : Bool} {q : Round} {t r : TallyLines} → Ready text rows count a → FinePrices π → FineRound q → Restarted t kept s r → length (t .lines) ≡ 16 → s ≤ 1_000_000_000_001
+    → t .loops + loopCount (blockAt text rows count a) ≤ 16 → Walkable text π rows count a q r
+restart-walkable {t} {r} k fine o h g l m =
+    let p = ap (λ (x : State). x .spent) (h .value nowhere) in
+    let n = ap (λ (x : State). x .loops) (h .value nowhere) in
+    record { ready = k; prices = fine; small = omega arith; fine = o; room = omega arith; long = ap length (h .same) ∙ g }
+
+pub lined-walkable : {text : List ℕ} {π : Prices} {rows : List Row} {count a i turns total s : ℕ} {kept : Bool} {q : Round} {τ : Trip} {t r : TallyLines} → Ready text rows count a → FinePrices π → FineRound q → Lined t i τ turns total s kept r → s ≤ 1_000_000_000_001
+    → t .loops + 1 + loopCount (blockAt text rows count a) ≤ 16 → Walkable text π rows count a q r
+lined-walkable {t} {r} k fine o h l m =
+    let p = ap (λ (x : State). x .spent) (h .value nowhere) in
+    let n = ap (λ (x : State). x .loops) (h .value nowhere) in
+    record { ready = k; prices = fine; small = omega arith; fine = o; room = omega arith; long = h .long }
+
+pub record Going (text : List ℕ) (π : Prices) (rows : List Row) (count : ℕ) (round : Round) (at : ℕ) (x₀ : State) (i : ℕ) (ρ : Env) (t : TallyLines) : Type 0 where
+  pub walk : Walking text rows count (folded π round) at x₀ i (tallied t ρ)
+  pub small : t .spent ≤ 1_000_000_000_001
+  pub long : length (t .lines) ≡ 16
+
+module _ {text : List ℕ} {π : Prices} {rows : List Row} {count : ℕ} {round : Round} {at : ℕ} {x₀ : State} {i : ℕ} {ρ : Env} {t : TallyLines} (k : Going text π rows count round at x₀ i ρ t) where
+  -- the loops that are left
+  pub room : x₀ .loops + loopCount (blockAt text rows count at) ≡ t .loops + loopCount (blockAt text rows count i)
+  unfolding folded
+  room = ap (λ (x : State). x .loops) (k .walk .value)
+
+  pub go-plain : i < count → Whole text rows count → shapeOf (kindAt rows i) ≡ Shape.Plain → {σ : Env} {r : TallyLines} → σ ≡ afterRow ρ (plainOf text (kindAt rows i)) → PastRow π round t (plainOf text (kindAt rows i)) r
+      → Going text π rows count round at x₀ (i + 1) σ r
+  go-plain l built h {σ} {r} a c =
+      let e : tallied r σ ≡ pastPlain π round (tallied t ρ) (plainOf text (kindAt rows i)) = c .value σ ∙ state-is a refl refl refl refl refl refl in
+      record {
+        walk = plain-row rows count (folded π round) at x₀ (k .walk) l built h (λ rest. fold-plain π round (tallied t ρ) i (plainOf text (kindAt rows i)) rest ∙ ap (λ y. folded π round y rest) (sym e));
+        small = let z = ap (λ (x : State). x .spent) (c .value σ) in omega arith;
+        long = ap length (c .same) ∙ k .long;
+      }
+
+  -- past a block, by its first row's own walk; or stopped in it
+  first-then : folded π round x₀ (blockAt text rows count at) ≡ folded π round (folded π round (tallied t ρ) (frontOf (blockAt text rows count i))) (restOf (blockAt text rows count i))
+  first-then = k .walk .value ∙ fold-first π round (tallied t ρ) (blockAt text rows count i) (k .small)
+
+  pub go-block : {ranges : List (List ℤ)} {r : TallyLines} → PassedBlock text π rows count i ρ round t ranges r → Going text π rows count round at x₀ (r .next + 1) (envOf ranges) r
+  go-block {ranges} {r} p =
+      let w = k .walk in
+      record {
+        walk = record { low = omega arith; high = omega arith; value = first-then ∙ ap₂ (folded π round) (sym (p .value)) (p .rest); place = w .place ∙ p .place };
+        small = p .small;
+        long = p .long;
+      }
+
+  pub block-stops : (n p : ℕ) → folded π round (tallied t ρ) (frontOf (blockAt text rows count i)) .verdict ≡ refused n p → folded π round x₀ (blockAt text rows count at) .verdict ≡ refused n p
+  unfolding folded andThen
+  block-stops n p h = ap (λ (x : State). x .verdict) first-then ∙ ap (λ v. andThen v (loopsVerdict (after ρ (frontOf (blockAt text rows count i))) (restOf (blockAt text rows count i)))) h
+
+-- ---- a block at row i, from the ranges ρ and the tally t
+module _ {text : List ℕ} (π : Prices) {rows : List Row} {count : ℕ} (round : Round) {i : ℕ} (ρ : Env) (t : TallyLines) where
+  -- ---- a pick
+  module _ {m q e : ℕ} (u : PickIs text rows count i m q e) where
+    abbrev A : Block
+    A = blockAt text rows count (i + 1)
+
+    abbrev B : Block
+    B = blockAt text rows count q
+
+    pub pick-room : t .loops + loopCount (blockAt text rows count i) ≤ 16 → t .loops + loopCount A + loopCount B ≤ 16
+    unfolding loopCount
+    pick-room h = omega (arith, ap loopCount (u .block))
+
+    pick-alone : folded π round (tallied t ρ) (frontOf (blockAt text rows count i)) ≡ pastPick π round (tallied t ρ) e A B
+    unfolding frontOf
+    pick-alone = ap (λ b. folded π round (tallied t ρ) (frontOf b)) (u .block) ∙ first-pick π round (tallied t ρ) i e A B
+
+    pub pick-first : (n p : ℕ) → loopsVerdict ρ A ≡ refused n p → folded π round (tallied t ρ) (frontOf (blockAt text rows count i)) .verdict ≡ refused n p
+    unfolding andThen
+    pick-first n p h = ap (λ (x : State). x .verdict) pick-alone ∙ ap (λ v. andThen v (loopsVerdict ρ B)) h
+
+    pub pick-second : (n p : ℕ) → loopsVerdict ρ A ≡ passed → loopsVerdict ρ B ≡ refused n p → folded π round (tallied t ρ) (frontOf (blockAt text rows count i)) .verdict ≡ refused n p
+    unfolding andThen
+    pick-second n p g h = ap (λ (x : State). x .verdict) pick-alone ∙ ap₂ (λ v w. andThen v w) g h
+
+    -- a part's ticks and lines
+    abbrev part : Round
+    part = branchOf round
+
+    part-ticks : (b : Block) → sumOver (passIn part false) (pos 0) 1 (λ j. ticks π j ρ b) ≡ ticks π any ρ b
+    part-ticks b = over-once (pos 0) (λ j. ticks π j ρ b)
+
+    part-lines : (b : Block) → cuts (lines (roundOf part) any ρ b) ≡ cuts (lines (alike (often (roundOf round))) any ρ b)
+    part-lines b = cap-lines 1 (pos 0) _ _ (omega arith) any ρ b
+
+    -- a part, walked with its ticks from the start
+    pub part-by : {at : ℕ} {p : Round} {x y z : TallyLines} → p ≡ part → Restarted x (x .kept) 0 y → Passed text π rows count at ρ p y z
+        → Part π part (x .kept) ρ 0 (overOf (x .over)) (firstLines (x .lines) (x .loops)) (x .loops) (blockAt text rows count at) z
+    part-by {at} {p} {x} {y} {z} e h g =
+        let ls = firstLines (x .lines) (x .loops) in
+        subst (λ q. Part π q (x .kept) ρ 0 (overOf (x .over)) ls (x .loops) (blockAt text rows count at) z) e (part-of (x .kept) 0 (overOf (x .over)) ls (x .loops) (h .value ρ) g)
+
+    pub past-pick : {a b : TallyLines} {ranges : List (List ℤ)} {r : TallyLines}
+        → Part π part (t .kept) ρ 0 (overOf (t .over)) (firstLines (t .lines) (t .loops)) (t .loops) A a
+        → Part π part (a .kept) ρ 0 (overOf (a .over)) (firstLines (a .lines) (a .loops)) (a .loops) B b
+        → Closed t b e (capped (π .pick + max (a .spent) (b .spent))) (capped (round .count * capped (π .pick + max (a .spent) (b .spent)))) (b .kept) r → EnvIs ranges (join (after ρ A) (after ρ B)) → PassedBlock text π rows count i ρ round t ranges r
+    unfolding andThen restOf
+    past-pick {a} {b} {ranges} {r} pa pb c s =
+        let G = pickTicks π round (tallied t ρ) A B in
+        let fg : capped (π .pick + max (a .spent) (b .spent)) ≡ capped G = omega (arith, pa .spent, pb .spent, part-ticks A, part-ticks B) in
+        let all : capped (round .count * capped (π .pick + max (a .spent) (b .spent))) ≡ capped (round .count * G) = ap (λ z. capped (round .count * z)) fg ∙ cap-mul (round .count) G in
+        let z : tallied r (envOf ranges) ≡ pastPick π round (tallied t ρ) e A B = state-is (s .value)
+        (c .kept ∙ pb .kept ∙ ap (λ p. p && not (assigns (round .v) B)) (pa .kept))
+        (sym (ap₂ (λ v w. andThen v w) (pa .verdict) (pb .verdict)))
+        (omega (arith, c .spent, all))
+        (c .over .value G fg ∙ ap (λ v. andThen v (asked 13 e (leb G tickLimit) passed)) (pb .over ∙ ap (λ v. andThen v (blocksVerdict π ρ B)) (pa .over)))
+        (ap₂ firstLines (c .same) (c .loops) ∙ pb .lined ∙ ap₂ (λ x y. x ++ y) (pa .lined ∙ ap (λ x. firstLines (t .lines) (t .loops) ++ x) (part-lines A)) (part-lines B))
+        (c .loops ∙ pb .count ∙ ap (λ x. x + loopCount B) (pa .count)) in
+        record {
+          value = z ∙ sym pick-alone;
+          rest = rw (c .next) (ap restOf (u .block));
+          place = rw (c .next) (u .end);
+          low = omega (arith, c .next);
+          high = omega (arith, c .next);
+          small = omega (arith, c .spent);
+          long = ap length (c .same) ∙ pb .long;
+          env-long = s .long;
+        }
+
+  -- ---- a loop
+  module _ {e : ℕ} (u : LoopIs text rows count (headOf text (kindAt rows i)) i e) where
+    abbrev form : Form
+    form = formOf text (kindAt rows i)
+
+    abbrev test : Test
+    test = testOf text (kindAt rows i)
+
+    abbrev body : Block
+    body = bodyAt text rows count i
+
+    abbrev σ : Env
+    σ = atStart form test ρ
+
+    abbrev β : Env
+    β = inside form σ test body
+
+    same : SameBody π (headOf text (kindAt rows i) .last) (blockAt text rows count (i + 1)) body
+    same = same-body π (headOf text (kindAt rows i) .last) i (blockAt text rows count (i + 1))
+
+    pub loop-room : t .loops + loopCount (blockAt text rows count i) ≤ 16 → t .loops + 1 + loopCount (blockAt text rows count (i + 1)) ≤ 16
+    unfolding loopCount
+    loop-room h = omega (arith, ap loopCount (u .block), same .count)
+
+    loop-alone : folded π round (tallied t ρ) (frontOf (blockAt text rows count i)) ≡ pastLoop π round (tallied t ρ) i e form test body
+    unfolding frontOf
+    loop-alone = ap (λ b. folded π round (tallied t ρ) (frontOf b)) (u .block) ∙ first-loop π round (tallied t ρ) i e form test body
+
+    pub loop-refused : (n p : ℕ) → ofTrip i (trip form σ test body) ≡ refused n p → folded π round (tallied t ρ) (frontOf (blockAt text rows count i)) .verdict ≡ refused n p
+    unfolding andThen
+    loop-refused n p g = ap (λ (x : State). x .verdict) loop-alone ∙ ap (λ v. andThen v (loopsVerdict β body)) g
+
+    pub body-refused : (n p : ℕ) → ofTrip i (trip form σ test body) ≡ passed → loopsVerdict β (blockAt text rows count (i + 1)) ≡ refused n p → folded π round (tallied t ρ) (frontOf (blockAt text rows count i)) .verdict ≡ refused n p
+    unfolding andThen
+    body-refused n p g h = ap (λ (x : State). x .verdict) loop-alone ∙ ap₂ (λ v w. andThen v w) g (same .loops β ∙ h)
+
+    -- what is known at its start, its turns in all passes, a pass with its test
+    abbrev κ : Pass
+    κ = passIn round (t .kept && not (starts (round .v) form test))
+
+    abbrev W : ℕ
+    W = walkedAt text round (t .kept) (kindAt rows i) (trip form σ test body)
+
+    abbrev turn : Pass → ℕ
+    turn j = ticks π j β body + π .test
+
+    start-is : startPass form test (passIn round (t .kept)) ≡ κ
+    start-is = later-in round (t .kept) (λ w. starts w form test)
+
+    turns-are : turnsWalk (roundOf round) κ form σ test body ≡ W
+    turns-are = walk-is form σ test body (roundOf round) κ
+
+    total-is : totalOf (roundOf round) κ form σ test body ≡ W * round .times
+    unfolding totalOf
+    total-is = ap (λ z. z * round .times) turns-are
+
+    -- G: the ticks of the passes as they are walked
+    module _ (x : Entered) {first : TallyLines} (en : Entry text π i (test .tested) round (kindAt rows i) (trip form σ test body) t x first) where
+      abbrev inner : (Pass → ℕ) → ℕ
+      inner f = sumOver (passIn (x .round) (x .round .known)) (x .round .by) (x .round .count) f
+
+      inner-is : (f : Pass → ℕ) → inner f ≡ sumOver (firstPass form σ test body) (inBody (roundOf round) κ form σ test body .by) (inBody (roundOf round) κ form σ test body .count) f
+      inner-is = body-sum round κ form σ test body (capped (W * round .times)) (x .round) (en .round)
+
+      sums-known : x .round .known ≡ sums form σ test body
+      sums-known = body-known round κ form σ test body (capped (W * round .times)) (x .round) (en .round)
+
+      pub with-last : inner (λ j. ticks π j β body) ≡ x .round .count * lastTicks text π (kindAt rows i) + inner (λ j. ticks π j β (blockAt text rows count (i + 1)))
+      with-last =
+          let p = lastTicks text π (kindAt rows i) in
+          ap inner (fun-ext λ j. same .ticked j β)
+          ∙ over-add (passIn (x .round) (x .round .known)) (x .round .by) (x .round .count) (λ _. p) (λ j. ticks π j β (blockAt text rows count (i + 1)))
+          ∙ ap (λ z. z + inner (λ j. ticks π j β (blockAt text rows count (i + 1)))) (over-same (passIn (x .round) (x .round .known)) (x .round .by) (x .round .count) p)
+
+      with-tests : inner (λ j. ticks π j β body) + x .ran .tests * π .test ≡ inner turn
+      with-tests =
+          omega (
+            arith,
+            ap (λ z. z * π .test) (en .ran .tests),
+            over-add (passIn (x .round) (x .round .known)) (x .round .by) (x .round .count) (λ j. ticks π j β body) (λ _. π .test),
+            over-same (passIn (x .round) (x .round .known)) (x .round .by) (x .round .count) (π .test),
+          )
+
+      own-is : capped (x .ran .own * (inner (λ j. ticks π j β body) + x .ran .tests * π .test) + 1 * once π form) ≡ capped (ownTicks π round (tallied t ρ) i e form test body)
+      own-is =
+          let n = turns form σ test body in
+          let a : x .ran .own ≡ cond (sums form σ test body) 1 n = en .ran .own ∙ ap (λ b. cond b 1 n) sums-known in
+          let g = with-tests ∙ inner-is turn in
+          let z : x .ran .own * (inner (λ j. ticks π j β body) + x .ran .tests * π .test) ≡ overPasses any form σ test body turn = (λ j. a j * g j) ∙ sym (own-passes round κ form σ test body turn) in
+          omega (arith, z, loop-ticks-is π form (overPasses any form σ test body turn))
+
+      all-is : capped (x .ran .all * (inner (λ j. ticks π j β body) + x .ran .tests * π .test) + round .count * once π form) ≡ capped (allTicks π round (tallied t ρ) i e form test body)
+      all-is =
+          let s = sums form σ test body in
+          let K = passIn round (t .kept) in
+          let o : ℕ = round .count * once π form in
+          let a : x .ran .all ≡ cond s (round .count) (capped W) = en .ran .all ∙ ap (λ b. cond b (round .count) (capped W)) sums-known in
+          let g = with-tests ∙ inner-is turn in
+          let G = sumOver (firstPass form σ test body) (inBody (roundOf round) κ form σ test body .by) (inBody (roundOf round) κ form σ test body .count) turn in
+          let f : Pass → ℕ = λ j. overPasses j form σ test body turn in
+          let walk : sumOver κ (round .by) (round .count) f ≡ cond s (round .count) W * G = passes-walk (roundOf round) κ form σ test body turn ∙ ap (λ z. cond s (round .count) z * G) turns-are in
+          let past : sumOver K (round .by) (round .count) (λ j. f (startPass form test j)) ≡ sumOver κ (round .by) (round .count) f
+          = over-past (λ w. starts w form test) K (round .by) (round .count) f ∙ ap (λ k. sumOver k (round .by) (round .count) f) start-is in
+          let loops : allTicks π round (tallied t ρ) i e form test body ≡ sumOver K (round .by) (round .count) (λ j. f (startPass form test j)) + o
+          = ap (sumOver K (round .by) (round .count)) (fun-ext λ j. loop-ticks-is π form (f (startPass form test j)))
+          ∙ over-add K (round .by) (round .count) (λ j. f (startPass form test j)) (λ _. once π form)
+          ∙ ap (λ z. sumOver K (round .by) (round .count) (λ j. f (startPass form test j)) + z) (over-same K (round .by) (round .count) (once π form)) in
+          (λ j. capped (a j * g j + o)) ∙ cap-often round κ form σ test body s (round .count) W G o ∙ ap (λ z. capped (z + o)) (sym walk ∙ sym past) ∙ ap capped (sym loops)
+
+      -- its body may be walked, and has been
+      pub body-walkable : Ready text rows count (i + 1) → FinePrices π → t .loops + loopCount (blockAt text rows count i) ≤ 16 → Walkable text π rows count (i + 1) (x .round) first
+      body-walkable k fine h = lined-walkable k fine (en .fine) (en .lined) (omega (arith, mul-le-mul (en .fine .few) (last-small fine text (kindAt rows i)))) (loop-room h)
+
+      pub body-by : {ρ′ : Env} {b : TallyLines} → ρ′ ≡ β → Passed text π rows count (i + 1) ρ′ (x .round) first b
+          → Part π (x .round) (x .round .known) β (x .round .count * lastTicks text π (kindAt rows i)) (overOf (t .over)) (firstLines (t .lines) (t .loops) ++ (lineFor i (trip form σ test body) (turns form σ test body) (capped (W * round .times)) ∷ [])) (t .loops + 1) (blockAt text rows count (i + 1)) b
+      body-by {ρ′} {b} e p =
+          let s = x .round .count * lastTicks text π (kindAt rows i) in
+          let ls = firstLines (t .lines) (t .loops) ++ (lineFor i (trip form σ test body) (turns form σ test body) (capped (W * round .times)) ∷ []) in
+          subst (λ z. Part π (x .round) (x .round .known) z s (overOf (t .over)) ls (t .loops + 1) (blockAt text rows count (i + 1)) b) e (part-of (x .round .known) s (overOf (t .over)) ls (t .loops + 1) (en .lined .value _) p)
+
+      pub past-loop : {ranges : List (List ℤ)} {b r : TallyLines} {keep : Bool}
+          → Part π (x .round) (x .round .known) β (x .round .count * lastTicks text π (kindAt rows i)) (overOf (t .over)) (firstLines (t .lines) (t .loops) ++ (lineFor i (trip form σ test body) (turns form σ test body) (capped (W * round .times)) ∷ [])) (t .loops + 1) (blockAt text rows count (i + 1)) b
+          → ((G : ℕ) → b .spent ≡ capped G → Closed t b e (capped (x .ran .own * (G + x .ran .tests * π .test) + 1 * once π form)) (capped (x .ran .all * (G + x .ran .tests * π .test) + round .count * once π form)) keep r)
+          → keep ≡ (t .kept && not (starts (round .v) form test)) && not (assigns (round .v) body) → EnvIs ranges (outside form σ test body) → PassedBlock text π rows count i ρ round t ranges r
+      unfolding andThen restOf
+      past-loop {ranges} {b} {r} {keep} p f kp s =
+          let n = turns form σ test body in
+          let G = inner (λ j. ticks π j β body) in
+          let F = ownTicks π round (tallied t ρ) i e form test body in
+          let c = f G (p .spent ∙ ap capped (sym with-last)) in
+          let L : lineFor i (trip form σ test body) n (capped (W * round .times)) ≡ cut (line (roundOf round) (startPass form test (passIn round (t .kept))) i form σ test body)
+          = ap (λ z. lineFor i (trip form σ test body) n (capped z)) (sym total-is ∙ ap (λ j. totalOf (roundOf round) j form σ test body) (sym start-is)) in
+          let lined : cuts (lines (roundOf (x .round)) (passIn (x .round) (x .round .known)) β (blockAt text rows count (i + 1))) ≡ cuts (lines (inBody (roundOf round) (startPass form test (passIn round (t .kept))) form σ test body) (firstPass form σ test body) β body)
+          = ap cuts (sym (same .lined (roundOf (x .round)) (passIn (x .round) (x .round .known)) β))
+          ∙ body-lines round κ form σ test body (capped (W * round .times)) (x .round) (en .round) (ap capped (sym total-is)) β body
+          ∙ ap (λ j. cuts (lines (inBody (roundOf round) j form σ test body) (firstPass form σ test body) β body)) (sym start-is) in
+          let y : tallied r (envOf ranges) ≡ pastLoop π round (tallied t ρ) i e form test body = state-is (s .value)
+          (c .kept ∙ kp)
+          (sym (ap₂ (λ a w. andThen a w) (en .verdict) (same .loops β ∙ p .verdict)))
+          (c .spent ∙ omega (arith, all-is))
+          (c .over .value F own-is ∙ ap (λ w. andThen w (asked 13 e (leb F tickLimit) passed)) (p .over ∙ ap (andThen (overOf (t .over))) (sym (same .over β))))
+          (ap₂ firstLines (c .same) (c .loops) ∙ p .lined ∙ ap₂ (λ a w. (firstLines (t .lines) (t .loops) ++ (a ∷ [])) ++ w) L lined)
+          (c .loops ∙ p .count ∙ ap (λ m. t .loops + 1 + m) (sym (same .count))) in
+          record {
+            value = y ∙ sym loop-alone;
+            rest = rw (c .next) (ap restOf (u .block));
+            place = rw (c .next) (u .end);
+            low = omega (arith, c .next);
+            high = omega (arith, c .next);
+            small = omega (arith, c .spent);
+            long = ap length (c .same) ∙ p .long;
+            env-long = s .long;
+          }
+
+-- no question has the number 0
+asked-number : (n p : ℕ) (b : Bool) (v : Verdict) (q : ℕ) → (n ≡ 0 → ⊥) → (v ≡ refused 0 q → ⊥) → asked n p b v ≡ refused 0 q → ⊥
+unfolding asked
+asked-number n p true v q h g e = g e
+asked-number n p false v q h g e = h (let z : n ≡ 0 = cc in z)
+
+pub trip-number : (i : ℕ) (τ : Trip) (n p : ℕ) → ofTrip i τ ≡ refused n p → n ≡ 0 → ⊥
+unfolding loopVerdict
+trip-number i τ n p e z =
+    asked-number _ _ _ _ p (λ w. omega arith) (asked-number _ _ _ _ p (λ w. omega arith) (asked-number _ _ _ _ p (λ w. omega arith) (asked-number _ _ _ _ p (λ w. omega arith) (asked-number _ _ _ _ p (λ w. omega arith) (asked-number _ _ _ _ p (λ w. omega arith) (λ w. let k : _≡_ {A = ℕ} 0 1 = cc in omega arith))))))
+    (e ∙ ap (λ m. refused m p) z)
+
+-- a line of the same trip
+pub lined-is : {t r : TallyLines} {i n o m l a b : ℕ} {k : Bool} {τ υ : Trip} → τ ≡ υ → n ≡ o → m ≡ l → a ≡ b → Lined t i τ n m a k r → Lined t i υ o l b k r
+lined-is {t} {r} {i} {n} {o} {m} {l} {a} {b} {k} {τ} {υ} p e f q h =
+    subst (λ z. Lined t i υ o l z k r) q (subst (λ z. Lined t i υ o z a k r) f (subst (λ z. Lined t i υ z m a k r) e (subst (λ z. Lined t i z n m a k r) p h)))
+
+-- a block's figures, by others
+pub closed-is : {t u r : TallyLines} {e own own′ all all′ : ℕ} {keep keep′ : Bool} → own ≡ own′ → all ≡ all′ → keep ≡ keep′ → Closed t u e own all keep r → Closed t u e own′ all′ keep′ r
+closed-is {t} {u} {r} {e} {own} {own′} {all} {all′} {keep} {keep′} p q k h = subst (λ z. Closed t u e own′ all′ z r) k (subst (λ z. Closed t u e own′ z keep r) q (subst (λ z. Closed t u e z all keep r) p h))

@@ -1,0 +1,105 @@
+-- The analysis' answer, from what the walk over the whole file found.
+use mathlib.Core.Path.{_≡_, ap, sym, _∙_}
+use mathlib.Core.Bool.{false}
+use mathlib.Core.List.{List, []}
+use Prim.Native.Nat.{ℕ, _≤_}
+use native.Mathlib.Omega.{arith}
+use lib.IntN.{ℤ, pos}
+use lib.ListN.{length, take}
+use Rattle.rules.specs.declared.Row.{Row}
+use Rattle.rules.specs.Blocks.{Block}
+use Rattle.rules.specs.Ranges.{Env}
+use Rattle.rules.specs.Bounds.{FinePrices}
+use Rattle.rules.specs.declared.Prices.{Prices}
+use Rattle.rules.specs.Passes.{any}
+use Rattle.rules.specs.Figures.{ticks, alike, lines}
+use Rattle.rules.proofs.Walk.{over-once}
+use Rattle.analysis_passes.specs.declared.Round.{Round}
+use Rattle.rules.specs.declared.Verdict.the-variants.{Passed as passed}
+use Rattle.rules.specs.Questions.{andThen, verdict}
+use Rattle.rules.specs.Scripts as scripts
+use Rattle.rules.specs.Scripts.{pairRanges, BlankFrom, scriptOf, treeOf, Legal, Accepted}
+use Rattle.analysis_steps.specs.Tree.{kinds, blockAt}
+use Rattle.analysis_trips.specs.Env.{envOf}
+use Rattle.analysis_turns.specs.Needs.{verdictOf}
+use Rattle.analysis.specs.declared.Tally.{Tally}
+use Rattle.analysis.specs.declared.Refusal.{Refusal}
+use Rattle.analysis.specs.declared.Figures.{Figures}
+use Rattle.analysis.specs.Fold.{TallyLines, withLines, tallied, Analysed}
+use Rattle.analysis_lines.specs.Coded.{firstLines}
+use Rattle.analysis.specs.Whole.{FirstNo, of-loop, of-block, of-file, none, AnalysisOf}
+use Rattle.analysis.proofs.Going.{from-parts, part-of, refused-in}
+use Rattle.analysis.proofs.Totals.{lines-true}
+use Rattle.analysis.proofs.Verdicts.{verdict-loop, verdict-block, verdict-file, verdict-passed}
+use Rattle.analysis.proofs.Legals.{env-is, long, file-is, few-in}
+
+-- the one pass of a file's rows
+abbrev pub alone : Round
+alone = record { count = 1; by = pos 0; times = 1; x = pos 0; v = 0; known = false }
+
+no-number : {A : Type 0} {n : ℕ} → n ≡ 13 → n ≡ 0 → A
+no-number p q = absurd (let z : ⊥ = omega arith in z)
+
+module _ (π : Prices) (fine : FinePrices π) (text : List ℕ) (ranges : List (List ℤ)) (vars : ℕ) (rows : List Row) (count : ℕ) (legal : Legal (scriptOf text ranges vars rows count)) (few : count ≤ 256) (all : count ≤ length rows) (blank : BlankFrom vars ranges) where
+  abbrev ρ : Env
+  ρ = envOf ranges
+
+  abbrev b : Block
+  b = blockAt text rows count 0
+
+  -- what is found of the array is the script's
+  moved : {A : Type 0} (f : Env → Block → A) → f (scripts.startEnv (take vars (pairRanges ranges))) (treeOf (kinds text rows count)) ≡ f ρ b
+  moved f = λ j. f (env-is ranges vars blank j) (sym (file-is text ranges vars rows count legal few all) j)
+
+  pub result : (t₀ : TallyLines) (t : Tally) (ls : List (List ℕ)) → tallied t₀ ρ ≡ from-parts ρ false 0 passed [] 0 → Analysed text π rows count 0 ρ alone t₀ (withLines t ls) → (f : Refusal) → FirstNo t count f
+      → (n : ℕ) → (f .number ≡ 0 → n ≡ t .spent) → (k : ℕ) → (f .number ≡ 0 → k ≡ t .loops) → ((f .number ≡ 0 → ⊥) → (n ≡ 0) × (k ≡ 0))
+      → AnalysisOf π (scriptOf text ranges vars rows count) count (record { number = f .number; place = f .place; ticks = n; loops = k }) ls
+  unfolding scriptOf andThen
+  result t₀ t ls e s f (of-loop h p q) m u k v free = record {
+    verdict = moved (verdict π count) ∙ verdict-loop π count ρ b (t .number) (t .place) h (refused-in s h) ∙ (λ j. verdictOf (sym p j) (sym q j));
+    ticks = λ z. absurd (h (sym p ∙ z));
+    loops = λ z. absurd (h (sym p ∙ z));
+    long = λ z. absurd (h (sym p ∙ z));
+    lines = λ z. absurd (h (sym p ∙ z));
+    none = free;
+  }
+  result t₀ t ls e s f (of-block z l p q) m u k v free =
+      let part = part-of false 0 passed [] 0 e (s .whole z) in
+      record {
+        verdict = moved (verdict π count) ∙ verdict-block π count ρ b (part .verdict) (t .over) (part .over) l ∙ (λ j. verdictOf (sym p j) (sym q j));
+        ticks = λ w. no-number p w;
+        loops = λ w. no-number p w;
+        long = λ w. no-number p w;
+        lines = λ w. no-number p w;
+        none = free;
+      }
+  result t₀ t ls e s f (of-file z l o p q) m u k v free =
+      let part = part-of false 0 passed [] 0 e (s .whole z) in
+      record {
+        verdict = moved (verdict π count) ∙ verdict-file π count ρ b (part .verdict) (t .over) (part .over) l (omega (arith, part .spent, over-once (pos 0) (λ j. ticks π j ρ b))) ∙ (λ j. verdictOf (sym p j) (sym q j));
+        ticks = λ w. no-number p w;
+        loops = λ w. no-number p w;
+        long = λ w. no-number p w;
+        lines = λ w. no-number p w;
+        none = free;
+      }
+  result t₀ t ls e s f (none z l o p) j u k v free =
+      let part = part-of false 0 passed [] 0 e (s .whole z) in
+      let m : ticks π any ρ b ≤ 1_000_000_000_000 = omega (arith, part .spent, over-once (pos 0) (λ j. ticks π j ρ b)) in
+      let n : t .spent ≡ ticks π any ρ b = omega (arith, part .spent, over-once (pos 0) (λ j. ticks π j ρ b)) in
+      record {
+        verdict = moved (verdict π count) ∙ verdict-passed π count ρ b (part .verdict) (t .over) (part .over) l (f .place) m ∙ (λ d. verdictOf (sym p d) (f .place));
+        ticks = λ w. u w ∙ n ∙ sym (moved (ticks π any));
+        loops = λ w. omega (arith, v w, part .count, few-in text ranges vars rows count legal few all);
+        long = λ w. part .long;
+        lines = λ w. ap (firstLines ls) (v w) ∙ part .lined ∙ lines-true π (fine .test .some) b ρ (part .verdict) m ∙ sym (moved (lines (alike 1) any));
+        none = free;
+      }
+
+  -- a file that passes here is accepted
+  pub accepted : (s : Figures) (ls : List (List ℕ)) → AnalysisOf π (scriptOf text ranges vars rows count) count s ls → s .number ≡ 0 → Accepted π (scriptOf text ranges vars rows count)
+  unfolding scriptOf verdictOf
+  accepted s ls h z = record {
+    legal = legal;
+    loops = ap (λ n. verdict π n (scripts.startEnv (take vars (pairRanges ranges))) (treeOf (kinds text rows count))) (long text ranges vars rows count legal few all) ∙ h .verdict ∙ ap (λ n. verdictOf n (s .place)) z;
+  }

@@ -1,0 +1,29 @@
+-- The answer of the analysis: the questions 19 and 8 to 13 of the whole file, and the report's ticks and lines.
+use mathlib.Core.Path.{_≡_}
+use mathlib.Core.List.{List}
+use Prim.Native.Nat.{ℕ, _≤_, _<_}
+use lib.ListN.{length}
+use Rattle.rules.specs.declared.Prices.{Prices}
+use Rattle.rules.specs.Questions.{verdict}
+use Rattle.rules.specs.Scripts.{Script, startEnv, treeOf, reportTicks, reportLines}
+use Rattle.analysis_lines.specs.Coded.{firstLines}
+use Rattle.analysis_turns.specs.Needs.{verdictOf}
+use Rattle.analysis.specs.declared.Tally.{Tally}
+use Rattle.analysis.specs.declared.Refusal.{Refusal}
+use Rattle.analysis.specs.declared.Figures.{Figures}
+
+-- the first question that has no, from what the walk found
+pub data FirstNo (t : Tally) (count : ℕ) (r : Refusal) : Type 0 where
+  of-loop : (t .number ≡ 0 → ⊥) → r .number ≡ t .number → r .place ≡ t .place → FirstNo t count r
+  of-block : t .number ≡ 0 → t .over < 256 → r .number ≡ 13 → r .place ≡ t .over → FirstNo t count r
+  of-file : t .number ≡ 0 → 256 ≤ t .over → 1_000_000_000_000 < t .spent → r .number ≡ 13 → r .place ≡ count → FirstNo t count r
+  none : t .number ≡ 0 → 256 ≤ t .over → t .spent ≤ 1_000_000_000_000 → r .number ≡ 0 → FirstNo t count r
+
+-- number and place are the verdict; of an accepted file, the ticks and the lines are the report's, and of a refused one there are none
+pub record AnalysisOf (π : Prices) (script : Script) (rows : ℕ) (s : Figures) (table : List (List ℕ)) : Type 0 where
+  pub verdict : verdict π rows (startEnv (script .ranges)) (treeOf (script .rows)) ≡ verdictOf (s .number) (s .place)
+  pub ticks : s .number ≡ 0 → s .ticks ≡ reportTicks π script
+  pub loops : s .number ≡ 0 → s .loops ≤ 16
+  pub long : s .number ≡ 0 → length table ≡ 16
+  pub lines : s .number ≡ 0 → firstLines table (s .loops) ≡ reportLines script
+  pub none : (s .number ≡ 0 → ⊥) → (s .ticks ≡ 0) × (s .loops ≡ 0)

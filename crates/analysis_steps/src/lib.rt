@@ -1,0 +1,284 @@
+// How a variable moves in one turn: walks over the rows of a block, nested blocks first.
+use analysis_table::Shape;
+use analysis_table::Tag;
+use analysis_table::assigns;
+use analysis_table::change_at;
+use analysis_table::kind_at;
+use analysis_table::past_else;
+use analysis_table::shape_at;
+use analysis_table::tag_at;
+use analysis_table::variable_at;
+use rules::Comparison;
+use rules::Kind;
+use rules::Operand;
+use rules::Step;
+use rules::change_step;
+use rules::only;
+ghost use mathlib.Core.Path.{_≡_};
+ghost use mathlib.Core.List.{List};
+ghost use Prim.Native.Nat.{ℕ, _<_};
+ghost use lib.ListN.{length};
+ghost use Rattle.rules.specs.Steps.{sets, rowStep};
+ghost use Rattle.rules.specs.declared.Kind.{Kind};
+ghost use Rattle.rules.specs.Bounds.{Fine};
+ghost use Rattle.analysis_table.specs.Code.{kindAt, rowsOf};
+ghost use Rattle.analysis_table.specs.Shapes.{plainOf};
+ghost use Rattle.analysis_steps.specs.Tree.{Ready};
+ghost use Rattle.analysis_steps.specs.Sets.{setOf, withOne, withRow, bothOf, SetIs};
+ghost use Rattle.analysis_steps.specs.Body.{AtLoop, MovesOf, BodyMoves};
+ghost use Rattle.analysis_steps.specs.Soles.{AtRow, AtRead, ReadAt, SoleAt};
+
+// Adds v to the set.
+fn add(set: &mut [bool; 16], v: u8)
+    requires { ⌜ (v < 16) × (length (now set) ≡ 16) ⌝ }
+    ensures { λ _. ⌜ SetIs (now (set .exit)) (withOne (setOf (now (set .entry))) v) ⌝ }
+{
+    let i = v as usize;
+    set[i] = true;
+}
+
+// Adds the variable that a plain row assigns, or a for's step row.
+fn add_row(set: &mut [bool; 16], rows: &[[u32; 9]; 256], i: usize)
+    requires { ⌜ (i < 256) × Fine (kindAt (rowsOf (now rows)) i) × (length (now set) ≡ 16) ⌝ }
+    ensures { λ _. ⌜ ((text : List ℕ) → SetIs (now (set .exit)) (withRow (setOf (now (set .entry))) (plainOf text (kindAt (rowsOf (now (rows .entry))) i)))) ⌝ }
+{
+    if assigns(rows, i) {
+        add(set, variable_at(rows, i));
+    }
+}
+
+// Adds a set.
+fn add_all(set: &mut [bool; 16], more: [bool; 16])
+    requires { ⌜ length (now set) ≡ 16 ⌝ }
+    ensures { λ _. ⌜ SetIs (now (set .exit)) (bothOf (setOf (now (set .entry))) (setOf more)) ⌝ }
+{
+    for i in 0..16 {
+        set[i] = set[i] | more[i];
+    }
+}
+
+// Is v in the set?
+pub fn has(set: [bool; 16], v: u8) -> bool
+    requires { ⌜ v < 16 ⌝ }
+    ensures { λ r. ⌜ r ≡ setOf set v ⌝ }
+{
+    let i = v as usize;
+    set[i]
+}
+
+// Does a plain row assign v, or a for's step row?
+pub fn sets_it(rows: &[[u32; 9]; 256], i: usize, v: u8) -> bool
+    requires { ⌜ i < 256 ⌝ }
+    ensures { λ r. ⌜ ((text : List ℕ) → r ≡ sets v (plainOf text (kindAt (rowsOf (now (rows .entry))) i))) ⌝ }
+{
+    assigns(rows, i) && v == variable_at(rows, i)
+}
+
+// The step of a row; of a for, the step of its step row.
+fn row_step(rows: &[[u32; 9]; 256], i: usize, v: u8) -> Step
+    requires { ⌜ (i < 256) × Fine (kindAt (rowsOf (now rows)) i) ⌝ }
+    ensures { λ r. ⌜ ((text : List ℕ) → r ≡ rowStep v (plainOf text (kindAt (rowsOf (now (rows .entry))) i))) ⌝ }
+{
+    if !sets_it(rows, i, v) {
+        return Step::STILL;
+    }
+    match tag_at(rows, i) {
+        Tag::Set => Step::Unknown,
+        Tag::Off => Step::Unknown,
+        _ => change_step(change_at(rows, i)),
+    }
+}
+
+// The step of one variable over some rows, and the row after them.
+pub struct Stepped {
+    pub step: Step,
+    pub next: usize,
+}
+
+// What the block that starts at row `at` does: its variables are added to the set; the step of v, and the row that closes the block.
+pub fn moves_of(
+    text: &[u8],
+    rows: &[[u32; 9]; 256],
+    count: usize,
+    at: usize,
+    v: u8,
+    set: &mut [bool; 16],
+) -> Stepped
+    requires { ⌜ Ready (now text) (rowsOf (now rows)) count at × (v < 16) × (length (now set) ≡ 16) ⌝ }
+    ensures { λ r. ⌜ MovesOf (now (text .entry)) (rowsOf (now (rows .entry))) count at v (now (set .entry)) (now (set .exit)) r ⌝ }
+{
+    let mut step = Step::STILL;
+    let mut i = at;
+    while i < count {
+        match shape_at(rows, i) {
+            Shape::Plain => {
+                add_row(set, rows, i);
+                if sets_it(rows, i, v) {
+                    step = step.then(row_step(rows, i, v));
+                }
+                i = i + 1;
+            }
+            Shape::Branch => {
+                let a = moves_of(text, rows, count, i + 1, v, set);
+                let e = a.next;
+                let b = moves_of(text, rows, count, past_else(rows, e), v, set);
+                let x = a.step;
+                let y = b.step;
+                step = step.then(x.either(y));
+                i = b.next + 1;
+            }
+            Shape::Loop => {
+                let mut inner = [false; 16];
+                let body = moves_of(text, rows, count, i + 1, v, &mut inner);
+                add_row(&mut inner, rows, i);
+                step = step.then(only(has(inner, v), Step::Unknown));
+                add_all(set, inner);
+                i = body.next + 1;
+            }
+            Shape::Close => {
+                return Stepped { step, next: i };
+            }
+        }
+    }
+    Stepped { step, next: i }
+}
+
+// What a loop's body does: the variables that it assigns, the step of one variable, and the loop's end.
+pub struct Moves {
+    pub set: [bool; 16],
+    pub step: Step,
+    pub next: usize,
+}
+
+// What the body of the loop at row i does, a for's step row included, with the step of v.
+pub fn body_moves(text: &[u8], rows: &[[u32; 9]; 256], count: usize, i: usize, v: u8) -> Moves
+    requires { ⌜ AtLoop (now text) (rowsOf (now rows)) count i × (v < 16) ⌝ }
+    ensures { λ r. ⌜ BodyMoves (now (text .entry)) (rowsOf (now (rows .entry))) count i v r ⌝ }
+{
+    let mut set = [false; 16];
+    let body = moves_of(text, rows, count, i + 1, v, &mut set);
+    add_row(&mut set, rows, i);
+    let step = body.step;
+    let next = body.next;
+    Moves {
+        set: set,
+        step: step.then(row_step(rows, i, v)),
+        next: next,
+    }
+}
+
+// What a row that assigns a variable reads another one for: to copy it, or to compare it with a constant (off).
+pub enum Read {
+    Copy,
+    Off(Comparison, i32),
+}
+
+// The only assignment of a variable in a block, directly in it: another variable that it reads, what for, and whether rows before and
+// after it assign that one.
+pub enum Sole {
+    Other,
+    Reads(u8, Read, bool, bool),
+}
+
+// At the row i, which assigns v and reads w, behind rows that assign a set.
+fn read_at(
+    text: &[u8],
+    rows: &[[u32; 9]; 256],
+    count: usize,
+    i: usize,
+    v: u8,
+    w: u8,
+    read: Read,
+    before: [bool; 16],
+) -> Sole
+    requires { ⌜ AtRead (now text) (rowsOf (now rows)) count i v w read ⌝ }
+    ensures { λ r. ⌜ ReadAt (now (text .entry)) (rowsOf (now (rows .entry))) count i v before r ⌝ }
+{
+    if w == v {
+        return Sole::Other;
+    }
+    let mut rest = [false; 16];
+    moves_of(text, rows, count, i + 1, v, &mut rest);
+    if has(rest, v) {
+        return Sole::Other;
+    }
+    if has(before, v) {
+        return Sole::Other;
+    }
+    let first = has(before, w);
+    let last = has(rest, w);
+    Sole::Reads(w, read, first, last)
+}
+
+// At the row i, which sets v to x, behind rows that assign a set.
+fn set_at(
+    text: &[u8],
+    rows: &[[u32; 9]; 256],
+    count: usize,
+    i: usize,
+    v: u8,
+    x: Operand,
+    before: [bool; 16],
+) -> Sole
+    requires { ⌜ AtRow (now text) (rowsOf (now rows)) count i v × ((u : ℕ) × (kindAt (rowsOf (now rows)) i ≡ Kind.Set u x)) ⌝ }
+    ensures { λ r. ⌜ ReadAt (now (text .entry)) (rowsOf (now (rows .entry))) count i v before r ⌝ }
+{
+    match x {
+        Operand::Constant(_) => Sole::Other,
+        Operand::Variable(w) => read_at(text, rows, count, i, v, w, Read::Copy, before),
+        Operand::Expression(_, _) => Sole::Other,
+    }
+}
+
+// At the row i, which assigns v, behind rows that assign a set.
+fn sole_at(
+    text: &[u8],
+    rows: &[[u32; 9]; 256],
+    count: usize,
+    i: usize,
+    v: u8,
+    before: [bool; 16],
+) -> Sole
+    requires { ⌜ AtRow (now text) (rowsOf (now rows)) count i v ⌝ }
+    ensures { λ r. ⌜ ReadAt (now (text .entry)) (rowsOf (now (rows .entry))) count i v before r ⌝ }
+{
+    match kind_at(rows, i) {
+        Kind::Set(_, x) => set_at(text, rows, count, i, v, x, before),
+        Kind::Off(_, w, c, k) => read_at(text, rows, count, i, v, w, Read::Off(c, k), before),
+        _ => Sole::Other,
+    }
+}
+
+// The only assignment of v in the block that starts at row `at`.
+pub fn sole_of(text: &[u8], rows: &[[u32; 9]; 256], count: usize, at: usize, v: u8) -> Sole
+    requires { ⌜ Ready (now text) (rowsOf (now rows)) count at × (v < 16) ⌝ }
+    ensures { λ r. ⌜ SoleAt (now (text .entry)) (rowsOf (now (rows .entry))) count at v r ⌝ }
+{
+    let mut set = [false; 16];
+    let mut i = at;
+    while i < count {
+        match shape_at(rows, i) {
+            Shape::Plain => {
+                if sets_it(rows, i, v) {
+                    return sole_at(text, rows, count, i, v, set);
+                }
+                add_row(&mut set, rows, i);
+                i = i + 1;
+            }
+            Shape::Branch => {
+                let a = moves_of(text, rows, count, i + 1, v, &mut set);
+                let second = moves_of(text, rows, count, past_else(rows, a.next), v, &mut set);
+                i = second.next + 1;
+            }
+            Shape::Loop => {
+                let body = moves_of(text, rows, count, i + 1, v, &mut set);
+                add_row(&mut set, rows, i);
+                i = body.next + 1;
+            }
+            Shape::Close => {
+                return Sole::Other;
+            }
+        }
+    }
+    Sole::Other
+}

@@ -1,0 +1,14 @@
+-- `explain_margin::nest::passes_here` meets its contract. Assumes nothing.
+use borrow.Author.Needs.{needs}
+use borrow.Author.Tests.{lt-ltb, le-ltb}
+use Rattle.explain_margin.proofs.nest.passes_here.Statement.{statement}
+use Rattle.explain_margin.proofs.nest.passes_here.Tie as tie
+
+returns : tie.Need-returns
+returns c = rw (lt-ltb _ _ (c .if1 .taken))
+
+returns-2 : tie.Need-returns-2
+returns-2 c = rw (le-ltb _ _ (c .if1 .left))
+
+pub passes-here-spec : {M : Type 1} → statement M
+passes-here-spec = tie.close (tie.spec (λ c. search needs) (λ c. search needs) returns returns-2)

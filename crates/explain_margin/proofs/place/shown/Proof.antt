@@ -1,0 +1,18 @@
+-- `explain_margin::place::shown` meets its contract. Assumes nothing.
+use borrow.Author.Needs.{needs}
+use native.Mathlib.Omega.{arith}
+use borrow.Author.Tests.{le-leb, lt-leb}
+use Rattle.explain_margin.proofs.place.shown.Statement.{statement}
+use Rattle.explain_margin.proofs.place.shown.Tie as tie
+
+returns : tie.Need-returns
+returns c = rw (lt-leb 32 _ (c .if1 .taken))
+
+returns-2 : tie.Need-returns-2
+returns-2 c = rw (le-leb 32 _ (c .before .if1 .left), lt-leb _ 126 (c .if2 .taken))
+
+returns-3 : tie.Need-returns-3
+returns-3 c = rw (le-leb 32 _ (c .before .if1 .left), le-leb _ 126 (c .if2 .left))
+
+pub shown-spec : {M : Type 1} → statement M
+shown-spec = tie.close (tie.spec returns returns-2 returns-3)

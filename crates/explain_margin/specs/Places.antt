@@ -1,0 +1,34 @@
+-- Where a refusal points, and how a line of a file is found and shown.
+use mathlib.Core.Path.{_≡_}
+use mathlib.Core.Bool.{Bool, cond, _&&_}
+use mathlib.Core.List.{List, [], _++_, map}
+use Prim.Native.Nat.{ℕ, _-_, _≤_, _<_, min}
+use lib.Dec.{leb, eqb}
+use lib.ListN.{length, getD, take, drop}
+use Rattle.rules.specs.Text.{lf, split}
+use Rattle.explain_margin.specs.declared.place.Place.{Place}
+use Rattle.explain_margin.specs.declared.place.Place.the-variants.{Line, Row, Neither}
+use Rattle.explain_margin.specs.declared.place.Found.{Found}
+use Rattle.explain_margin.specs.declared.place.Found.the-variants.{At, Missing}
+
+-- between two numbers
+abbrev pub within : ℕ → ℕ → ℕ → Bool
+within lo hi q = leb lo q && leb q hi
+
+-- the place of 3 to 7 and 17 is a line, that of 8 to 13 and 19 a row
+abbrev pub placeOf : ℕ → Place
+placeOf q = cond (within 3 7 q) Line (cond (eqb q 17) Line (cond (within 8 13 q) Row (cond (eqb q 19) Row Neither)))
+
+-- line k of a file, from 0, stands between these bytes; or there is none
+abbrev pub LineOf : List ℕ → ℕ → Found → Type 0
+LineOf file k (At a e) = (a ≤ e) × (e ≤ length file) × (k < length (split lf file)) × (take (e - a) (drop a file) ≡ getD (split lf file) k [])
+LineOf file k Missing = length (split lf file) ≤ k
+
+-- plain ASCII as it is, any other byte as `?`
+abbrev pub shownByte : ℕ → ℕ
+shownByte b = cond (within 32 126 b) b 63
+
+-- a text is shown at the front, as far as there is room
+pub record ShownAs (text old new : List ℕ) (n : ℕ) : Type 0 where
+  pub count : n ≡ min (length text) (length old)
+  pub shown : new ≡ map shownByte (take n text) ++ drop n old

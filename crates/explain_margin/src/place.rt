@@ -1,0 +1,87 @@
+// Where a refusal points in the file, and the lines of a file.
+use program_words::least;
+use reading_text::position;
+ghost use mathlib.Core.Path.{_≡_};
+ghost use Rattle.explain_margin.specs.Places.{within, placeOf, LineOf, shownByte, ShownAs};
+
+// What the place of a question is: a line of the file, from 1; a row, from 0; or neither.
+pub enum Place {
+    Line,
+    Row,
+    Neither,
+}
+
+// From lo to hi?
+fn between(lo: u32, hi: u32, q: u32) -> bool
+    ensures { λ r. ⌜ r ≡ within lo hi q ⌝ }
+{
+    lo <= q && q <= hi
+}
+
+pub fn place_of(number: u32) -> Place
+    ensures { λ r. ⌜ r ≡ placeOf number ⌝ }
+{
+    if between(3, 7, number) {
+        return Place::Line;
+    }
+    if number == 17 {
+        return Place::Line;
+    }
+    if between(8, 13, number) {
+        return Place::Row;
+    }
+    if number == 19 {
+        return Place::Row;
+    }
+    Place::Neither
+}
+
+// Where a line begins and ends, without its LF; or there is none.
+pub enum Found {
+    At(usize, usize),
+    Missing,
+}
+
+// Line k of a file, from 0.
+pub fn line_of(file: &[u8], k: usize) -> Found
+    ensures { λ r. ⌜ LineOf (now (file .entry)) k r ⌝ }
+{
+    let mut at: usize = 0;
+    let mut i: usize = 0;
+    while i < k {
+        let end = at + position(&file[at..], b'\n');
+        if end == file.len() {
+            return Found::Missing;
+        }
+        at = end + 1;
+        i += 1;
+    }
+    let end = at + position(&file[at..], b'\n');
+    Found::At(at, end)
+}
+
+// How a byte is shown: one that is not plain ASCII as `?`.
+fn shown(b: u8) -> u8
+    ensures { λ r. ⌜ r ≡ shownByte b ⌝ }
+{
+    if b < b' ' {
+        return b'?';
+    }
+    if b > b'~' {
+        return b'?';
+    }
+    b
+}
+
+// Puts the bytes of a text as they are shown at the front of `out`, as far as it has room, and answers how many.
+pub fn put_shown(text: &[u8], out: &mut [u8]) -> usize
+    ensures { λ r. ⌜ ShownAs (now (text .entry)) (now (out .entry)) (now (out .exit)) r ⌝ }
+{
+    let n = least(text.len(), out.len());
+    let mut i: usize = 0;
+    while i < n {
+        out[i] = shown(text[i]);
+        i += 1;
+    }
+    n
+}

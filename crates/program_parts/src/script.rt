@@ -1,0 +1,185 @@
+// A script file: read by its name, reported and run. A byte more than a file may have is read, so that a longer file is told.
+use crate::print::print_front;
+use crate::print::print_outcome;
+use crate::print::print_refusal;
+use crate::print::print_text;
+use crate::print::print_wrong_picks;
+use crate::print::print_wrong_value;
+use libc::STDIN_FILENO;
+use loader::REPORT;
+use loader::SCRATCH;
+use program_words::Number;
+use program_words::allowance;
+use program_words::least;
+use program_words::pick_count;
+use program_words::put_picks;
+use rules::Reply;
+ghost use Rattle.io.specs.Counts.{Counts};
+
+// How many words are values of the store, or the index of one that is none.
+pub enum Values {
+    Count(usize),
+    Wrong(usize),
+}
+
+// How many bytes were read, and whether a read failed.
+pub struct Input {
+    pub length: usize,
+    pub failed: bool,
+}
+
+// Reads once.
+pub fn read_some(fd: i32, rest: &mut [u8]) -> Input
+    ensures { λ r. ⌜ Counts (r .length) (now (rest .exit)) ⌝ }
+{
+    let got = libc::read(fd, rest);
+    let length = io::count(got, rest);
+    Input {
+        length,
+        failed: got < 0,
+    }
+}
+
+// Reads until the buffer is full, the input ends or a read fails.
+pub fn read_all(fd: i32, buffer: &mut [u8]) -> Input
+    ensures { λ r. ⌜ Counts (r .length) (now (buffer .exit)) ⌝ }
+{
+    let mut at = 0;
+    let mut failed = false;
+    while at < buffer.len() {
+        let input = read_some(fd, &mut buffer[at..]);
+        let n = input.length;
+        if n == 0 {
+            failed = input.failed;
+            break;
+        }
+        at += n;
+    }
+    Input { length: at, failed }
+}
+
+// Reads the file of that name.
+pub fn read_file(path: &[u8], buffer: &mut [u8]) -> Input
+    ensures { λ r. ⌜ Counts (r .length) (now (buffer .exit)) ⌝ }
+{
+    let fd = os::open_read(path);
+    if fd < 0 {
+        return Input {
+            length: 0,
+            failed: true,
+        };
+    }
+    let input = read_all(fd, buffer);
+    libc::close(fd);
+    input
+}
+
+pub fn cannot_read() {
+    print_text(b"error=cannot read the file\n");
+}
+
+// Prints the report of a file's bytes under four ones, or its refusal.
+fn print_report(file: &[u8]) {
+    let ones = [1u32; 4];
+    let mut scratch = [0u32; SCRATCH];
+    let mut buffer = [0u8; REPORT];
+    let reply = loader::report(file, &ones, &mut scratch, &mut buffer);
+    match reply {
+        Reply::Accepted(length) => print_front(&buffer, length),
+        Reply::Refused(number, place) => print_refusal(number, place),
+    }
+}
+
+// Prints the report of the file on standard input.
+pub fn report_input() {
+    let mut file = [0u8; 16385];
+    let input = read_all(STDIN_FILENO, &mut file);
+    let length = input.length;
+    if input.failed {
+        cannot_read();
+        return;
+    }
+    print_report(&file[..length]);
+}
+
+// Prints the report of the file of that name.
+pub fn report_file(path: &[u8]) {
+    let mut file = [0u8; 16385];
+    let input = read_file(path, &mut file);
+    let length = input.length;
+    if input.failed {
+        cannot_read();
+        return;
+    }
+    print_report(&file[..length]);
+}
+
+// Runs a file's bytes and prints the outcome.
+fn print_run(file: &[u8], prices: &[u32], allowed: u64, picks: &[u8], store: &mut [i32]) {
+    let mut scratch = [0u32; SCRATCH];
+    let outcome = loader::run(file, prices, &mut scratch, store, picks, allowed);
+    print_outcome(outcome, store);
+}
+
+// Runs the file of that name and prints the outcome.
+fn run_file(path: &[u8], prices: &[u32], allowed: u64, picks: &[u8], store: &mut [i32]) {
+    let mut file = [0u8; 16385];
+    let input = read_file(path, &mut file);
+    let length = input.length;
+    if input.failed {
+        cannot_read();
+        return;
+    }
+    print_run(&file[..length], prices, allowed, picks, store);
+}
+
+// Runs the file of that name by a word of picks, whose bytes go into picks.
+fn run_word(
+    path: &[u8],
+    prices: &[u32],
+    allowed: u64,
+    word: &[u8],
+    picks: &mut [u8],
+    store: &mut [i32],
+) {
+    if put_picks(word, picks) {
+        run_file(path, prices, allowed, picks, store);
+    } else {
+        print_wrong_picks();
+    }
+}
+
+// The same with room for as many picks as an argument of a program can have.
+fn run_picks(path: &[u8], prices: &[u32], allowed: u64, word: &[u8], store: &mut [i32]) {
+    let mut room = [0u8; 131072];
+    let count = pick_count(word, &room);
+    run_word(path, prices, allowed, word, &mut room[..count], store);
+}
+
+// The same by a word of allowance.
+fn run_allowed(path: &[u8], prices: &[u32], allowed: &[u8], word: &[u8], store: &mut [i32]) {
+    let n = allowance(allowed);
+    match n {
+        Number::Is(ticks) => run_picks(path, prices, ticks, word, store),
+        Number::Malformed => print_text(b"error=allowance is not a number or plan\n"),
+    }
+}
+
+// Runs the file of that name under prices, by a word of allowance, a word of picks and the values in a store, and prints the outcome or what is wrong.
+// The store's 17 places do: a script has at most 16 variables, and a store of 17 is refused at the place where a longer one would be.
+pub fn rehearse_file(
+    path: &[u8],
+    prices: &[u32],
+    allowed: &[u8],
+    word: &[u8],
+    values: Values,
+    store: &mut [i32],
+) {
+    match values {
+        Values::Count(count) => {
+            let kept = least(count, store.len());
+            run_allowed(path, prices, allowed, word, &mut store[..kept]);
+        }
+        Values::Wrong(at) => print_wrong_value(at),
+    }
+}

@@ -1,0 +1,149 @@
+-- Where a line or a word ends, and words whose numbers are cut off past every limit: code keeps 32 bits of a number of any length.
+use mathlib.Core.Bool.{Bool, true, cond}
+use mathlib.Core.List.{List, [], _∷_}
+use mathlib.Core.Path.{_≡_}
+use Prim.Native.Nat.{ℕ, zero, suc, min, _+_, _*_, _-_, _<_}
+use lib.Dec.{eqb}
+use lib.ListN.{length, getD, take, drop}
+use lib.IntN.{ℤ, pos, negsuc, negℤ}
+use Rattle.rules.specs.declared.Comparison.the-variants.{Less, AtMost, Greater, AtLeast, Equal, Different}
+use Rattle.rules.specs.declared.Name.{Name}
+use Rattle.rules.specs.declared.Word.{Word}
+use Rattle.rules.specs.declared.Word.the-variants.{Missing, Number, Variable, Compares, Keyword, Other}
+use Rattle.rules.specs.Text.{split, allDigits, valueFrom, isNatural, wordOf, wordsOf}
+use Rattle.reading_text.specs.declared.Value.{Value}
+use Rattle.reading_text.specs.declared.Found.{Found}
+
+-- how many bytes stand before the first b, or all
+unfoldable pub before : ℕ → List ℕ → ℕ
+before b [] = 0
+before b (x ∷ s) = cond (eqb x b) 0 (suc (before b s))
+
+-- v and - stand before digits
+unfoldable pub marks : ℕ → Bool
+marks b = cond (eqb b 118) true (eqb b 45)
+
+-- a space or an LF ends a word
+unfoldable pub stops : ℕ → Bool
+stops b = cond (eqb b 32) true (eqb b 10)
+
+-- how many bytes stand before the first space or LF, or all; and those bytes
+unfoldable pub stop : List ℕ → ℕ
+stop [] = 0
+stop (x ∷ s) = cond (stops x) 0 (suc (stop s))
+
+unfoldable pub front : List ℕ → List ℕ
+front s = take (stop s) s
+
+-- past every limit of document 01
+unfoldable pub ceiling : ℕ
+ceiling = 2_000_000_001
+
+-- a number with its value cut off at the ceiling
+unfoldable pub cutZ : ℤ → ℤ
+cutZ (pos n) = pos (min n ceiling)
+cutZ (negsuc n) = negℤ (pos (min (suc n) ceiling))
+
+unfoldable pub cut : Word → Word
+cut Missing = Missing
+cut (Number z) = Number (cutZ z)
+cut (Variable v) = Variable (min v ceiling)
+cut (Compares c) = Compares c
+cut (Keyword n) = Keyword n
+cut Other = Other
+
+-- digits, as a number and how many
+unfoldable pub digitsOf : List ℕ → Value
+digitsOf s = cond (allDigits s) (Value.Of (min (valueFrom 0 s) ceiling) (length s)) Value.None
+
+-- a text as a number not below 0, and its digits
+unfoldable pub naturalOf : List ℕ → Value
+naturalOf s = cond (isNatural s) (Value.Of (min (valueFrom 0 s) ceiling) (length s)) Value.None
+
+-- a text as one number: its first byte lowest, a 1 after the last
+unfoldable pub packed : List ℕ → ℕ
+packed [] = 1
+packed (b ∷ s) = packed s * 256 + b
+
+unfoldable pub Bytes : List ℕ → Type 0
+Bytes [] = Unit {0}
+Bytes (b ∷ s) = (b < 256) × Bytes s
+
+pub record Packs (s : List ℕ) (n : ℕ) : Type 0 where
+  pub same : n ≡ packed s
+  pub bytes : Bytes s
+
+-- every keyword and comparison: set, add, sub, mul, div, cue, off, for, while, do, end, else, pick, hold, < <= > >= == !=
+unfoldable pub keywords : List (List ℕ × Word)
+keywords =
+    ((115 ∷ 101 ∷ 116 ∷ []), Keyword Name.Set) ∷
+    ((97 ∷ 100 ∷ 100 ∷ []), Keyword Name.Add) ∷
+    ((115 ∷ 117 ∷ 98 ∷ []), Keyword Name.Sub) ∷
+    ((109 ∷ 117 ∷ 108 ∷ []), Keyword Name.Mul) ∷
+    ((100 ∷ 105 ∷ 118 ∷ []), Keyword Name.Div) ∷
+    ((99 ∷ 117 ∷ 101 ∷ []), Keyword Name.Cue) ∷
+    ((111 ∷ 102 ∷ 102 ∷ []), Keyword Name.Off) ∷
+    ((102 ∷ 111 ∷ 114 ∷ []), Keyword Name.For) ∷
+    ((119 ∷ 104 ∷ 105 ∷ 108 ∷ 101 ∷ []), Keyword Name.While) ∷
+    ((100 ∷ 111 ∷ []), Keyword Name.Do) ∷
+    ((101 ∷ 110 ∷ 100 ∷ []), Keyword Name.End) ∷
+    ((101 ∷ 108 ∷ 115 ∷ 101 ∷ []), Keyword Name.Else) ∷
+    ((112 ∷ 105 ∷ 99 ∷ 107 ∷ []), Keyword Name.Pick) ∷
+    ((104 ∷ 111 ∷ 108 ∷ 100 ∷ []), Keyword Name.Hold) ∷
+    ((60 ∷ []), Compares Less) ∷
+    ((60 ∷ 61 ∷ []), Compares AtMost) ∷
+    ((62 ∷ []), Compares Greater) ∷
+    ((62 ∷ 61 ∷ []), Compares AtLeast) ∷
+    ((61 ∷ 61 ∷ []), Compares Equal) ∷
+    ((33 ∷ 61 ∷ []), Compares Different) ∷
+    []
+
+-- the word of a packed text
+unfoldable pub packedWord : List (List ℕ × Word) → ℕ → Word
+packedWord [] n = Other
+packedWord ((w, x) ∷ t) n = cond (eqb n (packed w)) x (packedWord t n)
+
+-- the word at a place of the table
+unfoldable pub wordAt : List (List ℕ × Word) → ℕ → Word
+wordAt [] i = Other
+wordAt ((w, x) ∷ t) zero = x
+wordAt ((w, x) ∷ t) (suc i) = wordAt t i
+
+-- a variable is never below 0
+unfoldable pub variableWord : ℤ → Word
+variableWord (pos v) = Variable v
+variableWord (negsuc v) = Other
+
+-- the word that a tag and a value say: 21 none, 22 a number, 23 a variable; below that the place of a keyword or comparison, and 20 any other word
+unfoldable pub wordIn : ℕ → ℤ → Word
+wordIn t z = cond (eqb t 21) Missing (cond (eqb t 22) (Number z) (cond (eqb t 23) (variableWord z) (wordAt keywords t)))
+
+-- the word at the front of a text is read, its number cut off
+pub record Reads (s : List ℕ) (r : Found) : Type 0 where
+  pub word : wordIn (r .tag) (r .value) ≡ cut (wordOf (front s))
+  pub end : r .end ≡ stop s
+
+-- an LF stands in a text
+unfoldable pub NoMore : List ℕ → Type 0
+NoMore s = before 10 s < length s
+
+-- the words after a text's first byte, up to the line's LF; none if the first byte is that
+unfoldable pub parts : List ℕ → List (List ℕ)
+parts [] = []
+parts (b ∷ s) = cond (eqb b 10) [] (split 32 (take (before 10 s) s))
+
+unfoldable pub following : List ℕ → ℕ → Word
+following s = wordsOf (parts s)
+
+-- the text of each; past the last one, an empty text
+unfoldable pub spelling : List ℕ → ℕ → List ℕ
+spelling s k = getD (parts s) k []
+
+-- one word of a line is read, and the others begin after the byte `end`
+pub record Next (s : List ℕ) (at : ℕ) (r : Found) : Type 0 where
+  pub word : wordIn (r .tag) (r .value) ≡ cut (following (drop at s) 0)
+  pub text : spelling (drop at s) 0 ≡ take (r .end - (at + 1)) (drop (at + 1) s)
+  pub more : (k : ℕ) → following (drop at s) (suc k) ≡ following (drop (r .end) s) k
+  pub texts : (k : ℕ) → spelling (drop at s) (suc k) ≡ spelling (drop (r .end) s) k
+  pub line : r .end + before 10 (drop (r .end) s) ≡ at + before 10 (drop at s)
+  pub ends : NoMore (drop (r .end) s)
