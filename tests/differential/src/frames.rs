@@ -4,7 +4,7 @@
 use crate::stack::Stack;
 use crate::vectors::{self, FramesCall};
 use crate::{answer_of, Checker, Room, GUARD};
-use diftanew::numbers::{self, ANSWER};
+use diftanew::numbers::{self, Lent, ANSWER, FRAMES_ANSWER};
 use generate::{frames_case, FramesCase};
 use oracle::frames::{breach, frames, scripts, Frames};
 use oracle::{plan, Refusal, SCRATCH};
@@ -15,30 +15,7 @@ use std::time::Instant;
 const STACK: usize = diftanew::FRAMES_STACK;
 /// The numbers of one script's answer, and of all.
 const SCRIPT: usize = 1 + ANSWER;
-const NUMBERS: usize = 1 + 8 * SCRIPT;
-
-extern "C" {
-    fn diftanew_frames(
-        files: *const u8,
-        files_len: usize,
-        file_lens: *const usize,
-        file_count: usize,
-        stores: *mut i32,
-        stores_len: usize,
-        store_lens: *const usize,
-        store_count: usize,
-        picks: *const u8,
-        picks_len: usize,
-        pick_lens: *const usize,
-        pick_count: usize,
-        prices: *const u32,
-        prices_len: usize,
-        q: u64,
-        scratch: *mut u32,
-        scratch_len: usize,
-        answer: *mut u64,
-    ) -> u32;
-}
+const NUMBERS: usize = FRAMES_ANSWER;
 
 #[derive(Default)]
 struct Tally {
@@ -78,29 +55,16 @@ impl FramesChecker {
         let mut number = 0;
         self.stack.call(|| {
             let (lent_scratch, lent_stores, lent_answer) = (scratch.lent(), stores.lent(), answer.lent());
-            // Every pointer is good for its length.
-            number = unsafe {
-                diftanew_frames(
-                    files.as_ptr(),
-                    files.len(),
-                    lengths[0].as_ptr(),
-                    lengths[0].len(),
-                    lent_stores.as_mut_ptr(),
-                    lent_stores.len(),
-                    lengths[1].as_ptr(),
-                    lengths[1].len(),
-                    picks.as_ptr(),
-                    picks.len(),
-                    lengths[2].as_ptr(),
-                    lengths[2].len(),
-                    prices.as_ptr(),
-                    prices.len(),
-                    case.q,
-                    lent_scratch.as_mut_ptr(),
-                    lent_scratch.len(),
-                    lent_answer.as_mut_ptr(),
-                )
-            }
+            let lent = Lent {
+                files: &files,
+                file_lengths: &lengths[0],
+                stores: lent_stores,
+                store_lengths: &lengths[1],
+                picks: &picks,
+                pick_lengths: &lengths[2],
+            };
+            let lent_answer = lent_answer.try_into().expect("the answer's numbers");
+            number = numbers::frames(lent, &prices, case.q, lent_scratch, lent_answer);
         });
         checker.same(call, "files after the call", &case.files, &files);
         checker.same(call, "picks after the call", &case.picks, &picks);

@@ -1,19 +1,16 @@
 //! differential [COUNT [SEED [FIRST]]]: compares the library with the oracle on COUNT generated files, from
 //! file number FIRST on.
-//! differential frames [COUNT [SEED]]: the same for the call of several scripts, if the feature `frames` is on.
+//! differential frames [COUNT [SEED]]: the same for the call of several scripts.
 //! differential reach [COUNT [SEED]]: searches the picks that bring loops to the turns of their report.
 //! differential vectors FOLDER: compares oracle and library with the stored answers in the folders of a folder.
 //! The first difference is printed with its file, and the exit code is 1.
-
-#[cfg(feature = "frames")]
 mod frames;
 mod reach;
 mod stack;
-#[cfg_attr(not(feature = "frames"), allow(dead_code))]
 mod vectors;
 
 use diftanew::numbers::{self, ANSWER};
-use generate::{allowance, any_store, case, holds, picks, store, wrong_prices, Case, Rng, SEED};
+use generate::{allowance, any_store, case, picks, store, wrong_prices, Case, Rng, SEED};
 use oracle::{Ending, Plan, Refusal, Run, ONES, SCRATCH};
 use stack::Stack;
 use std::path::Path;
@@ -341,7 +338,7 @@ const WORST: [(&str, &[u8]); 6] = [
 /// The files that `generate` makes of a seed.
 fn generated(checker: &mut Checker, count: u64, seed: u64, first: u64) {
     let begin = Instant::now();
-    for (name, file) in WORST.into_iter().filter(|(name, _)| holds() || !name.contains("hold")) {
+    for (name, file) in WORST {
         checker.file = file.to_vec();
         checker.name = name.into();
         checker.prices = ONES.to_vec();
@@ -398,7 +395,6 @@ fn stored(checker: &mut Checker, folder: &Path) -> Result<(), String> {
         return Err(format!("{} has no vectors", folder.display()));
     }
     println!("vectors: {} files, {} report calls, {} run calls, no difference", files.len(), t.reports, t.runs);
-    #[cfg(feature = "frames")]
     frames::FramesChecker::new().stored(checker, &folder.join("14"))?;
     Ok(())
 }
@@ -430,7 +426,6 @@ fn main() {
             })
         })
     };
-    #[cfg(feature = "frames")]
     if arguments.first().is_some_and(|word| word == "frames") {
         return frames::FramesChecker::new().generated(&mut checker, number(1, 2_000), number(2, SEED));
     }

@@ -1,6 +1,5 @@
 //! Change 5: loops whose limit moves too, with one of the terms broken now and then.
 
-use crate::holds;
 use crate::script::{distance, factor, value, within, Builder, Way};
 
 /// The rows that such a loop may need without the items in its body.
@@ -152,7 +151,7 @@ impl Builder<'_> {
                 let op = self.rng.one_of(&["mul", "div"]);
                 self.rows.push(format!("{op} v{v} {c}"));
             }
-            (Broken::TestedSet, _) if holds() && self.rng.chance(30) => {
+            (Broken::TestedSet, _) if self.rng.chance(30) => {
                 let off = self.off(v);
                 self.rows.push(off);
             }
@@ -178,7 +177,7 @@ impl Builder<'_> {
                 let op = self.rng.one_of(&["mul", "div"]);
                 self.rows.push(format!("{op} v{w} {c}"));
             }
-            (Broken::LimitSet, _) if holds() && self.rng.chance(30) => {
+            (Broken::LimitSet, _) if self.rng.chance(30) => {
                 let off = self.off(w);
                 self.rows.push(off);
             }

@@ -1,6 +1,5 @@
 //! Change 1: loops whose counter is copied from another one, its master, with one of the terms broken now and then.
 
-use crate::holds;
 use crate::script::{distance, factor, value, within, Builder, Way};
 
 /// The rows that such a loop may need without the items in its body.
@@ -152,7 +151,7 @@ impl Builder<'_> {
             }
             Broken::SecondRow => {
                 let rows = ["add v 0", "sub v 0", "mul v 1", "div v 1", "add v 1", "set v 5", "off v v > 1000000000"];
-                let row = self.rng.one_of(if holds() { &rows } else { &rows[..6] });
+                let row = self.rng.one_of(&rows);
                 let row = row.replace('v', &format!("v{v}"));
                 let rows = if self.rng.chance(50) { [row, copy] } else { [copy, row] };
                 self.rows.extend(rows);
@@ -184,7 +183,7 @@ impl Builder<'_> {
                 let c = factor(self.rng);
                 self.rows.push(format!("{row} v{w} {c}"));
             }
-            Broken::MasterSet if holds() && self.rng.chance(30) => {
+            Broken::MasterSet if self.rng.chance(30) => {
                 let off = self.off(w);
                 self.rows.push(off);
             }

@@ -1,6 +1,5 @@
 //! Damage to the bytes of a file.
 
-use crate::holds;
 use crate::rng::Rng;
 
 fn place_of(rng: &mut Rng, bytes: &[u8], wanted: impl Fn(u8) -> bool) -> Option<usize> {
@@ -117,9 +116,7 @@ fn once(rng: &mut Rng, mut bytes: Vec<u8>) -> Vec<u8> {
                     b"row=off v0 v0 > v0\n", b"row=off v0 v0 > 1+1\n", b"row=off v0 v0 > 1000000001\n", b"row=off v0 v0 != -1000000001\n",
                     b"row=off v0 v16 < -1000000000\n", b"row=off v16 v0 <= 1000000001\n",
                 ];
-                // The first twelve are older than change 12.
-                let words = if holds() { &words[..] } else { &words[..12] };
-                all[line] = rng.one_of(words).to_vec();
+                all[line] = rng.one_of(&words).to_vec();
                 bytes = all.concat();
             }
         }

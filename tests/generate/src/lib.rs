@@ -19,16 +19,9 @@ pub use rng::Rng;
 pub use spread::Spread;
 
 use oracle::{Plan, Script};
-use std::sync::OnceLock;
 
 /// The seed that is used when none is given.
 pub const SEED: u64 = 20_260_115;
-
-/// Whether files have change 12's rows; GENERATE_HOLDS=0 leaves them out, for a library that does not have them yet.
-pub fn holds() -> bool {
-    static HOLDS: OnceLock<bool> = OnceLock::new();
-    *HOLDS.get_or_init(|| std::env::var("GENERATE_HOLDS").map_or(true, |word| word != "0"))
-}
 
 pub struct Case {
     pub file: Vec<u8>,

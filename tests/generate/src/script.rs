@@ -1,6 +1,6 @@
 //! Whole script files.
 
-use crate::{closing, copied, expressions, held, holds, levels, triangles};
+use crate::{closing, copied, expressions, held, levels, triangles};
 use crate::rng::Rng;
 
 const L: i64 = 1_000_000_000;
@@ -156,7 +156,7 @@ impl Builder<'_> {
 
     fn plain(&mut self, locked: u32) {
         let roll = self.rng.below(10);
-        let off = holds() && self.rng.chance(5);
+        let off = self.rng.chance(5);
         let row = match self.free(locked) {
             Some(v) if off => self.off(v),
             Some(v) if roll < 3 => format!("set v{v} {}", self.operand()),
@@ -263,7 +263,7 @@ impl Builder<'_> {
 
     /// A loop held by a flag, if there is room for it.
     pub fn flagged(&mut self, depth: usize, locked: u32) -> bool {
-        if !holds() || depth == 0 || self.loops == 0 || self.left < held::ROWS {
+        if depth == 0 || self.loops == 0 || self.left < held::ROWS {
             return false;
         }
         let Some(flag) = self.free(locked) else { return false };
@@ -562,7 +562,7 @@ pub fn aimed(rng: &mut Rng) -> Vec<u8> {
 fn deep(rng: &mut Rng) -> Vec<u8> {
     let depth = 7 + rng.below(4);
     let mut rows = Vec::new();
-    let held = if holds() { rng.below(12) } else { depth };
+    let held = rng.below(12);
     for v in 0..depth {
         if v == held {
             rows.extend([format!("hold v{v}"), "add v15 1".into(), format!("off v{v} v15 > 2")]);
@@ -586,7 +586,7 @@ fn many(rng: &mut Rng) -> Vec<u8> {
     for _ in 0..14 + rng.below(6) {
         match rng.below(4) {
             0 => rows.push(format!("for v{depth} 3 > 1 sub 1")),
-            1 if holds() => {
+            1 => {
                 let watched = depth + 8;
                 rows.extend([format!("hold v{depth}"), format!("off v{depth} v{watched} > 1"), format!("add v{watched} 1")]);
             }
@@ -707,7 +707,7 @@ fn slow(rng: &mut Rng) -> Vec<u8> {
         _ => {
             let turns = rng.between(900, 1_100);
             rows.push(format!("set v3 {}", rng.between(-L, -L + 9)));
-            if holds() && rng.chance(50) {
+            if rng.chance(50) {
                 rows.extend(["hold v4".into(), "off v4 v3 >= 0".to_string()]);
             } else {
                 rows.push("while v3 < 0".into());

@@ -648,6 +648,8 @@ struct Walk<'a> {
     lines: Vec<Line>,
     /// The `end` rows of the blocks over the tick limit, in row order.
     over: Vec<usize>,
+    /// Every block's `end` row and ticks, if they are wanted.
+    blocks: Option<Vec<(usize, u128)>>,
     rounded: bool,
 }
 
@@ -733,6 +735,9 @@ impl Walk<'_> {
     fn limited(&mut self, ticks: u128, end: usize) -> u128 {
         if ticks > TICK_LIMIT {
             self.over.push(end);
+        }
+        if let Some(blocks) = &mut self.blocks {
+            blocks.push((end, ticks));
         }
         ticks
     }
@@ -879,7 +884,7 @@ impl Walk<'_> {
 
 fn walk(script: &Script, prices: Prices, join: Join) -> Walk<'_> {
     let lines = Vec::with_capacity(script.loops);
-    Walk { rows: &script.rows, items: &script.items, prices, join, lines, over: Vec::new(), rounded: false }
+    Walk { rows: &script.rows, items: &script.items, prices, join, lines, over: Vec::new(), blocks: None, rounded: false }
 }
 
 /// The `end` rows of the blocks over the tick limit, in row order; questions 8 to 12 and 19 come first.
@@ -887,6 +892,14 @@ pub fn blocks_over(script: &Script, prices: Prices) -> Result<Vec<usize>, Refusa
     let mut walk = walk(script, prices, join);
     walk.block(0, script.rows.len(), &mut script.ranges.clone(), 1, None)?;
     Ok(walk.over)
+}
+
+/// The ticks of each block of an accepted script, by its `end` row: what question 13 asks.
+pub fn block_ticks(script: &Script, prices: Prices) -> Vec<(usize, u128)> {
+    let mut walk = walk(script, prices, join);
+    walk.blocks = Some(Vec::new());
+    walk.block(0, script.rows.len(), &mut script.ranges.clone(), 1, None).expect("an accepted script");
+    walk.blocks.unwrap_or_default()
 }
 
 /// Questions 8 to 13 and 19.

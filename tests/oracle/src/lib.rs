@@ -4,6 +4,7 @@
 
 pub mod analyse;
 pub mod desk;
+pub mod explain;
 pub mod expression;
 pub mod frames;
 pub mod prices;
