@@ -16,7 +16,7 @@ use Rattle.analysis_ticks.specs.Capped.{capped}
 use Rattle.analysis_ticks.proofs.Caps.{cap-times}
 use Rattle.analysis_passes.specs.declared.Round.{Round}
 use Rattle.analysis_passes.specs.Rounds.{roundOf, passIn, bodyOf}
-use Rattle.analysis.specs.Fold.{cuts}
+use Rattle.analysis.specs.Fold.{cappedLines}
 use Rattle.analysis.proofs.Folding.{cap-lines}
 
 module _ (r : Round) (κ : Pass) (form : Form) (ρ : Env) (test : Test) (body : Block) where
@@ -68,12 +68,12 @@ module _ (r : Round) (κ : Pass) (form : Form) (ρ : Env) (test : Test) (body : 
         by false = refl
 
     pub body-lines : total ≡ capped (totalOf (roundOf r) κ form ρ test body) → (β : Env) (b : Block)
-        → cuts (lines (roundOf q) (passIn q (q .known)) β b) ≡ cuts (lines (inBody (roundOf r) κ form ρ test body) (firstPass form ρ test body) β b)
+        → cappedLines (lines (roundOf q) (passIn q (q .known)) β b) ≡ cappedLines (lines (inBody (roundOf r) κ form ρ test body) (firstPass form ρ test body) β b)
     unfolding firstPass inBody
-    body-lines h β b = ap (λ (z : Round). cuts (lines (roundOf z) (passIn z (z .known)) β b)) q-is ∙ by (sums form ρ test body)
+    body-lines h β b = ap (λ (z : Round). cappedLines (lines (roundOf z) (passIn z (z .known)) β b)) q-is ∙ by (sums form ρ test body)
       where
-        by : (s : Bool) → cuts (lines (roundOf (byValues total s)) (passIn (byValues total s) (byValues total s .known)) β b)
-            ≡ cuts (lines (cond s (record { count = n; by = firstEnd (step (test .tested) body); times = often (roundOf r) }) (alike (totalOf (roundOf r) κ form ρ test body)))
+        by : (s : Bool) → cappedLines (lines (roundOf (byValues total s)) (passIn (byValues total s) (byValues total s .known)) β b)
+            ≡ cappedLines (lines (cond s (record { count = n; by = firstEnd (step (test .tested) body); times = often (roundOf r) }) (alike (totalOf (roundOf r) κ form ρ test body)))
             (cond s (valued (test .tested) (ρ (test .tested) .lo)) any) β b)
         by true = cap-lines n (firstEnd (step (test .tested) body)) _ _ (omega arith) (valued (test .tested) (ρ (test .tested) .lo)) β b
         by false = cap-lines 1 (pos 0) _ _ (ap capped h ∙ omega arith) any β b

@@ -11,6 +11,7 @@ use lib.Seq.{drop-cons, drop-length}
 use Rattle.rules.specs.Blocks.{RowKind, End, Plain, Test, Form, Last, no-step, step-by, View, is-plain, is-pick, is-else, is-end, is-loop, viewOf, viewAt, withLast, Block, done, plain, pick, loop, Part, to-end, to-else, Built, parts, misfit, inFront, loopHead, pickHead, plainRow, closes, onRow, build}
 use Rattle.rules.specs.Nesting.{Open, in-loop, in-pick, in-else, Nest, Nested, nested, wrong, nest, opens, elses, ends, nestRow, andRows, nestRows}
 use Rattle.rules.proofs.Rows.{partsAt, parts-row, parts-last, no-misfit}
+use Rattle.rules.proofs.TreeOf.{wrong-not}
 use Rattle.analysis.specs.Fold.{loopCount}
 use Rattle.analysis.proofs.Folding.{count-snoc}
 
@@ -101,14 +102,11 @@ module _ (rows : List RowKind) (tree : Block) (whole : build 0 rows ≡ parts (t
   tree-loops = let z = ap builtLoops whole in omega (arith, from-row (length rows) 0 (omega arith))
 
 -- ---- question 7 counts them
-wrong-not : {A : Type 0} (n : ℕ) (s : Nest) → wrong n ≡ nested s → A
-wrong-not n s e = absurd (let z : _≡_ {A = ℕ} 0 1 = cc in omega arith)
-
 same-nest : (s t : Nest) → nested s ≡ nested t → s .loops ≡ t .loops
 same-nest s t e = let q : s ≡ t = cc in ap (λ (x : Nest). x .loops) q
 
-Counted : ℕ → Nest → Nest → Type 0
-Counted m s t = (t .loops ≡ m + s .loops) × (s .loops ≤ 16 → t .loops ≤ 16)
+LoopsMore : ℕ → Nest → Nest → Type 0
+LoopsMore m s t = (t .loops ≡ m + s .loops) × (s .loops ≤ 16 → t .loops ≤ 16)
 
 opened : (o : Open) (a b : Bool) (st : List Open) (n : ℕ) (t : Nest) → (b ≡ true → n < 16) → cond (a && b) (nest (o ∷ st) (suc n)) (wrong 7) ≡ nested t → (t .loops ≡ 1 + n) × (t .loops ≤ 16)
 opened o true true st n t h e = let z = same-nest _ t e in (omega arith, let k = h refl in omega arith)
@@ -131,15 +129,15 @@ unfolding ends
 closed [] n t e = wrong-not 6 t e
 closed (o ∷ st) n t e = sym (same-nest _ t e)
 
-still : (s t : Nest) → t .loops ≡ s .loops → Counted 0 s t
-unfolding Counted
+still : (s t : Nest) → t .loops ≡ s .loops → LoopsMore 0 s t
+unfolding LoopsMore
 still s t e = (omega arith, λ h. omega arith)
 
-more : (s t : Nest) → (t .loops ≡ 1 + s .loops) × (t .loops ≤ 16) → Counted 1 s t
-unfolding Counted
+more : (s t : Nest) → (t .loops ≡ 1 + s .loops) × (t .loops ≤ 16) → LoopsMore 1 s t
+unfolding LoopsMore
 more s t (a, b) = (a, λ h. b)
 
-row-count : (w : View) (s t : Nest) → nestRow w s ≡ nested t → Counted (oneIfLoop w) s t
+row-count : (w : View) (s t : Nest) → nestRow w s ≡ nested t → LoopsMore (oneIfLoop w) s t
 unfolding nestRow opens
 row-count (is-plain p) s t e = still s t (sym (same-nest s t e))
 row-count is-pick s t e = still s t (picked (ltb (length (s .open-blocks)) 8) _ _ t e)
@@ -149,7 +147,7 @@ row-count (is-loop form test last) s t e = more s t (opened in-loop (ltb (length
 
 by-row : (w : View) (rs : List RowKind) (s : Nest) (n : ℕ) (x : Nested) → nestRow w s ≡ x → andRows x (λ t. nestRows rs t) ≡ nest [] n → s .loops ≤ 16
     → ((t : Nest) → nestRows rs t ≡ nest [] n → t .loops ≤ 16 → rowLoops rs + t .loops ≤ 16) → oneIfLoop w + rowLoops rs + s .loops ≤ 16
-unfolding andRows Counted
+unfolding andRows LoopsMore
 by-row w rs s n (nested t) p q h ih = let c = row-count w s t p in let k = ih t q (c .1 h) in omega (arith, c .0)
 by-row w rs s n (wrong m) p q h ih = wrong-not m _ q
 

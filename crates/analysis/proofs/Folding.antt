@@ -23,7 +23,7 @@ use Rattle.analysis_ticks.specs.Capped.{capped}
 use Rattle.analysis_ticks.proofs.Caps.{cap-mul}
 use Rattle.analysis_passes.specs.declared.Round.{Round}
 use Rattle.analysis_passes.specs.Rounds.{roundOf, passIn}
-use Rattle.analysis.specs.Fold.{loopCount, frontOf, restOf, cut, cuts, State, folded, lastPrice}
+use Rattle.analysis.specs.Fold.{loopCount, frontOf, restOf, cappedLine, cappedLines, State, folded, lastPrice}
 
 -- ---- verdicts one after the other
 pub then-passed : (v : Verdict) → andThen v passed ≡ v
@@ -50,20 +50,20 @@ append-assoc : (x y z : List Line) → (x ++ y) ++ z ≡ x ++ (y ++ z)
 append-assoc [] y z = refl
 append-assoc (l ∷ x) y z = ap (λ r. l ∷ r) (append-assoc x y z)
 
-pub cuts-append : (x y : List Line) → cuts (x ++ y) ≡ cuts x ++ cuts y
-unfolding cuts
+pub cuts-append : (x y : List Line) → cappedLines (x ++ y) ≡ cappedLines x ++ cappedLines y
+unfolding cappedLines
 cuts-append [] y = refl
-cuts-append (l ∷ x) y = ap (λ r. cut l ∷ r) (cuts-append x y)
+cuts-append (l ∷ x) y = ap (λ r. cappedLine l ∷ r) (cuts-append x y)
 
 -- the lines of parts, one after the other
-lines-pick : (x a b r : List Line) → x ++ cuts (a ++ (b ++ r)) ≡ ((x ++ cuts a) ++ cuts b) ++ cuts r
+lines-pick : (x a b r : List Line) → x ++ cappedLines (a ++ (b ++ r)) ≡ ((x ++ cappedLines a) ++ cappedLines b) ++ cappedLines r
 lines-pick x a b r =
-    ap (λ l. x ++ l) (cuts-append a (b ++ r) ∙ ap (λ l. cuts a ++ l) (cuts-append b r)) ∙ sym (append-assoc x (cuts a) (cuts b ++ cuts r)) ∙ sym (append-assoc (x ++ cuts a) (cuts b) (cuts r))
+    ap (λ l. x ++ l) (cuts-append a (b ++ r) ∙ ap (λ l. cappedLines a ++ l) (cuts-append b r)) ∙ sym (append-assoc x (cappedLines a) (cappedLines b ++ cappedLines r)) ∙ sym (append-assoc (x ++ cappedLines a) (cappedLines b) (cappedLines r))
 
-lines-loop : (x : List Line) (l : Line) (b r : List Line) → x ++ cuts (l ∷ (b ++ r)) ≡ ((x ++ (cut l ∷ [])) ++ cuts b) ++ cuts r
-unfolding cuts
+lines-loop : (x : List Line) (l : Line) (b r : List Line) → x ++ cappedLines (l ∷ (b ++ r)) ≡ ((x ++ (cappedLine l ∷ [])) ++ cappedLines b) ++ cappedLines r
+unfolding cappedLines
 lines-loop x l b r =
-    ap (λ y. x ++ (cut l ∷ y)) (cuts-append b r) ∙ sym (append-assoc x (cut l ∷ []) (cuts b ++ cuts r)) ∙ sym (append-assoc (x ++ (cut l ∷ [])) (cuts b) (cuts r))
+    ap (λ y. x ++ (cappedLine l ∷ y)) (cuts-append b r) ∙ sym (append-assoc x (cappedLine l ∷ []) (cappedLines b ++ cappedLines r)) ∙ sym (append-assoc (x ++ (cappedLine l ∷ [])) (cappedLines b) (cappedLines r))
 
 -- totals that stop just past the limit: so may the total of the loop round
 same-mul : (n T U : ℕ) → capped T ≡ capped U → capped (n * T) ≡ capped (n * U)
@@ -74,8 +74,8 @@ either-way true x y u v f h k = h
 either-way false x y u v f h k = k
 
 pub cap-lines : (c : ℕ) (a : ℤ) (T U : ℕ) → capped T ≡ capped U → (k : Pass) (ρ : Env) (b : Block)
-    → cuts (lines (record { count = c; by = a; times = T }) k ρ b) ≡ cuts (lines (record { count = c; by = a; times = U }) k ρ b)
-unfolding lines cuts inBody totalOf
+    → cappedLines (lines (record { count = c; by = a; times = T }) k ρ b) ≡ cappedLines (lines (record { count = c; by = a; times = U }) k ρ b)
+unfolding lines cappedLines inBody totalOf
 cap-lines c a T U h k ρ done = refl
 cap-lines c a T U h k ρ (plain i p rest) = cap-lines c a T U h _ (afterRow ρ p) rest
 cap-lines c a T U h k ρ (pick i e x y rest) =
@@ -100,7 +100,7 @@ cap-lines c a T U h k ρ (loop i e form test body rest) =
     (cuts-append (lines (inBody r κ form σ test body) first β body) _
     ∙ ap₂ _++_
     (either-way (sums form σ test body) (record { count = n; by = f; times = c * T }) (record { count = 1; by = pos 0; times = S * T }) (record { count = n; by = f; times = c * U }) (record { count = 1; by = pos 0; times = S * U })
-    (λ q. cuts (lines q first β body)) (cap-lines n f (c * T) (c * U) (same-mul c T U h) first β body) (cap-lines 1 (pos 0) (S * T) (S * U) (same-mul S T U h) first β body))
+    (λ q. cappedLines (lines q first β body)) (cap-lines n f (c * T) (c * U) (same-mul c T U h) first β body) (cap-lines 1 (pos 0) (S * T) (S * U) (same-mul S T U h) first β body))
     (cap-lines c a T U h _ (outside form σ test body) rest)
     ∙ sym (cuts-append (lines (inBody r′ κ form σ test body) first β body) _))
 
@@ -142,7 +142,7 @@ module _ (π : Prices) (r : Round) (x : State) where
   K = passIn r (x .kept)
 
   pub fold-none : x .spent ≤ 1_000_000_000_001 → folded π r x done ≡ x
-  unfolding folded after loopsVerdict ticks blocksVerdict lines cuts loopCount assigns
+  unfolding folded after loopsVerdict ticks blocksVerdict lines cappedLines loopCount assigns
   fold-none h =
       state-is refl (kept-none (x .kept)) (then-passed (x .verdict)) (omega (arith, over-same K (r .by) (r .count) 0)) (then-passed (x .over)) (append-none (x .lines)) (omega arith)
 
@@ -163,7 +163,7 @@ module _ (π : Prices) (r : Round) (x : State) where
         over-same K (r .by) (r .count) (price π p),
         ap (λ k. sumOver k (r .by) (r .count) (λ j. ticks π j ρ rest)) e,
       ))
-      refl (ap (λ k. x .lines ++ cuts (lines (roundOf r) k ρ rest)) e) refl
+      refl (ap (λ k. x .lines ++ cappedLines (lines (roundOf r) k ρ rest)) e) refl
 
   -- past a pick
   abbrev pub pickTicks : Block → Block → ℕ
@@ -176,7 +176,7 @@ module _ (π : Prices) (r : Round) (x : State) where
     verdict = andThen (andThen (x .verdict) (loopsVerdict (x .env) a)) (loopsVerdict (x .env) b);
     spent = capped (x .spent + r .count * pickTicks a b);
     over = andThen (andThen (andThen (x .over) (blocksVerdict π (x .env) a)) (blocksVerdict π (x .env) b)) (asked 13 e (leb (pickTicks a b) tickLimit) passed);
-    lines = (x .lines ++ cuts (lines (alike (often (roundOf r))) any (x .env) a)) ++ cuts (lines (alike (often (roundOf r))) any (x .env) b);
+    lines = (x .lines ++ cappedLines (lines (alike (often (roundOf r))) any (x .env) a)) ++ cappedLines (lines (alike (often (roundOf r))) any (x .env) b);
     loops = x .loops + loopCount a + loopCount b;
   }
 
@@ -201,7 +201,7 @@ module _ (π : Prices) (r : Round) (x : State) where
       (ap (λ v. andThen (x .over) (andThen (blocksVerdict π ρ a) (andThen (blocksVerdict π ρ b) v))) (asked-then 13 e (leb F tickLimit) _)
       ∙ sym (then-assoc (x .over) _ _) ∙ sym (then-assoc _ _ _) ∙ sym (then-assoc _ q _))
       (lines-pick (x .lines) (lines R any ρ a) (lines R any ρ b) (lines (roundOf r) (later s K) σ rest)
-      ∙ ap (λ k. ((x .lines ++ cuts (lines R any ρ a)) ++ cuts (lines R any ρ b)) ++ cuts (lines (roundOf r) k σ rest)) l)
+      ∙ ap (λ k. ((x .lines ++ cappedLines (lines R any ρ a)) ++ cappedLines (lines R any ρ b)) ++ cappedLines (lines (roundOf r) k σ rest)) l)
       (omega arith)
 
   -- past a loop
@@ -230,12 +230,12 @@ module _ (π : Prices) (r : Round) (x : State) where
       verdict = andThen (andThen (x .verdict) (ofTrip i (trip form σ test body))) (loopsVerdict β body);
       spent = capped (x .spent + allTicks);
       over = andThen (andThen (x .over) (blocksVerdict π β body)) (asked 13 e (leb ownTicks tickLimit) passed);
-      lines = (x .lines ++ (cut (line (roundOf r) (startPass form test K) i form σ test body) ∷ [])) ++ cuts (lines (inBody (roundOf r) (startPass form test K) form σ test body) (firstPass form σ test body) β body);
+      lines = (x .lines ++ (cappedLine (line (roundOf r) (startPass form test K) i form σ test body) ∷ [])) ++ cappedLines (lines (inBody (roundOf r) (startPass form test K) form σ test body) (firstPass form σ test body) β body);
       loops = x .loops + 1 + loopCount body;
     }
 
     pub fold-loop : (rest : Block) → folded π r x (loop i e form test body rest) ≡ folded π r pastLoop rest
-    unfolding folded after loopsVerdict ticks blocksVerdict lines cuts loopCount assigns
+    unfolding folded after loopsVerdict ticks blocksVerdict lines cappedLines loopCount assigns
     fold-loop rest =
         let F = ownTicks in
         let q = asked 13 e (leb F tickLimit) passed in
@@ -253,7 +253,7 @@ module _ (π : Prices) (r : Round) (x : State) where
         ))
         (ap (λ v. andThen (x .over) (andThen (blocksVerdict π β body) v)) (asked-then 13 e (leb F tickLimit) _)
         ∙ sym (then-assoc (x .over) _ _) ∙ sym (then-assoc _ q _))
-        (lines-loop (x .lines) one inner (lines (roundOf r) (later s K) α rest) ∙ ap (λ k. ((x .lines ++ (cut one ∷ [])) ++ cuts inner) ++ cuts (lines (roundOf r) k α rest)) l)
+        (lines-loop (x .lines) one inner (lines (roundOf r) (later s K) α rest) ∙ ap (λ k. ((x .lines ++ (cappedLine one ∷ [])) ++ cappedLines inner) ++ cappedLines (lines (roundOf r) k α rest)) l)
         (omega arith)
 
 -- ---- the first row or block alone, then the rest

@@ -37,8 +37,8 @@ use Rattle.analysis_steps.specs.Tree.{blockAt, Whole, Ready, Walked, headOf, fo
 use Rattle.analysis_steps.specs.Body.{bodyAt}
 use Rattle.analysis_steps.proofs.Laws.{PickIs, LoopIs}
 use Rattle.analysis_steps.proofs.Walking.{Walking, plain-row}
-use Rattle.analysis_trips.specs.Env.{envOf}
-use Rattle.analysis_ranges.specs.Env.{EnvIs}
+use Rattle.analysis_intervals.specs.Env.{envOf}
+use Rattle.analysis_transfer.specs.Env.{EnvIs}
 use Rattle.analysis_ticks.specs.Capped.{capped, once, overOf}
 use Rattle.analysis_ticks.proofs.Caps.{cap-mul, loop-ticks-is}
 use Rattle.analysis_passes.specs.declared.Round.{Round}
@@ -46,7 +46,7 @@ use Rattle.analysis_passes.specs.Rounds.{roundOf, passIn, FineRound, branchOf}
 use Rattle.analysis_passes.proofs.Loops.{walk-is}
 use Rattle.analysis.specs.declared.Entered.{Entered}
 use Rattle.analysis.specs.Enter.{walkedAt, Entry}
-use Rattle.analysis.specs.Fold.{loopCount, frontOf, restOf, cut, cuts, State, TallyLines, folded, tallied, lastPrice, lastTicks, lineFor, Restarted, PastRow, Lined, Closed, EndedAt, Walkable, Passed, Analysed, IsBlock, PassedBlock}
+use Rattle.analysis.specs.Fold.{loopCount, frontOf, restOf, cappedLine, cappedLines, State, TallyLines, folded, tallied, lastPrice, lastTicks, lineFor, Restarted, PastRow, LineAdded, BlockClosed, EndedAt, Walkable, Passed, Analysed, IsBlock, PassedBlock}
 use Rattle.analysis.proofs.Folding.{state-is, cap-lines, later-in, fold-plain, first-pick, first-loop, fold-first, pastPlain, pickTicks, pastPick, ownTicks, allTicks, pastLoop, SameBody, same-body}
 use Rattle.analysis.proofs.Bodies.{body-known, body-sum, body-lines, own-passes, cap-often}
 
@@ -56,7 +56,7 @@ pub record Part (π : Prices) (q : Round) (k : Bool) (ρ : Env) (s : ℕ) (o : V
   pub verdict : loopsVerdict ρ b ≡ passed
   pub spent : r .spent ≡ capped (s + sumOver (passIn q k) (q .by) (q .count) (λ j. ticks π j ρ b))
   pub over : overOf (r .over) ≡ andThen o (blocksVerdict π ρ b)
-  pub lined : firstLines (r .lines) (r .loops) ≡ ls ++ cuts (lines (roundOf q) (passIn q k) ρ b)
+  pub lined : firstLines (r .lines) (r .loops) ≡ ls ++ cappedLines (lines (roundOf q) (passIn q k) ρ b)
   pub count : r .loops ≡ n + loopCount b
   pub long : length (r .lines) ≡ 16
 
@@ -156,7 +156,7 @@ restart-walkable {t} {r} k fine o h g l m =
     let n = ap (λ (x : State). x .loops) (h .value nowhere) in
     record { ready = k; prices = fine; small = omega arith; fine = o; room = omega arith; long = ap length (h .same) ∙ g }
 
-pub lined-walkable : {text : List ℕ} {π : Prices} {rows : List Row} {count a i turns total s : ℕ} {kept : Bool} {q : Round} {τ : Trip} {t r : TallyLines} → Ready text rows count a → FinePrices π → FineRound q → Lined t i τ turns total s kept r → s ≤ 1_000_000_000_001
+pub lined-walkable : {text : List ℕ} {π : Prices} {rows : List Row} {count a i turns total s : ℕ} {kept : Bool} {q : Round} {τ : Trip} {t r : TallyLines} → Ready text rows count a → FinePrices π → FineRound q → LineAdded t i τ turns total s kept r → s ≤ 1_000_000_000_001
     → t .loops + 1 + loopCount (blockAt text rows count a) ≤ 16 → Walkable text π rows count a q r
 lined-walkable {t} {r} k fine o h l m =
     let p = ap (λ (x : State). x .spent) (h .value nowhere) in
@@ -234,7 +234,7 @@ module _ {text : List ℕ} (π : Prices) {rows : List Row} {count : ℕ} (round 
     part-ticks : (b : Block) → sumOver (passIn part false) (pos 0) 1 (λ j. ticks π j ρ b) ≡ ticks π any ρ b
     part-ticks b = over-once (pos 0) (λ j. ticks π j ρ b)
 
-    part-lines : (b : Block) → cuts (lines (roundOf part) any ρ b) ≡ cuts (lines (alike (often (roundOf round))) any ρ b)
+    part-lines : (b : Block) → cappedLines (lines (roundOf part) any ρ b) ≡ cappedLines (lines (alike (often (roundOf round))) any ρ b)
     part-lines b = cap-lines 1 (pos 0) _ _ (omega arith) any ρ b
 
     -- a part, walked with its ticks from the start
@@ -247,7 +247,7 @@ module _ {text : List ℕ} (π : Prices) {rows : List Row} {count : ℕ} (round 
     pub past-pick : {a b : TallyLines} {ranges : List (List ℤ)} {r : TallyLines}
         → Part π part (t .kept) ρ 0 (overOf (t .over)) (firstLines (t .lines) (t .loops)) (t .loops) A a
         → Part π part (a .kept) ρ 0 (overOf (a .over)) (firstLines (a .lines) (a .loops)) (a .loops) B b
-        → Closed t b e (capped (π .pick + max (a .spent) (b .spent))) (capped (round .count * capped (π .pick + max (a .spent) (b .spent)))) (b .kept) r → EnvIs ranges (join (after ρ A) (after ρ B)) → PassedBlock text π rows count i ρ round t ranges r
+        → BlockClosed t b e (capped (π .pick + max (a .spent) (b .spent))) (capped (round .count * capped (π .pick + max (a .spent) (b .spent)))) (b .kept) r → EnvIs ranges (join (after ρ A) (after ρ B)) → PassedBlock text π rows count i ρ round t ranges r
     unfolding andThen restOf
     past-pick {a} {b} {ranges} {r} pa pb c s =
         let G = pickTicks π round (tallied t ρ) A B in
@@ -393,7 +393,7 @@ module _ {text : List ℕ} (π : Prices) {rows : List Row} {count : ℕ} (round 
 
       pub past-loop : {ranges : List (List ℤ)} {b r : TallyLines} {keep : Bool}
           → Part π (x .round) (x .round .known) β (x .round .count * lastTicks text π (kindAt rows i)) (overOf (t .over)) (firstLines (t .lines) (t .loops) ++ (lineFor i (trip form σ test body) (turns form σ test body) (capped (W * round .times)) ∷ [])) (t .loops + 1) (blockAt text rows count (i + 1)) b
-          → ((G : ℕ) → b .spent ≡ capped G → Closed t b e (capped (x .ran .own * (G + x .ran .tests * π .test) + 1 * once π form)) (capped (x .ran .all * (G + x .ran .tests * π .test) + round .count * once π form)) keep r)
+          → ((G : ℕ) → b .spent ≡ capped G → BlockClosed t b e (capped (x .ran .own * (G + x .ran .tests * π .test) + 1 * once π form)) (capped (x .ran .all * (G + x .ran .tests * π .test) + round .count * once π form)) keep r)
           → keep ≡ (t .kept && not (starts (round .v) form test)) && not (assigns (round .v) body) → EnvIs ranges (outside form σ test body) → PassedBlock text π rows count i ρ round t ranges r
       unfolding andThen restOf
       past-loop {ranges} {b} {r} {keep} p f kp s =
@@ -401,12 +401,12 @@ module _ {text : List ℕ} (π : Prices) {rows : List Row} {count : ℕ} (round 
           let G = inner (λ j. ticks π j β body) in
           let F = ownTicks π round (tallied t ρ) i e form test body in
           let c = f G (p .spent ∙ ap capped (sym with-last)) in
-          let L : lineFor i (trip form σ test body) n (capped (W * round .times)) ≡ cut (line (roundOf round) (startPass form test (passIn round (t .kept))) i form σ test body)
+          let L : lineFor i (trip form σ test body) n (capped (W * round .times)) ≡ cappedLine (line (roundOf round) (startPass form test (passIn round (t .kept))) i form σ test body)
           = ap (λ z. lineFor i (trip form σ test body) n (capped z)) (sym total-is ∙ ap (λ j. totalOf (roundOf round) j form σ test body) (sym start-is)) in
-          let lined : cuts (lines (roundOf (x .round)) (passIn (x .round) (x .round .known)) β (blockAt text rows count (i + 1))) ≡ cuts (lines (inBody (roundOf round) (startPass form test (passIn round (t .kept))) form σ test body) (firstPass form σ test body) β body)
-          = ap cuts (sym (same .lined (roundOf (x .round)) (passIn (x .round) (x .round .known)) β))
+          let lined : cappedLines (lines (roundOf (x .round)) (passIn (x .round) (x .round .known)) β (blockAt text rows count (i + 1))) ≡ cappedLines (lines (inBody (roundOf round) (startPass form test (passIn round (t .kept))) form σ test body) (firstPass form σ test body) β body)
+          = ap cappedLines (sym (same .lined (roundOf (x .round)) (passIn (x .round) (x .round .known)) β))
           ∙ body-lines round κ form σ test body (capped (W * round .times)) (x .round) (en .round) (ap capped (sym total-is)) β body
-          ∙ ap (λ j. cuts (lines (inBody (roundOf round) j form σ test body) (firstPass form σ test body) β body)) (sym start-is) in
+          ∙ ap (λ j. cappedLines (lines (inBody (roundOf round) j form σ test body) (firstPass form σ test body) β body)) (sym start-is) in
           let y : tallied r (envOf ranges) ≡ pastLoop π round (tallied t ρ) i e form test body = state-is (s .value)
           (c .kept ∙ kp)
           (sym (ap₂ (λ a w. andThen a w) (en .verdict) (same .loops β ∙ p .verdict)))
@@ -438,10 +438,10 @@ trip-number i τ n p e z =
     (e ∙ ap (λ m. refused m p) z)
 
 -- a line of the same trip
-pub lined-is : {t r : TallyLines} {i n o m l a b : ℕ} {k : Bool} {τ υ : Trip} → τ ≡ υ → n ≡ o → m ≡ l → a ≡ b → Lined t i τ n m a k r → Lined t i υ o l b k r
+pub lined-is : {t r : TallyLines} {i n o m l a b : ℕ} {k : Bool} {τ υ : Trip} → τ ≡ υ → n ≡ o → m ≡ l → a ≡ b → LineAdded t i τ n m a k r → LineAdded t i υ o l b k r
 lined-is {t} {r} {i} {n} {o} {m} {l} {a} {b} {k} {τ} {υ} p e f q h =
-    subst (λ z. Lined t i υ o l z k r) q (subst (λ z. Lined t i υ o z a k r) f (subst (λ z. Lined t i υ z m a k r) e (subst (λ z. Lined t i z n m a k r) p h)))
+    subst (λ z. LineAdded t i υ o l z k r) q (subst (λ z. LineAdded t i υ o z a k r) f (subst (λ z. LineAdded t i υ z m a k r) e (subst (λ z. LineAdded t i z n m a k r) p h)))
 
 -- a block's figures, by others
-pub closed-is : {t u r : TallyLines} {e own own′ all all′ : ℕ} {keep keep′ : Bool} → own ≡ own′ → all ≡ all′ → keep ≡ keep′ → Closed t u e own all keep r → Closed t u e own′ all′ keep′ r
-closed-is {t} {u} {r} {e} {own} {own′} {all} {all′} {keep} {keep′} p q k h = subst (λ z. Closed t u e own′ all′ z r) k (subst (λ z. Closed t u e own′ z keep r) q (subst (λ z. Closed t u e z all keep r) p h))
+pub closed-is : {t u r : TallyLines} {e own own′ all all′ : ℕ} {keep keep′ : Bool} → own ≡ own′ → all ≡ all′ → keep ≡ keep′ → BlockClosed t u e own all keep r → BlockClosed t u e own′ all′ keep′ r
+closed-is {t} {u} {r} {e} {own} {own′} {all} {all′} {keep} {keep′} p q k h = subst (λ z. BlockClosed t u e own′ all′ z r) k (subst (λ z. BlockClosed t u e own′ z keep r) q (subst (λ z. BlockClosed t u e z all keep r) p h))

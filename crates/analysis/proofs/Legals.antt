@@ -15,13 +15,13 @@ use Rattle.rules.specs.Written.{Written}
 use Rattle.rules.specs.Scripts as scripts
 use Rattle.rules.specs.Scripts.{All, none, some, pairRange, pairRanges, BlankFrom, RowLimits, RowBelow, scriptOf, ofBuilt, treeOf, Legal}
 use Rattle.rules.proofs.Laws.{kinds-length}
-use Rattle.rules.proofs.Nesting.{tree-of}
+use Rattle.rules.proofs.TreeOf.{tree-of}
 use Rattle.rules.proofs.Rows.{block-whole}
 use Rattle.analysis_table.specs.Code.{kindAt}
 use Rattle.analysis_table.proofs.Limits.{row-fine}
 use Rattle.analysis_steps.specs.Tree.{kinds, blockAt, Whole, Ready}
 use Rattle.analysis_steps.proofs.Laws.{kind-is}
-use Rattle.analysis_trips.specs.Env.{envOf}
+use Rattle.analysis_intervals.specs.Env.{envOf}
 use Rattle.analysis.specs.Fold.{loopCount}
 use Rattle.analysis.proofs.Counts.{few-loops}
 

@@ -10,13 +10,14 @@ use Rattle.ints.specs.Ints.{minZ, maxZ}
 use Rattle.ints.proofs.Parts.{P, N, ints, add-parts, neg-parts, min-parts, max-parts, eq-out}
 use Rattle.ints.proofs.Scale.{mul-P, mul-N}
 use Rattle.ints.proofs.Diffs.{of, nat, _≼_, eq-yes, cond-elim, cond-false, both, nor}
-use Rattle.rules.specs.declared.Step.{Step}
-use Rattle.rules.specs.declared.Step.the-variants.{Add, Grow, Shrink, Unknown}
+use Rattle.rules_steps.specs.declared.Step.{Step}
+use Rattle.rules_steps.specs.declared.Step.the-variants.{Add, Grow, Shrink, Unknown}
 use Rattle.rules.specs.declared.Verdict.{Verdict}
 use Rattle.rules.specs.declared.Verdict.the-variants.{Passed as passed, Refused as refused}
 use Rattle.rules.specs.Values.{lowest, highest, upward}
 use Rattle.rules.specs.Blocks.{Plain, assign, cue, Test, Form, while, do-while, hold, for, Block, done, plain, pick, loop}
-use Rattle.rules.specs.Steps.{sets, starts, assigns, still, stepFrom, step, then, either, moving, isAdd, firstEnd}
+use Rattle.rules_steps.specs.Joins.{still, then, either}
+use Rattle.rules.specs.Steps.{sets, starts, assigns, stepFrom, step, moving, isAdd, firstEnd}
 use Rattle.rules.specs.Ranges.{Range, Env, full, single, bounds, sourceRange, afterRow, join, atStart, edge, Sort, rising, falling, same, differ, ordered, sort, isDo, insideRange, suits}
 use Rattle.rules.specs.Turns.{whileTurns, moved, atTest}
 use Rattle.rules.specs.Trips.{Way, own, broken, copied, chase, watched, isOwn, wayOf, untested, nothing, Trip, tripBy, trip, turnsOf, turns, led, isExact, innerOf, outerOf, loopEnv, inside, outside, after}
@@ -61,24 +62,24 @@ is-T true h = refl
 is-T false h = absurd h
 
 -- ---- a range with numbers on both sides of 0
-pub record Wide (r : Range) : Type 0 where
+pub record WideInterval (r : Range) : Type 0 where
   pub low : P (r .lo) < N (r .lo)
   pub high : N (r .hi) < P (r .hi)
 
-full-wide : Wide full
+full-wide : WideInterval full
 unfolding lowest highest
 full-wide = record { low = omega arith; high = omega arith }
 
 -- the range of v stays as it was, or is wide
 abbrev pub Kept : Env → Env → ℕ → Type 0
-Kept ρ σ v = (σ v ≡ ρ v) ⊎ Wide (σ v)
+Kept ρ σ v = (σ v ≡ ρ v) ⊎ WideInterval (σ v)
 
 kept-then : (ρ σ υ : Env) (v : ℕ) → Kept ρ σ v → Kept σ υ v → Kept ρ υ v
 kept-then ρ σ υ v (inl p) (inl q) = inl (q ∙ p)
-kept-then ρ σ υ v (inr w) (inl q) = inr (subst Wide (sym q) w)
+kept-then ρ σ υ v (inr w) (inl q) = inr (subst WideInterval (sym q) w)
 kept-then ρ σ υ v h (inr w) = inr w
 
-join-wide : (ρ σ : Env) (v : ℕ) → (Wide (ρ v) ⊎ Wide (σ v)) → Wide (join ρ σ v)
+join-wide : (ρ σ : Env) (v : ℕ) → (WideInterval (ρ v) ⊎ WideInterval (σ v)) → WideInterval (join ρ σ v)
 unfolding join
 join-wide ρ σ v (inl w) = record { low = omega (arith, w .low, min-parts (ρ v .lo) (σ v .lo)); high = omega (arith, w .high, max-parts (ρ v .hi) (σ v .hi)) }
 join-wide ρ σ v (inr w) = record { low = omega (arith, w .low, min-parts (ρ v .lo) (σ v .lo)); high = omega (arith, w .high, max-parts (ρ v .hi) (σ v .hi)) }
@@ -129,7 +130,7 @@ stands-still v (loop i e form test body rest) h =
     let (x, y) = nor (starts v form test) (assigns v body) xy in
     (λ j. stepFrom (then still (cond (no-T (starts v form test) x j || no-T (assigns v body) y j) Unknown still)) v rest) ∙ stands-still v rest z
 
-free-wide : (form : Form) (test : Test) (body : Block) (σ : Env) (w : Way) → moving (tripBy w form σ test body .step) ≡ true → step (test .tested) body ≡ still → Wide (outerOf (tripBy w form σ test body))
+free-wide : (form : Form) (test : Test) (body : Block) (σ : Env) (w : Way) → moving (tripBy w form σ test body .step) ≡ true → step (test .tested) body ≡ still → WideInterval (outerOf (tripBy w form σ test body))
 unfolding tripBy outerOf moving
 free-wide form test body σ own m e = absurd (false≢true (sym (ap moving e) ∙ m))
 free-wide form test body σ (copied w ahead) m e = full-wide
@@ -142,7 +143,7 @@ pub loop-kept : (i : ℕ) (form : Form) (test : Test) (body : Block) (ρ : Env) 
 unfolding loopEnv
 loop-kept i form test body ρ v st un h =
     let σ = atStart form test ρ in
-    cond-elim (λ (x : Range). (x ≡ ρ v) ⊎ Wide x) (eqb v (test .tested)) (outerOf (trip form σ test body)) (cond (assigns v body) full (σ v))
+    cond-elim (λ (x : Range). (x ≡ ρ v) ⊎ WideInterval x) (eqb v (test .tested)) (outerOf (trip form σ test body)) (cond (assigns v body) full (σ v))
     (λ e. inr (free-wide form test body σ (wayOf form test body) (passed-moves i (trip form σ test body) h) (stands-still (test .tested) body (subst (λ w. T (not (assigns w body))) (eqb→eq v (test .tested) e) un))))
     (λ _. inl (ap (λ b. cond b full (σ v)) (no-T (assigns v body) un) ∙ start-same form test ρ v st))
 
@@ -176,11 +177,11 @@ unfolding later
 lone-later f any a n ρ σ h l = tt
 lone-later f (valued v x) a n ρ σ h l = by (f v) (h v)
   where
-    go : (σ v ≡ ρ v) ⊎ Wide (σ v) → T (single (σ v)) → (i : ℕ) → i < n → x +ℤ a *ℤ pos i ≡ σ v .lo
+    go : (σ v ≡ ρ v) ⊎ WideInterval (σ v) → T (single (σ v)) → (i : ℕ) → i < n → x +ℤ a *ℤ pos i ≡ σ v .lo
     go (inl e) s i u = l (subst (λ r. T (single r)) e s) i u ∙ sym (ap (λ (r : Range). r .lo) e)
     go (inr w) s i u = absurd (omega (arith, w .low, w .high, eq-yes (σ v .lo) (σ v .hi) s))
 
-    by : (b : Bool) → (T (not b) → (σ v ≡ ρ v) ⊎ Wide (σ v)) → Lone (cond b any (valued v x)) a n σ
+    by : (b : Bool) → (T (not b) → (σ v ≡ ρ v) ⊎ WideInterval (σ v)) → Lone (cond b any (valued v x)) a n σ
     by true g = tt
     by false g = go (g tt)
 
@@ -191,7 +192,7 @@ not-second zero h = refl
 not-second (suc i) h = absurd (h (omega arith))
 
 module _ (s n : Range) (e : ℤ) (one : T (single s)) where
-  first-up : (late : Bool) (a b : ℤ) → suits (Add a b) rising ≡ true → T (single (insideRange late rising s e)) → (i : ℕ) → i < led (cond late untested nothing) rising e (whileTurns (Add a b) rising (atTest late (Add a b) s) n e) → i ≡ 0
+  first-up : (is-moved : Bool) (a b : ℤ) → suits (Add a b) rising ≡ true → T (single (insideRange is-moved rising s e)) → (i : ℕ) → i < led (cond is-moved untested nothing) rising e (whileTurns (Add a b) rising (atTest is-moved (Add a b) s) n e) → i ≡ 0
   unfolding suits insideRange led whileTurns atTest moved
   first-up false a b up lone i h =
       not-second i (λ l. let r : nat 1 ≼ of a = omega ints in
@@ -200,7 +201,7 @@ module _ (s n : Range) (e : ℤ) (one : T (single s)) where
       not-second i (λ l. let r : nat 1 ≼ of a = omega ints in
       omega (arith, climb-has (record { start = s .lo +ℤ a; limit = e; step = a }) 0 r (omega arith), add-parts (s .lo) a, max-parts (s .hi) e, eq-yes (s .lo) (maxZ (s .hi) e) lone, eq-yes (s .lo) (s .hi) one))
 
-  first-down : (late : Bool) (a b : ℤ) → suits (Add a b) falling ≡ true → T (single (insideRange late falling s e)) → (i : ℕ) → i < led (cond late untested nothing) falling e (whileTurns (Add a b) falling (atTest late (Add a b) s) n e) → i ≡ 0
+  first-down : (is-moved : Bool) (a b : ℤ) → suits (Add a b) falling ≡ true → T (single (insideRange is-moved falling s e)) → (i : ℕ) → i < led (cond is-moved untested nothing) falling e (whileTurns (Add a b) falling (atTest is-moved (Add a b) s) n e) → i ≡ 0
   unfolding suits insideRange led whileTurns atTest moved
   first-down false a b up lone i h =
       not-second i (λ l. let r : nat 1 ≼ of (negℤ b) = omega (ints, neg-parts b) in
@@ -210,30 +211,30 @@ module _ (s n : Range) (e : ℤ) (one : T (single s)) where
       omega (arith, r, neg-parts b, climb-has (record { start = e; limit = s .hi +ℤ b; step = negℤ b }) 0 r (omega arith), add-parts (s .hi) b, min-parts (s .lo) e, eq-yes (minZ (s .lo) e) (s .hi) lone, eq-yes (s .lo) (s .hi) one))
 
   -- the first value is the range's
-  low-up : (late : Bool) → insideRange late rising s e .lo ≡ s .lo
+  low-up : (is-moved : Bool) → insideRange is-moved rising s e .lo ≡ s .lo
   unfolding insideRange
-  low-up late = refl
+  low-up is-moved = refl
 
-  low-down : (late : Bool) → T (single (insideRange late falling s e)) → insideRange late falling s e .lo ≡ s .lo
+  low-down : (is-moved : Bool) → T (single (insideRange is-moved falling s e)) → insideRange is-moved falling s e .lo ≡ s .lo
   unfolding insideRange
-  low-down late lone = eq-out _ (s .lo) (omega (arith, eq-yes (insideRange late falling s e .lo) (s .hi) lone, eq-yes (s .lo) (s .hi) one))
+  low-down is-moved lone = eq-out _ (s .lo) (omega (arith, eq-yes (insideRange is-moved falling s e .lo) (s .hi) lone, eq-yes (s .lo) (s .hi) one))
 
-  lone-range : (late : Bool) (st : Step) (d : Sort) → T (isAdd st) → T (ordered d) → suits st d ≡ true → T (single (insideRange late d s e)) → (i : ℕ)
-      → i < led (cond late untested nothing) d e (whileTurns st d (atTest late st s) n e) → s .lo +ℤ firstEnd st *ℤ pos i ≡ insideRange late d s e .lo
+  lone-range : (is-moved : Bool) (st : Step) (d : Sort) → T (isAdd st) → T (ordered d) → suits st d ≡ true → T (single (insideRange is-moved d s e)) → (i : ℕ)
+      → i < led (cond is-moved untested nothing) d e (whileTurns st d (atTest is-moved st s) n e) → s .lo +ℤ firstEnd st *ℤ pos i ≡ insideRange is-moved d s e .lo
   unfolding isAdd
-  lone-range late (Add a b) rising ad o u lone i h = at-first (first-up late a b u lone i h) ∙ sym (low-up late)
+  lone-range is-moved (Add a b) rising ad o u lone i h = at-first (first-up is-moved a b u lone i h) ∙ sym (low-up is-moved)
     where
       at-first : i ≡ 0 → s .lo +ℤ firstEnd (Add a b) *ℤ pos i ≡ s .lo
       at-first z = let k = firstEnd (Add a b) in rw z (eq-out (s .lo +ℤ k *ℤ pos 0) (s .lo) (omega (arith, add-parts (s .lo) (k *ℤ pos 0), mul-P k 0, mul-N k 0)))
-  lone-range late (Add a b) falling ad o u lone i h = at-first (first-down late a b u lone i h) ∙ sym (low-down late lone)
+  lone-range is-moved (Add a b) falling ad o u lone i h = at-first (first-down is-moved a b u lone i h) ∙ sym (low-down is-moved lone)
     where
       at-first : i ≡ 0 → s .lo +ℤ firstEnd (Add a b) *ℤ pos i ≡ s .lo
       at-first z = let k = firstEnd (Add a b) in rw z (eq-out (s .lo +ℤ k *ℤ pos 0) (s .lo) (omega (arith, add-parts (s .lo) (k *ℤ pos 0), mul-P k 0, mul-N k 0)))
-  lone-range late (Add a b) same ad o u lone i h = absurd o
-  lone-range late (Add a b) differ ad o u lone i h = absurd o
-  lone-range late (Grow f g) d ad o u lone i h = absurd ad
-  lone-range late (Shrink f g) d ad o u lone i h = absurd ad
-  lone-range late Unknown d ad o u lone i h = absurd ad
+  lone-range is-moved (Add a b) same ad o u lone i h = absurd o
+  lone-range is-moved (Add a b) differ ad o u lone i h = absurd o
+  lone-range is-moved (Grow f g) d ad o u lone i h = absurd ad
+  lone-range is-moved (Shrink f g) d ad o u lone i h = absurd ad
+  lone-range is-moved Unknown d ad o u lone i h = absurd ad
 
 module _ (form : Form) (ρ : Env) (test : Test) (body : Block) where
   tested-inside : inside form ρ test body (test .tested) ≡ innerOf (trip form ρ test body)

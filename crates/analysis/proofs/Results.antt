@@ -20,8 +20,8 @@ use Rattle.rules.specs.Questions.{andThen, verdict}
 use Rattle.rules.specs.Scripts as scripts
 use Rattle.rules.specs.Scripts.{pairRanges, BlankFrom, scriptOf, treeOf, Legal, Accepted}
 use Rattle.analysis_steps.specs.Tree.{kinds, blockAt}
-use Rattle.analysis_trips.specs.Env.{envOf}
-use Rattle.analysis_turns.specs.Needs.{verdictOf}
+use Rattle.analysis_intervals.specs.Env.{envOf}
+use Rattle.analysis_turns.specs.Verdicts.{verdictOf}
 use Rattle.analysis.specs.declared.Tally.{Tally}
 use Rattle.analysis.specs.declared.Refusal.{Refusal}
 use Rattle.analysis.specs.declared.Figures.{Figures}

@@ -24,7 +24,7 @@ use Rattle.rules.proofs.Triangles.{over-sum, over-same, all-past, all-any, all-
 use Rattle.rules.proofs.Walk.{over-once}
 use Rattle.analysis_ticks.specs.Capped.{capped}
 use Rattle.analysis_ticks.proofs.Caps.{loop-ticks-is}
-use Rattle.analysis.specs.Fold.{cuts}
+use Rattle.analysis.specs.Fold.{cappedLines}
 use Rattle.analysis.proofs.Lone.{then-first, then-second, row-kept, start-kept, loop-kept, after-kept, join-kept, Lone, lone-later, first-lone, turns-lone}
 
 Within : ℕ → Line → Type 0
@@ -114,13 +114,13 @@ totals π one (loop i e form test body rest) ρ g r k lone =
     (totals π one rest α gr r (later s k) (lone-later s k (r .by) (r .count) ρ α
     (λ v h. let (x, y) = nor (starts v form test) (assigns v body) h in loop-kept i form test body ρ v x y go) lone))))
 
-uncut : (ls : List Line) → All (Within 1_000_000_000_001) ls → cuts ls ≡ ls
-unfolding cuts Within
+uncut : (ls : List Line) → All (Within 1_000_000_000_001) ls → cappedLines ls ≡ ls
+unfolding cappedLines Within
 uncut [] none = refl
 uncut (l ∷ ls) (some h a) = ap₂ _∷_ (ap (λ t. record { row = l .row; step = l .step; turns = l .turns; total = t; exact = l .exact }) (let z : capped (l .total) ≡ l .total = omega arith in z)) (uncut ls a)
 
 -- of a file within the limit
-pub lines-true : (π : Prices) → 1 ≤ π .test → (b : Block) (ρ : Env) → loopsVerdict ρ b ≡ passed → ticks π any ρ b ≤ 1_000_000_000_000 → cuts (lines (alike 1) any ρ b) ≡ lines (alike 1) any ρ b
+pub lines-true : (π : Prices) → 1 ≤ π .test → (b : Block) (ρ : Env) → loopsVerdict ρ b ≡ passed → ticks π any ρ b ≤ 1_000_000_000_000 → cappedLines (lines (alike 1) any ρ b) ≡ lines (alike 1) any ρ b
 unfolding Within
 lines-true π one b ρ g h =
     uncut (lines (alike 1) any ρ b) (all-map (λ l k. let z : l .total ≤ sumOver any (pos 0) 1 (λ j. ticks π j ρ b) * 1 = k in omega (arith, over-once (pos 0) (λ j. ticks π j ρ b))) (totals π one b ρ g (alike 1) any tt))

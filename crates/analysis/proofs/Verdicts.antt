@@ -9,7 +9,7 @@ use Rattle.rules.specs.Passes.{any}
 use Rattle.rules.specs.Figures.{ticks}
 use Rattle.rules.specs.declared.Verdict.the-variants.{Passed as passed, Refused as refused}
 use Rattle.rules.specs.Questions.{andThen, asked, tickLimit, loopsVerdict, blocksVerdict, verdict}
-use Rattle.analysis_turns.specs.Needs.{verdictOf}
+use Rattle.analysis_turns.specs.Verdicts.{verdictOf}
 use Rattle.analysis_ticks.specs.Capped.{overOf}
 
 module _ (π : Prices) (count : ℕ) (ρ : Env) (b : Block) where

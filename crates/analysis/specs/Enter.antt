@@ -17,10 +17,10 @@ use Rattle.analysis_table.specs.Code.{kindAt}
 use Rattle.analysis_steps.specs.Tree.{formOf, testOf}
 use Rattle.analysis_steps.specs.Body.{bodyAt, EndsAt}
 use Rattle.analysis_steps.specs.Sets.{setOf}
-use Rattle.analysis_trips.specs.declared.Loop.{Loop}
-use Rattle.analysis_trips.specs.Env.{rangeOf}
+use Rattle.analysis_loops.specs.declared.Loop.{Loop}
+use Rattle.analysis_intervals.specs.Env.{rangeOf}
 use Rattle.analysis_trips.specs.Found.{tripOf}
-use Rattle.analysis_ranges.specs.Env.{EnvIs, widenedEnv}
+use Rattle.analysis_transfer.specs.Env.{EnvIs, widenedEnv}
 use Rattle.analysis_ticks.specs.Capped.{capped, once}
 use Rattle.analysis_passes.specs.declared.Round.{Round}
 use Rattle.analysis_passes.specs.Rounds.{roundOf, passIn, FineRound, walkedBy, bodyOf}
@@ -28,12 +28,13 @@ use Rattle.analysis.specs.declared.Exit.{Exit}
 use Rattle.analysis.specs.declared.Entered.{Entered}
 use Rattle.analysis.specs.declared.Ran.{Ran}
 use Rattle.analysis.specs.declared.Tally.{Tally}
-use Rattle.analysis.specs.Fold.{TallyLines, withLines, lastTicks, Lined, Closed}
+use Rattle.analysis.specs.Fold.{TallyLines, withLines, lastTicks, LineAdded, BlockClosed}
 
 -- the ranges at the start of the loop at row i, and its trip
 abbrev pub startAt : List ℕ → List Row → ℕ → Env → Env
 startAt text rows i ρ = atStart (formOf text (kindAt rows i)) (testOf text (kindAt rows i)) ρ
 
+-- the trip of the loop at row i
 abbrev pub tripAt : List ℕ → List Row → ℕ → ℕ → Env → Trip
 tripAt text rows count i ρ = trips.trip (formOf text (kindAt rows i)) (startAt text rows i ρ) (testOf text (kindAt rows i)) (bodyAt text rows count i)
 
@@ -53,7 +54,7 @@ pub record Entry (text : List ℕ) (π : Prices) (i v : ℕ) (r : Round) (k : Ki
   pub round : e .round ≡ bodyOf τ v (turnsOf τ) (capped (walkedAt text r (t .kept) k τ * r .times)) r
   pub fine : FineRound (e .round)
   pub ran : RanOf (e .round .known) (e .round .count) (turnsOf τ) (capped (walkedAt text r (t .kept) k τ)) (r .count) (e .ran)
-  pub lined : Lined t i τ (turnsOf τ) (capped (walkedAt text r (t .kept) k τ * r .times)) (e .round .count * lastTicks text π k) (e .round .known) first
+  pub lined : LineAdded t i τ (turnsOf τ) (capped (walkedAt text r (t .kept) k τ * r .times)) (e .round .count * lastTicks text π k) (e .round .known) first
 
 -- what leaves a loop, from what is found of it
 pub record ExitOf (one : Loop) (x : Exit) : Type 0 where
@@ -82,5 +83,5 @@ pub record LeftLoop (π : Prices) (k : Kind) (exit : Exit) (round : Round) (ran 
   pub env : EnvIs r (widenedEnv (setOf (exit .set)) (rangeOf (exit .mine)) (exit .tested) ρ)
   pub closed : (text : List ℕ) (B : ℕ) → body .spent ≡ capped B → (ks ls : List (List ℕ))
       → let G : ℕ = B + ran .tests * π .test in
-      Closed (withLines t ks) (withLines body ls) (exit .next) (capped (ran .own * G + 1 * once π (formOf text k))) (capped (ran .all * G + round .count * once π (formOf text k)))
+      BlockClosed (withLines t ks) (withLines body ls) (exit .next) (capped (ran .own * G + 1 * once π (formOf text k))) (capped (ran .all * G + round .count * once π (formOf text k)))
       ((t .kept && not (starts (round .v) (formOf text k) (testOf text k))) && not (setOf (exit .set) (round .v))) (withLines x ls)

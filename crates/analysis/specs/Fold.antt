@@ -24,7 +24,7 @@ use Rattle.analysis_table.specs.Code.{kindAt}
 use Rattle.analysis_table.specs.Shapes.{shapeOf}
 use Rattle.analysis_lines.specs.Coded.{firstLines}
 use Rattle.analysis_steps.specs.Tree.{blockAt, endAt, Ready, headOf}
-use Rattle.analysis_trips.specs.Env.{envOf}
+use Rattle.analysis_intervals.specs.Env.{envOf}
 use Rattle.analysis_ticks.specs.Capped.{capped, overOf, OverOf}
 use Rattle.analysis_passes.specs.declared.Round.{Round}
 use Rattle.analysis_passes.specs.Rounds.{roundOf, passIn, FineRound}
@@ -44,6 +44,7 @@ frontOf (plain i p rest) = plain i p done
 frontOf (pick i e a b rest) = pick i e a b done
 frontOf (loop i e form test body rest) = loop i e form test body done
 
+-- what stands after the first row or block
 unfoldable pub restOf : Block → Block
 restOf done = done
 restOf (plain i p rest) = rest
@@ -51,12 +52,13 @@ restOf (pick i e a b rest) = rest
 restOf (loop i e form test body rest) = rest
 
 -- a line whose total stops just past the limit
-abbrev pub cut : Line → Line
-cut l = record { row = l .row; step = l .step; turns = l .turns; total = capped (l .total); exact = l .exact }
+abbrev pub cappedLine : Line → Line
+cappedLine l = record { row = l .row; step = l .step; turns = l .turns; total = capped (l .total); exact = l .exact }
 
-unfoldable pub cuts : List Line → List Line
-cuts [] = []
-cuts (l ∷ ls) = cut l ∷ cuts ls
+-- those of all lines
+unfoldable pub cappedLines : List Line → List Line
+cappedLines [] = []
+cappedLines (l ∷ ls) = cappedLine l ∷ cappedLines ls
 
 -- what the fold carries
 pub record State : Type 0 where
@@ -69,6 +71,7 @@ pub record State : Type 0 where
   pub lines : List Line
   pub loops : ℕ
 
+-- the fold past a block, in all passes of the loop round it
 unfoldable pub folded : Prices → Round → State → Block → State
 folded π r x b = record {
   env = after (x .env) b;
@@ -76,7 +79,7 @@ folded π r x b = record {
   verdict = andThen (x .verdict) (loopsVerdict (x .env) b);
   spent = capped (x .spent + sumOver (passIn r (x .kept)) (r .by) (r .count) (λ j. ticks π j (x .env) b));
   over = andThen (x .over) (blocksVerdict π (x .env) b);
-  lines = x .lines ++ cuts (lines (roundOf r) (passIn r (x .kept)) (x .env) b);
+  lines = x .lines ++ cappedLines (lines (roundOf r) (passIn r (x .kept)) (x .env) b);
   loops = x .loops + loopCount b;
 }
 
@@ -91,6 +94,7 @@ pub record TallyLines : Type 0 where
   pub next : ℕ
   pub lines : List (List ℕ)
 
+-- a tally of the code's with its table of lines
 abbrev pub withLines : Tally → List (List ℕ) → TallyLines
 withLines t ls = record { number = t .number; kept = t .kept; place = t .place; over = t .over; spent = t .spent; loops = t .loops; next = t .next; lines = ls }
 
@@ -103,9 +107,11 @@ abbrev pub lastPrice : Prices → Last → ℕ
 lastPrice π no-step = 0
 lastPrice π (step-by p) = price π p
 
+-- the ticks of a loop's last row, 0 if it has no step row
 abbrev pub lastTicks : List ℕ → Prices → Kind → ℕ
 lastTicks text π k = lastPrice π (headOf text k .last)
 
+-- r is t with other ticks spent; its lines and its verdict stay
 pub record Restarted (t : TallyLines) (kept : Bool) (spent : ℕ) (r : TallyLines) : Type 0 where
   pub same : r .lines ≡ t .lines
   pub value : (ρ : Env) → tallied r ρ ≡ record { env = ρ; kept = kept; verdict = passed; spent = spent; over = overOf (t .over); lines = firstLines (t .lines) (t .loops); loops = t .loops }
@@ -118,7 +124,8 @@ PastRow π r t p x = Restarted t (t .kept && not (sets (r .v) p)) (capped (t .sp
 abbrev pub lineFor : ℕ → Trip → ℕ → ℕ → Line
 lineFor i τ turns total = record { row = i; step = τ .step; turns = turns; total = total; exact = isExact τ }
 
-pub record Lined (t : TallyLines) (i : ℕ) (τ : Trip) (turns total spent : ℕ) (kept : Bool) (r : TallyLines) : Type 0 where
+-- r is t with one line more, at its end
+pub record LineAdded (t : TallyLines) (i : ℕ) (τ : Trip) (turns total spent : ℕ) (kept : Bool) (r : TallyLines) : Type 0 where
   pub number : r .number ≡ 0
   pub long : length (r .lines) ≡ 16
   pub value : (ρ : Env) → tallied r ρ ≡ record {
@@ -132,7 +139,7 @@ pub record Lined (t : TallyLines) (i : ℕ) (τ : Trip) (turns total spent : ℕ
   }
 
 -- own: the block's own ticks; all: those in all passes
-pub record Closed (t inner : TallyLines) (e own all : ℕ) (keep : Bool) (r : TallyLines) : Type 0 where
+pub record BlockClosed (t inner : TallyLines) (e own all : ℕ) (keep : Bool) (r : TallyLines) : Type 0 where
   pub number : r .number ≡ 0
   pub kept : r .kept ≡ keep
   pub spent : r .spent ≡ capped (t .spent + all)
@@ -141,6 +148,7 @@ pub record Closed (t inner : TallyLines) (e own all : ℕ) (keep : Bool) (r : Ta
   pub loops : r .loops ≡ inner .loops
   pub next : r .next ≡ e
 
+-- r is t, and the walk goes on at row i
 pub record EndedAt (t : TallyLines) (i : ℕ) (r : TallyLines) : Type 0 where
   pub same : r .lines ≡ t .lines
   pub value : (ρ : Env) → tallied r ρ ≡ tallied t ρ

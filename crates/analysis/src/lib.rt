@@ -1,16 +1,16 @@
 // The whole file: the questions 19 and 8 to 13, ticks, and the report's lines.
+use analysis_comparisons::both;
+use analysis_intervals::Interval;
 use analysis_lines::put_line;
+use analysis_loops::Loop;
+use analysis_loops::loop_at;
 use analysis_passes::Round;
 use analysis_passes::body;
 use analysis_passes::branch;
 use analysis_passes::walked;
 use analysis_ranges::after;
-use analysis_ranges::at_start;
 use analysis_ranges::inside;
-use analysis_ranges::joined;
 use analysis_ranges::outer;
-use analysis_ranges::step_row;
-use analysis_ranges::widen;
 use analysis_steps::has;
 use analysis_steps::sets_it;
 use analysis_table::Shape;
@@ -24,13 +24,15 @@ use analysis_ticks::first_over;
 use analysis_ticks::loop_ticks;
 use analysis_ticks::plus;
 use analysis_ticks::times;
-use analysis_trips::Loop;
-use analysis_trips::Span;
+use analysis_transfer::at_start;
+use analysis_transfer::joined;
+use analysis_transfer::step_row;
+use analysis_transfer::widen;
 use analysis_trips::Trip;
-use analysis_trips::loop_at;
 use analysis_turns::Figure;
 use analysis_turns::ask;
 use analysis_turns::exact;
+use min_max::larger;
 use rules::Kind;
 use rules::LoopLine;
 use rules::Prices;
@@ -39,7 +41,8 @@ ghost use mathlib.Core.Bool.{not, _&&_};
 ghost use mathlib.Core.List.{List};
 ghost use Prim.Native.Nat.{ℕ, _+_, _*_, _≤_, _<_, max};
 ghost use lib.ListN.{length};
-ghost use Rattle.rules.specs.Bounds.{EndsWithin, FinePrices};
+ghost use Rattle.rules_steps.specs.Ends.{EndsWithin};
+ghost use Rattle.rules.specs.Bounds.{FinePrices};
 ghost use Rattle.rules.specs.Figures.{price};
 ghost use Rattle.rules.specs.Written.{Written};
 ghost use Rattle.rules.specs.Steps.{starts};
@@ -50,11 +53,11 @@ ghost use Rattle.analysis_table.specs.Code.{kindAt, rowsOf};
 ghost use Rattle.analysis_table.specs.Shapes.{shapeOf, plainOf};
 ghost use Rattle.analysis_steps.specs.Tree.{blockAt, Ready, formOf, testOf};
 ghost use Rattle.analysis_steps.specs.Body.{AtLoop};
-ghost use Rattle.analysis_trips.specs.Env.{envOf};
+ghost use Rattle.analysis_intervals.specs.Env.{envOf};
 ghost use Rattle.analysis_trips.specs.Found.{tripOf};
 ghost use Rattle.analysis_ticks.specs.Capped.{capped};
 ghost use Rattle.analysis_passes.specs.Rounds.{FineRound};
-ghost use Rattle.analysis.specs.Fold.{loopCount, withLines, lastTicks, PastRow, Restarted, Lined, Closed, EndedAt, Walkable, Analysed, IsBlock, AtBlock, PastBlock};
+ghost use Rattle.analysis.specs.Fold.{loopCount, withLines, lastTicks, PastRow, Restarted, LineAdded, BlockClosed, EndedAt, Walkable, Analysed, IsBlock, AtBlock, PastBlock};
 ghost use Rattle.analysis.specs.Enter.{ExitOf, RanOf, EnteredAt, LeftLoop};
 ghost use Rattle.analysis.specs.Whole.{FirstNo, AnalysisOf};
 ghost use Rattle.analysis.specs.Own.{ownTicks};
@@ -91,12 +94,6 @@ fn after_pick(
     joined(a, b)
 }
 
-fn larger(x: u64, y: u64) -> u64
-    ensures { λ r. ⌜ r ≡ max x y ⌝ }
-{
-    if x <= y { y } else { x }
-}
-
 // The price of the plain row i.
 fn plain_price(rows: &[[u32; 9]; 256], i: usize, prices: Prices) -> u64
     requires { ⌜ (i < 256) × (shapeOf (kindAt (rowsOf (now rows)) i) ≡ Shape.Plain) ⌝ }
@@ -116,13 +113,6 @@ fn last_ticks(kind: Kind, prices: Prices) -> u64
         Kind::For(_, _, _, _, _) => prices.arithmetic,
         _ => 0,
     }
-}
-
-// Both.
-fn both(a: bool, b: bool) -> bool
-    ensures { λ r. ⌜ r ≡ a && b ⌝ }
-{
-    if a { b } else { false }
 }
 
 // After the plain row i, in all passes.
@@ -171,7 +161,7 @@ fn lined(
     kept: bool,
 ) -> Tally
     requires { ⌜ (t .loops < 16) × (length (now lines) ≡ 16) × EndsWithin 512 (trip .step) ⌝ }
-    ensures { λ r. ⌜ Lined (withLines t (now (lines .entry))) i (tripOf trip) turns total spent kept (withLines r (now (lines .exit))) ⌝ }
+    ensures { λ r. ⌜ LineAdded (withLines t (now (lines .entry))) i (tripOf trip) turns total spent kept (withLines r (now (lines .exit))) ⌝ }
 {
     let k = t.loops;
     let step = trip.step;
@@ -197,7 +187,7 @@ fn lined(
 // After a block that ends at row e: its own ticks, and those in all passes.
 fn closed(t: Tally, inner: Tally, e: usize, own: u64, all: u64, kept: bool) -> Tally
     requires { ⌜ (e < 256) × (t .spent ≤ 1_000_000_000_001) × (own ≤ 1_000_000_000_001) × (all ≤ 1_000_000_000_001) ⌝ }
-    ensures { λ r. ⌜ ((ks ls : List (List ℕ)) → Closed (withLines t ks) (withLines inner ls) e own all kept (withLines r ls)) ⌝ }
+    ensures { λ r. ⌜ ((ks ls : List (List ℕ)) → BlockClosed (withLines t ks) (withLines inner ls) e own all kept (withLines r ls)) ⌝ }
 {
     Tally {
         number: 0,
@@ -279,7 +269,7 @@ fn kept_at(kind: Kind, v: u8, kept: bool) -> bool
 // What leaves a loop: its tested variable and the range of that one after the loop, the variables that its body assigns, and its end.
 struct Exit {
     tested: u8,
-    mine: Span,
+    mine: Interval,
     set: [bool; 16],
     next: usize,
 }
@@ -389,7 +379,7 @@ fn leave_loop(
 // What is found after a pick whose parts found a and b, in `count` passes.
 fn leave_pick(price: u64, count: u64, t: Tally, a: Tally, b: Tally) -> Tally
     requires { ⌜ (price ≤ 1_000) × (b .next < 256) × (t .spent ≤ 1_000_000_000_001) × (a .spent ≤ 1_000_000_000_001) × (b .spent ≤ 1_000_000_000_001) ⌝ }
-    ensures { λ r. ⌜ ((ks ls : List (List ℕ)) → Closed (withLines t ks) (withLines b ls) (b .next) (capped (price + max (a .spent) (b .spent))) (capped (count * capped (price + max (a .spent) (b .spent)))) (b .kept) (withLines r ls)) ⌝ }
+    ensures { λ r. ⌜ ((ks ls : List (List ℕ)) → BlockClosed (withLines t ks) (withLines b ls) (b .next) (capped (price + max (a .spent) (b .spent))) (capped (count * capped (price + max (a .spent) (b .spent)))) (b .kept) (withLines r ls)) ⌝ }
 {
     let e = b.next;
     let own = plus(price, larger(a.spent, b.spent));

@@ -19,25 +19,26 @@ use Rattle.rules.specs.declared.Verdict.the-variants.{Passed as passed, Refused
 use Rattle.rules.specs.Scripts as scripts
 use Rattle.rules.specs.Scripts.{pairRanges, BlankFrom, scriptOf, treeOf, Legal}
 use Rattle.rules.specs.FirstOver as over
-use Rattle.rules.specs.FirstOver.{Closed, scriptBlocks}
+use Rattle.rules.specs.FirstOver.{BlockTicks, scriptBlocks}
 use Rattle.rules.proofs.Accepted.{then-yes}
+use Rattle.rules.proofs.PlaceOf13.{Rising, script-rises}
 use Rattle.analysis_steps.specs.Tree.{kinds, blockAt, endAt}
-use Rattle.analysis_trips.specs.Env.{envOf}
+use Rattle.analysis_intervals.specs.Env.{envOf}
 use Rattle.analysis_ticks.specs.Capped.{capped}
 use Rattle.analysis.specs.Fold.{frontOf}
 use Rattle.analysis.specs.Own.{ownFigure, ifPassed, ownTicks}
 use Rattle.analysis.proofs.Legals.{env-is, long, whole, file-is}
 use Rattle.analysis_blocks.specs.Figure.{firstTicks, FigureOf}
 use Rattle.analysis_blocks.specs.Toward.{PartOf}
-use Rattle.analysis_blocks.proofs.Rows.{Rising, ticks-of, script-rises}
+use Rattle.analysis_blocks.proofs.Rows.{ticks-of}
 
 -- the figure by the `end` row is the block's own
-first-is : (π : Prices) (b : Block) (ρ : Env) (cs : List Closed) {i j : ℕ} → Rising i cs j → ((x : Closed) → List·Memᴰ x (over.blocks π ρ b) → List·Memᴰ x cs) → firstTicks b cs ≡ ownFigure π ρ b
+first-is : (π : Prices) (b : Block) (ρ : Env) (cs : List BlockTicks) (m n : ℕ) → Rising m cs n → ((x : BlockTicks) → List·Memᴰ x (over.blocks π ρ b) → List·Memᴰ x cs) → firstTicks b cs ≡ ownFigure π ρ b
 unfolding firstTicks ownFigure over.blocks ticks later
-first-is π done ρ cs up f = refl
-first-is π (plain i p rest) ρ cs up f = refl
-first-is π (pick i e a b rest) ρ cs up f = ticks-of _ up (f _ (Memᴰ·append-right (over.blocks π ρ a) (Memᴰ·append-right (over.blocks π ρ b) (List·Memᴰ·head refl)))) ∙ omega arith
-first-is π (loop i e form test body rest) ρ cs up f = ticks-of _ up (f _ (Memᴰ·append-right (over.blocks π (inside form (atStart form test ρ) test body) body) (List·Memᴰ·head refl))) ∙ omega arith
+first-is π done ρ cs m n up f = refl
+first-is π (plain i p rest) ρ cs m n up f = refl
+first-is π (pick i e a b rest) ρ cs m n up f = ticks-of cs m n _ up (f _ (Memᴰ·append-right (over.blocks π ρ a) (Memᴰ·append-right (over.blocks π ρ b) (List·Memᴰ·head refl)))) ∙ omega arith
+first-is π (loop i e form test body rest) ρ cs m n up f = ticks-of cs m n _ up (f _ (Memᴰ·append-right (over.blocks π (inside form (atStart form test ρ) test body) body) (List·Memᴰ·head refl))) ∙ omega arith
 
 -- where no loop of a part is refused, none of its first block is
 front-passes : (b : Block) (ρ : Env) → loopsVerdict ρ b ≡ passed → loopsVerdict ρ (frontOf b) ≡ passed
@@ -81,5 +82,5 @@ module _ (π : Prices) (text : List ℕ) (ranges : List (List ℤ)) (vars : ℕ)
         small = subst (λ n. n ≤ 1_000_000_000_001) (sym own) (own-small (loopsVerdict σ (frontOf b)) (ownFigure π σ b));
         value = λ passes.
             own ∙ ap (λ v. ifPassed v (capped (ownFigure π σ b))) (front-passes b σ (file .passes passes))
-            ∙ ap capped (sym (first-is π b σ (scriptBlocks π (scriptOf text ranges vars rows count)) (script-rises π (scriptOf text ranges vars rows count) legal) (λ x m. file .blocks π x m)));
+            ∙ ap capped (sym (first-is π b σ (scriptBlocks π (scriptOf text ranges vars rows count)) _ _ (script-rises π (scriptOf text ranges vars rows count) legal) (λ x m. file .blocks π x m)));
       }

@@ -9,16 +9,16 @@ use Rattle.rules.specs.declared.Prices.{Prices}
 use Rattle.rules.specs.declared.Verdict.the-variants.{Passed as passed}
 use Rattle.rules.specs.Questions.{loopsVerdict}
 use Rattle.rules.specs.Scripts.{Script, startEnv, treeOf}
-use Rattle.rules.specs.FirstOver.{Closed, scriptBlocks}
+use Rattle.rules.specs.FirstOver.{BlockTicks, scriptBlocks}
 use Rattle.analysis_ticks.specs.Capped.{capped}
 
 -- of the blocks, the figure of the one that ends at row e; 0 if none does
-unfoldable pub ticksAt : ℕ → List Closed → ℕ
+unfoldable pub ticksAt : ℕ → List BlockTicks → ℕ
 ticksAt e [] = 0
 ticksAt e (c ∷ cs) = cond (eqb (c .row) e) (c .ticks) (ticksAt e cs)
 
 -- the figure of the block that stands first in b; 0 if a row or nothing does
-unfoldable pub firstTicks : Block → List Closed → ℕ
+unfoldable pub firstTicks : Block → List BlockTicks → ℕ
 firstTicks done cs = 0
 firstTicks (plain i p rest) cs = 0
 firstTicks (pick i e a b rest) cs = ticksAt e cs

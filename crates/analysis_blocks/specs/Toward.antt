@@ -10,17 +10,17 @@ use Rattle.rules.specs.Ranges.{Env}
 use Rattle.rules.specs.declared.Prices.{Prices}
 use Rattle.rules.specs.declared.Verdict.the-variants.{Passed as passed}
 use Rattle.rules.specs.Questions.{loopsVerdict}
-use Rattle.rules.specs.FirstOver.{Closed, blocks}
+use Rattle.rules.specs.FirstOver.{BlockTicks, blocks}
 use Rattle.analysis_table.specs.declared.Shape.{Shape}
 use Rattle.analysis_table.specs.Code.{kindAt}
 use Rattle.analysis_table.specs.Shapes.{shapeOf}
 use Rattle.analysis_steps.specs.Tree.{blockAt, endAt, Ready}
-use Rattle.analysis_trips.specs.Env.{envOf}
+use Rattle.analysis_intervals.specs.Env.{envOf}
 use Rattle.analysis.specs.Fold.{loopCount}
 
 -- c, with the ranges σ, is a part of b, with the ranges ρ: its blocks are blocks of b, with the same figures
 pub record PartOf (ρ : Env) (b : Block) (σ : Env) (c : Block) : Type 0 where
-  pub blocks : (π : Prices) (x : Closed) → List·Memᴰ x (blocks π σ c) → List·Memᴰ x (blocks π ρ b)
+  pub blocks : (π : Prices) (x : BlockTicks) → List·Memᴰ x (blocks π σ c) → List·Memᴰ x (blocks π ρ b)
   pub loops : loopCount c ≤ loopCount b
   pub passes : loopsVerdict ρ b ≡ passed → loopsVerdict σ c ≡ passed
 

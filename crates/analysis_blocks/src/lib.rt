@@ -1,16 +1,16 @@
 // The tick figure of one block of a script: a whole loop or a whole pick.
 use analysis::own_ticks;
+use analysis_loops::loop_at;
 use analysis_ranges::after;
-use analysis_ranges::at_start;
 use analysis_ranges::inside;
-use analysis_ranges::joined;
 use analysis_ranges::outside;
-use analysis_ranges::step_row;
 use analysis_table::Shape;
 use analysis_table::kind_at;
 use analysis_table::past_else;
 use analysis_table::shape_at;
-use analysis_trips::loop_at;
+use analysis_transfer::at_start;
+use analysis_transfer::joined;
+use analysis_transfer::step_row;
 use rules::Prices;
 ghost use mathlib.Core.Path.{_≡_};
 ghost use Prim.Native.Nat.{ℕ, _≤_, _<_};
@@ -19,7 +19,7 @@ ghost use Rattle.rules.specs.Bounds.{FinePrices};
 ghost use Rattle.rules.specs.Written.{Written};
 ghost use Rattle.rules.specs.Scripts.{scriptOf, BlankFrom, Legal};
 ghost use Rattle.analysis_table.specs.Code.{kindAt, rowsOf};
-ghost use Rattle.analysis_trips.specs.Env.{envOf};
+ghost use Rattle.analysis_intervals.specs.Env.{envOf};
 ghost use Rattle.analysis_blocks.specs.Figure.{FigureOf};
 ghost use Rattle.analysis_blocks.specs.Toward.{AtBlock, Toward};
 

@@ -6,8 +6,8 @@ use Prim.Native.Nat.{ℕ, _≤_, min}
 use lib.Dec.{eqb}
 use lib.IntN.{ℤ, pos, _-ℤ_}
 use lib.ListN.{length, getD, take}
-use Rattle.rules.specs.declared.Step.{Step}
-use Rattle.rules.specs.declared.Step.the-variants.{Add, Grow, Shrink, Unknown}
+use Rattle.rules_steps.specs.declared.Step.{Step}
+use Rattle.rules_steps.specs.declared.Step.the-variants.{Add, Grow, Shrink, Unknown}
 use Rattle.rules.specs.declared.LoopLine.{LoopLine}
 use Rattle.rules.specs.Figures.{Line}
 use Rattle.rules.specs.Report.{linesOf}

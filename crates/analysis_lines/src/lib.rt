@@ -1,12 +1,12 @@
 // The report's lines as a table of numbers, seven to a line: a table can be lent to the walk that fills it, and an array of lines cannot.
 use rules::LoopLine;
-use rules::Step;
+use rules_steps::Step;
 ghost use mathlib.Core.Path.{_≡_};
 ghost use mathlib.Core.List.{[]};
 ghost use Prim.Native.Nat.{_<_, min};
 ghost use lib.Dec.{eqb};
 ghost use lib.ListN.{length, getD, set};
-ghost use Rattle.rules.specs.Bounds.{Near, EndsWithin};
+ghost use Rattle.rules_steps.specs.Ends.{Near, EndsWithin};
 ghost use Rattle.analysis_lines.specs.Coded.{endIn, lineStep, lineIn, linesIn};
 
 // The columns of a line of the table.

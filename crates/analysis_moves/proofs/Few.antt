@@ -3,7 +3,7 @@ use Prim.Native.Nat.{ℕ, _+_, _*_, _≤_}
 use lib.IntN.{ℤ, pos, negsuc, natAbs, _-ℤ_}
 use native.Mathlib.Omega.{arith}
 use Rattle.rules.specs.declared.AddLoop.{AddLoop}
-use Rattle.rules.specs.Bounds.{Near}
+use Rattle.rules_steps.specs.Ends.{Near}
 use Rattle.rules.specs.Turns.{fromZero, byOne, turnsTo, climb}
 use Rattle.ints.proofs.Parts.{ints, minus-parts, neg-parts, lone}
 use Rattle.ints.proofs.Scale.{floor-within}

@@ -4,7 +4,7 @@ use values::floor;
 ghost use mathlib.Core.Path.{_≡_};
 ghost use lib.IntN.{pos};
 ghost use lib.Signed.{_≤ℤ_};
-ghost use Rattle.rules.specs.Bounds.{Near};
+ghost use Rattle.rules_steps.specs.Ends.{Near};
 ghost use Rattle.rules.specs.Turns.{turnedUp, fromZero, byOne, turnsTo, climb};
 
 // Section 3.2, "from increment - value to increment + value": for (i = sup; i >= inf; i -= dec) becomes for (i = inf; i <= sup; i += dec).

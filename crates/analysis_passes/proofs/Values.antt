@@ -12,12 +12,12 @@ use Rattle.ints.proofs.Parts.{P, N, ints, add-parts, minus-parts, neg-parts, lo
 use Rattle.ints.proofs.Scale.{mul-P, mul-N}
 use Rattle.rules.specs.declared.Comparison.{Comparison}
 use Rattle.rules.specs.declared.Comparison.the-variants.{Less, AtMost, Greater, AtLeast, Equal, Different}
-use Rattle.rules.specs.declared.Step.{Step}
-use Rattle.rules.specs.declared.Step.the-variants.{Add, Grow, Shrink, Unknown}
+use Rattle.rules_steps.specs.declared.Step.{Step}
+use Rattle.rules_steps.specs.declared.Step.the-variants.{Add, Grow, Shrink, Unknown}
 use Rattle.rules.specs.declared.Verdict.{Verdict}
 use Rattle.rules.specs.declared.Verdict.the-variants.{Passed as passed}
 use Rattle.rules.specs.declared.AddLoop.{AddLoop}
-use Rattle.rules.specs.Bounds.{Near, EndsWithin}
+use Rattle.rules_steps.specs.Ends.{Near, EndsWithin}
 use Rattle.rules.specs.Expressions.{Expr}
 use Rattle.rules.specs.Values.{upward}
 use Rattle.rules.specs.Blocks.{Form}

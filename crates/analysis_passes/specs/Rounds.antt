@@ -4,7 +4,7 @@ use mathlib.Core.Bool.{Bool, true, false, not, cond, _&&_}
 use Prim.Native.Nat.{ℕ, _*_, _≤_, _<_}
 use lib.Dec.{leb}
 use lib.IntN.{ℤ, pos}
-use Rattle.rules.specs.Bounds.{Near, EndsWithin}
+use Rattle.rules_steps.specs.Ends.{Near, EndsWithin}
 use Rattle.rules.specs.Expressions.{Expr}
 use Rattle.rules.specs.Values.{upward}
 use Rattle.rules.specs.Blocks.{Form}

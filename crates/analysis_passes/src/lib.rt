@@ -1,27 +1,28 @@
 // Triangles: the passes of a loop by the values of its variable, and a loop in its body that is summed over them.
+use analysis_comparisons::both;
+use analysis_comparisons::is_add;
+use analysis_comparisons::ordered;
+use analysis_figures::edge;
+use analysis_intervals::Interval;
 use analysis_moves::climb;
 use analysis_ticks::cap;
 use analysis_ticks::times;
 use analysis_trips::Counter;
-use analysis_trips::Span;
 use analysis_trips::Trip;
-use analysis_trips::is_add;
-use analysis_trips::ordered;
-use analysis_turns::edge;
 use analysis_turns::exact;
 use analysis_turns::whole;
 use rules::AddLoop;
 use rules::Comparison;
 use rules::Kind;
 use rules::Operand;
-use rules::Step;
+use rules_steps::Step;
 ghost use mathlib.Core.Path.{_≡_};
 ghost use mathlib.Core.Bool.{true, not, _&&_};
 ghost use mathlib.Core.List.{List};
 ghost use Prim.Native.Nat.{ℕ, _≤_, _<_};
 ghost use lib.IntN.{pos, _+ℤ_, _*ℤ_};
 ghost use lib.Signed.{_≤ℤ_};
-ghost use Rattle.rules.specs.Bounds.{Near, EndsWithin};
+ghost use Rattle.rules_steps.specs.Ends.{Near, EndsWithin};
 ghost use Rattle.rules.specs.Values.{upward};
 ghost use Rattle.rules.specs.Blocks.{for, exprOf};
 ghost use Rattle.rules.specs.Written.{WrittenOperand, Written};
@@ -44,13 +45,6 @@ pub struct Round {
     pub x: i32,
     pub v: u8,
     pub known: bool,
-}
-
-// Both.
-fn both(a: bool, b: bool) -> bool
-    ensures { λ r. ⌜ r ≡ a && b ⌝ }
-{
-    if a { b } else { false }
 }
 
 // A base kind: turns are counted by the tested variable's own step, and it is no hold that breaks its terms.
@@ -169,7 +163,7 @@ fn summed(trip: Trip, round: Round) -> u64
     let comparison = trip.comparison;
     let start = whole(trip.start);
     let x = round.x;
-    let limit = edge(comparison, whole(Span { lo: x, hi: x }));
+    let limit = edge(comparison, whole(Interval { lo: x, hi: x }));
     climbs(start.lo, limit, first_end(step), round.by, round.count)
 }
 

@@ -5,4 +5,3 @@ pub mod Sets
 pub mod Stepping
 pub mod Moving
 pub mod Tags
-pub mod Soles

@@ -6,11 +6,12 @@ use Prim.Native.Nat.{ℕ, _+_, _-_, _≤_, _<_}
 use native.Mathlib.Omega.{arith}
 use lib.ListN.{length}
 use Rattle.rules.specs.declared.Row.{Row}
-use Rattle.rules.specs.declared.Step.{Step}
-use Rattle.rules.specs.declared.Step.the-variants.{Unknown}
-use Rattle.rules.specs.Steps.{still, rowStep, then, either, step}
-use Rattle.rules.specs.Bounds.{EndsWithin}
-use Rattle.rules.proofs.Ends.{ends-more, then-ends}
+use Rattle.rules_steps.specs.declared.Step.{Step}
+use Rattle.rules_steps.specs.declared.Step.the-variants.{Unknown}
+use Rattle.rules_steps.specs.Joins.{still, then, either}
+use Rattle.rules.specs.Steps.{rowStep, step}
+use Rattle.rules_steps.specs.Ends.{EndsWithin}
+use Rattle.analysis_row_steps.proofs.Ends.{ends-more, then-ends}
 use Rattle.analysis_table.specs.Code.{kindAt}
 use Rattle.analysis_table.specs.declared.Shape.{Shape}
 use Rattle.analysis_table.specs.Shapes.{shapeOf, plainOf}

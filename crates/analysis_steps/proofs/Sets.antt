@@ -12,7 +12,7 @@ use Rattle.rules.specs.declared.Kind.{Kind}
 use Rattle.rules.specs.declared.Kind.the-variants.{Set, Move, Cue, Pick, Else, End, While, Do, For, Off, Hold}
 use Rattle.rules.specs.Blocks.{Plain, Last, no-step, step-by, View, is-plain, is-pick, is-else, is-end, is-loop, viewOf, kindOf, withLast, Block, done, plain, pick, loop, snoc}
 use Rattle.rules.specs.Steps.{sets, starts, assigns}
-use Rattle.rules.proofs.Laws.{put-set}
+use Rattle.rules.proofs.Laws.{no-true, put-set}
 use Rattle.analysis_table.specs.declared.Shape.{Shape}
 use Rattle.analysis_table.specs.Shapes.{shapeBy, shapeOf, lastRow, plainBy, plainOf}
 use Rattle.analysis_table.proofs.Laws.{shape-text}
@@ -136,9 +136,6 @@ unfoldable pub clear : List Bool → Bool
 clear [] = true
 clear (true ∷ l) = false
 clear (false ∷ l) = clear l
-
-no-true : {A : Type 0} → false ≡ true → A
-no-true e = absurd (let z : _≡_ {A = ℕ} 0 1 = cc in omega arith)
 
 none-in : (l : List Bool) → clear l ≡ true → (w : ℕ) → getD l w false ≡ false
 unfolding clear

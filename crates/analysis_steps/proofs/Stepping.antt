@@ -10,12 +10,14 @@ use Rattle.ints.proofs.Parts.{ints, add-parts}
 use Rattle.rules.specs.declared.Row.{Row}
 use Rattle.rules.specs.declared.Kind.{Kind}
 use Rattle.rules.specs.declared.Kind.the-variants.{Set, Move, Cue, Pick, Else, End, While, Do, For, Off, Hold}
-use Rattle.rules.specs.declared.Step.{Step}
-use Rattle.rules.specs.declared.Step.the-variants.{Add, Grow, Shrink, Unknown}
+use Rattle.rules_steps.specs.declared.Step.{Step}
+use Rattle.rules_steps.specs.declared.Step.the-variants.{Add, Grow, Shrink, Unknown}
 use Rattle.rules.specs.Blocks.{Plain, assign, cue, Last, no-step, step-by, viewOf, kindOf, withLast, Block, done, plain, pick, loop, snoc}
-use Rattle.rules.specs.Steps.{still, sets, starts, assigns, sourceStep, changeStep, rowStep, then, either, stepFrom, step}
-use Rattle.rules.specs.Bounds.{EndsWithin, Fine}
-use Rattle.rules.proofs.Ends.{ends-more, ends-only, still-ends, then-ends, either-ends, change-ends}
+use Rattle.rules_steps.specs.Joins.{still, then, either}
+use Rattle.rules.specs.Steps.{sets, starts, assigns, sourceStep, changeStep, rowStep, stepFrom, step}
+use Rattle.rules_steps.specs.Ends.{EndsWithin}
+use Rattle.rules.specs.Bounds.{Fine}
+use Rattle.analysis_row_steps.proofs.Ends.{ends-more, ends-only, still-ends, then-ends, either-ends, change-ends}
 use Rattle.analysis_table.specs.declared.Shape.{Shape}
 use Rattle.analysis_table.specs.Code.{kindAt}
 use Rattle.analysis_table.specs.Shapes.{shapeOf, lastRow, plainOf}

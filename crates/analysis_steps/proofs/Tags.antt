@@ -5,7 +5,7 @@ use mathlib.Core.List.{List, [], _∷_}
 use Prim.Native.Nat.{ℕ, _<_}
 use types.Run.{OneOf, miss}
 use denote.Enum.Declared.{tagOf}
-use Rattle.rules.specs.declared.Step.the-variants.{Unknown}
+use Rattle.rules_steps.specs.declared.Step.the-variants.{Unknown}
 use Rattle.rules.specs.Blocks.{viewOf, kindOf}
 use Rattle.rules.specs.Steps.{sets, rowStep, sourceStep, changeStep}
 use Rattle.rules.specs.Bounds.{Fine, FineChange}

@@ -5,10 +5,10 @@ use mathlib.Core.List.{List}
 use Prim.Native.Nat.{ℕ, _+_, _-_, _≤_, _<_}
 use lib.ListN.{length}
 use Rattle.rules.specs.declared.Row.{Row}
-use Rattle.rules.specs.declared.Step.{Step}
+use Rattle.rules_steps.specs.declared.Step.{Step}
 use Rattle.rules.specs.Blocks.{Block}
 use Rattle.rules.specs.Steps.{assigns, step}
-use Rattle.rules.specs.Bounds.{EndsWithin}
+use Rattle.rules_steps.specs.Ends.{EndsWithin}
 use Rattle.analysis_table.specs.declared.Shape.{Shape}
 use Rattle.analysis_table.specs.Code.{kindAt}
 use Rattle.analysis_table.specs.Shapes.{shapeOf}
@@ -17,6 +17,7 @@ use Rattle.analysis_steps.specs.declared.Stepped.{Stepped}
 use Rattle.analysis_steps.specs.Sets.{setOf, assignsFrom}
 use Rattle.analysis_steps.specs.Tree.{Ready, Walked, blockAt, endAt, withLast}
 
+-- the body of the loop at row i
 abbrev pub bodyAt : List ℕ → List Row → ℕ → ℕ → Block
 bodyAt text rows count i = withLast text (kindAt rows i) i (blockAt text rows count (i + 1))
 

@@ -2,4 +2,3 @@
 pub mod Tree
 pub mod Sets
 pub mod Body
-pub mod Soles

@@ -23,6 +23,7 @@ kinds text rows count = take count (kindsOf text rows)
 abbrev pub blockAt : List ℕ → List Row → ℕ → ℕ → Block
 blockAt text rows count i = blocks.blockAt (kinds text rows count) i
 
+-- the row that closes that block
 abbrev pub endAt : List ℕ → List Row → ℕ → ℕ → ℕ
 endAt text rows count i = blocks.endAt (kinds text rows count) i
 
@@ -65,12 +66,15 @@ headBy is-else = noLoop
 headBy is-end = noLoop
 headBy (is-loop form test last) = record { form = form; test = test; last = last }
 
+-- the head that a row of this kind is
 unfoldable pub headOf : List ℕ → Kind → LoopHead
 headOf text k = headBy (viewOf (kindOf text k))
 
+-- its form
 abbrev pub formOf : List ℕ → Kind → Form
 formOf text k = headOf text k .form
 
+-- its test
 abbrev pub testOf : List ℕ → Kind → Test
 testOf text k = headOf text k .test
 

@@ -15,7 +15,8 @@ use Rattle.rules.specs.declared.Change.the-variants.{Add, Sub, Mul, Div}
 use Rattle.rules.specs.Values.{lowest, highest}
 use Rattle.rules.specs.Blocks.{exprOf, kindOf}
 use Rattle.rules.specs.Written.{WrittenOperand, Written}
-use Rattle.rules.specs.Bounds.{Near, FineOperand, FineChange, Fine}
+use Rattle.rules_steps.specs.Ends.{Near}
+use Rattle.rules.specs.Bounds.{FineOperand, FineChange, Fine}
 use Rattle.rules.specs.Scripts.{ExprLimits, ChangeLimits, RowLimits, ExprBelow, RowBelow}
 
 near : (k : ℤ) → lowest ≤ℤ k → k ≤ℤ highest → Near 1 k

@@ -18,18 +18,23 @@ use Rattle.rules.specs.declared.Change.{Change}
 use Rattle.rules.specs.declared.Change.the-variants.{Add, Sub, Mul, Div}
 use Rattle.analysis_table.specs.declared.Tag.{Tag}
 
+-- a constant is kept 2^31 above its value
 abbrev pub constantIn : ℕ → ℤ
 constantIn x = pos x -ℤ pos 2_147_483_648
 
+-- an operand, by its tag: a constant, a variable, or an expression by its place and length
 abbrev pub operandIn : ℕ → ℕ → Operand
 operandIn t x = cond (eqb t 0) (Constant (constantIn x)) (cond (eqb t 1) (Variable (min x 255)) (Expression (x / 65_536) (x % 65_536)))
 
+-- a comparison by its number
 abbrev pub comparisonIn : ℕ → Comparison
 comparisonIn t = cond (eqb t 0) Less (cond (eqb t 1) AtMost (cond (eqb t 2) Greater (cond (eqb t 3) AtLeast (cond (eqb t 4) Equal Different))))
 
+-- a change by its tag and its constant
 abbrev pub changeIn : ℕ → ℕ → Change
 changeIn t c = cond (eqb t 0) (Add c) (cond (eqb t 1) (Sub c) (cond (eqb t 2) (Mul c) (Div c)))
 
+-- number i of a row
 abbrev pub number : List ℕ → ℕ → ℕ
 number e i = getD e i 0
 
@@ -37,12 +42,15 @@ number e i = getD e i 0
 abbrev pub variableIn : List ℕ → ℕ
 variableIn e = min (number e 1) 255
 
+-- what a set or a for's start reads
 abbrev pub startIn : List ℕ → Operand
 startIn e = operandIn (number e 2) (number e 3)
 
+-- a test's limit
 abbrev pub limitIn : List ℕ → Operand
 limitIn e = operandIn (number e 5) (number e 6)
 
+-- an arithmetic row's change, or a for's step
 abbrev pub stepIn : List ℕ → Change
 stepIn e = changeIn (number e 7) (number e 8)
 
@@ -50,6 +58,7 @@ stepIn e = changeIn (number e 7) (number e 8)
 abbrev pub watchedIn : List ℕ → ℕ
 watchedIn e = min (number e 3) 255
 
+-- the constant that it is compared with
 abbrev pub againstIn : List ℕ → ℤ
 againstIn e = constantIn (number e 6)
 
@@ -60,6 +69,7 @@ tagIn t =
     (cond (eqb t 4) Tag.Move (cond (eqb t 5) Tag.Cue (cond (eqb t 6) Tag.While (cond (eqb t 7) Tag.Do (cond (eqb t 8) Tag.For
     (cond (eqb t 9) Tag.Off Tag.Hold)))))))))
 
+-- a row's tag
 abbrev pub rowTag : List ℕ → Tag
 rowTag e = tagIn (number e 0)
 
@@ -77,6 +87,7 @@ kindBy Tag.For e = For (variableIn e) (startIn e) (comparisonIn (number e 4)) (l
 kindBy Tag.Off e = Off (variableIn e) (watchedIn e) (comparisonIn (number e 4)) (againstIn e)
 kindBy Tag.Hold e = Hold (variableIn e)
 
+-- the kind of row that these numbers stand for
 unfoldable pub kindIn : List ℕ → Kind
 kindIn e = kindBy (rowTag e) e
 
@@ -88,6 +99,7 @@ numbersAt t i = getD t i []
 abbrev pub rowIn : List ℕ → Row
 rowIn e = record { kind = kindIn e }
 
+-- those of all rows
 abbrev pub rowsOf : List (List ℕ) → List Row
 rowsOf t = map rowIn t
 
@@ -95,6 +107,7 @@ rowsOf t = map rowIn t
 abbrev pub nothing : Row
 nothing = record { kind = End }
 
+-- the kind of row i
 abbrev pub kindAt : List Row → ℕ → Kind
 kindAt rows i = getD rows i nothing .kind
 

@@ -30,6 +30,7 @@ plainBy is-else = cue 0
 plainBy is-end = cue 0
 plainBy (is-loop form test last) = lastRow last
 
+-- the plain row of a kind that is one
 abbrev pub plainOf : List ℕ → Kind → Plain
 plainOf text k = plainBy (viewOf (kindOf text k))
 
@@ -41,5 +42,6 @@ pastBy is-else i = i + 1
 pastBy is-end i = i
 pastBy (is-loop form test last) i = i
 
+-- by the kind of the row
 abbrev pub pastElse : Kind → ℕ → ℕ
 pastElse k i = pastBy (viewOf (kindOf [] k)) i

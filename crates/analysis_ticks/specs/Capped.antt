@@ -9,6 +9,7 @@ use Rattle.rules.specs.declared.Verdict.{Verdict}
 use Rattle.rules.specs.declared.Verdict.the-variants.{Passed as passed, Refused as refused}
 use Rattle.rules.specs.Questions.{andThen, asked, tickLimit}
 
+-- a figure that stops just past the limit of ticks
 abbrev pub capped : ℕ → ℕ
 capped n = min n 1_000_000_000_001
 

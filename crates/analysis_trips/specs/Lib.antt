@@ -1,4 +1,2 @@
 -- What the contracts of the trips cite.
-pub mod Forms
-pub mod Env
 pub mod Found

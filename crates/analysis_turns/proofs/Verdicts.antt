@@ -10,7 +10,7 @@ use Rattle.rules.specs.Trips.{Trip, edgeOf, firstOf, led, turnsOf}
 use Rattle.rules.specs.declared.Verdict.the-variants.{Refused as refused}
 use Rattle.rules.specs.Questions.{asked, known, hasFigure, loopVerdict, ofTrip}
 use Rattle.analysis_turns.specs.declared.Figure.{Figure}
-use Rattle.analysis_turns.specs.Needs.{FigureOf}
+use Rattle.analysis_turns.specs.Verdicts.{FigureOf}
 
 -- a test `!b`
 pub not-yes : {b : Bool} → not b ≡ true → b ≡ false

@@ -14,9 +14,9 @@ use Rattle.rules.specs.Report.{reportText, scriptReport}
 use Rattle.analysis_lines.specs.Coded.{firstLines}
 use Rattle.rules.specs.Calls.{accepted, refuses, judgedBy, pricesOf, fitting, written, replyOf, bufferOf}
 use Rattle.rules.proofs.Accepted.{then-yes, asked-yes}
-use Rattle.analysis_turns.specs.Needs.{verdictOf}
+use Rattle.analysis_turns.specs.Verdicts.{verdictOf}
 use Rattle.analysis.specs.declared.Figures.{Figures}
-use Rattle.calls.specs.Held.{judgedScript, Found}
+use Rattle.calls.specs.Held.{judgedScript, FiguresFound}
 use Rattle.calls.specs.Told.{ticksOf, MeasuredAs}
 
 by-number : (script : Script) (n p : ℕ) → (n ≡ 0 → ⊥) → judgedBy script (verdictOf n p) ≡ refuses n p
@@ -24,7 +24,7 @@ unfolding verdictOf judgedBy
 by-number script zero p h = absurd (h refl)
 by-number script (suc n) p h = refl
 
-module _ (prices : List ℕ) (script : Script) (count : ℕ) (s : Figures) (ls : List (List ℕ)) (found : Found prices script count s ls) where
+module _ (prices : List ℕ) (script : Script) (count : ℕ) (s : Figures) (ls : List (List ℕ)) (found : FiguresFound prices script count s ls) where
   asked : verdict (pricesOf prices) (length (script .rows)) (startEnv (script .ranges)) (treeOf (script .rows)) ≡ verdictOf (s .number) (s .place)
   asked = ap (λ n. verdict (pricesOf prices) n (startEnv (script .ranges)) (treeOf (script .rows))) (found .long) ∙ found .figures .verdict
 

@@ -12,13 +12,13 @@ use Rattle.rules.specs.declared.Verdict.the-variants.{Passed, Refused}
 use Rattle.rules.specs.Scripts.{Script, scriptOf, Legal}
 use Rattle.rules.specs.Answers.{Answer}
 use Rattle.rules.specs.Calls.{pricesOf, Priced, RunReply, ran, refuses, storeVerdict, loopRows, countsAt, runScript, ranScript, stored, runReply, storeAfter}
-use Rattle.rules.proofs.FromBytes.{Says, fine-prices, store-in}
-use Rattle.rules.proofs.Capped.{run-capped}
+use Rattle.rules.proofs.Demand3File.{Says, fine-prices, store-in}
+use Rattle.rules_machine.proofs.RunCapped.{run-capped}
 use Rattle.runner.specs.Runs.{Runnable}
 use Rattle.runner.proofs.Start.{runnable}
 use Rattle.analysis.specs.declared.Figures.{Figures}
 use Rattle.calls.specs.declared.Outcome.{Outcome}
-use Rattle.calls.specs.Held.{judgedScript, Found}
+use Rattle.calls.specs.Held.{judgedScript, FiguresFound}
 use Rattle.calls.specs.Told.{ToldNo, Told, Ran, ranRows}
 use Rattle.calls.proofs.Judging.{judged-no, judged-yes, is-accepted}
 
@@ -32,7 +32,7 @@ refused-as : {reply : RunReply} {q p : ℕ} {store : List ℤ} {o : Outcome} →
 unfolding storeAfter
 refused-as {reply} {q} {p} {store} {o} e t = subst (λ r. Ran r store store o) (sym e) (record { told = t; store = refl })
 
-module _ (prices : List ℕ) (script : Script) (count : ℕ) (s : Figures) (ls : List (List ℕ)) (found : Found prices script count s ls) (store : List ℤ) (picks : List ℕ) (allowance : ℕ) where
+module _ (prices : List ℕ) (script : Script) (count : ℕ) (s : Figures) (ls : List (List ℕ)) (found : FiguresFound prices script count s ls) (store : List ℤ) (picks : List ℕ) (allowance : ℕ) where
   -- refused by 8 to 13
   pub ran-no : (s .number ≡ 0 → ⊥) → (o : Outcome) → ToldNo o (s .number) (s .place) → Ran (runReply prices (judgedScript prices script) store picks allowance) store store o
   unfolding runReply
@@ -67,7 +67,7 @@ module _ (prices : List ℕ) (script : Script) (count : ℕ) (s : Figures) (ls :
       replied-run q = replied Passed y ∙ ap (λ (a : Answer). ran a (countsAt (a .entries) (loopRows 0 (script .rows)))) (same-run q)
 
 -- the run of the rows is the answer
-pub ran-all : (prices : List ℕ) → Priced prices → (π : Prices) → π ≡ pricesOf prices → (text : List ℕ) (ranges : List (List ℤ)) (vars : ℕ) (rows : List Row) (count : ℕ) (s : Figures) (ls : List (List ℕ)) → Found prices (scriptOf text ranges vars rows count) count s ls
+pub ran-all : (prices : List ℕ) → Priced prices → (π : Prices) → π ≡ pricesOf prices → (text : List ℕ) (ranges : List (List ℤ)) (vars : ℕ) (rows : List Row) (count : ℕ) (s : Figures) (ls : List (List ℕ)) → FiguresFound prices (scriptOf text ranges vars rows count) count s ls
     → (store : List ℤ) (picks : List ℕ) (allowance : ℕ) → s .number ≡ 0 → (v : Verdict) → v ≡ storeVerdict 0 (scriptOf text ranges vars rows count .ranges) store → v ≡ Passed → Legal (scriptOf text ranges vars rows count)
     → (least : ℕ) → least ≡ min allowance (s .ticks) → (new : List ℤ) (o : Outcome)
     → Ran (ranRows text π rows count store picks least) store new o → Ran (runReply prices (judgedScript prices (scriptOf text ranges vars rows count)) store picks allowance) store new o

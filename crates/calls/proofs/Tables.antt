@@ -13,14 +13,14 @@ use Rattle.rules.specs.Bounds.{Fine, FinePrices}
 use Rattle.rules.specs.Calls.{pricesOf, Priced}
 use Rattle.rules.specs.Scripts.{Script, pairRanges, BlankFrom, scriptOf, RowLimits, RowBelow, Legal}
 use Rattle.rules.proofs.Laws.{kind-of}
-use Rattle.rules.proofs.FromBytes.{prices-pass, fine-prices}
+use Rattle.rules.proofs.Demand3File.{prices-pass, fine-prices}
 use Rattle.analysis_table.specs.Code.{rowsOf, kindAt, Packed}
 use Rattle.analysis_table.proofs.Limits.{row-fine}
 use Rattle.analysis_table.proofs.Whole.{packed-kinds, packed-at}
 use Rattle.analysis.specs.declared.Figures.{Figures}
 use Rattle.analysis.specs.Whole.{AnalysisOf}
 use Rattle.analysis.proofs.Legals.{all-get}
-use Rattle.calls.specs.Held.{Given, Found}
+use Rattle.calls.specs.Held.{Given, FiguresFound}
 
 -- four prices that question 16 passes, and the struct of them
 pub four : (prices : List ℕ) → Priced prices → length prices ≡ 4
@@ -56,5 +56,5 @@ module _ (text : List ℕ) (ranges : List (List ℤ)) (vars : ℕ) (rows : List 
     analyse-same {π} {s} {lines} f = subst (λ x. AnalysisOf π x count s lines) same f
 
   -- what the analysis found, under the lent prices
-  pub found-by : (prices : List ℕ) {π : Prices} → π ≡ pricesOf prices → (s : Figures) (lines : List (List ℕ)) → AnalysisOf π (scriptOf text ranges vars rows count) count s lines → Found prices (scriptOf text ranges vars rows count) count s lines
+  pub found-by : (prices : List ℕ) {π : Prices} → π ≡ pricesOf prices → (s : Figures) (lines : List (List ℕ)) → AnalysisOf π (scriptOf text ranges vars rows count) count s lines → FiguresFound prices (scriptOf text ranges vars rows count) count s lines
   found-by prices e s lines f = record { long = g .long; figures = subst (λ ρ. AnalysisOf ρ (scriptOf text ranges vars rows count) count s lines) e f }

@@ -34,6 +34,6 @@ admitted (accepted script) store = storeVerdict 0 (script .ranges) store
 admitted (refuses q p) store = Refused q p
 
 -- what the analysis found of a script of `count` rows
-pub record Found (prices : List ℕ) (script : Script) (count : ℕ) (s : Figures) (lines : List (List ℕ)) : Type 0 where
+pub record FiguresFound (prices : List ℕ) (script : Script) (count : ℕ) (s : Figures) (lines : List (List ℕ)) : Type 0 where
   pub long : length (script .rows) ≡ count
   pub figures : AnalysisOf (pricesOf prices) script count s lines

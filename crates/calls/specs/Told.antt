@@ -54,6 +54,7 @@ pub record ToldNo (o : Outcome) (q p : ℕ) : Type 0 where
   pub loops : o .loops ≡ 0
   pub rest : NoneFrom 0 (o .counts)
 
+-- the outcome is what the reply says
 abbrev pub Told : Outcome → RunReply → Type 0
 Told o (ran a counts) = ToldRun o a counts
 Told o (refuses q p) = ToldNo o q p

@@ -2,6 +2,7 @@
 use analysis::Figures;
 use analysis_table::put_rows;
 use calls_prices::prices_of;
+use min_max::smaller;
 use rules::Ending;
 use rules::LoopCount;
 use rules::Prices;
@@ -159,12 +160,6 @@ fn run_accepted(
         loops: loops.count,
         counts: counts,
     }
-}
-
-fn smaller(x: u64, y: u64) -> u64
-    ensures { λ r. ⌜ r ≡ min x y ⌝ }
-{
-    if x <= y { x } else { y }
 }
 
 // The questions 19 and 8 to 13 of a script, and its ticks. The table of its rows and the report's lines are gone when it is done.

@@ -11,38 +11,38 @@ use lib.IntN.{ℤ}
 use lib.ListN.{length, getD, set, take, length-set, getD-replicate, length-replicate, replicate}
 use lib.Seq.{getD-set-same, getD-set-other, take-all}
 use Rattle.rules.specs.declared.Prices.{Prices}
-use Rattle.rules.specs.RowMachine.{more, fresh}
+use Rattle.rules_machine.specs.RowMachine.{more, fresh}
 use Rattle.rules.specs.Scripts.{storeOf, Accepted, StoreIn}
 use Rattle.rules.specs.Calls.{pricesOf, scratchSize}
-use Rattle.rules.specs.Frames
-use Rattle.rules.specs.Frames.{after, together, most, ticksIn, Lent, Part, partsOf}
-use Rattle.rules.specs.InTime.{Done, Accepts}
-use Rattle.rules.proofs.Frames.{cast-accepts}
-use Rattle.rules.proofs.FromBytes.{file-accepted, test-priced, store-in}
-use Rattle.rules.proofs.Cut.{partAt, cut-length, cut-at}
+use Rattle.rules_frames.specs.Frames
+use Rattle.rules_frames.specs.Frames.{after, together, most, ticksIn, Lent, Part, partsOf}
+use Rattle.rules_frames.specs.InTime.{Done, Accepts}
+use Rattle.rules_frames.proofs.FramesAsAlone.{cast-accepts}
+use Rattle.rules.proofs.Demand3File.{file-accepted, test-priced, store-in}
+use Rattle.rules_frames.proofs.Cut.{partAt, cut-length, cut-at}
 use Rattle.run_actions.specs.declared.Machine.{Machine}
 use Rattle.run_actions.specs.declared.Status.the-variants.{Going}
 use Rattle.runner.specs.Pauses.{Paused}
 use Rattle.runner.specs.Answered.{Cleared}
 use Rattle.runner.proofs.Awaiting.{anew}
 use Rattle.calls_lists.specs.Parts.{lentOf, partOf, Fitted}
-use Rattle.calls_lists.proofs.Spans.{part-length}
+use Rattle.calls_lists.proofs.Extents.{part-length}
 use Rattle.calls_scripts.specs.declared.Held.{Held}
-use Rattle.calls_scripts.specs.Held.{noPart, noPlayer, HeldAs}
-use Rattle.calls_scripts.proofs.Casting.{Plays, plays-at, plays-all}
-use Rattle.calls_frames.specs.declared.Player.{Player}
-use Rattle.calls_frames.specs.Stage.{isWaiting, Turned, Onstage, Stands, Uncounted, PlayedOut}
+use Rattle.calls_scripts.specs.Held.{noPart, noProgress, HeldAs}
+use Rattle.calls_scripts.proofs.Readiness.{Plays, plays-at, plays-all}
+use Rattle.calls_frames.specs.declared.Progress.{Progress}
+use Rattle.calls_frames.specs.Progress.{isWaiting, Turned, FramesReady, Stands, Uncounted, PlayedOut}
 use Rattle.calls_frames.proofs.Standing.{is-done, stands-still, takes-still, not-done, stands-on, takes-on, not-due, may-run-on}
 
 -- one script more
 module _ (π : Prices) (q n : ℕ) where
-  together-suc : (ps : List Frames.Player) (k : ℕ) → k < length ps → together π q (take (suc k) ps) n ≡ together π q (take k ps) n + ticksIn π q (getD ps k noPlayer) n
+  together-suc : (ps : List Frames.Progress) (k : ℕ) → k < length ps → together π q (take (suc k) ps) n ≡ together π q (take k ps) n + ticksIn π q (getD ps k noProgress) n
   unfolding together
   together-suc [] k h = absurd (omega arith)
   together-suc (p ∷ ps) zero h = omega arith
   together-suc (p ∷ ps) (suc k) h = omega (arith, together-suc ps k (omega arith))
 
-  together-more : (ps : List Frames.Player) (k : ℕ) → k < length ps → together π q (take (k + 1) ps) n ≡ together π q (take k ps) n + ticksIn π q (getD ps k noPlayer) n
+  together-more : (ps : List Frames.Progress) (k : ℕ) → k < length ps → together π q (take (k + 1) ps) n ≡ together π q (take k ps) n + ticksIn π q (getD ps k noProgress) n
   together-more ps k h = rw add-one (together-suc ps k h)
 
 -- within a list no default is read
@@ -65,11 +65,11 @@ fitted-now l q stores f e = record {
   small = f .small;
 }
 
--- a player before its first frame
-abbrev pub startPlayer : Player
+-- a script before its first frame
+abbrev pub startPlayer : Progress
 startPlayer = record { machine = record { row = 0; testing = false; left = 0; used = 0; status = Going }; frame = 0 }
 
-module _ (prices : List ℕ) (l : Lent) (q : ℕ) (ps : List Frames.Player) (held : List Held) (on : Onstage prices l q ps held) where
+module _ (prices : List ℕ) (l : Lent) (q : ℕ) (ps : List Frames.Progress) (held : List Held) (on : FramesReady prices l q ps held) where
   abbrev pub π : Prices
   π = pricesOf prices
 
@@ -77,8 +77,8 @@ module _ (prices : List ℕ) (l : Lent) (q : ℕ) (ps : List Frames.Player) (hel
   N = length (l .fileLengths)
 
   -- ---- script j
-  abbrev pub role : ℕ → Frames.Player
-  role j = getD ps j noPlayer
+  abbrev pub role : ℕ → Frames.Progress
+  role j = getD ps j noProgress
 
   accepts : Accepts prices scratchSize (partsOf l) ps
   accepts = cast-accepts prices scratchSize (partsOf l) ps (on .ready)
@@ -139,10 +139,10 @@ module _ (prices : List ℕ) (l : Lent) (q : ℕ) (ps : List Frames.Player) (hel
   waits-more n k (one-waits j e f) w g h = one-waits j (omega arith) f
 
   -- ---- what the loop keeps: the first k scripts have had frame n + 1, the others not
-  abbrev pub Here : List ℤ → List (List (List ℕ)) → List Player → ℕ → ℕ → Type 0
+  abbrev pub Here : List ℤ → List (List (List ℕ)) → List Progress → ℕ → ℕ → Type 0
   Here stores counts xs j n = Stands π q (role j) n (getD xs j startPlayer) (partOf (l .storeLengths) j stores) (partOf (l .pickLengths) j (l .picks)) (getD counts j [])
 
-  pub record Playing (stores : List ℤ) (counts : List (List (List ℕ))) (xs : List Player) (m t n k : ℕ) (w : Bool) : Type 0 where
+  pub record Playing (stores : List ℤ) (counts : List (List (List ℕ))) (xs : List Progress) (m t n k : ℕ) (w : Bool) : Type 0 where
     pub frames : n * q ≤ 1_000_000_000_000
     pub upto : k ≤ N
     pub sizes : (length xs ≡ 8) × (length counts ≡ 8) × (length stores ≡ length (l .stores))
@@ -153,7 +153,7 @@ module _ (prices : List ℕ) (l : Lent) (q : ℕ) (ps : List Frames.Player) (hel
     pub most : m ≡ most π q ps n
     pub waits : Waits n k w
 
-  pub playing-late : {stores : List ℤ} {counts : List (List (List ℕ))} {xs : List Player} {m t n k : ℕ} {w : Bool} → Playing stores counts xs m t n k w → n ≤ 1_000_000_000_000
+  pub playing-late : {stores : List ℤ} {counts : List (List (List ℕ))} {xs : List Progress} {m t n k : ℕ} {w : Bool} → Playing stores counts xs m t n k w → n ≤ 1_000_000_000_000
   playing-late {n = n} h = omega (arith, h .frames, mul-le-mul-left n (on .fits .tick))
 
   starts : (counts : List (List ℕ)) → Cleared counts → (j : ℕ) → j < N → Stands π q (role j) 0 startPlayer (partOf (l .storeLengths) j (l .stores)) (partOf (l .pickLengths) j (l .picks)) counts
@@ -161,9 +161,9 @@ module _ (prices : List ℕ) (l : Lent) (q : ℕ) (ps : List Frames.Player) (hel
   starts counts z j h =
       let e = plays j h .is in
       record {
-        stand = ap (λ (p : Frames.Player). p .stand) e ∙ (λ i. more (record { row = 0; phase = fresh; now = record { store = storeOf (partOf (l .storeLengths) j (l .stores)); left = 0; picks = partOf (l .pickLengths) j (l .picks) }; tally = sym (z .zero) i }));
+        stand = ap (λ (p : Frames.Progress). p .stand) e ∙ (λ i. more (record { row = 0; phase = fresh; now = record { store = storeOf (partOf (l .storeLengths) j (l .stores)); left = 0; picks = partOf (l .pickLengths) j (l .picks) }; tally = sym (z .zero) i }));
         waits = anew;
-        frame = ap (λ (p : Frames.Player). p .frame) e;
+        frame = ap (λ (p : Frames.Progress). p .frame) e;
         late = omega arith;
         left = omega arith;
         used = omega arith;
@@ -184,16 +184,16 @@ module _ (prices : List ℕ) (l : Lent) (q : ℕ) (ps : List Frames.Player) (hel
     waits = none-waits λ j h. absurd (omega arith);
   }
 
-  module _ (stores : List ℤ) (counts : List (List (List ℕ))) (xs : List Player) (m t n k : ℕ) (w : Bool) (h : Playing stores counts xs m t n k w) where
+  module _ (stores : List ℤ) (counts : List (List (List ℕ))) (xs : List Progress) (m t n k : ℕ) (w : Bool) (h : Playing stores counts xs m t n k w) where
     -- ---- script k
     module _ (inside : k < N) where
-      abbrev pub x : Player
+      abbrev pub x : Progress
       x = getD xs k startPlayer
 
       here : Here stores counts xs k n
       here = h .due k (omega arith) inside
 
-      pub by-default : (d : Player) → getD xs k d ≡ x
+      pub by-default : (d : Progress) → getD xs k d ≡ x
       by-default d = same-default xs k (omega (arith, h .sizes .0, on .fits .few)) d startPlayer
 
       next-taken : (r : ℕ) → ticksIn π q (role k) n ≡ r → t + r ≡ together π q (take (k + 1) ps) n
@@ -230,7 +230,7 @@ module _ (prices : List ℕ) (l : Lent) (q : ℕ) (ps : List Frames.Player) (hel
 
         module _ (r : Machine) (stores′ : List ℤ) (table : List (List ℕ))
             (turned : Turned π (partOf (l .fileLengths) k (l .files)) (getD held k d) q k (x .machine) r (l .storeLengths) stores stores′ (partOf (l .pickLengths) k (l .picks)) (getD counts k []) table) where
-          abbrev pub x′ : Player
+          abbrev pub x′ : Progress
           x′ = record { machine = r; frame = n + 1 }
 
           now-here : Stands π q (role k) (suc n) x′ (partOf (l .storeLengths) k stores′) (partOf (l .pickLengths) k (l .picks)) table
@@ -270,7 +270,7 @@ module _ (prices : List ℕ) (l : Lent) (q : ℕ) (ps : List Frames.Player) (hel
           omega (arith, h .most, h .taken)
 
       -- all are finished
-      pub playing-out : w ≡ false → (a : ℕ) → a ≡ max m t → PlayedOut prices l q (record { players = xs; most = a }) stores counts
+      pub playing-out : w ≡ false → (a : ℕ) → a ≡ max m t → PlayedOut prices l q (record { progress = xs; most = a }) stores counts
       playing-out e a f = record {
         ps = ps;
         ready = on .ready;

@@ -15,13 +15,13 @@ use Rattle.rules.specs.declared.Ending.{Ending}
 use Rattle.rules.specs.declared.Prices.{Prices}
 use Rattle.rules.specs.Blocks.{RowKind, kindsOf}
 use Rattle.rules.specs.Questions.{tickLimit, verdict}
-use Rattle.rules.specs.RowMachine.{TurnCounts, tallyOf, Place, Next, more, over, pairs, rank}
+use Rattle.rules_machine.specs.RowMachine.{TurnCounts, tallyOf, Place, Next, more, over, pairs, rank}
 use Rattle.rules.specs.Scripts.{Script, Accepted, StoreIn, reportTicks}
-use Rattle.rules.specs.Frames
-use Rattle.rules.specs.Frames.{stopped, runsOn, given, player, frameFrom, after, leftOf, takes, ticksIn, due}
-use Rattle.rules.specs.InTime.{Done, Carries, CarriesOn, FramesAsAlone}
+use Rattle.rules_frames.specs.Frames
+use Rattle.rules_frames.specs.Frames.{stopped, runsOn, given, beginning, frameFrom, after, leftOf, takes, ticksIn, due}
+use Rattle.rules_frames.specs.InTime.{Done, Carries, CarriesOn, FramesAsAlone}
 use Rattle.rules.proofs.Accepted.{then-yes, asked-yes}
-use Rattle.rules.proofs.Frames.{due-less, settled-at, frames-as-alone}
+use Rattle.rules_frames.proofs.FramesAsAlone.{due-less, settled-at, frames-as-alone}
 use Rattle.run_actions.specs.declared.Machine.{Machine}
 use Rattle.run_actions.specs.declared.Status.{Status}
 use Rattle.run_actions.specs.declared.Status.the-variants.{Going, Over}
@@ -32,8 +32,8 @@ use Rattle.runner.proofs.Start.{runnable}
 use Rattle.runner.proofs.Awaiting.{waiting-at}
 use Rattle.calls_scripts.specs.declared.Held.{Held}
 use Rattle.calls_scripts.specs.Held.{HeldAs}
-use Rattle.calls_frames.specs.declared.Player.{Player}
-use Rattle.calls_frames.specs.Stage.{isSpent, isWaiting, Stands}
+use Rattle.calls_frames.specs.declared.Progress.{Progress}
+use Rattle.calls_frames.specs.Progress.{isSpent, isWaiting, Stands}
 
 -- ---- where a machine stands
 module _ (m : Machine) (store : List ℤ) (picks : List ℕ) (c : TurnCounts) where
@@ -65,22 +65,22 @@ module _ (m : Machine) (store : List ℤ) (picks : List ℕ) (c : TurnCounts) wh
   left-standing (Over NoPick i) = refl
 
 -- ---- a frame
-frame-script : (π : Prices) (q n : ℕ) (p : Frames.Player) (a : Next) → frameFrom π q n p a .script ≡ p .script
+frame-script : (π : Prices) (q n : ℕ) (p : Frames.Progress) (a : Next) → frameFrom π q n p a .script ≡ p .script
 unfolding frameFrom
 frame-script π q n p (more m) = refl
 frame-script π q n p (over e i s c) = refl
 
-pub after-script : (π : Prices) (q : ℕ) (p : Frames.Player) (n : ℕ) → after π q p n .script ≡ p .script
+pub after-script : (π : Prices) (q : ℕ) (p : Frames.Progress) (n : ℕ) → after π q p n .script ≡ p .script
 unfolding after
 after-script π q p zero = refl
 after-script π q p (suc n) = frame-script π q (suc n) (after π q p n) (after π q p n .stand) ∙ after-script π q p n
 
-frame-picks : (π : Prices) (q n : ℕ) (p : Frames.Player) (a : Next) → frameFrom π q n p a .picks ≡ p .picks
+frame-picks : (π : Prices) (q n : ℕ) (p : Frames.Progress) (a : Next) → frameFrom π q n p a .picks ≡ p .picks
 unfolding frameFrom
 frame-picks π q n p (more m) = refl
 frame-picks π q n p (over e i s c) = refl
 
-pub after-picks : (π : Prices) (q : ℕ) (p : Frames.Player) (n : ℕ) → after π q p n .picks ≡ p .picks
+pub after-picks : (π : Prices) (q : ℕ) (p : Frames.Progress) (n : ℕ) → after π q p n .picks ≡ p .picks
 unfolding after
 after-picks π q p zero = refl
 after-picks π q p (suc n) = frame-picks π q (suc n) (after π q p n) (after π q p n .stand) ∙ after-picks π q p n
@@ -92,9 +92,9 @@ takes-none q (over e i s c) b u = refl
 
 -- what rows stand to
 abbrev runFrom : Prices → List RowKind → Place → Next
-runFrom π ks m = runsOn π ks (pairs ks (length ks) .shut) (pairs ks (length ks) .opener) m
+runFrom π ks m = runsOn π ks (pairs ks (length ks) .end) (pairs ks (length ks) .head) m
 
-module _ (π : Prices) (q : ℕ) (p : Frames.Player) (n : ℕ) where
+module _ (π : Prices) (q : ℕ) (p : Frames.Progress) (n : ℕ) where
   frame-on : (m : Place) → after π q p n .stand ≡ more m → (after π q p (suc n) .stand ≡ runFrom π (p .script .rows) (given q m)) × (after π q p (suc n) .frame ≡ suc n)
   unfolding after frameFrom
   frame-on m e = (
@@ -102,7 +102,7 @@ module _ (π : Prices) (q : ℕ) (p : Frames.Player) (n : ℕ) where
     ap (λ a. frameFrom π q (suc n) (after π q p n) a .frame) e,
   )
 
-  module _ (x : Player) (store : List ℤ) (picks : List ℕ) (counts : List (List ℕ)) (s : Stands π q p n x store picks counts) where
+  module _ (x : Progress) (store : List ℤ) (picks : List ℕ) (counts : List (List ℕ)) (s : Stands π q p n x store picks counts) where
     -- it is finished: the frame takes nothing
     module _ (w : isWaiting (x .machine .status) ≡ false) where
       pub is-done : Done (after π q p n .stand)
@@ -112,9 +112,9 @@ module _ (π : Prices) (q : ℕ) (p : Frames.Player) (n : ℕ) where
       stands-still =
           let e = settled-at π q p n (suc n) (omega arith) is-done in
           record {
-            stand = ap (λ (y : Frames.Player). y .stand) e ∙ s .stand;
+            stand = ap (λ (y : Frames.Progress). y .stand) e ∙ s .stand;
             waits = s .waits;
-            frame = ap (λ (y : Frames.Player). y .frame) e ∙ s .frame;
+            frame = ap (λ (y : Frames.Progress). y .frame) e ∙ s .frame;
             late = omega (arith, s .late);
             left = s .left;
             used = s .used;
@@ -163,8 +163,8 @@ ticks-few π script ok =
     let (t, _) = asked-yes 13 _ (leb (reportTicks π script) 1_000_000_000_000) _ b in
     leb→le (reportTicks π script) 1_000_000_000_000 t
 
-module _ (π : Prices) (one : 1 ≤ π .test) (p : Frames.Player) (ok : Accepted π (p .script)) (store₀ : List ℤ) (inside : StoreIn (p .script) store₀) (picks : List ℕ)
-    (is : p ≡ player (p .script) store₀ picks) (q : ℕ) (tick : 1 ≤ q) (small : q ≤ 1_000_000) where
+module _ (π : Prices) (one : 1 ≤ π .test) (p : Frames.Progress) (ok : Accepted π (p .script)) (store₀ : List ℤ) (inside : StoreIn (p .script) store₀) (picks : List ℕ)
+    (is : p ≡ beginning (p .script) store₀ picks) (q : ℕ) (tick : 1 ≤ q) (small : q ≤ 1_000_000) where
   -- while it is not finished, less than T ticks have been given
   pub not-due : (n : ℕ) → 1 ≤ n → (Done (after π q p n .stand) → ⊥) → n * q ≤ 1_000_000_000_000
   unfolding FramesAsAlone
@@ -177,7 +177,7 @@ module _ (π : Prices) (one : 1 ≤ π .test) (p : Frames.Player) (ok : Accepted
       by true e = absurd (h (subst (λ z. Done (after π q z n .stand)) (sym is) (frames-as-alone π one (p .script) ok store₀ inside picks q n tick .in-time (leb-true _ _ e) .finished)))
       by false e = omega (arith, due-less q T n tick some-frame (leb-false _ _ e), ticks-few π (p .script) ok)
 
-  module _ (n : ℕ) (few : n * q ≤ 1_000_000_000_000) (x : Player) (store : List ℤ) (counts : List (List ℕ)) (s : Stands π q p n x store picks counts)
+  module _ (n : ℕ) (few : n * q ≤ 1_000_000_000_000) (x : Progress) (store : List ℤ) (counts : List (List ℕ)) (s : Stands π q p n x store picks counts)
       (w : isWaiting (x .machine .status) ≡ true) (size : length store ≡ length store₀) (file : List ℕ) (h : Held) (held : HeldAs file (p .script) h) where
     abbrev ks : List RowKind
     ks = take (h .count) (kindsOf file (h .rows))
@@ -217,6 +217,6 @@ module _ (π : Prices) (one : 1 ≤ π .test) (p : Frames.Player) (ok : Accepted
             used = s .used;
           };
           waits = λ b.
-              let there = waiting-at (subst (Awaits (p .script .rows) (pairs (p .script .rows) (length (p .script .rows)) .opener)) (stand-waits (x .machine) store picks (tallyOf counts) (x .machine .status) w) (s .waits)) (ap phaseOf b) in
-              subst (λ g. Waiting ks g (x .machine .row)) (sym (held .found .openers)) (subst (λ (z : List RowKind). Waiting z (pairs z (length z) .opener) (x .machine .row)) (held .rows) there);
+              let there = waiting-at (subst (Awaits (p .script .rows) (pairs (p .script .rows) (length (p .script .rows)) .head)) (stand-waits (x .machine) store picks (tallyOf counts) (x .machine .status) w) (s .waits)) (ap phaseOf b) in
+              subst (λ g. Waiting ks g (x .machine .row)) (sym (held .found .matching-heads)) (subst (λ (z : List RowKind). Waiting z (pairs z (length z) .head) (x .machine .row)) (held .rows) there);
         }

@@ -14,15 +14,15 @@ use Rattle.rules.specs.declared.LoopCount.{LoopCount}
 use Rattle.rules.specs.declared.Prices.{Prices}
 use Rattle.rules.specs.declared.Verdict.the-variants.{Passed}
 use Rattle.rules.specs.Blocks.{kindsOf}
-use Rattle.rules.specs.RowMachine.{TurnCounts, tallyOf, Place, more, over}
+use Rattle.rules_machine.specs.RowMachine.{TurnCounts, tallyOf, Place, more, over, countsOf}
 use Rattle.rules.specs.Answers.{storeList}
 use Rattle.rules.specs.Scripts.{none, some, Script, storeOf}
 use Rattle.rules.specs.Calls.{pricesOf, scratchSize, loopRows}
-use Rattle.rules.specs.Frames
-use Rattle.rules.specs.Frames.{stopped, player, frameFrom, after, leftOf, ticksOf, most, lasts, countsOf, playedAs, playedAt, playedOf, answers, Lent, Part, partsOf, cut, ready, cast, played, playedBy, storesOf, storesAfter}
-use Rattle.rules.specs.InTime.{Done, AllDone, FramesEnd, NoMore}
-use Rattle.rules.proofs.Frames.{cast-accepts, frames-end, no-more}
-use Rattle.rules.proofs.Cut.{joined, cut-length, cut-at, cut-stores}
+use Rattle.rules_frames.specs.Frames
+use Rattle.rules_frames.specs.Frames.{stopped, beginning, frameFrom, after, leftOf, ticksOf, most, lasts, playedAs, playedAt, playedOf, answers, Lent, Part, partsOf, cutParts, ready, readiness, played, playedBy, storesOf, storesAfter}
+use Rattle.rules_frames.specs.InTime.{Done, AllDone, FramesEnd, NoMore}
+use Rattle.rules_frames.proofs.FramesAsAlone.{cast-accepts, frames-end, no-more}
+use Rattle.rules_frames.proofs.Cut.{joined, cut-length, cut-at, cut-stores}
 use Rattle.rules.proofs.Laws.{list-of-store}
 use Rattle.run_actions.specs.declared.Machine.{Machine}
 use Rattle.run_actions.specs.declared.Status.{Status}
@@ -33,15 +33,14 @@ use Rattle.runner.specs.Answered.{ranBy}
 use Rattle.runner.specs.Pauses.{standBy}
 use Rattle.runner.proofs.Start.{zero-row, zeros-all}
 use Rattle.run_loops.specs.declared.Heads.{Heads}
-use Rattle.run_loops.specs.Loops.{countsIn}
 use Rattle.calls_lists.specs.Parts.{partOf}
 use Rattle.calls_scripts.specs.declared.Held.{Held}
-use Rattle.calls_scripts.specs.Held.{HeldAs, noPart, noPlayer}
-use Rattle.calls_frames.specs.declared.Player.{Player}
+use Rattle.calls_scripts.specs.Held.{HeldAs, noPart, noProgress}
+use Rattle.calls_frames.specs.declared.Progress.{Progress}
 use Rattle.calls_frames.specs.declared.Played as code
 use Rattle.calls_frames.specs.declared.Ended as ended
 use Rattle.calls_frames.specs.declared.Frames as whole
-use Rattle.calls_frames.specs.Stage.{Onstage, MayPlay, Stands, Uncounted, PlayedOut}
+use Rattle.calls_frames.specs.Progress.{FramesReady, MayPlay, Stands, Uncounted, PlayedOut}
 use Rattle.calls_frames.specs.Answers.{noAnswer, Answerable, AnsweredBy, AllAnswerable, AllAnswered, ToldPlayed, noPlayed, ToldFrames, Framed}
 use Rattle.calls_frames.proofs.Standing.{after-script, after-picks}
 use Rattle.calls_frames.proofs.Playing.{same-default, scripts-count, held-at, inside-at, part-same, plays, part}
@@ -53,21 +52,15 @@ uncounted = (length-replicate 8 table, λ j h. rw (getD-replicate 8 j table [] h
     table : List (List ℕ)
     table = replicate 256 zero-row
 
--- the two lists of counts are one
-counts-in : (c : TurnCounts) (rs : List ℕ) → countsIn c rs ≡ countsOf c rs
-unfolding countsIn countsOf
-counts-in c [] = refl
-counts-in c (r ∷ rs) = ap (λ z. record { row = r; all = c .sum r; most = c .most r } ∷ z) (counts-in c rs)
-
 counts-length : (c : TurnCounts) (rs : List ℕ) → length (countsOf c rs) ≡ length rs
 unfolding countsOf
 counts-length c [] = refl
 counts-length c (r ∷ rs) = ap suc (counts-length c rs)
 
 -- ---- one script that is finished
-module _ (π : Prices) (q : ℕ) (p : Frames.Player) (n : ℕ) (x : Player) (store : List ℤ) (picks : List ℕ) (counts : List (List ℕ)) (s : Stands π q p n x store picks counts)
+module _ (π : Prices) (q : ℕ) (p : Frames.Progress) (n : ℕ) (x : Progress) (store : List ℤ) (picks : List ℕ) (counts : List (List ℕ)) (s : Stands π q p n x store picks counts)
     (done : Done (after π q p n .stand)) (lent : p .picks ≡ picks) where
-  abbrev P : Frames.Player
+  abbrev P : Frames.Progress
   P = after π q p n
 
   abbrev m : Machine
@@ -124,7 +117,7 @@ module _ (π : Prices) (q : ℕ) (p : Frames.Player) (n : ℕ) (x : Player) (sto
           ticks = ap (λ (z : Ran). z .ticks) (is-ran a) ∙ sym ticks-are;
           used = ap (λ (z : Ran). z .used) (is-ran a) ∙ sym used-is;
           loops = a .loops .number ∙ ap length listed ∙ sym (ap length counts-are ∙ counts-length (tallyOf counts) (loopRows 0 (p .script .rows)));
-          counts = a .loops .counts ∙ counts-in (tallyOf counts) (take (heads .count) (heads .rows)) ∙ ap (countsOf (tallyOf counts)) listed ∙ sym counts-are;
+          counts = a .loops .counts ∙ ap (countsOf (tallyOf counts)) listed ∙ sym counts-are;
           rest = a .loops .rest;
         }
       where
@@ -149,16 +142,16 @@ module _ (π : Prices) (q : ℕ) (p : Frames.Player) (n : ℕ) (x : Player) (sto
 
 -- ---- all scripts
 -- by their indices
-done-all : (π : Prices) (q n : ℕ) (ps : List Frames.Player) → ((j : ℕ) → j < length ps → Done (after π q (getD ps j noPlayer) n .stand)) → AllDone π q ps n
+done-all : (π : Prices) (q n : ℕ) (ps : List Frames.Progress) → ((j : ℕ) → j < length ps → Done (after π q (getD ps j noProgress) n .stand)) → AllDone π q ps n
 done-all π q n [] f = none
 done-all π q n (p ∷ ps) f = some (f 0 (omega arith)) (done-all π q n ps (λ j h. f (suc j) (omega arith)))
 
-answers-length : (π : Prices) (q n : ℕ) (ps : List Frames.Player) → length (answers π q ps n) ≡ length ps
+answers-length : (π : Prices) (q n : ℕ) (ps : List Frames.Progress) → length (answers π q ps n) ≡ length ps
 unfolding answers
 answers-length π q n [] = refl
 answers-length π q n (p ∷ ps) = ap suc (answers-length π q n ps)
 
-answers-at : (π : Prices) (q n : ℕ) (ps : List Frames.Player) (j : ℕ) → j < length ps → getD (answers π q ps n) j noPlayed ≡ playedOf q (after π q (getD ps j noPlayer) n)
+answers-at : (π : Prices) (q n : ℕ) (ps : List Frames.Progress) (j : ℕ) → j < length ps → getD (answers π q ps n) j noPlayed ≡ playedOf q (after π q (getD ps j noProgress) n)
 unfolding answers
 answers-at π q n [] j h = absurd (omega arith)
 answers-at π q n (p ∷ ps) zero h = refl
@@ -172,7 +165,7 @@ stores-joined (h ∷ hs) [] e f = absurd (omega arith)
 stores-joined (h ∷ hs) (r ∷ rs) e f = λ i. f 0 (omega arith) i ++ stores-joined hs rs (omega arith) (λ j g. f (suc j) (omega arith)) i
 
 -- once all are finished, the answers are those of the last frame that is due
-settles : (prices : List ℕ) (q : ℕ) → 1 ≤ q → (hs : List Part) (ps : List Frames.Player) → cast prices scratchSize hs ≡ ready ps → (n : ℕ)
+settles : (prices : List ℕ) (q : ℕ) → 1 ≤ q → (hs : List Part) (ps : List Frames.Progress) → readiness prices scratchSize hs ≡ ready ps → (n : ℕ)
     → AllDone (pricesOf prices) q ps n → let π : Prices = pricesOf prices in
     (answers π q ps (lasts π q ps) ≡ answers π q ps n) × (most π q ps (lasts π q ps) ≡ most π q ps n)
 unfolding NoMore FramesEnd
@@ -189,7 +182,7 @@ settles prices q tick hs ps e n d = by (leb n last) (leb→le n last) (nleb→lt
 
 -- what the scripts that are held have for it
 pub answerable : (prices : List ℕ) (l : Lent) (q : ℕ) (held : List Held) → MayPlay prices l q held → (e : ended.Ended) (stores : List ℤ) (counts : List (List (List ℕ))) → PlayedOut prices l q e stores counts
-    → AllAnswerable q (length (l .fileLengths)) (e .players) held
+    → AllAnswerable q (length (l .fileLengths)) (e .progress) held
 answerable prices l q held (ps, on) e stores counts out j h p d =
     let s = out .each j h p in
     record {
@@ -199,30 +192,30 @@ answerable prices l q held (ps, on) e stores counts out j h p d =
     }
 
 module _ (prices : List ℕ) (l : Lent) (q : ℕ) (held : List Held) (may : MayPlay prices l q held) (e : ended.Ended) (stores : List ℤ) (counts : List (List (List ℕ)))
-    (out : PlayedOut prices l q e stores counts) (r : List code.Played) (told : AllAnswered q (length (l .fileLengths)) (e .players) held counts r) where
-  abbrev ps : List Frames.Player
+    (out : PlayedOut prices l q e stores counts) (r : List code.Played) (told : AllAnswered q (length (l .fileLengths)) (e .progress) held counts r) where
+  abbrev ps : List Frames.Progress
   ps = out .ps
 
-  on : Onstage prices l q ps held
+  on : FramesReady prices l q ps held
   on =
       let same : may .0 ≡ ps = ready-once (sym (may .1 .ready) ∙ out .ready) in
-      subst (λ z. Onstage prices l q z held) same (may .1)
+      subst (λ z. FramesReady prices l q z held) same (may .1)
     where
-      ready-once : {a b : List Frames.Player} → ready a ≡ ready b → a ≡ b
+      ready-once : {a b : List Frames.Progress} → ready a ≡ ready b → a ≡ b
       ready-once z = cc
 
   nobody : Held
-  nobody = record { count = 0; rows = []; tables = record { shut = []; opener = [] }; heads = record { count = 0; rows = [] } }
+  nobody = record { count = 0; rows = []; tables = record { end = []; head = [] }; heads = record { count = 0; rows = [] } }
 
-  one : (j : ℕ) → j < length (l .fileLengths) → ToldPlayed (getD r j noAnswer) (playedOf q (after (pricesOf prices) q (getD ps j noPlayer) (out .n)))
-      × (playedOf q (after (pricesOf prices) q (getD ps j noPlayer) (out .n)) .store ≡ partOf (l .storeLengths) j stores)
+  one : (j : ℕ) → j < length (l .fileLengths) → ToldPlayed (getD r j noAnswer) (playedOf q (after (pricesOf prices) q (getD ps j noProgress) (out .n)))
+      × (playedOf q (after (pricesOf prices) q (getD ps j noProgress) (out .n)) .store ≡ partOf (l .storeLengths) j stores)
   one j h =
       let held-j = held-at prices l q ps held on j h nobody in
-      told-one (pricesOf prices) q (getD ps j noPlayer) (out .n) _ _ _ _ (out .each j h noStart) (out .done j h) (ap (λ (z : Frames.Player). z .picks) (plays prices l q ps held on j h .is))
+      told-one (pricesOf prices) q (getD ps j noProgress) (out .n) _ _ _ _ (out .each j h noStart) (out .done j h) (ap (λ (z : Frames.Progress). z .picks) (plays prices l q ps held on j h .is))
       (getD held j nobody .heads) (getD r j noAnswer) (held-j .heads .heads ∙ ap (loopRows 0) (sym (held-j .rows))) (told .each j h noStart nobody)
       (part-same prices l q ps held on j h stores (out .long) ∙ inside-at prices l q ps held on j h .whole)
     where
-      noStart : Player
+      noStart : Progress
       noStart = record { machine = record { row = 0; testing = false; left = 0; used = 0; status = Going }; frame = 0 }
 
   abbrev π : Prices
@@ -245,16 +238,16 @@ module _ (prices : List ℕ) (l : Lent) (q : ℕ) (held : List Held) (may : MayP
 
   stores-are : stores ≡ storesOf rs
   stores-are =
-      let hs : List Part = cut (l .fileLengths) (l .storeLengths) (l .pickLengths) (l .files) stores (l .picks) in
+      let hs : List Part = cutParts (l .fileLengths) (l .storeLengths) (l .pickLengths) (l .files) stores (l .picks) in
       let n : length hs ≡ length (l .fileLengths) = cut-length (l .fileLengths) (l .storeLengths) (l .pickLengths) (l .files) stores (l .picks) (on .fits .stores) (on .fits .picks) in
       sym (cut-stores (l .fileLengths) (l .storeLengths) (l .pickLengths) (l .files) stores (l .picks) (on .fits .stores) (on .fits .picks) (on .fits .store-sum ∙ sym (out .long)))
       ∙ stores-joined hs rs (n ∙ sym count) λ j h.
       ap (λ (z : Part). z .store) (cut-at (l .fileLengths) (l .storeLengths) (l .pickLengths) (l .files) stores (l .picks) (on .fits .stores) (on .fits .picks) j (omega arith) noPart)
       ∙ sym (ap (λ (z : Frames.Played). z .store) (answers-at π q (out .n) ps j (omega (arith, answers-length π q (out .n) ps, count))) ∙ one j (omega arith) .1)
 
-  pub framed : (m : ℕ) → m ≡ e .most → Framed (playedBy π q (cast prices scratchSize (partsOf l))) (l .stores) stores (record { verdict = Passed; most = m; scripts = r })
+  pub framed : (m : ℕ) → m ≡ e .most → Framed (playedBy π q (readiness prices scratchSize (partsOf l))) (l .stores) stores (record { verdict = Passed; most = m; scripts = r })
   unfolding playedBy storesAfter
   framed m z =
       let (a, b) = settles prices q (on .fits .tick) (partsOf l) ps (out .ready) (out .n) (done-all π q (out .n) ps (λ j h. out .done j (omega (arith, scripts-count prices l q ps held on)))) in
-      let reply : playedBy π q (cast prices scratchSize (partsOf l)) ≡ played rs (most π q ps (out .n)) = ap (playedBy π q) (out .ready) ∙ (λ i. played (a i) (b i)) in
+      let reply : playedBy π q (readiness prices scratchSize (partsOf l)) ≡ played rs (most π q ps (out .n)) = ap (playedBy π q) (out .ready) ∙ (λ i. played (a i) (b i)) in
       rw reply (record { told = told-all m z; stores = stores-are })

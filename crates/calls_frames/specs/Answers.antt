@@ -6,14 +6,14 @@ use lib.IntN.{ℤ}
 use lib.ListN.{length, getD, take, replicate}
 use Rattle.rules.specs.declared.Ending.the-variants.{Ended}
 use Rattle.rules.specs.declared.Verdict.the-variants.{Passed, Refused}
-use Rattle.rules.specs.RowMachine.{tallyOf}
-use Rattle.rules.specs.Frames
-use Rattle.rules.specs.Frames.{FramesReply, played, storesAfter}
+use Rattle.rules_machine.specs.RowMachine.{tallyOf}
+use Rattle.rules_frames.specs.Frames
+use Rattle.rules_frames.specs.Frames.{FramesReply, played, storesAfter}
 use Rattle.runner.specs.Answered.{ranOf}
 use Rattle.run_loops.specs.declared.Heads.{Heads}
-use Rattle.run_loops.specs.Loops.{noCount, NoneFrom, Placed, Counted}
+use Rattle.run_loops.specs.Loops.{noCount, NoneFrom, Placed, HeadCounts}
 use Rattle.calls_scripts.specs.declared.Held.{Held}
-use Rattle.calls_frames.specs.declared.Player.{Player}
+use Rattle.calls_frames.specs.declared.Progress.{Progress}
 use Rattle.calls_frames.specs.declared.Played.{Played}
 use Rattle.calls_frames.specs.declared.Frames as code
 
@@ -26,24 +26,25 @@ abbrev pub noFrames : ℕ → ℕ → code.Frames
 noFrames q p = record { verdict = Refused q p; most = 0; scripts = replicate 8 noAnswer }
 
 -- a script whose ticks fit
-pub record Answerable (q : ℕ) (p : Player) (heads : Heads) : Type 0 where
+pub record Answerable (q : ℕ) (p : Progress) (heads : Heads) : Type 0 where
   pub left : p .machine .left ≤ p .frame * q
   pub few : p .frame * q < 2 ^ 63
   pub placed : Placed heads
 
 -- its answer is that of its machine
-pub record AnsweredBy (q : ℕ) (p : Player) (heads : Heads) (counts : List (List ℕ)) (r : Played) : Type 0 where
+pub record AnsweredBy (q : ℕ) (p : Progress) (heads : Heads) (counts : List (List ℕ)) (r : Played) : Type 0 where
   pub frame : r .frame ≡ p .frame
   pub verdict : r .outcome .verdict ≡ Passed
   pub ran : record { ending = r .outcome .ending; row = r .outcome .row; ticks = r .outcome .ticks; used = r .outcome .used } ≡ ranOf (p .machine) (p .frame * q)
-  pub loops : Counted (take (heads .count) (heads .rows)) (tallyOf counts) (record { count = r .outcome .loops; counts = r .outcome .counts })
+  pub loops : HeadCounts (take (heads .count) (heads .rows)) (tallyOf counts) (record { count = r .outcome .loops; counts = r .outcome .counts })
 
 -- of the first `scripts`
-abbrev pub AllAnswerable : ℕ → ℕ → List Player → List Held → Type 0
-AllAnswerable q scripts players held = (j : ℕ) → j < scripts → (p : Player) (h : Held) → Answerable q (getD players j p) (getD held j h .heads)
+abbrev pub AllAnswerable : ℕ → ℕ → List Progress → List Held → Type 0
+AllAnswerable q scripts progress held = (j : ℕ) → j < scripts → (p : Progress) (h : Held) → Answerable q (getD progress j p) (getD held j h .heads)
 
-pub record AllAnswered (q scripts : ℕ) (players : List Player) (held : List Held) (counts : List (List (List ℕ))) (r : List Played) : Type 0 where
-  pub each : (j : ℕ) → j < scripts → (p : Player) (h : Held) → AnsweredBy q (getD players j p) (getD held j h .heads) (getD counts j []) (getD r j noAnswer)
+-- the answers of the first `scripts`; none after them
+pub record AllAnswered (q scripts : ℕ) (progress : List Progress) (held : List Held) (counts : List (List (List ℕ))) (r : List Played) : Type 0 where
+  pub each : (j : ℕ) → j < scripts → (p : Progress) (h : Held) → AnsweredBy q (getD progress j p) (getD held j h .heads) (getD counts j []) (getD r j noAnswer)
   pub rest : (j : ℕ) → scripts ≤ j → getD r j noAnswer ≡ noAnswer
 
 -- a script's answer, of document 02's
@@ -70,11 +71,12 @@ pub record ToldFrames (f : code.Frames) (rs : List Frames.Played) (m : ℕ) : Ty
   pub each : (j : ℕ) → j < length rs → ToldPlayed (getD (f .scripts) j noAnswer) (getD rs j noPlayed)
   pub rest : (j : ℕ) → length rs ≤ j → getD (f .scripts) j noAnswer ≡ noAnswer
 
-abbrev pub Told : code.Frames → FramesReply → Type 0
-Told f (played rs m) = ToldFrames f rs m
-Told f (FramesReply.refuses q p) = f ≡ noFrames q p
+-- the answer is what the reply says
+abbrev pub FramesAnswered : code.Frames → FramesReply → Type 0
+FramesAnswered f (played rs m) = ToldFrames f rs m
+FramesAnswered f (FramesReply.refuses q p) = f ≡ noFrames q p
 
 -- the answer, and the stores after it
 pub record Framed (reply : FramesReply) (old new : List ℤ) (f : code.Frames) : Type 0 where
-  pub told : Told f reply
+  pub told : FramesAnswered f reply
   pub stores : new ≡ storesAfter reply old

@@ -1,3 +1,3 @@
 -- Scripts in their frames, as code holds them.
-pub mod Stage
+pub mod Progress
 pub mod Answers

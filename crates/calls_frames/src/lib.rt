@@ -1,7 +1,8 @@
-// Several scripts in one frame (request 14), after the questions 20, 1 and 16: the cast, its frames, and the answers.
+// Several scripts in one frame (change 14), after the questions 20, 1 and 16: the scripts, their frames, and the answers.
 use calls::Outcome;
 use calls_prices::prices_of;
 use calls_scripts::Held;
+use min_max::larger;
 use rules::Ending;
 use rules::Prices;
 use rules::Verdict;
@@ -15,20 +16,20 @@ ghost use mathlib.Core.List.{List};
 ghost use Prim.Native.Nat.{ℕ, _≤_, _<_, max};
 ghost use lib.ListN.{length};
 ghost use Rattle.rules.specs.Calls.{Priced, pricesOf, scratchSize};
-ghost use Rattle.rules.specs.Frames.{partsOf, cast, playedBy};
+ghost use Rattle.rules_frames.specs.Frames.{partsOf, readiness, playedBy};
 ghost use Rattle.calls_lists.specs.Parts.{lentOf, partOf, Fitted};
 ghost use Rattle.runner.specs.Pauses.{Paused};
-ghost use Rattle.calls_frames.specs.Stage.{isSpent, isWaiting, Turned, MayPlay, Uncounted, PlayedOut};
+ghost use Rattle.calls_frames.specs.Progress.{isSpent, isWaiting, Turned, MayPlay, Uncounted, PlayedOut};
 ghost use Rattle.calls_frames.specs.Answers.{noAnswer, noFrames, Answerable, AnsweredBy, AllAnswerable, AllAnswered, Framed};
 
 // A script in its frames: its machine, and the last frame that it ran in.
-pub struct Player {
+pub struct Progress {
     pub machine: Machine,
     pub frame: u64,
 }
 
 // Before the first frame: at the first row, and no ticks.
-const START: Player = Player {
+const START: Progress = Progress {
     machine: Machine {
         row: 0,
         testing: false,
@@ -66,12 +67,6 @@ fn either(a: bool, b: bool) -> bool
     ensures { λ r. ⌜ r ≡ (a || b) ⌝ }
 {
     if a { true } else { b }
-}
-
-fn higher(a: u64, b: u64) -> u64
-    ensures { λ r. ⌜ r ≡ max a b ⌝ }
-{
-    if a <= b { b } else { a }
 }
 
 // Script k, which is not finished, gets q ticks and runs on over its parts of what is lent.
@@ -119,7 +114,7 @@ fn turn(
 
 // The scripts when all are finished, and the most ticks that all together took in one frame.
 pub struct Ended {
-    pub players: [Player; 8],
+    pub progress: [Progress; 8],
     pub most: u64,
 }
 
@@ -141,7 +136,7 @@ fn play(
 {
     let scripts = file_lengths.len();
     let by_kind = prices_of(prices);
-    let mut players = [START; 8];
+    let mut progress = [START; 8];
     let mut most: u64 = 0;
     let mut taken: u64 = 0;
     let mut n: u64 = 0;
@@ -149,7 +144,7 @@ fn play(
     let mut waits = false;
     loop {
         if k < scripts {
-            let p = players[k];
+            let p = progress[k];
             let m = p.machine;
             if waiting(m) {
                 let h = held[k];
@@ -168,7 +163,7 @@ fn play(
                     &mut counts[k],
                 );
                 taken = taken + (m.left + q - r.left);
-                players[k] = Player {
+                progress[k] = Progress {
                     machine: r,
                     frame: n + 1,
                 };
@@ -179,9 +174,9 @@ fn play(
             }
         } else {
             n += 1;
-            most = higher(most, taken);
+            most = larger(most, taken);
             if !waits {
-                return Ended { players, most };
+                return Ended { progress, most };
             }
             taken = 0;
             waits = false;
@@ -216,12 +211,12 @@ fn nothing() -> Played
 }
 
 // The answer of a script that is finished: its ticks are q in each frame that it ran in, less what is left.
-fn answer_of(p: Player, heads: Heads, q: u64, counts: &[[u64; 3]; 256]) -> Played
+fn answer_of(p: Progress, heads: Heads, q: u64, counts: &[[u64; 3]; 256]) -> Played
     requires { ⌜ Answerable q p heads ⌝ }
     ensures { λ r. ⌜ AnsweredBy q p heads (now (counts .entry)) r ⌝ }
 {
     let m = p.machine;
-    let ran = runner::answer(m, p.frame * q);
+    let ran = runner::ran_of(m, p.frame * q);
     let loops = run_loops::loops_of(heads, counts);
     let list = loops.counts;
     let ending = ran.ending;
@@ -243,20 +238,20 @@ fn answer_of(p: Player, heads: Heads, q: u64, counts: &[[u64; 3]; 256]) -> Playe
 
 // The answers of all scripts.
 fn answers(
-    players: [Player; 8],
+    progress: [Progress; 8],
     held: [Held; 8],
     scripts: usize,
     q: u64,
     counts: &[[[u64; 3]; 256]; 8],
 ) -> [Played; 8]
-    requires { ⌜ (scripts ≤ 8) × AllAnswerable q scripts players held ⌝ }
-    ensures { λ r. ⌜ AllAnswered q scripts players held (now (counts .entry)) r ⌝ }
+    requires { ⌜ (scripts ≤ 8) × AllAnswerable q scripts progress held ⌝ }
+    ensures { λ r. ⌜ AllAnswered q scripts progress held (now (counts .entry)) r ⌝ }
 {
     let none = nothing();
     let mut list = [none; 8];
     let mut k = 0;
     while k < scripts {
-        let p = players[k];
+        let p = progress[k];
         let h = held[k];
         let heads = h.heads;
         let a = answer_of(p, heads, q, &counts[k]);
@@ -300,7 +295,7 @@ fn play_held(
     q: u64,
 ) -> Frames
     requires { ⌜ MayPlay (now prices) (lentOf (now files) (now «file_lengths») (now stores) (now «store_lengths») (now picks) (now «pick_lengths»)) q held ⌝ }
-    ensures { λ r. ⌜ Framed (playedBy (pricesOf (now (prices .entry))) q (cast (now (prices .entry)) scratchSize (partsOf (lentOf (now (files .entry)) (now («file_lengths» .entry)) (now (stores .entry)) (now («store_lengths» .entry)) (now (picks .entry)) (now («pick_lengths» .entry)))))) (now (stores .entry)) (now (stores .exit)) r ⌝ }
+    ensures { λ r. ⌜ Framed (playedBy (pricesOf (now (prices .entry))) q (readiness (now (prices .entry)) scratchSize (partsOf (lentOf (now (files .entry)) (now («file_lengths» .entry)) (now (stores .entry)) (now («store_lengths» .entry)) (now (picks .entry)) (now («pick_lengths» .entry)))))) (now (stores .entry)) (now (stores .exit)) r ⌝ }
 {
     let none: [u64; 3] = [0; 3];
     let table = [none; 256];
@@ -317,8 +312,8 @@ fn play_held(
         q,
         &mut counts,
     );
-    let players = ended.players;
-    let scripts = answers(players, held, file_lengths.len(), q, &counts);
+    let progress = ended.progress;
+    let scripts = answers(progress, held, file_lengths.len(), q, &counts);
     let verdict = Verdict::Passed;
     Frames {
         verdict,
@@ -339,7 +334,7 @@ pub fn run_frames(
     q: u64,
 ) -> Frames
     requires { ⌜ Priced (now prices) × Fitted (lentOf (now files) (now «file_lengths») (now stores) (now «store_lengths») (now picks) (now «pick_lengths»)) q ⌝ }
-    ensures { λ r. ⌜ Framed (playedBy (pricesOf (now (prices .entry))) q (cast (now (prices .entry)) scratchSize (partsOf (lentOf (now (files .entry)) (now («file_lengths» .entry)) (now (stores .entry)) (now («store_lengths» .entry)) (now (picks .entry)) (now («pick_lengths» .entry)))))) (now (stores .entry)) (now (stores .exit)) r ⌝ }
+    ensures { λ r. ⌜ Framed (playedBy (pricesOf (now (prices .entry))) q (readiness (now (prices .entry)) scratchSize (partsOf (lentOf (now (files .entry)) (now («file_lengths» .entry)) (now (stores .entry)) (now («store_lengths» .entry)) (now (picks .entry)) (now («pick_lengths» .entry)))))) (now (stores .entry)) (now (stores .exit)) r ⌝ }
 {
     let all = calls_scripts::enter_all(files, file_lengths, &stores[..], store_lengths, prices);
     let verdict = all.verdict;

@@ -4,7 +4,7 @@ use Prim.Native.Nat.{ℕ}
 use lib.Dec.{T, leb, eqb, leb→le, eqb→eq}
 use lib.ListN.{length}
 use Rattle.ints.proofs.Diffs.{both}
-use Rattle.rules.specs.Frames.{Lent, sum, within, counted, covered, fitting}
+use Rattle.rules_frames.specs.Frames.{Lent, sum, within, counted, covered, fitting}
 use Rattle.calls_lists.specs.Parts.{Fitted}
 
 pub fitted : (l : Lent) (q : ℕ) → T (fitting l q) → Fitted l q

@@ -1,5 +1,5 @@
 -- Laws of the lists of lengths.
 pub mod Sums
-pub mod Spans
+pub mod Extents
 pub mod Fits
 pub mod Splices

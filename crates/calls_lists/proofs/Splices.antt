@@ -8,9 +8,9 @@ use lib.Dec.{T, ltb, ltb→lt, nltb→le}
 use mathlib.Core.Bool.{Bool, true, false, not}
 use lib.ListN.{length, getD, take, drop, length-append, length-drop, take-append-drop}
 use lib.Seq.{length-take-le, take-at, drop-at, take-append-le, drop-append-le, drop-append-add, drop-drop}
-use Rattle.rules.specs.Frames.{sum}
-use Rattle.calls_lists.specs.declared.Span.{Span}
-use Rattle.calls_lists.specs.Parts.{partOf, SpanOf}
+use Rattle.rules_frames.specs.Frames.{sum}
+use Rattle.calls_lists.specs.declared.Extent.{Extent}
+use Rattle.calls_lists.specs.Parts.{partOf, ExtentOf}
 use Rattle.calls_lists.proofs.Sums.{sum-within, sum-before}
 
 -- what stands before the seam
@@ -48,29 +48,29 @@ module _ {A : Type 0} (xs ys : List A) (a n : ℕ) (size : length ys ≡ n) (fit
       ∙ ap (λ i. drop i xs) w)
 
 -- by the list of lengths
-module _ {A : Type 0} (lengths : List ℕ) (k : ℕ) (s : Span) (span : SpanOf lengths k s) (xs ys : List A) (inside : k < length lengths) (whole : sum lengths ≡ length xs)
+module _ {A : Type 0} (lengths : List ℕ) (k : ℕ) (s : Extent) (extent : ExtentOf lengths k s) (xs ys : List A) (inside : k < length lengths) (whole : sum lengths ≡ length xs)
     (size : length ys ≡ s .to - s .from) where
   abbrev result : List A
   result = take (s .from) xs ++ (ys ++ drop (s .to - s .from) (drop (s .from) xs))
 
   size-is : s .to - s .from ≡ getD lengths k 0
-  size-is = omega (arith, span .to)
+  size-is = omega (arith, extent .to)
 
   fits : s .from + (s .to - s .from) ≤ length xs
-  fits = omega (arith, span .to, span .from, sum-within lengths k inside)
+  fits = omega (arith, extent .to, extent .from, sum-within lengths k inside)
 
   pub wrote-length : length result ≡ length xs
   wrote-length = splice-length xs ys (s .from) (s .to - s .from) size fits
 
   pub wrote-part : partOf lengths k result ≡ ys
-  wrote-part = (λ i. take (sym size-is i) (drop (sym (span .from) i) result)) ∙ splice-here xs ys (s .from) (s .to - s .from) size fits
+  wrote-part = (λ i. take (sym size-is i) (drop (sym (extent .from) i) result)) ∙ splice-here xs ys (s .from) (s .to - s .from) size fits
 
   pub wrote-others : (j : ℕ) → j < length lengths → (j ≡ k → ⊥) → partOf lengths j result ≡ partOf lengths j xs
   wrote-others j l other = by (ltb j k) (ltb→lt j k) (nltb→le j k)
     where
       by : (b : Bool) → (T b → j < k) → (T (not b) → k ≤ j) → partOf lengths j result ≡ partOf lengths j xs
-      by true f g = splice-before xs ys (s .from) (s .to - s .from) size fits (sum (take j lengths)) (getD lengths j 0) (omega (arith, sum-before lengths j k (f tt) inside, span .from))
-      by false f g = splice-after xs ys (s .from) (s .to - s .from) size fits (sum (take j lengths)) (getD lengths j 0) (omega (arith, sum-before lengths k j (le-ne (g tt)) l, span .from, span .to))
+      by true f g = splice-before xs ys (s .from) (s .to - s .from) size fits (sum (take j lengths)) (getD lengths j 0) (omega (arith, sum-before lengths j k (f tt) inside, extent .from))
+      by false f g = splice-after xs ys (s .from) (s .to - s .from) size fits (sum (take j lengths)) (getD lengths j 0) (omega (arith, sum-before lengths k j (le-ne (g tt)) l, extent .from, extent .to))
         where
           le-ne : k ≤ j → k < j
           le-ne h = go (ℕ-discrete j k)

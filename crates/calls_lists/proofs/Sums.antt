@@ -6,7 +6,7 @@ use native.Mathlib.Numerals.{add-one}
 use native.Mathlib.Omega.{arith}
 use lib.ListN.{length, getD, take}
 use lib.Seq.{take-all}
-use Rattle.rules.specs.Frames.{sum}
+use Rattle.rules_frames.specs.Frames.{sum}
 
 sum-suc : (l : List ℕ) (k : ℕ) → k < length l → sum (take (suc k) l) ≡ sum (take k l) + getD l k 0
 unfolding sum

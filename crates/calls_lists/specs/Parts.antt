@@ -4,8 +4,8 @@ use mathlib.Core.List.{List}
 use Prim.Native.Nat.{ℕ, _+_, _≤_}
 use lib.IntN.{ℤ}
 use lib.ListN.{length, getD, take, drop}
-use Rattle.rules.specs.Frames.{Lent, sum}
-use Rattle.calls_lists.specs.declared.Span.{Span}
+use Rattle.rules_frames.specs.Frames.{Lent, sum}
+use Rattle.calls_lists.specs.declared.Extent.{Extent}
 
 -- as slices have it
 abbrev pub lentOf : List ℕ → List ℕ → List ℤ → List ℕ → List ℕ → List ℕ → Lent
@@ -23,7 +23,7 @@ abbrev pub partOf : {A : Type 0} → List ℕ → ℕ → List A → List A
 partOf lengths k xs = take (getD lengths k 0) (drop (sum (take k lengths)) xs)
 
 -- where it is
-pub record SpanOf (lengths : List ℕ) (k : ℕ) (s : Span) : Type 0 where
+pub record ExtentOf (lengths : List ℕ) (k : ℕ) (s : Extent) : Type 0 where
   pub from : s .from ≡ sum (take k lengths)
   pub to : s .to ≡ s .from + getD lengths k 0
 

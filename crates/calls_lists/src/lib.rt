@@ -4,8 +4,8 @@ ghost use mathlib.Core.Bool.{_&&_};
 ghost use Prim.Native.Nat.{_<_, _^_};
 ghost use lib.Dec.{eqb};
 ghost use lib.ListN.{length};
-ghost use Rattle.rules.specs.Frames.{sum, within, fitting};
-ghost use Rattle.calls_lists.specs.Parts.{lentOf, SpanOf};
+ghost use Rattle.rules_frames.specs.Frames.{sum, within, fitting};
+ghost use Rattle.calls_lists.specs.Parts.{lentOf, ExtentOf};
 
 // Do the lengths add up to n? They are taken from n one after the other: no sum that could overflow is made.
 fn covers(lengths: &[usize], n: usize) -> bool
@@ -75,15 +75,15 @@ pub fn fitting(
 }
 
 // The part of one script: from where those before it end, to where it ends.
-pub struct Span {
+pub struct Extent {
     pub from: usize,
     pub to: usize,
 }
 
 // The part of script k.
-pub fn part(lengths: &[usize], k: usize) -> Span
+pub fn part(lengths: &[usize], k: usize) -> Extent
     requires { ⌜ (k < length (now lengths)) × (sum (now lengths) < 2 ^ 64) ⌝ }
-    ensures { λ r. ⌜ SpanOf (now (lengths .entry)) k r ⌝ }
+    ensures { λ r. ⌜ ExtentOf (now (lengths .entry)) k r ⌝ }
 {
     let mut from = 0;
     let mut i = 0;
@@ -91,7 +91,7 @@ pub fn part(lengths: &[usize], k: usize) -> Span
         from += lengths[i];
         i += 1;
     }
-    Span {
+    Extent {
         from,
         to: from + lengths[k],
     }

@@ -10,14 +10,14 @@ use lib.Seq.{getD-set-same, getD-set-other}
 use Rattle.rules.specs.declared.Verdict.the-variants.{Passed, Refused}
 use Rattle.rules.specs.File.{fileScript}
 use Rattle.rules.specs.Calls.{Judged, pricesOf, Priced, judgedFile, scratchSize}
-use Rattle.rules.specs.Frames.{Player, Part, Cast, ready, cast, cut}
-use Rattle.rules.proofs.Cut.{partAt, cut-length, cut-at}
+use Rattle.rules_frames.specs.Frames.{Progress, Part, Readiness, ready, readiness, cutParts}
+use Rattle.rules_frames.proofs.Cut.{partAt, cut-length, cut-at}
 use Rattle.calls.specs.Held.{admitted}
 use Rattle.calls_lists.specs.Parts.{partOf}
 use Rattle.calls_scripts.specs.declared.Held.{Held}
 use Rattle.calls_scripts.specs.declared.Entered.{Entered}
 use Rattle.calls_scripts.specs.Held.{HeldAs, EnteredAs, Lengths, noPart, Holds}
-use Rattle.calls_scripts.proofs.Casting.{answerTo, cast-no, cast-yes, judged-file, holds-all}
+use Rattle.calls_scripts.proofs.Readiness.{answerTo, cast-no, cast-yes, judged-file, holds-all}
 
 module _ (prices : List ℕ) (files fs : List ℕ) (stores : List ℤ) (ss : List ℕ) where
   -- script j has entered as h
@@ -41,7 +41,7 @@ module _ (prices : List ℕ) (files fs : List ℕ) (stores : List ℤ) (ss : Lis
 
   module _ (priced : Priced prices) (lengths : Lengths files fs stores ss) (picks ps : List ℕ) (same : length ps ≡ length fs) where
     abbrev parts : List Part
-    parts = cut fs ss ps files stores picks
+    parts = cutParts fs ss ps files stores picks
 
     part-at : (j : ℕ) → j < length fs → getD parts j noPart ≡ partAt fs ss ps files stores picks j
     part-at j l = cut-at fs ss ps files stores picks (lengths .same) same j l noPart
@@ -51,12 +51,12 @@ module _ (prices : List ℕ) (files fs : List ℕ) (stores : List ℤ) (ss : Lis
     answered j l = ap (answerTo prices) (part-at j l) ∙ ap (λ x. admitted x (partOf ss j stores)) (judged-file prices priced (partOf fs j files))
 
     pub entering-no : (k : ℕ) (held : List Held) → k < length fs → Entering k held → (e : Entered) → EnteredAs prices (partOf fs k files) (partOf ss k stores) e → (q p : ℕ) → e .verdict ≡ Refused q p
-        → cast prices scratchSize parts ≡ Cast.refuses q p
+        → readiness prices scratchSize parts ≡ Readiness.refuses q p
     entering-no k held l h e entered q p refusal =
         cast-no prices parts k (omega (arith, cut-length fs ss ps files stores picks (lengths .same) same)) (λ j m. answered j (omega arith) ∙ sym (h .each j m (e .held) .verdict)) q p
         (answered k l ∙ sym (entered .verdict) ∙ refusal)
 
-    pub entering-all : (k : ℕ) (held : List Held) → k ≡ length fs → Entering k held → (qs : List Player) × (cast prices scratchSize parts ≡ ready qs) × Holds parts qs held
+    pub entering-all : (k : ℕ) (held : List Held) → k ≡ length fs → Entering k held → (qs : List Progress) × (readiness prices scratchSize parts ≡ ready qs) × Holds parts qs held
     entering-all k held all h =
         let n = cut-length fs ss ps files stores picks (lengths .same) same in
         let (qs, e) = cast-yes prices parts (λ j m. answered j (omega arith) ∙ sym (h .each j (omega arith) nobody .verdict)) in (
@@ -68,4 +68,4 @@ module _ (prices : List ℕ) (files fs : List ℕ) (stores : List ℤ) (ss : Lis
         )
       where
         nobody : Held
-        nobody = record { count = 0; rows = []; tables = record { shut = []; opener = [] }; heads = record { count = 0; rows = [] } }
+        nobody = record { count = 0; rows = []; tables = record { end = []; head = [] }; heads = record { count = 0; rows = [] } }

@@ -1,4 +1,4 @@
--- Laws of the cast.
+-- Laws of the scripts that are held for the frames.
 pub mod Loaded
-pub mod Casting
+pub mod Readiness
 pub mod Entering

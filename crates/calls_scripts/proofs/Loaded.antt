@@ -12,7 +12,7 @@ use Rattle.rules.specs.Scripts.{Script, scriptOf, Legal}
 use Rattle.rules.specs.File
 use Rattle.rules.specs.File.{Reading, fileScript}
 use Rattle.rules.specs.Calls.{refuses, pricesOf, judgedFile}
-use Rattle.rules.proofs.Reading.{read-legal, read-short}
+use Rattle.rules.proofs.ReadLegal.{read-legal, read-short}
 use Rattle.reader.specs.declared.Loaded.{Loaded}
 use Rattle.reader.specs.Read.{Answer, answerOf, loadedAnswer, LoadedAs}
 use Rattle.run_loops.specs.Loops.{Listable}

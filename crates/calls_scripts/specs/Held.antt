@@ -12,19 +12,19 @@ use Rattle.rules.specs.Written.{Written}
 use Rattle.rules.specs.Scripts.{Script}
 use Rattle.rules.specs.File.{fileScript}
 use Rattle.rules.specs.Calls.{accepted, pricesOf, judgedFile, scratchSize}
-use Rattle.rules.specs.Frames.{Player, player, Part, sum, Cast, ready, cast}
+use Rattle.rules_frames.specs.Frames.{Progress, beginning, Part, sum, Readiness, ready, readiness}
 use Rattle.analysis_table.specs.Code.{kindAt}
-use Rattle.run_pairs.specs.Tables.{Found}
+use Rattle.run_pairs.specs.Tables.{TablesOf}
 use Rattle.run_loops.specs.Loops.{Headed}
 use Rattle.calls.specs.Held.{admitted}
 use Rattle.calls_scripts.specs.declared.Held.{Held}
 use Rattle.calls_scripts.specs.declared.Entered.{Entered}
-use Rattle.calls_scripts.specs.declared.Cast as code
+use Rattle.calls_scripts.specs.declared.HeldScripts as code
 
 -- the rows, their partner rows and loops, whatever text stands beside them
 pub record HeldRows (rows : List Row) (count : ℕ) (h : Held) : Type 0 where
   pub same : (h .rows ≡ rows) × (h .count ≡ count)
-  pub found : (text : List ℕ) → Found (take count (kindsOf text rows)) (h .tables)
+  pub found : (text : List ℕ) → TablesOf (take count (kindsOf text rows)) (h .tables)
   pub heads : (text : List ℕ) → Headed (take count (kindsOf text rows)) (h .heads)
 
 -- a script of a file
@@ -32,7 +32,7 @@ pub record HeldAs (file : List ℕ) (script : Script) (h : Held) : Type 0 where
   pub size : h .count ≤ 256
   pub rows : script .rows ≡ take (h .count) (kindsOf file (h .rows))
   pub written : (i : ℕ) → i < h .count → Written file (kindAt (h .rows) i)
-  pub found : Found (take (h .count) (kindsOf file (h .rows))) (h .tables)
+  pub found : TablesOf (take (h .count) (kindsOf file (h .rows))) (h .tables)
   pub heads : Headed (take (h .count) (kindsOf file (h .rows))) (h .heads)
 
 -- one script: its own questions, and it is held if they have yes
@@ -47,21 +47,23 @@ pub record Lengths (files fileLengths : List ℕ) (stores : List ℤ) (storeLeng
   pub file-sum : sum fileLengths ≡ length files
   pub store-sum : sum storeLengths ≡ length stores
 
--- past the last of a list of parts, of players
+-- past the last of a list of parts
 abbrev pub noPart : Part
 noPart = record { file = []; store = []; picks = [] }
 
-abbrev pub noPlayer : Player
-noPlayer = player (record { ranges = []; rows = [] }) [] []
+-- past the last script in progress
+abbrev pub noProgress : Progress
+noProgress = beginning (record { ranges = []; rows = [] }) [] []
 
--- the players' scripts are held
-abbrev pub Holds : List Part → List Player → List Held → Type 0
-Holds parts ps held = (j : ℕ) → j < length parts → (d : Held) → HeldAs (getD parts j noPart .file) (getD ps j noPlayer .script) (getD held j d)
+-- the scripts in progress are held
+abbrev pub Holds : List Part → List Progress → List Held → Type 0
+Holds parts ps held = (j : ℕ) → j < length parts → (d : Held) → HeldAs (getD parts j noPart .file) (getD ps j noProgress .script) (getD held j d)
 
--- all scripts: the cast of `rules`
-abbrev pub CastBy : Verdict → List ℕ → List Part → List Held → Type 0
-CastBy Passed prices parts held = (ps : List Player) × (cast prices scratchSize parts ≡ ready ps) × Holds parts ps held
-CastBy (Refused q p) prices parts held = cast prices scratchSize parts ≡ Cast.refuses q p
+-- all scripts: the readiness of `rules`
+abbrev pub HeldBy : Verdict → List ℕ → List Part → List Held → Type 0
+HeldBy Passed prices parts held = (ps : List Progress) × (readiness prices scratchSize parts ≡ ready ps) × Holds parts ps held
+HeldBy (Refused q p) prices parts held = readiness prices scratchSize parts ≡ Readiness.refuses q p
 
-abbrev pub CastAs : List ℕ → List Part → code.Cast → Type 0
-CastAs prices parts c = CastBy (c .verdict) prices parts (c .held)
+-- the same of what code answers
+abbrev pub HeldScriptsAs : List ℕ → List Part → code.HeldScripts → Type 0
+HeldScriptsAs prices parts c = HeldBy (c .verdict) prices parts (c .held)

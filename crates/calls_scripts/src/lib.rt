@@ -10,9 +10,9 @@ ghost use mathlib.Core.List.{List};
 ghost use Prim.Native.Nat.{ℕ, _≤_};
 ghost use lib.ListN.{length};
 ghost use Rattle.rules.specs.Calls.{Priced};
-ghost use Rattle.rules.specs.Frames.{sum, cut};
+ghost use Rattle.rules_frames.specs.Frames.{sum, cutParts};
 ghost use Rattle.run_loops.specs.Loops.{Listable};
-ghost use Rattle.calls_scripts.specs.Held.{HeldRows, EnteredAs, Lengths, CastAs};
+ghost use Rattle.calls_scripts.specs.Held.{HeldRows, EnteredAs, Lengths, HeldScriptsAs};
 
 // A script that has been read: its first `count` rows, their partner rows, and the heads of its loops.
 pub struct Held {
@@ -40,8 +40,11 @@ fn hold(rows: [Row; 256], count: usize) -> Held
 // What stands past the last script.
 fn nobody() -> Held {
     let rows = [BLANK; 256];
-    let shut = [0u8; 256];
-    let tables = Tables { shut, opener: shut };
+    let none = [0u8; 256];
+    let tables = Tables {
+        end: none,
+        head: none,
+    };
     let none = [0u8; 16];
     let heads = Heads {
         count: 0,
@@ -85,7 +88,7 @@ fn enter(file: &[u8], prices: &[u32], store: &[i32]) -> Entered
 }
 
 // All scripts, each accepted with its store; or the first no, with its number and place.
-pub struct Cast {
+pub struct HeldScripts {
     pub verdict: Verdict,
     pub held: [Held; 8],
 }
@@ -97,9 +100,9 @@ pub fn enter_all(
     stores: &[i32],
     store_lengths: &[usize],
     prices: &[u32],
-) -> Cast
+) -> HeldScripts
     requires { ⌜ Priced (now prices) × Lengths (now files) (now «file_lengths») (now stores) (now «store_lengths») ⌝ }
-    ensures { λ r. ⌜ ((picks pickLengths : List ℕ) → length pickLengths ≡ length (now («file_lengths» .entry)) → CastAs (now (prices .entry)) (cut (now («file_lengths» .entry)) (now («store_lengths» .entry)) pickLengths (now (files .entry)) (now (stores .entry)) picks) r) ⌝ }
+    ensures { λ r. ⌜ ((picks pickLengths : List ℕ) → length pickLengths ≡ length (now («file_lengths» .entry)) → HeldScriptsAs (now (prices .entry)) (cutParts (now («file_lengths» .entry)) (now («store_lengths» .entry)) pickLengths (now (files .entry)) (now (stores .entry)) picks) r) ⌝ }
 {
     let none = nobody();
     let mut held = [none; 8];
@@ -121,10 +124,10 @@ pub fn enter_all(
             }
             Verdict::Refused(q, p) => {
                 let verdict = Verdict::Refused(q, p);
-                return Cast { verdict, held };
+                return HeldScripts { verdict, held };
             }
         }
     }
     let verdict = Verdict::Passed;
-    Cast { verdict, held }
+    HeldScripts { verdict, held }
 }

@@ -7,7 +7,7 @@ use lib.ListN.{getD, set, replicate}
 use Rattle.rules.specs.declared.Reply.{Reply}
 use Rattle.rules.specs.declared.LoopCount.{LoopCount}
 use Rattle.rules.specs.Calls.{Judged}
-use Rattle.rules.specs.Frames.{Lent}
+use Rattle.rules_frames.specs.Frames.{Lent}
 use Rattle.calls.specs.declared.Outcome.{Outcome}
 use Rattle.run_loops.specs.Loops.{noCount}
 use Rattle.calls_frames.specs.declared.Played.{Played}
@@ -37,6 +37,7 @@ upTo (suc k) counts head =
     let c : LoopCount = getD counts k noCount in
     set (set (set (upTo k counts head) (5 + 3 * k) (c .row)) (6 + 3 * k) (c .all)) (7 + 3 * k) (c .most)
 
+-- all numbers of a run's answer
 unfoldable pub numbersOf : Outcome → List ℕ
 numbersOf o = upTo (min (o .loops) 16) (o .counts) (headNumbers o)
 

@@ -9,7 +9,7 @@ use analysis_table::put_rows;
 use calls_prices::ask_prices;
 use calls_prices::prices_of;
 use libc::STDIN_FILENO;
-use program_parts::Lent;
+use program_lists::Lent;
 use program_parts::print_text;
 use reader::load;
 use refusal::print_refused;
@@ -141,7 +141,7 @@ fn main() {
     let mut word = io::buffer();
     let n = os::arg(1, &mut word);
     let mut prices = [1u32; 4];
-    let lent = program_parts::read_prices(&word[..n], &mut prices);
+    let lent = program_lists::read_prices(&word[..n], &mut prices);
     match lent {
         Lent::Nothing => explain_all(1, arguments, &prices),
         Lent::Four => explain_all(2, arguments, &prices),

@@ -3,7 +3,7 @@ use crate::remedies::print_cause;
 use crate::remedies::print_remedy;
 use crate::show::print_line;
 use crate::show::print_spaces;
-use explain_margin::Found;
+use explain_margin::LinePlace;
 use explain_margin::Place;
 use explain_margin::line_of;
 use explain_margin::place_of;
@@ -19,8 +19,8 @@ const INDENT: usize = 2;
 fn is_there(file: &[u8], k: usize) -> bool {
     let line = line_of(file, k);
     match line {
-        Found::At(start, _) => start < file.len(),
-        Found::Missing => false,
+        LinePlace::At(start, _) => start < file.len(),
+        LinePlace::Missing => false,
     }
 }
 

@@ -3,9 +3,9 @@ use analysis_table::tag_at;
 use analysis_ticks::cap;
 use analysis_ticks::times;
 use explain_margin::EXACT;
-use explain_margin::Found;
 use explain_margin::IS_EXACT;
 use explain_margin::LINE;
+use explain_margin::LinePlace;
 use explain_margin::NO_LOOP;
 use explain_margin::Nest;
 use explain_margin::OUTSIDE;
@@ -16,19 +16,19 @@ use explain_margin::Widths;
 use explain_margin::after_row;
 use explain_margin::begins;
 use explain_margin::column;
-use explain_margin::cut;
 use explain_margin::greatest;
 use explain_margin::indent;
 use explain_margin::is_head;
+use explain_margin::line_end;
 use explain_margin::line_of;
 use explain_margin::passes_here;
 use explain_margin::put_shown;
 use explain_margin::room;
 use explain_margin::share;
+use min_max::smaller_size;
 use program_parts::print_front;
 use program_parts::print_number;
 use program_parts::print_text;
-use program_words::least;
 ghost use mathlib.Core.Path.{_≡_};
 ghost use Prim.Native.Nat.{_≤_, _<_};
 ghost use lib.ListN.{length};
@@ -51,13 +51,13 @@ pub fn print_spaces(n: usize) {
 fn print_right(n: u64, width: usize) {
     let mut text = [0u8; 20];
     let k = report_pieces::put_number(b"", n, &mut text);
-    print_spaces(width - least(k, width));
+    print_spaces(width - smaller_size(k, width));
     print_front(&text, k);
 }
 
 // A heading of five letters at the right end of a column.
 fn print_heading(word: &[u8], width: usize) {
-    print_spaces(width - least(word.len(), width));
+    print_spaces(width - smaller_size(word.len(), width));
     print_text(word);
 }
 
@@ -97,7 +97,7 @@ fn print_bar(part: u64, whole: u64)
     let n = share(part, whole, MARKS) as usize;
     print_text(b" [");
     print_front(&marks, n);
-    print_spaces(10 - least(n, 10));
+    print_spaces(10 - smaller_size(n, 10));
     print_text(b"] ");
     print_right(share(part, whole, PER_CENT), 3);
     print_text(b"%  ");
@@ -132,7 +132,7 @@ pub fn print_wrapped(text: &[u8], column: usize) {
             print_text(b"\n");
             print_spaces(column);
         }
-        let end = cut(at, width, text.len());
+        let end = line_end(at, width, text.len());
         print_shown(&text[at..end]);
         at = end;
     }
@@ -143,11 +143,11 @@ pub fn print_wrapped(text: &[u8], column: usize) {
 pub fn print_line(file: &[u8], k: usize, without: usize, column: usize) {
     let line = line_of(file, k);
     match line {
-        Found::At(start, end) => {
-            let from = start + least(without, end - start);
+        LinePlace::At(start, end) => {
+            let from = start + smaller_size(without, end - start);
             print_wrapped(&file[from..end], column);
         }
-        Found::Missing => print_text(b"\n"),
+        LinePlace::Missing => print_text(b"\n"),
     }
 }
 

@@ -14,7 +14,7 @@ use Rattle.rules.specs.Text.{lf, split}
 use Rattle.reading_text.specs.Words.{before}
 use Rattle.reading_text.proofs.Laws.{split-more, split-last}
 use Rattle.explain_margin.specs.Figures.{lineFigures, putLines, mostIn}
-use Rattle.explain_margin.specs.declared.place.Found.the-variants.{At}
+use Rattle.explain_margin.specs.declared.place.LinePlace.the-variants.{At}
 use Rattle.explain_margin.specs.Places.{LineOf, shownByte}
 
 -- ---- the greatest figure, one row more

@@ -8,8 +8,8 @@ use lib.ListN.{length, getD, take, drop}
 use Rattle.rules.specs.Text.{lf, split}
 use Rattle.explain_margin.specs.declared.place.Place.{Place}
 use Rattle.explain_margin.specs.declared.place.Place.the-variants.{Line, Row, Neither}
-use Rattle.explain_margin.specs.declared.place.Found.{Found}
-use Rattle.explain_margin.specs.declared.place.Found.the-variants.{At, Missing}
+use Rattle.explain_margin.specs.declared.place.LinePlace.{LinePlace}
+use Rattle.explain_margin.specs.declared.place.LinePlace.the-variants.{At, Missing}
 
 -- between two numbers
 abbrev pub within : ℕ → ℕ → ℕ → Bool
@@ -20,7 +20,7 @@ abbrev pub placeOf : ℕ → Place
 placeOf q = cond (within 3 7 q) Line (cond (eqb q 17) Line (cond (within 8 13 q) Row (cond (eqb q 19) Row Neither)))
 
 -- line k of a file, from 0, stands between these bytes; or there is none
-abbrev pub LineOf : List ℕ → ℕ → Found → Type 0
+abbrev pub LineOf : List ℕ → ℕ → LinePlace → Type 0
 LineOf file k (At a e) = (a ≤ e) × (e ≤ length file) × (k < length (split lf file)) × (take (e - a) (drop a file) ≡ getD (split lf file) k [])
 LineOf file k Missing = length (split lf file) ≤ k
 

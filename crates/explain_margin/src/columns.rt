@@ -1,5 +1,5 @@
 // The columns: how wide they are, what is left for the script, and the bar.
-use program_words::least;
+use min_max::smaller_size;
 ghost use mathlib.Core.Path.{_≡_};
 ghost use Prim.Native.Nat.{_+_, _-_, _≤_, _<_, min, max};
 ghost use Rattle.explain_margin.specs.Columns.{ColumnOf, Narrow, shareOf};
@@ -45,11 +45,11 @@ pub fn room(at: usize) -> usize
 }
 
 // Where the line ends that begins at byte `at` of a text, if a line has so many columns.
-pub fn cut(at: usize, width: usize, length: usize) -> usize
+pub fn line_end(at: usize, width: usize, length: usize) -> usize
     requires { ⌜ at ≤ length ⌝ }
     ensures { λ r. ⌜ r ≡ at + min width (length - at) ⌝ }
 {
-    at + least(width, length - at)
+    at + smaller_size(width, length - at)
 }
 
 // How much of the whole a part is, no more than all of it, where the whole is `of`; rounded down.

@@ -2,6 +2,7 @@
 use analysis_lines::line_at;
 use analysis_table::Shape;
 use analysis_table::shape_at;
+use min_max::larger;
 use rules::LoopLine;
 ghost use mathlib.Core.Path.{_≡_};
 ghost use mathlib.Core.List.{[], _∷_};
@@ -80,12 +81,6 @@ pub fn put_own(figures: &mut [[u64; 4]; 256], i: usize, ticks: u64)
     let total = figures[i][TOTAL];
     let exact = figures[i][EXACT];
     figures[i] = [turns, total, exact, ticks];
-}
-
-fn larger(a: u64, b: u64) -> u64
-    ensures { λ r. ⌜ r ≡ max a b ⌝ }
-{
-    if a <= b { b } else { a }
 }
 
 // The greatest figure of a column.

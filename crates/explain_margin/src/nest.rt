@@ -1,6 +1,6 @@
 // The open blocks along the rows: how deep a row stands, and how often what stands there is passed in all.
 use analysis_table::Tag;
-use program_words::least;
+use min_max::smaller_size;
 ghost use mathlib.Core.Path.{_≡_};
 ghost use Prim.Native.Nat.{_*_, _-_, _≤_, min};
 ghost use Rattle.explain_margin.specs.Nesting.{passesOf, writtenAt, openedBy, closedBy, afterRow};
@@ -55,7 +55,7 @@ fn written_at(tag: Tag, depth: usize) -> usize
 pub fn indent(tag: Tag, depth: usize) -> usize
     ensures { λ r. ⌜ (r ≡ 2 * min 8 (writtenAt tag depth)) × (r ≤ 16) ⌝ }
 {
-    2 * least(8, written_at(tag, depth))
+    2 * smaller_size(8, written_at(tag, depth))
 }
 
 // One block more is open, with these passes inside. A file that was read has at most 8.

@@ -1,5 +1,5 @@
 // Where a refusal points in the file, and the lines of a file.
-use program_words::least;
+use min_max::smaller_size;
 use reading_text::position;
 ghost use mathlib.Core.Path.{_≡_};
 ghost use Rattle.explain_margin.specs.Places.{within, placeOf, LineOf, shownByte, ShownAs};
@@ -37,13 +37,13 @@ pub fn place_of(number: u32) -> Place
 }
 
 // Where a line begins and ends, without its LF; or there is none.
-pub enum Found {
+pub enum LinePlace {
     At(usize, usize),
     Missing,
 }
 
 // Line k of a file, from 0.
-pub fn line_of(file: &[u8], k: usize) -> Found
+pub fn line_of(file: &[u8], k: usize) -> LinePlace
     ensures { λ r. ⌜ LineOf (now (file .entry)) k r ⌝ }
 {
     let mut at: usize = 0;
@@ -51,13 +51,13 @@ pub fn line_of(file: &[u8], k: usize) -> Found
     while i < k {
         let end = at + position(&file[at..], b'\n');
         if end == file.len() {
-            return Found::Missing;
+            return LinePlace::Missing;
         }
         at = end + 1;
         i += 1;
     }
     let end = at + position(&file[at..], b'\n');
-    Found::At(at, end)
+    LinePlace::At(at, end)
 }
 
 // How a byte is shown: one that is not plain ASCII as `?`.
@@ -77,7 +77,7 @@ fn shown(b: u8) -> u8
 pub fn put_shown(text: &[u8], out: &mut [u8]) -> usize
     ensures { λ r. ⌜ ShownAs (now (text .entry)) (now (out .entry)) (now (out .exit)) r ⌝ }
 {
-    let n = least(text.len(), out.len());
+    let n = smaller_size(text.len(), out.len());
     let mut i: usize = 0;
     while i < n {
         out[i] = shown(text[i]);

@@ -1,28 +1,23 @@
 -- The evaluators' functions follow the three readers: what each has read so far, and what it comes to, in numbers of any kind.
 use mathlib.Core.Path.{_≡_, refl, sym, _∙_, ap, subst}
-use mathlib.Core.Bool.{Bool, true, false, cond, _||_}
+use mathlib.Core.Bool.{Bool, true, false, cond}
 use mathlib.Core.List.{List, [], _∷_}
 use Prim.Native.Nat.{ℕ, zero, suc, _≤_, _<_}
 use native.Mathlib.Omega.{arith}
-use lib.Dec.{T, eqb, ltb, leb}
+use lib.Dec.{eqb, ltb, leb}
 use lib.ListN.{length, getD, drop, drop-of-length-le, length-drop}
 use lib.Seq.{drop-cons}
 use lib.IntN.{ℤ, pos, negℤ, natAbs}
-use mir.Syntax.{w32}
-use mir.Val.{SFits}
 use borrow.Author.Tests.{leb-true, leb-false, lt-ltb, eq-eqb, ne-eqb, eqb-true}
-use Rattle.rules.specs.declared.Operator.{Operator}
 use Rattle.rules.specs.declared.Operator.the-variants.{Add, Sub, Mul}
-use Rattle.rules.specs.Expressions.{Expr, constant, variable, group, apply, operate, Numbers, meaning}
-use Rattle.rules.specs.Values.{lowest, highest, inLimits, choose, number, past, limited, operated}
+use Rattle.rules.specs.Expressions.{Expr, constant, variable, group, apply, Numbers, meaning}
 use Rattle.rules.specs.Parse.{Parsed, parsed, shapeless, onward, atom, Ahead, operator, other, ahead, afterTerm, afterFactor, close, factorOf, readExpression, readFactor}
-use Rattle.ints.proofs.Parts.{ints}
-use Rattle.rules.proofs.Expressions.{limits}
 use Rattle.rules.proofs.Parsing.{factor-is}
-use Rattle.expressions.specs.declared.Leaf.{Leaf}
-use Rattle.expressions.specs.declared.Whole.{Whole}
-use Rattle.expressions.specs.Leaves.{cut, cutIn, said, neither, leafOf, LeafAt}
-use Rattle.expressions.specs.Evaluating.{operatorOf, joins, shut, sums, Gives}
+use Rattle.expression_leaves.specs.declared.Leaf.{Leaf}
+use Rattle.expression_leaves.specs.declared.Whole.{Whole}
+use Rattle.expression_leaves.specs.Leaves.{cutExpr, cutIn, said, neither, leafOf, LeafAt}
+use Rattle.expression_operators.specs.Operators.{operatorOf, joins, sums}
+use Rattle.expressions.specs.Evaluating.{shut, Gives}
 
 -- ---- what is read
 not-parsed : {A : Type 0} (x : Expr) (s : List ℕ) → shapeless ≡ parsed x s → A
@@ -41,21 +36,21 @@ onward-is shapeless {e = e} {s = s} h = not-parsed e s h
 
 -- ---- leaves
 module _ {A : Type 0} (n : Numbers A) (f : ℕ → A) (text : List ℕ) (at : ℕ) (l : Leaf) (h : LeafAt text at l) where
-  leaf-same : (x : Expr) (s : List ℕ) → atom (drop at text) ≡ parsed x s → said (l .tag) (l .value) (drop (l .next) text) ≡ parsed (cut x) s
+  leaf-same : (x : Expr) (s : List ℕ) → atom (drop at text) ≡ parsed x s → said (l .tag) (l .value) (drop (l .next) text) ≡ parsed (cutExpr x) s
   unfolding cutIn
   leaf-same x s e = h .same ∙ ap cutIn e
 
-  said-variable : l .tag ≡ 2 → (x : Expr) (s : List ℕ) → atom (drop at text) ≡ parsed x s → parsed (variable (natAbs (l .value))) (drop (l .next) text) ≡ parsed (cut x) s
+  said-variable : l .tag ≡ 2 → (x : Expr) (s : List ℕ) → atom (drop at text) ≡ parsed x s → parsed (variable (natAbs (l .value))) (drop (l .next) text) ≡ parsed (cutExpr x) s
   unfolding said
   said-variable t x s e = rw t at (leaf-same x s e)
 
-  said-constant : (l .tag ≡ 2 → ⊥) → (x : Expr) (s : List ℕ) → atom (drop at text) ≡ parsed x s → parsed (constant (l .value)) (drop (l .next) text) ≡ parsed (cut x) s
+  said-constant : (l .tag ≡ 2 → ⊥) → (x : Expr) (s : List ℕ) → atom (drop at text) ≡ parsed x s → parsed (constant (l .value)) (drop (l .next) text) ≡ parsed (cutExpr x) s
   unfolding said
   said-constant t x s e = by (eqb (l .tag) 1) (rw (ne-eqb (l .tag) 2 t) at (leaf-same x s e))
     where
-      by : (b : Bool) → cond b (parsed (constant (l .value)) (drop (l .next) text)) shapeless ≡ parsed (cut x) s → parsed (constant (l .value)) (drop (l .next) text) ≡ parsed (cut x) s
+      by : (b : Bool) → cond b (parsed (constant (l .value)) (drop (l .next) text)) shapeless ≡ parsed (cutExpr x) s → parsed (constant (l .value)) (drop (l .next) text) ≡ parsed (cutExpr x) s
       by true k = k
-      by false k = not-parsed (cut x) s k
+      by false k = not-parsed (cutExpr x) s k
 
   pub operand-variable : l .tag ≡ 2 → Gives n f text (atom (drop at text)) at (f (natAbs (l .value))) (l .next)
   unfolding meaning
@@ -63,7 +58,7 @@ module _ {A : Type 0} (n : Numbers A) (f : ℕ → A) (text : List ℕ) (at : �
     from = h .from;
     same = λ x s e.
         let k = said-variable t x s e in
-        let c : variable (natAbs (l .value)) ≡ cut x = cc in
+        let c : variable (natAbs (l .value)) ≡ cutExpr x = cc in
         (ap (λ y. meaning n f y) c, cc);
   }
 
@@ -73,7 +68,7 @@ module _ {A : Type 0} (n : Numbers A) (f : ℕ → A) (text : List ℕ) (at : �
     from = h .from;
     same = λ x s e.
         let k = said-constant t x s e in
-        let c : constant (l .value) ≡ cut x = cc in
+        let c : constant (l .value) ≡ cutExpr x = cc in
         (ap (λ y. meaning n f y) c, cc);
   }
 
@@ -81,7 +76,7 @@ module _ {A : Type 0} (n : Numbers A) (f : ℕ → A) (text : List ℕ) (at : �
 module _ {A : Type 0} (n : Numbers A) (f : ℕ → A) (text : List ℕ) (at : ℕ) where
   pub no-leaf : {v : A} (k : ℕ) → LeafAt text at (neither k) → Gives n f text (atom (drop at text)) at v k
   unfolding said cutIn
-  no-leaf k h = record { from = h .from; same = λ x s e. not-parsed (cut x) s (h .same ∙ ap cutIn e) }
+  no-leaf k h = record { from = h .from; same = λ x s e. not-parsed (cutExpr x) s (h .same ∙ ap cutIn e) }
 
   module _ (w : Whole) where
     pub variable-gives : LeafAt text at (leafOf 2 false w) → Gives n f text (atom (drop at text)) at (f (w .value)) (w .next)
@@ -154,17 +149,17 @@ sums-later zero e = absurd (let z : _≡_ {A = ℕ} 0 1 = cc in omega arith)
 sums-later (suc b) e = ne-eqb (suc b) 0 (λ (k : suc b ≡ 0). omega arith)
 
 -- ---- a factor
-record Closed (y : Expr) (r : List ℕ) (x : Expr) (s : List ℕ) : Type 0 where
+record GroupClosed (y : Expr) (r : List ℕ) (x : Expr) (s : List ℕ) : Type 0 where
   tree : group y ≡ x
   mark : ℕ
   after : r ≡ mark ∷ s
 
-closed : (y : Expr) (r : List ℕ) (x : Expr) (s : List ℕ) → close y r ≡ parsed x s → Closed y r x s
+closed : (y : Expr) (r : List ℕ) (x : Expr) (s : List ℕ) → close y r ≡ parsed x s → GroupClosed y r x s
 unfolding close
 closed y [] x s e = not-parsed x s e
 closed y (b ∷ t) x s e = by (eqb b 41) e
   where
-    by : (q : Bool) → cond q (parsed (group y) t) shapeless ≡ parsed x s → Closed y (b ∷ t) x s
+    by : (q : Bool) → cond q (parsed (group y) t) shapeless ≡ parsed x s → GroupClosed y (b ∷ t) x s
     by true k = let c : t ≡ s = cc in record { tree = cc; mark = b; after = ap (λ l. b ∷ l) c }
     by false k = not-parsed x s k
 
@@ -189,7 +184,7 @@ module _ {A : Type 0} (n : Numbers A) (f : ℕ → A) (text : List ℕ) (at : �
       go false e = let l = leb-false (length text) at e in rw (drop-cons text at 0 l, ne-eqb (byte text at) 40 (h l))
 
   pub factor-group : {v : A} {k : ℕ} → at < length text → byte text at ≡ 40 → Gives n f text (readExpression (λ x. x) (drop (suc at) text)) (suc at) v k → Gives n f text (readFactor (drop at text)) at v (shut k (length text))
-  unfolding shut meaning cut
+  unfolding shut meaning cutExpr
   factor-group {k = k} h e i = record {
     from = by (ltb k (length text));
     same = λ x s q.
@@ -197,7 +192,7 @@ module _ {A : Type 0} (n : Numbers A) (f : ℕ → A) (text : List ℕ) (at : �
         let (w, d) = i .same (o .x) (o .r) (o .first) in
         let c = closed (o .x) (o .r) x s (o .then) in
         let (l, j) = step-in text k (c .mark) s (d ∙ c .after) in
-        (w ∙ ap (λ y. meaning n f (cut y)) (c .tree), rw (lt-ltb k (length text) l) j);
+        (w ∙ ap (λ y. meaning n f (cutExpr y)) (c .tree), rw (lt-ltb k (length text) l) j);
   }
     where
       by : (b : Bool) → at ≤ cond b (suc k) k
@@ -210,28 +205,28 @@ module _ {A : Type 0} (n : Numbers A) (f : ℕ → A) (text : List ℕ) (part : 
   -- before a part: what stands before it with its operator, and the text from it on
   pub record Partly (e : Expr) (s : List ℕ) (op : ℕ) (a : A) (i : ℕ) : Type 0 where
     pub left : Expr → Expr
-    pub value : (x : Expr) (v : A) → v ≡ meaning n f (cut x) → joins n op a v ≡ meaning n f (cut (left x))
+    pub value : (x : Expr) (v : A) → v ≡ meaning n f (cutExpr x) → joins n op a v ≡ meaning n f (cutExpr (left x))
     pub rest : chain left (drop i text) ≡ parsed e s
 
-  pub record Begun (at op : ℕ) (a : A) (i : ℕ) : Type 0 where
+  pub record ChainBegun (at op : ℕ) (a : A) (i : ℕ) : Type 0 where
     pub from : at ≤ i
     pub same : (e : Expr) (s : List ℕ) → chain (λ x. x) (drop at text) ≡ parsed e s → Partly e s op a i
 
   -- after a part: the tree read so far, and what is left to read
   pub record Tree (e : Expr) (s : List ℕ) (a : A) (i : ℕ) : Type 0 where
     pub tree : Expr
-    pub value : a ≡ meaning n f (cut tree)
+    pub value : a ≡ meaning n f (cutExpr tree)
     pub rest : ahead (look (drop i text)) (λ o t. chain (apply o tree) t) (parsed tree (drop i text)) ≡ parsed e s
 
   pub record Chained (at : ℕ) (a : A) (i : ℕ) : Type 0 where
     pub from : at ≤ i
     pub same : (e : Expr) (s : List ℕ) → chain (λ x. x) (drop at text) ≡ parsed e s → Tree e s a i
 
-  pub begins : (at : ℕ) (a : A) → Begun at 0 a at
+  pub begins : (at : ℕ) (a : A) → ChainBegun at 0 a at
   unfolding joins
   begins at a = record { from = omega arith; same = λ e s k. record { left = λ x. x; value = λ x v h. h; rest = k } }
 
-  pub reads : {at op : ℕ} {a : A} {i : ℕ} → Begun at op a i → {v : A} {k : ℕ} → Gives n f text (part (drop i text)) i v k → {w : A} {j : ℕ} → (w ≡ joins n op a v) × (j ≡ k) → Chained at w j
+  pub reads : {at op : ℕ} {a : A} {i : ℕ} → ChainBegun at op a i → {v : A} {k : ℕ} → Gives n f text (part (drop i text)) i v k → {w : A} {j : ℕ} → (w ≡ joins n op a v) × (j ≡ k) → Chained at w j
   reads {i = i} b {v = v} g {j = j} (h, m) = record {
     from = omega (arith, b .from, g .from, m);
     same = λ e s q.
@@ -242,8 +237,8 @@ module _ {A : Type 0} (n : Numbers A) (f : ℕ → A) (text : List ℕ) (part : 
         record { tree = p .left (o .x); value = h ∙ p .value (o .x) v u; rest = rw c (o .then) };
   }
 
-  pub goes : {at : ℕ} {a : A} {i : ℕ} → Chained at a i → (op : ℕ) → eqb op 0 ≡ false → look (drop i text) ≡ operator (operatorOf op) (drop (suc i) text) → Begun at op a (suc i)
-  unfolding ahead joins meaning cut
+  pub goes : {at : ℕ} {a : A} {i : ℕ} → Chained at a i → (op : ℕ) → eqb op 0 ≡ false → look (drop i text) ≡ operator (operatorOf op) (drop (suc i) text) → ChainBegun at op a (suc i)
+  unfolding ahead joins meaning cutExpr
   goes {a = a} {i = i} c op h l = record {
     from = omega (arith, c .from);
     same = λ e s k.
@@ -263,23 +258,5 @@ module _ {A : Type 0} (n : Numbers A) (f : ℕ → A) (text : List ℕ) (part : 
         let p = c .same e s k in
         let r : parsed (p .tree) (drop i text) ≡ parsed e s = rw l at (p .rest) in
         let t : p .tree ≡ e = cc in
-        (p .value ∙ ap (λ y. meaning n f (cut y)) t, cc);
+        (p .value ∙ ap (λ y. meaning n f (cutExpr y)) t, cc);
   }
-
--- ---- an operator in a run
-pub limits-fit : (z : ℤ) → inLimits z ≡ true → SFits w32 z
-unfolding lowest highest
-limits-fit z e = let (a, b) = limits z (subst T (sym e) tt) in omega ints
-
-module _ (o : Operator) (x y : ℤ) where
-  pub run-within : inLimits (operate o x y) ≡ true → (p q : Bool) → cond (p || q) past (number (operate o x y)) ≡ operated o (cond p past (number x)) (cond q past (number y))
-  unfolding operated limited choose
-  run-within h true q = refl
-  run-within h false true = refl
-  run-within h false false = rw h
-
-  pub run-past : inLimits (operate o x y) ≡ false → (p q : Bool) → past ≡ operated o (cond p past (number x)) (cond q past (number y))
-  unfolding operated limited choose
-  run-past h true q = refl
-  run-past h false true = refl
-  run-past h false false = rw h

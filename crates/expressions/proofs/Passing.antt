@@ -13,7 +13,7 @@ use Rattle.rules.specs.Expressions.{Expr, constant, variable, group, apply, Num
 use Rattle.rules.specs.Values.{lowest, highest, inLimits}
 use Rattle.rules.specs.Parse.{Parsed, parsed, shapeless, onward, atEnd, parse, exprIn, readExpression}
 use Rattle.rules.specs.File.{turnOf, firstRefusal, asksSize, asksLeaves, asksExpr}
-use Rattle.expressions.specs.Leaves.{ceiling, cutZ, cut}
+use Rattle.expression_leaves.specs.Leaves.{ceiling, cutZ, cutExpr}
 use Rattle.expressions.specs.Evaluating.{Gives}
 use Rattle.rules.specs.Written.{Passed}
 
@@ -32,8 +32,8 @@ unfolding cutZ ceiling lowest highest
 cut-constant (pos n) h = let (a, b) = limits (pos n) h in ap pos (omega arith)
 cut-constant (negsuc n) h = let (a, b) = limits (negsuc n) h in ap (λ m. negℤ (pos m)) (let e : min (suc n) 2_000_000_001 ≡ suc n = omega arith in e)
 
-cut-same : (vars : ℕ) → vars ≤ 16 → (x : Expr) → asksLeaves vars x ≡ 0 → cut x ≡ x
-unfolding cut asksLeaves ceiling
+cut-same : (vars : ℕ) → vars ≤ 16 → (x : Expr) → asksLeaves vars x ≡ 0 → cutExpr x ≡ x
+unfolding cutExpr asksLeaves ceiling
 cut-same vars f (constant z) e = ap constant (cut-constant z (by (inLimits z) e))
   where
     by : (t : Bool) → _≡_ {A = ℕ} (cond t 0 4) 0 → T t
@@ -53,7 +53,7 @@ record Whole (p : Parsed) : Type 0 where
   tree : Expr
   rest : List ℕ
   same : p ≡ parsed tree rest
-  kept : cut tree ≡ tree
+  kept : cutExpr tree ≡ tree
 
 whole : (p : Parsed) (vars : ℕ) → vars ≤ 16 → asksExpr vars p ≡ 0 → Whole p
 whole (parsed x s) vars f e = record { tree = x; rest = s; same = refl; kept = cut-same vars f x (refusal-none (asksSize x) (asksLeaves vars x) e .1) }

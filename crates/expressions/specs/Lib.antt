@@ -1,4 +1,1 @@
-pub mod Leaves
 pub mod Evaluating
-pub mod Asking
-pub mod Keeping

@@ -4,8 +4,8 @@
 use calls_frames::Frames;
 use calls_frames::Played;
 use loader::SCRATCH;
-use program_parts::Lent;
-use program_parts::Values;
+use program_lists::Lent;
+use program_lists::Values;
 use program_parts::print_text;
 use program_words::Number;
 use rules::Verdict;
@@ -15,14 +15,6 @@ ghost use lib.ListN.{length};
 
 // A call is lent no more scripts.
 const SCRIPTS: usize = 8;
-
-// Keeps the values of a word with commas between them, or none for `-`; the store's 17 places do, as for `rehearse`.
-fn read_values(word: &[u8], store: &mut [i32]) -> Values {
-    if program_words::is_word(word, b"-") {
-        return Values::Count(0);
-    }
-    program_parts::read_values(word, b',', word.len() + 1, store)
-}
 
 // What a script's words are: all three right, or the first wrong one.
 pub enum Words {
@@ -51,19 +43,19 @@ fn wrong(words: Words) -> Part
     }
 }
 
-// Reads the values of argument i, and then all is right.
+// Reads the values of argument i, and then all is right; the store's 17 places do, as for `rehearse`.
 fn read_last(i: usize, file: usize, picks: usize, store: &mut [i32]) -> Part
     ensures { λ r. ⌜ (r .file ≤ file) × (r .picks ≤ picks) × (r .values ≤ length (now (store .entry))) ⌝ }
 {
     let mut word = io::buffer();
     let n = os::arg(i, &mut word);
-    let values = read_values(&word[..n], store);
+    let values = program_lists::read_word_values(&word[..n], store);
     match values {
         Values::Count(count) => Part {
             words: Words::Right,
             file,
             picks,
-            values: program_words::least(count, store.len()),
+            values: min_max::smaller_size(count, store.len()),
         },
         Values::Wrong(at) => wrong(Words::NoValue(at)),
     }
@@ -173,7 +165,7 @@ fn print_scripts(f: Frames, stores: &[i32], lengths: &[usize]) {
     let mut k: usize = 0;
     while k < lengths.len() && k < SCRIPTS {
         let p = scripts[k];
-        let n = program_words::least(lengths[k], stores.len() - at);
+        let n = min_max::smaller_size(lengths[k], stores.len() - at);
         let to = at + n;
         print_script(k, p, &stores[at..to]);
         at = to;
@@ -336,7 +328,7 @@ fn main() {
     let mut word = io::buffer();
     let n = os::arg(1, &mut word);
     let mut prices = [1u32; 4];
-    let lent = program_parts::read_prices(&word[..n], &mut prices);
+    let lent = program_lists::read_prices(&word[..n], &mut prices);
     match lent {
         Lent::Nothing => read_q(1, arguments, &prices),
         Lent::Four => read_q(2, arguments, &prices),

@@ -14,35 +14,35 @@ use Rattle.rules.specs.Scripts.{Script, reportTicks}
 use Rattle.rules.specs.Values.{Store}
 use Rattle.rules.specs.Answers.{storeList}
 use Rattle.rules.specs.Calls.{pricesOf, scratchSize, SameFromAnyScratch}
-use Rattle.rules.specs.Frames
-use Rattle.rules.specs.Frames.{Player, due, Lent, Part, partsOf, Cast, enters, cast, fitting, FramesReply, played, playedBy, framesReply, storesOf, storesAfter, sum}
-use Rattle.rules.specs.InTime.{alone, Accepts, Alone, AllInTime}
-use Rattle.rules.proofs.Frames.{all-in-time}
-use Rattle.rules.proofs.FromBytes.{same-from-any-scratch, store-in}
-use Rattle.rules.proofs.Cut.{cut-length, cut-at}
+use Rattle.rules_frames.specs.Frames
+use Rattle.rules_frames.specs.Frames.{Progress, due, Lent, Part, partsOf, Readiness, enters, readiness, fitting, FramesReply, played, playedBy, framesReply, storesOf, storesAfter, sum}
+use Rattle.rules_frames.specs.InTime.{alone, Accepts, Alone, AllInTime}
+use Rattle.rules_frames.proofs.FramesAsAlone.{all-in-time}
+use Rattle.rules.proofs.Demand3File.{same-from-any-scratch, store-in}
+use Rattle.rules_frames.proofs.Cut.{cut-length, cut-at}
 use Rattle.calls_lists.specs.Parts.{partOf, Fitted}
 use Rattle.calls_lists.proofs.Fits.{fitted}
-use Rattle.calls_lists.proofs.Spans.{part-length}
-use Rattle.calls_scripts.specs.Held.{noPart, noPlayer}
-use Rattle.calls_scripts.proofs.Casting.{plays-at}
+use Rattle.calls_lists.proofs.Extents.{part-length}
+use Rattle.calls_scripts.specs.Held.{noPart, noProgress}
+use Rattle.calls_scripts.proofs.Readiness.{plays-at}
 use Rattle.calls_frames.specs.declared.Frames as code
-use Rattle.calls_frames.specs.Answers.{noAnswer, noFrames, ToldPlayed, noPlayed, ToldFrames, Told, Framed}
+use Rattle.calls_frames.specs.Answers.{noAnswer, noFrames, ToldPlayed, noPlayed, ToldFrames, FramesAnswered, Framed}
 use Rattle.loader.specs.Kept.{verdictNumber, lentVerdict}
 use Rattle.loader.specs.Framing.{framesNumber, mostBy, framesFirst, OnTime, FramedCall}
 use Rattle.loader.proofs.Laws.{lent-no, lent-room}
 
 -- ---- the questions
--- one cast from every scratch that is long enough
-cast-scratch : (prices : List ℕ) (a b : ℕ) → scratchSize ≤ a → scratchSize ≤ b → (hs : List Part) → cast prices a hs ≡ cast prices b hs
-unfolding cast SameFromAnyScratch
+-- one readiness from every scratch that is long enough
+cast-scratch : (prices : List ℕ) (a b : ℕ) → scratchSize ≤ a → scratchSize ≤ b → (hs : List Part) → readiness prices a hs ≡ readiness prices b hs
+unfolding readiness SameFromAnyScratch
 cast-scratch prices a b x y [] = refl
 cast-scratch prices a b x y (h ∷ hs) = λ i. enters (same-from-any-scratch prices a b (h .file) x y i) h (cast-scratch prices a b x y hs i)
 
 -- 1 or 16 has no: so has the first script's
-cast-lent : (prices : List ℕ) (scratch q p : ℕ) → lentVerdict prices scratch ≡ Refused q p → (hs : List Part) → 1 ≤ length hs → cast prices scratch hs ≡ Cast.refuses q p
-unfolding cast enters
+cast-lent : (prices : List ℕ) (scratch q p : ℕ) → lentVerdict prices scratch ≡ Refused q p → (hs : List Part) → 1 ≤ length hs → readiness prices scratch hs ≡ Readiness.refuses q p
+unfolding readiness enters
 cast-lent prices scratch q p e [] l = absurd (omega arith)
-cast-lent prices scratch q p e (h ∷ hs) l = ap (λ j. enters j h (cast prices scratch hs)) (lent-no prices scratch (h .file) e)
+cast-lent prices scratch q p e (h ∷ hs) l = ap (λ j. enters j h (readiness prices scratch hs)) (lent-no prices scratch (h .file) e)
 
 module _ (prices : List ℕ) (scratch : ℕ) (l : Lent) (q : ℕ) where
   pub framed-20 : fitting l q ≡ false → Framed (framesReply prices scratch l q) (l .stores) (l .stores) (noFrames 20 0)
@@ -53,7 +53,7 @@ module _ (prices : List ℕ) (scratch : ℕ) (l : Lent) (q : ℕ) where
     pub fits : Fitted l q
     fits = fitted l q (subst T (sym yes-20) tt)
 
-    reply : framesReply prices scratch l q ≡ playedBy (pricesOf prices) q (cast prices scratch (partsOf l))
+    reply : framesReply prices scratch l q ≡ playedBy (pricesOf prices) q (readiness prices scratch (partsOf l))
     unfolding framesReply
     reply = rw yes-20
 
@@ -64,29 +64,29 @@ module _ (prices : List ℕ) (scratch : ℕ) (l : Lent) (q : ℕ) where
         let no : framesReply prices scratch l q ≡ FramesReply.refuses n p = reply ∙ ap (playedBy (pricesOf prices) q) (cast-lent prices scratch n p e (partsOf l) (omega (arith, fits .some))) in
         rw no (record { told = refl; stores = refl })
 
-    pub framed-yes : lentVerdict prices scratch ≡ Passed → (new : List ℤ) (f : code.Frames) → Framed (playedBy (pricesOf prices) q (cast prices scratchSize (partsOf l))) (l .stores) new f
+    pub framed-yes : lentVerdict prices scratch ≡ Passed → (new : List ℤ) (f : code.Frames) → Framed (playedBy (pricesOf prices) q (readiness prices scratchSize (partsOf l))) (l .stores) new f
         → Framed (framesReply prices scratch l q) (l .stores) new f
     framed-yes e new f h = rw (reply ∙ ap (playedBy (pricesOf prices) q) (cast-scratch prices scratch scratchSize (lent-room prices scratch e) (omega arith) (partsOf l))) h
 
 -- ---- the answer's numbers
-told-number : (f : code.Frames) (r : FramesReply) → Told f r → verdictNumber (f .verdict) ≡ framesNumber r
+told-number : (f : code.Frames) (r : FramesReply) → FramesAnswered f r → verdictNumber (f .verdict) ≡ framesNumber r
 told-number f (played rs m) t = ap verdictNumber (t .verdict)
 told-number f (FramesReply.refuses q p) t = ap (λ (z : code.Frames). verdictNumber (z .verdict)) t
 
-told-first : (f : code.Frames) (r : FramesReply) → Told f r → mostBy (f .verdict) (f .most) ≡ framesFirst r
+told-first : (f : code.Frames) (r : FramesReply) → FramesAnswered f r → mostBy (f .verdict) (f .most) ≡ framesFirst r
 told-first f (played rs m) t = λ i. mostBy (t .verdict i) (t .most i)
 told-first f (FramesReply.refuses q p) t = ap (λ (z : code.Frames). mostBy (z .verdict) (z .most)) t
 
 -- ---- in time
 -- script j of those that are as alone
-alone-at : {π : Prices} {q : ℕ} {hs : List Part} {ps : List Player} {rs : List Frames.Played} → Alone π q hs ps rs → (j : ℕ) → j < length hs
-    → let script : Script = getD ps j noPlayer .script in let h : Part = getD hs j noPart in
+alone-at : {π : Prices} {q : ℕ} {hs : List Part} {ps : List Progress} {rs : List Frames.Played} → Alone π q hs ps rs → (j : ℕ) → j < length hs
+    → let script : Script = getD ps j noProgress .script in let h : Part = getD hs j noPart in
     (f : ℕ) × (1 ≤ f) × (f ≤ due q (reportTicks π script)) × (getD rs j noPlayed ≡ alone π script (h .store) (h .picks) (reportTicks π script) f)
 alone-at Alone.none j l = absurd (omega arith)
 alone-at (Alone.some {f = f} a b rest) zero l = (f, a, b, refl)
 alone-at (Alone.some a b rest) (suc j) l = alone-at rest j (omega arith)
 
-alone-length : {π : Prices} {q : ℕ} {hs : List Part} {ps : List Player} {rs : List Frames.Played} → Alone π q hs ps rs → length rs ≡ length hs
+alone-length : {π : Prices} {q : ℕ} {hs : List Part} {ps : List Progress} {rs : List Frames.Played} → Alone π q hs ps rs → length rs ≡ length hs
 alone-length Alone.none = refl
 alone-length (Alone.some a b rest) = ap suc (alone-length rest)
 
@@ -123,21 +123,21 @@ module _ (prices : List ℕ) (scratch : ℕ) (l : Lent) (q : ℕ) (new : List �
 
   abbrev InTime : Type 0
   InTime =
-      (ps : List Player)
+      (ps : List Progress)
       × Accepts prices scratch (partsOf l) ps
       × ((j : ℕ) → j < length (l .fileLengths)
-      → OnTime π q (getD ps j noPlayer .script) (getD (partsOf l) j noPart) (getD (f .scripts) j noAnswer) (partOf (l .storeLengths) j new))
+      → OnTime π q (getD ps j noProgress .script) (getD (partsOf l) j noPart) (getD (f .scripts) j noAnswer) (partOf (l .storeLengths) j new))
 
   -- 20 has yes
   did-fit : (rs : List Frames.Played) (m : ℕ) → framesReply prices scratch l q ≡ played rs m → Fitted l q
   unfolding framesReply
   did-fit rs m e = by (fitting l q) refl e
     where
-      by : (b : Bool) → fitting l q ≡ b → cond b (playedBy π q (cast prices scratch (partsOf l))) (FramesReply.refuses 20 0) ≡ played rs m → Fitted l q
+      by : (b : Bool) → fitting l q ≡ b → cond b (playedBy π q (readiness prices scratch (partsOf l))) (FramesReply.refuses 20 0) ≡ played rs m → Fitted l q
       by true z e = fits prices scratch l q z
       by false z e = absurd (let y : _≡_ {A = ℕ} 0 1 = cc in omega arith)
 
-  module _ (rs : List Frames.Played) (m : ℕ) (told : ToldFrames f rs m) (kept : new ≡ storesOf rs) (fit : Fitted l q) (ps : List Player) (accepts : Accepts prices scratch (partsOf l) ps)
+  module _ (rs : List Frames.Played) (m : ℕ) (told : ToldFrames f rs m) (kept : new ≡ storesOf rs) (fit : Fitted l q) (ps : List Progress) (accepts : Accepts prices scratch (partsOf l) ps)
       (as-alone : Alone π q (partsOf l) ps rs) where
     count : length (partsOf l) ≡ length (l .fileLengths)
     count = cut-length (l .fileLengths) (l .storeLengths) (l .pickLengths) (l .files) (l .stores) (l .picks) (fit .stores) (fit .picks)
@@ -146,7 +146,7 @@ module _ (prices : List ℕ) (scratch : ℕ) (l : Lent) (q : ℕ) (new : List �
     number = alone-length as-alone ∙ count
 
     abbrev script : ℕ → Script
-    script j = getD ps j noPlayer .script
+    script j = getD ps j noProgress .script
 
     abbrev part : ℕ → Part
     part j = getD (partsOf l) j noPart

@@ -12,7 +12,7 @@ use Rattle.rules.specs.declared.Verdict.the-variants.{Passed, Refused}
 use Rattle.rules.specs.declared.Reply.{Reply}
 use Rattle.rules.specs.File.{fileScript}
 use Rattle.rules.specs.Calls.{Judged, refuses, pricesOf, pricesVerdict, Priced, judgedPriced, scratchSize, judgedFile, judged, replyOf, bufferOf, RunReply, ran, runReply, storeAfter}
-use Rattle.rules.proofs.FromBytes.{demand3-call}
+use Rattle.rules.proofs.Demand3File.{demand3-call}
 use Rattle.calls.specs.Told.{MeasuredAs, Told, Ran, ToldNo}
 use Rattle.calls.specs.declared.Measured.{Measured}
 use Rattle.calls.specs.declared.Outcome.{Outcome}

@@ -9,10 +9,10 @@ use Rattle.rules.specs.declared.Verdict.the-variants.{Passed, Refused}
 use Rattle.rules.specs.declared.Prices.{Prices}
 use Rattle.rules.specs.Scripts.{Script, reportTicks}
 use Rattle.rules.specs.Calls.{pricesOf}
-use Rattle.rules.specs.Frames.{Player, due, Lent, Part, partsOf, FramesReply, played, refuses, framesReply}
-use Rattle.rules.specs.InTime.{alone, Accepts}
+use Rattle.rules_frames.specs.Frames.{Progress, due, Lent, Part, partsOf, FramesReply, played, refuses, framesReply}
+use Rattle.rules_frames.specs.InTime.{alone, Accepts}
 use Rattle.calls_lists.specs.Parts.{partOf}
-use Rattle.calls_scripts.specs.Held.{noPart, noPlayer}
+use Rattle.calls_scripts.specs.Held.{noPart, noProgress}
 use Rattle.calls_frames.specs.declared.Played.{Played}
 use Rattle.calls_frames.specs.declared.Frames.{Frames}
 use Rattle.calls_frames.specs.Answers.{noAnswer, ToldPlayed, Framed}
@@ -23,10 +23,12 @@ abbrev pub framesNumber : FramesReply → ℕ
 framesNumber (played rs m) = 0
 framesNumber (refuses q p) = q
 
+-- that number of an answer of code
 abbrev pub mostBy : Verdict → ℕ → ℕ
 mostBy Passed m = m
 mostBy (Refused q p) m = p
 
+-- that number of a reply
 abbrev pub framesFirst : FramesReply → ℕ
 framesFirst (played rs m) = m
 framesFirst (refuses q p) = p
@@ -43,7 +45,7 @@ pub record FramedCall (prices : List ℕ) (scratch : ℕ) (l : Lent) (q : ℕ) (
   pub number : verdictNumber (f .verdict) ≡ framesNumber (framesReply prices scratch l q)
   pub first : mostBy (f .verdict) (f .most) ≡ framesFirst (framesReply prices scratch l q)
   pub in-time : f .verdict ≡ Passed
-      → (ps : List Player)
+      → (ps : List Progress)
       × Accepts prices scratch (partsOf l) ps
       × ((j : ℕ) → j < length (l .fileLengths)
-      → OnTime (pricesOf prices) q (getD ps j noPlayer .script) (getD (partsOf l) j noPart) (getD (f .scripts) j noAnswer) (partOf (l .storeLengths) j new))
+      → OnTime (pricesOf prices) q (getD ps j noProgress .script) (getD (partsOf l) j noPart) (getD (f .scripts) j noAnswer) (partOf (l .storeLengths) j new))

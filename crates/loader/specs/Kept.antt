@@ -29,6 +29,7 @@ abbrev pub numberOf : Reply → ℕ
 numberOf (Accepted n) = 0
 numberOf (Reply.Refused q p) = q
 
+-- the length, or the place
 abbrev pub placeOf : Reply → ℕ
 placeOf (Accepted n) = n
 placeOf (Reply.Refused q p) = p
@@ -38,6 +39,7 @@ abbrev pub verdictNumber : Verdict → ℕ
 verdictNumber Passed = 0
 verdictNumber (Verdict.Refused q p) = q
 
+-- the ending's number, or a refusal's place
 abbrev pub firstBy : Verdict → Ending → ℕ
 firstBy Passed ending = endingNumber ending
 firstBy (Verdict.Refused q p) ending = p
@@ -47,6 +49,7 @@ abbrev pub runNumber : RunReply → ℕ
 runNumber (ran a counts) = 0
 runNumber (refuses q p) = q
 
+-- the ending's number, or a refusal's place
 abbrev pub runFirst : RunReply → ℕ
 runFirst (ran a counts) = endingNumber (a .ending)
 runFirst (refuses q p) = p

@@ -1,14 +1,10 @@
-// What the programs share: files by name, prices, lists of lines, and what is printed.
+// What the programs share: files by name, lists of lines, and what is printed.
 mod lines;
-mod prices;
 mod print;
 mod script;
 
 pub use lines::Line;
 pub use lines::answer_input;
-pub use lines::read_values;
-pub use prices::Lent;
-pub use prices::read_prices;
 pub use print::print_front;
 pub use print::print_number;
 pub use print::print_outcome;
@@ -18,7 +14,6 @@ pub use print::print_wrong_picks;
 pub use print::print_wrong_prices;
 pub use print::print_wrong_value;
 pub use script::Input;
-pub use script::Values;
 pub use script::cannot_read;
 pub use script::read_all;
 pub use script::read_file;

@@ -1,15 +1,14 @@
 // Lists on standard input, one file or one run a line.
-use crate::prices::Lent;
-use crate::prices::read_prices;
 use crate::print::print_text;
 use crate::print::print_wrong_prices;
-use crate::script::Values;
 use crate::script::rehearse_file;
 use crate::script::report_file;
 use bytes::scan::find;
 use libc::STDIN_FILENO;
-use program_words::keep_value;
-ghost use Prim.Native.Nat.{_+_, _≤_};
+use program_lists::Lent;
+use program_lists::read_line_values;
+use program_lists::read_prices;
+ghost use Prim.Native.Nat.{_≤_};
 ghost use lib.ListN.{length};
 
 // What a line is: the name of a file to report, or a run, `[prices=A,C,P,T] NAME ALLOWANCE PICKS VALUE ..`.
@@ -26,27 +25,10 @@ fn next(line: &[u8], end: usize) -> usize
     if end < line.len() { end + 1 } else { end }
 }
 
-// Keeps the values of a list, with a separator between them; the last of them begins before `stop`.
-pub fn read_values(list: &[u8], separator: u8, stop: usize, store: &mut [i32]) -> Values
-    requires { ⌜ stop ≤ length (now list) + 1 ⌝ }
-{
-    let mut at = 0;
-    let mut count = 0;
-    while at < stop {
-        let end = find(list, at, list.len(), separator);
-        if !keep_value(&list[at..end], store, count) {
-            return Values::Wrong(count);
-        }
-        count += 1;
-        at = end + 1;
-    }
-    Values::Count(count)
-}
-
 // Makes the run of a line under prices, from its name, allowance, picks and values.
 fn run_words(name: &[u8], prices: &[u32], allowance: &[u8], picks: &[u8], words: &[u8]) {
     let mut store = [0i32; 17];
-    let values = read_values(words, b' ', words.len(), &mut store);
+    let values = read_line_values(words, &mut store);
     rehearse_file(name, prices, allowance, picks, values, &mut store);
 }
 

@@ -8,19 +8,14 @@ use crate::print::print_wrong_value;
 use libc::STDIN_FILENO;
 use loader::REPORT;
 use loader::SCRATCH;
+use min_max::smaller_size;
+use program_lists::Values;
 use program_words::Number;
 use program_words::allowance;
-use program_words::least;
 use program_words::pick_count;
 use program_words::put_picks;
 use rules::Reply;
 ghost use Rattle.io.specs.Counts.{Counts};
-
-// How many words are values of the store, or the index of one that is none.
-pub enum Values {
-    Count(usize),
-    Wrong(usize),
-}
 
 // How many bytes were read, and whether a read failed.
 pub struct Input {
@@ -177,7 +172,7 @@ pub fn rehearse_file(
 ) {
     match values {
         Values::Count(count) => {
-            let kept = least(count, store.len());
+            let kept = smaller_size(count, store.len());
             run_allowed(path, prices, allowed, word, &mut store[..kept]);
         }
         Values::Wrong(at) => print_wrong_value(at),

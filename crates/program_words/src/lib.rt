@@ -1,4 +1,5 @@
 // Numbers, prices and picks as words. A number is written as in a script: no plus, no leading zeros, `-` only before a non-zero number.
+use min_max::smaller_size;
 use reading_text::starts_with;
 ghost use mathlib.Core.Path.{_≡_};
 ghost use mathlib.Core.Bool.{true, cond};
@@ -176,18 +177,11 @@ fn is_none(word: &[u8]) -> bool
     is_word(word, b"-")
 }
 
-// The smaller number.
-pub fn least(a: usize, b: usize) -> usize
-    ensures { λ r. ⌜ r ≡ min a b ⌝ }
-{
-    if a < b { a } else { b }
-}
-
 // The first bytes of room, at most n.
 pub fn within(n: usize, room: &[u8]) -> usize
     ensures { λ r. ⌜ r ≡ min n (length (now (room .entry))) ⌝ }
 {
-    least(n, room.len())
+    smaller_size(n, room.len())
 }
 
 // How many picks a word has, as far as there is room.

@@ -20,6 +20,7 @@ unfoldable pub openBlocks : ℕ → List ℕ → List Open
 openBlocks zero kinds = []
 openBlocks (suc d) kinds = openOf (getD kinds d 0) ∷ openBlocks d kinds
 
+-- the open blocks and the loops so far
 unfoldable pub nestOf : Blocks → Nest
 nestOf b = record { open-blocks = openBlocks (b .depth) (b .kinds); loops = b .loops }
 

@@ -1,19 +1,16 @@
--- Laws of the questions on words. Assumes nothing.
+-- Laws of a row's words. Assumes nothing.
 use mathlib.Core.Path.{_≡_, refl, sym, ap, _∙_, fun-ext}
-use mathlib.Core.Bool.{Bool, true, false, cond, _&&_}
+use mathlib.Core.Bool.{Bool, true, false, cond}
 use mathlib.Core.List.{List, [], _∷_}
 use Prim.Native.Nat.{ℕ, zero, suc, _+_, _-_, _≤_, _<_}
 use native.Mathlib.Omega.{arith}
 use lib.Dec.{ltb}
-use lib.IntN.{ℤ, pos}
+use lib.IntN.{ℤ}
 use lib.ListN.{length, getD, take, drop, length-drop}
 use lib.Seq.{drop-drop}
-use lib.Signed.{leZ, _≤ℤ_}
-use types.Run.{OneOf, miss}
+use types.Run.{OneOf}
 use denote.Enum.Declared.{tagOf}
 use borrow.Author.Tests.{ltb-true, ltb-false}
-use Rattle.ints.proofs.Parts.{ints}
-use Rattle.rules.specs.declared.Change.{Change}
 use Rattle.rules.specs.declared.Comparison.{Comparison}
 use Rattle.rules.specs.declared.Kind.{Kind}
 use Rattle.rules.specs.declared.Name.{Name}
@@ -26,22 +23,19 @@ use Rattle.rules.specs.Text.{wordOf, wordsOf}
 use Rattle.rules.specs.Parse.{Parsed, parsed, shapeless, parse, exprIn, depth, operators}
 use Rattle.rules.specs.Values.{lowest, highest}
 use Rattle.rules.specs.Written.{Composed, InText, WrittenOperand, Written}
-use Rattle.rules.specs.File.{RowRead, Read, Wrong, firstRefusal, asksEnd, asksNumber, asksVariable, asksSize, asksLeaves, asksExpr, asksChange, asksStep, asksOne, asksTest, asksFor, checked, variableOf, comparisonOf, numberOf, changeOf, stepOf, setRow, moveRow, offRow, cueRow, bareRow, whileRow, doRow, forRow, holdRow, namedRow, firstWord, wordsRow, rowOf}
-use Rattle.rules.proofs.Name.{the-type}
+use Rattle.rules.specs.File.{RowRead, Read, Wrong, firstRefusal, asksEnd, asksNumber, asksVariable, asksSize, asksLeaves, asksExpr, asksStep, asksTest, asksFor, checked, variableOf, comparisonOf, setRow, moveRow, offRow, cueRow, bareRow, whileRow, doRow, forRow, holdRow, namedRow, firstWord, wordsRow, rowOf}
 use Rattle.rules.proofs.Word as word
-use Rattle.rules.proofs.Reading.{variable-yes, number-yes, refusal-yes}
-use Rattle.expressions.proofs.Bare.{bare, bareIn}
-use Rattle.expressions.proofs.Words.{Alone, alone, parse-none}
-use Rattle.reading_text.specs.Words.{before, cut, parts, following, spelling, Next}
-use Rattle.reading_text.specs.declared.Found.{Found}
+use Rattle.rules.proofs.ReadLegal.{refusal-yes}
+use Rattle.reading_rows.proofs.Bare.{bare, bareIn}
+use Rattle.reading_rows.proofs.Words.{Alone, alone}
+use Rattle.reading_text.specs.Words.{before, cutWord, parts, following, spelling, Next}
+use Rattle.reading_text.specs.declared.WordFound.{WordFound}
 use Rattle.reading_text.proofs.Line.{Says, says-word, Reached, reach-text, reach-end, ends-within}
 use Rattle.reading_text.proofs.Cut.{lowest-below, cut-number, cut-number-of, cut-variable, cut-variable-of, row-cut}
 use Rattle.reading_rows.specs.declared.Line.{Line}
-use Rattle.reading_rows.specs.Words.{after, exprs, textIn, Means, Small, operandAt, Bare, Rowed, Lined}
-
--- a variable that passes question 5 is small
-pub small-variable : (vars v : ℕ) → vars ≤ 16 → asksVariable vars (Variable v) ≡ 0 → v < 256
-small-variable vars v h e = omega (arith, variable-yes vars (Variable v) e)
+use Rattle.reading_rows.specs.Rows.{after, exprs, Bare, Rowed, WordsRead}
+use Rattle.reading_words.specs.Words.{textIn, Means, Small, operandAt}
+use Rattle.reading_words.proofs.Laws.{small-variable, no-keyword, no-keywords, none-asks, parse-none}
 
 -- a row that is read, or not
 pub checked-read : (q Q : ℕ) (k r : RowKind) → q ≡ Q → q ≡ 0 → k ≡ r → Read k ≡ checked Q r
@@ -53,99 +47,6 @@ pub checked-wrong : (q Q : ℕ) (r : RowKind) → q ≡ Q → (q ≡ 0 → ⊥) 
 unfolding checked
 checked-wrong q zero r e n = absurd (n e)
 checked-wrong q (suc Q) r e n = ap Wrong e
-
--- the number 1
-pub one-yes : (z : ℤ) (q : ℕ) → q ≡ asksNumber (pos 1) (pos 1) (Number z) → q ≡ 0 → 0 ≡ asksOne (Number z)
-one-yes z q e h = go (leZ (pos 1) z && leZ z (pos 1)) e
-  where
-    go : (b : Bool) → q ≡ cond b 0 4 → _≡_ {A = ℕ} 0 (cond b 0 3)
-    go true f = refl
-    go false f = absurd (omega arith)
-
-pub one-no : (z : ℤ) (q : ℕ) → q ≡ asksNumber (pos 1) (pos 1) (Number z) → (q ≡ 0 → ⊥) → 3 ≡ asksOne (Number z)
-one-no z q e h = go (leZ (pos 1) z && leZ z (pos 1)) e
-  where
-    go : (b : Bool) → q ≡ cond b 0 4 → _≡_ {A = ℕ} 3 (cond b 0 3)
-    go true f = absurd (h f)
-    go false f = refl
-
--- a number inside limits is inside wider ones
-pub number-wider : (lo hi low high : ℤ) (w : Word) → low ≤ℤ lo → hi ≤ℤ high → asksNumber lo hi w ≡ 0 → asksNumber low high w ≡ 0
-number-wider lo hi low high Missing a b e = e
-number-wider lo hi low high (Number z) a b e =
-    let (c, d) = number-yes lo hi (Number z) e in
-    let f : leZ low z ≡ true = omega ints in
-    let g : leZ z high ≡ true = omega ints in
-    rw (f, g)
-number-wider lo hi low high (Variable v) a b e = e
-number-wider lo hi low high (Compares c) a b e = e
-number-wider lo hi low high (Keyword n) a b e = e
-number-wider lo hi low high Other a b e = e
-
--- the names that are no arithmetic row's, by their places in `Name`
-abbrev others : List ℕ
-others = 0 ∷ 5 ∷ 6 ∷ 7 ∷ 8 ∷ 9 ∷ 10 ∷ 11 ∷ 12 ∷ 13 ∷ []
-
-pub no-change : (n : Name) (w : Word) → OneOf others (tagOf the-type n) → (3 ≡ asksChange n w) × (Change.Add 0 ≡ changeOf n w)
-no-change Name.Set w o = (refl, refl)
-no-change Name.Add w o = absurd (miss others 1 tt o)
-no-change Name.Sub w o = absurd (miss others 2 tt o)
-no-change Name.Mul w o = absurd (miss others 3 tt o)
-no-change Name.Div w o = absurd (miss others 4 tt o)
-no-change Name.Off w o = (refl, refl)
-no-change Name.Cue w o = (refl, refl)
-no-change Name.Pick w o = (refl, refl)
-no-change Name.Else w o = (refl, refl)
-no-change Name.End w o = (refl, refl)
-no-change Name.While w o = (refl, refl)
-no-change Name.Do w o = (refl, refl)
-no-change Name.For w o = (refl, refl)
-no-change Name.Hold w o = (refl, refl)
-
--- words of other kinds than the one that is asked for, by their places in `Word`
-abbrev no-numbers : List ℕ
-no-numbers = 0 ∷ 2 ∷ 3 ∷ 4 ∷ 5 ∷ []
-
-pub no-number : (w : Word) → OneOf no-numbers (tagOf word.the-type w) → ((lo hi : ℤ) → 3 ≡ asksNumber lo hi w) × (3 ≡ asksOne w) × (pos 0 ≡ numberOf w)
-no-number Missing o = (λ _ _. refl, refl, refl)
-no-number (Number z) o = absurd (miss no-numbers 1 tt o)
-no-number (Variable v) o = (λ _ _. refl, refl, refl)
-no-number (Compares c) o = (λ _ _. refl, refl, refl)
-no-number (Keyword n) o = (λ _ _. refl, refl, refl)
-no-number Other o = (λ _ _. refl, refl, refl)
-
-abbrev no-variables : List ℕ
-no-variables = 0 ∷ 1 ∷ 3 ∷ 4 ∷ 5 ∷ []
-
-pub no-variable : (w : Word) → OneOf no-variables (tagOf word.the-type w) → ((vars : ℕ) → 3 ≡ asksVariable vars w) × (0 ≡ variableOf w)
-no-variable Missing o = (λ _. refl, refl)
-no-variable (Number z) o = (λ _. refl, refl)
-no-variable (Variable v) o = absurd (miss no-variables 2 tt o)
-no-variable (Compares c) o = (λ _. refl, refl)
-no-variable (Keyword n) o = (λ _. refl, refl)
-no-variable Other o = (λ _. refl, refl)
-
-abbrev no-operands : List ℕ
-no-operands = 0 ∷ 3 ∷ 4 ∷ 5 ∷ []
-
-pub no-operand : (base at end : ℕ) (w : Word) → OneOf no-operands (tagOf word.the-type w) → Operand.Expression (base + (at + 1)) (end - (at + 1)) ≡ operandAt base at end w
-no-operand base at end Missing o = refl
-no-operand base at end (Number z) o = absurd (miss no-operands 1 tt o)
-no-operand base at end (Variable v) o = absurd (miss no-operands 2 tt o)
-no-operand base at end (Compares c) o = refl
-no-operand base at end (Keyword n) o = refl
-no-operand base at end Other o = refl
-
-abbrev no-keywords : List ℕ
-no-keywords = 0 ∷ 1 ∷ 2 ∷ 3 ∷ 5 ∷ []
-
-pub no-keyword : (w : Word) → OneOf no-keywords (tagOf word.the-type w) → ((x : Word) → (3 ≡ asksStep w x) × (Change.Add 0 ≡ stepOf w x)) × ((vars : ℕ) (ws : ℕ → Word) (xs : ℕ → Parsed) → Wrong 3 ≡ firstWord vars ws xs w)
-no-keyword Missing o = (λ _. (refl, refl), λ _ _ _. refl)
-no-keyword (Number z) o = (λ _. (refl, refl), λ _ _ _. refl)
-no-keyword (Variable v) o = (λ _. (refl, refl), λ _ _ _. refl)
-no-keyword (Compares c) o = (λ _. (refl, refl), λ _ _ _. refl)
-no-keyword (Keyword n) o = absurd (miss no-keywords 4 tt o)
-no-keyword Other o = (λ _. (refl, refl), λ _ _ _. refl)
 
 -- a row's words, whose questions all have yes: of two words, of a test, of four words, of a for
 pub two-yes : (a b c q : ℕ) → q ≡ firstRefusal a (firstRefusal b c) → q ≡ 0 → (a ≡ 0) × (b ≡ 0) × (c ≡ 0)
@@ -195,8 +96,8 @@ neither vars (parsed (group x) s) e z = tt
 neither vars (parsed (apply o x y) s) e z = tt
 neither vars shapeless e z = absurd (omega arith)
 
-by-word : (vars : ℕ) → vars ≤ 16 → (w : Word) (p : Parsed) → Alone w p → Means vars (cut w) p
-unfolding cut
+by-word : (vars : ℕ) → vars ≤ 16 → (w : Word) (p : Parsed) → Alone w p → Means vars (cutWord w) p
+unfolding cutWord
 by-word vars few Missing p e = neither vars p e
 by-word vars few (Number z) p e =
     let f : asksExpr vars p ≡ asksNumber lowest highest (Number z) = rw e (constant-asks vars z) in
@@ -208,23 +109,16 @@ by-word vars few (Compares c) p e = neither vars p e
 by-word vars few (Keyword n) p e = neither vars p e
 by-word vars few Other p e = neither vars p e
 
-means-of : (vars : ℕ) → vars ≤ 16 → (texts : List (List ℕ)) (k : ℕ) → Means vars (cut (wordsOf texts k)) (parse (getD texts k []))
+means-of : (vars : ℕ) → vars ≤ 16 → (texts : List (List ℕ)) (k : ℕ) → Means vars (cutWord (wordsOf texts k)) (parse (getD texts k []))
 unfolding wordsOf
 means-of vars few [] k = by-word vars few Missing (parse []) (unfold bareIn in rw parse-none)
 means-of vars few (w ∷ ws) zero = by-word vars few (wordOf w) (parse w) (alone w)
 means-of vars few (w ∷ ws) (suc k) = means-of vars few ws k
 
 -- of the word k after a text's first byte
-pub means : (vars : ℕ) → vars ≤ 16 → (s : List ℕ) (k : ℕ) (w : Word) (t : List ℕ) → w ≡ cut (following s k) → spelling s k ≡ t → Means vars w (parse t)
+pub means : (vars : ℕ) → vars ≤ 16 → (s : List ℕ) (k : ℕ) (w : Word) (t : List ℕ) → w ≡ cutWord (following s k) → spelling s k ≡ t → Means vars w (parse t)
 unfolding following spelling
 means vars few s k w t e f = rw (e, ← f) (means-of vars few (parts s) k)
-
--- an empty text passes no question
-none-asks : (s : List ℕ) (at end vars : ℕ) → end ≤ at → asksExpr vars (parse (textIn s at end)) ≡ 3
-none-asks s at end vars h = let e : end - (at + 1) ≡ 0 = omega arith in rw (e, parse-none)
-
-pub no-text : (s : List ℕ) (at end vars : ℕ) → end ≤ at → 3 ≡ asksExpr vars (parse (textIn s at end))
-no-text s at end vars h = sym (none-asks s at end vars h)
 
 -- a word that has passed, with its bytes in the line's text s
 module _ (s : List ℕ) (at base end vars : ℕ) (w : Word) (long : end ≤ length s) (few : vars ≤ 16) (m : Means vars w (parse (textIn s at end))) (z : asksExpr vars (parse (textIn s at end)) ≡ 0) where
@@ -277,7 +171,7 @@ pub record Spelled (s : List ℕ) (at k vars p end : ℕ) (w : Word) : Type 0 wh
   pub long : end ≤ length s
   pub few : vars ≤ 16
 
-pub spelled : (s : List ℕ) (at k p vars : ℕ) → Reached s at k p → vars ≤ 16 → (r : Found) → Next s p r → (w : Word) → w ≡ cut (following (drop at s) k) → Spelled s at k vars p (r .end) w
+pub spelled : (s : List ℕ) (at k p vars : ℕ) → Reached s at k p → vars ≤ 16 → (r : WordFound) → Next s p r → (w : Word) → w ≡ cutWord (following (drop at s) k) → Spelled s at k vars p (r .end) w
 spelled s at k p vars h few r n w e =
     let t = reach-text s at k p h r n in
     record { text = t; means = means vars few (drop at s) k w _ e t; long = omega (arith, ends-within s (r .end) (n .ends)); few = few }
@@ -299,10 +193,10 @@ module _ {s : List ℕ} {at k vars p end : ℕ} {w : Word} (t : Spelled s at k v
 -- ---- a row's line, whose words are read up to the byte p
 module _ (s : List ℕ) (at m p base : ℕ) (f : (ℕ → Word) → (ℕ → Parsed) → RowRead) (h : Reached s at m p) where
   pub lined-read : (k : Kind) → ((file : List ℕ) → drop base file ≡ s → (Read (kindOf file k) ≡ f (after Missing (drop at s)) (exprs shapeless (drop at s))) × Written file k)
-      → asksEnd (after Missing (drop at s) (suc m)) ≡ 0 → Lined s at base f (Line.Read k p)
+      → asksEnd (after Missing (drop at s) (suc m)) ≡ 0 → WordsRead s at base f (Line.Read k p)
   lined-read k e z = record { line = λ file d. e file d .0; written = λ file d. e file d .1; ends = reach-end s at m p h z }
 
-pub lined-wrong : (s : List ℕ) (at base : ℕ) (f : (ℕ → Word) → (ℕ → Parsed) → RowRead) (q : ℕ) → Wrong q ≡ f (after Missing (drop at s)) (exprs shapeless (drop at s)) → Lined s at base f (Line.Wrong q)
+pub lined-wrong : (s : List ℕ) (at base : ℕ) (f : (ℕ → Word) → (ℕ → Parsed) → RowRead) (q : ℕ) → Wrong q ≡ f (after Missing (drop at s)) (exprs shapeless (drop at s)) → WordsRead s at base f (Line.Wrong q)
 lined-wrong s at base f q e = record { line = λ file d. e; written = λ file d. tt; ends = tt }
 
 -- a row without words says the same in each text
@@ -358,7 +252,7 @@ named-after vars x p s Name.For = refl
 named-after vars x p s Name.Hold = refl
 
 -- the row of a line from its first word x
-module _ (s : List ℕ) (at base vars : ℕ) (f : Found) (n : Next s at f) (few : vars ≤ 16) (x : Word) (said : Says f x) where
+module _ (s : List ℕ) (at base vars : ℕ) (f : WordFound) (n : Next s at f) (few : vars ≤ 16) (x : Word) (said : Says f x) where
   abbrev first : Parsed
   first = parse (spelling (drop at s) 0)
 
@@ -374,15 +268,15 @@ module _ (s : List ℕ) (at base vars : ℕ) (f : Found) (n : Next s at f) (few 
   unfolding rowOf following
   whole = ap (wordsRow vars (after x (drop (f .end) s))) texts ∙ row-cut vars (after x (drop (f .end) s)) (following (drop at s)) _ few words
     where
-      words : (k : ℕ) → k < 8 → after x (drop (f .end) s) k ≡ cut (following (drop at s) k)
+      words : (k : ℕ) → k < 8 → after x (drop (f .end) s) k ≡ cutWord (following (drop at s) k)
       words zero h = says-word f x said ∙ n .word
-      words (suc k) h = ap cut (sym (n .more k))
+      words (suc k) h = ap cutWord (sym (n .more k))
 
   pub row-other : OneOf no-keywords (tagOf word.the-type x) → Rowed s base (rowOf vars (parts (drop at s))) (at + before 10 (drop at s)) (Line.Wrong 3)
   unfolding wordsRow
   row-other o = record { line = λ file d. no-keyword x o .1 vars (after x (drop (f .end) s)) (exprs first (drop (f .end) s)) ∙ whole; written = λ file d. tt; ends = tt }
 
-  pub row-named : (name : Name) (r : Line) → x ≡ Keyword name → Lined s (f .end) base (λ w y. namedRow vars w y name) r → Rowed s base (rowOf vars (parts (drop at s))) (at + before 10 (drop at s)) r
+  pub row-named : (name : Name) (r : Line) → x ≡ Keyword name → WordsRead s (f .end) base (λ w y. namedRow vars w y name) r → Rowed s base (rowOf vars (parts (drop at s))) (at + before 10 (drop at s)) r
   unfolding wordsRow
   row-named name r e l =
       let same : namedRow vars (after Missing (drop (f .end) s)) (exprs shapeless (drop (f .end) s)) name ≡ rowOf vars (parts (drop at s)) =

@@ -1,2 +1,2 @@
--- What the contracts on a row's words cite.
-pub mod Words
+-- What the contracts on a row's line cite.
+pub mod Rows

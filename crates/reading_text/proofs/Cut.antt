@@ -17,8 +17,10 @@ use Rattle.rules.specs.Blocks.{RowKind}
 use Rattle.rules.specs.Parse.{Parsed}
 use Rattle.rules.specs.File
 use Rattle.rules.specs.File.{Read}
-use Rattle.rules.proofs.Reading.{refusal-yes, number-yes, variable-yes}
-use Rattle.reading_text.specs.Words.{ceiling, cutZ, cut}
+use Rattle.rules.proofs.Laws.{no-true}
+use Rattle.rules.proofs.ReadLegal.{refusal-yes, number-yes, variable-yes}
+use Rattle.expression_leaves.specs.Leaves.{ceiling, cutZ}
+use Rattle.reading_text.specs.Words.{cutWord}
 
 -- limits inside the ceiling
 pub record Below (lo hi : ℤ) : Type 0 where
@@ -39,7 +41,7 @@ same-test false false f g = refl
 
 both-true : (s t : Bool) → (s && t) ≡ true → (s ≡ true) × (t ≡ true)
 both-true true t e = (refl, e)
-both-true false t e = let z : _≡_ {A = ℕ} 0 1 = cc in absurd (omega arith)
+both-true false t e = no-true e
 
 -- a number between limits is not cut, and only such a number is between them when cut
 inside-same : (lo hi z : ℤ) → Below lo hi → (leZ lo (cutZ z) && leZ (cutZ z) hi) ≡ (leZ lo z && leZ z hi)
@@ -54,90 +56,56 @@ below-same vars v h = same-test _ _
     (λ e. lt-ltb v vars (let l = ltb-true (min v 2_000_000_001) vars e in omega arith))
     (λ e. lt-ltb (min v 2_000_000_001) vars (let l = ltb-true v vars e in omega arith))
 
--- a number from lo to hi
-pub cut-number : (lo hi : ℤ) (w : Word) → Below lo hi → File.asksNumber lo hi (cut w) ≡ File.asksNumber lo hi w
-unfolding cut
-cut-number lo hi Missing b = refl
-cut-number lo hi (Number z) b = ap (λ t. cond t 0 4) (inside-same lo hi z b)
-cut-number lo hi (Variable v) b = refl
-cut-number lo hi (Compares c) b = refl
-cut-number lo hi (Keyword n) b = refl
-cut-number lo hi Other b = refl
+-- what holds of every word beside itself, of a number cut off and of a variable cut off, holds of every word cut off
+cut-all : (R : Word → Word → Type 0) → ((w : Word) → R w w) → ((z : ℤ) → R (Number (cutZ z)) (Number z)) → ((v : ℕ) → R (Variable (min v ceiling)) (Variable v)) → (w : Word) → R (cutWord w) w
+unfolding cutWord
+cut-all R same number variable Missing = same Missing
+cut-all R same number variable (Number z) = number z
+cut-all R same number variable (Variable v) = variable v
+cut-all R same number variable (Compares c) = same (Compares c)
+cut-all R same number variable (Keyword n) = same (Keyword n)
+cut-all R same number variable Other = same Other
 
-pub cut-number-of : (lo hi : ℤ) (w : Word) → Below lo hi → File.asksNumber lo hi w ≡ 0 → File.numberOf (cut w) ≡ File.numberOf w
-unfolding cut
-cut-number-of lo hi Missing b e = refl
-cut-number-of lo hi (Number z) b e = let (l, h) = number-yes lo hi (Number z) e in omega (ints, cut-parts z, lone z)
-cut-number-of lo hi (Variable v) b e = refl
-cut-number-of lo hi (Compares c) b e = refl
-cut-number-of lo hi (Keyword n) b e = refl
-cut-number-of lo hi Other b e = refl
+-- what looks at no number
+cut-plain : {A : Type 0} (f : Word → A) → ((z : ℤ) → f (Number (cutZ z)) ≡ f (Number z)) → ((v : ℕ) → f (Variable (min v ceiling)) ≡ f (Variable v)) → (w : Word) → f (cutWord w) ≡ f w
+cut-plain f number variable w = cut-all (λ x y. f x ≡ f y) (λ x. refl) number variable w
+
+-- a number from lo to hi
+pub cut-number : (lo hi : ℤ) (w : Word) → Below lo hi → File.asksNumber lo hi (cutWord w) ≡ File.asksNumber lo hi w
+cut-number lo hi w b = cut-plain (File.asksNumber lo hi) (λ z. ap (λ t. cond t 0 4) (inside-same lo hi z b)) (λ v. refl) w
+
+pub cut-number-of : (lo hi : ℤ) (w : Word) → Below lo hi → File.asksNumber lo hi w ≡ 0 → File.numberOf (cutWord w) ≡ File.numberOf w
+cut-number-of lo hi w b =
+    cut-all (λ x y. File.asksNumber lo hi y ≡ 0 → File.numberOf x ≡ File.numberOf y) (λ x e. refl)
+    (λ z e. let (l, h) = number-yes lo hi (Number z) e in omega (ints, cut-parts z, lone z)) (λ v e. refl) w
 
 -- words with no number
-pub cut-end : (w : Word) → File.asksEnd (cut w) ≡ File.asksEnd w
-unfolding cut
-cut-end Missing = refl
-cut-end (Number z) = refl
-cut-end (Variable v) = refl
-cut-end (Compares c) = refl
-cut-end (Keyword n) = refl
-cut-end Other = refl
+pub cut-end : (w : Word) → File.asksEnd (cutWord w) ≡ File.asksEnd w
+cut-end w = cut-plain File.asksEnd (λ z. refl) (λ v. refl) w
 
-pub cut-comparison : (w : Word) → File.asksComparison (cut w) ≡ File.asksComparison w
-unfolding cut
-cut-comparison Missing = refl
-cut-comparison (Number z) = refl
-cut-comparison (Variable v) = refl
-cut-comparison (Compares c) = refl
-cut-comparison (Keyword n) = refl
-cut-comparison Other = refl
+pub cut-comparison : (w : Word) → File.asksComparison (cutWord w) ≡ File.asksComparison w
+cut-comparison w = cut-plain File.asksComparison (λ z. refl) (λ v. refl) w
 
-pub cut-ordered : (w : Word) → File.asksOrdered (cut w) ≡ File.asksOrdered w
-unfolding cut
-cut-ordered Missing = refl
-cut-ordered (Number z) = refl
-cut-ordered (Variable v) = refl
-cut-ordered (Compares c) = refl
-cut-ordered (Keyword n) = refl
-cut-ordered Other = refl
+pub cut-ordered : (w : Word) → File.asksOrdered (cutWord w) ≡ File.asksOrdered w
+cut-ordered w = cut-plain File.asksOrdered (λ z. refl) (λ v. refl) w
 
-pub cut-comparison-of : (w : Word) → File.comparisonOf (cut w) ≡ File.comparisonOf w
-unfolding cut
-cut-comparison-of Missing = refl
-cut-comparison-of (Number z) = refl
-cut-comparison-of (Variable v) = refl
-cut-comparison-of (Compares c) = refl
-cut-comparison-of (Keyword n) = refl
-cut-comparison-of Other = refl
+pub cut-comparison-of : (w : Word) → File.comparisonOf (cutWord w) ≡ File.comparisonOf w
+cut-comparison-of w = cut-plain File.comparisonOf (λ z. refl) (λ v. refl) w
 
 -- the script number
-pub cut-one : (w : Word) → File.asksOne (cut w) ≡ File.asksOne w
-unfolding cut
-cut-one Missing = refl
-cut-one (Number z) = ap (λ t. cond t 0 3) (inside-same (pos 1) (pos 1) z (record { low = omega ints; high = omega ints }))
-cut-one (Variable v) = refl
-cut-one (Compares c) = refl
-cut-one (Keyword n) = refl
-cut-one Other = refl
+pub cut-one : (w : Word) → File.asksOne (cutWord w) ≡ File.asksOne w
+cut-one w = cut-plain File.asksOne (λ z. ap (λ t. cond t 0 3) (inside-same (pos 1) (pos 1) z (record { low = omega ints; high = omega ints }))) (λ v. refl) w
 
 -- a variable
-pub cut-variable : (vars : ℕ) (w : Word) → vars ≤ 16 → File.asksVariable vars (cut w) ≡ File.asksVariable vars w
-unfolding cut ceiling
-cut-variable vars Missing h = refl
-cut-variable vars (Number z) h = refl
-cut-variable vars (Variable v) h = ap (λ t. cond t 0 5) (below-same vars v h)
-cut-variable vars (Compares c) h = refl
-cut-variable vars (Keyword n) h = refl
-cut-variable vars Other h = refl
+pub cut-variable : (vars : ℕ) (w : Word) → vars ≤ 16 → File.asksVariable vars (cutWord w) ≡ File.asksVariable vars w
+unfolding ceiling
+cut-variable vars w h = cut-plain (File.asksVariable vars) (λ z. refl) (λ v. ap (λ t. cond t 0 5) (below-same vars v h)) w
 
-pub cut-variable-of : (vars : ℕ) (w : Word) → vars ≤ 16 → File.asksVariable vars w ≡ 0 → File.variableOf (cut w) ≡ File.variableOf w
-unfolding cut ceiling
-cut-variable-of vars Missing h e = refl
-cut-variable-of vars (Number z) h e = refl
-cut-variable-of vars (Variable v) h e = let l = variable-yes vars (Variable v) e in omega arith
-cut-variable-of vars (Compares c) h e = refl
-cut-variable-of vars (Keyword n) h e = refl
-cut-variable-of vars Other h e = refl
+pub cut-variable-of : (vars : ℕ) (w : Word) → vars ≤ 16 → File.asksVariable vars w ≡ 0 → File.variableOf (cutWord w) ≡ File.variableOf w
+unfolding ceiling
+cut-variable-of vars w h =
+    cut-all (λ x y. File.asksVariable vars y ≡ 0 → File.variableOf x ≡ File.variableOf y) (λ x e. refl) (λ z e. refl)
+    (λ v e. let l = variable-yes vars (Variable v) e in omega arith) w
 
 -- limits of document 01
 pub limits-below : (lo : ℤ) → negsuc 1_999_999_999 ≤ℤ lo → Below lo highest
@@ -153,7 +121,7 @@ up-below : (k : ℕ) → Below (pos k) highest
 up-below k = limits-below (pos k) (omega ints)
 
 -- a change, and a step
-pub cut-change : (n : Name) (w : Word) → File.asksChange n (cut w) ≡ File.asksChange n w
+pub cut-change : (n : Name) (w : Word) → File.asksChange n (cutWord w) ≡ File.asksChange n w
 cut-change Name.Set w = refl
 cut-change Name.Add w = cut-number (pos 0) highest w (up-below 0)
 cut-change Name.Sub w = cut-number (pos 0) highest w (up-below 0)
@@ -169,7 +137,7 @@ cut-change Name.Do w = refl
 cut-change Name.For w = refl
 cut-change Name.Hold w = refl
 
-pub cut-change-of : (n : Name) (w : Word) → File.asksChange n w ≡ 0 → File.changeOf n (cut w) ≡ File.changeOf n w
+pub cut-change-of : (n : Name) (w : Word) → File.asksChange n w ≡ 0 → File.changeOf n (cutWord w) ≡ File.changeOf n w
 cut-change-of Name.Set w e = refl
 cut-change-of Name.Add w e = ap (λ z. Change.Add (natAbs z)) (cut-number-of (pos 0) highest w (up-below 0) e)
 cut-change-of Name.Sub w e = ap (λ z. Change.Sub (natAbs z)) (cut-number-of (pos 0) highest w (up-below 0) e)
@@ -185,8 +153,8 @@ cut-change-of Name.Do w e = refl
 cut-change-of Name.For w e = refl
 cut-change-of Name.Hold w e = refl
 
-pub cut-step : (x w : Word) → File.asksStep (cut x) (cut w) ≡ File.asksStep x w
-unfolding cut
+pub cut-step : (x w : Word) → File.asksStep (cutWord x) (cutWord w) ≡ File.asksStep x w
+unfolding cutWord
 cut-step Missing w = refl
 cut-step (Number z) w = refl
 cut-step (Variable v) w = refl
@@ -194,8 +162,8 @@ cut-step (Compares c) w = refl
 cut-step (Keyword n) w = cut-change n w
 cut-step Other w = refl
 
-pub cut-step-of : (x w : Word) → File.asksStep x w ≡ 0 → File.stepOf (cut x) (cut w) ≡ File.stepOf x w
-unfolding cut
+pub cut-step-of : (x w : Word) → File.asksStep x w ≡ 0 → File.stepOf (cutWord x) (cutWord w) ≡ File.stepOf x w
+unfolding cutWord
 cut-step-of Missing w e = refl
 cut-step-of (Number z) w e = refl
 cut-step-of (Variable v) w e = refl
@@ -213,8 +181,8 @@ refusal-same : {p P q Q : ℕ} → p ≡ P → q ≡ Q → File.firstRefusal p q
 refusal-same e f = cc
 
 -- the words of a line, and the same words cut
-module _ (u w : ℕ → Word) (same : (k : ℕ) → k < 8 → u k ≡ cut (w k)) where
-  at : (k : ℕ) → T (ltb k 8) → u k ≡ cut (w k)
+module _ (u w : ℕ → Word) (same : (k : ℕ) → k < 8 → u k ≡ cutWord (w k)) where
+  at : (k : ℕ) → T (ltb k 8) → u k ≡ cutWord (w k)
   at k t = same k (ltb→lt k 8 t)
 
   end-at : (k : ℕ) → T (ltb k 8) → File.asksEnd (u k) ≡ File.asksEnd (w k)
@@ -242,10 +210,10 @@ module _ (u w : ℕ → Word) (same : (k : ℕ) → k < 8 → u k ≡ cut (w k))
   change-of-at n k t e = ap (File.changeOf n) (at k t) ∙ cut-change-of n (w k) e
 
   step-at : (k l : ℕ) → T (ltb k 8) → T (ltb l 8) → File.asksStep (u k) (u l) ≡ File.asksStep (w k) (w l)
-  step-at k l s t = ap (λ x. File.asksStep x (u l)) (at k s) ∙ ap (File.asksStep (cut (w k))) (at l t) ∙ cut-step (w k) (w l)
+  step-at k l s t = ap (λ x. File.asksStep x (u l)) (at k s) ∙ ap (File.asksStep (cutWord (w k))) (at l t) ∙ cut-step (w k) (w l)
 
   step-of-at : (k l : ℕ) → T (ltb k 8) → T (ltb l 8) → File.asksStep (w k) (w l) ≡ 0 → File.stepOf (u k) (u l) ≡ File.stepOf (w k) (w l)
-  step-of-at k l s t e = ap (λ x. File.stepOf x (u l)) (at k s) ∙ ap (File.stepOf (cut (w k))) (at l t) ∙ cut-step-of (w k) (w l) e
+  step-of-at k l s t e = ap (λ x. File.stepOf x (u l)) (at k s) ∙ ap (File.stepOf (cutWord (w k))) (at l t) ∙ cut-step-of (w k) (w l) e
 
   module _ (vars : ℕ) (few : vars ≤ 16) (expr : ℕ → Parsed) where
     variable-at : (k : ℕ) → T (ltb k 8) → File.asksVariable vars (u k) ≡ File.asksVariable vars (w k)
@@ -335,8 +303,8 @@ module _ (u w : ℕ → Word) (same : (k : ℕ) → k < 8 → u k ≡ cut (w k))
         let (a, _) = refusal-yes _ _ h in
         ap RowKind.Hold (variable-of-at 1 tt a)
 
-    first-cut : (x : Word) → File.firstWord vars u expr (cut x) ≡ File.firstWord vars w expr x
-    unfolding cut
+    first-cut : (x : Word) → File.firstWord vars u expr (cutWord x) ≡ File.firstWord vars w expr x
+    unfolding cutWord
     first-cut Missing = refl
     first-cut (Number z) = refl
     first-cut (Variable v) = refl
@@ -345,7 +313,7 @@ module _ (u w : ℕ → Word) (same : (k : ℕ) → k < 8 → u k ≡ cut (w k))
     first-cut Other = refl
 
 -- a row
-pub row-cut : (vars : ℕ) (u w : ℕ → Word) (expr : ℕ → Parsed) → vars ≤ 16 → ((k : ℕ) → k < 8 → u k ≡ cut (w k)) → File.wordsRow vars u expr ≡ File.wordsRow vars w expr
+pub row-cut : (vars : ℕ) (u w : ℕ → Word) (expr : ℕ → Parsed) → vars ≤ 16 → ((k : ℕ) → k < 8 → u k ≡ cutWord (w k)) → File.wordsRow vars u expr ≡ File.wordsRow vars w expr
 unfolding File.wordsRow
 row-cut vars u w expr few same = ap (File.firstWord vars u expr) (at u w same 0 tt) ∙ first-cut u w same vars few expr (w 0)
 
@@ -398,7 +366,7 @@ order-same {a} {b} three g h s t f = ap (λ n. File.firstRefusal a (File.firstRe
 order-same {a} {b} four g h s t f = ap (λ n. File.firstRefusal a (File.firstRefusal b n)) (same-no 3 four s t)
 
 -- a range
-pub range-of-cut : (u w : ℕ → Word) → ((k : ℕ) → k < 8 → u k ≡ cut (w k)) → File.asksRange w ≡ 0 → File.rangeWords u ≡ File.rangeWords w
+pub range-of-cut : (u w : ℕ → Word) → ((k : ℕ) → k < 8 → u k ≡ cutWord (w k)) → File.asksRange w ≡ 0 → File.rangeWords u ≡ File.rangeWords w
 unfolding File.asksRange File.rangeWords
 range-of-cut u w same h =
     let (a, b) = refusal-yes _ _ h in
@@ -407,7 +375,7 @@ range-of-cut u w same h =
     let k = number-of-at u w same 1 tt lowest highest lowest-below c in
     cc
 
-pub range-cut : (u w : ℕ → Word) → ((k : ℕ) → k < 8 → u k ≡ cut (w k)) → File.asksRange u ≡ File.asksRange w
+pub range-cut : (u w : ℕ → Word) → ((k : ℕ) → k < 8 → u k ≡ cutWord (w k)) → File.asksRange u ≡ File.asksRange w
 unfolding File.asksRange File.asksOrder
 range-cut u w same =
     let number : (k : ℕ) → T (ltb k 8) → File.asksNumber lowest highest (u k) ≡ File.asksNumber lowest highest (w k) =

@@ -14,6 +14,7 @@ use borrow.Author.Tests.{leb-true, ltb-true, eq-eqb, ne-eqb, eqb-true, eqb-false
 use Rattle.rules.specs.declared.Word.{Word}
 use Rattle.rules.specs.declared.Word.the-variants.{Variable, Other}
 use Rattle.rules.specs.Text.{equals, comparisonWord, blockWord, plainWord}
+use Rattle.rules.proofs.Laws.{both}
 use Rattle.reading_text.specs.Words.{packed, Bytes, Packs, keywords, packedWord, wordAt, variableWord}
 
 -- ---- a text of a few bytes has a small number
@@ -79,10 +80,6 @@ small (b ∷ s) = cond (ltb b 256) (small s) false
 fine : List (List ℕ × Word) → Bool
 fine [] = true
 fine ((w, x) ∷ t) = cond (leb (length w) 5) (cond (small w) (fine t) false) false
-
-both : (a b : Bool) → cond a b false ≡ true → (a ≡ true) × (b ≡ true)
-both true b e = (refl, e)
-both false b e = absurd (let z : _≡_ {A = ℕ} 0 1 = cc in omega arith)
 
 small-bytes : (s : List ℕ) → small s ≡ true → Bytes s
 unfolding Bytes small

@@ -16,7 +16,9 @@ use Rattle.rules.specs.declared.Word.{Word}
 use Rattle.rules.specs.declared.Word.the-variants.{Missing, Number, Variable, Compares, Keyword, Other}
 use Rattle.rules.specs.Text.{prefixed, split, startsWith, equals, isDigit, allDigits, valueFrom, isNatural, isNegative, isVariable, comparisonWord, blockWord, plainWord, wordOf, wordsOf}
 use Rattle.reading_text.specs.declared.Value.{Value}
-use Rattle.reading_text.specs.Words.{before, marks, stops, stop, front, ceiling, cutZ, cut, digitsOf, naturalOf}
+use Rattle.expression_leaves.specs.Leaves.{ceiling, cutZ}
+use Rattle.reading_text.specs.Words.{before, marks, stops, stop, front, cutWord, digitsOf, naturalOf}
+use Rattle.expression_leaves.proofs.Leaves.{digit-low}
 
 -- the part &s[a..]
 pub part-rest : (s : List ℕ) (a : ℕ) → take (length s - a) (drop a s) ≡ drop a s
@@ -74,14 +76,6 @@ front-rest (x ∷ s) h = go (stops x) h
     go : (t : Bool) → 0 < cond t 0 (suc (stop s)) → take (stop s) s ≡ drop 1 (take (cond t 0 (suc (stop s))) (x ∷ s))
     go true k = absurd (omega arith)
     go false k = refl
-
-pub digit-low : (b : ℕ) → isDigit b ≡ true → 48 ≤ b
-unfolding isDigit
-digit-low b e = go (leb 48 b) refl e
-  where
-    go : (t : Bool) → leb 48 b ≡ t → t && leb b 57 ≡ true → 48 ≤ b
-    go true p q = leb-true 48 b p
-    go false p q = let z : _≡_ {A = ℕ} 0 1 = cc in omega arith
 
 pub digit-on : (b : ℕ) → isDigit b ≡ true → stops b ≡ false
 unfolding stops
@@ -264,21 +258,21 @@ unfolding digitsOf naturalOf
 natural-other s e = rw (not-digits s (found-no s (allDigits s) e))
 
 -- ---- words
-cut-cond : (b : Bool) (x y : Word) → cut (cond b x y) ≡ cond b (cut x) (cut y)
+cut-cond : (b : Bool) (x y : Word) → cutWord (cond b x y) ≡ cond b (cutWord x) (cutWord y)
 cut-cond true x y = refl
 cut-cond false x y = refl
 
 -- a keyword or a comparison has no number
-pub cut-plain : (s : List ℕ) → cut (plainWord s) ≡ plainWord s
+pub cut-plain : (s : List ℕ) → cutWord (plainWord s) ≡ plainWord s
 unfolding plainWord blockWord comparisonWord
-cut-plain s = simp cut-cond (unfold cut in refl)
+cut-plain s = simp cut-cond (unfold cutWord in refl)
 
-pub word-number : (s : List ℕ) (v n : ℕ) → naturalOf s ≡ Value.Of v n → Number (pos v) ≡ cut (wordOf s)
-unfolding wordOf cut cutZ
+pub word-number : (s : List ℕ) (v n : ℕ) → naturalOf s ≡ Value.Of v n → Number (pos v) ≡ cutWord (wordOf s)
+unfolding wordOf cutWord cutZ
 word-number s v n e = let (t, h, _) = is-natural s v n e in rw (t, h)
 
-pub word-none : (s : List ℕ) → length s ≡ 0 → Other ≡ cut (wordOf s)
-unfolding wordOf isNatural isNegative isVariable plainWord blockWord comparisonWord equals cut
+pub word-none : (s : List ℕ) → length s ≡ 0 → Other ≡ cutWord (wordOf s)
+unfolding wordOf isNatural isNegative isVariable plainWord blockWord comparisonWord equals cutWord
 word-none [] h = refl
 word-none (b ∷ s) h = absurd (omega arith)
 
@@ -294,33 +288,33 @@ word-marked [] h n = absurd (omega arith)
 word-marked (b ∷ t) h n = rw n
 
 module _ (s : List ℕ) (some : 0 < length s) (none : isNatural s ≡ false) where
-  pub mark-none : naturalOf (drop 1 s) ≡ Value.None → plainWord s ≡ cut (wordOf s)
+  pub mark-none : naturalOf (drop 1 s) ≡ Value.None → plainWord s ≡ cutWord (wordOf s)
   mark-none e = rw (word-marked s some none, not-natural (drop 1 s) e) (go (eqb (getD s 0 0) 45) (eqb (getD s 0 0) 118))
     where
-      go : (p q : Bool) → plainWord s ≡ cut (cond (cond p false false) (Number (negℤ (pos (valueFrom 0 (drop 1 s))))) (cond (cond q false false) (Variable (valueFrom 0 (drop 1 s))) (plainWord s)))
+      go : (p q : Bool) → plainWord s ≡ cutWord (cond (cond p false false) (Number (negℤ (pos (valueFrom 0 (drop 1 s))))) (cond (cond q false false) (Variable (valueFrom 0 (drop 1 s))) (plainWord s)))
       go true true = sym (cut-plain s)
       go true false = sym (cut-plain s)
       go false true = sym (cut-plain s)
       go false false = sym (cut-plain s)
 
-  pub mark-plain : marks (getD s 0 0) ≡ false → plainWord s ≡ cut (wordOf s)
+  pub mark-plain : marks (getD s 0 0) ≡ false → plainWord s ≡ cutWord (wordOf s)
   unfolding marks
   mark-plain e = go (eqb (getD s 0 0) 118) (eqb (getD s 0 0) 45) refl refl e
     where
-      go : (p q : Bool) → eqb (getD s 0 0) 118 ≡ p → eqb (getD s 0 0) 45 ≡ q → cond p true q ≡ false → plainWord s ≡ cut (wordOf s)
+      go : (p q : Bool) → eqb (getD s 0 0) 118 ≡ p → eqb (getD s 0 0) 45 ≡ q → cond p true q ≡ false → plainWord s ≡ cutWord (wordOf s)
       go true q f g h = absurd (let z : _≡_ {A = ℕ} 0 1 = cc in omega arith)
       go false true f g h = absurd (let z : _≡_ {A = ℕ} 0 1 = cc in omega arith)
       go false false f g h = rw (word-marked s some none, g, f) (sym (cut-plain s))
 
   module _ (v n : ℕ) (e : naturalOf (drop 1 s) ≡ Value.Of v n) where
-    pub mark-variable : getD s 0 0 ≡ 118 → Variable v ≡ cut (wordOf s)
-    unfolding cut
+    pub mark-variable : getD s 0 0 ≡ 118 → Variable v ≡ cutWord (wordOf s)
+    unfolding cutWord
     mark-variable h =
         let (t, k, _) = is-natural (drop 1 s) v n e in
         rw (word-marked s some none, h, t, k)
 
-    pub mark-negative : getD s 0 0 ≡ 45 → (v ≡ 0 → ⊥) → Number (negℤ (pos v)) ≡ cut (wordOf s)
-    unfolding cut cutZ ceiling
+    pub mark-negative : getD s 0 0 ≡ 45 → (v ≡ 0 → ⊥) → Number (negℤ (pos v)) ≡ cutWord (wordOf s)
+    unfolding cutWord cutZ ceiling
     mark-negative h z =
         let (t, k, _) = is-natural (drop 1 s) v n e in
         let y : eqb (valueFrom 0 (drop 1 s)) 0 ≡ false = ne-eqb (valueFrom 0 (drop 1 s)) 0 (λ (x : valueFrom 0 (drop 1 s) ≡ 0). z (omega arith)) in
@@ -330,14 +324,14 @@ module _ (s : List ℕ) (some : 0 < length s) (none : isNatural s ≡ false) whe
         negative zero f = absurd (f refl)
         negative (suc n) f = refl
 
-    pub mark-zero : getD s 0 0 ≡ 45 → v ≡ 0 → plainWord s ≡ cut (wordOf s)
+    pub mark-zero : getD s 0 0 ≡ 45 → v ≡ 0 → plainWord s ≡ cutWord (wordOf s)
     unfolding ceiling
     mark-zero h z =
         let (t, k, _) = is-natural (drop 1 s) v n e in
         let y : eqb (valueFrom 0 (drop 1 s)) 0 ≡ true = eq-eqb (valueFrom 0 (drop 1 s)) 0 (omega arith) in
         rw (word-marked s some none, h, t, y) (sym (cut-plain s))
 
-    pub mark-other : (getD s 0 0 ≡ 45 → ⊥) → (getD s 0 0 ≡ 118 → ⊥) → plainWord s ≡ cut (wordOf s)
+    pub mark-other : (getD s 0 0 ≡ 45 → ⊥) → (getD s 0 0 ≡ 118 → ⊥) → plainWord s ≡ cutWord (wordOf s)
     mark-other h k = rw (word-marked s some none, ne-eqb _ _ h, ne-eqb _ _ k) (sym (cut-plain s))
 
 -- ---- signed numbers of the machine

@@ -18,8 +18,8 @@ use Rattle.rules.specs.declared.Word.the-variants.{Missing}
 use Rattle.rules.specs.Text.{prefixed, split, comparisonWord, blockWord, plainWord, wordOf, wordsOf}
 use Rattle.rules.specs.File.{asksEnd}
 use Rattle.reading_text.proofs.Cut.{cut-end}
-use Rattle.reading_text.specs.Words.{before, stops, stop, front, cut, NoMore, parts, following, spelling, wordIn, Next, Reads}
-use Rattle.reading_text.specs.declared.Found.{Found}
+use Rattle.reading_text.specs.Words.{before, stops, stop, front, cutWord, NoMore, parts, following, spelling, wordIn, Next, Reads}
+use Rattle.reading_text.specs.declared.WordFound.{WordFound}
 
 -- a line's words: the word at the front, and those after the byte that ends it
 pub record Cuts (s : List ℕ) : Type 0 where
@@ -63,7 +63,7 @@ unfolding spelling parts
 no-text b s e k = rw (eq-eqb b 10 e)
 
 pub next-none : (s : List ℕ) (at : ℕ) → NoMore (drop at s) → at < length s → getD s at 0 ≡ 10 → Next s at (record { tag = 21; value = pos 0; end = at })
-unfolding cut wordIn
+unfolding cutWord wordIn
 next-none s at h l e = record {
   word = rw (drop-cons s at 0 l, no-more (getD s at 0) (drop (suc at) s) e 0);
   text = let z : at - (at + 1) ≡ 0 = omega arith in rw (drop-cons s at 0 l, no-text (getD s at 0) (drop (suc at) s) e 0, z);
@@ -119,7 +119,7 @@ module _ (s : List ℕ) (at : ℕ) (t : ℕ) (z : ℤ) (n : ℕ) (h : NoMore (dr
       let e : before 10 (drop at s) ≡ suc (before 10 (drop (at + 1) s)) = ap (before 10) head ∙ after-line _ _ other in
       let f : before 10 (drop (at + 1 + n) s) ≡ before 10 (drop (stop (drop (at + 1) s)) (drop (at + 1) s)) = ap (before 10) after in
       record {
-        word = r .word ∙ ap cut (sym (ap (λ (l : List ℕ). following l 0) head ∙ first-word _ _ other some));
+        word = r .word ∙ ap cutWord (sym (ap (λ (l : List ℕ). following l 0) head ∙ first-word _ _ other some));
         text = text-of;
         texts = λ k. ap (λ (l : List ℕ). spelling l (suc k)) head ∙ more-texts _ _ other some k ∙ ap (λ (l : List ℕ). spelling l k) (sym after);
         more = λ k. ap (λ (l : List ℕ). following l (suc k)) head ∙ more-words _ _ other some k ∙ ap (λ (l : List ℕ). following l k) (sym after);
@@ -159,10 +159,10 @@ last-end s at h z = go (eqb (getD s at 0) 10) refl
     go false e = absurd (omega (arith, z, last-no s at h (eqb-false _ _ e)))
 
 -- the word that a call of `said` gives of what was found: the number comes to it as bits
-abbrev pub Says : Found → Word → Type 0
+abbrev pub Says : WordFound → Word → Type 0
 Says r w = SFits w32 (r .value) × (w ≡ wordIn (r .tag) (toZ w32 (ofZ w32 (r .value))))
 
-pub says-word : (r : Found) (w : Word) → Says r w → w ≡ wordIn (r .tag) (r .value)
+pub says-word : (r : WordFound) (w : Word) → Says r w → w ≡ wordIn (r .tag) (r .value)
 says-word r w (f, e) = rw (toZ-ofZ f) at e
 
 -- ---- m words of a line are read, and the others begin after the byte p
@@ -179,7 +179,7 @@ module _ (s : List ℕ) (at m p : ℕ) (h : Reached s at m p) where
   here : following (drop at s) m ≡ following (drop p s) 0
   here = ap (following (drop at s)) (omega arith) ∙ h .more 0
 
-  pub reach-more : (r : Found) → Next s p r → Reached s at (suc m) (r .end)
+  pub reach-more : (r : WordFound) → Next s p r → Reached s at (suc m) (r .end)
   reach-more r n = record {
     more = λ k. ap (following (drop at s)) (let e : suc m + k ≡ m + suc k = omega arith in e) ∙ h .more (suc k) ∙ n .more k;
     texts = λ k. ap (spelling (drop at s)) (let e : suc m + k ≡ m + suc k = omega arith in e) ∙ h .texts (suc k) ∙ n .texts k;
@@ -187,22 +187,22 @@ module _ (s : List ℕ) (at m p : ℕ) (h : Reached s at m p) where
     ends = n .ends;
   }
 
-  pub reach-word : (r : Found) → Next s p r → (w : Word) → Says r w → (w ≡ cut (following (drop at s) m)) × Reached s at (suc m) (r .end)
-  reach-word r n w e = (says-word r w e ∙ n .word ∙ ap cut (sym here), reach-more r n)
+  pub reach-word : (r : WordFound) → Next s p r → (w : Word) → Says r w → (w ≡ cutWord (following (drop at s) m)) × Reached s at (suc m) (r .end)
+  reach-word r n w e = (says-word r w e ∙ n .word ∙ ap cutWord (sym here), reach-more r n)
 
   -- its text stands after the byte p
-  pub reach-text : (r : Found) → Next s p r → spelling (drop at s) m ≡ take (r .end - (p + 1)) (drop (p + 1) s)
+  pub reach-text : (r : WordFound) → Next s p r → spelling (drop at s) m ≡ take (r .end - (p + 1)) (drop (p + 1) s)
   reach-text r n = ap (spelling (drop at s)) (let e : m ≡ m + 0 = omega arith in e) ∙ h .texts 0 ∙ n .text
 
-  pub reach-last : asksEnd (following (drop p s) 0) ≡ asksEnd (cut (following (drop at s) m))
+  pub reach-last : asksEnd (following (drop p s) 0) ≡ asksEnd (cutWord (following (drop at s) m))
   reach-last = ap asksEnd (sym here) ∙ sym (cut-end (following (drop at s) m))
 
-  pub reach-end : asksEnd (cut (following (drop at s) m)) ≡ 0 → p ≡ at + before 10 (drop at s)
+  pub reach-end : asksEnd (cutWord (following (drop at s) m)) ≡ 0 → p ≡ at + before 10 (drop at s)
   reach-end z = omega (arith, last-end s p (h .ends) (reach-last ∙ z), h .line)
 
 -- the first two words
-pub reach-two : (s : List ℕ) (at : ℕ) → NoMore (drop at s) → (f : Found) → Next s at f → (v : Word) → Says f v → (g : Found) → Next s (f .end) g → (x : Word) → Says g x
-    → (v ≡ cut (following (drop at s) 0)) × (x ≡ cut (following (drop at s) 1)) × Reached s at 2 (g .end)
+pub reach-two : (s : List ℕ) (at : ℕ) → NoMore (drop at s) → (f : WordFound) → Next s at f → (v : Word) → Says f v → (g : WordFound) → Next s (f .end) g → (x : Word) → Says g x
+    → (v ≡ cutWord (following (drop at s) 0)) × (x ≡ cutWord (following (drop at s) 1)) × Reached s at 2 (g .end)
 reach-two s at h f n v i g o x j =
     let (a, r) = reach-word s at 0 at (reach-none s at h) f n v i in
     let (b, t) = reach-word s at 1 (f .end) r g o x j in

@@ -11,8 +11,9 @@ use Rattle.rules.specs.declared.Name.{Name}
 use Rattle.rules.specs.declared.Word.{Word}
 use Rattle.rules.specs.declared.Word.the-variants.{Missing, Number, Variable, Compares, Keyword, Other}
 use Rattle.rules.specs.Text.{split, allDigits, valueFrom, isNatural, wordOf, wordsOf}
+use Rattle.expression_leaves.specs.Leaves.{ceiling, cutZ}
 use Rattle.reading_text.specs.declared.Value.{Value}
-use Rattle.reading_text.specs.declared.Found.{Found}
+use Rattle.reading_text.specs.declared.WordFound.{WordFound}
 
 -- how many bytes stand before the first b, or all
 unfoldable pub before : ℕ → List ℕ → ℕ
@@ -32,25 +33,18 @@ unfoldable pub stop : List ℕ → ℕ
 stop [] = 0
 stop (x ∷ s) = cond (stops x) 0 (suc (stop s))
 
+-- the bytes before the first space or LF
 unfoldable pub front : List ℕ → List ℕ
 front s = take (stop s) s
 
--- past every limit of document 01
-unfoldable pub ceiling : ℕ
-ceiling = 2_000_000_001
-
--- a number with its value cut off at the ceiling
-unfoldable pub cutZ : ℤ → ℤ
-cutZ (pos n) = pos (min n ceiling)
-cutZ (negsuc n) = negℤ (pos (min (suc n) ceiling))
-
-unfoldable pub cut : Word → Word
-cut Missing = Missing
-cut (Number z) = Number (cutZ z)
-cut (Variable v) = Variable (min v ceiling)
-cut (Compares c) = Compares c
-cut (Keyword n) = Keyword n
-cut Other = Other
+-- a word with its number cut off
+unfoldable pub cutWord : Word → Word
+cutWord Missing = Missing
+cutWord (Number z) = Number (cutZ z)
+cutWord (Variable v) = Variable (min v ceiling)
+cutWord (Compares c) = Compares c
+cutWord (Keyword n) = Keyword n
+cutWord Other = Other
 
 -- digits, as a number and how many
 unfoldable pub digitsOf : List ℕ → Value
@@ -65,10 +59,12 @@ unfoldable pub packed : List ℕ → ℕ
 packed [] = 1
 packed (b ∷ s) = packed s * 256 + b
 
+-- every number is a byte
 unfoldable pub Bytes : List ℕ → Type 0
 Bytes [] = Unit {0}
 Bytes (b ∷ s) = (b < 256) × Bytes s
 
+-- n is the number of the text s
 pub record Packs (s : List ℕ) (n : ℕ) : Type 0 where
   pub same : n ≡ packed s
   pub bytes : Bytes s
@@ -119,8 +115,8 @@ unfoldable pub wordIn : ℕ → ℤ → Word
 wordIn t z = cond (eqb t 21) Missing (cond (eqb t 22) (Number z) (cond (eqb t 23) (variableWord z) (wordAt keywords t)))
 
 -- the word at the front of a text is read, its number cut off
-pub record Reads (s : List ℕ) (r : Found) : Type 0 where
-  pub word : wordIn (r .tag) (r .value) ≡ cut (wordOf (front s))
+pub record Reads (s : List ℕ) (r : WordFound) : Type 0 where
+  pub word : wordIn (r .tag) (r .value) ≡ cutWord (wordOf (front s))
   pub end : r .end ≡ stop s
 
 -- an LF stands in a text
@@ -132,6 +128,7 @@ unfoldable pub parts : List ℕ → List (List ℕ)
 parts [] = []
 parts (b ∷ s) = cond (eqb b 10) [] (split 32 (take (before 10 s) s))
 
+-- word k after the first byte
 unfoldable pub following : List ℕ → ℕ → Word
 following s = wordsOf (parts s)
 
@@ -140,8 +137,8 @@ unfoldable pub spelling : List ℕ → ℕ → List ℕ
 spelling s k = getD (parts s) k []
 
 -- one word of a line is read, and the others begin after the byte `end`
-pub record Next (s : List ℕ) (at : ℕ) (r : Found) : Type 0 where
-  pub word : wordIn (r .tag) (r .value) ≡ cut (following (drop at s) 0)
+pub record Next (s : List ℕ) (at : ℕ) (r : WordFound) : Type 0 where
+  pub word : wordIn (r .tag) (r .value) ≡ cutWord (following (drop at s) 0)
   pub text : spelling (drop at s) 0 ≡ take (r .end - (at + 1)) (drop (at + 1) s)
   pub more : (k : ℕ) → following (drop at s) (suc k) ≡ following (drop (r .end) s) k
   pub texts : (k : ℕ) → spelling (drop at s) (suc k) ≡ spelling (drop (r .end) s) k

@@ -1,14 +1,16 @@
 // The words of a line.
+use expression_leaves::is_digit;
+use expression_leaves::more;
 use rules::Comparison;
 use rules::Name;
 use rules::Word;
 ghost use mathlib.Core.Path.{_≡_};
-ghost use mathlib.Core.Bool.{true, false, cond};
+ghost use mathlib.Core.Bool.{false, cond};
 ghost use lib.IntN.{pos, negℤ};
-ghost use Prim.Native.Nat.{_+_, _*_, _-_, _≤_, _<_, min};
+ghost use Prim.Native.Nat.{_≤_, _<_};
 ghost use lib.ListN.{length, drop};
-ghost use Rattle.rules.specs.Text.{startsWith, isDigit, isNatural, plainWord, wordOf};
-ghost use Rattle.reading_text.specs.Words.{before, marks, stops, stop, front, cut, digitsOf, naturalOf, Packs, keywords, packedWord, wordIn, NoMore, Reads, Next};
+ghost use Rattle.rules.specs.Text.{startsWith, isNatural, plainWord, wordOf};
+ghost use Rattle.reading_text.specs.Words.{before, marks, stops, stop, front, cutWord, digitsOf, naturalOf, Packs, keywords, packedWord, wordIn, NoMore, Reads, Next};
 
 // How many bytes stand before the first b, or all.
 pub fn position(s: &[u8], b: u8) -> usize
@@ -39,27 +41,6 @@ pub fn starts_with(s: &[u8], key: &[u8]) -> bool
         i += 1;
     }
     true
-}
-
-// Whether b is a byte from '0' to '9'.
-fn is_digit(b: u8) -> bool
-    ensures { λ r. ⌜ r ≡ isDigit b ⌝ }
-{
-    if b < 48 {
-        return false;
-    }
-    b <= 57
-}
-
-const CEILING: u64 = 2_000_000_001;
-
-// One digit more, cut off past every limit.
-fn more(value: u64, b: u8) -> u64
-    requires { ⌜ (value ≤ 2_000_000_001) × (isDigit b ≡ true) ⌝ }
-    ensures { λ r. ⌜ r ≡ min (value * 10 + (b - 48)) 2_000_000_001 ⌝ }
-{
-    let next = value * 10 + (b - 48) as u64;
-    if next < CEILING { next } else { CEILING }
 }
 
 // Whether a word ends before b: a space or LF.
@@ -327,20 +308,20 @@ fn signed(negative: bool, v: u32) -> i32
 }
 
 // A word by its tag and value, and the byte where it ends. No enum: that would be stored in pieces and then copied whole, which is slow.
-pub struct Found {
+pub struct WordFound {
     pub tag: u32,
     pub value: i32,
     pub end: usize,
 }
 
 // The keyword or comparison at the front.
-fn other_word(s: &[u8]) -> Found
-    requires { ⌜ plainWord (front (now s)) ≡ cut (wordOf (front (now s))) ⌝ }
+fn other_word(s: &[u8]) -> WordFound
+    requires { ⌜ plainWord (front (now s)) ≡ cutWord (wordOf (front (now s))) ⌝ }
     ensures { λ r. ⌜ Reads (now (s .entry)) r ⌝ }
 {
     let end = stop(s);
     let tag = plain_word(&s[..end]);
-    Found { tag, value: 0, end }
+    WordFound { tag, value: 0, end }
 }
 
 // Whether b stands before the digits of a variable or of a number below 0.
@@ -354,7 +335,7 @@ fn marks(b: u8) -> bool
 }
 
 // The word at the front, which is no number without a sign.
-fn marked(s: &[u8]) -> Found
+fn marked(s: &[u8]) -> WordFound
     requires { ⌜ (0 < stop (now s)) × (isNatural (front (now s)) ≡ false) ⌝ }
     ensures { λ r. ⌜ Reads (now (s .entry)) r ⌝ }
 {
@@ -367,7 +348,7 @@ fn marked(s: &[u8]) -> Found
         return other_word(s);
     };
     if first == b'v' {
-        return Found {
+        return WordFound {
             tag: VARIABLE,
             value: signed(false, v),
             end: k + 1,
@@ -379,7 +360,7 @@ fn marked(s: &[u8]) -> Found
     if v == 0 {
         return other_word(s);
     }
-    Found {
+    WordFound {
         tag: NUMBER,
         value: signed(true, v),
         end: k + 1,
@@ -387,26 +368,26 @@ fn marked(s: &[u8]) -> Found
 }
 
 // The word at the front.
-fn word_of(s: &[u8]) -> Found
+fn word_of(s: &[u8]) -> WordFound
     ensures { λ r. ⌜ Reads (now (s .entry)) r ⌝ }
 {
     let n = natural(s);
     match n {
-        Value::Of(v, k) => Found {
+        Value::Of(v, k) => WordFound {
             tag: NUMBER,
             value: signed(false, v),
             end: k,
         },
         Value::None => {
             if s.len() == 0 {
-                return Found {
+                return WordFound {
                     tag: OTHER,
                     value: 0,
                     end: 0,
                 };
             }
             if stops(s[0]) {
-                return Found {
+                return WordFound {
                     tag: OTHER,
                     value: 0,
                     end: 0,
@@ -418,12 +399,12 @@ fn word_of(s: &[u8]) -> Found
 }
 
 // The next word of a line: it begins after the byte `at`, and there is none if that is the line's LF.
-pub fn next_word(s: &[u8], at: usize) -> Found
+pub fn next_word(s: &[u8], at: usize) -> WordFound
     requires { ⌜ NoMore (drop at (now s)) ⌝ }
     ensures { λ r. ⌜ Next (now (s .entry)) at r ⌝ }
 {
     if s[at] == b'\n' {
-        return Found {
+        return WordFound {
             tag: MISSING,
             value: 0,
             end: at,

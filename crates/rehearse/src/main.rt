@@ -2,8 +2,8 @@
 // store and the turns of its loops. The prices are four ones if they are not given. ALLOWANCE is a number or `plan`, PICKS a word of 0 and 1 or `-`,
 // and the values are the store.
 
-use program_parts::Lent;
-use program_parts::Values;
+use program_lists::Lent;
+use program_lists::Values;
 ghost use Prim.Native.Nat.{_≤_};
 
 // Keeps argument i as the store's value at `at`; false if it is none. No value has more than 11 bytes, and a longer word is read as empty.
@@ -66,7 +66,7 @@ fn main() {
     let mut word = io::buffer();
     let n = os::arg(1, &mut word);
     let mut prices = [1u32; 4];
-    let lent = program_parts::read_prices(&word[..n], &mut prices);
+    let lent = program_lists::read_prices(&word[..n], &mut prices);
     match lent {
         Lent::Nothing => start(1, arguments, &prices),
         Lent::Four => start(2, arguments, &prices),

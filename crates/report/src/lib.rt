@@ -4,7 +4,7 @@ use report_pieces::Label;
 use report_pieces::Piece;
 use rules::LoopLine;
 use rules::Reply;
-use rules::Step;
+use rules_steps::Step;
 ghost use mathlib.Core.Path.{_≡_};
 ghost use Prim.Native.Nat.{_≤_};
 ghost use lib.ListN.{length};

@@ -1,4 +1,4 @@
--- One evaluator serves ranges and runs; its numbers stay inside ±L, and the results on the way inside ±L times L.
+-- One evaluator serves ranges and runs.
 use mathlib.Core.Path.{_≡_, refl, sym, _∙_, ap, subst}
 use mathlib.Core.Bool.{Bool, true, false, not, cond, _&&_, _||_}
 use Prim.Native.Nat.{ℕ}
@@ -86,28 +86,3 @@ evaluated-value f e = by (value e f) (value-stands f e)
     by : (r : Result) → Stands (evaluated (ofStore f) e) r → resultOf (evaluated (ofStore f) e) ≡ r
     by (number z) h = ap resultOf h
     by past h = λ t. cond (h t) past (number (evaluated (ofStore f) e .lo))
-
--- ---- how large numbers get
--- a number inside ±L
-abbrev pub Limited : ℤ → Type 0
-Limited z = (of lowest ≼ of z) × (of z ≼ of highest)
-
-clamp-limited : (z : ℤ) → Limited (clamp lowest highest z)
-unfolding lowest highest
-clamp-limited z = omega (arith, clamp-parts lowest highest z)
-
--- every number that an evaluator holds
-pub evaluated-limited : (f : ℕ → Value) → ((w : ℕ) → Limited (f w .lo) × Limited (f w .hi)) → (e : Expr) → ExprLimits e → Limited (evaluated f e .lo) × Limited (evaluated f e .hi)
-unfolding evaluated combined held meaning ExprLimits
-evaluated-limited f h (constant k) (a, b) = omega ints
-evaluated-limited f h (variable w) l = h w
-evaluated-limited f h (group e) l = evaluated-limited f h e l
-evaluated-limited f h (apply o d e) l = (clamp-limited _, clamp-limited _)
-
--- every result before it is drawn back: L times L fits 64 bits
-pub result-fits : (o : Operator) (x y : ℤ) → Limited x → Limited y
-    → (of (negsuc 999_999_999_999_999_999) ≼ of (operate o x y)) × (of (operate o x y) ≼ of (pos 1_000_000_000_000_000_000))
-unfolding operate lowest highest minZ maxZ
-result-fits Add x y a b = omega (arith, add-parts x y)
-result-fits Sub x y a b = omega (arith, minus-parts x y)
-result-fits Mul x y (a, b) (c, d) = product-between lowest highest lowest highest x y a b c d

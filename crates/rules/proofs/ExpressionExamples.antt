@@ -115,7 +115,7 @@ words =
     ∷ (45 ∷ 49 ∷ 48 ∷ 48 ∷ 48 ∷ 48 ∷ 48 ∷ 48 ∷ 48 ∷ 48 ∷ 48 ∷ 42 ∷ 118 ∷ 49 ∷ [])
     ∷ []
 
--- 8 open; 9 open; 9 open, one after the other; 15 operators; 16 operators; 9 open and past L; 9 open and not shut; past L, and no such variable; no such variable; both inside
+-- 8 open; 9 open; 9 open, one after the other; 15 operators; 16 operators; 9 open and past L; 9 open and not closed; past L, and no such variable; no such variable; both inside
 all-words : asked words ≡ 0 ∷ 17 ∷ 0 ∷ 0 ∷ 17 ∷ 17 ∷ 3 ∷ 4 ∷ 5 ∷ 0 ∷ []
 unfolding asked words turnOf firstRefusal asksSize asksLeaves depth operators lowest highest parse readExpression expression onward ahead afterTerm afterFactor factorOf close atom atEnd isMark upToMark fromMark wordOf isNatural isNegative isVariable isDigit allDigits valueFrom plainWord blockWord comparisonWord equals
 all-words = refl

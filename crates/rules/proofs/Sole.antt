@@ -6,11 +6,12 @@ use native.Mathlib.Omega.{arith}
 use lib.Dec.{T, eqb, eqb→eq}
 use lib.IntN.{ℤ, pos}
 use Rattle.ints.proofs.Diffs.{cond-elim, cond-true, cond-false, both, nor}
-use Rattle.rules.specs.declared.Step.{Step}
-use Rattle.rules.specs.declared.Step.the-variants.{Add, Grow, Shrink, Unknown}
+use Rattle.rules_steps.specs.declared.Step.{Step}
+use Rattle.rules_steps.specs.declared.Step.the-variants.{Add, Grow, Shrink, Unknown}
 use Rattle.rules.specs.Values.{Store, value, compares, number}
 use Rattle.rules.specs.Blocks.{Test, Form, while, do-while, hold, for, Source, from, changed, off, Plain, assign, cue, Block, done, plain, pick, loop}
-use Rattle.rules.specs.Steps.{sets, starts, assigns, rowStep, sourceStep, then, stepFrom, step, still, Sole, other, sole, behind, soleAt, soleRow, soleOf}
+use Rattle.rules_steps.specs.Joins.{then, still}
+use Rattle.rules.specs.Steps.{sets, starts, assigns, rowStep, sourceStep, stepFrom, step, Sole, other, sole, behind, soleAt, soleRow, soleOf}
 use Rattle.rules.specs.Trips.{own, chase, chases, keeps, limitWay, soleWay, wayOf}
 use Rattle.rules.specs.Ranges.{isHold}
 use Rattle.rules.specs.Questions.{known}
@@ -167,9 +168,6 @@ stepless acc v (plain i p rest) =
     (λ h. row-stepless acc v p rest h) (λ _. behind-stepless _ v _ (soleOf v rest) (stepless _ v rest))
 stepless acc v (pick i e a b rest) = behind-stepless _ v _ (soleOf v rest) (stepless _ v rest)
 stepless acc v (loop i e form test body rest) = behind-stepless _ v _ (soleOf v rest) (stepless _ v rest)
-
-pub sole-unknown : (v : ℕ) (b : Block) {w : ℕ} {x : Source} {before after : Bool} → soleOf v b ≡ sole w x before after → step v b ≡ Unknown
-sole-unknown v b e = rw e at (stepless still v b)
 
 -- so a loop whose tested variable's own step is known goes by its limit: code looks for the sole copy only if that step is Unknown
 pub known-limit : (form : Form) (test : Test) (body : Block) → T (not (isHold form)) → known (step (test .tested) body) ≡ true → limitWay test body (test .limit) ≡ wayOf form test body

@@ -21,6 +21,7 @@ rangeIn v = record { lo = v .lo; hi = v .hi }
 unfoldable pub least : Operator → Range → Range → ℤ
 least o r s = minZ (minZ (operate o (r .lo) (s .lo)) (operate o (r .lo) (s .hi))) (minZ (operate o (r .hi) (s .lo)) (operate o (r .hi) (s .hi)))
 
+-- the largest of the four
 unfoldable pub most : Operator → Range → Range → ℤ
 most o r s = maxZ (maxZ (operate o (r .lo) (s .lo)) (operate o (r .lo) (s .hi))) (maxZ (operate o (r .hi) (s .lo)) (operate o (r .hi) (s .hi)))
 

@@ -196,7 +196,7 @@ module _ (vars : ℕ) (word : ℕ → Word) (expr : ℕ → Parsed) where
   unfoldable pub moveRow : Name → RowRead
   moveRow n = checked (firstRefusal (asksVariable vars (word 1)) (firstRefusal (asksChange n (word 2)) (asksEnd (word 3)))) (Move (variableOf (word 1)) (changeOf n (word 2)))
 
-  -- card 12: `off v0 v1 > C` (< <= > >=; C from −L to L)
+  -- change 12: `off v0 v1 > C` (< <= > >=; C from −L to L)
   unfoldable pub offRow : RowRead
   offRow =
       checked (firstRefusal (asksVariable vars (word 1)) (firstRefusal (asksVariable vars (word 2)) (firstRefusal (asksOrdered (word 3)) (firstRefusal (asksNumber lowest highest (word 4)) (asksEnd (word 5))))))
@@ -228,7 +228,7 @@ module _ (vars : ℕ) (word : ℕ → Word) (expr : ℕ → Parsed) where
   unfoldable pub forRow : RowRead
   forRow = checked asksFor (For (variableOf (word 1)) (exprIn (expr 2)) (comparisonOf (word 3)) (exprIn (expr 4)) (stepOf (word 5) (word 6)))
 
-  -- card 12: `hold v0`
+  -- change 12: `hold v0`
   unfoldable pub holdRow : RowRead
   holdRow = checked (firstRefusal (asksVariable vars (word 1)) (asksEnd (word 2))) (Hold (variableOf (word 1)))
 

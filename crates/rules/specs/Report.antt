@@ -5,8 +5,8 @@ use Prim.Native.Nat.{ℕ, zero, suc, _+_, _/_, _%_}
 use lib.Dec.{ltb}
 use lib.IntN.{ℤ, pos, negsuc}
 use lib.ListN.{length}
-use Rattle.rules.specs.declared.Step.{Step}
-use Rattle.rules.specs.declared.Step.the-variants.{Add, Grow, Shrink, Unknown}
+use Rattle.rules_steps.specs.declared.Step.{Step}
+use Rattle.rules_steps.specs.declared.Step.the-variants.{Add, Grow, Shrink, Unknown}
 use Rattle.rules.specs.declared.LoopLine.{LoopLine}
 use Rattle.rules.specs.Figures.{Prices, Line}
 use Rattle.rules.specs.Scripts.{Script, reportTicks, reportLines}

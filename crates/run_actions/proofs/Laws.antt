@@ -23,13 +23,13 @@ use Rattle.values.specs.Results.{resultIn}
 use Rattle.rules.specs.Blocks.{Source, assign, cue, Test}
 use Rattle.rules.specs.Run.{State, Out, go, halt, choose, charge, write, result, exec, holds}
 use Rattle.rules.specs.declared.Prices.{Prices}
-use Rattle.rules.specs.RowMachine.{TurnCounts, tallyOf, Phase, Place, Next, begin, turn, fresh, to, chosen, outcome, paid, picked, tests}
+use Rattle.rules_machine.specs.RowMachine.{TurnCounts, tallyOf, Phase, Place, Next, begin, turn, fresh, to, chosen, outcome, paid, picked, tests}
 use Rattle.rules.specs.Scripts.{storeOf}
 use Rattle.rules.proofs.Laws.{put-set}
 use Rattle.run_actions.specs.declared.Machine.{Machine}
 use Rattle.run_actions.specs.declared.Status.{Status}
 use Rattle.run_actions.specs.declared.Status.the-variants.{Going, Over}
-use Rattle.run_actions.specs.States.{phaseOf, stateOf, placeOf, byStatus, nextOf, waitsBy, waitsOf, andTests, restBy, overAt, onAt, plainTo, putTo, pickTo, ActsIn, Acts, Steps, Begun, Room}
+use Rattle.run_actions.specs.States.{phaseOf, stateOf, placeOf, byStatus, nextOf, waitsBy, waitsOf, andTests, restBy, overAt, onAt, plainTo, putTo, pickTo, ActsIn, Acts, Steps, EntryBegun, Room}
 
 -- ---- a machine that is not spent
 going-not : {A : Type 0} {i : ℕ} → Going ≡ Over Spent i → A
@@ -177,7 +177,7 @@ module _ (counts : List (List ℕ)) (h : ℕ) (l : h < length counts) where
       (λ i. record { turns = column-set turned-row 0 i; sum = column-set turned-row 1 i; most = column-set turned-row 2 i })
       ∙ (λ i. record { turns = put (c .turns) h (e i); sum = put (c .sum) h (f i); most = put (c .most) h (max (c .most h) (e i)) })
 
-  pub begins : Room counts → Begun h counts (set counts h fresh-row)
+  pub begins : Room counts → EntryBegun h counts (set counts h fresh-row)
   unfolding begin
   begins r = record { same = begun; room = record { rows = simp length-set (r .rows); turn = λ p. subst (λ (d : TurnCounts). (d .turns p < 2 ^ 63) × (d .sum p < 2 ^ 63)) (sym begun) (by p (eqb p h) (r .turn p)) } }
     where

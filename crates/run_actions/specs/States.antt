@@ -13,7 +13,7 @@ use Rattle.rules.specs.declared.Ending.the-variants.{Spent}
 use Rattle.rules.specs.Blocks.{exprOf, kindOf, RowKind, from, Plain, assign, Test, test, holdTest, Form, while, do-while, hold, for, Last, no-step, step-by, View, is-plain, is-pick, is-else, is-end, is-loop, viewAt}
 use Rattle.rules.specs.declared.Prices.{Prices}
 use Rattle.rules.specs.Run.{State, charge, write, exec}
-use Rattle.rules.specs.RowMachine.{TurnCounts, tallyOf, begin, Phase, fresh, testing, Place, Next, more, over, to, outcome, paid, picked, tests, onEnd, onRow}
+use Rattle.rules_machine.specs.RowMachine.{TurnCounts, tallyOf, begin, Phase, fresh, testing, Place, Next, more, over, to, outcome, paid, picked, tests, onEnd, onRow}
 use Rattle.rules.specs.Scripts.{storeOf, ExprBelow, RowLimits, RowBelow}
 use Rattle.rules.specs.Expressions.{Expr}
 use Rattle.rules.specs.Values.{number}
@@ -27,19 +27,24 @@ abbrev pub phaseOf : Bool → Phase
 phaseOf true = testing
 phaseOf false = fresh
 
+-- the machine's state, with the picks that are left
 abbrev pub stateOf : Machine → List ℤ → List ℕ → State
 stateOf m store picks = record { store = storeOf store; left = m .left; picks = drop (m .used) picks }
 
+-- where a machine that goes on stands
 abbrev pub placeOf : Machine → List ℤ → List ℕ → TurnCounts → Place
 placeOf m store picks c = record { row = m .row; phase = phaseOf (m .testing); now = stateOf m store picks; tally = c }
 
+-- by its status: it goes on, or is over
 abbrev pub byStatus : Status → Machine → List ℤ → List ℕ → TurnCounts → Next
 byStatus Going m store picks c = more (placeOf m store picks c)
 byStatus (Over e i) m store picks c = over e i (stateOf m store picks) c
 
+-- where a machine stands
 abbrev pub nextOf : Machine → List ℤ → List ℕ → TurnCounts → Next
 nextOf m store picks c = byStatus (m .status) m store picks c
 
+-- whether it goes on
 abbrev pub isGoing : Status → Bool
 isGoing Going = true
 isGoing (Over e i) = false
@@ -49,6 +54,7 @@ abbrev pub waitsBy : Status → Bool → Bool
 waitsBy Going b = b
 waitsBy (Over e i) b = false
 
+-- whether a machine waits for the test of a for
 abbrev pub waitsOf : Machine → Bool
 waitsOf m = waitsBy (m .status) (m .testing)
 
@@ -56,9 +62,11 @@ waitsOf m = waitsBy (m .status) (m .testing)
 abbrev pub stoppedAt : Machine → ℕ → ℕ → Ending → ℕ → Machine
 stoppedAt m left used e i = record { row = m .row; testing = m .testing; left = left; used = used; status = Over e i }
 
+-- over, with the picks that it has used
 abbrev pub overAt : Machine → ℕ → Ending → ℕ → Machine
 overAt m left e i = stoppedAt m left (m .used) e i
 
+-- on at row i; b: a test is to come
 abbrev pub onAt : Machine → ℕ → ℕ → Bool → Machine
 onAt m left i b = record { row = i; testing = b; left = left; used = m .used; status = Going }
 
@@ -79,6 +87,7 @@ abbrev pub testedBy : Prices → Phase → ℕ → ℕ → Test → Place → Ne
 testedBy π testing h e t p = tests π h e t (p .now) (p .tally)
 testedBy π fresh h e t p = more p
 
+-- a run that goes on comes to its test
 abbrev pub andTests : Prices → ℕ → ℕ → Test → Next → Next
 andTests π h e t (more p) = testedBy π (p .phase) h e t p
 andTests π h e t (over a i s c) = over a i s c
@@ -103,20 +112,22 @@ stepped π (step-by p) fresh h e t n = andTests π h e t n
 stepped π (step-by p) testing h e t n = n
 
 -- the `end` at row e of the block that row h begins, and row i: one step of `rules`' machine, or two where a for's test follows its start or step
-module _ (π : Prices) (rows : List RowKind) (shut opener : ℕ → ℕ) where
+module _ (π : Prices) (rows : List RowKind) (matching-end matching-head : ℕ → ℕ) where
+  -- what an `end` row does, with a for's test after its step
   abbrev pub endTo : View → ℕ → ℕ → Phase → State → TurnCounts → Next
-  endTo (is-plain p) h e ph s c = onEnd π rows shut opener (is-plain p) h e ph s c
-  endTo is-pick h e ph s c = onEnd π rows shut opener is-pick h e ph s c
-  endTo is-else h e ph s c = onEnd π rows shut opener is-else h e ph s c
-  endTo is-end h e ph s c = onEnd π rows shut opener is-end h e ph s c
-  endTo (is-loop form t last) h e ph s c = stepped π last ph h e t (onEnd π rows shut opener (is-loop form t last) h e ph s c)
+  endTo (is-plain p) h e ph s c = onEnd π rows matching-end matching-head (is-plain p) h e ph s c
+  endTo is-pick h e ph s c = onEnd π rows matching-end matching-head is-pick h e ph s c
+  endTo is-else h e ph s c = onEnd π rows matching-end matching-head is-else h e ph s c
+  endTo is-end h e ph s c = onEnd π rows matching-end matching-head is-end h e ph s c
+  endTo (is-loop form t last) h e ph s c = stepped π last ph h e t (onEnd π rows matching-end matching-head (is-loop form t last) h e ph s c)
 
+  -- what a row does, with a for's test after its start
   abbrev pub rowTo : View → ℕ → Phase → State → TurnCounts → Next
-  rowTo (is-plain p) i ph s c = onRow π rows shut opener (is-plain p) i ph s c
-  rowTo is-pick i ph s c = onRow π rows shut opener is-pick i ph s c
-  rowTo is-else i ph s c = onRow π rows shut opener is-else i ph s c
-  rowTo is-end i ph s c = endTo (viewAt rows (opener i)) (opener i) i ph s c
-  rowTo (is-loop form t last) i ph s c = started π form ph i (shut i) t (onRow π rows shut opener (is-loop form t last) i ph s c)
+  rowTo (is-plain p) i ph s c = onRow π rows matching-end matching-head (is-plain p) i ph s c
+  rowTo is-pick i ph s c = onRow π rows matching-end matching-head is-pick i ph s c
+  rowTo is-else i ph s c = onRow π rows matching-end matching-head is-else i ph s c
+  rowTo is-end i ph s c = endTo (viewAt rows (matching-head i)) (matching-head i) i ph s c
+  rowTo (is-loop form t last) i ph s c = started π form ph i (matching-end i) t (onRow π rows matching-end matching-head (is-loop form t last) i ph s c)
 
 -- the phase in which the last of two steps begins, x what the first gave
 abbrev pub restBy : Phase → Next → Phase
@@ -164,6 +175,7 @@ abbrev pub forRest : Prices → ℕ → ℕ → Expr → Bool → State → Turn
 forRest π i v y true s c = testing
 forRest π i v y false s c = restBy fresh (plainTo π i (assign v (from y)) i true s (begin i c))
 
+-- the phase in which a start leaves the machine, if it is spent
 abbrev pub startRest : Form → Phase → Next → Phase
 startRest while ph n = ph
 startRest do-while ph n = ph
@@ -171,25 +183,28 @@ startRest hold ph n = ph
 startRest (for x) fresh n = restBy fresh n
 startRest (for x) testing n = testing
 
+-- the same of a step
 abbrev pub stepRest : Last → Phase → Next → Phase
 stepRest no-step ph n = ph
 stepRest (step-by p) fresh n = restBy fresh n
 stepRest (step-by p) testing n = testing
 
-module _ (π : Prices) (rows : List RowKind) (shut opener : ℕ → ℕ) where
+module _ (π : Prices) (rows : List RowKind) (matching-end matching-head : ℕ → ℕ) where
+  -- the same of an `end` row
   abbrev pub endRest : View → ℕ → ℕ → Phase → State → TurnCounts → Phase
   endRest (is-plain p) h e ph s c = ph
   endRest is-pick h e ph s c = ph
   endRest is-else h e ph s c = ph
   endRest is-end h e ph s c = ph
-  endRest (is-loop form t last) h e ph s c = stepRest last ph (onEnd π rows shut opener (is-loop form t last) h e ph s c)
+  endRest (is-loop form t last) h e ph s c = stepRest last ph (onEnd π rows matching-end matching-head (is-loop form t last) h e ph s c)
 
+  -- the same of any row
   abbrev pub rowRest : View → ℕ → Phase → State → TurnCounts → Phase
   rowRest (is-plain p) i ph s c = ph
   rowRest is-pick i ph s c = ph
   rowRest is-else i ph s c = ph
-  rowRest is-end i ph s c = endRest (viewAt rows (opener i)) (opener i) i ph s c
-  rowRest (is-loop form t last) i ph s c = startRest form ph (onRow π rows shut opener (is-loop form t last) i ph s c)
+  rowRest is-end i ph s c = endRest (viewAt rows (matching-head i)) (matching-head i) i ph s c
+  rowRest (is-loop form t last) i ph s c = startRest form ph (onRow π rows matching-end matching-head (is-loop form t last) i ph s c)
 
 -- a machine r that is spent waits at the row of m, in that phase
 abbrev pub Rests : Machine → Machine → Phase → Type 0
@@ -213,6 +228,7 @@ pub record StepsIn (m r : Machine) (store store′ : List ℤ) (picks : List ℕ
   pub used : m .used ≤ length picks → r .used ≤ length picks
   pub rests : Rests m r (g (stateOf m store picks) c)
 
+-- the same in one step
 abbrev pub Steps : Machine → Machine → List ℤ → List ℤ → List ℕ → TurnCounts → TurnCounts → (State → TurnCounts → Next) → Type 0
 Steps m r store store′ picks c c′ f = StepsIn m r store store′ picks c c′ f (λ s k. phaseOf (m .testing))
 
@@ -227,7 +243,7 @@ pub record Room (counts : List (List ℕ)) : Type 0 where
   pub turn : (p : ℕ) → (tallyOf counts .turns p < 2 ^ 63) × (tallyOf counts .sum p < 2 ^ 63)
 
 -- an entry of the loop at row h begins
-pub record Begun (h : ℕ) (counts counts′ : List (List ℕ)) : Type 0 where
+pub record EntryBegun (h : ℕ) (counts counts′ : List (List ℕ)) : Type 0 where
   pub same : tallyOf counts′ ≡ begin h (tallyOf counts)
   pub room : Room counts′
 
@@ -248,7 +264,7 @@ pub record Doable (text : List ℕ) (e i : ℕ) (k : Kind) (store : List ℤ) (c
   pub room : Room counts
 
 -- in the rows and tables row i has the partners e and h, row h of view w
-pub record Fitting (rows : List RowKind) (shut opener : ℕ → ℕ) (i e h : ℕ) (w : View) : Type 0 where
-  pub shuts : shut i ≡ e
-  pub opens : opener i ≡ h
+pub record Fitting (rows : List RowKind) (matching-end matching-head : ℕ → ℕ) (i e h : ℕ) (w : View) : Type 0 where
+  pub matching-ends : matching-end i ≡ e
+  pub opens : matching-head i ≡ h
   pub head : viewAt rows h ≡ w

@@ -1,4 +1,5 @@
 // What one price of a run buys: an assignment, a cue, a pick, a test.
+use min_max::larger;
 use rules::ALL;
 use rules::Change;
 use rules::Comparison;
@@ -17,9 +18,9 @@ ghost use lib.IntN.{ℤ, pos};
 ghost use Rattle.rules.specs.Values.{compares};
 ghost use Rattle.rules.specs.Blocks.{from, changed, off, assign, cue, test, exprOf};
 ghost use Rattle.rules.specs.Written.{WrittenOperand};
-ghost use Rattle.rules.specs.RowMachine.{TurnCounts, tallyOf, turn, tests};
+ghost use Rattle.rules_machine.specs.RowMachine.{TurnCounts, tallyOf, turn, tests};
 ghost use Rattle.rules.specs.Scripts.{storeOf, ExprBelow, ChangeLimits};
-ghost use Rattle.run_actions.specs.States.{waitsOf, stoppedAt, overAt, onAt, putTo, plainTo, pickTo, AfterByte, Acts, Steps, Testable, Begun, Room};
+ghost use Rattle.run_actions.specs.States.{waitsOf, stoppedAt, overAt, onAt, putTo, plainTo, pickTo, AfterByte, Acts, Steps, Testable, EntryBegun, Room};
 
 // Going, or over: the ending and its row.
 pub enum Status {
@@ -98,7 +99,7 @@ fn put(
     if left < price {
         return ended(m, left, Ending::Spent, at);
     }
-    if !expressions::within(z) {
+    if !expression_operators::within(z) {
         return ended(m, left - price, Ending::Range, at);
     }
     let i = v as usize;
@@ -226,17 +227,10 @@ pub fn pick_row(m: Machine, prices: Prices, other: usize, picks: &[u8]) -> Machi
     }
 }
 
-// The larger of two counts.
-fn larger(a: u64, b: u64) -> u64
-    ensures { λ r. ⌜ r ≡ max a b ⌝ }
-{
-    if a < b { b } else { a }
-}
-
 // An entry of the loop at row h begins, with no turn yet.
 pub fn begin(h: usize, counts: &mut [[u64; 3]; 256])
     requires { ⌜ (h < 256) × Room (now counts) ⌝ }
-    ensures { λ _. ⌜ Begun h (now (counts .entry)) (now (counts .exit)) ⌝ }
+    ensures { λ _. ⌜ EntryBegun h (now (counts .entry)) (now (counts .exit)) ⌝ }
 {
     counts[h] = [0, counts[h][ALL], counts[h][MOST]];
 }

@@ -11,14 +11,14 @@ use Rattle.rules.specs.declared.Kind.{Kind}
 use Rattle.rules.specs.declared.Row.{Row}
 use Rattle.rules.specs.declared.LoopCount.{LoopCount}
 use Rattle.rules.specs.Blocks.{RowKind, End, viewOf, kindOf, kindsOf}
-use Rattle.rules.specs.RowMachine.{TurnCounts}
+use Rattle.rules_machine.specs.RowMachine.{TurnCounts, countsOf}
 use Rattle.rules.specs.Calls.{isLoop, loopRows}
 use Rattle.run_loops.specs.declared.Heads.{Heads}
-use Rattle.run_loops.specs.Loops.{countsIn, noCount, NoneFrom, withHead, Headed, Counted}
+use Rattle.run_loops.specs.Loops.{noCount, NoneFrom, withHead, Headed, HeadCounts}
 
 -- one loop more
-counts-snoc : (c : TurnCounts) (l : List ℕ) (p : ℕ) → countsIn c (l ++ (p ∷ [])) ≡ countsIn c l ++ (record { row = p; all = c .sum p; most = c .most p } ∷ [])
-unfolding countsIn
+counts-snoc : (c : TurnCounts) (l : List ℕ) (p : ℕ) → countsOf c (l ++ (p ∷ [])) ≡ countsOf c l ++ (record { row = p; all = c .sum p; most = c .most p } ∷ [])
+unfolding countsOf
 counts-snoc c [] p = refl
 counts-snoc c (x ∷ l) p = ap {B = List LoopCount} (λ r. record { row = x; all = c .sum x; most = c .most x } ∷ r) (counts-snoc c l p)
 
@@ -103,11 +103,11 @@ listing-all ks j l small m h now =
 -- ---- the counts of the first k loops are listed
 pub record Counting (heads : List ℕ) (c : TurnCounts) (k : ℕ) (l : List LoopCount) : Type 0 where
   pub size : length l ≡ 16
-  pub counts : take k l ≡ countsIn c (take k heads)
+  pub counts : take k l ≡ countsOf c (take k heads)
   pub rest : NoneFrom k l
 
 pub counting-none : (heads : List ℕ) (c : TurnCounts) → Counting heads c 0 (replicate 16 noCount)
-unfolding countsIn
+unfolding countsOf
 counting-none heads c = record { size = refl; counts = refl; rest = none-first }
 
 pub counting-more : (heads : List ℕ) (c : TurnCounts) (k : ℕ) (l : List LoopCount) → k < length heads → k < 16 → Counting heads c k l
@@ -117,13 +117,13 @@ counting-more heads c k l h m now =
     let x : LoopCount = record { row = p; all = c .sum p; most = c .most p } in
     record {
       size = length-set l k x ∙ now .size;
-      counts = ap (λ z. take z (set l k x)) (add-one k) ∙ take-suc-set l k x (omega (arith, now .size)) ∙ ap (λ r. r ++ (x ∷ [])) (now .counts) ∙ sym (counts-snoc c (take k heads) p) ∙ ap (countsIn c) (sym (ap (λ z. take z heads) (add-one k) ∙ take-suc heads k 0 h));
+      counts = ap (λ z. take z (set l k x)) (add-one k) ∙ take-suc-set l k x (omega (arith, now .size)) ∙ ap (λ r. r ++ (x ∷ [])) (now .counts) ∙ sym (counts-snoc c (take k heads) p) ∙ ap (countsOf c) (sym (ap (λ z. take z heads) (add-one k) ∙ take-suc heads k 0 h));
       rest = none-next k l x (now .rest);
     }
 
-pub counting-all : (heads : List ℕ) (c : TurnCounts) (n k : ℕ) (l : List LoopCount) → k ≡ n → n ≤ length heads → Counting heads c k l → Counted (take n heads) c (record { count = k; counts = l })
+pub counting-all : (heads : List ℕ) (c : TurnCounts) (n k : ℕ) (l : List LoopCount) → k ≡ n → n ≤ length heads → Counting heads c k l → HeadCounts (take n heads) c (record { count = k; counts = l })
 counting-all heads c n k l e h now =
-    record { number = e ∙ sym (length-take-le n heads h); counts = now .counts ∙ ap (λ m. countsIn c (take m heads)) e; rest = now .rest }
+    record { number = e ∙ sym (length-take-le n heads h); counts = now .counts ∙ ap (λ m. countsOf c (take m heads)) e; rest = now .rest }
 
 -- ---- the loops are the same beside any text
 module _ (text text′ : List ℕ) where

@@ -8,20 +8,16 @@ use Rattle.rules.specs.declared.Row.{Row}
 use Rattle.rules.specs.declared.LoopCount.{LoopCount}
 use Rattle.rules.specs.Blocks.{RowKind, kindsOf}
 use Rattle.rules.specs.Nesting.{nest, nestRows}
-use Rattle.rules.specs.RowMachine.{TurnCounts}
+use Rattle.rules_machine.specs.RowMachine.{TurnCounts, countsOf}
 use Rattle.rules.specs.Calls.{loopRows}
 use Rattle.run_loops.specs.declared.Heads.{Heads}
 use Rattle.run_loops.specs.declared.Loops.{Loops}
-
--- the counts of the loops at these rows
-unfoldable pub countsIn : TurnCounts → List ℕ → List LoopCount
-countsIn c [] = []
-countsIn c (p ∷ ps) = record { row = p; all = c .sum p; most = c .most p } ∷ countsIn c ps
 
 -- what stands past the last loop
 abbrev pub noCount : LoopCount
 noCount = record { row = 0; all = 0; most = 0 }
 
+-- no counts from number n on
 abbrev pub NoneFrom : ℕ → List LoopCount → Type 0
 NoneFrom n counts = (k : ℕ) → n ≤ k → getD counts k noCount ≡ noCount
 
@@ -47,7 +43,7 @@ pub record Headed (rows : List RowKind) (h : Heads) : Type 0 where
   pub heads : take (h .count) (h .rows) ≡ loopRows 0 rows
 
 -- loops with these head rows, and their counts
-pub record Counted (heads : List ℕ) (c : TurnCounts) (l : Loops) : Type 0 where
+pub record HeadCounts (heads : List ℕ) (c : TurnCounts) (l : Loops) : Type 0 where
   pub number : l .count ≡ length heads
-  pub counts : take (l .count) (l .counts) ≡ countsIn c heads
+  pub counts : take (l .count) (l .counts) ≡ countsOf c heads
   pub rest : NoneFrom (l .count) (l .counts)

@@ -14,7 +14,7 @@ use Rattle.rules.specs.declared.Change.{Change}
 use Rattle.rules.specs.Blocks.{RowKind, exprOf, kindOf, from, assign, Plain, Test, test, while, do-while, hold, for, Last, View, is-plain, is-pick, is-else, is-end, is-loop, viewAt}
 use Rattle.rules.specs.Run.{State, exec}
 use Rattle.rules.specs.declared.Prices.{Prices}
-use Rattle.rules.specs.RowMachine.{TurnCounts, Phase, Next, begin, turn, fresh, testing, to, tests, onRow}
+use Rattle.rules_machine.specs.RowMachine.{TurnCounts, Phase, Next, begin, turn, fresh, testing, to, tests, onRow}
 use Rattle.rules.specs.Scripts.{ExprBelow}
 use Rattle.rules.specs.Expressions.{Expr}
 use Rattle.run_actions.specs.declared.Machine.{Machine}
@@ -83,24 +83,24 @@ pub steps-row : {m r : Machine} {store store′ : List ℤ} {picks : List ℕ} {
     → StepsIn m r store store′ picks c c′ f g → ((s : State) (d : TurnCounts) → (f s d ≡ f′ s d) × (g s d ≡ g′ s d)) → StepsIn m r store store′ picks c c′ f′ g′
 steps-row a e = record { same = a .same ∙ e _ _ .0; left = a .left; used = a .used; rests = λ i q. let (x, y) = a .rests i q in (x, y ∙ e _ _ .1) }
 
-module _ (π : Prices) (rows : List RowKind) (shut opener : ℕ → ℕ) (i e h : ℕ) (w : View) (fit : Fitting rows shut opener i e h w) (s : State) (c : TurnCounts) where
+module _ (π : Prices) (rows : List RowKind) (matching-end matching-head : ℕ → ℕ) (i e h : ℕ) (w : View) (fit : Fitting rows matching-end matching-head i e h w) (s : State) (c : TurnCounts) where
   -- row i, by its view
   abbrev pub At : Next → Phase → View → Bool → Type 0
-  At n ph v b = (n ≡ rowTo π rows shut opener v i (phaseOf b) s c) × (ph ≡ rowRest π rows shut opener v i (phaseOf b) s c)
+  At n ph v b = (n ≡ rowTo π rows matching-end matching-head v i (phaseOf b) s c) × (ph ≡ rowRest π rows matching-end matching-head v i (phaseOf b) s c)
 
-  pub at-end : (b : Bool) → At (endTo π rows shut opener w h i (phaseOf b) s c) (endRest π rows shut opener w h i (phaseOf b) s c) is-end b
+  pub at-end : (b : Bool) → At (endTo π rows matching-end matching-head w h i (phaseOf b) s c) (endRest π rows matching-end matching-head w h i (phaseOf b) s c) is-end b
   at-end b = (
-    sym ((λ t. endTo π rows shut opener (viewAt rows (fit .opens t)) (fit .opens t) i (phaseOf b) s c) ∙ ap (λ v. endTo π rows shut opener v h i (phaseOf b) s c) (fit .head)),
-    sym ((λ t. endRest π rows shut opener (viewAt rows (fit .opens t)) (fit .opens t) i (phaseOf b) s c) ∙ ap (λ v. endRest π rows shut opener v h i (phaseOf b) s c) (fit .head)),
+    sym ((λ t. endTo π rows matching-end matching-head (viewAt rows (fit .opens t)) (fit .opens t) i (phaseOf b) s c) ∙ ap (λ v. endTo π rows matching-end matching-head v h i (phaseOf b) s c) (fit .head)),
+    sym ((λ t. endRest π rows matching-end matching-head (viewAt rows (fit .opens t)) (fit .opens t) i (phaseOf b) s c) ∙ ap (λ v. endRest π rows matching-end matching-head v h i (phaseOf b) s c) (fit .head)),
   )
 
   pub at-else : (b : Bool) → At (to (suc e) fresh s c) (phaseOf b) is-else b
   unfolding onRow
-  at-else b = (ap (λ z. to (suc z) fresh s c) (sym (fit .shuts)), refl)
+  at-else b = (ap (λ z. to (suc z) fresh s c) (sym (fit .matching-ends)), refl)
 
   pub at-pick : (b : Bool) → At (pickTo π i (e + 1) s c) (phaseOf b) is-pick b
   unfolding onRow
-  at-pick b = (ap (λ z. pickTo π i z s c) (add-one e ∙ ap suc (sym (fit .shuts))), refl)
+  at-pick b = (ap (λ z. pickTo π i z s c) (add-one e ∙ ap suc (sym (fit .matching-ends))), refl)
 
   pub at-plain : (p : Plain) (b : Bool) → At (plainTo π i p (i + 1) false s c) (phaseOf b) (is-plain p) b
   unfolding onRow
@@ -108,11 +108,11 @@ module _ (π : Prices) (rows : List RowKind) (shut opener : ℕ → ℕ) (i e h 
 
   pub at-while : (t : Test) (l : Last) (b : Bool) → At (tests π i e t s (begin i c)) (phaseOf b) (is-loop while t l) b
   unfolding onRow
-  at-while t l b = (ap (λ z. tests π i z t s (begin i c)) (sym (fit .shuts)), refl)
+  at-while t l b = (ap (λ z. tests π i z t s (begin i c)) (sym (fit .matching-ends)), refl)
 
   pub at-hold : (t : Test) (l : Last) (b : Bool) → At (tests π i e t s (begin i c)) (phaseOf b) (is-loop hold t l) b
   unfolding onRow
-  at-hold t l b = (ap (λ z. tests π i z t s (begin i c)) (sym (fit .shuts)), refl)
+  at-hold t l b = (ap (λ z. tests π i z t s (begin i c)) (sym (fit .matching-ends)), refl)
 
   pub at-do : (t : Test) (l : Last) (b : Bool) → At (to (suc i) fresh s (turn i (begin i c))) (phaseOf b) (is-loop do-while t l) b
   unfolding onRow
@@ -120,5 +120,5 @@ module _ (π : Prices) (rows : List RowKind) (shut opener : ℕ → ℕ) (i e h 
 
   pub at-for : (v : ℕ) (y : Expr) (d : Comparison) (x : Expr) (l : Last) (b : Bool) → At (forTo π i e v y d x b s c) (forRest π i v y b s c) (is-loop (for y) (test v d x) l) b
   unfolding onRow
-  at-for v y d x l true = (ap (λ j. tests π i j (test v d x) s c) (sym (fit .shuts)), refl)
-  at-for v y d x l false = (ap (λ j. andTests π i j (test v d x) (plainTo π i (assign v (from y)) i true s (begin i c))) (sym (fit .shuts)), refl)
+  at-for v y d x l true = (ap (λ j. tests π i j (test v d x) s c) (sym (fit .matching-ends)), refl)
+  at-for v y d x l false = (ap (λ j. andTests π i j (test v d x) (plainTo π i (assign v (from y)) i true s (begin i c))) (sym (fit .matching-ends)), refl)

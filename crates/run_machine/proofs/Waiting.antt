@@ -16,7 +16,7 @@ use Rattle.rules.specs.declared.Ending.{Ending}
 use Rattle.rules.specs.declared.Ending.the-variants.{Spent}
 use Rattle.rules.specs.Values.{Tried, passes, fails, beyond}
 use Rattle.rules.specs.Run.{State, holds}
-use Rattle.rules.specs.RowMachine.{TurnCounts, turn, fresh, Next, more, over, to, chosen, decide, paid, tests, onRow, onEnd}
+use Rattle.rules_machine.specs.RowMachine.{TurnCounts, turn, fresh, Next, more, over, to, chosen, decide, paid, tests, onRow, onEnd}
 use Rattle.rules.proofs.Kind.{the-type}
 use Rattle.run_actions.specs.declared.Machine.{Machine}
 use Rattle.run_actions.specs.declared.Status.{Status}
@@ -67,18 +67,18 @@ module _ (text : List ℕ) where
   waits-start w (Hold v) o e = never e
 
 -- its test is the step of `rules`' machine there
-module _ (π : Prices) (rows : List RowKind) (shut opener : ℕ → ℕ) (i e h : ℕ) (s : State) (c : TurnCounts) where
-  pub again-end : (w : View) (fit : Fitting rows shut opener i e h w) (b : Bool) → b ≡ true → hasStep w ≡ true → At π rows shut opener i e h w fit s c (tests π h i (testIn w) s c) (phaseOf b) is-end b
+module _ (π : Prices) (rows : List RowKind) (matching-end matching-head : ℕ → ℕ) (i e h : ℕ) (s : State) (c : TurnCounts) where
+  pub again-end : (w : View) (fit : Fitting rows matching-end matching-head i e h w) (b : Bool) → b ≡ true → hasStep w ≡ true → At π rows matching-end matching-head i e h w fit s c (tests π h i (testIn w) s c) (phaseOf b) is-end b
   unfolding onEnd
   again-end (is-plain p) fit b q z = never z
   again-end is-pick fit b q z = never z
   again-end is-else fit b q z = never z
   again-end is-end fit b q z = never z
   again-end (is-loop form t no-step) fit b q z = never z
-  again-end (is-loop form t (step-by p)) fit true q z = at-end π rows shut opener i e h (is-loop form t (step-by p)) fit s c true
+  again-end (is-loop form t (step-by p)) fit true q z = at-end π rows matching-end matching-head i e h (is-loop form t (step-by p)) fit s c true
   again-end (is-loop form t (step-by p)) fit false q z = never q
 
-  pub again-start : (v w : View) (fit : Fitting rows shut opener i e h w) (b : Bool) → b ≡ true → hasStart v ≡ true → At π rows shut opener i e h w fit s c (tests π i e (testIn v) s c) (phaseOf b) v b
+  pub again-start : (v w : View) (fit : Fitting rows matching-end matching-head i e h w) (b : Bool) → b ≡ true → hasStart v ≡ true → At π rows matching-end matching-head i e h w fit s c (tests π i e (testIn v) s c) (phaseOf b) v b
   unfolding onRow
   again-start (is-plain p) w fit b q z = never z
   again-start is-pick w fit b q z = never z
@@ -87,7 +87,7 @@ module _ (π : Prices) (rows : List RowKind) (shut opener : ℕ → ℕ) (i e h 
   again-start (is-loop while t last) w fit b q z = never z
   again-start (is-loop do-while t last) w fit b q z = never z
   again-start (is-loop hold t last) w fit b q z = never z
-  again-start (is-loop (for x) t last) w fit true q z = (rw (fit .shuts), refl)
+  again-start (is-loop (for x) t last) w fit true q z = (rw (fit .matching-ends), refl)
   again-start (is-loop (for x) t last) w fit false q z = never q
 
 -- after a test no other is to come

@@ -13,7 +13,7 @@ ghost use lib.ListN.{length};
 ghost use Rattle.rules.specs.Scripts.{ExprBelow};
 ghost use Rattle.rules.specs.Blocks.{RowKind, holdTest, viewOf, exprOf, kindOf};
 ghost use Rattle.rules.specs.Written.{WrittenOperand};
-ghost use Rattle.rules.specs.RowMachine.{tallyOf, tests};
+ghost use Rattle.rules_machine.specs.RowMachine.{tallyOf, tests};
 ghost use Rattle.run_actions.specs.States.{endTo, forTo, rowTo, endRest, forRest, rowRest, testIn, hasStep, awaits, isGoing, phaseOf, Acts, ActsIn, StepsIn, Room, Testable, Doable, Fitting};
 
 // The test of a hold: is its flag not 0?
@@ -56,7 +56,7 @@ fn end_row(
     counts: &mut [[u64; 3]; 256],
 ) -> Machine
     requires { ⌜ Doable (now text) (m .row) h (head .kind) (now store) (now counts) ⌝ }
-    ensures { λ r. ⌜ (((rows : List RowKind) (shut opener : ℕ → ℕ) → ActsIn m r (now (store .entry)) (now (store .exit)) (tallyOf (now (counts .entry))) (tallyOf (now (counts .exit))) (endTo prices rows shut opener (viewOf (kindOf (now (text .entry)) (head .kind))) h (m .row) (phaseOf (m .testing))) (endRest prices rows shut opener (viewOf (kindOf (now (text .entry)) (head .kind))) h (m .row) (phaseOf (m .testing)))) × (length (now (counts .exit)) ≡ 256)) ⌝ }
+    ensures { λ r. ⌜ (((rows : List RowKind) (matching-end matching-head : ℕ → ℕ) → ActsIn m r (now (store .entry)) (now (store .exit)) (tallyOf (now (counts .entry))) (tallyOf (now (counts .exit))) (endTo prices rows matching-end matching-head (viewOf (kindOf (now (text .entry)) (head .kind))) h (m .row) (phaseOf (m .testing))) (endRest prices rows matching-end matching-head (viewOf (kindOf (now (text .entry)) (head .kind))) h (m .row) (phaseOf (m .testing)))) × (length (now (counts .exit)) ≡ 256)) ⌝ }
 {
     let kind = head.kind;
     let e = m.row;
@@ -134,7 +134,7 @@ pub fn step(
     counts: &mut [[u64; 3]; 256],
 ) -> Machine
     requires { ⌜ Doable (now text) e (m .row) (row .kind) (now store) (now counts) × Doable (now text) (m .row) h (head .kind) (now store) (now counts) ⌝ }
-    ensures { λ r. ⌜ (((rows : List RowKind) (shut opener : ℕ → ℕ) → Fitting rows shut opener (m .row) e h (viewOf (kindOf (now (text .entry)) (head .kind))) → StepsIn m r (now (store .entry)) (now (store .exit)) (now (picks .entry)) (tallyOf (now (counts .entry))) (tallyOf (now (counts .exit))) (rowTo prices rows shut opener (viewOf (kindOf (now (text .entry)) (row .kind))) (m .row) (phaseOf (m .testing))) (rowRest prices rows shut opener (viewOf (kindOf (now (text .entry)) (row .kind))) (m .row) (phaseOf (m .testing)))) × (length (now (counts .exit)) ≡ 256)) ⌝ }
+    ensures { λ r. ⌜ (((rows : List RowKind) (matching-end matching-head : ℕ → ℕ) → Fitting rows matching-end matching-head (m .row) e h (viewOf (kindOf (now (text .entry)) (head .kind))) → StepsIn m r (now (store .entry)) (now (store .exit)) (now (picks .entry)) (tallyOf (now (counts .entry))) (tallyOf (now (counts .exit))) (rowTo prices rows matching-end matching-head (viewOf (kindOf (now (text .entry)) (row .kind))) (m .row) (phaseOf (m .testing))) (rowRest prices rows matching-end matching-head (viewOf (kindOf (now (text .entry)) (row .kind))) (m .row) (phaseOf (m .testing)))) × (length (now (counts .exit)) ≡ 256)) ⌝ }
 {
     let kind = row.kind;
     let i = m.row;
@@ -216,7 +216,7 @@ pub fn test_again(
     counts: &mut [[u64; 3]; 256],
 ) -> Machine
     requires { ⌜ Doable (now text) e (m .row) (row .kind) (now store) (now counts) × Doable (now text) (m .row) h (head .kind) (now store) (now counts) × (m .testing ≡ true) × (awaits (viewOf (kindOf (now text) (row .kind))) (viewOf (kindOf (now text) (head .kind))) ≡ true) ⌝ }
-    ensures { λ r. ⌜ (((rows : List RowKind) (shut opener : ℕ → ℕ) (picks : List ℕ) → Fitting rows shut opener (m .row) e h (viewOf (kindOf (now (text .entry)) (head .kind))) → StepsIn m r (now (store .entry)) (now (store .entry)) picks (tallyOf (now (counts .entry))) (tallyOf (now (counts .exit))) (rowTo prices rows shut opener (viewOf (kindOf (now (text .entry)) (row .kind))) (m .row) (phaseOf (m .testing))) (rowRest prices rows shut opener (viewOf (kindOf (now (text .entry)) (row .kind))) (m .row) (phaseOf (m .testing)))) × (length (now (counts .exit)) ≡ 256) × (isGoing (r .status) ≡ true → r .testing ≡ false)) ⌝ }
+    ensures { λ r. ⌜ (((rows : List RowKind) (matching-end matching-head : ℕ → ℕ) (picks : List ℕ) → Fitting rows matching-end matching-head (m .row) e h (viewOf (kindOf (now (text .entry)) (head .kind))) → StepsIn m r (now (store .entry)) (now (store .entry)) picks (tallyOf (now (counts .entry))) (tallyOf (now (counts .exit))) (rowTo prices rows matching-end matching-head (viewOf (kindOf (now (text .entry)) (row .kind))) (m .row) (phaseOf (m .testing))) (rowRest prices rows matching-end matching-head (viewOf (kindOf (now (text .entry)) (row .kind))) (m .row) (phaseOf (m .testing)))) × (length (now (counts .exit)) ≡ 256) × (isGoing (r .status) ≡ true → r .testing ≡ false)) ⌝ }
 {
     let kind = row.kind;
     let begins = head.kind;

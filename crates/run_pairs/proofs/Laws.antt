@@ -7,13 +7,13 @@ use native.Mathlib.Omega.{arith}
 use lib.ListN.{length, getD, set, replicate}
 use lib.Seq.{getD-set-same, getD-set-other}
 use Rattle.rules.specs.Blocks.{RowKind}
-use Rattle.rules.specs.RowMachine.{Pairs, push, closing, pairs}
+use Rattle.rules_machine.specs.RowMachine.{Pairs, push, closing, pairs}
 use Rattle.rules.proofs.Laws.{put-set}
 use Rattle.run_pairs.specs.Tables.{stackOf, tableOf}
 
 -- tables of their parts
 abbrev pub table : List ℕ → (ℕ → ℕ) → (ℕ → ℕ) → Pairs
-table st f g = record { stack = st; shut = f; opener = g }
+table st f g = record { stack = st; end = f; head = g }
 
 -- the numbers below are kept
 stack-set : (l : List ℕ) (d x n : ℕ) → n ≤ d → stackOf (set l d x) n ≡ stackOf l n

@@ -5,7 +5,7 @@ use Prim.Native.Nat.{ℕ, zero, suc, _≤_}
 use lib.ListN.{length, getD}
 use Rattle.rules.specs.declared.Kind.{Kind}
 use Rattle.rules.specs.Blocks.{RowKind, viewOf, kindOf}
-use Rattle.rules.specs.RowMachine.{Pairs, push, closing, pairRow, pairs}
+use Rattle.rules_machine.specs.RowMachine.{Pairs, push, closing, pairRow, pairs}
 use Rattle.run_pairs.specs.declared.Tables.{Tables}
 
 -- the first n numbers of an array, the last one first
@@ -19,28 +19,28 @@ tableOf l i = getD l i 0
 
 -- the tables and the stack of `depth` open rows
 abbrev pub pairsOf : List ℕ → List ℕ → List ℕ → ℕ → Pairs
-pairsOf shut opener stack depth = record { stack = stackOf stack depth; shut = tableOf shut; opener = tableOf opener }
+pairsOf matching-end matching-head stack depth = record { stack = stackOf stack depth; end = tableOf matching-end; head = tableOf matching-head }
 
 -- 256 rows each
-pub record Sized (shut opener stack : List ℕ) : Type 0 where
-  pub sizes : (length shut ≡ 256) × (length opener ≡ 256) × (length stack ≡ 256)
+pub record Sized (matching-end matching-head stack : List ℕ) : Type 0 where
+  pub sizes : (length matching-end ≡ 256) × (length matching-head ≡ 256) × (length stack ≡ 256)
 
 -- row j begins a block
 pub record Pushed (j depth : ℕ) (stack : List ℕ) (r : ℕ) (stack′ : List ℕ) : Type 0 where
-  pub same : (shut opener : List ℕ) → pairsOf shut opener stack′ r ≡ push j (pairsOf shut opener stack depth)
+  pub same : (matching-end matching-head : List ℕ) → pairsOf matching-end matching-head stack′ r ≡ push j (pairsOf matching-end matching-head stack depth)
   pub deep : r ≤ suc j
 
 -- row j closes the innermost open row
-pub record Closed (j depth : ℕ) (shut opener stack : List ℕ) (r : ℕ) (shut′ opener′ : List ℕ) : Type 0 where
-  pub same : pairsOf shut′ opener′ stack r ≡ closing j (stackOf stack depth) (tableOf shut) (tableOf opener)
+pub record RowCloses (j depth : ℕ) (matching-end matching-head stack : List ℕ) (r : ℕ) (matching-end′ matching-head′ : List ℕ) : Type 0 where
+  pub same : pairsOf matching-end′ matching-head′ stack r ≡ closing j (stackOf stack depth) (tableOf matching-end) (tableOf matching-head)
   pub deep : r ≤ j
 
 -- row j, of kind k
-pub record Paired (k : Kind) (j depth : ℕ) (shut opener stack : List ℕ) (r : ℕ) (shut′ opener′ stack′ : List ℕ) : Type 0 where
-  pub same : (text : List ℕ) → pairsOf shut′ opener′ stack′ r ≡ pairRow (viewOf (kindOf text k)) j (pairsOf shut opener stack depth)
+pub record Paired (k : Kind) (j depth : ℕ) (matching-end matching-head stack : List ℕ) (r : ℕ) (matching-end′ matching-head′ stack′ : List ℕ) : Type 0 where
+  pub same : (text : List ℕ) → pairsOf matching-end′ matching-head′ stack′ r ≡ pairRow (viewOf (kindOf text k)) j (pairsOf matching-end matching-head stack depth)
   pub deep : r ≤ suc j
 
 -- all rows: the tables are those of the pass of `rules`
-pub record Found (rows : List RowKind) (t : Tables) : Type 0 where
-  pub shuts : tableOf (t .shut) ≡ pairs rows (length rows) .shut
-  pub openers : tableOf (t .opener) ≡ pairs rows (length rows) .opener
+pub record TablesOf (rows : List RowKind) (t : Tables) : Type 0 where
+  pub matching-ends : tableOf (t .end) ≡ pairs rows (length rows) .end
+  pub matching-heads : tableOf (t .head) ≡ pairs rows (length rows) .head

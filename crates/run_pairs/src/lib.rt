@@ -6,12 +6,12 @@ ghost use mathlib.Core.List.{List};
 ghost use Prim.Native.Nat.{ℕ, _≤_, _<_};
 ghost use lib.ListN.{length, take};
 ghost use Rattle.rules.specs.Blocks.{kindsOf};
-ghost use Rattle.run_pairs.specs.Tables.{Sized, Pushed, Closed, Paired, Found};
+ghost use Rattle.run_pairs.specs.Tables.{Sized, Pushed, RowCloses, Paired, TablesOf};
 
-// The tables: `shut` of a row that begins a block, `opener` of a row that closes one.
+// The tables: `end` of a row that begins a block, `head` of a row that closes one.
 pub struct Tables {
-    pub shut: [u8; 256],
-    pub opener: [u8; 256],
+    pub end: [u8; 256],
+    pub head: [u8; 256],
 }
 
 // Row j begins a block: one more open row.
@@ -24,9 +24,15 @@ fn push(j: usize, depth: usize, stack: &mut [u8]) -> usize
 }
 
 // Row j closes the innermost open row.
-fn close(j: usize, depth: usize, shut: &mut [u8], opener: &mut [u8], stack: &[u8]) -> usize
-    requires { ⌜ (depth ≤ j) × (j < 256) × Sized (now shut) (now opener) (now stack) ⌝ }
-    ensures { λ r. ⌜ Closed j depth (now (shut .entry)) (now (opener .entry)) (now (stack .entry)) r (now (shut .exit)) (now (opener .exit)) ⌝ }
+fn close(
+    j: usize,
+    depth: usize,
+    matching_end: &mut [u8],
+    matching_head: &mut [u8],
+    stack: &[u8],
+) -> usize
+    requires { ⌜ (depth ≤ j) × (j < 256) × Sized (now «matching_end») (now «matching_head») (now stack) ⌝ }
+    ensures { λ r. ⌜ RowCloses j depth (now («matching_end» .entry)) (now («matching_head» .entry)) (now (stack .entry)) r (now («matching_end» .exit)) (now («matching_head» .exit)) ⌝ }
 {
     if depth == 0 {
         return depth;
@@ -34,8 +40,8 @@ fn close(j: usize, depth: usize, shut: &mut [u8], opener: &mut [u8], stack: &[u8
     let top = depth - 1;
     let i = stack[top];
     let at = i as usize;
-    shut[at] = j as u8;
-    opener[j] = i;
+    matching_end[at] = j as u8;
+    matching_head[j] = i;
     top
 }
 
@@ -44,17 +50,17 @@ fn pair_row(
     kind: Kind,
     j: usize,
     depth: usize,
-    shut: &mut [u8],
-    opener: &mut [u8],
+    matching_end: &mut [u8],
+    matching_head: &mut [u8],
     stack: &mut [u8],
 ) -> usize
-    requires { ⌜ (depth ≤ j) × (j < 256) × Sized (now shut) (now opener) (now stack) ⌝ }
-    ensures { λ r. ⌜ Paired kind j depth (now (shut .entry)) (now (opener .entry)) (now (stack .entry)) r (now (shut .exit)) (now (opener .exit)) (now (stack .exit)) ⌝ }
+    requires { ⌜ (depth ≤ j) × (j < 256) × Sized (now «matching_end») (now «matching_head») (now stack) ⌝ }
+    ensures { λ r. ⌜ Paired kind j depth (now («matching_end» .entry)) (now («matching_head» .entry)) (now (stack .entry)) r (now («matching_end» .exit)) (now («matching_head» .exit)) (now (stack .exit)) ⌝ }
 {
     match kind {
-        Kind::End => close(j, depth, shut, opener, stack),
+        Kind::End => close(j, depth, matching_end, matching_head, stack),
         Kind::Else => {
-            let open = close(j, depth, shut, opener, stack);
+            let open = close(j, depth, matching_end, matching_head, stack);
             push(j, open, stack)
         }
         Kind::Pick => push(j, depth, stack),
@@ -72,21 +78,28 @@ fn pair_row(
 // The tables of the first `count` rows.
 pub fn partners(rows: [Row; 256], count: usize) -> Tables
     requires { ⌜ count ≤ 256 ⌝ }
-    ensures { λ r. ⌜ ((text : List ℕ) → Found (take count (kindsOf text rows)) r) ⌝ }
+    ensures { λ r. ⌜ ((text : List ℕ) → TablesOf (take count (kindsOf text rows)) r) ⌝ }
 {
-    let mut shut = [0u8; 256];
-    let mut opener = [0u8; 256];
+    let mut matching_end = [0u8; 256];
+    let mut matching_head = [0u8; 256];
     let mut stack = [0u8; 256];
     let mut depth = 0;
     let mut j = 0;
     while j < count {
         let row = rows[j];
         let kind = row.kind;
-        depth = pair_row(kind, j, depth, &mut shut, &mut opener, &mut stack);
+        depth = pair_row(
+            kind,
+            j,
+            depth,
+            &mut matching_end,
+            &mut matching_head,
+            &mut stack,
+        );
         j += 1;
     }
     Tables {
-        shut: shut,
-        opener: opener,
+        end: matching_end,
+        head: matching_head,
     }
 }

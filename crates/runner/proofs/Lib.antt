@@ -1,3 +1,4 @@
+pub mod StepGives
 pub mod Loop
 pub mod Start
 pub mod Waiting

@@ -15,20 +15,21 @@ use Rattle.rules.specs.Values.{put, Tried, passes, fails, beyond}
 use Rattle.rules.specs.Blocks.{RowKind, End, kindOf, Test, Form, while, do-while, hold, for, Last, no-step, step-by, View, is-plain, is-pick, is-else, is-end, is-loop, viewOf, viewAt, kindsOf}
 use Rattle.rules.specs.declared.Prices.{Prices}
 use Rattle.rules.specs.Run.{State, Out, go, halt, holds}
-use Rattle.rules.specs.RowMachine.{TurnCounts, tallyOf, begin, turn, Phase, fresh, testing, Place, Next, more, over, to, chosen, decide, outcome, paid, picked, tests, onEnd, onRow, next, steps, Partners, pairs, rank}
+use Rattle.rules_machine.specs.RowMachine.{TurnCounts, tallyOf, begin, turn, Phase, fresh, testing, Place, Next, more, over, to, chosen, decide, outcome, paid, picked, tests, onEnd, onRow, next, steps, Partners, pairs, rank}
 use Rattle.rules.specs.Scripts.{All, some, RowLimits, RowBelow}
-use Rattle.rules.proofs.RowSimulation.{falls-more, next-row, next-past, steps-add}
-use Rattle.rules.proofs.Pairing.{partners, pairs-in}
-use Rattle.rules.proofs.Nesting.{tree-of}
+use Rattle.rules_machine.proofs.RowMachineRuns.{falls-more, next-row, next-past, steps-add}
+use Rattle.rules_machine.proofs.PairsIn.{partners, pairs-in}
+use Rattle.rules.proofs.TreeOf.{tree-of}
 use Rattle.rules.proofs.Laws.{kinds-first, kind-of}
 use Rattle.run_pairs.specs.declared.Tables.{Tables}
-use Rattle.run_pairs.specs.Tables.{tableOf, Found}
+use Rattle.run_pairs.specs.Tables.{tableOf, TablesOf}
 use Rattle.rules.specs.Nesting.{nest, nestRows}
 use Rattle.run_actions.specs.declared.Machine.{Machine}
 use Rattle.run_actions.specs.declared.Status.{Status}
 use Rattle.run_actions.specs.declared.Status.the-variants.{Going, Over}
 use Rattle.run_actions.specs.States.{phaseOf, stateOf, placeOf, byStatus, nextOf, andTests, endTo, rowTo, restBy, endRest, rowRest, isGoing, overAt, Room, Doable, Fitting, StepsIn}
-use Rattle.runner.specs.Runs.{Runnable, Roomy, roomy-over, roomy-more, MayStep, Came, Finished}
+use Rattle.runner.proofs.StepGives.{Gives, gives-more, step-gives}
+use Rattle.runner.specs.Runs.{Runnable, RoomToCount, roomy-over, roomy-more, MayStep, RunOver, Finished}
 
 -- every element by its index
 pub all-index : {A : Type 0} {Q : A → Type 0} (l : List A) (i : ℕ) (d : A) → All Q l → i < length l → Q (getD l i d)
@@ -36,118 +37,26 @@ all-index [] i d h l = absurd (omega arith)
 all-index (x ∷ xs) zero d (some q h) l = q
 all-index (x ∷ xs) (suc i) d (some q h) l = all-index xs i d h (omega arith)
 
--- ---- a step adds at most one turn to each count
-data Near (c : TurnCounts) : Next → Type 0 where
-  near-over : {e : Ending} {i : ℕ} {s : State} {d : TurnCounts} → Near c (over e i s d)
-  near-more : {m : Place} → ((p : ℕ) → (m .tally .turns p ≤ suc (c .turns p)) × (m .tally .sum p ≤ suc (c .sum p))) → Near c (more m)
-
--- a tally that is not above c
-data Less (c : TurnCounts) (d : TurnCounts) : Type 0 where
-  less : ((p : ℕ) → (d .turns p ≤ c .turns p) × (d .sum p ≤ c .sum p)) → Less c d
-
-less-same : (c : TurnCounts) → Less c c
-less-same c = less λ p. (omega arith, omega arith)
-
-put-less : (f : ℕ → ℕ) (h p : ℕ) → put f h 0 p ≤ f p
-put-less f h p = by (eqb p h)
-  where
-    by : (b : Bool) → cond b 0 (f p) ≤ f p
-    by true = omega arith
-    by false = omega arith
-
-less-begin : (h : ℕ) (c : TurnCounts) → Less c (begin h c)
-unfolding begin
-less-begin h c = less λ p. (put-less (c .turns) h p, omega arith)
-
--- one more at h
-put-one : (f : ℕ → ℕ) (h p : ℕ) → put f h (suc (f h)) p ≤ suc (f p)
-put-one f h p = by (eqb p h) (eqb→eq p h)
-  where
-    by : (b : Bool) → (T b → p ≡ h) → cond b (suc (f h)) (f p) ≤ suc (f p)
-    by true q = omega (arith, ap f (q tt))
-    by false q = omega arith
-
-module _ {c d : TurnCounts} where
-  near-to : (j : ℕ) (ph : Phase) (s : State) → Less c d → Near c (to j ph s d)
-  near-to j ph s (less f) = near-more {m = record { row = j; phase = ph; now = s; tally = d }} λ p. let (a, b) = f p in (omega arith, omega arith)
-
-  near-turn : (j h : ℕ) (ph : Phase) (s : State) → Less c d → Near c (to j ph s (turn h d))
-  unfolding turn
-  near-turn j h ph s (less f) = near-more {m = record { row = j; phase = ph; now = s; tally = turn h d }} λ p. let (a, b) = f p in (omega (arith, put-one (d .turns) h p), omega (arith, put-one (d .sum) h p))
-
-near-chosen : {c : TurnCounts} (b : Bool) {x y : Next} → Near c x → Near c y → Near c (chosen b x y)
-unfolding chosen
-near-chosen true f g = f
-near-chosen false f g = g
-
-near-decide : {c : TurnCounts} (w : Tried) {x y z : Next} → Near c x → Near c y → Near c z → Near c (decide w x y z)
-unfolding decide
-near-decide passes f g h = f
-near-decide fails f g h = g
-near-decide beyond f g h = h
-
-module _ (π : Prices) where
-  near-tests : {c d : TurnCounts} (h e : ℕ) (t : Test) (s : State) → Less c d → Near c (tests π h e t s d)
-  unfolding tests paid
-  near-tests h e t s l = near-chosen _ (near-decide (holds t (s .store)) (near-turn _ _ _ _ l) (near-to _ _ _ l) near-over) near-over
-
-  near-outcome : {c d : TurnCounts} (o : Out) (j : ℕ) (ph : Phase) → Less c d → Near c (outcome o d (λ u. to j ph u d))
-  unfolding outcome
-  near-outcome (go s es) j ph l = near-to j ph s l
-  near-outcome (halt e i s es) j ph l = near-over
-
-  near-picked : (i j : ℕ) (l : List ℕ) (s : State) (c : TurnCounts) → Near c (picked i j l s c)
-  unfolding picked
-  near-picked i j [] s c = near-over
-  near-picked i j (x ∷ xs) s c = near-chosen (eqb x 0) (near-to _ _ _ (less-same c)) (near-to _ _ _ (less-same c))
-
-  module _ (rows : List RowKind) (shut opener : ℕ → ℕ) where
-    near-end : (w : View) (h e : ℕ) (ph : Phase) (s : State) (c : TurnCounts) → Near c (onEnd π rows shut opener w h e ph s c)
-    unfolding onEnd
-    near-end (is-plain p) h e ph s c = near-to _ _ _ (less-same c)
-    near-end is-pick h e ph s c = near-to _ _ _ (less-same c)
-    near-end is-else h e ph s c = near-to _ _ _ (less-same c)
-    near-end is-end h e ph s c = near-to _ _ _ (less-same c)
-    near-end (is-loop form t no-step) h e ph s c = near-tests h e t s (less-same c)
-    near-end (is-loop form t (step-by p)) h e fresh s c = near-outcome _ _ _ (less-same c)
-    near-end (is-loop form t (step-by p)) h e testing s c = near-tests h e t s (less-same c)
-
-    near-row : (w : View) (i : ℕ) (ph : Phase) (s : State) (c : TurnCounts) → Near c (onRow π rows shut opener w i ph s c)
-    unfolding onRow paid
-    near-row (is-plain p) i ph s c = near-outcome _ _ _ (less-same c)
-    near-row is-pick i ph s c = near-chosen _ (near-picked i _ (s .picks) _ c) near-over
-    near-row is-else i ph s c = near-to _ _ _ (less-same c)
-    near-row is-end i ph s c = near-end _ _ i ph s c
-    near-row (is-loop while t last) i ph s c = near-tests i _ t s (less-begin i c)
-    near-row (is-loop hold t last) i ph s c = near-tests i _ t s (less-begin i c)
-    near-row (is-loop do-while t last) i ph s c = near-turn _ i _ s (less-begin i c)
-    near-row (is-loop (for x) t last) i fresh s c = near-outcome _ _ _ (less-begin i c)
-    near-row (is-loop (for x) t last) i testing s c = near-tests i _ t s (less-same c)
-
-    near-next : (m : Place) → Near (m .tally) (next π rows shut opener m)
-    unfolding next
-    near-next m = near-chosen _ (near-row _ (m .row) (m .phase) (m .now) (m .tally)) near-over
-
 -- what falls
 abbrev pub weight : ℕ → Next → ℕ
 weight R (more m) = suc (rank R m)
 weight R (over e i s c) = 0
 
-module _ (π : Prices) (rows : List RowKind) (shut opener : ℕ → ℕ) where
+module _ (π : Prices) (rows : List RowKind) (matching-end matching-head : ℕ → ℕ) where
   abbrev R : ℕ
   R = length rows
 
   -- one step more
-  step-more : (n : ℕ) (a : Next) (m : Place) → steps π rows shut opener n a ≡ more m → steps π rows shut opener (suc n) a ≡ next π rows shut opener m
+  step-more : (n : ℕ) (a : Next) (m : Place) → steps π rows matching-end matching-head n a ≡ more m → steps π rows matching-end matching-head (suc n) a ≡ next π rows matching-end matching-head m
   unfolding steps
-  step-more zero a m e = ap (steps π rows shut opener 1) e
-  step-more (suc n) (more p) m e = step-more n (next π rows shut opener p) m e
+  step-more zero a m e = ap (steps π rows matching-end matching-head 1) e
+  step-more (suc n) (more p) m e = step-more n (next π rows matching-end matching-head p) m e
   step-more (suc n) (over f i s c) m e = absurd (let z : _≡_ {A = ℕ} 0 1 = cc in omega arith)
 
   -- a step of the code: one step, or two; the last one begins at the second place
   pub data Onto (m : Place) : Place → Next → Type 0 where
-    one : {x : Next} → x ≡ next π rows shut opener m → Onto m m x
-    two : {x : Next} (p : Place) → next π rows shut opener m ≡ more p → x ≡ next π rows shut opener p → Onto m p x
+    one : {x : Next} → x ≡ next π rows matching-end matching-head m → Onto m m x
+    two : {x : Next} (p : Place) → next π rows matching-end matching-head m ≡ more p → x ≡ next π rows matching-end matching-head p → Onto m p x
 
   -- in the same row, and in that phase
   pub record Turned (m : Place) (x : Next) (ph : Phase) : Type 0 where
@@ -156,13 +65,13 @@ module _ (π : Prices) (rows : List RowKind) (shut opener : ℕ → ℕ) where
     pub row : last .row ≡ m .row
     pub phase : last .phase ≡ ph
 
-  at-once : {m : Place} {x : Next} → x ≡ next π rows shut opener m → Turned m x (m .phase)
+  at-once : {m : Place} {x : Next} → x ≡ next π rows matching-end matching-head m → Turned m x (m .phase)
   at-once {m} q = record { last = m; onto = one q; row = refl; phase = refl }
 
   -- a for's start or step, and then its test
   onto-tests : (h e i : ℕ) (t : Test) (s : State) (b c : TurnCounts) (o : Out)
-      → let m : Place = record { row = i; phase = fresh; now = s; tally = b } in next π rows shut opener m ≡ outcome o c (λ u. to i testing u c)
-      → ((u : State) → tests π h e t u c ≡ next π rows shut opener (record { row = i; phase = testing; now = u; tally = c }))
+      → let m : Place = record { row = i; phase = fresh; now = s; tally = b } in next π rows matching-end matching-head m ≡ outcome o c (λ u. to i testing u c)
+      → ((u : State) → tests π h e t u c ≡ next π rows matching-end matching-head (record { row = i; phase = testing; now = u; tally = c }))
       → Turned m (andTests π h e t (outcome o c (λ u. to i testing u c))) (restBy fresh (outcome o c (λ u. to i testing u c)))
   unfolding outcome
   onto-tests h e i t s b c (go u es) q f = record { last = record { row = i; phase = testing; now = u; tally = c }; onto = two _ q (f u); row = refl; phase = refl }
@@ -170,27 +79,27 @@ module _ (π : Prices) (rows : List RowKind) (shut opener : ℕ → ℕ) where
 
   module _ (i : ℕ) (l : i < length rows) where
     -- row i, and an `end` of a block, by their views
-    at-row : (w : View) → viewAt rows i ≡ w → (ph : Phase) (s : State) (c : TurnCounts) → onRow π rows shut opener w i ph s c ≡ next π rows shut opener (record { row = i; phase = ph; now = s; tally = c })
-    at-row w e ph s c = sym (next-row π rows shut opener i w ph s c l e)
+    at-row : (w : View) → viewAt rows i ≡ w → (ph : Phase) (s : State) (c : TurnCounts) → onRow π rows matching-end matching-head w i ph s c ≡ next π rows matching-end matching-head (record { row = i; phase = ph; now = s; tally = c })
+    at-row w e ph s c = sym (next-row π rows matching-end matching-head i w ph s c l e)
 
-    at-end : (w : View) → viewAt rows i ≡ is-end → viewAt rows (opener i) ≡ w → (ph : Phase) (s : State) (c : TurnCounts)
-        → onEnd π rows shut opener w (opener i) i ph s c ≡ next π rows shut opener (record { row = i; phase = ph; now = s; tally = c })
+    at-end : (w : View) → viewAt rows i ≡ is-end → viewAt rows (matching-head i) ≡ w → (ph : Phase) (s : State) (c : TurnCounts)
+        → onEnd π rows matching-end matching-head w (matching-head i) i ph s c ≡ next π rows matching-end matching-head (record { row = i; phase = ph; now = s; tally = c })
     unfolding onRow
-    at-end w e q ph s c = ap (λ z. onEnd π rows shut opener z (opener i) i ph s c) (sym q) ∙ at-row is-end e ph s c
+    at-end w e q ph s c = ap (λ z. onEnd π rows matching-end matching-head z (matching-head i) i ph s c) (sym q) ∙ at-row is-end e ph s c
 
-    onto-end : (w : View) → viewAt rows i ≡ is-end → viewAt rows (opener i) ≡ w → (ph : Phase) (s : State) (c : TurnCounts)
-        → Turned (record { row = i; phase = ph; now = s; tally = c }) (endTo π rows shut opener w (opener i) i ph s c) (endRest π rows shut opener w (opener i) i ph s c)
+    onto-end : (w : View) → viewAt rows i ≡ is-end → viewAt rows (matching-head i) ≡ w → (ph : Phase) (s : State) (c : TurnCounts)
+        → Turned (record { row = i; phase = ph; now = s; tally = c }) (endTo π rows matching-end matching-head w (matching-head i) i ph s c) (endRest π rows matching-end matching-head w (matching-head i) i ph s c)
     unfolding onEnd
     onto-end (is-plain p) e q ph s c = at-once (at-end _ e q ph s c)
     onto-end is-pick e q ph s c = at-once (at-end _ e q ph s c)
     onto-end is-else e q ph s c = at-once (at-end _ e q ph s c)
     onto-end is-end e q ph s c = at-once (at-end _ e q ph s c)
     onto-end (is-loop form t no-step) e q ph s c = at-once (at-end _ e q ph s c)
-    onto-end (is-loop form t (step-by p)) e q fresh s c = onto-tests (opener i) i i t s c c _ (sym (at-end _ e q fresh s c)) (λ u. at-end _ e q testing u c)
+    onto-end (is-loop form t (step-by p)) e q fresh s c = onto-tests (matching-head i) i i t s c c _ (sym (at-end _ e q fresh s c)) (λ u. at-end _ e q testing u c)
     onto-end (is-loop form t (step-by p)) e q testing s c = at-once (at-end _ e q testing s c)
 
     onto-row : (w : View) → viewAt rows i ≡ w → (ph : Phase) (s : State) (c : TurnCounts)
-        → Turned (record { row = i; phase = ph; now = s; tally = c }) (rowTo π rows shut opener w i ph s c) (rowRest π rows shut opener w i ph s c)
+        → Turned (record { row = i; phase = ph; now = s; tally = c }) (rowTo π rows matching-end matching-head w i ph s c) (rowRest π rows matching-end matching-head w i ph s c)
     unfolding onRow
     onto-row (is-plain p) e ph s c = at-once (at-row _ e ph s c)
     onto-row is-pick e ph s c = at-once (at-row _ e ph s c)
@@ -199,30 +108,30 @@ module _ (π : Prices) (rows : List RowKind) (shut opener : ℕ → ℕ) where
     onto-row (is-loop while t last) e ph s c = at-once (at-row _ e ph s c)
     onto-row (is-loop hold t last) e ph s c = at-once (at-row _ e ph s c)
     onto-row (is-loop do-while t last) e ph s c = at-once (at-row _ e ph s c)
-    onto-row (is-loop (for x) t last) e fresh s c = onto-tests i (shut i) i t s c (begin i c) _ (sym (at-row _ e fresh s c)) (λ u. at-row _ e testing u (begin i c))
+    onto-row (is-loop (for x) t last) e fresh s c = onto-tests i (matching-end i) i t s c (begin i c) _ (sym (at-row _ e fresh s c)) (λ u. at-row _ e testing u (begin i c))
     onto-row (is-loop (for x) t last) e testing s c = at-once (at-row _ e testing s c)
 
   -- the state x is reached from the start, with room
   pub record Held (start x : Next) : Type 0 where
     pub n : ℕ
-    pub same : steps π rows shut opener n start ≡ x
-    pub room : Roomy R x
+    pub same : steps π rows matching-end matching-head n start ≡ x
+    pub room : RoomToCount R x
 
-  held-start : (start : Next) → Roomy R start → Held start start
+  held-start : (start : Next) → RoomToCount R start → Held start start
   unfolding steps
   held-start start r = record { n = 0; same = refl; room = r }
 
-  module _ (fit : Partners rows shut opener) (price : 1 ≤ π .test) where
-    roomy-next : (m : Place) (x : Next) → Roomy R (more m) → x ≡ next π rows shut opener m → Roomy R x × (weight R x < suc (rank R m))
+  module _ (fit : Partners rows matching-end matching-head) (price : 1 ≤ π .test) where
+    roomy-next : (m : Place) (x : Next) → RoomToCount R (more m) → x ≡ next π rows matching-end matching-head m → RoomToCount R x × (weight R x < suc (rank R m))
     roomy-next m (over e i s c) r q = (roomy-over, omega arith)
     roomy-next m (more m′) (roomy-more r) q =
-        let (_, l) = falls-more π price rows shut opener fit m m′ (sym q) in
-        (by (subst (Near (m .tally)) (sym q) (near-next π rows shut opener m)) l, omega arith)
+        let (_, l) = falls-more π price rows matching-end matching-head fit m m′ (sym q) in
+        (by (subst (Gives rows matching-head (m .tally)) (sym q) (step-gives π rows matching-end matching-head m)) l, omega arith)
       where
-        by : Near (m .tally) (more m′) → rank R m′ < rank R m → Roomy R (more m′)
-        by (near-more f) l = roomy-more {m = m′} λ p. let (a, b) = f p in let (u, v) = r p in (omega arith, omega arith)
+        by : Gives rows matching-head (m .tally) (more m′) → rank R m′ < rank R m → RoomToCount R (more m′)
+        by (gives-more f) l = roomy-more {m = m′} λ p. let (a, b) = f .counts p in let (u, v) = r p in (omega arith, omega arith)
 
-    held-next : (start : Next) (m : Place) (x : Next) → Held start (more m) → x ≡ next π rows shut opener m → Held start x × (weight R x < suc (rank R m))
+    held-next : (start : Next) (m : Place) (x : Next) → Held start (more m) → x ≡ next π rows matching-end matching-head m → Held start x × (weight R x < suc (rank R m))
     held-next start m x h q =
         let (r, l) = roomy-next m x (h .room) q in
         (record { n = suc (h .n); same = step-more (h .n) start m (h .same) ∙ sym q; room = r }, l)
@@ -237,15 +146,15 @@ module _ (π : Prices) (rows : List RowKind) (shut opener : ℕ → ℕ) where
 
   -- and the last step began there
   came-onto : (start : Next) (m w : Place) (x : Next) (r : Machine) → Held start (more m) → Onto m w x → ((i : ℕ) → r .status ≡ Over Spent i → (r .row ≡ w .row) × (phaseOf (r .testing) ≡ w .phase))
-      → Came π rows shut opener start r x
+      → RunOver π rows matching-end matching-head start r x
   came-onto start m _ x r h (one q) rests = record { k = h .n; w = m; reached = h .same; stepped = q; rests = rests }
   came-onto start m _ x r h (two p e q) rests = record { k = suc (h .n); w = p; reached = step-more (h .n) start m (h .same) ∙ e; stepped = q; rests = rests }
 
 -- the tables that one pass finds
-pub partners-of : (rows : List RowKind) (n : ℕ) → nestRows rows (record { open-blocks = []; loops = 0 }) ≡ nest [] n → (t : Tables) → Found rows t → Partners rows (tableOf (t .shut)) (tableOf (t .opener))
+pub partners-of : (rows : List RowKind) (n : ℕ) → nestRows rows (record { open-blocks = []; loops = 0 }) ≡ nest [] n → (t : Tables) → TablesOf rows t → Partners rows (tableOf (t .end)) (tableOf (t .head))
 partners-of rows n e t f =
     let (tree, whole) = tree-of rows n e in
-    subst (λ g. Partners rows g (tableOf (t .opener))) (sym (f .shuts)) (subst (λ g. Partners rows (pairs rows (length rows) .shut) g) (sym (f .openers)) (partners rows tree whole))
+    subst (λ g. Partners rows g (tableOf (t .head))) (sym (f .matching-ends)) (subst (λ g. Partners rows (pairs rows (length rows) .end) g) (sym (f .matching-heads)) (partners rows tree whole))
 
 -- ---- the code's loop
 abbrev kinds : List ℕ → List Row → ℕ → List RowKind
@@ -254,8 +163,8 @@ kinds text rows count = take count (kindsOf text rows)
 -- what the loop keeps
 pub record Runs (text : List ℕ) (π : Prices) (rows : List Row) (count : ℕ) (t : Tables) (picks : List ℕ) (m₀ : Machine) (store₀ : List ℤ) (counts₀ : List (List ℕ)) (m : Machine) (store : List ℤ) (counts : List (List ℕ)) : Type 0 where
   pub lengths : (length store ≡ length store₀) × (length counts ≡ 256)
-  pub held : Held π (kinds text rows count) (tableOf (t .shut)) (tableOf (t .opener)) (nextOf m₀ store₀ picks (tallyOf counts₀)) (nextOf m store picks (tallyOf counts))
-  pub came : isGoing (m₀ .status) ≡ true → isGoing (m .status) ≡ false → Came π (kinds text rows count) (tableOf (t .shut)) (tableOf (t .opener)) (nextOf m₀ store₀ picks (tallyOf counts₀)) m (nextOf m store picks (tallyOf counts))
+  pub held : Held π (kinds text rows count) (tableOf (t .end)) (tableOf (t .head)) (nextOf m₀ store₀ picks (tallyOf counts₀)) (nextOf m store picks (tallyOf counts))
+  pub came : isGoing (m₀ .status) ≡ true → isGoing (m .status) ≡ false → RunOver π (kinds text rows count) (tableOf (t .end)) (tableOf (t .head)) (nextOf m₀ store₀ picks (tallyOf counts₀)) m (nextOf m store picks (tallyOf counts))
   pub left : m .left ≤ m₀ .left
   pub used : m .used ≤ length picks
 
@@ -269,26 +178,26 @@ module _ {text : List ℕ} (π : Prices) (rows : List Row) (count : ℕ) (t : Ta
   abbrev ks : List RowKind
   ks = kinds text rows count
 
-  abbrev shut : ℕ → ℕ
-  shut = tableOf (t .shut)
+  abbrev matching-end : ℕ → ℕ
+  matching-end = tableOf (t .end)
 
-  abbrev opener : ℕ → ℕ
-  opener = tableOf (t .opener)
+  abbrev matching-head : ℕ → ℕ
+  matching-head = tableOf (t .head)
 
   size-is : length ks ≡ count
   size-is = kinds-first text count rows (omega (arith, ready .size))
 
-  fit : Partners ks shut opener
+  fit : Partners ks matching-end matching-head
   fit = partners-of ks (ready .runs .closed .0) (ready .runs .closed .1) t (ready .found)
 
-  opener-in : (i : ℕ) → i < count → opener i < count
-  opener-in i l =
+  matching-head-in : (i : ℕ) → i < count → matching-head i < count
+  matching-head-in i l =
       let e = size-is in
       let q = pairs-in ks (omega arith) (length ks) (omega arith) in
-      subst (λ n. opener i < n) e (subst (λ (g : ℕ → ℕ). g i < length ks) (sym (ready .found .openers)) (q .opener-in i))
+      subst (λ n. matching-head i < n) e (subst (λ (g : ℕ → ℕ). g i < length ks) (sym (ready .found .matching-heads)) (q .matching-head-in i))
 
   pub runs-start : Runs text π rows count t picks m₀ store₀ counts₀ m₀ store₀ counts₀
-  runs-start = record { lengths = (refl, ready .long); held = held-start π ks shut opener _ (ready .room); came = λ a b. absurd (let z : _≡_ {A = ℕ} 0 1 = cc in omega arith); left = omega arith; used = ready .used }
+  runs-start = record { lengths = (refl, ready .long); held = held-start π ks matching-end matching-head _ (ready .room); came = λ a b. absurd (let z : _≡_ {A = ℕ} 0 1 = cc in omega arith); left = omega arith; used = ready .used }
 
   module _ (m : Machine) (store : List ℤ) (counts : List (List ℕ)) (now : Runs text π rows count t picks m₀ store₀ counts₀ m store counts) (on : isGoing (m .status) ≡ true) where
     abbrev here : Place
@@ -297,13 +206,13 @@ module _ {text : List ℕ} (π : Prices) (rows : List Row) (count : ℕ) (t : Ta
     is-here : nextOf m store picks (tallyOf counts) ≡ more here
     is-here = ap (λ z. byStatus z m store picks (tallyOf counts)) (going-is (m .status) on)
 
-    held-here : Held π ks shut opener (nextOf m₀ store₀ picks (tallyOf counts₀)) (more here)
-    held-here = subst (λ x. Held π ks shut opener (nextOf m₀ store₀ picks (tallyOf counts₀)) x) is-here (now .held)
+    held-here : Held π ks matching-end matching-head (nextOf m₀ store₀ picks (tallyOf counts₀)) (more here)
+    held-here = subst (λ x. Held π ks matching-end matching-head (nextOf m₀ store₀ picks (tallyOf counts₀)) x) is-here (now .held)
 
     room-here : Room counts
     room-here = by (held-here .room)
       where
-        by : Roomy (length ks) (more here) → Room counts
+        by : RoomToCount (length ks) (more here) → Room counts
         by (roomy-more f) = record { rows = now .lengths .1; turn = λ p. let (u, v) = f p in (omega arith, omega arith) }
 
     pub doable : (j e : ℕ) → j < count → e < 256 → Doable text e j (getD rows j (record { kind = Kind.End }) .kind) store counts
@@ -318,23 +227,23 @@ module _ {text : List ℕ} (π : Prices) (rows : List Row) (count : ℕ) (t : Ta
           room = room-here;
         }
 
-    pub fitting : m .row < count → Fitting ks shut opener (m .row) (shut (m .row)) (opener (m .row)) (viewOf (kindOf text (getD rows (opener (m .row)) (record { kind = Kind.End }) .kind)))
-    fitting l = record { shuts = refl; opens = refl; head = ap viewOf (kind-of text count rows (opener (m .row)) (opener-in (m .row) l)) }
+    pub fitting : m .row < count → Fitting ks matching-end matching-head (m .row) (matching-end (m .row)) (matching-head (m .row)) (viewOf (kindOf text (getD rows (matching-head (m .row)) (record { kind = Kind.End }) .kind)))
+    fitting l = record { matching-ends = refl; opens = refl; head = ap viewOf (kind-of text count rows (matching-head (m .row)) (matching-head-in (m .row) l)) }
 
-    pub head-in : m .row < count → opener (m .row) < count
-    head-in l = opener-in (m .row) l
+    pub head-in : m .row < count → matching-head (m .row) < count
+    head-in l = matching-head-in (m .row) l
 
     -- another state that is a step of the code on
     runs-on : (r : Machine) (store′ : List ℤ) (counts′ : List (List ℕ)) → (length store′ ≡ length store) × (length counts′ ≡ 256)
-        → (w : Place) → Onto π ks shut opener here w (nextOf r store′ picks (tallyOf counts′)) → ((i : ℕ) → r .status ≡ Over Spent i → (r .row ≡ w .row) × (phaseOf (r .testing) ≡ w .phase))
+        → (w : Place) → Onto π ks matching-end matching-head here w (nextOf r store′ picks (tallyOf counts′)) → ((i : ℕ) → r .status ≡ Over Spent i → (r .row ≡ w .row) × (phaseOf (r .testing) ≡ w .phase))
         → r .left ≤ m .left → r .used ≤ length picks
         → Runs text π rows count t picks m₀ store₀ counts₀ r store′ counts′ × (weight (length ks) (nextOf r store′ picks (tallyOf counts′)) < weight (length ks) (nextOf m store picks (tallyOf counts)))
     runs-on r store′ counts′ (a, b) w q rests l u =
-        let (h, falls) = held-onto π ks shut opener fit (ready .price) _ here w _ held-here q in (
+        let (h, falls) = held-onto π ks matching-end matching-head fit (ready .price) _ here w _ held-here q in (
           record {
             lengths = (a ∙ now .lengths .0, b);
             held = h;
-            came = λ _ _. came-onto π ks shut opener _ here w _ r held-here q rests;
+            came = λ _ _. came-onto π ks matching-end matching-head _ here w _ r held-here q rests;
             left = omega (arith, now .left);
             used = u;
           },
@@ -344,13 +253,13 @@ module _ {text : List ℕ} (π : Prices) (rows : List Row) (count : ℕ) (t : Ta
     -- a row
     pub runs-step : (r : Machine) (store′ : List ℤ) (counts′ : List (List ℕ)) → (length store′ ≡ length store) × (length counts′ ≡ 256)
         → m .row < count
-        → StepsIn m r store store′ picks (tallyOf counts) (tallyOf counts′) (rowTo π ks shut opener (viewOf (kindOf text (getD rows (m .row) (record { kind = Kind.End }) .kind))) (m .row) (phaseOf (m .testing)))
-        (rowRest π ks shut opener (viewOf (kindOf text (getD rows (m .row) (record { kind = Kind.End }) .kind))) (m .row) (phaseOf (m .testing)))
+        → StepsIn m r store store′ picks (tallyOf counts) (tallyOf counts′) (rowTo π ks matching-end matching-head (viewOf (kindOf text (getD rows (m .row) (record { kind = Kind.End }) .kind))) (m .row) (phaseOf (m .testing)))
+        (rowRest π ks matching-end matching-head (viewOf (kindOf text (getD rows (m .row) (record { kind = Kind.End }) .kind))) (m .row) (phaseOf (m .testing)))
         → Runs text π rows count t picks m₀ store₀ counts₀ r store′ counts′ × (weight (length ks) (nextOf r store′ picks (tallyOf counts′)) < weight (length ks) (nextOf m store picks (tallyOf counts)))
     runs-step r store′ counts′ same l s =
         let n = size-is in
-        let t = onto-row π ks shut opener (m .row) (omega arith) _ (ap viewOf (kind-of text count rows (m .row) l)) (phaseOf (m .testing)) (stateOf m store picks) (tallyOf counts) in
-        runs-on r store′ counts′ same (t .last) (subst (Onto π ks shut opener here (t .last)) (sym (s .same)) (t .onto))
+        let t = onto-row π ks matching-end matching-head (m .row) (omega arith) _ (ap viewOf (kind-of text count rows (m .row) l)) (phaseOf (m .testing)) (stateOf m store picks) (tallyOf counts) in
+        runs-on r store′ counts′ same (t .last) (subst (Onto π ks matching-end matching-head here (t .last)) (sym (s .same)) (t .onto))
         (λ i q. let (x, y) = s .rests i q in (x ∙ sym (t .row), y ∙ sym (t .phase))) (s .left) (s .used (now .used))
 
     -- past the last row
@@ -360,7 +269,7 @@ module _ {text : List ℕ} (π : Prices) (rows : List Row) (count : ℕ) (t : Ta
     runs-past l =
         let n = size-is in
         runs-on (overAt m (m .left) Ended count) store counts (refl, now .lengths .1) here
-        (one (sym (next-past π ks shut opener (m .row) _ _ _ (omega arith) ∙ ap (λ k. over Ended k (stateOf m store picks) (tallyOf counts)) n))) (λ i q. absurd (let z : _≡_ {A = ℕ} 0 1 = cc in omega arith)) (omega arith) (now .used)
+        (one (sym (next-past π ks matching-end matching-head (m .row) _ _ _ (omega arith) ∙ ap (λ k. over Ended k (stateOf m store picks) (tallyOf counts)) n))) (λ i q. absurd (let z : _≡_ {A = ℕ} 0 1 = cc in omega arith)) (omega arith) (now .used)
 
   -- it is over
   pub runs-over : (m : Machine) (store : List ℤ) (counts : List (List ℕ)) → Runs text π rows count t picks m₀ store₀ counts₀ m store counts → isGoing (m .status) ≡ false
@@ -383,8 +292,8 @@ module _ {text : List ℕ} (π : Prices) (rows : List Row) (count : ℕ) (t : Ta
 
     pub finished-on : (r : Machine) (store′ : List ℤ) (c′ : TurnCounts) → Finished π ks t m r store store′ picks (tallyOf counts) c′ → Finished π ks t m₀ r store₀ store′ picks (tallyOf counts₀) c′
     finished-on r store′ c′ f =
-        let here : (k : ℕ) → steps π ks shut opener (now .held .n + k) (nextOf m₀ store₀ picks (tallyOf counts₀)) ≡ steps π ks shut opener k (nextOf m store picks (tallyOf counts))
-        = λ k. steps-add π (ready .price) ks shut opener fit (now .held .n) k (nextOf m₀ store₀ picks (tallyOf counts₀)) ∙ ap (steps π ks shut opener k) (now .held .same) in
+        let here : (k : ℕ) → steps π ks matching-end matching-head (now .held .n + k) (nextOf m₀ store₀ picks (tallyOf counts₀)) ≡ steps π ks matching-end matching-head k (nextOf m store picks (tallyOf counts))
+        = λ k. steps-add π (ready .price) ks matching-end matching-head fit (now .held .n) k (nextOf m₀ store₀ picks (tallyOf counts₀)) ∙ ap (steps π ks matching-end matching-head k) (now .held .same) in
         let last = f .came on in
         record {
           n = now .held .n + f .n;

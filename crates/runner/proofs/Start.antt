@@ -14,13 +14,13 @@ use Rattle.rules.specs.declared.Row.{Row}
 use Rattle.rules.specs.Blocks.{kindsOf}
 use Rattle.rules.specs.declared.Prices.{Prices}
 use Rattle.rules.specs.Answers.{storeList}
-use Rattle.rules.specs.RowMachine.{TurnCounts, tallyOf, more, over, steps, start, rank}
+use Rattle.rules_machine.specs.RowMachine.{TurnCounts, tallyOf, more, over, steps, start, rank}
 use Rattle.rules.specs.Scripts.{Script, Legal, storeOf}
-use Rattle.rules.proofs.RowSimulation.{row-answer}
-use Rattle.rules.proofs.Nesting.{tree-of}
+use Rattle.rules_machine.proofs.RowMachineRuns.{row-answer}
+use Rattle.rules.proofs.TreeOf.{tree-of}
 use Rattle.rules.proofs.Laws.{kinds-first, list-of-store}
 use Rattle.run_pairs.specs.declared.Tables.{Tables}
-use Rattle.run_pairs.specs.Tables.{tableOf, Found}
+use Rattle.run_pairs.specs.Tables.{tableOf, TablesOf}
 use Rattle.run_actions.specs.declared.Machine.{Machine}
 use Rattle.run_actions.specs.declared.Status.{Status}
 use Rattle.run_actions.specs.declared.Status.the-variants.{Going, Over}
@@ -72,7 +72,7 @@ abbrev pub startOf : ℕ → Machine
 startOf allowance = record { row = 0; testing = false; left = allowance; used = 0; status = Going }
 
 module _ {text : List ℕ} (π : Prices) (rows : List Row) (count : ℕ) (full : length rows ≡ 256) (store : List ℤ) (picks : List ℕ) (allowance : ℕ) (given : MayRun text π rows count store allowance)
-    (t : Tables) (found : Found (take count (kindsOf text rows)) t) (counts : List (List ℕ)) (clear : Cleared counts) where
+    (t : Tables) (found : TablesOf (take count (kindsOf text rows)) t) (counts : List (List ℕ)) (clear : Cleared counts) where
   pub ready : MayStep text π rows count t (startOf allowance) store picks counts
   unfolding rank
   ready =
@@ -104,14 +104,14 @@ module _ {text : List ℕ} (π : Prices) (rows : List Row) (count : ℕ) (full :
     by-status Going e f = absurd (let z : _≡_ {A = ℕ} 0 1 = cc in omega arith)
     by-status (Over x i) e f =
         let ks = take count (kindsOf text rows) in
-        let shut = tableOf (t .shut) in
-        let opener = tableOf (t .opener) in
+        let matching-end = tableOf (t .end) in
+        let matching-head = tableOf (t .head) in
         let (n, closed) = given .runs .closed in
         let (tree, whole) = tree-of ks n closed in
         let fit = partners-of ks n closed t found in
-        let over-at : steps π ks shut opener (done .n) (more (start (record { store = storeOf store; left = allowance; picks = picks }))) ≡ over x i (stateOf r store′ picks) (tallyOf counts′)
-        = ap (steps π ks shut opener (done .n)) (sym begins) ∙ done .same ∙ ap (λ z. byStatus z r store′ picks (tallyOf counts′)) e in
-        let a = row-answer π (given .price) ks shut opener fit tree whole (storeOf store) picks allowance (done .n) x i (stateOf r store′ picks) (tallyOf counts′) over-at in
+        let over-at : steps π ks matching-end matching-head (done .n) (more (start (record { store = storeOf store; left = allowance; picks = picks }))) ≡ over x i (stateOf r store′ picks) (tallyOf counts′)
+        = ap (steps π ks matching-end matching-head (done .n)) (sym begins) ∙ done .same ∙ ap (λ z. byStatus z r store′ picks (tallyOf counts′)) e in
+        let a = row-answer π (given .price) ks matching-end matching-head fit tree whole (storeOf store) picks allowance (done .n) x i (stateOf r store′ picks) (tallyOf counts′) over-at in
         record {
           ending = a .ending;
           row = a .row;

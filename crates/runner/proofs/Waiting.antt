@@ -11,9 +11,9 @@ use Rattle.rules.specs.declared.Prices.{Prices}
 use Rattle.rules.specs.declared.Ending.{Ending}
 use Rattle.rules.specs.declared.Ending.the-variants.{Ended, Spent, NoPick}
 use Rattle.rules.specs.Blocks.{RowKind, kindsOf}
-use Rattle.rules.specs.RowMachine.{TurnCounts, tallyOf, Place, Next, more, over, next, pairs}
-use Rattle.rules.specs.Frames.{stopped, runsOn, given}
-use Rattle.rules.proofs.Pause.{runs-on-is}
+use Rattle.rules_machine.specs.RowMachine.{TurnCounts, tallyOf, Place, Next, more, over, next, pairs}
+use Rattle.rules_frames.specs.Frames.{stopped, runsOn, given}
+use Rattle.rules_frames.proofs.Resumed.{runs-on-is}
 use Rattle.rules.proofs.Laws.{kinds-first, kind-of}
 use Rattle.run_pairs.specs.declared.Tables.{Tables}
 use Rattle.run_pairs.specs.Tables.{tableOf}
@@ -21,7 +21,7 @@ use Rattle.run_actions.specs.declared.Machine.{Machine}
 use Rattle.run_actions.specs.declared.Status.{Status}
 use Rattle.run_actions.specs.declared.Status.the-variants.{Going, Over}
 use Rattle.run_actions.specs.States.{phaseOf, stateOf, placeOf, byStatus, nextOf, isGoing, onAt}
-use Rattle.runner.specs.Runs.{MayStep, Came, Finished}
+use Rattle.runner.specs.Runs.{MayStep, RunOver, Finished}
 use Rattle.runner.specs.Pauses.{standBy, standOf, withTicks, Waiting, Awaits, no-place, at-place, MayTest, Tested, Paused, RanOn}
 use Rattle.runner.proofs.Loop.{partners-of, going-is, Runs, runs-start, doable, fitting, head-in, runs-step}
 use Rattle.runner.proofs.Awaiting.{waiting-at, is-testing, awaits-steps}
@@ -53,7 +53,7 @@ module _ {text : List ℕ} (π : Prices) (rows : List Row) (count : ℕ) (t : Ta
   row-in : m .row < count
   row-in = let w = paused .waits b in omega (arith, w .row, kinds-first text count rows (omega (arith, paused .ready .size)))
 
-  pub may-test : tableOf (t .shut) (m .row) < 256 → MayTest text rows t start store counts
+  pub may-test : tableOf (t .end) (m .row) < 256 → MayTest text rows t start store counts
   may-test small =
       let l = row-in in
       let h = head-in π rows count t picks start store counts full (paused .ready) start store counts begins refl l in
@@ -61,7 +61,7 @@ module _ {text : List ℕ} (π : Prices) (rows : List Row) (count : ℕ) (t : Ta
         row = doable π rows count t picks start store counts full (paused .ready) start store counts begins refl _ _ l small;
         head = doable π rows count t picks start store counts full (paused .ready) start store counts begins refl _ _ h (omega (arith, paused .ready .size));
         on = b;
-        waits = rw (sym (kind-of text count rows (m .row) l), sym (kind-of text count rows (tableOf (t .opener) (m .row)) h)) (paused .waits b .test);
+        waits = rw (sym (kind-of text count rows (m .row) l), sym (kind-of text count rows (tableOf (t .head) (m .row)) h)) (paused .waits b .test);
       }
 
   pub test-runs : (r : Machine) (counts′ : List (List ℕ)) → Tested text π rows t start r store (tallyOf counts) counts′ → Runs text π rows count t picks start store counts r store counts′
@@ -75,36 +75,36 @@ module _ {text : List ℕ} (π : Prices) (rows : List Row) (count : ℕ) (t : Ta
   abbrev ks : List RowKind
   ks = take count (kindsOf text rows)
 
-  abbrev shut : ℕ → ℕ
-  shut = tableOf (t .shut)
+  abbrev matching-end : ℕ → ℕ
+  matching-end = tableOf (t .end)
 
-  abbrev opener : ℕ → ℕ
-  opener = tableOf (t .opener)
+  abbrev matching-head : ℕ → ℕ
+  matching-head = tableOf (t .head)
 
-  by-status : (s : Status) → r .status ≡ s → isGoing s ≡ false → standBy s r store′ picks (tallyOf counts′) ≡ runsOn π ks shut opener (given q (placeOf m store picks (tallyOf counts)))
+  by-status : (s : Status) → r .status ≡ s → isGoing s ≡ false → standBy s r store′ picks (tallyOf counts′) ≡ runsOn π ks matching-end matching-head (given q (placeOf m store picks (tallyOf counts)))
   by-status Going e f = absurd (let z : _≡_ {A = ℕ} 0 1 = cc in omega arith)
   by-status (Over x i) e f =
       let c = done .came refl in
       let run = paused .ready .runs in
       let fit = partners-of ks (run .closed .0) (run .closed .1) t (paused .ready .found) in
       stops-there (c .w) (placeOf r store′ picks (tallyOf counts′)) x i (λ h. c .rests i (e ∙ ap (λ z. Over z i) h))
-      ∙ sym (runs-on-is π (paused .ready .price) ks shut opener fit (c .k) _ (c .w) x i (stateOf r store′ picks) (tallyOf counts′) (c .reached) (sym (c .stepped) ∙ ap (λ z. byStatus z r store′ picks (tallyOf counts′)) e))
+      ∙ sym (runs-on-is π (paused .ready .price) ks matching-end matching-head fit (c .k) _ (c .w) x i (stateOf r store′ picks) (tallyOf counts′) (c .reached) (sym (c .stepped) ∙ ap (λ z. byStatus z r store′ picks (tallyOf counts′)) e))
 
-  pub runs-there : standOf r store′ picks (tallyOf counts′) ≡ runsOn π ks (pairs ks (length ks) .shut) (pairs ks (length ks) .opener) (given q (placeOf m store picks (tallyOf counts)))
+  pub runs-there : standOf r store′ picks (tallyOf counts′) ≡ runsOn π ks (pairs ks (length ks) .end) (pairs ks (length ks) .head) (given q (placeOf m store picks (tallyOf counts)))
   runs-there =
       by-status (r .status) refl (done .over)
-      ∙ (λ k. runsOn π ks (paused .ready .found .shuts k) (paused .ready .found .openers k) (given q (placeOf m store picks (tallyOf counts))))
+      ∙ (λ k. runsOn π ks (paused .ready .found .matching-ends k) (paused .ready .found .matching-heads k) (given q (placeOf m store picks (tallyOf counts))))
 
   -- where it waits for a test, it waits at a for
-  waits-there : (i : ℕ) → r .status ≡ Over Spent i → r .testing ≡ true → Waiting ks (pairs ks (length ks) .opener) (r .row)
+  waits-there : (i : ℕ) → r .status ≡ Over Spent i → r .testing ≡ true → Waiting ks (pairs ks (length ks) .head) (r .row)
   waits-there i e b =
       let c = done .came refl in
       let (row, phase) = c .rests i e in
-      let start : Awaits ks opener (more (placeOf (withTicks q m) store picks (tallyOf counts))) = at-place {p = placeOf (withTicks q m) store picks (tallyOf counts)} (λ z. paused .waits (is-testing (m .testing) z)) in
-      let waits = waiting-at (subst (Awaits ks opener) (c .reached) (awaits-steps π ks shut opener (c .k) _ start)) (sym phase ∙ ap phaseOf b) in
-      subst (λ g. Waiting ks g (r .row)) (paused .ready .found .openers) (subst (Waiting ks opener) (sym row) waits)
+      let start : Awaits ks matching-head (more (placeOf (withTicks q m) store picks (tallyOf counts))) = at-place {p = placeOf (withTicks q m) store picks (tallyOf counts)} (λ z. paused .waits (is-testing (m .testing) z)) in
+      let waits = waiting-at (subst (Awaits ks matching-head) (c .reached) (awaits-steps π ks matching-end matching-head (c .k) _ start)) (sym phase ∙ ap phaseOf b) in
+      subst (λ g. Waiting ks g (r .row)) (paused .ready .found .matching-heads) (subst (Waiting ks matching-head) (sym row) waits)
 
-  awaits-by : (s : Status) → r .status ≡ s → isGoing s ≡ false → Awaits ks (pairs ks (length ks) .opener) (standBy s r store′ picks (tallyOf counts′))
+  awaits-by : (s : Status) → r .status ≡ s → isGoing s ≡ false → Awaits ks (pairs ks (length ks) .head) (standBy s r store′ picks (tallyOf counts′))
   unfolding stopped
   awaits-by Going e f = absurd (let z : _≡_ {A = ℕ} 0 1 = cc in omega arith)
   awaits-by (Over Ended i) e f = no-place

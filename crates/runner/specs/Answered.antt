@@ -10,7 +10,7 @@ use Rattle.rules.specs.declared.Ending.the-variants.{Spent}
 use Rattle.rules.specs.Blocks.{RowKind, kindsOf}
 use Rattle.rules.specs.Written.{Written}
 use Rattle.rules.specs.declared.Prices.{Prices}
-use Rattle.rules.specs.RowMachine.{TurnCounts, tallyOf}
+use Rattle.rules_machine.specs.RowMachine.{TurnCounts, tallyOf}
 use Rattle.rules.specs.Answers.{Answer, runTree, storeList, sumAt, mostAt}
 use Rattle.rules.specs.Scripts.{storeOf, treeOf}
 use Rattle.run_actions.specs.declared.Machine.{Machine}
@@ -33,6 +33,7 @@ abbrev pub ranBy : Status → Machine → ℕ → Ran
 ranBy Going m allowance = record { ending = Spent; row = m .row; ticks = allowance - m .left; used = m .used }
 ranBy (Over e i) m allowance = record { ending = e; row = i; ticks = allowance - m .left; used = m .used }
 
+-- the answer of a machine's run
 abbrev pub ranOf : Machine → ℕ → Ran
 ranOf m allowance = ranBy (m .status) m allowance
 

@@ -10,9 +10,9 @@ use Rattle.rules.specs.declared.Row.{Row}
 use Rattle.rules.specs.declared.Ending.{Ending}
 use Rattle.rules.specs.declared.Prices.{Prices}
 use Rattle.rules.specs.Blocks.{RowKind, viewOf, viewAt, kindOf, kindsOf}
-use Rattle.rules.specs.RowMachine.{TurnCounts, tallyOf, testing, Place, Next, more, over, pairs}
+use Rattle.rules_machine.specs.RowMachine.{TurnCounts, tallyOf, testing, Place, Next, more, over, pairs}
 use Rattle.rules.specs.Run.{State}
-use Rattle.rules.specs.Frames.{stopped, runsOn, given}
+use Rattle.rules_frames.specs.Frames.{stopped, runsOn, given}
 use Rattle.run_pairs.specs.declared.Tables.{Tables}
 use Rattle.run_pairs.specs.Tables.{tableOf}
 use Rattle.run_actions.specs.declared.Machine.{Machine}
@@ -26,6 +26,7 @@ abbrev pub standBy : Status → Machine → List ℤ → List ℕ → TurnCounts
 standBy Going m store picks c = more (placeOf m store picks c)
 standBy (Over e i) m store picks c = stopped (placeOf m store picks c) e i (stateOf m store picks) c
 
+-- by its own status
 abbrev pub standOf : Machine → List ℤ → List ℕ → TurnCounts → Next
 standOf m store picks c = standBy (m .status) m store picks c
 
@@ -34,25 +35,25 @@ abbrev pub withTicks : ℕ → Machine → Machine
 withTicks q m = record { row = m .row; testing = m .testing; left = m .left + q; used = m .used; status = Going }
 
 -- a for's test can be to come at row i
-pub record Waiting (rows : List RowKind) (opener : ℕ → ℕ) (i : ℕ) : Type 0 where
+pub record Waiting (rows : List RowKind) (matching-head : ℕ → ℕ) (i : ℕ) : Type 0 where
   pub row : i < length rows
-  pub test : awaits (viewAt rows i) (viewAt rows (opener i)) ≡ true
+  pub test : awaits (viewAt rows i) (viewAt rows (matching-head i)) ≡ true
 
 -- where a test is to come, it is a for's
-pub data Awaits (rows : List RowKind) (opener : ℕ → ℕ) : Next → Type 0 where
-  no-place : {e : Ending} {i : ℕ} {s : State} {c : TurnCounts} → Awaits rows opener (over e i s c)
-  at-place : {p : Place} → (p .phase ≡ testing → Waiting rows opener (p .row)) → Awaits rows opener (more p)
+pub data Awaits (rows : List RowKind) (matching-head : ℕ → ℕ) : Next → Type 0 where
+  no-place : {e : Ending} {i : ℕ} {s : State} {c : TurnCounts} → Awaits rows matching-head (over e i s c)
+  at-place : {p : Place} → (p .phase ≡ testing → Waiting rows matching-head (p .row)) → Awaits rows matching-head (more p)
 
 -- it may get q ticks and run on
 pub record Paused (text : List ℕ) (π : Prices) (rows : List Row) (count : ℕ) (t : Tables) (q : ℕ) (m : Machine) (store : List ℤ) (picks : List ℕ) (counts : List (List ℕ)) : Type 0 where
   pub few : m .left + q < 2 ^ 63
   pub ready : MayStep text π rows count t (withTicks q m) store picks counts
-  pub waits : m .testing ≡ true → Waiting (take count (kindsOf text rows)) (tableOf (t .opener)) (m .row)
+  pub waits : m .testing ≡ true → Waiting (take count (kindsOf text rows)) (tableOf (t .head)) (m .row)
 
 -- it has run on, "until it finishes or its next price does not fit"
 pub record RanOn (π : Prices) (rows : List RowKind) (q : ℕ) (m r : Machine) (store store′ : List ℤ) (picks : List ℕ) (c : TurnCounts) (counts′ : List (List ℕ)) : Type 0 where
-  pub stand : standOf r store′ picks (tallyOf counts′) ≡ runsOn π rows (pairs rows (length rows) .shut) (pairs rows (length rows) .opener) (given q (placeOf m store picks c))
-  pub waits : Awaits rows (pairs rows (length rows) .opener) (standOf r store′ picks (tallyOf counts′))
+  pub stand : standOf r store′ picks (tallyOf counts′) ≡ runsOn π rows (pairs rows (length rows) .end) (pairs rows (length rows) .head) (given q (placeOf m store picks c))
+  pub waits : Awaits rows (pairs rows (length rows) .head) (standOf r store′ picks (tallyOf counts′))
   pub left : r .left ≤ m .left + q
   pub used : r .used ≤ length picks
   pub long : length counts′ ≡ 256
@@ -63,16 +64,16 @@ kindIn rows i = getD rows i (record { kind = Kind.End }) .kind
 
 -- m waits for a for's test, which can be done
 pub record MayTest (text : List ℕ) (rows : List Row) (t : Tables) (m : Machine) (store : List ℤ) (counts : List (List ℕ)) : Type 0 where
-  pub row : Doable text (tableOf (t .shut) (m .row)) (m .row) (kindIn rows (m .row)) store counts
-  pub head : Doable text (m .row) (tableOf (t .opener) (m .row)) (kindIn rows (tableOf (t .opener) (m .row))) store counts
+  pub row : Doable text (tableOf (t .end) (m .row)) (m .row) (kindIn rows (m .row)) store counts
+  pub head : Doable text (m .row) (tableOf (t .head) (m .row)) (kindIn rows (tableOf (t .head) (m .row))) store counts
   pub on : m .testing ≡ true
-  pub waits : awaits (viewOf (kindOf text (kindIn rows (m .row)))) (viewOf (kindOf text (kindIn rows (tableOf (t .opener) (m .row))))) ≡ true
+  pub waits : awaits (viewOf (kindOf text (kindIn rows (m .row)))) (viewOf (kindOf text (kindIn rows (tableOf (t .head) (m .row))))) ≡ true
 
 -- it has been done: one step of `rules`' machine, after which no other test is to come
 pub record Tested (text : List ℕ) (π : Prices) (rows : List Row) (t : Tables) (m r : Machine) (store : List ℤ) (c : TurnCounts) (counts′ : List (List ℕ)) : Type 0 where
   pub step : (ks : List RowKind) (picks : List ℕ)
-      → Fitting ks (tableOf (t .shut)) (tableOf (t .opener)) (m .row) (tableOf (t .shut) (m .row)) (tableOf (t .opener) (m .row)) (viewOf (kindOf text (kindIn rows (tableOf (t .opener) (m .row)))))
-      → StepsIn m r store store picks c (tallyOf counts′) (rowTo π ks (tableOf (t .shut)) (tableOf (t .opener)) (viewOf (kindOf text (kindIn rows (m .row)))) (m .row) (phaseOf (m .testing)))
-      (rowRest π ks (tableOf (t .shut)) (tableOf (t .opener)) (viewOf (kindOf text (kindIn rows (m .row)))) (m .row) (phaseOf (m .testing)))
+      → Fitting ks (tableOf (t .end)) (tableOf (t .head)) (m .row) (tableOf (t .end) (m .row)) (tableOf (t .head) (m .row)) (viewOf (kindOf text (kindIn rows (tableOf (t .head) (m .row)))))
+      → StepsIn m r store store picks c (tallyOf counts′) (rowTo π ks (tableOf (t .end)) (tableOf (t .head)) (viewOf (kindOf text (kindIn rows (m .row)))) (m .row) (phaseOf (m .testing)))
+      (rowRest π ks (tableOf (t .end)) (tableOf (t .head)) (viewOf (kindOf text (kindIn rows (m .row)))) (m .row) (phaseOf (m .testing)))
   pub long : length counts′ ≡ 256
   pub fresh : isGoing (r .status) ≡ true → r .testing ≡ false

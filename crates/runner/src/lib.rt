@@ -10,7 +10,7 @@ ghost use mathlib.Core.Bool.{false};
 ghost use Prim.Native.Nat.{_≤_};
 ghost use lib.ListN.{length, take};
 ghost use Rattle.rules.specs.Blocks.{kindsOf};
-ghost use Rattle.rules.specs.RowMachine.{tallyOf};
+ghost use Rattle.rules_machine.specs.RowMachine.{tallyOf};
 ghost use Rattle.run_actions.specs.States.{isGoing, onAt};
 ghost use Rattle.runner.specs.Runs.{MayStep, Finished};
 ghost use Rattle.runner.specs.Pauses.{MayTest, Tested, Paused, RanOn};
@@ -47,8 +47,8 @@ pub fn resume(
         let i = m.row;
         if i < count {
             let row = rows[i];
-            let e = tables.shut[i] as usize;
-            let h = tables.opener[i] as usize;
+            let e = tables.end[i] as usize;
+            let h = tables.head[i] as usize;
             let head = rows[h];
             m = run_machine::step(m, row, e, head, h, prices, text, store, picks, counts);
         } else {
@@ -73,8 +73,8 @@ fn tested(
 {
     let i = m.row;
     let row = rows[i];
-    let e = tables.shut[i] as usize;
-    let h = tables.opener[i] as usize;
+    let e = tables.end[i] as usize;
+    let h = tables.head[i] as usize;
     let head = rows[h];
     run_machine::test_again(m, row, e, head, h, prices, text, store, counts)
 }
@@ -143,7 +143,7 @@ pub struct Ran {
 }
 
 // The answer of a machine that is over, after `allowance` ticks less what is left.
-pub fn answer(m: Machine, allowance: u64) -> Ran
+pub fn ran_of(m: Machine, allowance: u64) -> Ran
     requires { ⌜ m .left ≤ allowance ⌝ }
     ensures { λ r. ⌜ r ≡ ranOf m allowance ⌝ }
 {
@@ -198,5 +198,5 @@ pub fn run_rows(
         picks,
         counts,
     );
-    answer(end, allowance)
+    ran_of(end, allowance)
 }

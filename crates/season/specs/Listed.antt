@@ -4,7 +4,7 @@ use mathlib.Core.List.{List, [], _∷_, _++_}
 use Prim.Native.Nat.{ℕ}
 use lib.ListN.{length}
 use Rattle.rules.specs.Calls.{Judged, fourOnes, judged}
-use Rattle.rules.specs.Season.{judgedAll}
+use Rattle.rules_season.specs.Season.{judgedAll}
 use Rattle.season_names.specs.Kept.{Kept}
 use Rattle.season_sheet.specs.declared.Sheet.{Sheet}
 use Rattle.season_sheet.specs.Figures.{Figures}

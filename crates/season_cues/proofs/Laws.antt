@@ -7,7 +7,7 @@ use native.Mathlib.Omega.{arith}
 use lib.ListN.{length, getD, take, set, length-append}
 use lib.Seq.{take-suc}
 use Rattle.rules.specs.Blocks.{assign, cue, RowKind, End, View, is-plain, is-pick, is-else, is-end, is-loop, viewOf}
-use Rattle.rules.specs.Season.{cueOf, cuesOf}
+use Rattle.rules_season.specs.Season.{cueOf, cuesOf}
 use Rattle.report_pieces.specs.Pieces.{Wrote}
 use Rattle.report_pieces.proofs.Laws.{wrote-byte, wrote-length}
 

@@ -6,7 +6,7 @@ ghost use mathlib.Core.List.{List, _++_};
 ghost use Prim.Native.Nat.{ℕ, _+_, _≤_, _<_};
 ghost use lib.ListN.{length, take};
 ghost use Rattle.rules.specs.Blocks.{viewOf, kindOf, kindsOf};
-ghost use Rattle.rules.specs.Season.{cueOf, cuesOf};
+ghost use Rattle.rules_season.specs.Season.{cueOf, cuesOf};
 ghost use Rattle.report_pieces.specs.Pieces.{Wrote};
 ghost use Rattle.season_cues.specs.Fired.{firedBy};
 

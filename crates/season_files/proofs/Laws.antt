@@ -20,9 +20,9 @@ use Rattle.rules.specs.Scripts.{Script, reportTicks, scriptOf}
 use Rattle.rules.specs.File.{fileScript}
 use Rattle.rules.specs.Report.{scriptReport, longestReport}
 use Rattle.rules.specs.Calls.{Judged, accepted, refuses, fourOnes, Priced, pricesVerdict, judgedBy, judged, fitting, over, written, replyOf, bufferOf}
-use Rattle.rules.specs.Season.{cuesOf, judgedAll, scriptsOf, refusalsOf, met, sumOfTicks, among, firsts, sheetOf}
-use Rattle.rules.proofs.Longest.{longest-report}
-use Rattle.rules.proofs.Season.{length-end, scripts-end, scripts-same}
+use Rattle.rules_season.specs.Season.{cuesOf, judgedAll, scriptsOf, refusalsOf, met, sumOfTicks, among, firsts, sheetOf}
+use Rattle.rules.proofs.LongestReport.{longest-report}
+use Rattle.rules_season.proofs.GroupsExact.{length-end, scripts-end, scripts-same}
 use Rattle.reader.specs.declared.Loaded.{Loaded}
 use Rattle.reader.specs.Read.{LoadedAs}
 use Rattle.calls.specs.declared.Measured.{Measured}
@@ -37,7 +37,7 @@ use Rattle.season_groups.specs.Firsts.{total, partsOf, Firsts, more}
 use Rattle.season_groups.proofs.Laws.{parts-moved}
 use Rattle.season_sheet.specs.declared.Sheet.{Sheet}
 use Rattle.season_sheet.specs.Figures.{Figures, Accepting, Refusing}
-use Rattle.season_files.specs.declared.Found.{Found}
+use Rattle.season_files.specs.declared.FileFigures.{FileFigures}
 use Rattle.season_files.specs.Holds.{asMeasured, FoundAs, keptBy, Holds}
 
 pub ones-priced : Priced fourOnes
@@ -223,7 +223,7 @@ module _ (file counts lengths reports fired cues : List ℕ) (sheet : Sheet) (js
   behind-room : longestReport ≤ length behind
   behind-room = omega (arith, behind-long, used-room)
 
-  module _ (ys zs : List ℕ) (m : Found) (e : FoundAs (judged fourOnes 1_024 file) behind ys ahead zs m) where
+  module _ (ys zs : List ℕ) (m : FileFigures) (e : FoundAs (judged fourOnes 1_024 file) behind ys ahead zs m) where
     abbrev after : List ℕ
     after = putMid (sheet .used) (length reports - sheet .used) reports ys
 

@@ -5,7 +5,7 @@ use Prim.Native.Nat.{ℕ, _+_, _*_, _≤_, _<_}
 use lib.ListN.{length, getD}
 use Rattle.rules.specs.Scripts.{Script}
 use Rattle.rules.specs.Calls.{Judged, accepted, fourOnes}
-use Rattle.rules.specs.Season.{cuesOf, scriptsOf}
+use Rattle.rules_season.specs.Season.{cuesOf, scriptsOf}
 use Rattle.report_pieces.specs.Pieces.{Wrote}
 use Rattle.calls.specs.declared.Measured.{Measured}
 use Rattle.calls.specs.Told.{MeasuredAs}
@@ -13,14 +13,14 @@ use Rattle.season_groups.specs.declared.Kept.{Kept}
 use Rattle.season_groups.specs.Firsts.{Firsts}
 use Rattle.season_sheet.specs.declared.Sheet.{Sheet}
 use Rattle.season_sheet.specs.Figures.{Figures}
-use Rattle.season_files.specs.declared.Found.{Found}
+use Rattle.season_files.specs.declared.FileFigures.{FileFigures}
 
 -- the answer and the ticks of a report call
-abbrev pub asMeasured : Found → Measured
+abbrev pub asMeasured : FileFigures → Measured
 asMeasured f = record { reply = f .reply; ticks = f .ticks }
 
 -- what is found of a file that is judged so: its report and ticks, and the cue numbers of an accepted one; what is written of a refused one's is free
-pub record FoundAs (j : Judged) (old new cues cues' : List ℕ) (f : Found) : Type 0 where
+pub record FoundAs (j : Judged) (old new cues cues' : List ℕ) (f : FileFigures) : Type 0 where
   pub measured : MeasuredAs fourOnes j old new (asMeasured f)
   pub fires : (s : Script) → j ≡ accepted s → Wrote (cuesOf (s .rows)) cues cues' (f .cues)
   pub few : f .cues ≤ 256
@@ -45,5 +45,5 @@ pub record Holds (js : List Judged) (s : Sheet) (counts lengths reports fired cu
   pub numbers : length cues ≡ 16_384
 
 -- a sheet of fewer than 64 files
-abbrev pub Begun : Sheet → List ℕ → List ℕ → List ℕ → List ℕ → List ℕ → Type 0
-Begun s counts lengths reports fired cues = (js : List Judged) × Holds js s counts lengths reports fired cues × (length js < 64)
+abbrev pub SheetWithRoom : Sheet → List ℕ → List ℕ → List ℕ → List ℕ → List ℕ → Type 0
+SheetWithRoom s counts lengths reports fired cues = (js : List Judged) × Holds js s counts lengths reports fired cues × (length js < 64)

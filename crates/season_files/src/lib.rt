@@ -13,7 +13,7 @@ ghost use mathlib.Core.List.{List, [], _∷_, _++_};
 ghost use Prim.Native.Nat.{_≤_};
 ghost use lib.ListN.{length};
 ghost use Rattle.rules.specs.Calls.{Judged, fourOnes, judged};
-ghost use Rattle.season_files.specs.Holds.{FoundAs, Holds, Begun};
+ghost use Rattle.season_files.specs.Holds.{FoundAs, Holds, SheetWithRoom};
 
 // How many files a season has at most, the bytes of that many longest reports, and the cues of that many files of 256 rows.
 pub const FILES: usize = 64;
@@ -23,14 +23,14 @@ pub const REPORTS: usize = 133_696;
 pub const CUES: usize = 16_384;
 
 // What is found of a file: the answer of a report call, the ticks, and how many cues it has.
-pub struct Found {
+pub struct FileFigures {
     pub reply: Reply,
     pub ticks: u64,
     pub cues: usize,
 }
 
 // The report of a file under four ones and its cue numbers, each at the front of what is lent, and its ticks.
-fn measure(file: &[u8], rest: &mut [u8], cues: &mut [u32]) -> Found
+fn measure(file: &[u8], rest: &mut [u8], cues: &mut [u32]) -> FileFigures
     requires { ⌜ 256 ≤ length (now cues) ⌝ }
     ensures { λ r. ⌜ FoundAs (judged fourOnes 1_024 (now (file .entry))) (now (rest .entry)) (now (rest .exit)) (now (cues .entry)) (now (cues .exit)) r ⌝ }
 {
@@ -45,7 +45,7 @@ fn measure(file: &[u8], rest: &mut [u8], cues: &mut [u32]) -> Found
             let fired = put_cues(rows, l.count, cues);
             let measured = measure_script(file, rows, l.count, ranges, l.vars, &ones, rest);
             let reply = measured.reply;
-            Found {
+            FileFigures {
                 reply: reply,
                 ticks: measured.ticks,
                 cues: fired,
@@ -53,7 +53,7 @@ fn measure(file: &[u8], rest: &mut [u8], cues: &mut [u32]) -> Found
         }
         Verdict::Refused(q, p) => {
             let no = Reply::Refused(q, p);
-            Found {
+            FileFigures {
                 reply: no,
                 ticks: 0,
                 cues: 0,
@@ -73,7 +73,7 @@ pub fn add_file(
     fired: &mut [usize],
     cues: &mut [u32],
 ) -> Sheet
-    requires { ⌜ Begun sheet (now counts) (now lengths) (now reports) (now fired) (now cues) ⌝ }
+    requires { ⌜ SheetWithRoom sheet (now counts) (now lengths) (now reports) (now fired) (now cues) ⌝ }
     ensures { λ r. ⌜ ((js : List Judged) → Holds js sheet (now (counts .entry)) (now (lengths .entry)) (now (reports .entry)) (now (fired .entry)) (now (cues .entry)) → Holds (js ++ (judged fourOnes 1_024 (now (file .entry)) ∷ [])) r (now (counts .exit)) (now (lengths .exit)) (now (reports .exit)) (now (fired .exit)) (now (cues .exit))) ⌝ }
 {
     let used = sheet.used;

@@ -14,8 +14,8 @@ use Rattle.rules.specs.Figures.{ones}
 use Rattle.rules.specs.Scripts.{Script}
 use Rattle.rules.specs.Report.{scriptReport, longestReport}
 use Rattle.rules.specs.Text.{equals}
-use Rattle.rules.specs.Season.{cuesOf, sameGroup, among, firsts}
-use Rattle.rules.proofs.Season.{firsts-end, among-firsts}
+use Rattle.rules_season.specs.Season.{cuesOf, sameGroup, among, firsts}
+use Rattle.rules_season.proofs.GroupsExact.{firsts-end, among-firsts}
 use Rattle.season_groups.specs.declared.Kept.{Kept}
 use Rattle.season_groups.specs.Firsts.{total, partsOf, scriptCues, Parts, Firsts, more}
 

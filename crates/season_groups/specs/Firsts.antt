@@ -7,7 +7,7 @@ use lib.ListN.{length, take, drop}
 use Rattle.rules.specs.Figures.{ones}
 use Rattle.rules.specs.Scripts.{Script}
 use Rattle.rules.specs.Report.{scriptReport, longestReport}
-use Rattle.rules.specs.Season.{cuesOf, among, firsts}
+use Rattle.rules_season.specs.Season.{cuesOf, among, firsts}
 use Rattle.season_groups.specs.declared.Kept.{Kept}
 
 -- the sum of these lengths

@@ -7,7 +7,7 @@ ghost use Rattle.rules.specs.Figures.{ones};
 ghost use Rattle.rules.specs.Scripts.{Script};
 ghost use Rattle.rules.specs.Report.{scriptReport};
 ghost use Rattle.rules.specs.Text.{equals};
-ghost use Rattle.rules.specs.Season.{cuesOf, sameGroup, among};
+ghost use Rattle.rules_season.specs.Season.{cuesOf, sameGroup, among};
 ghost use Rattle.season_groups.specs.Firsts.{total, partsOf, scriptCues, Behind, FirstsAfter};
 
 // Whether two lists of cue numbers are the same.

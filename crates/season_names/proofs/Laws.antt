@@ -11,7 +11,7 @@ use lib.ListN.{length, getD, take, drop, set, length-append, length-take, length
 use lib.Seq.{drop-cons, take-all, take-append-le, take-append-seam, getD-set-same, getD-set-other, take-suc-set, take-set-le, drop-set-add, take-suc}
 use borrow.Author.Tests.{le-leb, lt-leb, eq-eqb, ne-eqb, eqb-true, eqb-false}
 use Rattle.rules.specs.Text.{lf, split}
-use Rattle.rules.specs.Season.{untilLast, namesOf, holdsZero, opens}
+use Rattle.rules_season.specs.Season.{untilLast, namesOf, holdsZero, opens}
 use Rattle.season_names.specs.Kept.{Kept, listed, Opened}
 use Rattle.season_names.proofs.Lines.{some-line, byte-count, byte-before, byte-last, here-count, here-before, here-last, names-most, names-fewer, name-line, last-named, last-none}
 

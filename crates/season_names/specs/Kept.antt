@@ -6,7 +6,7 @@ use Prim.Native.Nat.{ℕ, _+_, _*_, _≤_, _<_, min}
 use lib.Dec.{leb}
 use lib.ListN.{length, getD, take, drop}
 use Rattle.rules.specs.Text.{lf, split}
-use Rattle.rules.specs.Season.{opens}
+use Rattle.rules_season.specs.Season.{opens}
 
 -- after an input: line `at` is open, the last one, or 65 lines are closed; of each of the first 65 lines, the first 256 bytes
 pub record Kept (input : List ℕ) (at : ℕ) (names lengths : List ℕ) : Type 0 where

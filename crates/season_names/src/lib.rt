@@ -6,7 +6,7 @@ ghost use mathlib.Core.List.{List, [], _∷_, _++_};
 ghost use Prim.Native.Nat.{ℕ, _*_, _≤_, _<_};
 ghost use lib.Dec.{eqb};
 ghost use lib.ListN.{length, getD, take, drop};
-ghost use Rattle.rules.specs.Season.{namesOf, holdsZero, opens};
+ghost use Rattle.rules_season.specs.Season.{namesOf, holdsZero, opens};
 ghost use Rattle.season_names.specs.Kept.{Kept, listed, Opened};
 
 // How many bytes of a line are kept, of how many lines, and all of them.

@@ -11,11 +11,11 @@ use borrow.Author.Tests.{ne-eqb, eq-eqb, eqb-true, eqb-false}
 use Rattle.rules.specs.Figures.{ones}
 use Rattle.rules.specs.Scripts.{Script, reportTicks}
 use Rattle.rules.specs.Calls.{Judged, accepted, refuses}
-use Rattle.rules.specs.Season as season
-use Rattle.rules.specs.Season.{scriptsOf, refusalsOf, met, sumOfTicks, mostTicks, among, firsts, sheetOf, withAccepted, withRefused, SheetGrows}
-use Rattle.rules.proofs.Season.{sheet-grows}
+use Rattle.rules_season.specs.Season as season
+use Rattle.rules_season.specs.Season.{scriptsOf, refusalsOf, met, sumOfTicks, mostTicks, among, firsts, sheetOf, withAccepted, withRefused, SheetGrows}
+use Rattle.rules_season.proofs.GroupsExact.{sheet-grows}
 use Rattle.season_sheet.specs.declared.Sheet.{Sheet}
-use Rattle.season_sheet.specs.Figures.{Figures, Accepting, Counted, Refusing}
+use Rattle.season_sheet.specs.Figures.{Figures, Accepting, CounterRaised, Refusing}
 
 -- no file
 pub no-file : {s : Sheet} {counts : List ℕ} → s .accepted ≡ 0 → s .refused ≡ 0 → ((q : ℕ) → q < 21 → getD counts q 0 ≡ 0) → s .ticks ≡ 0 → s .greatest ≡ 0 → s .groups ≡ 0 → Figures [] s counts
@@ -53,14 +53,14 @@ one-more q counts l k = by (eqb k q) refl
     by true e = let f = eqb-true k q e in subst (λ z. getD (set counts q (getD counts q 0 + 1)) z 0 ≡ getD counts z 0 + 1) (sym f) (getD-set-same counts q (getD counts q 0 + 1) 0 l)
     by false e = getD-set-other counts q k (getD counts q 0 + 1) 0 (eqb-false k q e) ∙ omega arith
 
-pub counted : (q : ℕ) (counts : List ℕ) → length counts ≡ 21 → q < 21 → Counted q counts (set counts q (getD counts q 0 + 1))
+pub counted : (q : ℕ) (counts : List ℕ) → length counts ≡ 21 → q < 21 → CounterRaised q counts (set counts q (getD counts q 0 + 1))
 counted q counts e l = record { long = length-set counts q _ ∙ e; numbers = λ k m. one-more q counts (omega arith) k }
 
-pub not-counted : (q : ℕ) (counts : List ℕ) → length counts ≡ 21 → 21 ≤ q → Counted q counts counts
+pub not-counted : (q : ℕ) (counts : List ℕ) → length counts ≡ 21 → 21 ≤ q → CounterRaised q counts counts
 not-counted q counts e l = record { long = e; numbers = λ k m. let f : eqb k q ≡ false = ne-eqb k q (λ g. omega (arith, g)) in rw f (omega arith) }
 
 module _ (old new : Sheet) (q : ℕ) (counts counts' : List ℕ) (a : new .accepted ≡ old .accepted) (r : new .refused ≡ old .refused + 1) (t : new .ticks ≡ old .ticks)
-    (m : new .greatest ≡ old .greatest) (g : new .groups ≡ old .groups) (u : new .used ≡ old .used) (v : new .cued ≡ old .cued) (n : Counted q counts counts') where
+    (m : new .greatest ≡ old .greatest) (g : new .groups ≡ old .groups) (u : new .used ≡ old .used) (v : new .cued ≡ old .cued) (n : CounterRaised q counts counts') where
   one-refused : (js : List Judged) (p : ℕ) → Figures js old counts → Figures (js ++ (refuses q p ∷ [])) new counts'
   unfolding SheetGrows withRefused
   one-refused js p h =

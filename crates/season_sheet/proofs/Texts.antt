@@ -11,13 +11,13 @@ use borrow.Rule.Slice.PartMut.{midOf, putMid}
 use borrow.Author.Tests.{eq-eqb, ne-eqb}
 use Rattle.rules.specs.Report.{decimal, joined, keyLine, ticksKey, newline, gap}
 use Rattle.rules.specs.Calls.{Judged}
-use Rattle.rules.specs.Season as season
-use Rattle.rules.specs.Season.{acceptedKey, refusedWord, refusedKey, numberKey, greatestKey, groupsKey, numberLines, sheetText, refusalText, sheetOf}
-use Rattle.rules.proofs.Longest.{decimal-short, key-short}
+use Rattle.rules_season.specs.Season as season
+use Rattle.rules_season.specs.Season.{acceptedKey, refusedWord, refusedKey, numberKey, greatestKey, groupsKey, numberLines, sheetText, refusalText, sheetOf}
+use Rattle.rules.proofs.LongestReport.{decimal-short, key-short}
 use Rattle.report_pieces.specs.Pieces.{Wrote}
 use Rattle.report_pieces.proofs.Laws.{joined-append, wrote-nothing, wrote-then, wrote-length}
 use Rattle.season_sheet.specs.declared.Sheet.{Sheet}
-use Rattle.season_sheet.specs.Figures.{figuresOf, Figures, frontText, metText, numbersText, tailText, Told}
+use Rattle.season_sheet.specs.Figures.{figuresOf, Figures, frontText, metText, numbersText, tailText, SheetWritten}
 
 -- a key and a number, and a line of another key and number
 pub pair-short : (first second : List ℕ) (x y : ℕ) → length ((first ++ decimal x) ++ keyLine second y) ≤ length first + length second + 41
@@ -141,7 +141,7 @@ text-same js s counts h =
     λ i. joined (keyLine acceptedKey (h .accepts i) ∷ (keyLine refusedKey (h .refusals i) ∷ (n i ++ (keyLine ticksKey (h .sum i) ∷ (keyLine greatestKey (h .most i) ∷ (keyLine groupsKey (h .classes i) ∷ []))))))
 
 pub told : (s : Sheet) (counts old new : List ℕ) (r : ℕ) → let f = figuresOf s counts in
-    Wrote (joined (frontText (f .accepted) (f .refused) ∷ (numbersText (f .counts) ∷ (tailText (f .ticks) (f .greatest) (f .groups) ∷ [])))) old new r → Told s counts old new r
+    Wrote (joined (frontText (f .accepted) (f .refused) ∷ (numbersText (f .counts) ∷ (tailText (f .ticks) (f .greatest) (f .groups) ∷ [])))) old new r → SheetWritten s counts old new r
 told s counts old new r w =
     let f = figuresOf s counts in
     let t : Wrote (sheetText f) old new r = subst (λ l. Wrote l old new r) (sym (sheet-parts f)) w in

@@ -9,8 +9,8 @@ use Rattle.rules.specs.Figures.{ones}
 use Rattle.rules.specs.Scripts.{Script, reportTicks}
 use Rattle.rules.specs.Report.{joined, keyLine, ticksKey}
 use Rattle.rules.specs.Calls.{Judged, accepted, refuses}
-use Rattle.rules.specs.Season as season
-use Rattle.rules.specs.Season.{scriptsOf, among, sheetOf, acceptedKey, refusedKey, numberKey, greatestKey, groupsKey, numberLines, sheetText}
+use Rattle.rules_season.specs.Season as season
+use Rattle.rules_season.specs.Season.{scriptsOf, among, sheetOf, acceptedKey, refusedKey, numberKey, greatestKey, groupsKey, numberLines, sheetText}
 use Rattle.report_pieces.specs.Pieces.{Wrote}
 use Rattle.season_sheet.specs.declared.Sheet.{Sheet}
 
@@ -45,7 +45,7 @@ pub record Accepting (old : Sheet) (ticks len count : ℕ) (fresh : Bool) (new :
   pub cues : new .cued ≡ old .cued + cond fresh count 0
 
 -- the counter of that number is one more; numbers from 21 on have none
-pub record Counted (q : ℕ) (old new : List ℕ) : Type 0 where
+pub record CounterRaised (q : ℕ) (old new : List ℕ) : Type 0 where
   pub long : length new ≡ 21
   pub numbers : (k : ℕ) → k < 21 → getD new k 0 ≡ getD old k 0 + cond (eqb k q) 1 0
 
@@ -79,7 +79,7 @@ unfoldable pub tailText : ℕ → ℕ → ℕ → List ℕ
 tailText t g n = joined (keyLine ticksKey t ∷ (keyLine greatestKey g ∷ (keyLine groupsKey n ∷ [])))
 
 -- the sheet's text is written: that of its figures, and so of the files whose sheet it is
-pub record Told (s : Sheet) (counts old new : List ℕ) (r : ℕ) : Type 0 where
+pub record SheetWritten (s : Sheet) (counts old new : List ℕ) (r : ℕ) : Type 0 where
   pub text : Wrote (sheetText (figuresOf s counts)) old new r
   pub season : (js : List Judged) → Figures js s counts → Wrote (sheetText (sheetOf js)) old new r
   pub short : r ≤ 1_144

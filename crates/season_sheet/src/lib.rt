@@ -1,13 +1,14 @@
 // The season's sheet as numbers: one file more, and its text.
+use min_max::larger;
 ghost use mathlib.Core.Path.{_≡_};
 ghost use mathlib.Core.Bool.{cond};
 ghost use mathlib.Core.List.{[], _++_};
 ghost use Prim.Native.Nat.{ℕ, _+_, _≤_, _<_, max};
 ghost use lib.ListN.{length, getD};
 ghost use Rattle.rules.specs.Report.{decimal, keyLine};
-ghost use Rattle.rules.specs.Season.{refusalText};
+ghost use Rattle.rules_season.specs.Season.{refusalText};
 ghost use Rattle.report_pieces.specs.Pieces.{Wrote};
-ghost use Rattle.season_sheet.specs.Figures.{Figures, Accepting, Counted, Refusing, frontText, metText, numbersText, tailText, Told};
+ghost use Rattle.season_sheet.specs.Figures.{Figures, Accepting, CounterRaised, Refusing, frontText, metText, numbersText, tailText, SheetWritten};
 
 // The figures, but for the refusals by number, which stand in an array of 21; and how many bytes the reports and how many numbers the cues of the groups' first files take.
 pub struct Sheet {
@@ -18,13 +19,6 @@ pub struct Sheet {
     pub groups: usize,
     pub used: usize,
     pub cued: usize,
-}
-
-// The larger number.
-fn larger(a: u64, b: u64) -> u64
-    ensures { λ r. ⌜ r ≡ max a b ⌝ }
-{
-    if a < b { b } else { a }
 }
 
 // The sheet of no file.
@@ -76,7 +70,7 @@ pub fn with_accepted(sheet: Sheet, ticks: u64, len: usize, count: usize, fresh: 
 // Counts a refusal under its number.
 fn count_refusal(number: u32, counts: &mut [u64; 21])
     requires { ⌜ (length (now counts) ≡ 21) × ((q : ℕ) → q < 21 → getD (now counts) q 0 < 64) ⌝ }
-    ensures { λ _. ⌜ Counted number (now (counts .entry)) (now (counts .exit)) ⌝ }
+    ensures { λ _. ⌜ CounterRaised number (now (counts .entry)) (now (counts .exit)) ⌝ }
 {
     let q = number as usize;
     if q < 21 {
@@ -160,7 +154,7 @@ pub const TEXT: usize = 1_144;
 // Writes the sheet.
 pub fn put_sheet(sheet: Sheet, counts: &[u64; 21], out: &mut [u8]) -> usize
     requires { ⌜ 1_144 ≤ length (now out) ⌝ }
-    ensures { λ r. ⌜ Told sheet (now (counts .entry)) (now (out .entry)) (now (out .exit)) r ⌝ }
+    ensures { λ r. ⌜ SheetWritten sheet (now (counts .entry)) (now (out .entry)) (now (out .exit)) r ⌝ }
 {
     let a = put_front(sheet, out);
     let b = a + put_numbers(counts, &mut out[a..]);

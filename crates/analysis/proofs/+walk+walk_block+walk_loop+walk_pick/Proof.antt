@@ -15,8 +15,8 @@ use Rattle.analysis_steps.specs.Tree.{blockAt, endAt, headOf, formOf, testOf}
 use Rattle.analysis_steps.specs.Sets.{setOf}
 use Rattle.analysis_steps.proofs.Laws.{PickIs, LoopIs}
 use Rattle.analysis_steps.proofs.Walking.{ready, begin, pick-at, loop-at, at-close, at-last}
-use Rattle.analysis_trips.specs.Env.{envOf, rangeOf}
-use Rattle.analysis_ranges.specs.Env.{widenedEnv}
+use Rattle.analysis_intervals.specs.Env.{envOf, rangeOf}
+use Rattle.analysis_transfer.specs.Env.{widenedEnv}
 use Rattle.analysis_ranges.proofs.Loops.{outside-after}
 use Rattle.analysis.specs.Fold.{TallyLines, withLines, tallied, IsBlock}
 use Rattle.analysis.proofs.Folding.{fold-none}
@@ -36,7 +36,7 @@ use Rattle.analysis.proofs.walk.Reads as walk
 use Rattle.analysis.proofs.walk.Kinds as walk-kinds
 use Rattle.analysis.proofs.+walk+walk_block+walk_loop+walk_pick.Lts-walk as walk-lts
 use Rattle.analysis_passes.proofs.branch.Reads as branch-reads
-use Rattle.analysis_ranges.proofs.step_row.Reads as step-row-reads
+use Rattle.analysis_transfer.proofs.step_row.Reads as step-row-reads
 use Rattle.analysis.proofs.after_pick.Reads as after-pick-reads
 use Rattle.analysis.proofs.ended.Reads as ended-reads
 use Rattle.analysis.proofs.enter_loop.Reads as enter-loop-reads
@@ -369,15 +369,13 @@ pub +walk+walk-block+walk-loop+walk-pick-spec : {M : Type 1} → statement M
     Inv
     μ
     (walk-loop-holds t)
-    (λ c κs. search needs)
-    (λ c. search needs)
+    (λ c κs. search needs) (λ c. search needs)
     (walk-step-row-requires t)
     (walk-past-row-requires t)
     (walk-add-i t)
     (λ c. search needs)
     (walk-loop-again t)
-    (λ c. search needs)
-    (λ c κs. search needs)
+    (λ c. search needs) (λ c κs. search needs)
     (walk-returns t)
     (walk-walk-block-requires t)
     (walk-returns-2 t)

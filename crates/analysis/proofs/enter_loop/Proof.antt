@@ -15,12 +15,13 @@ use Rattle.rules.specs.Questions.{ofTrip}
 use Rattle.analysis_table.specs.Code.{kindAt, rowsOf}
 use Rattle.analysis_steps.specs.Tree.{formOf, testOf}
 use Rattle.analysis_steps.specs.Sets.{setOf}
-use Rattle.analysis_trips.specs.Env.{envOf}
-use Rattle.analysis_trips.specs.Found.{tripOf, LoopAt}
-use Rattle.analysis_ranges.specs.Env.{widened}
+use Rattle.analysis_intervals.specs.Env.{envOf}
+use Rattle.analysis_trips.specs.Found.{tripOf}
+use Rattle.analysis_loops.specs.Loops.{LoopAt}
+use Rattle.analysis_ranges.specs.Loops.{widened}
 use Rattle.analysis_ranges.proofs.Loops.{inside-is}
 use Rattle.analysis_turns.specs.declared.Figure.{Figure}
-use Rattle.analysis_turns.specs.Needs.{FigureOf}
+use Rattle.analysis_turns.specs.Verdicts.{FigureOf}
 use Rattle.analysis_ticks.specs.Capped.{capped}
 use Rattle.analysis_ticks.proofs.Caps.{cap-times}
 use Rattle.analysis_passes.specs.Rounds.{roundOf, passIn, walkedBy, bodyOf}
@@ -140,12 +141,8 @@ enter-loop-spec =
     (λ c κs. search needs)
     at-start-requires
     loop-at-requires
-    (λ c κs. search needs)
-    (λ c κs. search needs)
-    (λ c. search needs)
-    (λ c κs. search needs)
-    (λ c. search needs)
-    (λ c κs. search needs)
+    (λ c κs. search needs) (λ c κs. search needs) (λ c. search needs) (λ c κs. search needs)
+    (λ c. search needs) (λ c κs. search needs)
     walked-requires
     times-requires
     body-requires

@@ -57,8 +57,7 @@ pub leave-loop-spec : {M : Type 1} → statement M
 leave-loop-spec =
     tie.close
     (tie.spec
-    (λ c κs. search needs)
-    (λ c κs. search needs)
+    (λ c κs. search needs) (λ c κs. search needs)
     mul-plus
     plus-requires
     loop-ticks-requires

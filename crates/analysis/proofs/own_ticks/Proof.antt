@@ -3,7 +3,7 @@ use borrow.Author.Needs.{needs}
 use native.Mathlib.Omega.{arith}
 use Rattle.ints.proofs.Parts.{ints}
 use mathlib.Core.Path.{refl, sym, subst, _∙_}
-use Rattle.analysis_trips.specs.Env.{envOf}
+use Rattle.analysis_intervals.specs.Env.{envOf}
 use Rattle.analysis.specs.Fold.{IsBlock}
 use Rattle.analysis.proofs.Going.{block-shape}
 use Rattle.analysis.proofs.Own.{plain-own, close-own, refused-own, block-own}

@@ -14,7 +14,7 @@ use Rattle.analysis_table.proofs.Laws.{rows-length}
 use Rattle.analysis_steps.specs.Tree.{blockAt, endAt, Ready}
 use Rattle.analysis_steps.proofs.Walking as walking
 use Rattle.analysis_steps.proofs.Walking.{begin, plain-next, plain-row, at-close}
-use Rattle.analysis_trips.specs.Env.{envOf}
+use Rattle.analysis_intervals.specs.Env.{envOf}
 use Rattle.analysis.proofs.Legals.{ready, few-in}
 use Rattle.analysis_blocks.specs.Figure.{FigureOf}
 use Rattle.analysis_blocks.specs.Toward.{PartOf, AtBlock}

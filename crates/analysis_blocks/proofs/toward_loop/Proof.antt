@@ -11,7 +11,7 @@ use Rattle.analysis_steps.specs.Tree.{headOf, formOf, testOf, blockAt}
 use Rattle.analysis_steps.specs.Body.{bodyAt}
 use Rattle.analysis_steps.proofs.Laws.{LoopIs}
 use Rattle.analysis_steps.proofs.Walking.{loop-at}
-use Rattle.analysis_trips.specs.Env.{envOf}
+use Rattle.analysis_intervals.specs.Env.{envOf}
 use Rattle.analysis_ranges.proofs.Loops.{inside-is, outside-is}
 use Rattle.analysis_blocks.proofs.Parts.{part-is, loop-in, loop-past}
 use Rattle.analysis_blocks.proofs.toward_loop.Statement.{statement}

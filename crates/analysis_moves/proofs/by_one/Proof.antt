@@ -7,7 +7,7 @@ use lib.Signed.{_≤ℤ_, nonNeg}
 use mir.Syntax.{w64}
 use mir.Val.{SFits, Fits}
 use mir.Facts.{toZ-ofZ}
-use Rattle.rules.specs.Bounds.{Near}
+use Rattle.rules_steps.specs.Ends.{Near}
 use Rattle.ints.proofs.Parts.{ints, abs-parts}
 use Rattle.analysis_moves.proofs.by_one.Statement.{statement}
 use Rattle.analysis_moves.proofs.by_one.Tie as tie

@@ -5,7 +5,7 @@ use mir.Syntax.{w64}
 use mir.Val.{SFits}
 use mir.Facts.{toZ-ofZ}
 use Rattle.rules.specs.declared.AddLoop.{AddLoop}
-use Rattle.rules.specs.Bounds.{Near}
+use Rattle.rules_steps.specs.Ends.{Near}
 use Rattle.ints.proofs.Parts.{ints, minus-parts}
 use Rattle.analysis_moves.proofs.from_zero.Statement.{statement}
 use Rattle.analysis_moves.proofs.from_zero.Tie as tie

@@ -4,7 +4,7 @@ use lib.IntN.{ℤ, negℤ, +ℤ-idl}
 use mir.Syntax.{w64}
 use mir.Val.{SFits}
 use mir.Facts.{toZ-ofZ}
-use Rattle.rules.specs.Bounds.{Near}
+use Rattle.rules_steps.specs.Ends.{Near}
 use Rattle.ints.proofs.Parts.{ints, neg-parts}
 use Rattle.analysis_moves.proofs.turned_up.Statement.{statement}
 use Rattle.analysis_moves.proofs.turned_up.Tie as tie

@@ -7,7 +7,7 @@ use mir.Syntax.{w64}
 use mir.Val.{SFits, toZ}
 use mir.Facts.{toZ-ofZ}
 use Rattle.ints.proofs.Parts.{ints}
-use Rattle.rules.specs.Bounds.{Near}
+use Rattle.rules_steps.specs.Ends.{Near}
 use Rattle.rules.specs.Turns.{climb}
 use Rattle.rules.specs.Passes.{sum}
 use Rattle.analysis_passes.proofs.Values.{sum-first, sum-next, sum-end, limit-first, Limit, limit-at, term-few, near-far, far-more}

@@ -9,10 +9,10 @@ use denote.Enum.Declared.{tagOf}
 use mir.Syntax.{w64}
 use mir.Val.{SFits}
 use mir.Facts.{toZ-ofZ}
-use Rattle.rules.specs.declared.Step.{Step}
-use Rattle.rules.specs.declared.Step.the-variants.{Add, Grow, Shrink, Unknown}
+use Rattle.rules_steps.specs.declared.Step.{Step}
+use Rattle.rules_steps.specs.declared.Step.the-variants.{Add, Grow, Shrink, Unknown}
 use Rattle.rules.specs.Steps.{isAdd, firstEnd}
-use Rattle.rules.proofs.Step.{the-type}
+use Rattle.rules_steps.proofs.Step.{the-type}
 use Rattle.analysis_passes.proofs.first_end.Statement.{statement}
 use Rattle.analysis_passes.proofs.first_end.Tie as tie
 

@@ -10,15 +10,15 @@ use Rattle.analysis_table.specs.Shapes.{pastElse}
 use Rattle.analysis_steps.specs.Tree.{endAt, headOf}
 use Rattle.analysis_steps.proofs.Laws.{PickIs, LoopIs}
 use Rattle.analysis_steps.proofs.Walking.{Walking, ready, begin, pick-at, loop-at, plain-row, pick-row, loop-row, at-close, at-last}
-use Rattle.analysis_trips.specs.Env.{envOf}
+use Rattle.analysis_intervals.specs.Env.{envOf}
 use borrow.Fn.Kinds.{In}
 use borrow.Fn.PlainCycle.{Measures, is, falls, and}
 use Rattle.analysis_ranges.proofs.after.Reads as after
 use Rattle.analysis_ranges.proofs.after.Kinds as after-kinds
 use Rattle.analysis_ranges.proofs.+after.Lts-after as lts
 use Rattle.analysis_ranges.proofs.after_loop.Reads as after-loop-reads
-use Rattle.analysis_ranges.proofs.joined.Reads as joined-reads
-use Rattle.analysis_ranges.proofs.step_row.Reads as step-row-reads
+use Rattle.analysis_transfer.proofs.joined.Reads as joined-reads
+use Rattle.analysis_transfer.proofs.step_row.Reads as step-row-reads
 use Rattle.analysis_table.proofs.past_else.Reads as past-else-reads
 use Rattle.analysis_table.proofs.shape_at.Reads as shape-at-reads
 use Rattle.analysis_ranges.proofs.+after.{statement}
@@ -119,14 +119,11 @@ pub +after-spec : {M : Type 1} → statement M
     Inv
     μ
     (loop-holds t)
-    (λ c κs. search needs)
-    (λ c. search needs)
+    (λ c κs. search needs) (λ c. search needs)
     (step-row-requires t)
-    (λ c. search needs)
-    (λ c. search needs)
+    (λ c. search needs) (λ c. search needs)
     (loop-again t)
-    (λ c. search needs)
-    (λ c. search needs)
+    (λ c. search needs) (λ c. search needs)
     (after-requires t)
     (past-else-requires t)
     (after-requires-2 t)

@@ -6,7 +6,7 @@ use Rattle.rules.specs.Trips.{outside}
 use Rattle.analysis_table.specs.Code.{kindAt, rowsOf}
 use Rattle.analysis_steps.specs.Tree.{formOf, testOf}
 use Rattle.analysis_steps.specs.Body.{bodyAt}
-use Rattle.analysis_trips.specs.Env.{envOf}
+use Rattle.analysis_intervals.specs.Env.{envOf}
 use Rattle.analysis_ranges.proofs.Loops.{outside-is}
 use borrow.Author.Needs.{needs}
 use Rattle.analysis_ranges.proofs.after_loop.Statement.{statement}

@@ -2,8 +2,8 @@
 use denote.Ref.{now}
 use mathlib.Core.Path.{ap, _∙_}
 use borrow.Author.Needs.{needs}
-use Rattle.analysis_trips.specs.Env.{envOf}
-use Rattle.analysis_ranges.specs.Env.{widened}
+use Rattle.analysis_intervals.specs.Env.{envOf}
+use Rattle.analysis_ranges.specs.Loops.{widened}
 use Rattle.analysis_ranges.proofs.inside.Statement.{statement}
 use Rattle.analysis_ranges.proofs.inside.Tie as tie
 

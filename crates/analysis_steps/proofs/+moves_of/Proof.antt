@@ -4,9 +4,10 @@ use borrow.Author.Needs.{needs}
 use Prim.Native.Nat.{ℕ, _<_, _-_, _+_}
 use mathlib.Core.Path.{_≡_, refl, sym, ap, _∙_}
 use mathlib.Core.Logic.{⊎-elim}
-use Rattle.rules.specs.declared.Step.the-variants.{Unknown}
-use Rattle.rules.specs.Steps.{then, rowStep}
-use Rattle.rules.proofs.Ends.{ends-only}
+use Rattle.rules_steps.specs.declared.Step.the-variants.{Unknown}
+use Rattle.rules_steps.specs.Joins.{then}
+use Rattle.rules.specs.Steps.{rowStep}
+use Rattle.analysis_row_steps.proofs.Ends.{ends-only}
 use Rattle.analysis_table.specs.Code.{kindAt, rowsOf}
 use Rattle.analysis_table.specs.Shapes.{pastElse, plainOf}
 use Rattle.analysis_steps.specs.Tree.{endAt, headOf}
@@ -20,9 +21,9 @@ use borrow.Fn.PlainCycle.{Measures, is, falls, and}
 use Rattle.analysis_steps.proofs.moves_of.Reads as moves-of
 use Rattle.analysis_steps.proofs.moves_of.Kinds as moves-of-kinds
 use Rattle.analysis_steps.proofs.+moves_of.Lts-moves_of as lts
-use Rattle.rules.proofs.Step.either.Reads as either-reads
-use Rattle.rules.proofs.Step.then.Reads as then-reads
-use Rattle.rules.proofs.only.Reads as only-reads
+use Rattle.rules_steps.proofs.Step.either.Reads as either-reads
+use Rattle.rules_steps.proofs.Step.then.Reads as then-reads
+use Rattle.analysis_row_steps.proofs.only.Reads as only-reads
 use Rattle.analysis_steps.proofs.add_all.Reads as add-all-reads
 use Rattle.analysis_steps.proofs.add_row.Reads as add-row-reads
 use Rattle.analysis_steps.proofs.has.Reads as has-reads
@@ -141,17 +142,14 @@ pub +moves-of-spec : {M : Type 1} → statement M
     Inv
     μ
     (loop-holds t)
-    (λ c κs. search needs)
-    (λ c. search needs)
+    (λ c κs. search needs) (λ c. search needs)
     (add-row-requires t)
     (λ c κs. search needs)
     (row-step-requires t)
     (then-requires t)
-    (λ c. search needs)
-    (λ c. search needs)
+    (λ c. search needs) (λ c. search needs)
     (loop-again t)
-    (λ c. search needs)
-    (λ c. search needs)
+    (λ c. search needs) (λ c. search needs)
     (moves-of-requires t)
     (past-else-requires t)
     (moves-of-requires-2 t)
@@ -160,12 +158,10 @@ pub +moves-of-spec : {M : Type 1} → statement M
     (add-i-2 t)
     (loop-less-2 t)
     (loop-again-2 t)
-    (λ c. search needs)
-    (λ c. search needs)
+    (λ c. search needs) (λ c. search needs)
     (moves-of-requires-3 t)
     (add-row-requires-2 t)
-    (λ c κs. search needs)
-    (λ c κs. search needs)
+    (λ c κs. search needs) (λ c κs. search needs)
     (then-requires-3 t)
     (add-all-requires t)
     (add-i-3 t)

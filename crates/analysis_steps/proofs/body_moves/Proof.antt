@@ -1,6 +1,6 @@
 -- `analysis_steps::body_moves` meets its contract.
 use mathlib.Core.Path.{refl, ap, _∙_}
-use Rattle.rules.specs.Steps.{then}
+use Rattle.rules_steps.specs.Joins.{then}
 use denote.Ref.{now}
 use Rattle.analysis_table.specs.Code.{kindAt, rowsOf}
 use Rattle.analysis_steps.proofs.Walking.{ready}

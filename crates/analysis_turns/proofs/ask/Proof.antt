@@ -12,9 +12,9 @@ use Rattle.rules.specs.Turns.{atTest}
 use Rattle.rules.specs.Trips.{Trip, firstOf, edgeOf}
 use Rattle.rules.specs.Questions.{known, hasFigure}
 use Rattle.analysis_trips.specs.Found.{tripOf}
-use Rattle.analysis_turns.specs.Needs.{wideRange, Countable}
-use Rattle.analysis_turns.proofs.Answers.{countable, turns-few}
-use Rattle.analysis_turns.proofs.Moves.{ranged}
+use Rattle.analysis_figures.specs.Needs.{wideRange, Countable}
+use Rattle.analysis_figures.proofs.Answers.{countable, turns-few}
+use Rattle.analysis_figures.proofs.Moves.{ranged}
 use Rattle.analysis_turns.proofs.Verdicts.{refused-19, refused-8, refused-9, refused-10, refused-11, refused-12, accepted, not-yes, not-no}
 use Rattle.analysis_turns.proofs.ask.Statement.{statement}
 use Rattle.analysis_turns.proofs.ask.Tie as tie
@@ -53,7 +53,7 @@ has-figure-requires c κs = (c .before .before .before .before .before .before .
 
 -- what the first test sees, the limit's end, and the answer to question 12 are the trip's
 first : (c : tie.After-at-test) → wideRange (c .at-test .result) ≡ firstOf (tripOf (c .before .before .before .before .before .before .before .before .before .before .before .before .before .before .before .before .args .trip))
-first c = let t = c .before .before .before .before .before .before .before .before .before .before .before .before .before .before .before .before .args .trip in c .at-test .ensures .0 ∙ ap (atTest (t .late) (t .step)) (c .before .before .before .start-of .ensures .0)
+first c = let t = c .before .before .before .before .before .before .before .before .before .before .before .before .before .before .before .before .args .trip in c .at-test .ensures .0 ∙ ap (atTest (t .moved) (t .step)) (c .before .before .before .start-of .ensures .0)
 
 end : (c : tie.After-edge) → c .edge .result ≡ edgeOf (tripOf (c .before .before .before .before .before .before .before .before .before .before .before .before .before .before .before .args .trip))
 end c = c .edge .ensures .0 ∙ ap (edge (c .before .before .before .before .before .before .before .before .before .before .before .before .before .before .before .args .trip .comparison)) (c .before .limit-of .ensures .0)
@@ -74,7 +74,7 @@ counted c =
     let y = yes (c .before .before .before .before .before .before .before .before) in
     let f : SFits w64 (c .before .before .before .edge .result) = sfits-of (c .before .before .before .edge .ok) in
     let h = rw (toZ-ofZ f) at (c .before .has-figure .ensures) in
-    countable (t .late) (t .step) (sort (t .comparison)) _ _ _ _ (c .before .before .before .before .before .before .before .before .before .before .before .before .before .before .before .before .before .before .pre) (c .before .before .before .edge .ensures .1) (ranged _ (c .before .before .before .before .limit-of .ensures .1)) (c .before .before .at-test .ensures .0) (c .before .before .at-test .ensures .1) (y .moves) (y .suits) (sym h ∙ not-no (c .if6 .left))
+    countable (t .moved) (t .step) (sort (t .comparison)) _ _ _ _ (c .before .before .before .before .before .before .before .before .before .before .before .before .before .before .before .before .before .before .pre) (c .before .before .before .edge .ensures .1) (ranged _ (c .before .before .before .before .limit-of .ensures .1)) (c .before .before .at-test .ensures .0) (c .before .before .at-test .ensures .1) (y .moves) (y .suits) (sym h ∙ not-no (c .if6 .left))
 
 while-turns-requires : tie.Need-while-turns-requires
 while-turns-requires c κs = let f : SFits w64 (c .before .before .before .edge .result) = sfits-of (c .before .before .before .edge .ok) in rw (toZ-ofZ f) (counted c)

@@ -3,7 +3,7 @@ use mathlib.Core.Path.{_≡_, sym, _∙_, ap}
 use lib.ListN.{length}
 use native.Mathlib.Omega.{arith}
 use Rattle.rules.specs.Scripts.{Script, scriptOf}
-use Rattle.calls.specs.Held.{admitted, Found}
+use Rattle.calls.specs.Held.{admitted, FiguresFound}
 use Rattle.calls.proofs.Tables.{four, fine, found-by}
 use Rattle.calls.proofs.Judging.{judged-no, judged-yes}
 use borrow.Author.Needs.{needs}
@@ -25,7 +25,7 @@ figures-of-requires : tie.Need-figures-of-requires
 figures-of-requires c κs = let s = c .before .before .before in (s .pre .0, fine (s .args .prices .now) (s .pre .1) (c .prices-of .ensures))
 
 -- what the analysis found of it
-found : (c : tie.After-figures-of) → let s = c .before .before .before .before in Found (s .args .prices .now) (script s) (s .args .count) (c .figures-of .result) (c .figures-of .ensures .0)
+found : (c : tie.After-figures-of) → let s = c .before .before .before .before in FiguresFound (s .args .prices .now) (script s) (s .args .count) (c .figures-of .result) (c .figures-of .ensures .0)
 found c = let s = c .before .before .before .before in found-by _ _ _ _ _ (s .pre .0) (s .args .prices .now) (c .before .prices-of .ensures) (c .figures-of .result) _ (c .figures-of .ensures .1)
 
 returns : tie.Need-returns

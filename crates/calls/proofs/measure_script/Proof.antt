@@ -1,7 +1,7 @@
 -- `calls::measure_script` meets its contract. Assumes nothing.
 use mathlib.Core.Path.{_≡_}
 use Rattle.rules.specs.Scripts.{Script, scriptOf}
-use Rattle.calls.specs.Held.{Found}
+use Rattle.calls.specs.Held.{FiguresFound}
 use Rattle.calls.proofs.Tables.{four, fine, few-rows, fine-rows, analyse-asks, analyse-same, found-by}
 use Rattle.calls.proofs.Judging.{reported, not-reported}
 use borrow.Author.Needs.{needs}
@@ -25,7 +25,7 @@ analyse-requires c κs =
     analyse-asks (s .args .text .now) (s .args .ranges) (s .args .vars) (s .args .rows) (s .args .count) (s .pre .0) (p .last .0) (p .ensures .1) (p .ensures .0) (fine (s .args .prices .now) (s .pre .1) (c .before .before .prices-of .ensures)) (search needs)
 
 -- what the analysis found of it
-found : (c : tie.After-analyse) → Found (c .before .before .before .before .before .before .before .before .before .args .prices .now) (script (c .before .before .before .before .before .before .before .before .before)) (c .before .before .before .before .before .before .before .before .before .args .count) (c .analyse .result) (c .analyse .last .1 .1 .1 .1 .1 .1 .0)
+found : (c : tie.After-analyse) → FiguresFound (c .before .before .before .before .before .before .before .before .before .args .prices .now) (script (c .before .before .before .before .before .before .before .before .before)) (c .before .before .before .before .before .before .before .before .before .args .count) (c .analyse .result) (c .analyse .last .1 .1 .1 .1 .1 .1 .0)
 found c =
     let s = c .before .before .before .before .before .before .before .before .before in
     let p = c .before .before .before .before .put-rows in

@@ -7,9 +7,9 @@ use native.Mathlib.Omega.{arith}
 use Rattle.rules.specs.Scripts.{Script, scriptOf}
 use Rattle.rules.specs.Calls.{runReply}
 use Rattle.rules.specs.Claim.{Demand3Of}
-use Rattle.rules.proofs.FromBytes.{demand3-script}
+use Rattle.rules.proofs.Demand3File.{demand3-script}
 use Rattle.calls.specs.declared.Outcome.{Outcome}
-use Rattle.calls.specs.Held.{judgedScript, Found}
+use Rattle.calls.specs.Held.{judgedScript, FiguresFound}
 use Rattle.calls.specs.Told.{Ran}
 use Rattle.calls.proofs.Tables.{four, fine, few-rows, found-by}
 use Rattle.calls.proofs.Judging.{ticks-few}
@@ -33,7 +33,7 @@ ticks-of-requires : tie.Need-ticks-of-requires
 ticks-of-requires c κs = let s = c .before .before .before .before in (s .pre .0, fine (s .args .prices .now) (s .pre .1) (c .prices-of .ensures))
 
 -- what the analysis found of it
-found : (c : tie.After-ticks-of) → let s = c .before .before .before .before .before in Found (s .args .prices .now) (script s) (s .args .count) (c .ticks-of .result) (c .ticks-of .ensures .0)
+found : (c : tie.After-ticks-of) → let s = c .before .before .before .before .before in FiguresFound (s .args .prices .now) (script s) (s .args .count) (c .ticks-of .result) (c .ticks-of .ensures .0)
 found c = let s = c .before .before .before .before .before in found-by _ _ _ _ _ (s .pre .0) (s .args .prices .now) (c .before .prices-of .ensures) (c .ticks-of .result) _ (c .ticks-of .ensures .1)
 
 -- demand 3 of that answer
@@ -97,12 +97,9 @@ run-script-spec =
     (λ c κs. search needs)
     returns
     ask-store-requires
-    (λ c. search needs)
-    (λ c κs. search needs)
+    (λ c. search needs) (λ c κs. search needs)
     run-accepted-requires
-    (λ c. search needs)
-    (λ c κs. search needs)
-    (λ c. search needs)
+    (λ c. search needs) (λ c κs. search needs) (λ c. search needs)
     returns-2
     (λ c. search needs)
     returns-3)

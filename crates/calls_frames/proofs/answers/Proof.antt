@@ -9,14 +9,14 @@ use Rattle.calls_frames.proofs.answers.Statement.{statement}
 use Rattle.calls_frames.proofs.answers.Tie as tie
 
 abbrev Inv-loop : tie.InvT-loop
-Inv-loop scripts q counts players held list₀ k₀ list k = (k ≤ scripts) × Answering q players held counts k list
+Inv-loop scripts q counts progress held list₀ k₀ list k = (k ≤ scripts) × Answering q progress held counts k list
 
 abbrev μ-loop : tie.MeasureT-loop
-μ-loop scripts q counts players held list₀ k₀ list k = scripts - k
+μ-loop scripts q counts progress held list₀ k₀ list k = scripts - k
 
 -- both are whole arrays
-full-players : (s : tie.Start Inv-loop μ-loop) → length (s .args .t1) ≡ 8
-full-players s = search needs
+full-progress : (s : tie.Start Inv-loop μ-loop) → length (s .args .t1) ≡ 8
+full-progress s = search needs
 
 full-held : (s : tie.Start Inv-loop μ-loop) → length (s .args .t2) ≡ 8
 full-held s = search needs
@@ -62,7 +62,7 @@ loop-again : tie.Need-loop-again Inv-loop μ-loop
 loop-again c =
     let s = c .before .before .before .before .before .before .before .before in
     let l = c .before .before .before .before .before .before .loop in
-    (omega (arith, c .before .before .before .before .before .loop-test .taken), answering-more _ _ _ _ (full-players s) (full-held s) (l .k) (l .list) (one-of-8 (c .before .before .before .before .before)) (l .inv .1) _ _ _ (c .answer-of .ensures))
+    (omega (arith, c .before .before .before .before .before .loop-test .taken), answering-more _ _ _ _ (full-progress s) (full-held s) (l .k) (l .list) (one-of-8 (c .before .before .before .before .before)) (l .inv .1) _ _ _ (c .answer-of .ensures))
 
 returns : tie.Need-returns Inv-loop μ-loop
 returns c = let l = c .before .loop in answering-all _ _ _ _ (l .k) _ (l .list) (omega (arith, c .loop-test .left, l .inv .0)) (l .inv .1)

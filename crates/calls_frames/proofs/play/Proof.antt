@@ -6,22 +6,22 @@ use Prim.Native.Nat.{ℕ, _+_, _-_, _*_, _≤_, _<_}
 use native.Mathlib.Omega.{arith}
 use lib.ListN.{getD}
 use borrow.Author.Tests.{not-true, not-false}
-use Rattle.rules.specs.Frames
+use Rattle.rules_frames.specs.Frames
 use Rattle.calls.proofs.Tables.{four}
 use Rattle.calls_lists.specs.Parts.{lentOf}
 use Rattle.calls_scripts.specs.declared.Held.{Held}
-use Rattle.calls_frames.specs.Stage.{isWaiting, Onstage}
+use Rattle.calls_frames.specs.Progress.{isWaiting, FramesReady}
 use Rattle.calls_frames.proofs.Playing.{Playing, playing-late, playing-start, playing-still, playing-on, playing-frame, playing-out, may-turn, few-left, fitted-now, startPlayer}
 use borrow.Author.Needs.{needs}
 use Rattle.calls_frames.proofs.play.Statement.{statement}
 use Rattle.calls_frames.proofs.play.Tie as tie
 
 abbrev Inv-loop : tie.InvT-loop
-Inv-loop files file-lengths stores₀ store-lengths picks pick-lengths prices q counts₀ held scripts by-kind players₀ most₀ taken₀ n₀ k₀ waits₀ stores counts players most taken n k waits =
-    (ps : List Frames.Player) × (on : Onstage prices (lentOf files file-lengths stores₀ store-lengths picks pick-lengths) q ps held) × Playing prices (lentOf files file-lengths stores₀ store-lengths picks pick-lengths) q ps held on stores counts players most taken n k waits
+Inv-loop files file-lengths stores₀ store-lengths picks pick-lengths prices q counts₀ held scripts by-kind progress₀ most₀ taken₀ n₀ k₀ waits₀ stores counts progress most taken n k waits =
+    (ps : List Frames.Progress) × (on : FramesReady prices (lentOf files file-lengths stores₀ store-lengths picks pick-lengths) q ps held) × Playing prices (lentOf files file-lengths stores₀ store-lengths picks pick-lengths) q ps held on stores counts progress most taken n k waits
 
 abbrev μ-loop : tie.MeasureT-loop
-μ-loop files file-lengths stores₀ store-lengths picks pick-lengths prices q counts₀ held scripts by-kind players₀ most₀ taken₀ n₀ k₀ waits₀ stores counts players most taken n k waits =
+μ-loop files file-lengths stores₀ store-lengths picks pick-lengths prices q counts₀ held scripts by-kind progress₀ most₀ taken₀ n₀ k₀ waits₀ stores counts progress most taken n k waits =
     (1_000_000_000_001 - n) * 16 + (8 - k)
 
 prices-of-requires : tie.Need-prices-of-requires Inv-loop μ-loop
@@ -32,7 +32,7 @@ loop-holds c = let s = c .before .before .before .before .before .before .before
 
 -- any script that is held
 nobody : Held
-nobody = record { count = 0; rows = []; tables = record { shut = []; opener = [] }; heads = record { count = 0; rows = [] } }
+nobody = record { count = 0; rows = []; tables = record { end = []; head = [] }; heads = record { count = 0; rows = [] } }
 
 -- script k is one of 8
 one-of-8 : (c : tie.Then1 Inv-loop μ-loop) → c .before .loop .k < 8
@@ -57,10 +57,10 @@ index-1-turn : tie.Need-index-1-turn Inv-loop μ-loop
 index-1-turn c = one-of-8 (c .before .before .before .before .before .before)
 
 -- script k waits, and has few ticks left
-waits-k : (c : tie.Then2 Inv-loop μ-loop) → let l = c .before .before .before .before .before .loop in isWaiting (getD (l .players) (l .k) startPlayer .machine .status) ≡ true
+waits-k : (c : tie.Then2 Inv-loop μ-loop) → let l = c .before .before .before .before .before .loop in isWaiting (getD (l .progress) (l .k) startPlayer .machine .status) ≡ true
 waits-k c = sym (c .before .waiting .ensures) ∙ c .if2 .taken
 
-few-k : (c : tie.Then2 Inv-loop μ-loop) → let l = c .before .before .before .before .before .loop in getD (l .players) (l .k) startPlayer .machine .left ≤ 1_000_000_000_000
+few-k : (c : tie.Then2 Inv-loop μ-loop) → let l = c .before .before .before .before .before .loop in getD (l .progress) (l .k) startPlayer .machine .left ≤ 1_000_000_000_000
 few-k c = let l = c .before .before .before .before .before .loop in few-left _ _ _ _ _ (l .inv .1) _ _ _ _ _ _ _ _ (l .inv .2) (c .before .before .before .before .if1 .taken) (waits-k c) nobody
 
 turn-requires : tie.Need-turn-requires Inv-loop μ-loop
@@ -80,11 +80,11 @@ add-taken-2 c = let h = few-k (c .before .before .before .before .before .before
 add-t42 : tie.Need-add-t42 Inv-loop μ-loop
 add-t42 c = let h = playing-late _ _ _ _ _ (c .before .before .before .before .before .before .before .before .before .before .before .before .loop .inv .1) (c .before .before .before .before .before .before .before .before .before .before .before .before .loop .inv .2) in search needs
 
-mul-players : tie.Need-mul-players Inv-loop μ-loop
-mul-players c = let h = one-of-8 (c .before .before .before .before .before .before .before .before .before .before .before) in search needs
+mul-progress : tie.Need-mul-progress Inv-loop μ-loop
+mul-progress c = let h = one-of-8 (c .before .before .before .before .before .before .before .before .before .before .before) in search needs
 
-array-set-from-players : tie.Need-array-set-from-players Inv-loop μ-loop
-array-set-from-players c = one-of-8 (c .before .before .before .before .before .before .before .before .before .before .before)
+array-set-from-progress : tie.Need-array-set-from-progress Inv-loop μ-loop
+array-set-from-progress c = one-of-8 (c .before .before .before .before .before .before .before .before .before .before .before)
 
 add-k : tie.Need-add-k Inv-loop μ-loop
 add-k c = let h = one-of-8 (c .before .before .before .before .before .before .before .before .before .before .before .before .before) in search needs
@@ -118,7 +118,7 @@ same-length c = c .before .before .before .loop .inv .2 .sizes .2
 returns : tie.Need-returns Inv-loop μ-loop
 returns c =
     let l = c .before .before .before .loop in
-    playing-out _ _ _ _ _ (l .inv .1) _ _ _ _ _ _ _ _ (l .inv .2) (c .before .before .if1 .left) (not-true _ (c .if3 .taken)) _ (c .before .higher .ensures)
+    playing-out _ _ _ _ _ (l .inv .1) _ _ _ _ _ _ _ _ (l .inv .2) (c .before .before .if1 .left) (not-true _ (c .if3 .taken)) _ (c .before .larger .ensures)
 
 loop-less-3 : tie.Need-loop-less-3 Inv-loop μ-loop
 loop-less-3 c =
@@ -129,7 +129,7 @@ loop-less-3 c =
 loop-again-3 : tie.Need-loop-again-3 Inv-loop μ-loop
 loop-again-3 c =
     let l = c .before .before .before .loop in
-    (l .inv .0, l .inv .1, playing-frame _ _ _ _ _ (l .inv .1) _ _ _ _ _ _ _ _ (l .inv .2) (c .before .before .if1 .left) (not-false _ (c .if3 .left)) _ (c .before .higher .ensures))
+    (l .inv .0, l .inv .1, playing-frame _ _ _ _ _ (l .inv .1) _ _ _ _ _ _ _ _ (l .inv .2) (c .before .before .if1 .left) (not-false _ (c .if3 .left)) _ (c .before .larger .ensures))
 
 pub play-spec : {M : Type 1} → statement M
 play-spec =
@@ -151,10 +151,9 @@ play-spec =
     sub-taken
     add-taken-2
     add-t42
-    mul-players
-    array-set-from-players
-    (λ c κs. search needs)
-    (λ c κs. search needs)
+    mul-progress
+    array-set-from-progress
+    (λ c κs. search needs) (λ c κs. search needs)
     add-k
     loop-less
     loop-again

@@ -2,7 +2,7 @@
 use Prim.Native.Nat.{_≤_}
 use native.Mathlib.Omega.{arith}
 use lib.ListN.{length}
-use Rattle.calls_lists.proofs.Spans.{span-within}
+use Rattle.calls_lists.proofs.Extents.{extent-within}
 use Rattle.calls_frames.proofs.Turning.{may-turn, has-turned}
 use borrow.Author.Needs.{needs}
 use Rattle.calls_frames.proofs.turn.Statement.{statement}
@@ -16,13 +16,13 @@ part-requires-3 c κs = let s = c .before .before .before .before .before .befor
 
 -- the parts of script k lie in what is lent
 in-files : (c : tie.After-tables) → let f = c .before .before .before .before .part .result in (f .from ≤ f .to) × (f .to ≤ length (c .before .before .before .before .before .before .before .before .before .before .args .files .now))
-in-files c = let s = c .before .before .before .before .before .before .before .before .before .before in span-within _ _ _ (c .before .before .before .before .part .ensures) (s .args .files .now) (s .pre .1) (s .pre .0 .file-sum)
+in-files c = let s = c .before .before .before .before .before .before .before .before .before .before in extent-within _ _ _ (c .before .before .before .before .part .ensures) (s .args .files .now) (s .pre .1) (s .pre .0 .file-sum)
 
 in-stores : (c : tie.After-tables) → let f = c .before .before .before .part2 .result in (f .from ≤ f .to) × (f .to ≤ length (c .before .before .before .before .before .before .before .before .before .before .args .stores .now))
-in-stores c = let s = c .before .before .before .before .before .before .before .before .before .before in span-within _ _ _ (c .before .before .before .part2 .ensures) (s .args .stores .now) (omega (arith, s .pre .1, s .pre .0 .stores)) (s .pre .0 .store-sum)
+in-stores c = let s = c .before .before .before .before .before .before .before .before .before .before in extent-within _ _ _ (c .before .before .before .part2 .ensures) (s .args .stores .now) (omega (arith, s .pre .1, s .pre .0 .stores)) (s .pre .0 .store-sum)
 
 in-picks : (c : tie.After-tables) → let f = c .before .before .part3 .result in (f .from ≤ f .to) × (f .to ≤ length (c .before .before .before .before .before .before .before .before .before .before .args .picks .now))
-in-picks c = let s = c .before .before .before .before .before .before .before .before .before .before in span-within _ _ _ (c .before .before .part3 .ensures) (s .args .picks .now) (omega (arith, s .pre .1, s .pre .0 .picks)) (s .pre .0 .pick-sum)
+in-picks c = let s = c .before .before .before .before .before .before .before .before .before .before in extent-within _ _ _ (c .before .before .part3 .ensures) (s .args .picks .now) (omega (arith, s .pre .1, s .pre .0 .picks)) (s .pre .0 .pick-sum)
 
 run-on-requires : tie.Need-run-on-requires
 run-on-requires c κs =

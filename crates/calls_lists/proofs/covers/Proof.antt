@@ -6,7 +6,7 @@ use lib.Dec.{eqb}
 use lib.ListN.{length, take}
 use borrow.Author.Needs.{needs}
 use borrow.Author.Tests.{eq-eqb, ne-eqb}
-use Rattle.rules.specs.Frames.{sum}
+use Rattle.rules_frames.specs.Frames.{sum}
 use Rattle.calls_lists.proofs.Sums.{sum-next, sum-within, sum-all}
 use Rattle.calls_lists.proofs.covers.Statement.{statement}
 use Rattle.calls_lists.proofs.covers.Tie as tie

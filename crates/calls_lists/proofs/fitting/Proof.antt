@@ -2,7 +2,7 @@
 use mathlib.Core.Path.{sym, _∙_}
 use borrow.Author.Needs.{needs}
 use borrow.Author.Tests.{not-true, not-false}
-use Rattle.rules.specs.Frames.{counted, covered, fitting}
+use Rattle.rules_frames.specs.Frames.{counted, covered, fitting}
 use Rattle.calls_lists.proofs.fitting.Statement.{statement}
 use Rattle.calls_lists.proofs.fitting.Tie as tie
 

@@ -4,7 +4,7 @@ use Prim.Native.Nat.{_-_, _≤_}
 use native.Mathlib.Omega.{arith}
 use lib.ListN.{take}
 use borrow.Author.Needs.{needs}
-use Rattle.rules.specs.Frames.{sum}
+use Rattle.rules_frames.specs.Frames.{sum}
 use Rattle.calls_lists.proofs.Sums.{sum-next, sum-within}
 use Rattle.calls_lists.proofs.part.Statement.{statement}
 use Rattle.calls_lists.proofs.part.Tie as tie
@@ -48,13 +48,10 @@ part-spec =
     Inv-loop
     μ-loop
     loop-holds
-    (λ c. search needs)
-    (λ c. search needs)
+    (λ c. search needs) (λ c. search needs)
     add-from
-    (λ c. search needs)
-    (λ c. search needs)
+    (λ c. search needs) (λ c. search needs)
     loop-again
-    (λ c. search needs)
-    (λ c. search needs)
+    (λ c. search needs) (λ c. search needs)
     add-t12
     returns)

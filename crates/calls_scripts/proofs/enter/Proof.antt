@@ -5,11 +5,11 @@ use native.Mathlib.Omega.{arith}
 use Rattle.rules.specs.Scripts.{Script, scriptOf, startEnv, treeOf}
 use Rattle.rules.specs.Questions.{verdict}
 use Rattle.rules.specs.Calls.{pricesOf}
-use Rattle.rules.proofs.FromBytes.{judged-accepted}
+use Rattle.rules.proofs.Demand3File.{judged-accepted}
 use Rattle.calls.specs.Held.{admitted}
 use Rattle.calls.proofs.Tables.{few-rows}
 use Rattle.calls_scripts.proofs.Loaded.{file-refused, file-read, file-given, listable}
-use Rattle.calls_scripts.proofs.Casting.{held-as}
+use Rattle.calls_scripts.proofs.Readiness.{held-as}
 use borrow.Author.Needs.{needs}
 use Rattle.calls_scripts.proofs.enter.Statement.{statement}
 use Rattle.calls_scripts.proofs.enter.Tie as tie

@@ -4,7 +4,7 @@ use Prim.Native.Nat.{_-_, _≤_, _<_}
 use native.Mathlib.Omega.{arith}
 use lib.ListN.{length}
 use Rattle.calls_lists.specs.Parts.{partOf}
-use Rattle.calls_lists.proofs.Spans.{span-part, span-within}
+use Rattle.calls_lists.proofs.Extents.{extent-part, extent-within}
 use Rattle.calls_scripts.specs.Held.{EnteredAs}
 use Rattle.calls_scripts.proofs.Entering.{Entering, entering-none, entering-more, entering-all, entering-no}
 use borrow.Author.Needs.{needs}
@@ -30,12 +30,12 @@ part-requires-2 c κs = let p = c .before .before .before .before .before .befor
 within-files : (c : tie.After-part2 Inv-loop μ-loop) → let f = c .before .part .result in (f .from ≤ f .to) × (f .to ≤ length (c .before .before .before .before .before .before .before .before .before .args .files .now))
 within-files c =
     let s = c .before .before .before .before .before .before .before .before .before in
-    span-within _ _ _ (c .before .part .ensures) (s .args .files .now) (c .before .before .loop-test .taken) (s .pre .1 .file-sum)
+    extent-within _ _ _ (c .before .part .ensures) (s .args .files .now) (c .before .before .loop-test .taken) (s .pre .1 .file-sum)
 
 within-stores : (c : tie.After-part2 Inv-loop μ-loop) → let f = c .part2 .result in (f .from ≤ f .to) × (f .to ≤ length (c .before .before .before .before .before .before .before .before .before .args .stores .now))
 within-stores c =
     let s = c .before .before .before .before .before .before .before .before .before in
-    span-within _ _ _ (c .part2 .ensures) (s .args .stores .now) (omega (arith, s .pre .1 .same, c .before .before .loop-test .taken)) (s .pre .1 .store-sum)
+    extent-within _ _ _ (c .part2 .ensures) (s .args .stores .now) (omega (arith, s .pre .1 .same, c .before .before .loop-test .taken)) (s .pre .1 .store-sum)
 
 sub-enter : tie.Need-sub-enter Inv-loop μ-loop
 sub-enter c = omega (arith, within-files c .0)
@@ -65,7 +65,7 @@ entered : (c : tie.After-enter Inv-loop μ-loop)
     EnteredAs (a .prices .now) (partOf (a .file-lengths .now) k (a .files .now)) (partOf (a .store-lengths .now) k (a .stores .now)) (c .enter .result)
 entered c =
     let a = c .before .before .before .before .before .before .before .before .before .before .before .before .args in
-    subst₂ (λ f s. EnteredAs (a .prices .now) f s (c .enter .result)) (span-part _ _ _ (c .before .before .before .before .part .ensures) (a .files .now)) (span-part _ _ _ (c .before .before .before .part2 .ensures) (a .stores .now)) (c .enter .ensures)
+    subst₂ (λ f s. EnteredAs (a .prices .now) f s (c .enter .result)) (extent-part _ _ _ (c .before .before .before .before .part .ensures) (a .files .now)) (extent-part _ _ _ (c .before .before .before .part2 .ensures) (a .stores .now)) (c .enter .ensures)
 
 -- script k is one of 8
 one-of-8 : (c : tie.After-h Inv-loop μ-loop) → c .before .before .before .before .before .before .before .before .before .loop .k < 8
@@ -115,8 +115,7 @@ enter-all-spec =
     sub-enter-2
     part-enter-start-2
     part-enter-end-2
-    (λ c κs. search needs)
-    (λ c. search needs)
+    (λ c κs. search needs) (λ c. search needs)
     mul-held
     array-set-from-held
     add-k

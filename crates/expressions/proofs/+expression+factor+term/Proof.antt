@@ -12,8 +12,9 @@ use borrow.Fn.Kinds.{In}
 use borrow.Fn.PlainCycle.{Measures, is, falls, and}
 use Rattle.rules.specs.Parse.{afterTerm, afterFactor, readExpression, readTerm, readFactor}
 use Rattle.rules.proofs.Parsing.{term-is, expression-is}
-use Rattle.expressions.specs.Evaluating.{operatorOf, ranges, valueOf, valuesOf}
-use Rattle.expressions.proofs.Evaluating.{Begun, begins, reads, goes, stops, no-factor, end-factor, more-factor, no-term, end-term, more-term, sums-later, factor-atom, factor-group}
+use Rattle.expression_operators.specs.Operators.{operatorOf, ranges, valueOf}
+use Rattle.expressions.specs.Evaluating.{valuesOf}
+use Rattle.expressions.proofs.Evaluating.{ChainBegun, begins, reads, goes, stops, no-factor, end-factor, more-factor, no-term, end-term, more-term, sums-later, factor-atom, factor-group}
 use Rattle.expressions.proofs.expression.Reads as expression
 use Rattle.expressions.proofs.expression.Kinds as expression-kinds
 use Rattle.expressions.proofs.+expression+factor+term.Lts-expression as expression-lts
@@ -23,10 +24,10 @@ use Rattle.expressions.proofs.+expression+factor+term.Lts-factor as fac
 use Rattle.expressions.proofs.term.Reads as term
 use Rattle.expressions.proofs.term.Kinds as term-kinds
 use Rattle.expressions.proofs.+expression+factor+term.Lts-term as term-lts
-use Rattle.expressions.proofs.joined.Reads as joined-reads
+use Rattle.expression_operators.proofs.joined.Reads as joined-reads
 use Rattle.expressions.proofs.operand.Reads as operand-reads
 use Rattle.expressions.proofs.shut.Reads as shut-reads
-use Rattle.expressions.proofs.sums.Reads as sums-reads
+use Rattle.expression_operators.proofs.sums.Reads as sums-reads
 use Rattle.expressions.proofs.+expression+factor+term.{statement}
 use Rattle.expressions.proofs.+expression+factor+term.Tie.{close}
 
@@ -68,13 +69,13 @@ abbrev term-given : ℕ → term-lts.Claims
 term-given t = (factor-below t, factor.Post, joined-reads.Asked, joined-reads.Learnt)
 
 abbrev expression-inv : expression-lts.InvT-loop
-expression-inv text at los his got₀ op₀ from₀ got op from = Begun ranges (valuesOf los his) text (readTerm (λ x. x)) afterTerm readExpression expression-is at op (valueOf got) from
+expression-inv text at los his got₀ op₀ from₀ got op from = ChainBegun ranges (valuesOf los his) text (readTerm (λ x. x)) afterTerm readExpression expression-is at op (valueOf got) from
 
 abbrev expression-μ : expression-lts.MeasureT-loop
 expression-μ text at los his got₀ op₀ from₀ got op from = length text - from
 
 abbrev term-inv : term-lts.InvT-loop
-term-inv text at los his got₀ op₀ from₀ got op from = Begun ranges (valuesOf los his) text readFactor afterFactor readTerm term-is at op (valueOf got) from
+term-inv text at los his got₀ op₀ from₀ got op from = ChainBegun ranges (valuesOf los his) text readFactor afterFactor readTerm term-is at op (valueOf got) from
 
 abbrev term-μ : term-lts.MeasureT-loop
 term-μ text at los his got₀ op₀ from₀ got op from = length text - from
@@ -133,17 +134,14 @@ pub +expression+factor+term-spec : {M : Type 1} → statement M
     (expression-term-requires t)
     (λ c κs. search needs)
     (expression-returns t)
-    (λ c. search needs)
-    (λ c κs. search needs)
-    (λ c. search needs)
+    (λ c. search needs) (λ c κs. search needs) (λ c. search needs)
     (expression-loop-less t)
     (expression-loop-again t)
     (expression-returns-2 t))
     (λ t. factor-lts.spec (factor-given t)
     (factor-at t)
     factor.Post
-    (λ c. search needs)
-    (λ c. search needs)
+    (λ c. search needs) (λ c. search needs)
     (factor-expression-requires t)
     (λ c κs. search needs)
     (factor-returns t)

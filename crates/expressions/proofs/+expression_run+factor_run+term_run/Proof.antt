@@ -14,8 +14,8 @@ use Rattle.rules.specs.Parse.{afterTerm, afterFactor, readExpression, readTerm,
 use Rattle.rules.proofs.Parsing.{term-is, expression-is}
 use Rattle.rules.specs.Values.{number}
 use Rattle.rules.specs.Scripts.{storeOf}
-use Rattle.expressions.specs.Evaluating.{operatorOf, run, resultIn}
-use Rattle.expressions.proofs.Evaluating.{Begun, begins, reads, goes, stops, no-factor, end-factor, more-factor, no-term, end-term, more-term, sums-later, factor-atom, factor-group}
+use Rattle.expression_operators.specs.Operators.{operatorOf, run, resultIn}
+use Rattle.expressions.proofs.Evaluating.{ChainBegun, begins, reads, goes, stops, no-factor, end-factor, more-factor, no-term, end-term, more-term, sums-later, factor-atom, factor-group}
 use Rattle.expressions.proofs.expression_run.Reads as expression-run
 use Rattle.expressions.proofs.expression_run.Kinds as expression-run-kinds
 use Rattle.expressions.proofs.+expression_run+factor_run+term_run.Lts-expression_run as expression-run-lts
@@ -25,10 +25,10 @@ use Rattle.expressions.proofs.+expression_run+factor_run+term_run.Lts-f
 use Rattle.expressions.proofs.term_run.Reads as term-run
 use Rattle.expressions.proofs.term_run.Kinds as term-run-kinds
 use Rattle.expressions.proofs.+expression_run+factor_run+term_run.Lts-term_run as term-run-lts
-use Rattle.expressions.proofs.joined_run.Reads as joined-run-reads
+use Rattle.expression_operators.proofs.joined_run.Reads as joined-run-reads
 use Rattle.expressions.proofs.operand_run.Reads as operand-run-reads
 use Rattle.expressions.proofs.shut.Reads as shut-reads
-use Rattle.expressions.proofs.sums.Reads as sums-reads
+use Rattle.expression_operators.proofs.sums.Reads as sums-reads
 use Rattle.expressions.proofs.+expression_run+factor_run+term_run.{statement}
 use Rattle.expressions.proofs.+expression_run+factor_run+term_run.Tie.{close}
 
@@ -70,13 +70,13 @@ abbrev term-run-given : ℕ → term-run-lts.Claims
 term-run-given t = (factor-run-below t, factor-run.Post, joined-run-reads.Asked, joined-run-reads.Learnt)
 
 abbrev expression-run-inv : expression-run-lts.InvT-loop
-expression-run-inv text at store got₀ op₀ from₀ got op from = Begun run (λ w. number (storeOf store w)) text (readTerm (λ x. x)) afterTerm readExpression expression-is at op (resultIn got) from
+expression-run-inv text at store got₀ op₀ from₀ got op from = ChainBegun run (λ w. number (storeOf store w)) text (readTerm (λ x. x)) afterTerm readExpression expression-is at op (resultIn got) from
 
 abbrev expression-run-μ : expression-run-lts.MeasureT-loop
 expression-run-μ text at store got₀ op₀ from₀ got op from = length text - from
 
 abbrev term-run-inv : term-run-lts.InvT-loop
-term-run-inv text at store got₀ op₀ from₀ got op from = Begun run (λ w. number (storeOf store w)) text readFactor afterFactor readTerm term-is at op (resultIn got) from
+term-run-inv text at store got₀ op₀ from₀ got op from = ChainBegun run (λ w. number (storeOf store w)) text readFactor afterFactor readTerm term-is at op (resultIn got) from
 
 abbrev term-run-μ : term-run-lts.MeasureT-loop
 term-run-μ text at store got₀ op₀ from₀ got op from = length text - from
@@ -134,17 +134,14 @@ pub +expression-run+factor-run+term-run-spec : {M : Type 1} → statement M
     (expression-run-term-run-requires t)
     (λ c κs. search needs)
     (expression-run-returns t)
-    (λ c. search needs)
-    (λ c κs. search needs)
-    (λ c. search needs)
+    (λ c. search needs) (λ c κs. search needs) (λ c. search needs)
     (expression-run-loop-less t)
     (expression-run-loop-again t)
     (expression-run-returns-2 t))
     (λ t. factor-run-lts.spec (factor-run-given t)
     (factor-run-at t)
     factor-run.Post
-    (λ c. search needs)
-    (λ c. search needs)
+    (λ c. search needs) (λ c. search needs)
     (factor-run-expression-run-requires t)
     (λ c κs. search needs)
     (factor-run-returns t)

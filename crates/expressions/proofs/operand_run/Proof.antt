@@ -5,7 +5,7 @@ use mir.Val.{SFits}
 use mir.Facts.{toZ-ofZ}
 use mir.ValLaws.{toZ-pos}
 use borrow.Author.Needs.{needs, sfits-of}
-use Rattle.expressions.proofs.Leaves.{digits-whole, digits-small, minus-fits, minus-is, leaf-past, leaf-variable, leaf-negative, leaf-other}
+use Rattle.expression_leaves.proofs.Leaves.{digits-whole, digits-small, minus-fits, minus-is, leaf-past, leaf-variable, leaf-negative, leaf-other}
 use Rattle.expressions.proofs.Evaluating.{no-leaf, variable-gives, constant-gives, negative-gives}
 use Rattle.expressions.proofs.operand_run.Statement.{statement}
 use Rattle.expressions.proofs.operand_run.Tie as tie
@@ -44,15 +44,10 @@ operand-run-spec =
     (tie.spec
     (λ c κs. search needs)
     returns
-    (λ c. search needs)
-    (λ c. search needs)
-    (λ c κs. search needs)
-    (λ c. search needs)
-    (λ c κs. search needs)
-    (λ c κs. search needs)
+    (λ c. search needs) (λ c. search needs) (λ c κs. search needs) (λ c. search needs)
+    (λ c κs. search needs) (λ c κs. search needs)
     returns-2
-    (λ c. search needs)
-    (λ c κs. search needs)
+    (λ c. search needs) (λ c κs. search needs)
     (λ c. let h = digits-small _ _ _ (c .before .digits-at2 .ensures) in search needs)
     sub-number-run
     (λ c κs. search needs)

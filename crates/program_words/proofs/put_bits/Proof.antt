@@ -49,14 +49,12 @@ put-bits-spec =
     Inv-loop
     μ-loop
     loop-holds
-    (λ c. search needs)
-    (λ c κs. search needs)
+    (λ c. search needs) (λ c κs. search needs)
     same-length
     returns
     (λ c. search needs)
     slice-write-bits
-    (λ c. search needs)
-    (λ c. omega arith)
+    (λ c. search needs) (λ c. omega arith)
     loop-again
     same-length-2
     returns-2)

@@ -6,7 +6,7 @@ use Rattle.rules.specs.Blocks.{kindOf}
 use Rattle.rules.specs.File.{asksEnd, bareRow}
 use Rattle.rules.specs.declared.Word.the-variants.{Missing}
 use Rattle.reading_text.proofs.Line.{Reached, reach-none, reach-last}
-use Rattle.reading_rows.specs.Words.{after}
+use Rattle.reading_rows.specs.Rows.{after}
 use Rattle.reading_rows.proofs.Laws.{checked-read, checked-wrong, lined-read, lined-wrong, bare-says}
 use borrow.Author.Needs.{needs}
 use Rattle.reading_rows.proofs.bare_row.Statement.{statement}

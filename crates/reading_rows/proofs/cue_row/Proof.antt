@@ -2,12 +2,13 @@ use mathlib.Core.Path.{_≡_, sym, _∙_}
 use denote.Ref.{now}
 use lib.ListN.{drop}
 use Rattle.rules.specs.Blocks.{kindOf}
-use Rattle.rules.proofs.Reading.{refusal-yes}
+use Rattle.rules.proofs.ReadLegal.{refusal-yes}
 use Rattle.rules.specs.File.{firstRefusal, asksEnd, asksNumber, cueRow}
 use Rattle.rules.specs.declared.Word.the-variants.{Missing}
 use Rattle.reading_text.proofs.Line.{Reached, reach-none, reach-word, reach-last}
-use Rattle.reading_rows.specs.Words.{after}
-use Rattle.reading_rows.proofs.Laws.{checked-read, checked-wrong, lined-read, lined-wrong, number-wider}
+use Rattle.reading_rows.specs.Rows.{after}
+use Rattle.reading_rows.proofs.Laws.{checked-read, checked-wrong, lined-read, lined-wrong}
+use Rattle.reading_words.proofs.Laws.{number-wider}
 use Rattle.rules.specs.Values.{highest}
 use lib.IntN.{pos}
 use Rattle.ints.proofs.Parts.{ints}
@@ -44,10 +45,7 @@ pub cue-row-spec : {M : Type 1} → statement M
 cue-row-spec =
     tie.close
     (tie.spec
-    (λ c κs. search needs)
-    (λ c κs. search needs)
-    (λ c κs. search needs)
-    (λ c κs. search needs)
+    (λ c κs. search needs) (λ c κs. search needs) (λ c κs. search needs) (λ c κs. search needs)
     (λ c κs. search needs)
     amount-requires
     returns

@@ -6,7 +6,7 @@ use Rattle.rules.specs.Parse.{shapeless}
 use Rattle.rules.specs.File.{asksFor, forRow}
 use Rattle.rules.specs.declared.Word.the-variants.{Missing}
 use Rattle.reading_text.proofs.Line.{Reached, reach-none, reach-word, reach-last}
-use Rattle.reading_rows.specs.Words.{after, exprs}
+use Rattle.reading_rows.specs.Rows.{after, exprs}
 use Rattle.reading_rows.proofs.Laws.{checked-read, checked-wrong, Spelled, spelled, spelled-asks, spelled-fits, spelled-says, lined-read, lined-wrong, for-yes}
 use borrow.Author.Needs.{sfits-of, needs}
 use Rattle.reading_rows.proofs.for_row.Statement.{statement}
@@ -70,29 +70,14 @@ pub for-row-spec : {M : Type 1} → statement M
 for-row-spec =
     tie.close
     (tie.spec
-    (λ c κs. search needs)
-    (λ c κs. search needs)
-    (λ c κs. search needs)
-    (λ c κs. search needs)
-    (λ c κs. search needs)
-    (λ c κs. search needs)
-    (λ c κs. search needs)
-    (λ c κs. search needs)
-    (λ c κs. search needs)
-    (λ c κs. search needs)
-    (λ c κs. search needs)
-    (λ c κs. search needs)
-    (λ c κs. search needs)
-    (λ c κs. search needs)
-    (λ c κs. search needs)
+    (λ c κs. search needs) (λ c κs. search needs) (λ c κs. search needs) (λ c κs. search needs)
+    (λ c κs. search needs) (λ c κs. search needs) (λ c κs. search needs) (λ c κs. search needs)
+    (λ c κs. search needs) (λ c κs. search needs) (λ c κs. search needs) (λ c κs. search needs)
+    (λ c κs. search needs) (λ c κs. search needs) (λ c κs. search needs)
     asks-expression-requires
-    (λ c κs. search needs)
-    (λ c κs. search needs)
-    (λ c κs. search needs)
+    (λ c κs. search needs) (λ c κs. search needs) (λ c κs. search needs)
     asks-expression-requires-2
-    (λ c κs. search needs)
-    (λ c κs. search needs)
-    (λ c κs. search needs)
+    (λ c κs. search needs) (λ c κs. search needs) (λ c κs. search needs)
     operand-of-requires
     operand-of-requires-2
     step-of-requires

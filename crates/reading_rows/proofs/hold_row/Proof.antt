@@ -2,11 +2,11 @@ use mathlib.Core.Path.{_≡_, sym, _∙_}
 use denote.Ref.{now}
 use lib.ListN.{drop}
 use Rattle.rules.specs.Blocks.{kindOf}
-use Rattle.rules.proofs.Reading.{refusal-yes}
+use Rattle.rules.proofs.ReadLegal.{refusal-yes}
 use Rattle.rules.specs.File.{firstRefusal, asksEnd, asksVariable, holdRow}
 use Rattle.rules.specs.declared.Word.the-variants.{Missing}
 use Rattle.reading_text.proofs.Line.{Reached, reach-none, reach-word, reach-last}
-use Rattle.reading_rows.specs.Words.{after}
+use Rattle.reading_rows.specs.Rows.{after}
 use Rattle.reading_rows.proofs.Laws.{checked-read, checked-wrong, lined-read, lined-wrong}
 use borrow.Author.Needs.{needs}
 use Rattle.reading_rows.proofs.hold_row.Statement.{statement}
@@ -40,10 +40,7 @@ pub hold-row-spec : {M : Type 1} → statement M
 hold-row-spec =
     tie.close
     (tie.spec
-    (λ c κs. search needs)
-    (λ c κs. search needs)
-    (λ c κs. search needs)
-    (λ c κs. search needs)
+    (λ c κs. search needs) (λ c κs. search needs) (λ c κs. search needs) (λ c κs. search needs)
     (λ c κs. search needs)
     variable-of-requires
     returns

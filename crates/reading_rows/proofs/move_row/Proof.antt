@@ -5,7 +5,7 @@ use Rattle.rules.specs.Blocks.{kindOf}
 use Rattle.rules.specs.File.{firstRefusal, asksEnd, asksVariable, asksChange, moveRow}
 use Rattle.rules.specs.declared.Word.the-variants.{Missing}
 use Rattle.reading_text.proofs.Line.{Reached, reach-two, reach-last}
-use Rattle.reading_rows.specs.Words.{after}
+use Rattle.reading_rows.specs.Rows.{after}
 use Rattle.reading_rows.proofs.Laws.{two-yes, checked-read, checked-wrong, lined-read, lined-wrong}
 use borrow.Author.Needs.{needs}
 use Rattle.reading_rows.proofs.move_row.Statement.{statement}
@@ -44,14 +44,8 @@ pub move-row-spec : {M : Type 1} → statement M
 move-row-spec =
     tie.close
     (tie.spec
-    (λ c κs. search needs)
-    (λ c κs. search needs)
-    (λ c κs. search needs)
-    (λ c κs. search needs)
-    (λ c κs. search needs)
-    (λ c κs. search needs)
-    (λ c κs. search needs)
-    (λ c κs. search needs)
+    (λ c κs. search needs) (λ c κs. search needs) (λ c κs. search needs) (λ c κs. search needs)
+    (λ c κs. search needs) (λ c κs. search needs) (λ c κs. search needs) (λ c κs. search needs)
     (λ c κs. search needs)
     variable-of-requires
     change-of-requires

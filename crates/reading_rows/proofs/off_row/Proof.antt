@@ -9,7 +9,7 @@ use Rattle.rules.specs.Values.{lowest, highest}
 use Rattle.rules.specs.File.{firstRefusal, asksEnd, asksNumber, asksVariable, asksOrdered, offRow}
 use Rattle.rules.specs.declared.Word.the-variants.{Missing}
 use Rattle.reading_text.proofs.Line.{Reached, reach-two, reach-word, reach-last}
-use Rattle.reading_rows.specs.Words.{after}
+use Rattle.reading_rows.specs.Rows.{after}
 use Rattle.reading_rows.proofs.Laws.{checked-read, checked-wrong, four-yes, lined-read, lined-wrong}
 use borrow.Author.Needs.{sfits-of, needs}
 use Rattle.reading_rows.proofs.off_row.Statement.{statement}
@@ -54,26 +54,13 @@ pub off-row-spec : {M : Type 1} → statement M
 off-row-spec =
     tie.close
     (tie.spec
-    (λ c κs. search needs)
-    (λ c κs. search needs)
-    (λ c κs. search needs)
-    (λ c κs. search needs)
-    (λ c κs. search needs)
-    (λ c κs. search needs)
-    (λ c κs. search needs)
-    (λ c κs. search needs)
-    (λ c κs. search needs)
-    (λ c κs. search needs)
-    (λ c κs. search needs)
-    (λ c κs. search needs)
-    (λ c κs. search needs)
-    (λ c κs. search needs)
-    (λ c κs. search needs)
-    (λ c κs. search needs)
+    (λ c κs. search needs) (λ c κs. search needs) (λ c κs. search needs) (λ c κs. search needs)
+    (λ c κs. search needs) (λ c κs. search needs) (λ c κs. search needs) (λ c κs. search needs)
+    (λ c κs. search needs) (λ c κs. search needs) (λ c κs. search needs) (λ c κs. search needs)
+    (λ c κs. search needs) (λ c κs. search needs) (λ c κs. search needs) (λ c κs. search needs)
     (λ c κs. search needs)
     variable-of-requires
     variable-of-requires-2
-    (λ c κs. search needs)
-    (λ c κs. search needs)
+    (λ c κs. search needs) (λ c κs. search needs)
     returns
     returns-2)

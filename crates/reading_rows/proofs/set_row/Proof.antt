@@ -6,7 +6,7 @@ use Rattle.rules.specs.Parse.{shapeless}
 use Rattle.rules.specs.File.{firstRefusal, asksEnd, asksVariable, asksExpr, setRow}
 use Rattle.rules.specs.declared.Word.the-variants.{Missing}
 use Rattle.reading_text.proofs.Line.{Reached, reach-none, reach-word, reach-last}
-use Rattle.reading_rows.specs.Words.{after, exprs}
+use Rattle.reading_rows.specs.Rows.{after, exprs}
 use Rattle.reading_rows.proofs.Laws.{two-yes, checked-read, checked-wrong, Spelled, spelled, spelled-asks, spelled-fits, spelled-says, lined-read, lined-wrong}
 use borrow.Author.Needs.{needs}
 use Rattle.reading_rows.proofs.set_row.Statement.{statement}
@@ -53,15 +53,9 @@ pub set-row-spec : {M : Type 1} → statement M
 set-row-spec =
     tie.close
     (tie.spec
-    (λ c κs. search needs)
-    (λ c κs. search needs)
-    (λ c κs. search needs)
-    (λ c κs. search needs)
+    (λ c κs. search needs) (λ c κs. search needs) (λ c κs. search needs) (λ c κs. search needs)
     asks-expression-requires
-    (λ c κs. search needs)
-    (λ c κs. search needs)
-    (λ c κs. search needs)
-    (λ c κs. search needs)
+    (λ c κs. search needs) (λ c κs. search needs) (λ c κs. search needs) (λ c κs. search needs)
     variable-of-requires
     operand-of-requires
     returns

@@ -6,7 +6,7 @@ use Rattle.rules.specs.Parse.{shapeless}
 use Rattle.rules.specs.File.{asksTest, variableOf, comparisonOf, doRow, whileRow}
 use Rattle.rules.specs.declared.Word.the-variants.{Missing}
 use Rattle.reading_text.proofs.Line.{Reached, reach-two, reach-word, reach-last}
-use Rattle.reading_rows.specs.Words.{after, exprs}
+use Rattle.reading_rows.specs.Rows.{after, exprs}
 use Rattle.reading_rows.proofs.Laws.{Spelled, spelled, spelled-asks, spelled-fits, spelled-says, lined-read, lined-wrong, test-yes, test-read, test-wrong}
 use borrow.Author.Needs.{needs}
 use Rattle.reading_rows.proofs.test_row.Statement.{statement}
@@ -52,22 +52,13 @@ pub test-row-spec : {M : Type 1} → statement M
 test-row-spec =
     tie.close
     (tie.spec
-    (λ c κs. search needs)
-    (λ c κs. search needs)
-    (λ c κs. search needs)
-    (λ c κs. search needs)
-    (λ c κs. search needs)
-    (λ c κs. search needs)
+    (λ c κs. search needs) (λ c κs. search needs) (λ c κs. search needs) (λ c κs. search needs)
+    (λ c κs. search needs) (λ c κs. search needs)
     asks-expression-requires
-    (λ c κs. search needs)
-    (λ c κs. search needs)
-    (λ c κs. search needs)
-    (λ c κs. search needs)
-    (λ c κs. search needs)
-    (λ c κs. search needs)
+    (λ c κs. search needs) (λ c κs. search needs) (λ c κs. search needs) (λ c κs. search needs)
+    (λ c κs. search needs) (λ c κs. search needs)
     operand-of-requires
     variable-of-requires
-    (λ c κs. search needs)
-    (λ c κs. search needs)
+    (λ c κs. search needs) (λ c κs. search needs)
     returns
     returns-2)

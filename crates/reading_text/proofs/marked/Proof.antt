@@ -108,10 +108,7 @@ marked-spec =
     (λ c. search needs)
     (λ c. let h = within (c .before .before .before .before) in search needs)
     (λ c. let h = within (c .before .before .before .before) in search needs)
-    (λ c. search needs)
-    (λ c κs. search needs)
-    (λ c. search needs)
-    (λ c. search needs)
+    (λ c. search needs) (λ c κs. search needs) (λ c. search needs) (λ c. search needs)
     other-word-requires-2
     (λ c. search needs)
     signed-requires

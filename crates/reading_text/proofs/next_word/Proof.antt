@@ -43,7 +43,6 @@ next-word-spec =
     (λ c. let h = within (c .before .before .before) in search needs)
     (λ c. let h = within (c .before .before .before) in search needs)
     (λ c. let h = within (c .before .before .before) in search needs)
-    (λ c. search needs)
-    (λ c κs. search needs)
+    (λ c. search needs) (λ c κs. search needs)
     add-f
     returns-2)

@@ -56,15 +56,13 @@ put-loops-spec = tie.close (tie.spec
     Inv-loop
     μ-loop
     (λ c. writing-none _ _)
-    (λ c κs. search needs)
-    (λ c κs. search needs)
+    (λ c κs. search needs) (λ c κs. search needs)
     (λ c. omega (arith, room c))
     (λ c. omega (arith, room c))
     (λ c. search needs)
     (λ c κs. simp (part-rest, length-drop) (omega (arith, room (c .before))))
     (λ c. omega (arith, room (c .before .before .before .before)))
-    (λ c. search needs)
-    (λ c. search needs)
+    (λ c. search needs) (λ c. search needs)
     loop-again
     (λ c. c .before .loop .inv .same)
     returns)

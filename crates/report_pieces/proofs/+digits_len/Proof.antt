@@ -41,7 +41,5 @@ pub +digits-len-spec : {M : Type 1} → statement M
 +digits-len-spec = close μ-digits-len λ t. digits-len-lts.spec (given t) (digits-len-at t) digits-len.Post
     (returns t)
     (returns-2 t)
-    (λ c. search needs)
-    (λ c κs. search needs)
-    (λ c. search needs)
+    (λ c. search needs) (λ c κs. search needs) (λ c. search needs)
     (returns-3 t)

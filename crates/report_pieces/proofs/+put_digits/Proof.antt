@@ -62,15 +62,13 @@ returns-3 t c =
 pub +put-digits-spec : {M : Type 1} → statement M
 +put-digits-spec = close μ-put-digits λ t. put-digits-lts.spec (given t) (put-digits-at t) put-digits.Post
     (returns t)
-    (λ c. search needs)
-    (λ c. search needs)
+    (λ c. search needs) (λ c. search needs)
     (slice-write-out t)
     (λ c. search needs)
     (returns-2 t)
     (λ c. search needs)
     (put-digits-requires t)
-    (λ c. search needs)
-    (λ c. search needs)
+    (λ c. search needs) (λ c. search needs)
     (slice-write-out-2 t)
     (add-result t)
     (λ c. search needs)

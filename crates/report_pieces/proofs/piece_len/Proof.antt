@@ -9,11 +9,6 @@ returns-3 c = rw (c .before .before .piece2 .given .1) (c .digits-len .ensures)
 
 pub piece-len-spec : {M : Type 1} → statement M
 piece-len-spec = tie.close (tie.spec
-    (λ c. search needs)
-    (λ c. search needs)
-    (λ c κs. search needs)
-    (λ c. search needs)
-    (λ c κs. search needs)
-    (λ c. search needs)
-    (λ c. search needs)
+    (λ c. search needs) (λ c. search needs) (λ c κs. search needs) (λ c. search needs)
+    (λ c κs. search needs) (λ c. search needs) (λ c. search needs)
     returns-3)

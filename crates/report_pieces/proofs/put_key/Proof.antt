@@ -18,9 +18,7 @@ returns c = rw (key-is (c .before .before .before .before .before)) at (c .befor
 
 pub put-key-spec : {M : Type 1} → statement M
 put-key-spec = tie.close (tie.spec
-    (λ c κs. search needs)
-    (λ c κs. search needs)
-    (λ c. search needs)
+    (λ c κs. search needs) (λ c κs. search needs) (λ c. search needs)
     (λ c. rw length-take (omega arith))
     put-entry-requires
     (λ c. search needs)

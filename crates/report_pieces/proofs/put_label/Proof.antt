@@ -21,9 +21,7 @@ returns c =
 
 pub put-label-spec : {M : Type 1} → statement M
 put-label-spec = tie.close (tie.spec
-    (λ c κs. search needs)
-    (λ c κs. search needs)
-    (λ c. search needs)
+    (λ c κs. search needs) (λ c κs. search needs) (λ c. search needs)
     slice-aggregate-copy
     copy-requires
     (λ c. search needs)

@@ -36,15 +36,13 @@ put-line-spec = tie.close (tie.spec
     Inv-loop
     μ-loop
     (λ c. writing-none _ _)
-    (λ c. search needs)
-    (λ c. search needs)
+    (λ c. search needs) (λ c. search needs)
     (λ c. omega (arith, room (c .before)))
     (λ c. omega (arith, room (c .before)))
     (λ c. search needs)
     (λ c κs. simp (part-rest, length-drop) (omega (arith, room (c .before .before))))
     (λ c. omega (arith, room (c .before .before .before .before .before)))
-    (λ c. search needs)
-    (λ c. search needs)
+    (λ c. search needs) (λ c. search needs)
     loop-again
     (λ c. c .before .loop .inv .same)
     (λ c. writing-all _ _ _ _ _ (c .before .loop .inv) (omega (arith, count (c .before .before .before)))))

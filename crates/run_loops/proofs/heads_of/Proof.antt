@@ -1,6 +1,6 @@
 -- `run_loops::heads_of` meets its contract. The invariant: the loops before row j are listed. Assumes nothing.
 use Rattle.run_loops.proofs.Listing.{Listing, room-for, listing-row, listing-all, same-heads}
-use Rattle.rules.proofs.Heads.{heads-few}
+use Rattle.rules.proofs.LinesAtHeads.{heads-few}
 use Rattle.rules.specs.Calls.{isLoop, loopRows}
 use Rattle.run_loops.specs.Loops.{withHead}
 use Rattle.rules.proofs.Laws.{kinds-first, kind-of}
@@ -68,11 +68,8 @@ heads-of-spec =
     Inv-loop
     μ-loop
     loop-holds
-    (λ c. search needs)
-    (λ c. search needs)
-    (λ c. search needs)
+    (λ c. search needs) (λ c. search needs) (λ c. search needs)
     with-head-requires
-    (λ c. search needs)
-    (λ c. search needs)
+    (λ c. search needs) (λ c. search needs)
     loop-again
     returns)

@@ -3,7 +3,7 @@ use Prim.Native.Nat.{_-_, _≤_, _<_}
 use mathlib.Core.Path.{_≡_}
 use native.Mathlib.Omega.{arith}
 use lib.ListN.{length, getD}
-use Rattle.rules.specs.RowMachine.{tallyOf}
+use Rattle.rules_machine.specs.RowMachine.{tallyOf}
 use Rattle.run_loops.proofs.Listing.{Counting, counting-none, counting-more, counting-all}
 use borrow.Author.Needs.{needs}
 use Rattle.run_loops.proofs.loops_of.Statement.{statement}
@@ -55,17 +55,13 @@ loops-of-spec =
     Inv-loop
     μ-loop
     loop-holds
-    (λ c. search needs)
-    (λ c. search needs)
+    (λ c. search needs) (λ c. search needs)
     mul-t8
     index-t17
     (λ c. search needs)
     mul-t18
     index-t23
-    (λ c. search needs)
-    (λ c. search needs)
-    (λ c. search needs)
-    (λ c. search needs)
+    (λ c. search needs) (λ c. search needs) (λ c. search needs) (λ c. search needs)
     (λ c. search needs)
     loop-again
     returns)

@@ -12,7 +12,7 @@ use Rattle.rules.specs.declared.Prices.{Prices}
 use Rattle.rules.proofs.Kind.{the-type}
 use Rattle.run_actions.specs.declared.Machine.{Machine}
 use Rattle.rules.specs.Blocks.{RowKind, test, viewOf, kindOf}
-use Rattle.rules.specs.RowMachine.{TurnCounts, tallyOf, onEnd}
+use Rattle.rules_machine.specs.RowMachine.{TurnCounts, tallyOf, onEnd}
 use Rattle.run_actions.specs.States.{Doable, phaseOf, onAt, endTo, endRest, ActsIn}
 use Rattle.run_machine.proofs.Laws.{passed, by-flag, in-phase, for-tests, for-stops, tests-while, tests-do, tests-for, tests-later}
 use denote.Ref.{now}
@@ -24,8 +24,8 @@ use Rattle.run_machine.proofs.end_row.Tie as tie
 abbrev others : List ℕ
 others = 0 ∷ 1 ∷ 2 ∷ 3 ∷ 4 ∷ 5 ∷ 6 ∷ []
 
-module _ (π : Prices) (rows : List RowKind) (shut opener : ℕ → ℕ) (text : List ℕ) (m : Machine) (h : ℕ) (store : List ℤ) (t : TurnCounts) where
-  no-loop : (k : Kind) → OneOf others (tagOf the-type k) → let v = viewOf (kindOf text k) in ActsIn m (onAt m (m .left) (m .row + 1) false) store store t t (endTo π rows shut opener v h (m .row) (phaseOf (m .testing))) (endRest π rows shut opener v h (m .row) (phaseOf (m .testing)))
+module _ (π : Prices) (rows : List RowKind) (matching-end matching-head : ℕ → ℕ) (text : List ℕ) (m : Machine) (h : ℕ) (store : List ℤ) (t : TurnCounts) where
+  no-loop : (k : Kind) → OneOf others (tagOf the-type k) → let v = viewOf (kindOf text k) in ActsIn m (onAt m (m .left) (m .row + 1) false) store store t t (endTo π rows matching-end matching-head v h (m .row) (phaseOf (m .testing))) (endRest π rows matching-end matching-head v h (m .row) (phaseOf (m .testing)))
   unfolding viewOf kindOf onEnd
   no-loop End o = passed m store t t (m .row) (λ d. d) refl
   no-loop Else o = passed m store t t (m .row) (λ d. d) refl
@@ -58,8 +58,8 @@ returns : tie.Need-returns
 unfolding viewOf kindOf onEnd
 returns c =
     let s = c .before .before .before .before .before .before .before .before .args in (
-      λ rows shut opener.
-          by-flag (s .m .testing) (λ z. endTo (s .prices) rows shut opener (viewOf (kindOf (now (s .text)) (s .head .kind))) (s .h) (s .m .row) (phaseOf z)) (λ z. endRest (s .prices) rows shut opener (viewOf (kindOf (now (s .text)) (s .head .kind))) (s .h) (s .m .row) (phaseOf z)) true (c .before .before .before .if1 .taken) (rw (c .before .before .before .before .before .kind .given .1) (in-phase (λ u. ap phaseOf (c .before .before .before .if1 .taken)) (c .test-row .ensures .0))),
+      λ rows matching-end matching-head.
+          by-flag (s .m .testing) (λ z. endTo (s .prices) rows matching-end matching-head (viewOf (kindOf (now (s .text)) (s .head .kind))) (s .h) (s .m .row) (phaseOf z)) (λ z. endRest (s .prices) rows matching-end matching-head (viewOf (kindOf (now (s .text)) (s .head .kind))) (s .h) (s .m .row) (phaseOf z)) true (c .before .before .before .if1 .taken) (rw (c .before .before .before .before .before .kind .given .1) (in-phase (λ u. ap phaseOf (c .before .before .before .if1 .taken)) (c .test-row .ensures .0))),
       search needs,
     )
 
@@ -67,8 +67,8 @@ returns-2 : tie.Need-returns-2
 unfolding viewOf kindOf onEnd
 returns-2 c =
     let s = c .before .before .before .before .before .before .before .before .before .before .before .before .before .args in (
-      λ rows shut opener.
-          by-flag (s .m .testing) (λ z. endTo (s .prices) rows shut opener (viewOf (kindOf (now (s .text)) (s .head .kind))) (s .h) (s .m .row) (phaseOf z)) (λ z. endRest (s .prices) rows shut opener (viewOf (kindOf (now (s .text)) (s .head .kind))) (s .h) (s .m .row) (phaseOf z)) false (c .before .before .before .before .before .before .before .before .if1 .left)
+      λ rows matching-end matching-head.
+          by-flag (s .m .testing) (λ z. endTo (s .prices) rows matching-end matching-head (viewOf (kindOf (now (s .text)) (s .head .kind))) (s .h) (s .m .row) (phaseOf z)) (λ z. endRest (s .prices) rows matching-end matching-head (viewOf (kindOf (now (s .text)) (s .head .kind))) (s .h) (s .m .row) (phaseOf z)) false (c .before .before .before .before .before .before .before .before .if1 .left)
           (rw (c .before .before .before .before .before .before .before .before .before .before .kind .given .1) (for-tests (s .prices) (s .h) (s .m .row) (test _ _ _) (s .h) _ (λ k. k) (c .before .before .before .before .before .before .before .before .if1 .left) (c .before .before .before .before .before .before .move-row .ensures _) (sym (c .before .before .before .before .waits .ensures) ∙ c .before .before .before .if2 .taken) (c .test-row2 .ensures .0))),
       search needs,
     )
@@ -77,15 +77,15 @@ returns-3 : tie.Need-returns-3
 unfolding viewOf kindOf onEnd
 returns-3 c =
     let s = c .before .before .before .before .before .before .before .before .before .before .args in (
-      λ rows shut opener.
-          by-flag (s .m .testing) (λ z. endTo (s .prices) rows shut opener (viewOf (kindOf (now (s .text)) (s .head .kind))) (s .h) (s .m .row) (phaseOf z)) (λ z. endRest (s .prices) rows shut opener (viewOf (kindOf (now (s .text)) (s .head .kind))) (s .h) (s .m .row) (phaseOf z)) false (c .before .before .before .before .before .if1 .left)
+      λ rows matching-end matching-head.
+          by-flag (s .m .testing) (λ z. endTo (s .prices) rows matching-end matching-head (viewOf (kindOf (now (s .text)) (s .head .kind))) (s .h) (s .m .row) (phaseOf z)) (λ z. endRest (s .prices) rows matching-end matching-head (viewOf (kindOf (now (s .text)) (s .head .kind))) (s .h) (s .m .row) (phaseOf z)) false (c .before .before .before .before .before .if1 .left)
           (rw (c .before .before .before .before .before .before .before .kind .given .1) (for-stops (s .prices) (s .h) (s .m .row) (test _ _ _) (s .h) _ (λ k. k) (c .before .before .before .before .before .if1 .left) (c .before .before .before .move-row .ensures _) (sym (c .before .waits .ensures) ∙ c .if2 .left))),
       search needs,
     )
 
 returns-7 : tie.Need-returns-7
 returns-7 c = let s = c .before .before .before .args in (
-  λ rows shut opener. rw (c .on .ensures) (no-loop (s .prices) rows shut opener (now (s .text)) (s .m) (s .h) (s .store .now) (tallyOf (s .counts .now)) (s .head .kind) (c .before .match .keys5)),
+  λ rows matching-end matching-head. rw (c .on .ensures) (no-loop (s .prices) rows matching-end matching-head (now (s .text)) (s .m) (s .h) (s .store .now) (tallyOf (s .counts .now)) (s .head .kind) (c .before .match .keys5)),
   search needs,
 )
 
@@ -113,9 +113,9 @@ end-row-spec =
     (λ c. search needs)
     returns-3
     (λ c. search needs)
-    (λ c. (λ rows shut opener. rw (c .before .before .before .before .kind2 .given .1) (c .test-row3 .ensures .0), search needs))
+    (λ c. (λ rows matching-end matching-head. rw (c .before .before .before .before .kind2 .given .1) (c .test-row3 .ensures .0), search needs))
     (λ c. search needs)
-    (λ c. (λ rows shut opener. rw (c .before .before .before .before .kind3 .given .1) (c .test-row4 .ensures .0), search needs))
+    (λ c. (λ rows matching-end matching-head. rw (c .before .before .before .before .kind3 .given .1) (c .test-row4 .ensures .0), search needs))
     (λ c. search needs)
-    (λ c. (λ rows shut opener. rw (c .before .before .before .before .kind4 .given .1) (c .flag-row .ensures .0), search needs))
+    (λ c. (λ rows matching-end matching-head. rw (c .before .before .before .before .kind4 .given .1) (c .flag-row .ensures .0), search needs))
     returns-7)

@@ -2,7 +2,7 @@
 use mathlib.Core.Path.{sym, _∙_, ap}
 use mathlib.Core.Bool.{true, false}
 use Rattle.rules.specs.Blocks.{from, assign, test, exprOf}
-use Rattle.rules.specs.RowMachine.{begin}
+use Rattle.rules_machine.specs.RowMachine.{begin}
 use Rattle.run_actions.specs.States.{phaseOf, plainTo, forTo, forRest}
 use Rattle.run_machine.proofs.Laws.{after, by-flag, in-phase, for-tests, for-stops, tests-later}
 use denote.Ref.{now}
@@ -40,12 +40,9 @@ pub for-row-spec : {M : Type 1} → statement M
 for-row-spec =
     tie.close
     (tie.spec
-    (λ c κs. search needs)
-    (λ c. search needs)
+    (λ c κs. search needs) (λ c. search needs)
     returns
-    (λ c κs. search needs)
-    (λ c κs. search needs)
-    (λ c κs. search needs)
+    (λ c κs. search needs) (λ c κs. search needs) (λ c κs. search needs)
     test-row-requires-2
     (λ c. search needs)
     returns-2

@@ -30,7 +30,7 @@ returns c =
     let a = s .args in
     let w = viewOf (kindOf (now (a .text)) (a .head .kind)) in
     let z = subst (λ k. awaits (viewOf (kindOf (now (a .text)) k)) w ≡ true) (c .before .before .enum-told .given .1) (s .pre .3) in
-    (λ rows shut opener picks f. rw (c .before .before .enum-told .given .1) (acts-row picks (c .for-test .ensures .0) (λ t d. again-end (a .prices) rows shut opener (a .m .row) (a .e) (a .h) t d w f (a .m .testing) (s .pre .2) z)), search needs, c .for-test .ensures .2)
+    (λ rows matching-end matching-head picks f. rw (c .before .before .enum-told .given .1) (acts-row picks (c .for-test .ensures .0) (λ t d. again-end (a .prices) rows matching-end matching-head (a .m .row) (a .e) (a .h) t d w f (a .m .testing) (s .pre .2) z)), search needs, c .for-test .ensures .2)
 
 returns-2 : tie.Need-returns-2
 returns-2 c =
@@ -38,7 +38,7 @@ returns-2 c =
     let a = s .args in
     let w = viewOf (kindOf (now (a .text)) (a .head .kind)) in
     let z = waits-start (now (a .text)) w (a .row .kind) (c .before .before .match .keys2) (s .pre .3) .0 in
-    (λ rows shut opener picks f. acts-row picks (c .for-test2 .ensures .0) (λ t d. again-start (a .prices) rows shut opener (a .m .row) (a .e) (a .h) t d (viewOf (kindOf (now (a .text)) (a .row .kind))) w f (a .m .testing) (s .pre .2) z), search needs, c .for-test2 .ensures .2)
+    (λ rows matching-end matching-head picks f. acts-row picks (c .for-test2 .ensures .0) (λ t d. again-start (a .prices) rows matching-end matching-head (a .m .row) (a .e) (a .h) t d (viewOf (kindOf (now (a .text)) (a .row .kind))) w f (a .m .testing) (s .pre .2) z), search needs, c .for-test2 .ensures .2)
 
 pub test-again-spec : {M : Type 1} → statement M
 test-again-spec = tie.close (tie.spec (λ c. search needs) for-test-requires for-test-requires-2 returns returns-2)

@@ -1,6 +1,6 @@
 -- `run_pairs::pair_row` meets its contract. Assumes nothing.
 use Rattle.rules.specs.Blocks.{viewOf, kindOf}
-use Rattle.rules.specs.RowMachine.{push, pairRow}
+use Rattle.rules_machine.specs.RowMachine.{push, pairRow}
 use mathlib.Core.Path.{refl, _∙_, ap}
 use native.Mathlib.Omega.{arith}
 use borrow.Author.Needs.{needs}
@@ -22,31 +22,31 @@ returns-3 : tie.Need-returns-3
 unfolding viewOf kindOf pairRow
 returns-3 c =
     let a = c .before .before .before .before .before .before .before .before .before .args in
-    rw (c .before .before .before .before .enum-told3 .given .1) (record { same = λ text. c .before .before .push2 .ensures .same (a .shut .now) (a .opener .now); deep = c .before .before .push2 .ensures .deep })
+    rw (c .before .before .before .before .enum-told3 .given .1) (record { same = λ text. c .before .before .push2 .ensures .same (a .matching-end .now) (a .matching-head .now); deep = c .before .before .push2 .ensures .deep })
 
 returns-7 : tie.Need-returns-7
 unfolding viewOf kindOf pairRow
 returns-7 c =
     let a = c .before .before .before .before .before .before .before .before .before .args in
-    rw (c .before .before .before .before .enum-told7 .given .1) (record { same = λ text. c .before .before .push3 .ensures .same (a .shut .now) (a .opener .now); deep = c .before .before .push3 .ensures .deep })
+    rw (c .before .before .before .before .enum-told7 .given .1) (record { same = λ text. c .before .before .push3 .ensures .same (a .matching-end .now) (a .matching-head .now); deep = c .before .before .push3 .ensures .deep })
 
 returns-8 : tie.Need-returns-8
 unfolding viewOf kindOf pairRow
 returns-8 c =
     let a = c .before .before .before .before .before .before .before .before .before .args in
-    rw (c .before .before .before .before .enum-told8 .given .1) (record { same = λ text. c .before .before .push4 .ensures .same (a .shut .now) (a .opener .now); deep = c .before .before .push4 .ensures .deep })
+    rw (c .before .before .before .before .enum-told8 .given .1) (record { same = λ text. c .before .before .push4 .ensures .same (a .matching-end .now) (a .matching-head .now); deep = c .before .before .push4 .ensures .deep })
 
 returns-9 : tie.Need-returns-9
 unfolding viewOf kindOf pairRow
 returns-9 c =
     let a = c .before .before .before .before .before .before .before .before .before .args in
-    rw (c .before .before .before .before .enum-told9 .given .1) (record { same = λ text. c .before .before .push5 .ensures .same (a .shut .now) (a .opener .now); deep = c .before .before .push5 .ensures .deep })
+    rw (c .before .before .before .before .enum-told9 .given .1) (record { same = λ text. c .before .before .push5 .ensures .same (a .matching-end .now) (a .matching-head .now); deep = c .before .before .push5 .ensures .deep })
 
 returns-11 : tie.Need-returns-11
 unfolding viewOf kindOf pairRow
 returns-11 c =
     let a = c .before .before .before .before .before .before .before .before .before .args in
-    rw (c .before .before .before .before .enum-told11 .given .1) (record { same = λ text. c .before .before .push6 .ensures .same (a .shut .now) (a .opener .now); deep = c .before .before .push6 .ensures .deep })
+    rw (c .before .before .before .before .enum-told11 .given .1) (record { same = λ text. c .before .before .push6 .ensures .same (a .matching-end .now) (a .matching-head .now); deep = c .before .before .push6 .ensures .deep })
 
 pub pair-row-spec : {M : Type 1} → statement M
 unfolding viewOf kindOf pairRow

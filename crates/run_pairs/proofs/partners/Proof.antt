@@ -2,7 +2,7 @@
 use Rattle.run_pairs.proofs.Laws.{none-yet}
 use Rattle.run_pairs.specs.Tables.{Sized, pairsOf}
 use Rattle.rules.proofs.Laws.{kinds-first, kind-of}
-use Rattle.rules.specs.RowMachine.{Pairs, pairs, pairRow}
+use Rattle.rules_machine.specs.RowMachine.{Pairs, pairs, pairRow}
 use Rattle.rules.specs.Blocks.{viewOf, kindOf, kindsOf}
 use Rattle.rules.specs.declared.Kind.the-variants.{End}
 use Rattle.rules.specs.declared.Row.{Row}
@@ -22,10 +22,10 @@ unfolding pairs
 next-row text n rs j h e f = rw add-one (f ∙ (λ i. pairRow (viewOf (sym (kind-of text n rs j h) i)) j (e i)))
 
 abbrev Inv-loop : tie.InvT-loop
-Inv-loop count rows shut₀ opener₀ stack₀ depth₀ j₀ shut opener stack depth j = (j ≤ count) × (depth ≤ j) × Sized shut opener stack × ((text : List ℕ) → pairsOf shut opener stack depth ≡ pairs (take count (kindsOf text rows)) j)
+Inv-loop count rows matching-end₀ matching-head₀ stack₀ depth₀ j₀ matching-end matching-head stack depth j = (j ≤ count) × (depth ≤ j) × Sized matching-end matching-head stack × ((text : List ℕ) → pairsOf matching-end matching-head stack depth ≡ pairs (take count (kindsOf text rows)) j)
 
 abbrev μ-loop : tie.MeasureT-loop
-μ-loop count rows shut₀ opener₀ stack₀ depth₀ j₀ shut opener stack depth j = count - j
+μ-loop count rows matching-end₀ matching-head₀ stack₀ depth₀ j₀ matching-end matching-head stack depth j = count - j
 
 loop-holds : tie.Need-loop-holds Inv-loop μ-loop
 loop-holds c = (omega arith, omega arith, record { sizes = (refl, refl, refl) }, λ text. none-yet 256 _ _)
@@ -55,7 +55,7 @@ returns c =
     λ text.
     let e : l .j ≡ length (take (a .count) (kindsOf text (a .t1))) = omega (arith, kinds-first text (a .count) (a .t1) (omega arith)) in
     let q = l .inv .3 text ∙ ap (pairs (take (a .count) (kindsOf text (a .t1)))) e in
-    record { shuts = ap (λ (p : Pairs). p .shut) q; openers = ap (λ (p : Pairs). p .opener) q }
+    record { matching-ends = ap (λ (p : Pairs). p .end) q; matching-heads = ap (λ (p : Pairs). p .head) q }
 
 pub partners-spec : {M : Type 1} → statement M
 partners-spec =
@@ -64,13 +64,10 @@ partners-spec =
     Inv-loop
     μ-loop
     loop-holds
-    (λ c. search needs)
-    (λ c. search needs)
+    (λ c. search needs) (λ c. search needs)
     slice-aggregate-pair-row
     slice-aggregate-pair-row-2
     slice-aggregate-pair-row-3
-    (λ c κs. search needs)
-    (λ c. search needs)
-    (λ c. search needs)
+    (λ c κs. search needs) (λ c. search needs) (λ c. search needs)
     loop-again
     returns)

@@ -8,7 +8,7 @@ use Rattle.run_pairs.proofs.push.Tie as tie
 returns : tie.Need-returns
 returns c =
     let a = c .args in
-    record { same = λ shut opener. pushed (a .stack .now) _ _ (a .depth) (a .j) (omega arith); deep = omega arith }
+    record { same = λ matching-end matching-head. pushed (a .stack .now) _ _ (a .depth) (a .j) (omega arith); deep = omega arith }
 
 pub push-spec : {M : Type 1} → statement M
 push-spec = tie.close (tie.spec (λ c. search needs) (λ c. search needs) (λ c. search needs) (λ c. search needs) returns)

@@ -2,7 +2,7 @@
 use Rattle.runner.proofs.Loop.{Runs, weight, runs-start, doable, fitting, head-in, runs-step, runs-past, runs-over}
 use Rattle.run_actions.specs.States.{nextOf}
 use Rattle.runner.specs.Runs.{MayStep}
-use Rattle.rules.specs.RowMachine.{tallyOf}
+use Rattle.rules_machine.specs.RowMachine.{tallyOf}
 use Rattle.rules.specs.Blocks.{kindsOf}
 use mir.Val.{Fits}
 use mir.Syntax.{w8}
@@ -25,11 +25,11 @@ abbrev μ-loop : tie.MeasureT-loop
 full-rows : (s : tie.Start Inv-loop μ-loop) → length (s .args .t2) ≡ 256
 full-rows s = search needs
 
-shut-fits : (s : tie.Start Inv-loop μ-loop) (i : ℕ) → Fits w8 (getD (s .args .t4 .shut) i 0)
-shut-fits s i = search needs
+matching-end-fits : (s : tie.Start Inv-loop μ-loop) (i : ℕ) → Fits w8 (getD (s .args .t4 .end) i 0)
+matching-end-fits s i = search needs
 
-opener-fits : (s : tie.Start Inv-loop μ-loop) (i : ℕ) → Fits w8 (getD (s .args .t4 .opener) i 0)
-opener-fits s i = search needs
+matching-head-fits : (s : tie.Start Inv-loop μ-loop) (i : ℕ) → Fits w8 (getD (s .args .t4 .head) i 0)
+matching-head-fits s i = search needs
 
 -- the loop begins at the state that is given
 same-start : (o : tie.After-on Inv-loop μ-loop) → o .on .result ≡ o .before .before .before .args .from
@@ -63,23 +63,23 @@ loop-holds : tie.Need-loop-holds Inv-loop μ-loop
 loop-holds c = let s = c .before .before .before in let a = s .args in runs-start (a .prices) (a .t2) (a .count) (a .t4) (a .picks .now) (c .on .result) (a .store .now) (a .counts .now) (full-rows s) (begun c)
 
 cast-e : tie.Need-cast-e Inv-loop μ-loop
-cast-e c = omega (arith, shut-fits (c .before .before .before .before .before .before .before .before .before) (c .before .before .before .before .before .loop .m .row))
+cast-e c = omega (arith, matching-end-fits (c .before .before .before .before .before .before .before .before .before) (c .before .before .before .before .before .loop .m .row))
 
 cast-h : tie.Need-cast-h Inv-loop μ-loop
-cast-h c = omega (arith, opener-fits (c .before .before .before .before .before .before .before .before .before .before) (c .before .before .before .before .before .before .loop .m .row))
+cast-h c = omega (arith, matching-head-fits (c .before .before .before .before .before .before .before .before .before .before) (c .before .before .before .before .before .before .loop .m .row))
 
 mul-head : tie.Need-mul-head Inv-loop μ-loop
-mul-head c = let f = opener-fits (c .before .before .before .before .before .before .before .before .before .before) (c .before .before .before .before .before .before .loop .m .row) in omega arith
+mul-head c = let f = matching-head-fits (c .before .before .before .before .before .before .before .before .before .before) (c .before .before .before .before .before .before .loop .m .row) in omega arith
 
 array-copy-out-head : tie.Need-array-copy-out-head Inv-loop μ-loop
-array-copy-out-head c = omega (arith, opener-fits (c .before .before .before .before .before .before .before .before .before .before) (c .before .before .before .before .before .before .loop .m .row))
+array-copy-out-head c = omega (arith, matching-head-fits (c .before .before .before .before .before .before .before .before .before .before) (c .before .before .before .before .before .before .loop .m .row))
 
 step-requires : tie.Need-step-requires Inv-loop μ-loop
 step-requires c κs =
     let s = c .before .before .before .before .before .before .before .before .before .before .before .before .before in let o = c .before .before .before .before .before .before .before .before .before .before in
     let a = s .args in
     let l = c .before .before .before .before .before .before .before .before .before .loop in
-    let f = shut-fits s (l .m .row) in
+    let f = matching-end-fits s (l .m .row) in
     let go = sym (c .before .before .before .before .before .before .before .before .going .ensures) ∙ c .before .before .before .before .before .before .before .if1 .taken in
     let i = c .before .before .before .before .before .before .if2 .taken in
     (doable (a .prices) (a .t2) (a .count) (a .t4) (a .picks .now) (o .on .result) (a .store .now) (a .counts .now) (full-rows s) (begun o) (l .m) (l .store) (l .counts) (l .inv) go _ _ i (omega arith), doable (a .prices) (a .t2) (a .count) (a .t4) (a .picks .now) (o .on .result) (a .store .now) (a .counts .now) (full-rows s) (begun o) (l .m) (l .store) (l .counts) (l .inv) go _ _ (head-in (a .prices) (a .t2) (a .count) (a .t4) (a .picks .now) (o .on .result) (a .store .now) (a .counts .now) (full-rows s) (begun o) (l .m) (l .store) (l .counts) (l .inv) go i) (omega (arith, s .pre .0 .size)))
@@ -122,10 +122,7 @@ resume-spec =
     μ-loop
     (λ c κs. search needs)
     loop-holds
-    (λ c κs. search needs)
-    (λ c. search needs)
-    (λ c. search needs)
-    (λ c. search needs)
+    (λ c κs. search needs) (λ c. search needs) (λ c. search needs) (λ c. search needs)
     cast-e
     (λ c. search needs)
     cast-h

@@ -18,14 +18,14 @@ use Rattle.runner.proofs.run_on.Tie as tie
 full-rows : (s : tie.Start) → length (s .args .rows) ≡ 256
 full-rows s = search needs
 
-shut-fits : (s : tie.Start) (i : ℕ) → Fits w8 (getD (s .args .tables .shut) i 0)
-shut-fits s i = search needs
+matching-end-fits : (s : tie.Start) (i : ℕ) → Fits w8 (getD (s .args .tables .end) i 0)
+matching-end-fits s i = search needs
 
 tested-requires : tie.Need-tested-requires
 tested-requires c κs =
     let s = c .before .before .before .before .before .before in
     let a = s .args in
-    may-test (a .by-kind) (a .rows) (a .count) (a .tables) (a .q) (a .from) (a .store .now) (a .picks .now) (a .counts .now) (full-rows s) (s .pre) (c .before .before .if1 .taken) (omega (arith, shut-fits s (a .from .row)))
+    may-test (a .by-kind) (a .rows) (a .count) (a .tables) (a .q) (a .from) (a .store .now) (a .picks .now) (a .counts .now) (full-rows s) (s .pre) (c .before .before .if1 .taken) (omega (arith, matching-end-fits s (a .from .row)))
 
 -- the state after that test
 ran : (d : tie.After-tested)
@@ -79,8 +79,7 @@ run-on-spec =
     (tie.spec
     (λ c. search needs)
     tested-requires
-    (λ c κs. search needs)
-    (λ c. search needs)
+    (λ c κs. search needs) (λ c. search needs)
     returns
     resume-requires
     (λ c. search needs)

@@ -24,7 +24,7 @@ returns c =
     let a = s .args in
     let p = c .before .before .before .before .before .partners in
     let e = c .before .before .resume in
-    rw (c .answer .ensures)
+    rw (c .ran-of .ensures)
     (answers (a .prices) (a .rows) (a .count) (full-rows s) (a .store .now) (a .picks .now) (a .allowance) (s .pre .0) (p .result) (p .ensures (now (a .text))) _ (c .before .before .before .before .before .before .clear .ensures) (e .result) _ (e .last .1 .1 .1 .1 .1 .1 .1 .1 .0) (e .kept .1 .1 .1 .1 .1 .1 .0) (e .ensures .0))
 
 pub run-rows-spec : {M : Type 1} → statement M

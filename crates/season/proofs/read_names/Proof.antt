@@ -18,9 +18,7 @@ read-names-spec = tie.close (tie.spec
     μ-loop
     (λ c κs. search needs)
     (λ c. ([], c .start .ensures))
-    (λ c κs. search needs)
-    (λ c. search needs)
-    (λ c. search needs)
+    (λ c κs. search needs) (λ c. search needs) (λ c. search needs)
     (λ c. c .read-block .ensures (c .before .before .before .before .before .loop .inv))
     (λ c. c .before .before .loop .inv)
     (λ c. c .before .loop .inv))

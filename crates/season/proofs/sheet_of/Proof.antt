@@ -5,8 +5,8 @@ use mathlib.Core.Path.{_≡_, refl, ap, _∙_}
 use mathlib.Core.List.{List, [], _∷_, _++_}
 use Prim.Native.Nat.{ℕ, _+_, _-_, _≤_}
 use lib.ListN.{length, length-replicate}
-use Rattle.rules.specs.Season.{judgedAll}
-use Rattle.rules.proofs.Season.{length-end}
+use Rattle.rules_season.specs.Season.{judgedAll}
+use Rattle.rules_season.proofs.GroupsExact.{length-end}
 use Rattle.season_files.specs.Holds.{Holds}
 use Rattle.season_files.proofs.Laws.{holds-none, judged-end, judged-count}
 use Rattle.season.proofs.sheet_of.Statement.{statement}
@@ -45,12 +45,8 @@ sheet-of-spec = tie.close (tie.spec
     μ-loop
     (λ c κs. search needs)
     loop-holds
-    (λ c. search needs)
-    (λ c. search needs)
-    (λ c. search needs)
-    (λ c. search needs)
+    (λ c. search needs) (λ c. search needs) (λ c. search needs) (λ c. search needs)
     add-named-requires
-    (λ c. search needs)
-    (λ c. search needs)
+    (λ c. search needs) (λ c. search needs)
     loop-again
     returns)

@@ -1,24 +1,16 @@
 -- `season_cues::cue_in` meets its contract. Assumes nothing.
 use borrow.Author.Needs.{needs}
 use Rattle.rules.specs.Blocks.{viewOf, kindOf}
-use Rattle.rules.specs.Season.{cueOf}
+use Rattle.rules_season.specs.Season.{cueOf}
 use Rattle.season_cues.proofs.cue_in.Statement.{statement}
 use Rattle.season_cues.proofs.cue_in.Tie as tie
 
 pub cue-in-spec : {M : Type 1} → statement M
 unfolding cueOf viewOf kindOf
 cue-in-spec = tie.close (tie.spec
-    (λ c. search needs)
-    (λ c. search needs)
-    (λ c. search needs)
-    (λ c. search needs)
-    (λ c. search needs)
-    (λ c. search needs)
-    (λ c. search needs)
-    (λ c. search needs)
-    (λ c. search needs)
-    (λ c. search needs)
-    (λ c. search needs)
+    (λ c. search needs) (λ c. search needs) (λ c. search needs) (λ c. search needs)
+    (λ c. search needs) (λ c. search needs) (λ c. search needs) (λ c. search needs)
+    (λ c. search needs) (λ c. search needs) (λ c. search needs)
     (λ c text. search needs)
     (λ c text. search needs)
     (λ c text. search needs)

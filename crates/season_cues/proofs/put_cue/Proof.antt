@@ -15,12 +15,8 @@ returns-2 c = (λ text w old h l. put-one h l (sym (ap firedBy (c .before .row .
 
 pub put-cue-spec : {M : Type 1} → statement M
 put-cue-spec = tie.close (tie.spec
-    (λ c κs. search needs)
-    (λ c. search needs)
-    (λ c. search needs)
-    (λ c. search needs)
-    (λ c. search needs)
-    (λ c. search needs)
+    (λ c κs. search needs) (λ c. search needs) (λ c. search needs) (λ c. search needs)
+    (λ c. search needs) (λ c. search needs)
     returns
     (λ c. search needs)
     returns-2)

@@ -7,7 +7,7 @@ use lib.ListN.{length, take}
 use lib.Seq.{take-all}
 use borrow.Author.Needs.{needs}
 use Rattle.rules.specs.Blocks.{kindsOf}
-use Rattle.rules.specs.Season.{cueOf, cuesOf}
+use Rattle.rules_season.specs.Season.{cueOf, cuesOf}
 use Rattle.rules.proofs.Laws.{kinds-first, kind-of}
 use Rattle.report_pieces.specs.Pieces.{Wrote}
 use Rattle.report_pieces.proofs.Laws.{wrote-nothing}
@@ -55,11 +55,9 @@ put-cues-spec = tie.close (tie.spec
     Inv-loop
     μ-loop
     loop-holds
-    (λ c. search needs)
-    (λ c. search needs)
+    (λ c. search needs) (λ c. search needs)
     (λ c κs. omega (arith, c .before .before .before .loop .inv .1, c .before .before .before .loop .inv .2, c .before .before .loop-test .taken, c .before .before .before .before .before .pre .1))
-    (λ c. search needs)
-    (λ c. search needs)
+    (λ c. search needs) (λ c. search needs)
     loop-again
     (λ c. c .before .loop .inv .2)
     returns)

@@ -30,13 +30,10 @@ returns-2 c =
 
 pub measure-spec : {M : Type 1} → statement M
 measure-spec = tie.close (tie.spec
-    (λ c κs. search needs)
-    (λ c. search needs)
+    (λ c κs. search needs) (λ c. search needs)
     put-cues-requires
     (λ c. search needs)
     measure-script-requires
-    (λ c. search needs)
-    (λ c. search needs)
-    (λ c. search needs)
+    (λ c. search needs) (λ c. search needs) (λ c. search needs)
     returns
     returns-2)

@@ -39,10 +39,8 @@ same-cues-spec = tie.close (tie.spec
     (λ c. (c .if1 .left, refl))
     (λ c. search needs)
     (λ c. omega (arith, c .before .before .loop .inv .0))
-    (λ c. search needs)
-    (λ c. search needs)
+    (λ c. search needs) (λ c. search needs)
     returns-2
-    (λ c. search needs)
-    (λ c. search needs)
+    (λ c. search needs) (λ c. search needs)
     loop-again
     returns-3)

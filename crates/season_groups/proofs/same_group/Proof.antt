@@ -3,7 +3,7 @@ use mathlib.Core.Path.{_≡_, sym, ap, _∙_}
 use mathlib.Core.Bool.{_&&_}
 use borrow.Author.Needs.{needs}
 use Rattle.rules.specs.Text.{equals}
-use Rattle.rules.specs.Season.{cuesOf, sameReport, sameGroup}
+use Rattle.rules_season.specs.Season.{cuesOf, sameReport, sameGroup}
 use Rattle.season_groups.proofs.same_group.Statement.{statement}
 use Rattle.season_groups.proofs.same_group.Tie as tie
 

@@ -3,7 +3,7 @@ use mathlib.Core.Path.{_≡_, sym, ap, _∙_}
 use Prim.Native.Nat.{_+_}
 use native.Mathlib.Omega.{arith}
 use borrow.Author.Needs.{needs}
-use Rattle.rules.specs.Season.{namesOf}
+use Rattle.rules_season.specs.Season.{namesOf}
 use Rattle.season_names.proofs.Laws.{too-many, names-are, listed-none, listed-all}
 use Rattle.season_names.proofs.count.Statement.{statement}
 use Rattle.season_names.proofs.count.Tie as tie

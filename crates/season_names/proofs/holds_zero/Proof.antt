@@ -6,7 +6,7 @@ use native.Mathlib.Omega.{arith}
 use lib.ListN.{length, drop}
 use borrow.Author.Needs.{needs}
 use borrow.Author.Tests.{eq-eqb, ne-eqb}
-use Rattle.rules.specs.Season.{holdsZero}
+use Rattle.rules_season.specs.Season.{holdsZero}
 use Rattle.season_names.proofs.Laws.{zero-here, zero-later, zero-none}
 use Rattle.season_names.proofs.holds_zero.Statement.{statement}
 use Rattle.season_names.proofs.holds_zero.Tie as tie

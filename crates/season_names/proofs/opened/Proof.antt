@@ -2,7 +2,7 @@
 use mathlib.Core.Path.{_≡_, refl, sym, ap, _∙_}
 use native.Mathlib.Omega.{arith}
 use borrow.Author.Needs.{needs}
-use Rattle.rules.specs.Season.{opens}
+use Rattle.rules_season.specs.Season.{opens}
 use Rattle.season_names.proofs.Laws.{opened-none, opened-all, name-size, name-long, name-kept, name-room, bytes-are}
 use Rattle.season_names.proofs.opened.Statement.{statement}
 use Rattle.season_names.proofs.opened.Tie as tie

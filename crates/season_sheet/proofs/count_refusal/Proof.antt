@@ -13,10 +13,8 @@ returns-2 c = not-counted _ _ (c .before .pre .0) (c .if1 .left)
 
 pub count-refusal-spec : {M : Type 1} → statement M
 count-refusal-spec = tie.close (tie.spec
-    (λ c. search needs)
-    (λ c. search needs)
+    (λ c. search needs) (λ c. search needs)
     (λ c. omega (arith, c .before .before .pre .1 (c .before .before .args .number) (c .before .if1 .taken)))
-    (λ c. search needs)
-    (λ c. search needs)
+    (λ c. search needs) (λ c. search needs)
     returns
     returns-2)

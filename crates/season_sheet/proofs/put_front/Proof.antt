@@ -5,8 +5,8 @@ use mathlib.Core.Path.{_≡_}
 use Prim.Native.Nat.{_≤_}
 use lib.ListN.{length, length-append, length-drop}
 use Rattle.rules.specs.Report.{keyLine}
-use Rattle.rules.specs.Season.{acceptedKey, refusedKey}
-use Rattle.rules.proofs.Longest.{key-short}
+use Rattle.rules_season.specs.Season.{acceptedKey, refusedKey}
+use Rattle.rules.proofs.LongestReport.{key-short}
 use Rattle.report_pieces.proofs.Laws.{wrote-then, wrote-length, part-rest}
 use Rattle.season_sheet.specs.Figures.{frontText}
 use Rattle.season_sheet.proofs.put_front.Statement.{statement}

@@ -3,7 +3,7 @@ use borrow.Author.Needs.{needs}
 use native.Mathlib.Omega.{arith}
 use mathlib.Core.Path.{refl}
 use mathlib.Core.List.{[], _∷_, _++_}
-use Rattle.rules.specs.Season.{refusedWord}
+use Rattle.rules_season.specs.Season.{refusedWord}
 use Rattle.report_pieces.proofs.Laws.{wrote-nothing}
 use Rattle.season_sheet.proofs.Texts.{pair-short, met-none, met-some}
 use Rattle.season_sheet.proofs.put_met.Statement.{statement}

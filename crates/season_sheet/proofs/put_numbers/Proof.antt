@@ -26,15 +26,13 @@ put-numbers-spec = tie.close (tie.spec
     Inv-loop
     μ-loop
     (λ c. numbering-none _ _)
-    (λ c. search needs)
-    (λ c. search needs)
+    (λ c. search needs) (λ c. search needs)
     (λ c. omega (arith, c .before .before .loop .inv .small, c .before .before .loop .inv .same, c .before .before .before .before .pre))
     (λ c. omega (arith, c .before .before .loop .inv .small, c .before .before .loop .inv .same, c .before .before .before .before .pre))
     (λ c. search needs)
     (λ c κs. simp (part-rest, length-drop) (omega (arith, c .before .before .before .loop .inv .small, c .before .before .before .loop .inv .same, c .before .before .before .before .before .pre)))
     (λ c. omega (arith, c .before .before .before .before .before .before .loop .inv .small, c .before .before .before .before .before .before .before .before .pre, c .before .before .put-met .ensures .count, numbering-more _ _ _ _ _ _ _ (c .before .before .before .before .before .before .loop .inv) (c .before .before .before .before .before .loop-test .taken) (c .before .before .before .before .before .before .before .before .pre) (c .before .before .put-met .ensures) .small))
-    (λ c. search needs)
-    (λ c. search needs)
+    (λ c. search needs) (λ c. search needs)
     loop-again
     (λ c. c .before .loop .inv .same)
     returns)

@@ -6,7 +6,7 @@ use mathlib.Core.List.{[], _∷_}
 use Prim.Native.Nat.{_≤_}
 use lib.ListN.{length, length-drop}
 use Rattle.rules.specs.Report.{joined, keyLine, ticksKey}
-use Rattle.rules.specs.Season.{greatestKey, groupsKey}
+use Rattle.rules_season.specs.Season.{greatestKey, groupsKey}
 use Rattle.report_pieces.proofs.Laws.{first-room, second-room, third-room, third-written, writing-all, part-rest}
 use Rattle.season_sheet.specs.Figures.{tailText}
 use Rattle.season_sheet.proofs.Texts.{tail-short}

@@ -33,10 +33,7 @@ pub come-to-spec : {M : Type 1} → statement M
 come-to-spec =
     tie.close
     (tie.spec
-    (λ c. search needs)
-    (λ c. search needs)
-    (λ c. search needs)
-    (λ c. search needs)
+    (λ c. search needs) (λ c. search needs) (λ c. search needs) (λ c. search needs)
     value-in-requires
     returns
     cast-result

@@ -4,12 +4,12 @@ use denote.Ref.{now}
 use borrow.Author.Needs.{needs}
 use native.Mathlib.Omega.{arith}
 use Rattle.explain_margin.specs.Places.{LineOf}
-use Rattle.explain_margin.specs.declared.place.Found.the-variants.{At}
+use Rattle.explain_margin.specs.declared.place.LinePlace.the-variants.{At}
 use Rattle.explain.proofs.show.print_line.Statement.{statement}
 use Rattle.explain.proofs.show.print_line.Tie as tie
 
-sub-least : tie.Need-sub-least
-sub-least c =
+sub-smaller-size : tie.Need-sub-smaller-size
+sub-smaller-size c =
     let h : LineOf (now (c .before .before .before .before .before .args .file)) (c .before .before .before .before .before .args .k) (At (c .before .line .given .0 .0) (c .before .line .given .0 .1 .0)) = subst (LineOf _ _) (c .before .line .given .1) (c .before .before .before .line-of .ensures) in
     omega (arith, h .0)
 
@@ -34,4 +34,4 @@ part-print-wrapped-end c =
     omega (arith, h .1)
 
 pub print-line-spec : {M : Type 1} → statement M
-print-line-spec = tie.close (tie.spec (λ c κs. search needs) (λ c. search needs) sub-least (λ c κs. search needs) add-from sub-print-wrapped part-print-wrapped-start part-print-wrapped-end (λ c κs. search needs) (λ c. search needs) (λ c. search needs) (λ c κs. search needs) (λ c. search needs) (λ c. search needs))
+print-line-spec = tie.close (tie.spec (λ c κs. search needs) (λ c. search needs) sub-smaller-size (λ c κs. search needs) add-from sub-print-wrapped part-print-wrapped-start part-print-wrapped-end (λ c κs. search needs) (λ c. search needs) (λ c. search needs) (λ c κs. search needs) (λ c. search needs) (λ c. search needs))

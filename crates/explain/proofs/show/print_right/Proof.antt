@@ -1,6 +1,6 @@
 -- `explain::show::print_right` is safe. Assumes nothing.
 use borrow.Author.Needs.{needs}
-use Rattle.rules.proofs.Longest.{decimal-short}
+use Rattle.rules.proofs.LongestReport.{decimal-short}
 use Rattle.explain.proofs.show.print_right.Statement.{statement}
 use Rattle.explain.proofs.show.print_right.Tie as tie
 

@@ -1,7 +1,7 @@
 -- `explain_margin::columns::column` meets its contract. Assumes nothing.
 use native.Mathlib.Omega.{arith}
 use borrow.Author.Needs.{needs}
-use Rattle.rules.proofs.Longest.{decimal-short}
+use Rattle.rules.proofs.LongestReport.{decimal-short}
 use Rattle.explain_margin.proofs.columns.column.Statement.{statement}
 use Rattle.explain_margin.proofs.columns.column.Tie as tie
 

@@ -22,12 +22,12 @@ loop-holds c = (omega arith, refl, refl)
 loop-again : tie.Need-loop-again Inv-loop μ-loop
 loop-again c =
     let l = c .before .before .before .loop in
-    (omega arith, search needs, shown-more _ _ _ _ _ (omega (arith, c .before .before .before .before .least .ensures)) (omega (arith, c .before .before .before .before .least .ensures)) (l .inv .2) (c .shown .ensures))
+    (omega arith, search needs, shown-more _ _ _ _ _ (omega (arith, c .before .before .before .before .smaller-size .ensures)) (omega (arith, c .before .before .before .before .smaller-size .ensures)) (l .inv .2) (c .shown .ensures))
 
 returns : tie.Need-returns Inv-loop μ-loop
 returns c =
     let l = c .before .loop in
-    let n = c .before .before .least in
+    let n = c .before .before .smaller-size in
     let same : l .i ≡ n .result = omega (arith, c .loop-test .left) in
     record { count = n .ensures; shown = rw (sym same) (l .inv .2) }
 

@@ -7,19 +7,13 @@ use Rattle.program_parts.proofs.script.rehearse_file.Statement.{stateme
 use Rattle.program_parts.proofs.script.rehearse_file.Tie as tie
 
 slice-aggregate-run-allowed : tie.Need-slice-aggregate-run-allowed
-slice-aggregate-run-allowed c = sym (length-take-le _ _ (omega (arith, c .before .least .ensures)))
+slice-aggregate-run-allowed c = sym (length-take-le _ _ (omega (arith, c .before .smaller-size .ensures)))
 
 pub rehearse-file-spec : {M : Type 1} → statement M
 rehearse-file-spec =
     tie.close
     (tie.spec
-    (λ c. search needs)
-    (λ c κs. search needs)
-    (λ c. search needs)
+    (λ c. search needs) (λ c κs. search needs) (λ c. search needs)
     slice-aggregate-run-allowed
-    (λ c κs. search needs)
-    (λ c. search needs)
-    (λ c κs. search needs)
-    (λ c. search needs)
-    (λ c. search needs)
-    (λ c. search needs))
+    (λ c κs. search needs) (λ c. search needs) (λ c κs. search needs) (λ c. search needs)
+    (λ c. search needs) (λ c. search needs))

@@ -1,0 +1,5 @@
+-- The laws that belong to no one function.
+pub mod Answers
+pub mod Moves
+pub mod Products
+pub mod Small

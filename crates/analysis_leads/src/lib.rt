@@ -1,0 +1,54 @@
+// The turns of a loop with what comes before its first counted test.
+use analysis_intervals::Interval;
+use analysis_trips::Lead;
+use rules::Comparison;
+ghost use mathlib.Core.Path.{_≡_};
+ghost use Prim.Native.Nat.{_≤_};
+ghost use Rattle.rules.specs.Ranges.{sort};
+ghost use Rattle.rules.specs.Trips.{misses, isZero, led};
+ghost use Rattle.analysis_intervals.specs.Env as env;
+ghost use Rattle.analysis_trips.specs.Found.{leadOf};
+
+// Does even the best start fail the test?
+fn misses(comparison: Comparison, s: Interval, e: i64) -> bool
+    ensures { λ r. ⌜ r ≡ misses (sort comparison) (env.rangeOf s) e ⌝ }
+{
+    let lo = s.lo as i64;
+    let hi = s.hi as i64;
+    match comparison {
+        Comparison::Less => e < lo,
+        Comparison::AtMost => e < lo,
+        Comparison::Greater => hi < e,
+        Comparison::AtLeast => hi < e,
+        Comparison::Equal => false,
+        Comparison::Different => false,
+    }
+}
+
+// [0, 0]
+fn is_zero(s: Interval) -> bool
+    ensures { λ r. ⌜ r ≡ isZero (env.rangeOf s) ⌝ }
+{
+    let lo = s.lo;
+    let hi = s.hi;
+    if lo == 0 { hi == 0 } else { false }
+}
+
+// The turns from the first counted test on, with what comes before it.
+pub fn led(lead: Lead, comparison: Comparison, e: i64, more: u64) -> u64
+    requires { ⌜ more ≤ 2_048_000_000_001 ⌝ }
+    ensures { λ r. ⌜ r ≡ led (leadOf lead) (sort comparison) e more ⌝ }
+{
+    match lead {
+        Lead::Nothing => more,
+        Lead::Untested => more + 1,
+        Lead::Tries(s) => {
+            if misses(comparison, s, e) {
+                0
+            } else {
+                more + 1
+            }
+        }
+        Lead::Flag(s) => { if is_zero(s) { 0 } else { more + 1 } }
+    }
+}

@@ -1,0 +1,2 @@
+-- Laws of joined steps.
+pub mod Ends

@@ -1,0 +1,10 @@
+-- `min_max::lower_end` meets its contract.
+use mathlib.Core.Bool.{true, false}
+use Rattle.ints.proofs.Parts.{by-le}
+use Rattle.min_max.proofs.lower_end.Statement.{statement}
+use Rattle.min_max.proofs.lower_end.Tie as tie
+
+pub lower-end-spec : {M : Type 1} → statement M
+lower-end-spec =
+    tie.close
+    (tie.spec (λ c. by-le true (c .before .fits .a) (c .before .fits .b) (c .if1 .taken) .0) (λ c. by-le false (c .before .fits .a) (c .before .fits .b) (c .if1 .left) .0))

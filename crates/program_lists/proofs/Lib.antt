@@ -1,0 +1,5 @@
+-- The laws that belong to no one function.
+pub mod Pieces
+pub mod Lists
+pub mod Words
+pub mod Examples

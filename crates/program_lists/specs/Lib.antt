@@ -1,0 +1,2 @@
+-- What lists of numbers say.
+pub mod Lists

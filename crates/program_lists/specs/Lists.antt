@@ -1,0 +1,66 @@
+-- Lists of numbers as words: the four prices of a run, `prices=A,C,P,T`, and the values of a store, with a separator between them.
+use mathlib.Core.Bool.{Bool, true, false, cond, _&&_}
+use mathlib.Core.List.{List, [], _∷_}
+use Prim.Native.Nat.{ℕ, suc, _-_}
+use lib.Dec.{eqb}
+use lib.IntN.{ℤ}
+use lib.ListN.{length, getD, take, drop}
+use Rattle.rules.specs.Text.{space, minus, split, startsWith, equals}
+use Rattle.program_words.specs.Words.{numberIn, isPrice, pricedIn, valueIn, isValue, keptIn}
+use Rattle.program_lists.specs.declared.Lent as lents
+use Rattle.program_lists.specs.declared.Values as counts
+
+-- `,`
+abbrev pub comma : ℕ
+comma = 44
+
+-- `prices=`
+abbrev pub pricesKey : List ℕ
+pricesKey = 112 ∷ 114 ∷ 105 ∷ 99 ∷ 101 ∷ 115 ∷ 61 ∷ []
+
+-- whether each word is a price
+unfoldable pub allPrices : List (List ℕ) → Bool
+allPrices [] = true
+allPrices (w ∷ ws) = cond (isPrice (numberIn w)) (allPrices ws) false
+
+-- whether words are four prices
+unfoldable pub fourPrices : List (List ℕ) → Bool
+fourPrices ws = eqb (length ws) 4 && allPrices ws
+
+-- prices with those of words from a place on, up to the first word that is none
+unfoldable pub pricesKept : List (List ℕ) → ℕ → List ℕ → List ℕ
+pricesKept [] at prices = prices
+pricesKept (w ∷ ws) at prices = cond (isPrice (numberIn w)) (pricesKept ws (suc at) (pricedIn (numberIn w) prices at)) prices
+
+-- what a first word says of the prices: `prices=` and four prices with commas between them
+unfoldable pub lentIn : List ℕ → lents.Lent
+lentIn word =
+    cond (startsWith pricesKey word)
+    (cond (fourPrices (split comma (drop 7 word))) lents.the-variants.Four lents.the-variants.Malformed)
+    lents.the-variants.Nothing
+
+-- the prices after that word
+unfoldable pub lentPrices : List ℕ → List ℕ → List ℕ
+lentPrices word prices = cond (startsWith pricesKey word) (pricesKept (split comma (drop 7 word)) 0 prices) prices
+
+-- how many words are values, after n that are; or the index of the first that is none
+unfoldable pub valuesIn : ℕ → List (List ℕ) → counts.Values
+valuesIn n [] = counts.the-variants.Count n
+valuesIn n (w ∷ ws) = cond (isValue (valueIn w)) (valuesIn (suc n) ws) (counts.the-variants.Wrong n)
+
+-- a store with the values of words from a place on, up to the first word that is none
+unfoldable pub valuesKept : List (List ℕ) → ℕ → List ℤ → List ℤ
+valuesKept [] at store = store
+valuesKept (w ∷ ws) at store = cond (isValue (valueIn w)) (valuesKept ws (suc at) (keptIn (valueIn w) store at)) store
+
+-- a text without the space that ends it
+unfoldable pub untilSpace : List ℕ → List ℕ
+untilSpace s = cond (eqb (getD s (length s - 1) 0) space) (take (length s - 1) s) s
+
+-- the words that end a line: none of an empty text, and a space may stand after the last
+unfoldable pub lineWords : List ℕ → List (List ℕ)
+lineWords s = cond (eqb (length s) 0) [] (split space (untilSpace s))
+
+-- the words of one word with commas between them: none of `-`
+unfoldable pub commaWords : List ℕ → List (List ℕ)
+commaWords w = cond (equals (minus ∷ []) w) [] (split comma w)

@@ -1,0 +1,3 @@
+-- Laws of the lines before the rows, one after the other.
+pub mod Fill
+mod Heads

@@ -1,0 +1,3 @@
+-- Laws of the lines before the rows.
+pub mod Lines
+mod Counts

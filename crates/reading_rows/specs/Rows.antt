@@ -1,0 +1,63 @@
+-- What a row's line reads.
+use mathlib.Core.Path.{_≡_}
+use mathlib.Core.List.{List}
+use Prim.Native.Nat.{ℕ, zero, suc, _+_}
+use lib.ListN.{drop}
+use Rattle.rules.specs.declared.Word.{Word}
+use Rattle.rules.specs.declared.Word.the-variants.{Missing}
+use Rattle.rules.specs.declared.Kind.{Kind}
+use Rattle.rules.specs.Blocks.{kindOf}
+use Rattle.rules.specs.Parse.{Parsed, shapeless, parse}
+use Rattle.rules.specs.Written.{Written}
+use Rattle.rules.specs.File.{RowRead, Read, Wrong}
+use Rattle.reading_text.specs.Words.{before, cutWord, following, spelling}
+use Rattle.reading_rows.specs.declared.Line.{Line}
+
+-- the word x, and the words after a text's first byte, their numbers cut off
+abbrev pub after : Word → List ℕ → ℕ → Word
+after x s zero = x
+after x s (suc k) = cutWord (following s k)
+
+-- what is read of those words as expressions
+abbrev pub exprs : Parsed → List ℕ → ℕ → Parsed
+exprs p s zero = p
+exprs p s (suc k) = parse (spelling s k)
+
+-- a row without words after its name
+abbrev pub Bare : Kind → Type 0
+Bare Kind.End = Unit {0}
+Bare Kind.Else = Unit {0}
+Bare Kind.Pick = Unit {0}
+Bare (Kind.Set v x) = ⊥
+Bare (Kind.Move v c) = ⊥
+Bare (Kind.Off v w c k) = ⊥
+Bare (Kind.Cue n) = ⊥
+Bare (Kind.While v c x) = ⊥
+Bare (Kind.Do v c x) = ⊥
+Bare (Kind.For v s c x d) = ⊥
+Bare (Kind.Hold v) = ⊥
+
+-- what a line stands for, beside the file's text
+abbrev pub readOf : List ℕ → Line → RowRead
+readOf file (Line.Read k end) = Read (kindOf file k)
+readOf file (Line.Wrong q) = Wrong q
+
+-- its row's expressions stand in the file
+abbrev pub WrittenLine : List ℕ → Line → Type 0
+WrittenLine file (Line.Read k end) = Written file k
+WrittenLine file (Line.Wrong q) = Unit {0}
+
+-- a row that is read has `end`, the byte of its line's LF
+abbrev pub EndsAt : ℕ → Line → Type 0
+EndsAt n (Line.Read k end) = end ≡ n
+EndsAt n (Line.Wrong q) = Unit {0}
+
+-- what is read of a line of the text s, which begins at a file's byte `base`: this row, and the line's end
+pub record Rowed (s : List ℕ) (base : ℕ) (row : RowRead) (end : ℕ) (r : Line) : Type 0 where
+  pub line : (file : List ℕ) → drop base file ≡ s → readOf file r ≡ row
+  pub written : (file : List ℕ) → drop base file ≡ s → WrittenLine file r
+  pub ends : EndsAt end r
+
+-- the words after the first are read as f says; the line ends at its LF
+abbrev pub WordsRead : List ℕ → ℕ → ℕ → ((ℕ → Word) → (ℕ → Parsed) → RowRead) → Line → Type 0
+WordsRead s at base f r = Rowed s base (f (after Missing (drop at s)) (exprs shapeless (drop at s))) (at + before 10 (drop at s)) r

@@ -1,0 +1,2 @@
+-- Laws of one word.
+pub mod Laws

@@ -1,0 +1,2 @@
+-- What the contracts on one word cite.
+pub mod Words

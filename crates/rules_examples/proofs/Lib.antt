@@ -1,0 +1,2 @@
+-- Examples that take long to compute.
+pub mod ManyTurns

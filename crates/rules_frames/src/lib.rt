@@ -1,0 +1,1 @@
+// Several scripts in one frame: definitions in specs/, laws in proofs/. It has no code.

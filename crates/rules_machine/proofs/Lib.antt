@@ -1,0 +1,7 @@
+-- The machine over the rows does what the run does; a run with more or fewer ticks.
+pub mod Fewer
+pub mod RunMore
+pub mod RowMachineRuns
+pub mod PairsIn
+pub mod RunCapped
+pub mod Examples

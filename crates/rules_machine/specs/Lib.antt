@@ -1,0 +1,2 @@
+-- The run as a machine over the rows.
+pub mod RowMachine

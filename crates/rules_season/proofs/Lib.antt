@@ -1,0 +1,3 @@
+-- Laws of the season sheet, and examples.
+pub mod GroupsExact
+pub mod Examples

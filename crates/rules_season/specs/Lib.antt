@@ -1,0 +1,2 @@
+-- The season sheet of many files.
+pub mod Season

@@ -1,0 +1,3 @@
+-- Laws of joined steps.
+pub mod Near
+pub mod Joining

@@ -1,0 +1,3 @@
+-- The step of a variable.
+pub mod Joins
+pub mod Ends
