@@ -8,7 +8,7 @@ use borrow.Author.Tests.{ltb-true}
 use lib.Dec.{ltb}
 use lib.ListN.{length, drop}
 use lib.Seq.{drop-cons, drop-length}
-use Rattle.rules.specs.Blocks.{RowKind, End, Plain, Test, Form, Last, no-step, step-by, View, is-plain, is-pick, is-else, is-end, is-loop, viewOf, viewAt, withLast, Block, done, plain, pick, loop, Part, to-end, to-else, Built, parts, misfit, inFront, loopHead, pickHead, plainRow, closes, onRow, build}
+use Rattle.rules.specs.Blocks.{RowKind, End, Plain, Test, Form, Last, no-step, step-by, View, is-plain, is-pick, is-else, is-end, is-loop, viewOf, viewAt, withLast, Block, done, plain, pick, loop, Part, to-end, to-else, Built, parts, misfit, inFront, loopHead, pickHead, plainRow, closes, builtRow, build}
 use Rattle.rules.specs.Nesting.{Open, in-loop, in-pick, in-else, Nest, Nested, nested, wrong, nest, opens, elses, ends, nestRow, andRows, nestRows}
 use Rattle.rules.proofs.Rows.{partsAt, parts-row, parts-last, no-misfit}
 use Rattle.rules.proofs.TreeOf.{wrong-not}
@@ -78,8 +78,8 @@ unfolding closes builtLoops restLoops
 close-loops new h (parts p ps) = omega arith
 close-loops new h misfit = refl
 
-row-loops : (w : View) (i : ℕ) (b : Built) → (onRow w i b ≡ misfit → ⊥) → builtLoops (onRow w i b) ≡ oneIfLoop w + builtLoops b
-unfolding onRow loopCount
+row-loops : (w : View) (i : ℕ) (b : Built) → (builtRow w i b ≡ misfit → ⊥) → builtLoops (builtRow w i b) ≡ oneIfLoop w + builtLoops b
+unfolding builtRow loopCount
 row-loops (is-plain p) i b h = omega (arith, plain-loops i p b)
 row-loops is-pick i b h = omega (arith, pick-loops i b h)
 row-loops is-else i b h = omega (arith, close-loops (to-else i done) refl b)

@@ -23,7 +23,9 @@ use Rattle.analysis_ticks.specs.Capped.{capped}
 use Rattle.analysis_ticks.proofs.Caps.{cap-mul}
 use Rattle.analysis_passes.specs.declared.Round.{Round}
 use Rattle.analysis_passes.specs.Rounds.{roundOf, passIn}
-use Rattle.analysis.specs.Fold.{loopCount, frontOf, restOf, cappedLine, cappedLines, State, folded, lastPrice}
+use Rattle.analysis_tallies.specs.Tallies.{FoldState, lastPrice}
+use Rattle.analysis.specs.Fold.{loopCount, frontOf, restOf, cappedLine, cappedLines, folded}
+use Rattle.analysis_tallies.proofs.Laws.{state-is}
 
 -- ---- verdicts one after the other
 pub then-passed : (v : Verdict) → andThen v passed ≡ v
@@ -134,10 +136,7 @@ later-in r kept f = by (r .known) kept
     by false p = refl
 
 -- ---- states
-pub state-is : {x y : State} → x .env ≡ y .env → x .kept ≡ y .kept → x .verdict ≡ y .verdict → x .spent ≡ y .spent → x .over ≡ y .over → x .lines ≡ y .lines → x .loops ≡ y .loops → x ≡ y
-state-is a k b c d e f = λ j. record { env = a j; kept = k j; verdict = b j; spent = c j; over = d j; lines = e j; loops = f j }
-
-module _ (π : Prices) (r : Round) (x : State) where
+module _ (π : Prices) (r : Round) (x : FoldState) where
   abbrev K : Pass
   K = passIn r (x .kept)
 
@@ -147,7 +146,7 @@ module _ (π : Prices) (r : Round) (x : State) where
       state-is refl (kept-none (x .kept)) (then-passed (x .verdict)) (omega (arith, over-same K (r .by) (r .count) 0)) (then-passed (x .over)) (append-none (x .lines)) (omega arith)
 
   -- past a plain row
-  abbrev pub pastPlain : Plain → State
+  abbrev pub pastPlain : Plain → FoldState
   pastPlain p = record { env = afterRow (x .env) p; kept = x .kept && not (sets (r .v) p); verdict = x .verdict; spent = capped (x .spent + r .count * price π p); over = x .over; lines = x .lines; loops = x .loops }
 
   pub fold-plain : (i : ℕ) (p : Plain) (rest : Block) → folded π r x (plain i p rest) ≡ folded π r (pastPlain p) rest
@@ -169,7 +168,7 @@ module _ (π : Prices) (r : Round) (x : State) where
   abbrev pub pickTicks : Block → Block → ℕ
   pickTicks a b = π .pick + max (ticks π any (x .env) a) (ticks π any (x .env) b)
 
-  abbrev pub pastPick : ℕ → Block → Block → State
+  abbrev pub pastPick : ℕ → Block → Block → FoldState
   pastPick e a b = record {
     env = join (after (x .env) a) (after (x .env) b);
     kept = (x .kept && not (assigns (r .v) a)) && not (assigns (r .v) b);
@@ -223,7 +222,7 @@ module _ (π : Prices) (r : Round) (x : State) where
     abbrev pub allTicks : ℕ
     allTicks = sumOver K (r .by) (r .count) (λ j. loopTicks π form (overPasses (startPass form test j) form (atStart form test (x .env)) test body turnTicks))
 
-    abbrev pub pastLoop : State
+    abbrev pub pastLoop : FoldState
     pastLoop = record {
       env = outside form σ test body;
       kept = (x .kept && not (starts (r .v) form test)) && not (assigns (r .v) body);
@@ -257,7 +256,7 @@ module _ (π : Prices) (r : Round) (x : State) where
         (omega arith)
 
 -- ---- the first row or block alone, then the rest
-module _ (π : Prices) (r : Round) (x : State) where
+module _ (π : Prices) (r : Round) (x : FoldState) where
   first-plain : (i : ℕ) (p : Plain) → folded π r x (plain i p done) ≡ pastPlain π r x p
   first-plain i p = fold-plain π r x i p done ∙ fold-none π r (pastPlain π r x p) (omega arith)
 

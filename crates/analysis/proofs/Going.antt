@@ -1,7 +1,7 @@
 -- The analysis' walk, row by row: what the code carries is what the fold carries.
 use mathlib.Core.Path.{_≡_, refl, sym, ap, ap₂, subst, _∙_, fun-ext}
 use mathlib.Core.Logic.{inl, inr}
-use mathlib.Core.Bool.{Bool, true, false, not, cond, _&&_}
+use mathlib.Core.Bool.{Bool, false, not, cond, _&&_}
 use mathlib.Core.List.{List, [], _∷_, _++_}
 use Prim.Native.Nat.{ℕ, _+_, _*_, _≤_, _<_, max}
 use native.Mathlib.Omega.{arith}
@@ -9,24 +9,22 @@ use native.Mathlib.Nat.{mul-le-mul}
 use lib.Dec.{leb}
 use lib.IntN.{ℤ, pos}
 use Rattle.rules.specs.declared.Row.{Row}
-use Rattle.rules.specs.declared.Kind.{Kind}
-use Rattle.rules.specs.declared.Kind.the-variants.{Set, Move, Cue, Pick, Else, End, While, Do, For, Off, Hold}
 use Rattle.rules.proofs.Kind.{the-type}
 use types.Run.{OneOf, miss}
 use denote.Enum.Declared.{tagOf}
-use Rattle.rules.specs.Blocks.{Plain, assign, cue, Test, Form, Last, no-step, step-by, viewOf, kindOf, Block, pick}
+use Rattle.rules.specs.Blocks.{Plain, Test, Form, Block, pick}
 use Rattle.rules.specs.Steps.{starts, assigns}
 use Rattle.rules.specs.Ranges.{Env, full, afterRow, join, atStart}
 use Rattle.rules.specs.Trips.{Trip, trip, turns, inside, outside, after}
 use Rattle.rules.specs.Bounds.{FinePrices}
 use Rattle.rules.specs.declared.Prices.{Prices}
 use Rattle.rules.specs.Passes.{Pass, any, startPass, sumOver, sums, firstPass, overPasses}
-use Rattle.rules.specs.Figures.{price, ticks, Line, alike, often, totalOf, inBody, line, lines}
+use Rattle.rules.specs.Figures.{ticks, Line, alike, often, totalOf, inBody, line, lines}
 use Rattle.rules.proofs.Triangles.{over-same, over-past}
 use Rattle.rules.proofs.Walk.{over-add, over-once, turnsWalk, passes-walk}
 use Rattle.rules.specs.declared.Verdict.{Verdict}
 use Rattle.rules.specs.declared.Verdict.the-variants.{Passed as passed, Refused as refused}
-use Rattle.rules.specs.Questions.{andThen, asked, tickLimit, ofTrip, loopsVerdict, blocksVerdict, loopVerdict}
+use Rattle.rules.specs.Questions.{andThen, asked, tickLimit, ofTrip, loopsVerdict, blocksVerdict}
 use Rattle.analysis_table.specs.declared.Shape.{Shape}
 use Rattle.analysis_table.proofs.Shape as shapes
 use lib.ListN.{length}
@@ -44,11 +42,14 @@ use Rattle.analysis_ticks.proofs.Caps.{cap-mul, loop-ticks-is}
 use Rattle.analysis_passes.specs.declared.Round.{Round}
 use Rattle.analysis_passes.specs.Rounds.{roundOf, passIn, FineRound, branchOf}
 use Rattle.analysis_passes.proofs.Loops.{walk-is}
-use Rattle.analysis.specs.declared.Entered.{Entered}
-use Rattle.analysis.specs.Enter.{walkedAt, Entry}
-use Rattle.analysis.specs.Fold.{loopCount, frontOf, restOf, cappedLine, cappedLines, State, TallyLines, folded, tallied, lastPrice, lastTicks, lineFor, Restarted, PastRow, LineAdded, BlockClosed, EndedAt, Walkable, Passed, Analysed, IsBlock, PassedBlock}
-use Rattle.analysis.proofs.Folding.{state-is, cap-lines, later-in, fold-plain, first-pick, first-loop, fold-first, pastPlain, pickTicks, pastPick, ownTicks, allTicks, pastLoop, SameBody, same-body}
+use Rattle.analysis_entries.specs.declared.LoopEntry.{LoopEntry}
+use Rattle.analysis_entries.specs.Enter.{walkedAt, EntryPassed}
+use Rattle.analysis_tallies.specs.Tallies.{FoldState, TallyLines, tallied, lastTicks, lineFor, Restarted, PastRow, LineAdded, BlockClosed, EndedAt}
+use Rattle.analysis.specs.Fold.{loopCount, frontOf, restOf, cappedLine, cappedLines, folded, Walkable, PassedPart, Analysed, IsBlock, PassedBlock}
+use Rattle.analysis_tallies.proofs.Laws.{state-is}
+use Rattle.analysis.proofs.Folding.{cap-lines, later-in, fold-plain, first-pick, first-loop, fold-first, pastPlain, pickTicks, pastPick, ownTicks, allTicks, pastLoop, SameBody, same-body}
 use Rattle.analysis.proofs.Bodies.{body-known, body-sum, body-lines, own-passes, cap-often}
+use Rattle.analysis_tallies.proofs.Laws.{last-small}
 
 -- what a walk over a block found, part by part, from a tally with these parts
 pub record Part (π : Prices) (q : Round) (k : Bool) (ρ : Env) (s : ℕ) (o : Verdict) (ls : List Line) (n : ℕ) (b : Block) (r : TallyLines) : Type 0 where
@@ -60,22 +61,22 @@ pub record Part (π : Prices) (q : Round) (k : Bool) (ρ : Env) (s : ℕ) (o : V
   pub count : r .loops ≡ n + loopCount b
   pub long : length (r .lines) ≡ 16
 
-abbrev pub from-parts : Env → Bool → ℕ → Verdict → List Line → ℕ → State
+abbrev pub from-parts : Env → Bool → ℕ → Verdict → List Line → ℕ → FoldState
 from-parts ρ k s o ls n = record { env = ρ; kept = k; verdict = passed; spent = s; over = o; lines = ls; loops = n }
 
 pub part-of : {text : List ℕ} {π : Prices} {rows : List Row} {count at : ℕ} {q : Round} {ρ : Env} {t r : TallyLines} (k : Bool) (s : ℕ) (o : Verdict) (ls : List Line) (n : ℕ) → tallied t ρ ≡ from-parts ρ k s o ls n
-    → Passed text π rows count at ρ q t r → Part π q k ρ s o ls n (blockAt text rows count at) r
+    → PassedPart text π rows count at ρ q t r → Part π q k ρ s o ls n (blockAt text rows count at) r
 unfolding folded andThen
 part-of {text} {π} {rows} {count} {at} {q} {ρ} {t} {r} k s o ls n e p =
     let b = blockAt text rows count at in
     let v : tallied r (after ρ b) ≡ folded π q (from-parts ρ k s o ls n) b = p .value ∙ ap (λ x. folded π q x b) e in
     record {
-      kept = ap (λ (x : State). x .kept) v;
-      verdict = sym (ap (λ (x : State). x .verdict) v);
-      spent = ap (λ (x : State). x .spent) v;
-      over = ap (λ (x : State). x .over) v;
-      lined = ap (λ (x : State). x .lines) v;
-      count = ap (λ (x : State). x .loops) v;
+      kept = ap (λ (x : FoldState). x .kept) v;
+      verdict = sym (ap (λ (x : FoldState). x .verdict) v);
+      spent = ap (λ (x : FoldState). x .spent) v;
+      over = ap (λ (x : FoldState). x .over) v;
+      lined = ap (λ (x : FoldState). x .lines) v;
+      count = ap (λ (x : FoldState). x .loops) v;
       long = p .long;
     }
 
@@ -84,38 +85,6 @@ pub refused-in : {text : List ℕ} {π : Prices} {rows : List Row} {count at : �
     → loopsVerdict ρ (blockAt text rows count at) ≡ refused (r .number) (r .place)
 unfolding folded andThen
 refused-in s h = s .stopped h
-
--- what a row and a body's last row take is small
-module _ {π : Prices} (fine : FinePrices π) where
-  pub price-small : (p : Plain) → price π p ≤ 1_000
-  unfolding price
-  price-small (assign v x) = fine .arithmetic .small
-  price-small (cue n) = fine .cue .small
-
-  last-price-small : (l : Last) → lastPrice π l ≤ 1_000
-  last-price-small no-step = omega arith
-  last-price-small (step-by p) = price-small p
-
-  pub last-small : (text : List ℕ) (k : Kind) → lastTicks text π k ≤ 1_000
-  last-small text k = last-price-small (headOf text k .last)
-
--- any row but a for
-abbrev no-for : List ℕ
-no-for = 0 ∷ 1 ∷ 2 ∷ 3 ∷ 4 ∷ 5 ∷ 6 ∷ 7 ∷ 8 ∷ 10 ∷ []
-
-pub no-last : (text : List ℕ) (π : Prices) (k : Kind) → OneOf no-for (tagOf the-type k) → 0 ≡ lastTicks text π k
-unfolding headOf viewOf kindOf
-no-last text π End o = refl
-no-last text π Else o = refl
-no-last text π Pick o = refl
-no-last text π (Set v x) o = refl
-no-last text π (Move v c) o = refl
-no-last text π (Cue n) o = refl
-no-last text π (While v c x) o = refl
-no-last text π (Do v c x) o = refl
-no-last text π (For v s c x d) o = absurd (miss no-for 9 tt o)
-no-last text π (Off v w c k) o = refl
-no-last text π (Hold v) o = refl
 
 -- a row that is neither plain nor a close begins a block; a block that is no pick is a loop
 pub block-shape : (s : Shape) → OneOf (1 ∷ 2 ∷ []) (tagOf shapes.the-type s) → IsBlock s
@@ -130,12 +99,12 @@ loop-shape s o (inr e) = e
 
 -- the walk is over
 pub closing : {text : List ℕ} {π : Prices} {rows : List Row} {count at i : ℕ} {outer : Round} {ρ ρ₀ : Env} {t t₀ r : TallyLines} → Walked text rows count at i (tallied t ρ) (folded π outer (tallied t₀ ρ₀)) → t .spent ≤ 1_000_000_000_001 → length (t .lines) ≡ 16 → EndedAt t i r
-    → Passed text π rows count at ρ₀ outer t₀ r
+    → PassedPart text π rows count at ρ₀ outer t₀ r
 unfolding folded
 closing {text} {π} {rows} {count} {at} {i} {outer} {ρ} {ρ₀} {t} {t₀} {r} w s m h =
     let b = blockAt text rows count at in
-    let e : ρ ≡ after ρ₀ b = ap (λ (x : State). x .env) (w .value) in
-    let q : r .spent ≡ t .spent = ap (λ (x : State). x .spent) (h .value ρ) in
+    let e : ρ ≡ after ρ₀ b = ap (λ (x : FoldState). x .env) (w .value) in
+    let q : r .spent ≡ t .spent = ap (λ (x : FoldState). x .spent) (h .value ρ) in
     record {
       value = ap (tallied r) (sym e) ∙ h .value ρ ∙ w .value;
       place = h .next ∙ w .place;
@@ -152,27 +121,27 @@ nowhere w = full
 pub restart-walkable : {text : List ℕ} {π : Prices} {rows : List Row} {count a s : ℕ} {kept : Bool} {q : Round} {t r : TallyLines} → Ready text rows count a → FinePrices π → FineRound q → Restarted t kept s r → length (t .lines) ≡ 16 → s ≤ 1_000_000_000_001
     → t .loops + loopCount (blockAt text rows count a) ≤ 16 → Walkable text π rows count a q r
 restart-walkable {t} {r} k fine o h g l m =
-    let p = ap (λ (x : State). x .spent) (h .value nowhere) in
-    let n = ap (λ (x : State). x .loops) (h .value nowhere) in
+    let p = ap (λ (x : FoldState). x .spent) (h .value nowhere) in
+    let n = ap (λ (x : FoldState). x .loops) (h .value nowhere) in
     record { ready = k; prices = fine; small = omega arith; fine = o; room = omega arith; long = ap length (h .same) ∙ g }
 
 pub lined-walkable : {text : List ℕ} {π : Prices} {rows : List Row} {count a i turns total s : ℕ} {kept : Bool} {q : Round} {τ : Trip} {t r : TallyLines} → Ready text rows count a → FinePrices π → FineRound q → LineAdded t i τ turns total s kept r → s ≤ 1_000_000_000_001
     → t .loops + 1 + loopCount (blockAt text rows count a) ≤ 16 → Walkable text π rows count a q r
 lined-walkable {t} {r} k fine o h l m =
-    let p = ap (λ (x : State). x .spent) (h .value nowhere) in
-    let n = ap (λ (x : State). x .loops) (h .value nowhere) in
+    let p = ap (λ (x : FoldState). x .spent) (h .value nowhere) in
+    let n = ap (λ (x : FoldState). x .loops) (h .value nowhere) in
     record { ready = k; prices = fine; small = omega arith; fine = o; room = omega arith; long = h .long }
 
-pub record Going (text : List ℕ) (π : Prices) (rows : List Row) (count : ℕ) (round : Round) (at : ℕ) (x₀ : State) (i : ℕ) (ρ : Env) (t : TallyLines) : Type 0 where
+pub record Going (text : List ℕ) (π : Prices) (rows : List Row) (count : ℕ) (round : Round) (at : ℕ) (x₀ : FoldState) (i : ℕ) (ρ : Env) (t : TallyLines) : Type 0 where
   pub walk : Walking text rows count (folded π round) at x₀ i (tallied t ρ)
   pub small : t .spent ≤ 1_000_000_000_001
   pub long : length (t .lines) ≡ 16
 
-module _ {text : List ℕ} {π : Prices} {rows : List Row} {count : ℕ} {round : Round} {at : ℕ} {x₀ : State} {i : ℕ} {ρ : Env} {t : TallyLines} (k : Going text π rows count round at x₀ i ρ t) where
+module _ {text : List ℕ} {π : Prices} {rows : List Row} {count : ℕ} {round : Round} {at : ℕ} {x₀ : FoldState} {i : ℕ} {ρ : Env} {t : TallyLines} (k : Going text π rows count round at x₀ i ρ t) where
   -- the loops that are left
   pub room : x₀ .loops + loopCount (blockAt text rows count at) ≡ t .loops + loopCount (blockAt text rows count i)
   unfolding folded
-  room = ap (λ (x : State). x .loops) (k .walk .value)
+  room = ap (λ (x : FoldState). x .loops) (k .walk .value)
 
   pub go-plain : i < count → Whole text rows count → shapeOf (kindAt rows i) ≡ Shape.Plain → {σ : Env} {r : TallyLines} → σ ≡ afterRow ρ (plainOf text (kindAt rows i)) → PastRow π round t (plainOf text (kindAt rows i)) r
       → Going text π rows count round at x₀ (i + 1) σ r
@@ -180,7 +149,7 @@ module _ {text : List ℕ} {π : Prices} {rows : List Row} {count : ℕ} {round 
       let e : tallied r σ ≡ pastPlain π round (tallied t ρ) (plainOf text (kindAt rows i)) = c .value σ ∙ state-is a refl refl refl refl refl refl in
       record {
         walk = plain-row rows count (folded π round) at x₀ (k .walk) l built h (λ rest. fold-plain π round (tallied t ρ) i (plainOf text (kindAt rows i)) rest ∙ ap (λ y. folded π round y rest) (sym e));
-        small = let z = ap (λ (x : State). x .spent) (c .value σ) in omega arith;
+        small = let z = ap (λ (x : FoldState). x .spent) (c .value σ) in omega arith;
         long = ap length (c .same) ∙ k .long;
       }
 
@@ -199,7 +168,7 @@ module _ {text : List ℕ} {π : Prices} {rows : List Row} {count : ℕ} {round 
 
   pub block-stops : (n p : ℕ) → folded π round (tallied t ρ) (frontOf (blockAt text rows count i)) .verdict ≡ refused n p → folded π round x₀ (blockAt text rows count at) .verdict ≡ refused n p
   unfolding folded andThen
-  block-stops n p h = ap (λ (x : State). x .verdict) first-then ∙ ap (λ v. andThen v (loopsVerdict (after ρ (frontOf (blockAt text rows count i))) (restOf (blockAt text rows count i)))) h
+  block-stops n p h = ap (λ (x : FoldState). x .verdict) first-then ∙ ap (λ v. andThen v (loopsVerdict (after ρ (frontOf (blockAt text rows count i))) (restOf (blockAt text rows count i)))) h
 
 -- ---- a block at row i, from the ranges ρ and the tally t
 module _ {text : List ℕ} (π : Prices) {rows : List Row} {count : ℕ} (round : Round) {i : ℕ} (ρ : Env) (t : TallyLines) where
@@ -221,11 +190,11 @@ module _ {text : List ℕ} (π : Prices) {rows : List Row} {count : ℕ} (round 
 
     pub pick-first : (n p : ℕ) → loopsVerdict ρ A ≡ refused n p → folded π round (tallied t ρ) (frontOf (blockAt text rows count i)) .verdict ≡ refused n p
     unfolding andThen
-    pick-first n p h = ap (λ (x : State). x .verdict) pick-alone ∙ ap (λ v. andThen v (loopsVerdict ρ B)) h
+    pick-first n p h = ap (λ (x : FoldState). x .verdict) pick-alone ∙ ap (λ v. andThen v (loopsVerdict ρ B)) h
 
     pub pick-second : (n p : ℕ) → loopsVerdict ρ A ≡ passed → loopsVerdict ρ B ≡ refused n p → folded π round (tallied t ρ) (frontOf (blockAt text rows count i)) .verdict ≡ refused n p
     unfolding andThen
-    pick-second n p g h = ap (λ (x : State). x .verdict) pick-alone ∙ ap₂ (λ v w. andThen v w) g h
+    pick-second n p g h = ap (λ (x : FoldState). x .verdict) pick-alone ∙ ap₂ (λ v w. andThen v w) g h
 
     -- a part's ticks and lines
     abbrev part : Round
@@ -238,7 +207,7 @@ module _ {text : List ℕ} (π : Prices) {rows : List Row} {count : ℕ} (round 
     part-lines b = cap-lines 1 (pos 0) _ _ (omega arith) any ρ b
 
     -- a part, walked with its ticks from the start
-    pub part-by : {at : ℕ} {p : Round} {x y z : TallyLines} → p ≡ part → Restarted x (x .kept) 0 y → Passed text π rows count at ρ p y z
+    pub part-by : {at : ℕ} {p : Round} {x y z : TallyLines} → p ≡ part → Restarted x (x .kept) 0 y → PassedPart text π rows count at ρ p y z
         → Part π part (x .kept) ρ 0 (overOf (x .over)) (firstLines (x .lines) (x .loops)) (x .loops) (blockAt text rows count at) z
     part-by {at} {p} {x} {y} {z} e h g =
         let ls = firstLines (x .lines) (x .loops) in
@@ -301,11 +270,11 @@ module _ {text : List ℕ} (π : Prices) {rows : List Row} {count : ℕ} (round 
 
     pub loop-refused : (n p : ℕ) → ofTrip i (trip form σ test body) ≡ refused n p → folded π round (tallied t ρ) (frontOf (blockAt text rows count i)) .verdict ≡ refused n p
     unfolding andThen
-    loop-refused n p g = ap (λ (x : State). x .verdict) loop-alone ∙ ap (λ v. andThen v (loopsVerdict β body)) g
+    loop-refused n p g = ap (λ (x : FoldState). x .verdict) loop-alone ∙ ap (λ v. andThen v (loopsVerdict β body)) g
 
     pub body-refused : (n p : ℕ) → ofTrip i (trip form σ test body) ≡ passed → loopsVerdict β (blockAt text rows count (i + 1)) ≡ refused n p → folded π round (tallied t ρ) (frontOf (blockAt text rows count i)) .verdict ≡ refused n p
     unfolding andThen
-    body-refused n p g h = ap (λ (x : State). x .verdict) loop-alone ∙ ap₂ (λ v w. andThen v w) g (same .loops β ∙ h)
+    body-refused n p g h = ap (λ (x : FoldState). x .verdict) loop-alone ∙ ap₂ (λ v w. andThen v w) g (same .loops β ∙ h)
 
     -- what is known at its start, its turns in all passes, a pass with its test
     abbrev κ : Pass
@@ -328,7 +297,7 @@ module _ {text : List ℕ} (π : Prices) {rows : List Row} {count : ℕ} (round 
     total-is = ap (λ z. z * round .times) turns-are
 
     -- G: the ticks of the passes as they are walked
-    module _ (x : Entered) {first : TallyLines} (en : Entry text π i (test .tested) round (kindAt rows i) (trip form σ test body) t x first) where
+    module _ (x : LoopEntry) {first : TallyLines} (en : EntryPassed text π i (test .tested) round (kindAt rows i) (trip form σ test body) t x first) where
       abbrev inner : (Pass → ℕ) → ℕ
       inner f = sumOver (passIn (x .round) (x .round .known)) (x .round .by) (x .round .count) f
 
@@ -384,7 +353,7 @@ module _ {text : List ℕ} (π : Prices) {rows : List Row} {count : ℕ} (round 
       pub body-walkable : Ready text rows count (i + 1) → FinePrices π → t .loops + loopCount (blockAt text rows count i) ≤ 16 → Walkable text π rows count (i + 1) (x .round) first
       body-walkable k fine h = lined-walkable k fine (en .fine) (en .lined) (omega (arith, mul-le-mul (en .fine .few) (last-small fine text (kindAt rows i)))) (loop-room h)
 
-      pub body-by : {ρ′ : Env} {b : TallyLines} → ρ′ ≡ β → Passed text π rows count (i + 1) ρ′ (x .round) first b
+      pub body-by : {ρ′ : Env} {b : TallyLines} → ρ′ ≡ β → PassedPart text π rows count (i + 1) ρ′ (x .round) first b
           → Part π (x .round) (x .round .known) β (x .round .count * lastTicks text π (kindAt rows i)) (overOf (t .over)) (firstLines (t .lines) (t .loops) ++ (lineFor i (trip form σ test body) (turns form σ test body) (capped (W * round .times)) ∷ [])) (t .loops + 1) (blockAt text rows count (i + 1)) b
       body-by {ρ′} {b} e p =
           let s = x .round .count * lastTicks text π (kindAt rows i) in
@@ -424,24 +393,3 @@ module _ {text : List ℕ} (π : Prices) {rows : List Row} {count : ℕ} (round 
             long = ap length (c .same) ∙ p .long;
             env-long = s .long;
           }
-
--- no question has the number 0
-asked-number : (n p : ℕ) (b : Bool) (v : Verdict) (q : ℕ) → (n ≡ 0 → ⊥) → (v ≡ refused 0 q → ⊥) → asked n p b v ≡ refused 0 q → ⊥
-unfolding asked
-asked-number n p true v q h g e = g e
-asked-number n p false v q h g e = h (let z : n ≡ 0 = cc in z)
-
-pub trip-number : (i : ℕ) (τ : Trip) (n p : ℕ) → ofTrip i τ ≡ refused n p → n ≡ 0 → ⊥
-unfolding loopVerdict
-trip-number i τ n p e z =
-    asked-number _ _ _ _ p (λ w. omega arith) (asked-number _ _ _ _ p (λ w. omega arith) (asked-number _ _ _ _ p (λ w. omega arith) (asked-number _ _ _ _ p (λ w. omega arith) (asked-number _ _ _ _ p (λ w. omega arith) (asked-number _ _ _ _ p (λ w. omega arith) (λ w. let k : _≡_ {A = ℕ} 0 1 = cc in omega arith))))))
-    (e ∙ ap (λ m. refused m p) z)
-
--- a line of the same trip
-pub lined-is : {t r : TallyLines} {i n o m l a b : ℕ} {k : Bool} {τ υ : Trip} → τ ≡ υ → n ≡ o → m ≡ l → a ≡ b → LineAdded t i τ n m a k r → LineAdded t i υ o l b k r
-lined-is {t} {r} {i} {n} {o} {m} {l} {a} {b} {k} {τ} {υ} p e f q h =
-    subst (λ z. LineAdded t i υ o l z k r) q (subst (λ z. LineAdded t i υ o z a k r) f (subst (λ z. LineAdded t i υ z m a k r) e (subst (λ z. LineAdded t i z n m a k r) p h)))
-
--- a block's figures, by others
-pub closed-is : {t u r : TallyLines} {e own own′ all all′ : ℕ} {keep keep′ : Bool} → own ≡ own′ → all ≡ all′ → keep ≡ keep′ → BlockClosed t u e own all keep r → BlockClosed t u e own′ all′ keep′ r
-closed-is {t} {u} {r} {e} {own} {own′} {all} {all′} {keep} {keep′} p q k h = subst (λ z. BlockClosed t u e own′ all′ z r) k (subst (λ z. BlockClosed t u e own′ z keep r) q (subst (λ z. BlockClosed t u e z all keep r) p h))

@@ -1,8 +1,6 @@
 -- The laws that belong to no one function.
 pub mod Folding
 pub mod Bodies
-pub mod Parts
-pub mod Priced
 pub mod Going
 pub mod Lone
 pub mod Totals

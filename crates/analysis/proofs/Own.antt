@@ -19,7 +19,8 @@ use Rattle.analysis_table.specs.Shapes.{shapeOf}
 use Rattle.analysis_steps.specs.Tree.{blockAt, Ready}
 use Rattle.analysis_steps.proofs.Walking.{begin, plain-next, at-close, pick-at, loop-at}
 use Rattle.analysis_ticks.specs.Capped.{capped}
-use Rattle.analysis.specs.Fold.{frontOf, State, TallyLines, folded, IsBlock, PastBlock}
+use Rattle.analysis_tallies.specs.Tallies.{FoldState, TallyLines}
+use Rattle.analysis.specs.Fold.{frontOf, folded, IsBlock, PastBlock}
 use Rattle.analysis.specs.Own.{ownFigure, ifPassed, ownTicks}
 use Rattle.analysis.proofs.Results.{alone}
 
@@ -51,5 +52,5 @@ module _ {text : List ℕ} {rows : List Row} {count i : ℕ} (k : Ready text row
     unfolding folded andThen
     block-own s z h =
         let v = p .whole z .value in
-        let e : r .spent ≡ capped (ownFigure π ρ b) = omega (arith, ap (λ (x : State). x .spent) v, s, over-once (pos 0) (λ j. ticks π j ρ (frontOf b)), front-own h) in
-        e ∙ ap (λ u. ifPassed u (capped (ownFigure π ρ b))) (ap (λ (x : State). x .verdict) v)
+        let e : r .spent ≡ capped (ownFigure π ρ b) = omega (arith, ap (λ (x : FoldState). x .spent) v, s, over-once (pos 0) (λ j. ticks π j ρ (frontOf b)), front-own h) in
+        e ∙ ap (λ u. ifPassed u (capped (ownFigure π ρ b))) (ap (λ (x : FoldState). x .verdict) v)

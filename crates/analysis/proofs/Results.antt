@@ -22,10 +22,11 @@ use Rattle.rules.specs.Scripts.{pairRanges, BlankFrom, scriptOf, treeOf, Legal,
 use Rattle.analysis_steps.specs.Tree.{kinds, blockAt}
 use Rattle.analysis_intervals.specs.Env.{envOf}
 use Rattle.analysis_turns.specs.Verdicts.{verdictOf}
-use Rattle.analysis.specs.declared.Tally.{Tally}
+use Rattle.analysis_tallies.specs.declared.Tally.{Tally}
 use Rattle.analysis.specs.declared.Refusal.{Refusal}
 use Rattle.analysis.specs.declared.Figures.{Figures}
-use Rattle.analysis.specs.Fold.{TallyLines, withLines, tallied, Analysed}
+use Rattle.analysis_tallies.specs.Tallies.{TallyLines, withLines, tallied}
+use Rattle.analysis.specs.Fold.{Analysed}
 use Rattle.analysis_lines.specs.Coded.{firstLines}
 use Rattle.analysis.specs.Whole.{FirstNo, of-loop, of-block, of-file, none, AnalysisOf}
 use Rattle.analysis.proofs.Going.{from-parts, part-of, refused-in}

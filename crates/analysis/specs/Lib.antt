@@ -1,5 +1,4 @@
 -- What the contracts cite.
 pub mod Fold
-pub mod Enter
 pub mod Whole
 pub mod Own

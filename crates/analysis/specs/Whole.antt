@@ -8,7 +8,7 @@ use Rattle.rules.specs.Questions.{verdict}
 use Rattle.rules.specs.Scripts.{Script, startEnv, treeOf, reportTicks, reportLines}
 use Rattle.analysis_lines.specs.Coded.{firstLines}
 use Rattle.analysis_turns.specs.Verdicts.{verdictOf}
-use Rattle.analysis.specs.declared.Tally.{Tally}
+use Rattle.analysis_tallies.specs.declared.Tally.{Tally}
 use Rattle.analysis.specs.declared.Refusal.{Refusal}
 use Rattle.analysis.specs.declared.Figures.{Figures}
 

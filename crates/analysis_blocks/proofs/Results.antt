@@ -14,8 +14,7 @@ use Rattle.rules.specs.declared.Prices.{Prices}
 use Rattle.rules.specs.Passes.{later}
 use Rattle.rules.specs.Figures.{ticks}
 use Rattle.rules.specs.Questions.{andThen, ofTrip, loopsVerdict}
-use Rattle.rules.specs.declared.Verdict.{Verdict}
-use Rattle.rules.specs.declared.Verdict.the-variants.{Passed as passed, Refused as refused}
+use Rattle.rules.specs.declared.Verdict.the-variants.{Passed as passed}
 use Rattle.rules.specs.Scripts as scripts
 use Rattle.rules.specs.Scripts.{pairRanges, BlankFrom, scriptOf, treeOf, Legal}
 use Rattle.rules.specs.FirstOver as over
@@ -28,7 +27,7 @@ use Rattle.analysis_ticks.specs.Capped.{capped}
 use Rattle.analysis.specs.Fold.{frontOf}
 use Rattle.analysis.specs.Own.{ownFigure, ifPassed, ownTicks}
 use Rattle.analysis.proofs.Legals.{env-is, long, whole, file-is}
-use Rattle.analysis_blocks.specs.Figure.{firstTicks, FigureOf}
+use Rattle.analysis_blocks.specs.Figure.{firstTicks, blockTicks, LoopsPass}
 use Rattle.analysis_blocks.specs.Toward.{PartOf}
 use Rattle.analysis_blocks.proofs.Rows.{ticks-of}
 
@@ -54,15 +53,11 @@ front-passes (loop i e form test body rest) ρ h =
     let (z, _) = then-yes (loopsVerdict (inside form (atStart form test ρ) test body) body) _ y in
     rw (x, z)
 
-own-small : (v : Verdict) (n : ℕ) → ifPassed v (capped n) ≤ 1_000_000_000_001
-own-small passed n = omega arith
-own-small (refused q p) n = omega arith
-
 module _ (π : Prices) (text : List ℕ) (ranges : List (List ℤ)) (vars : ℕ) (rows : List Row) (count : ℕ) (legal : Legal (scriptOf text ranges vars rows count)) (few : count ≤ 256) (all : count ≤ length rows) (blank : BlankFrom vars ranges) where
   -- past the last row there is no block
-  pub past-last : (head : ℕ) → count ≤ head → FigureOf π (scriptOf text ranges vars rows count) head 0
+  pub past-last : (head : ℕ) → count ≤ head → 0 ≡ capped (blockTicks π (scriptOf text ranges vars rows count) head)
   unfolding scriptOf blocks.blockAt build firstTicks
-  past-last head h = record { small = omega arith; value = λ _. rw (drop-of-length-le (kinds text rows count) {i = head} (omega (arith, long text ranges vars rows count legal few all))) }
+  past-last head h = rw (drop-of-length-le (kinds text rows count) {i = head} (omega (arith, long text ranges vars rows count legal few all)))
 
   -- the file's part ends after the last row
   pub file-ends : endAt text rows count 0 ≡ count
@@ -70,17 +65,13 @@ module _ (π : Prices) (text : List ℕ) (ranges : List (List ℤ)) (vars : ℕ)
   file-ends = let w = whole text ranges vars rows count legal few all in ap blocks.endOf (w .builds) ∙ w .long
 
   -- at the row, from the part that it begins
-  pub figure-is : (head : ℕ) (σ : Env) (r : ℕ) → PartOf (envOf ranges) (blockAt text rows count 0) σ (blockAt text rows count head) → r ≡ ownTicks π σ (blockAt text rows count head)
-      → FigureOf π (scriptOf text ranges vars rows count) head r
+  pub figure-is : (head : ℕ) (σ : Env) → LoopsPass (scriptOf text ranges vars rows count) → PartOf (envOf ranges) (blockAt text rows count 0) σ (blockAt text rows count head)
+      → ownTicks π σ (blockAt text rows count head) ≡ capped (blockTicks π (scriptOf text ranges vars rows count) head)
   unfolding scriptOf
-  figure-is head σ r part own =
+  figure-is head σ passes part =
       let b = blockAt text rows count head in
       let tree = treeOf (kinds text rows count) in
       let ρ = scripts.startEnv (take vars (pairRanges ranges)) in
       let file : PartOf ρ tree σ b = subst (λ c. PartOf ρ c σ b) (file-is text ranges vars rows count legal few all) (subst (λ x. PartOf x (blockAt text rows count 0) σ b) (sym (env-is ranges vars blank)) part) in
-      record {
-        small = subst (λ n. n ≤ 1_000_000_000_001) (sym own) (own-small (loopsVerdict σ (frontOf b)) (ownFigure π σ b));
-        value = λ passes.
-            own ∙ ap (λ v. ifPassed v (capped (ownFigure π σ b))) (front-passes b σ (file .passes passes))
-            ∙ ap capped (sym (first-is π b σ (scriptBlocks π (scriptOf text ranges vars rows count)) _ _ (script-rises π (scriptOf text ranges vars rows count) legal) (λ x m. file .blocks π x m)));
-      }
+      ap (λ v. ifPassed v (capped (ownFigure π σ b))) (front-passes b σ (file .passes passes))
+      ∙ ap capped (sym (first-is π b σ (scriptBlocks π (scriptOf text ranges vars rows count)) _ _ (script-rises π (scriptOf text ranges vars rows count) legal) (λ x m. file .blocks π x m)))

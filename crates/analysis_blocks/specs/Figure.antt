@@ -2,7 +2,7 @@
 use mathlib.Core.Path.{_≡_}
 use mathlib.Core.Bool.{cond}
 use mathlib.Core.List.{List, [], _∷_}
-use Prim.Native.Nat.{ℕ, _≤_}
+use Prim.Native.Nat.{ℕ}
 use lib.Dec.{eqb}
 use Rattle.rules.specs.Blocks.{Block, done, plain, pick, loop, blockAt}
 use Rattle.rules.specs.declared.Prices.{Prices}
@@ -10,7 +10,6 @@ use Rattle.rules.specs.declared.Verdict.the-variants.{Passed as passed}
 use Rattle.rules.specs.Questions.{loopsVerdict}
 use Rattle.rules.specs.Scripts.{Script, startEnv, treeOf}
 use Rattle.rules.specs.FirstOver.{BlockTicks, scriptBlocks}
-use Rattle.analysis_ticks.specs.Capped.{capped}
 
 -- of the blocks, the figure of the one that ends at row e; 0 if none does
 unfoldable pub ticksAt : ℕ → List BlockTicks → ℕ
@@ -28,7 +27,6 @@ firstTicks (loop i e form test body rest) cs = ticksAt e cs
 abbrev pub blockTicks : Prices → Script → ℕ → ℕ
 blockTicks π script head = firstTicks (blockAt (script .rows) head) (scriptBlocks π script)
 
--- r is that figure, stopped just past the limit of 13, where 19 and 8 to 12 have yes
-pub record FigureOf (π : Prices) (script : Script) (head r : ℕ) : Type 0 where
-  pub small : r ≤ 1_000_000_000_001
-  pub value : loopsVerdict (startEnv (script .ranges)) (treeOf (script .rows)) ≡ passed → r ≡ capped (blockTicks π script head)
+-- the questions 19 and 8 to 12 of a script have yes
+abbrev pub LoopsPass : Script → Type 0
+LoopsPass script = loopsVerdict (startEnv (script .ranges)) (treeOf (script .rows)) ≡ passed

@@ -25,7 +25,7 @@ pub record PartOf (ρ : Env) (b : Block) (σ : Env) (c : Block) : Type 0 where
   pub passes : loopsVerdict ρ b ≡ passed → loopsVerdict σ c ≡ passed
 
 -- a block of this shape stands at row i, and row `head` after it, before the part's end
-pub record AtBlock (text : List ℕ) (rows : List Row) (count i head : ℕ) (shape : Shape) (ranges : List (List ℤ)) : Type 0 where
+pub record BlockBefore (text : List ℕ) (rows : List Row) (count i head : ℕ) (shape : Shape) (ranges : List (List ℤ)) : Type 0 where
   pub ready : Ready text rows count i
   pub is : shapeOf (kindAt rows i) ≡ shape
   pub before : i < head

@@ -20,8 +20,9 @@ ghost use Rattle.rules.specs.Written.{Written};
 ghost use Rattle.rules.specs.Scripts.{scriptOf, BlankFrom, Legal};
 ghost use Rattle.analysis_table.specs.Code.{kindAt, rowsOf};
 ghost use Rattle.analysis_intervals.specs.Env.{envOf};
-ghost use Rattle.analysis_blocks.specs.Figure.{FigureOf};
-ghost use Rattle.analysis_blocks.specs.Toward.{AtBlock, Toward};
+ghost use Rattle.analysis_ticks.specs.Capped.{capped};
+ghost use Rattle.analysis_blocks.specs.Figure.{blockTicks, LoopsPass};
+ghost use Rattle.analysis_blocks.specs.Toward.{BlockBefore, Toward};
 
 // From the pick at row i toward row `head`: into the part that has it, or past the pick.
 fn toward_pick(
@@ -32,7 +33,7 @@ fn toward_pick(
     head: usize,
     r: &mut [[i32; 2]; 16],
 ) -> usize
-    requires { ⌜ AtBlock (now text) (rowsOf (now rows)) count i head Shape.Branch (now r) ⌝ }
+    requires { ⌜ BlockBefore (now text) (rowsOf (now rows)) count i head Shape.Branch (now r) ⌝ }
     ensures { λ j. ⌜ Toward (now (text .entry)) (rowsOf (now (rows .entry))) count i head (envOf (now (r .entry))) j (now (r .exit)) ⌝ }
 {
     let mut m: usize = 0;
@@ -60,7 +61,7 @@ fn toward_loop(
     head: usize,
     r: &mut [[i32; 2]; 16],
 ) -> usize
-    requires { ⌜ AtBlock (now text) (rowsOf (now rows)) count i head Shape.Loop (now r) ⌝ }
+    requires { ⌜ BlockBefore (now text) (rowsOf (now rows)) count i head Shape.Loop (now r) ⌝ }
     ensures { λ j. ⌜ Toward (now (text .entry)) (rowsOf (now (rows .entry))) count i head (envOf (now (r .entry))) j (now (r .exit)) ⌝ }
 {
     at_start(text, r, kind_at(rows, i));
@@ -74,7 +75,7 @@ fn toward_loop(
     next + 1
 }
 
-// The tick figure of the block that row `head` begins, as the analysis finds it; 0 if it begins none.
+// The tick figure of the block that row `head` begins, stopped just past the limit of 13; 0 if it begins none.
 pub fn block_ticks(
     text: &[u8],
     rows: &[[u32; 9]; 256],
@@ -84,8 +85,8 @@ pub fn block_ticks(
     prices: Prices,
     head: usize,
 ) -> u64
-    requires { ⌜ Legal (scriptOf (now text) ranges vars (rowsOf (now rows)) count) × (count ≤ 256) × (count ≤ length (now rows)) × BlankFrom vars ranges × FinePrices prices × (length (now text) ≤ 16_384) × ((i : ℕ) → i < count → Written (now text) (kindAt (rowsOf (now rows)) i)) ⌝ }
-    ensures { λ r. ⌜ FigureOf prices (scriptOf (now (text .entry)) ranges vars (rowsOf (now (rows .entry))) count) head r ⌝ }
+    requires { ⌜ Legal (scriptOf (now text) ranges vars (rowsOf (now rows)) count) × (count ≤ 256) × (count ≤ length (now rows)) × BlankFrom vars ranges × FinePrices prices × (length (now text) ≤ 16_384) × ((i : ℕ) → i < count → Written (now text) (kindAt (rowsOf (now rows)) i)) × LoopsPass (scriptOf (now text) ranges vars (rowsOf (now rows)) count) ⌝ }
+    ensures { λ r. ⌜ r ≡ capped (blockTicks prices (scriptOf (now (text .entry)) ranges vars (rowsOf (now (rows .entry))) count) head) ⌝ }
 {
     if head >= count {
         return 0;

@@ -28,6 +28,13 @@ is-same falling h k l = absurd (false≢true k)
 is-same same h k l = refl
 is-same differ h k l = absurd (false≢true l)
 
+-- == or !=
+pub unordered : (P : Sort → Type 0) (d : Sort) → isRising d ≡ false → isFalling d ≡ false → P same → P differ → P d
+unordered P rising h k p q = absurd (false≢true (sym h))
+unordered P falling h k p q = absurd (false≢true (sym k))
+unordered P same h k p q = p
+unordered P differ h k p q = q
+
 -- < <= or > >=
 pub ordered-up : (d : Sort) → isRising d ≡ true → true ≡ ordered d
 ordered-up rising h = refl

@@ -1,4 +1,4 @@
-// What a step is and what a comparison is, and whether they fit.
+// What a step is and what a comparison is, whether they fit, and the end that a test reads.
 use rules::Comparison;
 use rules_steps::Step;
 ghost use mathlib.Core.Path.{_≡_};
@@ -6,10 +6,11 @@ ghost use mathlib.Core.Bool.{not, _&&_};
 ghost use Rattle.rules.specs.Steps.{isAdd, moving, difference, equalEnds};
 ghost use Rattle.rules.specs.Questions.{known};
 ghost use Rattle.rules.specs.Values.{opposite};
-ghost use Rattle.rules.specs.Ranges.{sort, ordered, suits};
+ghost use Rattle.rules.specs.Ranges.{edge, sort, ordered, suits};
 ghost use Rattle.rules.specs.Trips as trips;
-ghost use Rattle.rules_steps.specs.Ends.{EndsWithin};
+ghost use Rattle.rules_steps.specs.Ends.{Near, EndsWithin};
 ghost use Rattle.analysis_comparisons.specs.Sorts.{isRising, isFalling, isDiffer};
+ghost use Rattle.analysis_comparisons.specs.Wide.{wideRange, Unmoved, EdgeWithin};
 
 // Both.
 pub fn both(a: bool, b: bool) -> bool
@@ -188,5 +189,28 @@ pub fn equal_ends(step: Step) -> bool
         Step::Grow(f, g) => f == g,
         Step::Shrink(f, g) => f == g,
         Step::Unknown => false,
+    }
+}
+
+// A range of 64 bits: a start moved by one turn is not clamped.
+pub struct WideInterval {
+    pub lo: i64,
+    pub hi: i64,
+}
+
+// The limit's end that the test reads, E.
+pub fn edge(comparison: Comparison, n: WideInterval) -> i64
+    requires { ⌜ Unmoved n ⌝ }
+    ensures { λ r. ⌜ (r ≡ edge comparison (wideRange n)) × Near 5 r × EdgeWithin (sort comparison) (wideRange n) r ⌝ }
+{
+    let lo = n.lo;
+    let hi = n.hi;
+    match comparison {
+        Comparison::Less => hi - 1,
+        Comparison::AtMost => hi,
+        Comparison::Greater => lo + 1,
+        Comparison::AtLeast => lo,
+        Comparison::Equal => lo,
+        Comparison::Different => lo,
     }
 }

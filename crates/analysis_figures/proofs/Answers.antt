@@ -14,15 +14,16 @@ use Rattle.ints.proofs.Scale.{mul-P, mul-N}
 use Rattle.rules_steps.specs.declared.Step.{Step}
 use Rattle.rules_steps.specs.declared.Step.the-variants.{Add, Grow, Shrink, Unknown}
 use Rattle.rules_steps.specs.Ends.{Near, EndsWithin}
-use Rattle.rules_steps.specs.Joins.{cap}
+use Rattle.rules_steps.specs.Joins.{factorLimit}
 use Rattle.rules.specs.Steps.{moving}
 use Rattle.rules.specs.Ranges.{Range, Sort, rising, falling, same, differ, suits}
 use Rattle.rules.specs.Turns.{powers, scale, share, apart, whileTurns, moved, atTest}
 use Rattle.rules.specs.Questions.{hasFigure}
 use Rattle.rules.proofs.Laws.{no-true}
 use Rattle.analysis_moves.proofs.Few.{climb-few}
-use Rattle.analysis_figures.specs.declared.WideInterval.{WideInterval}
-use Rattle.analysis_figures.specs.Needs.{wideRange, Ranged, FirstTested, Countable}
+use Rattle.analysis_comparisons.specs.declared.WideInterval.{WideInterval}
+use Rattle.analysis_comparisons.specs.Wide.{wideRange}
+use Rattle.analysis_figures.specs.Needs.{NearEnds, FirstTested, Countable}
 
 or-cases : (a b : Bool) {C : Type 0} → a || b ≡ true → (a ≡ true → C) → (b ≡ true → C) → C
 or-cases true b e f g = f refl
@@ -56,9 +57,9 @@ unfolding atTest moved
 grow-start false f g s r e h k = subst (λ z. pos 1 ≤ℤ z) (sym (ap (λ (x : Range). x .lo) e)) k
 grow-start true f g s r e h k = subst (λ z. pos 1 ≤ℤ z) (sym (ap (λ (x : Range). x .lo) e)) (up (s .lo) f k h)
 
-pub countable : (is-moved : Bool) (st : Step) (d : Sort) (s : Range) (r n : WideInterval) (e : ℤ) → EndsWithin 512 st → Near 5 e → Ranged n → wideRange r ≡ atTest is-moved st s → FirstTested st r
+pub countable : (is-moved : Bool) (st : Step) (d : Sort) (s : Range) (r n : WideInterval) (e : ℤ) → EndsWithin 512 st → Near 5 e → NearEnds n → wideRange r ≡ atTest is-moved st s → FirstTested st r
     → moving st ≡ true → suits st d ≡ true → hasFigure st d s (wideRange r) (wideRange n) e ≡ true → Countable st d r n e
-unfolding moving suits hasFigure cap
+unfolding moving suits hasFigure factorLimit
 countable is-moved (Add a b) rising s r n e (na, nb) ne rn q rr m u h = let l : pos 1 ≤ℤ a = omega ints in (rr, near-more e ne, near-step a na, l)
 countable is-moved (Add a b) falling s r n e (na, nb) ne rn q rr m u h = let l : b ≤ℤ negsuc 0 = omega ints in (rr, near-more e ne, near-step b nb, l)
 countable is-moved (Add a b) same s r n e en ne rn q rr m u h = tt

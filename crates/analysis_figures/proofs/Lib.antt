@@ -2,4 +2,3 @@
 pub mod Answers
 pub mod Moves
 pub mod Products
-pub mod Small

@@ -1,4 +1,5 @@
 // The turns of a step from a start to a limit, and whether they can be counted.
+use analysis_comparisons::WideInterval;
 use analysis_comparisons::falls;
 use analysis_comparisons::is_differ;
 use analysis_comparisons::rises;
@@ -15,10 +16,11 @@ ghost use lib.IntN.{pos, natAbs, _-ℤ_};
 ghost use lib.Signed.{_≤ℤ_};
 ghost use Rattle.rules_steps.specs.Ends.{Near, EndsWithin};
 ghost use Rattle.rules.specs.Steps.{moving};
-ghost use Rattle.rules.specs.Ranges.{edge, sort};
+ghost use Rattle.rules.specs.Ranges.{sort};
 ghost use Rattle.rules.specs.Turns.{powers, scale, share, apart, whileTurns, moved, atTest};
 ghost use Rattle.rules.specs.Questions.{hasFigure};
-ghost use Rattle.analysis_figures.specs.Needs.{wideRange, Ranged, Unmoved, FirstTested, Countable, meeting};
+ghost use Rattle.analysis_comparisons.specs.Wide.{wideRange, Unmoved};
+ghost use Rattle.analysis_figures.specs.Needs.{NearEnds, FirstTested, Countable, meeting};
 
 // How many k have t times f to the k at most e.
 fn powers(t: u64, e: u64, f: u64) -> u64
@@ -43,12 +45,6 @@ fn scale(t: i64, e: i64, f: u64) -> u64
         return 0;
     }
     powers(t as u64, e as u64, f)
-}
-
-// A range of 64 bits: a start moved by one turn is not drawn back.
-pub struct WideInterval {
-    pub lo: i64,
-    pub hi: i64,
 }
 
 // The distance of two numbers.
@@ -82,7 +78,7 @@ fn one_if(t: bool) -> u64
 
 // The turns under !=.
 fn apart(a: i64, s: WideInterval, n: WideInterval) -> u64
-    requires { ⌜ Near 1024 a × (a ≡ pos 0 → ⊥) × Ranged s × Ranged n ⌝ }
+    requires { ⌜ Near 1024 a × (a ≡ pos 0 → ⊥) × NearEnds s × NearEnds n ⌝ }
     ensures { λ r. ⌜ r ≡ apart a (wideRange s) (wideRange n) ⌝ }
 {
     if a == 1 {
@@ -147,24 +143,7 @@ pub fn while_turns(
     }
 }
 
-// The limit's end that the test reads, E.
-pub fn edge(comparison: Comparison, n: WideInterval) -> i64
-    requires { ⌜ Unmoved n ⌝ }
-    ensures { λ r. ⌜ (r ≡ edge comparison (wideRange n)) × Near 5 r ⌝ }
-{
-    let lo = n.lo;
-    let hi = n.hi;
-    match comparison {
-        Comparison::Less => hi - 1,
-        Comparison::AtMost => hi,
-        Comparison::Greater => lo + 1,
-        Comparison::AtLeast => lo,
-        Comparison::Equal => lo,
-        Comparison::Different => lo,
-    }
-}
-
-// The start moved by one turn, not drawn back.
+// The start moved by one turn, not clamped.
 fn moved(step: Step, s: WideInterval) -> WideInterval
     requires { ⌜ EndsWithin 512 step × (moving step ≡ true) × Unmoved s ⌝ }
     ensures { λ r. ⌜ (wideRange r ≡ moved step (wideRange s)) × FirstTested step r ⌝ }
@@ -201,7 +180,7 @@ pub fn at_test(is_moved: bool, step: Step, s: WideInterval) -> WideInterval
 
 // The terms of the figure under !=, a the step, r what the first test sees.
 fn meets(a: i64, r: WideInterval, n: WideInterval) -> bool
-    requires { ⌜ Near 1024 a × (a ≡ pos 0 → ⊥) × Ranged r × Ranged n ⌝ }
+    requires { ⌜ Near 1024 a × (a ≡ pos 0 → ⊥) × NearEnds r × NearEnds n ⌝ }
     ensures { λ t. ⌜ t ≡ meeting a (wideRange r) (wideRange n) ⌝ }
 {
     let low = r.lo;
@@ -233,7 +212,7 @@ pub fn has_figure(
     n: WideInterval,
     e: i64,
 ) -> bool
-    requires { ⌜ EndsWithin 512 step × (moving step ≡ true) × FirstTested step r × Ranged n ⌝ }
+    requires { ⌜ EndsWithin 512 step × (moving step ≡ true) × FirstTested step r × NearEnds n ⌝ }
     ensures { λ t. ⌜ t ≡ hasFigure step (sort comparison) (wideRange s) (wideRange r) (wideRange n) e ⌝ }
 {
     let start = s.lo;

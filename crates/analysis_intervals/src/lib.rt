@@ -1,7 +1,13 @@
 // The range of one variable: what a row, a pick and a test make of it.
+use analysis_comparisons::WideInterval;
+use analysis_comparisons::edge;
+use analysis_comparisons::falls;
+use analysis_comparisons::rises;
 use expression_operators::clamp;
 use expressions::bounds_in;
+use min_max::higher;
 use min_max::higher_end;
+use min_max::lower;
 use min_max::lower_end;
 use rules::Change;
 use rules::Comparison;
@@ -17,9 +23,9 @@ ghost use Rattle.rules.specs.Blocks.{exprOf};
 ghost use Rattle.rules.specs.Written.{InText, WrittenOperand};
 ghost use Rattle.rules.specs.Ranges.{bounds, single, full, edge, sort, insideRange, byStep, outsideRange};
 ghost use Rattle.rules.specs.Bounds.{FineOperand, FineChange};
+ghost use Rattle.analysis_comparisons.specs.Wide.{wideRange, Unmoved};
 ghost use Rattle.analysis_intervals.specs.Env.{envOf, rangeOf};
-ghost use lib.IntN.{pos, _+ℤ_, _-ℤ_};
-ghost use Rattle.ints.specs.Ints.{minZ, maxZ, clamp};
+ghost use Rattle.ints.specs.Ints.{clamp};
 ghost use Rattle.rules.specs.Values.{lowest, highest, applied};
 ghost use Rattle.analysis_intervals.specs.Changes.{joinRange, withZero, changedRange};
 
@@ -131,44 +137,34 @@ fn choice(first: bool, a: i32, b: i32) -> i32
     if first { a } else { b }
 }
 
-// The larger of t and the number below m.
-fn below(t: i32, m: i32) -> i32
-    ensures { λ r. ⌜ r ≡ maxZ t (m -ℤ pos 1) ⌝ }
+// A range of 32 bits.
+pub fn whole(s: Interval) -> WideInterval
+    ensures { λ r. ⌜ (wideRange r ≡ rangeOf s) × Unmoved r ⌝ }
 {
-    if t < m { m - 1 } else { t }
-}
-
-// The smaller of t and the number above m.
-fn above(t: i32, m: i32) -> i32
-    ensures { λ r. ⌜ r ≡ minZ t (m +ℤ pos 1) ⌝ }
-{
-    if m < t { m + 1 } else { t }
+    WideInterval {
+        lo: s.lo as i64,
+        hi: s.hi as i64,
+    }
 }
 
 // The tested variable's range at the body's start: s its start range, n the limit's.
 pub fn inside_interval(is_moved: bool, comparison: Comparison, s: Interval, n: Interval) -> Interval
     ensures { λ r. ⌜ rangeOf r ≡ insideRange «is_moved» (sort comparison) (rangeOf s) (edge comparison (rangeOf n)) ⌝ }
 {
-    match comparison {
-        Comparison::Less => Interval {
+    let e = edge(comparison, whole(n));
+    if rises(comparison) {
+        return Interval {
             lo: s.lo,
-            hi: below(choice(is_moved, s.hi, s.lo), n.hi),
-        },
-        Comparison::AtMost => Interval {
-            lo: s.lo,
-            hi: higher_end(choice(is_moved, s.hi, s.lo), n.hi),
-        },
-        Comparison::Greater => Interval {
-            lo: above(choice(is_moved, s.lo, s.hi), n.lo),
-            hi: s.hi,
-        },
-        Comparison::AtLeast => Interval {
-            lo: lower_end(choice(is_moved, s.lo, s.hi), n.lo),
-            hi: s.hi,
-        },
-        Comparison::Equal => FULL,
-        Comparison::Different => FULL,
+            hi: higher(choice(is_moved, s.hi, s.lo) as i64, e) as i32,
+        };
     }
+    if falls(comparison) {
+        return Interval {
+            lo: lower(choice(is_moved, s.lo, s.hi) as i64, e) as i32,
+            hi: s.hi,
+        };
+    }
+    FULL
 }
 
 // The tested variable after the loop, by its step.

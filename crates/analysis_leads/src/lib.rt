@@ -1,4 +1,6 @@
 // The turns of a loop with what comes before its first counted test.
+use analysis_comparisons::falls;
+use analysis_comparisons::rises;
 use analysis_intervals::Interval;
 use analysis_trips::Lead;
 use rules::Comparison;
@@ -13,16 +15,15 @@ ghost use Rattle.analysis_trips.specs.Found.{leadOf};
 fn misses(comparison: Comparison, s: Interval, e: i64) -> bool
     ensures { λ r. ⌜ r ≡ misses (sort comparison) (env.rangeOf s) e ⌝ }
 {
-    let lo = s.lo as i64;
-    let hi = s.hi as i64;
-    match comparison {
-        Comparison::Less => e < lo,
-        Comparison::AtMost => e < lo,
-        Comparison::Greater => hi < e,
-        Comparison::AtLeast => hi < e,
-        Comparison::Equal => false,
-        Comparison::Different => false,
+    if rises(comparison) {
+        let lo = s.lo as i64;
+        return e < lo;
     }
+    if falls(comparison) {
+        let hi = s.hi as i64;
+        return hi < e;
+    }
+    false
 }
 
 // [0, 0]

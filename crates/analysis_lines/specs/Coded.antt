@@ -39,6 +39,6 @@ abbrev pub firstLines : List (List ℕ) → ℕ → List Line
 firstLines t k = linesOf (take k (linesIn t))
 
 -- a table of 16 lines, of which the first `loops` are read
-pub record Lent (loops : ℕ) (t : List (List ℕ)) : Type 0 where
+pub record LineTable (loops : ℕ) (t : List (List ℕ)) : Type 0 where
   pub few : loops ≤ 16
   pub long : length t ≡ 16

@@ -89,33 +89,33 @@ fn shifted(a: i64) -> u64
 }
 
 // A step's tag and its two ends.
-struct Code {
+struct StepCode {
     tag: u64,
     first: u64,
     second: u64,
 }
 
-fn step_code(step: Step) -> Code
+fn step_code(step: Step) -> StepCode
     requires { ⌜ EndsWithin 512 step ⌝ }
     ensures { λ r. ⌜ lineStep (r .tag) (r .first) (r .second) ≡ step ⌝ }
 {
     match step {
-        Step::Add(a, b) => Code {
+        Step::Add(a, b) => StepCode {
             tag: ADD,
             first: shifted(a),
             second: shifted(b),
         },
-        Step::Grow(f, g) => Code {
+        Step::Grow(f, g) => StepCode {
             tag: GROW,
             first: f,
             second: g,
         },
-        Step::Shrink(f, g) => Code {
+        Step::Shrink(f, g) => StepCode {
             tag: SHRINK,
             first: f,
             second: g,
         },
-        Step::Unknown => Code {
+        Step::Unknown => StepCode {
             tag: UNKNOWN,
             first: 0,
             second: 0,

@@ -20,7 +20,7 @@ use Rattle.rules.proofs.Sole.{behind-none, behind-twice}
 use Rattle.rules.proofs.Kind.{the-type}
 use Rattle.analysis_table.specs.declared.Shape.{Shape}
 use Rattle.analysis_table.specs.Shapes.{shapeOf, plainOf}
-use Rattle.analysis_steps.specs.declared.Stepped.{Stepped}
+use Rattle.analysis_steps.specs.declared.StepOver.{StepOver}
 use Rattle.analysis_steps.specs.Tree.{blockAt, headOf, formOf, testOf}
 use Rattle.analysis_steps.specs.Sets.{setOf, none, withRow, assignsFrom}
 use Rattle.analysis_steps.specs.Body.{MovesOf}
@@ -28,7 +28,7 @@ use Rattle.analysis_only_rows.specs.Soles.{soleFrom}
 use Rattle.analysis_steps.proofs.Sets.{or-false, pick-adds, loop-adds}
 
 -- what a block assigns, found from no set
-pub rest-is : {text : List ℕ} {rows : List Row} {count at v : ℕ} {z n : List Bool} {m : Stepped} → setOf z ≡ none → MovesOf text rows count at v z n m → (u : ℕ) → setOf n u ≡ assigns u (blockAt text rows count at)
+pub rest-is : {text : List ℕ} {rows : List Row} {count at v : ℕ} {z n : List Bool} {m : StepOver} → setOf z ≡ none → MovesOf text rows count at v z n m → (u : ℕ) → setOf n u ≡ assigns u (blockAt text rows count at)
 unfolding assignsFrom none
 rest-is {text} {rows} {count} {at} e k u = ap (λ (y : ℕ → Bool). y u) (k .sets .value ∙ ap (λ x. assignsFrom x (blockAt text rows count at)) e)
 

@@ -9,7 +9,7 @@ use Rattle.rules.specs.Blocks.{Test, Form, Block}
 use Rattle.rules.specs.Steps.{isAdd, step}
 use Rattle.rules.specs.Ranges.{Env, ordered, sort}
 use Rattle.rules.specs.Trips.{Way, own, broken, copied, chase, watched, isOwn, wayOf, isExact, Trip, tripBy, trip, turnsOf, turns}
-use Rattle.rules.specs.Passes.{Pass, any, valued, sumOver, sums, fromConstant, isAlone, triangle, upTo, turnsIn}
+use Rattle.rules.specs.Passes.{Pass, any, valued, sumOver, sums, fromConstant, isAlone, triangle, withLimit, turnsIn}
 use Rattle.rules.specs.Figures as figures
 use Rattle.rules.proofs.Triangles.{own-trip}
 use Rattle.rules.proofs.Walk.{turnsWalk, triangle-turns}
@@ -46,8 +46,8 @@ module _ (form : Form) (ρ : Env) (test : Test) (body : Block) where
       by (triangle v form test body) (λ t. triangle-turns v x form ρ test body t ∙ sym (ap (λ (τ : Trip). climbTo τ x) (own-trip form ρ test body (both (isOwn (wayOf form test body)) _ (both (fromConstant form) _ t .1) .0))))
       ∙ ap (λ b. cond b (climbTo (trip form ρ test body) x) (turns form ρ test body)) (triangle-is v)
     where
-      by : (b : Bool) → (T b → turns form ρ (upTo x test) body ≡ climbTo (trip form ρ test body) x)
-          → cond b (turns form ρ (upTo x test) body) (turns form ρ test body) ≡ cond b (climbTo (trip form ρ test body) x) (turns form ρ test body)
+      by : (b : Bool) → (T b → turns form ρ (withLimit x test) body ≡ climbTo (trip form ρ test body) x)
+          → cond b (turns form ρ (withLimit x test) body) (turns form ρ test body) ≡ cond b (climbTo (trip form ρ test body) x) (turns form ρ test body)
       by true f = f tt
       by false f = refl
 

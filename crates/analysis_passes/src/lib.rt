@@ -1,16 +1,16 @@
 // Triangles: the passes of a loop by the values of its variable, and a loop in its body that is summed over them.
 use analysis_comparisons::both;
+use analysis_comparisons::edge;
 use analysis_comparisons::is_add;
 use analysis_comparisons::ordered;
-use analysis_figures::edge;
 use analysis_intervals::Interval;
+use analysis_intervals::whole;
 use analysis_moves::climb;
 use analysis_ticks::cap;
 use analysis_ticks::times;
 use analysis_trips::Counter;
 use analysis_trips::Trip;
 use analysis_turns::exact;
-use analysis_turns::whole;
 use rules::AddLoop;
 use rules::Comparison;
 use rules::Kind;

@@ -11,7 +11,7 @@ use Rattle.rules_steps.specs.declared.Step.{Step}
 use Rattle.rules_steps.specs.declared.Step.the-variants.{Add, Grow, Shrink, Unknown}
 use Rattle.rules_steps.specs.declared.Two.{Two}
 use Rattle.rules_steps.specs.declared.Two.the-variants.{Adds, Grows, Shrinks, Mixture}
-use Rattle.rules_steps.specs.Joins.{still, cap, product, then, either}
+use Rattle.rules_steps.specs.Joins.{still, factorLimit, product, then, either}
 use Rattle.rules.specs.Steps.{changeStep, difference}
 use Rattle.rules_steps.specs.Ends.{Near, Factors, EndsWithin}
 use Rattle.rules.specs.Bounds.{FineChange}
@@ -79,7 +79,7 @@ either-ends n s t p q = rw (either-two s t) (pick-ends n (twoOf s t) (two-ends n
 
 -- a row
 pub change-ends : (c : Change) → FineChange c → EndsWithin 1 (changeStep c)
-unfolding changeStep cap
+unfolding changeStep factorLimit
 change-ends (Change.Add c) h = let k : Near 1 (pos c) = omega ints in (k, k)
 change-ends (Change.Sub c) h = let k : Near 1 (negℤ (pos c)) = omega (ints, neg-parts (pos c)) in (k, k)
 change-ends (Change.Mul c) (l, h) = ends-cond 1 (eqb c 1) still (Grow c c) (still-ends 1) (record { first = omega arith; second = omega arith })

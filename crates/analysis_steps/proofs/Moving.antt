@@ -15,7 +15,7 @@ use Rattle.analysis_row_steps.proofs.Ends.{ends-more, then-ends}
 use Rattle.analysis_table.specs.Code.{kindAt}
 use Rattle.analysis_table.specs.declared.Shape.{Shape}
 use Rattle.analysis_table.specs.Shapes.{shapeOf, plainOf}
-use Rattle.analysis_steps.specs.declared.Stepped.{Stepped}
+use Rattle.analysis_steps.specs.declared.StepOver.{StepOver}
 use Rattle.analysis_steps.specs.declared.Moves.{Moves}
 use Rattle.analysis_steps.specs.Tree.{Ready, Walked, blockAt, headOf}
 use Rattle.analysis_steps.specs.Sets.{setOf, none, withRow, bothOf, assignsFrom, SetIs}
@@ -45,7 +45,7 @@ module _ {text : List ℕ} (rows : List Row) (count at v : ℕ) (first : List Bo
         moves = rw b (plain-step rows count at v r (k .moves) l h);
       }
 
-      pub with-pick : i < count → {a b : Stepped} {q : ℕ} {m n : List Bool} → PickIs text rows count i (a .next) q (b .next) → MovesOf text rows count (i + 1) v set m a → MovesOf text rows count q v m n b
+      pub with-pick : i < count → {a b : StepOver} {q : ℕ} {m n : List Bool} → PickIs text rows count i (a .next) q (b .next) → MovesOf text rows count (i + 1) v set m a → MovesOf text rows count q v m n b
           → {t : Step} → t ≡ then s (either (a .step) (b .step)) → Moving text rows count at v first (b .next + 1) n t
       with-pick l u f g h = record {
         long = g .long;
@@ -53,7 +53,7 @@ module _ {text : List ℕ} (rows : List Row) (count at v : ℕ) (first : List Bo
         moves = rw h (pick-step rows count at v r (k .moves) l u (f .moves, f .near) (g .moves, g .near));
       }
 
-      pub with-loop : i < count → {b : Stepped} → LoopIs text rows count (headOf text (kindAt rows i)) i (b .next) → shapeOf (kindAt rows i) ≡ Shape.Loop
+      pub with-loop : i < count → {b : StepOver} → LoopIs text rows count (headOf text (kindAt rows i)) i (b .next) → shapeOf (kindAt rows i) ≡ Shape.Loop
           → {z n : List Bool} → setOf z ≡ none → MovesOf text rows count (i + 1) v z n b → {o : List Bool} → SetIs o (withRow (setOf n) (plainOf text (kindAt rows i)))
           → {m : List Bool} → SetIs m (bothOf (setOf set) (setOf o)) → {x : Bool} → x ≡ setOf o v → {t : Step} → t ≡ then s (cond x Unknown still) → Moving text rows count at v first (b .next + 1) m t
       with-loop l u h {z} {n} e g {o} a {m} c f p =
@@ -76,11 +76,11 @@ module _ {text : List ℕ} (rows : List Row) (count at v : ℕ) (first : List Bo
 
 module _ {text : List ℕ} {rows : List Row} {count i v : ℕ} {a b : List Bool} where
   -- what `then` asks
-  pub near-room : count ≤ 256 → {m : Stepped} → MovesOf text rows count i v a b m → EndsWithin 512 (m .step)
+  pub near-room : count ≤ 256 → {m : StepOver} → MovesOf text rows count i v a b m → EndsWithin 512 (m .step)
   near-room few {m} k = let w = k .moves in ends-more (m .next - i) 512 (omega arith) (m .step) (k .near)
 
 -- a loop's body: its rows, and a for's step row
-pub body-of : {text : List ℕ} {rows : List Row} {count i v : ℕ} → AtLoop text rows count i → {m : Stepped} {z n : List Bool} → setOf z ≡ none → MovesOf text rows count (i + 1) v z n m
+pub body-of : {text : List ℕ} {rows : List Row} {count i v : ℕ} → AtLoop text rows count i → {m : StepOver} {z n : List Bool} → setOf z ≡ none → MovesOf text rows count (i + 1) v z n m
     → {o : List Bool} → SetIs o (withRow (setOf n) (plainOf text (kindAt rows i))) → {t : Step} → t ≡ then (m .step) (rowStep v (plainOf text (kindAt rows i))) → BodyMoves text rows count i v (record { set = o; step = t; next = m .next })
 body-of {text} {rows} {count} {i} {v} s {m} {z} {n} e k {o} a {t} b =
     let w = k .sets in

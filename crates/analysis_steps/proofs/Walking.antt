@@ -9,7 +9,7 @@ use Rattle.analysis_table.specs.declared.Shape.{Shape}
 use Rattle.analysis_table.specs.Code.{kindAt}
 use Rattle.analysis_table.specs.Shapes.{shapeOf, plainOf, pastElse}
 use Rattle.analysis_table.proofs.Laws.{shape-text}
-use Rattle.analysis_steps.specs.Tree.{Ready, Walked, Whole, blockAt, endAt, headOf, formOf, testOf, withLast}
+use Rattle.analysis_steps.specs.Tree.{Ready, Walked, Whole, blockAt, endAt, headOf, formOf, testOf, withLastOf}
 use Rattle.analysis_steps.proofs.Laws.{RowLaw, PickIs, LoopIs, ClosedAt, row-law, last-law}
 
 -- the rows build from any row on
@@ -57,7 +57,7 @@ module _ {text : List ℕ} (rows : List Row) (count : ℕ) where
           record { low = omega arith; high = omega arith; value = k .value ∙ ap (f x) (t .block) ∙ g _; place = k .place ∙ t .end }
 
       pub loop-row : {e : ℕ} → LoopIs text rows count (headOf text (kindAt rows i)) i e → {y : A}
-          → ((rest : Block) → f x (loop i e (formOf text (kindAt rows i)) (testOf text (kindAt rows i)) (withLast text (kindAt rows i) i (blockAt text rows count (i + 1))) rest) ≡ f y rest)
+          → ((rest : Block) → f x (loop i e (formOf text (kindAt rows i)) (testOf text (kindAt rows i)) (withLastOf text (kindAt rows i) i (blockAt text rows count (i + 1))) rest) ≡ f y rest)
           → Walking text rows count f at x₀ (e + 1) y
       loop-row t g =
           record { low = omega arith; high = omega arith; value = k .value ∙ ap (f x) (t .block) ∙ g _; place = k .place ∙ t .end }

@@ -13,13 +13,13 @@ use Rattle.analysis_table.specs.declared.Shape.{Shape}
 use Rattle.analysis_table.specs.Code.{kindAt}
 use Rattle.analysis_table.specs.Shapes.{shapeOf}
 use Rattle.analysis_steps.specs.declared.Moves.{Moves}
-use Rattle.analysis_steps.specs.declared.Stepped.{Stepped}
+use Rattle.analysis_steps.specs.declared.StepOver.{StepOver}
 use Rattle.analysis_steps.specs.Sets.{setOf, assignsFrom}
-use Rattle.analysis_steps.specs.Tree.{Ready, Walked, blockAt, endAt, withLast}
+use Rattle.analysis_steps.specs.Tree.{Ready, Walked, blockAt, endAt, withLastOf}
 
 -- the body of the loop at row i
 abbrev pub bodyAt : List ℕ → List Row → ℕ → ℕ → Block
-bodyAt text rows count i = withLast text (kindAt rows i) i (blockAt text rows count (i + 1))
+bodyAt text rows count i = withLastOf text (kindAt rows i) i (blockAt text rows count (i + 1))
 
 -- a loop stands at row i
 pub record AtLoop (text : List ℕ) (rows : List Row) (count i : ℕ) : Type 0 where
@@ -34,7 +34,7 @@ pub record EndsAt (text : List ℕ) (rows : List Row) (count i next : ℕ) : Typ
   pub high : next < count
 
 -- what the block from row `at` does: the variables that it assigns beside those before, the step of v, the row that closes it
-pub record MovesOf (text : List ℕ) (rows : List Row) (count at v : ℕ) (before after : List Bool) (r : Stepped) : Type 0 where
+pub record MovesOf (text : List ℕ) (rows : List Row) (count at v : ℕ) (before after : List Bool) (r : StepOver) : Type 0 where
   pub long : length after ≡ 16
   pub sets : Walked text rows count at (r .next) (setOf after) (assignsFrom (setOf before))
   pub moves : Walked text rows count at (r .next) (r .step) (step v)

@@ -79,8 +79,8 @@ abbrev pub testOf : List ℕ → Kind → Test
 testOf text k = headOf text k .test
 
 -- a for's step row ends its body
-abbrev pub withLast : List ℕ → Kind → ℕ → Block → Block
-withLast text k i b = blocks.withLast (headOf text k .last) i b
+abbrev pub withLastOf : List ℕ → Kind → ℕ → Block → Block
+withLastOf text k i b = blocks.withLast (headOf text k .last) i b
 
 -- where the second part of the pick at row i starts: at the row after its else, or at its end
 abbrev pub secondAt : List ℕ → List Row → ℕ → ℕ → ℕ

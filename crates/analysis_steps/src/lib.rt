@@ -84,7 +84,7 @@ fn row_step(rows: &[[u32; 9]; 256], i: usize, v: u8) -> Step
 }
 
 // The step of one variable over some rows, and the row after them.
-pub struct Stepped {
+pub struct StepOver {
     pub step: Step,
     pub next: usize,
 }
@@ -97,7 +97,7 @@ pub fn moves_of(
     at: usize,
     v: u8,
     set: &mut [bool; 16],
-) -> Stepped
+) -> StepOver
     requires { ⌜ Ready (now text) (rowsOf (now rows)) count at × (v < 16) × (length (now set) ≡ 16) ⌝ }
     ensures { λ r. ⌜ MovesOf (now (text .entry)) (rowsOf (now (rows .entry))) count at v (now (set .entry)) (now (set .exit)) r ⌝ }
 {
@@ -130,11 +130,11 @@ pub fn moves_of(
                 i = body.next + 1;
             }
             Shape::Close => {
-                return Stepped { step, next: i };
+                return StepOver { step, next: i };
             }
         }
     }
-    Stepped { step, next: i }
+    StepOver { step, next: i }
 }
 
 // What a loop's body does: the variables that it assigns, the step of one variable, and the loop's end.

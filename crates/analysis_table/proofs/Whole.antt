@@ -8,7 +8,7 @@ use lib.ListN.{length, set, take, getD, length-set}
 use lib.Seq.{take-suc, take-suc-set, getD-take}
 use Rattle.rules.specs.declared.Row.{Row}
 use Rattle.rules.specs.Blocks.{RowKind, kindOf, kindsOf}
-use Rattle.analysis_table.specs.Code.{rowsOf, nothing, kindAt, Packed}
+use Rattle.analysis_table.specs.Code.{rowsOf, noRow, kindAt, Packed}
 use Rattle.analysis_table.proofs.Laws.{rows-length}
 
 put-length : (t u : List (List ℕ)) (i : ℕ) (r : Row) → rowsOf u ≡ set (rowsOf t) i r → length u ≡ length t
@@ -17,7 +17,7 @@ put-length t u i r e = sym (rows-length u) ∙ ap length e ∙ length-set (rowsO
 -- one row more of an array
 packed-more : (rows : List Row) (t u : List (List ℕ)) (i : ℕ) → i < length rows → i < length t → rowsOf u ≡ set (rowsOf t) i (record { kind = kindAt rows i }) → Packed i rows t → Packed (i + 1) rows u
 packed-more rows t u i h k e p =
-    rw (add-one i, e, take-suc-set (rowsOf t) i (getD rows i nothing) (omega (arith, rows-length t)), take-suc rows i nothing h, p)
+    rw (add-one i, e, take-suc-set (rowsOf t) i (getD rows i noRow) (omega (arith, rows-length t)), take-suc rows i noRow h, p)
 
 -- i of the rows are in the table
 pub record Filled (count : ℕ) (rows : List Row) (t : List (List ℕ)) (i : ℕ) : Type 0 where
@@ -44,4 +44,4 @@ pub packed-kinds : (text : List ℕ) (count : ℕ) (rows : List Row) (t : List (
 packed-kinds text count rows t p = sym (kinds-take text count (rowsOf t)) ∙ ap (kindsOf text) p ∙ kinds-take text count rows
 
 pub packed-at : (count : ℕ) (rows : List Row) (t : List (List ℕ)) → Packed count rows t → (i : ℕ) → i < count → kindAt (rowsOf t) i ≡ kindAt rows i
-packed-at count rows t p i h = ap (λ (r : Row). r .kind) (sym (getD-take count (rowsOf t) i nothing h) ∙ ap (λ l. getD l i nothing) p ∙ getD-take count rows i nothing h)
+packed-at count rows t p i h = ap (λ (r : Row). r .kind) (sym (getD-take count (rowsOf t) i noRow h) ∙ ap (λ l. getD l i noRow) p ∙ getD-take count rows i noRow h)

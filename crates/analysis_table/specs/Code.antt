@@ -104,12 +104,12 @@ abbrev pub rowsOf : List (List ℕ) → List Row
 rowsOf t = map rowIn t
 
 -- the row that a read past the end gives
-abbrev pub nothing : Row
-nothing = record { kind = End }
+abbrev pub noRow : Row
+noRow = record { kind = End }
 
 -- the kind of row i
 abbrev pub kindAt : List Row → ℕ → Kind
-kindAt rows i = getD rows i nothing .kind
+kindAt rows i = getD rows i noRow .kind
 
 -- the table holds the first `count` rows
 abbrev pub Packed : ℕ → List Row → List (List ℕ) → Type 0

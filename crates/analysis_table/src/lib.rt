@@ -244,7 +244,7 @@ pub fn assigns(rows: &[[u32; 9]; 256], i: usize) -> bool
 }
 
 // A tag and its value.
-struct Code {
+struct OperandCode {
     tag: u32,
     value: u32,
 }
@@ -257,20 +257,20 @@ fn shifted(k: i32) -> u32
     (k as i64 + MIDDLE) as u32
 }
 
-fn operand_code(x: Operand) -> Code
+fn operand_code(x: Operand) -> OperandCode
     requires { ⌜ FineOperand x ⌝ }
     ensures { λ r. ⌜ operandIn (r .tag) (r .value) ≡ x ⌝ }
 {
     match x {
-        Operand::Constant(k) => Code {
+        Operand::Constant(k) => OperandCode {
             tag: codes::CONSTANT,
             value: shifted(k),
         },
-        Operand::Variable(w) => Code {
+        Operand::Variable(w) => OperandCode {
             tag: codes::VARIABLE,
             value: w as u32,
         },
-        Operand::Expression(at, n) => Code {
+        Operand::Expression(at, n) => OperandCode {
             tag: codes::EXPRESSION,
             value: at as u32 * 65536 + n as u32,
         },
@@ -290,23 +290,23 @@ fn comparison_code(c: Comparison) -> u32
     }
 }
 
-fn change_code(d: Change) -> Code
+fn change_code(d: Change) -> OperandCode
     ensures { λ r. ⌜ changeIn (r .tag) (r .value) ≡ d ⌝ }
 {
     match d {
-        Change::Add(c) => Code {
+        Change::Add(c) => OperandCode {
             tag: codes::ADD,
             value: c,
         },
-        Change::Sub(c) => Code {
+        Change::Sub(c) => OperandCode {
             tag: codes::SUB,
             value: c,
         },
-        Change::Mul(c) => Code {
+        Change::Mul(c) => OperandCode {
             tag: codes::MUL,
             value: c,
         },
-        Change::Div(c) => Code {
+        Change::Div(c) => OperandCode {
             tag: codes::DIV,
             value: c,
         },

@@ -23,7 +23,7 @@ use Rattle.analysis_table.specs.Code.{kindBy, variableIn, startIn, stepIn}
 use Rattle.analysis_table.specs.Shapes.{shapeOf, plainOf}
 use Rattle.analysis_table.proofs.Tag.{the-type}
 use Rattle.analysis_intervals.specs.Env.{envOf}
-use Rattle.analysis_transfer.specs.Env.{upTo}
+use Rattle.analysis_transfer.specs.Env.{envUpTo}
 use Rattle.analysis_intervals.specs.Changes.{joinRange, withZero, changedRange}
 
 abbrev two : ℤ → ℤ → List ℤ
@@ -45,8 +45,8 @@ unfolding envOf
 env-far r w h = rw (List·getD-eq-default r [] {n = w} h)
 
 module _ (σ ρ : Env) where
-  pub up-none : upTo 0 σ ρ ≡ ρ
-  unfolding upTo
+  pub up-none : envUpTo 0 σ ρ ≡ ρ
+  unfolding envUpTo
   up-none = λ d w. go w (ltb w 0) refl d
     where
       go : (w : ℕ) (t : Bool) → ltb w 0 ≡ t → cond t (σ w) (ρ w) ≡ ρ w
@@ -54,22 +54,22 @@ module _ (σ ρ : Env) where
       go w false e = refl
 
   -- the next is still the old one
-  pub up-here : (i : ℕ) → upTo i σ ρ i ≡ ρ i
-  unfolding upTo
+  pub up-here : (i : ℕ) → envUpTo i σ ρ i ≡ ρ i
+  unfolding envUpTo
   up-here i = rw (le-ltb i i (omega arith))
 
-  next-at : (i w : ℕ) (t u : Bool) → eqb w i ≡ t → ltb w i ≡ u → cond t (σ i) (cond u (σ w) (ρ w)) ≡ upTo (i + 1) σ ρ w
-  unfolding upTo
+  next-at : (i w : ℕ) (t u : Bool) → eqb w i ≡ t → ltb w i ≡ u → cond t (σ i) (cond u (σ w) (ρ w)) ≡ envUpTo (i + 1) σ ρ w
+  unfolding envUpTo
   next-at i w true u e f = let q : w ≡ i = eqb-true w i e in rw (q, lt-ltb i (i + 1) (omega arith))
   next-at i w false true e f = let q : w < i = ltb-true w i f in rw (lt-ltb w (i + 1) (omega arith))
   next-at i w false false e f = let q : i ≤ w = ltb-false w i f in let n = eqb-false w i e in rw (le-ltb w (i + 1) (omega arith))
 
-  pub up-next : (i : ℕ) → put (upTo i σ ρ) i (σ i) ≡ upTo (i + 1) σ ρ
-  unfolding upTo
+  pub up-next : (i : ℕ) → put (envUpTo i σ ρ) i (σ i) ≡ envUpTo (i + 1) σ ρ
+  unfolding envUpTo
   up-next i = λ d w. next-at i w (eqb w i) (ltb w i) refl refl d
 
-  pub up-all : (n : ℕ) → ((w : ℕ) → n ≤ w → σ w ≡ ρ w) → upTo n σ ρ ≡ σ
-  unfolding upTo
+  pub up-all : (n : ℕ) → ((w : ℕ) → n ≤ w → σ w ≡ ρ w) → envUpTo n σ ρ ≡ σ
+  unfolding envUpTo
   up-all n far = λ d w. go w (ltb w n) refl d
     where
       go : (w : ℕ) (t : Bool) → ltb w n ≡ t → cond t (σ w) (ρ w) ≡ σ w
@@ -77,7 +77,7 @@ module _ (σ ρ : Env) where
       go w false e = sym (far w (ltb-false w n e))
 
   -- one variable more, as the code stores it
-  pub up-put : (i : ℕ) (e : Env) (x : Range) → e ≡ upTo i σ ρ → x ≡ σ i → put e i x ≡ upTo (i + 1) σ ρ
+  pub up-put : (i : ℕ) (e : Env) (x : Range) → e ≡ envUpTo i σ ρ → x ≡ σ i → put e i x ≡ envUpTo (i + 1) σ ρ
   up-put i e x p q = rw (p, q) (up-next i)
 
 module _ (a b : List (List ℤ)) where

@@ -15,8 +15,8 @@ pub record EnvIs (r : List (List ℤ)) (ρ : Env) : Type 0 where
   pub value : envOf r ≡ ρ
 
 -- σ for the first i variables, ρ for the others
-unfoldable pub upTo : ℕ → Env → Env → Env
-upTo i σ ρ w = cond (ltb w i) (σ w) (ρ w)
+unfoldable pub envUpTo : ℕ → Env → Env → Env
+envUpTo i σ ρ w = cond (ltb w i) (σ w) (ρ w)
 
 -- one range for the tested variable, all for what a loop's body assigns, else as before
 unfoldable pub widenedEnv : (ℕ → Bool) → Range → ℕ → Env → Env

@@ -1,14 +1,15 @@
 // The questions 19 and 8 to 12 of one loop, and the turns of one entry.
+use analysis_comparisons::WideInterval;
+use analysis_comparisons::edge;
 use analysis_comparisons::equal_ends;
 use analysis_comparisons::known;
 use analysis_comparisons::moving;
 use analysis_comparisons::suits;
-use analysis_figures::WideInterval;
 use analysis_figures::at_test;
-use analysis_figures::edge;
 use analysis_figures::has_figure;
 use analysis_figures::while_turns;
 use analysis_intervals::Interval;
+use analysis_intervals::whole;
 use analysis_leads::led;
 use analysis_trips::Counter;
 use analysis_trips::Trip;
@@ -18,18 +19,8 @@ ghost use Rattle.rules.specs.Trips.{isExact};
 ghost use Rattle.analysis_intervals.specs.Env as env;
 ghost use Rattle.analysis_trips.specs.declared.Counter.{Counter};
 ghost use Rattle.analysis_trips.specs.Found.{startOf, limitOf, tripOf};
-ghost use Rattle.analysis_figures.specs.Needs.{wideRange, Unmoved};
+ghost use Rattle.analysis_comparisons.specs.Wide.{wideRange, Unmoved};
 ghost use Rattle.analysis_turns.specs.Verdicts.{FigureOf};
-
-// A range of 32 bits.
-pub fn whole(s: Interval) -> WideInterval
-    ensures { λ r. ⌜ (wideRange r ≡ env.rangeOf s) × Unmoved r ⌝ }
-{
-    WideInterval {
-        lo: s.lo as i64,
-        hi: s.hi as i64,
-    }
-}
 
 // The range of the difference of two numbers.
 fn gap(s: Interval, n: Interval) -> WideInterval

@@ -8,7 +8,7 @@ use Rattle.rules.specs.declared.Kind.{Kind}
 use Rattle.rules.specs.Written.{WrittenOperand, Written}
 use Rattle.rules.specs.Bounds.{FineOperand}
 use Rattle.analysis_steps.specs.Tree.{testOf}
-use Rattle.analysis_ways.specs.declared.Head.{Head}
+use Rattle.analysis_ways.specs.declared.LoopTest.{LoopTest}
 
 -- a for
 abbrev pub isFor : Form → Bool
@@ -18,7 +18,7 @@ isFor hold = false
 isFor (for x) = true
 
 -- the parts of a loop's test
-pub record HeadOf (text : List ℕ) (k : Kind) (h : Head) : Type 0 where
+pub record HeadOf (text : List ℕ) (k : Kind) (h : LoopTest) : Type 0 where
   pub tested : h .tested ≡ testOf text k .tested
   pub comparison : h .comparison ≡ testOf text k .comparison
   pub limit : exprOf text (h .limit) ≡ testOf text k .limit

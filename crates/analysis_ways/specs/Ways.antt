@@ -20,7 +20,7 @@ use Rattle.rules.specs.Questions.{known}
 use Rattle.analysis_table.specs.Code.{kindAt}
 use Rattle.analysis_steps.specs.Tree.{formOf, testOf}
 use Rattle.analysis_steps.specs.Body.{AtLoop, bodyAt}
-use Rattle.analysis_ways.specs.declared.Head.{Head}
+use Rattle.analysis_ways.specs.declared.LoopTest.{LoopTest}
 use Rattle.analysis_ways.specs.declared.Way.{Way}
 use Rattle.analysis_ways.specs.Heads.{HeadOf}
 
@@ -81,7 +81,7 @@ pub record SoleFrom (text : List ℕ) (rows : List Row) (count i : ℕ) : Type 0
   pub own : ownStep text rows count i ≡ Unknown
 
 -- its limit is the variable w, which the body assigns; st: the tested variable's own step, which is known
-pub record ChaseAt (text : List ℕ) (rows : List Row) (count i : ℕ) (h : Head) (st : Step) (w : ℕ) : Type 0 where
+pub record ChaseAt (text : List ℕ) (rows : List Row) (count i : ℕ) (h : LoopTest) (st : Step) (w : ℕ) : Type 0 where
   pub loop : AtLoop text rows count i
   pub form : NoHold text rows i
   pub head : HeadOf text (kindAt rows i) h

@@ -35,34 +35,34 @@ ghost use Rattle.analysis_ways.specs.Heads.{HeadOf, isFor};
 ghost use Rattle.analysis_ways.specs.Ways.{CopiedAt, WatchedAt, SoleFrom, ChaseAt, LimitAt, WayFrom, WayAt};
 
 // The test of a loop.
-pub struct Head {
+pub struct LoopTest {
     pub tested: u8,
     pub comparison: Comparison,
     pub limit: Operand,
 }
 
 // The test of a loop's head; any other row gives what is not read.
-pub fn head_of(kind: Kind) -> Head
+pub fn head_of(kind: Kind) -> LoopTest
     requires { ⌜ Fine kind ⌝ }
     ensures { λ r. ⌜ ((text : List ℕ) → HeadOf text kind r) ⌝ }
 {
     match kind {
-        Kind::While(v, c, x) => Head {
+        Kind::While(v, c, x) => LoopTest {
             tested: v,
             comparison: c,
             limit: x,
         },
-        Kind::Do(v, c, x) => Head {
+        Kind::Do(v, c, x) => LoopTest {
             tested: v,
             comparison: c,
             limit: x,
         },
-        Kind::For(v, _, c, x, _) => Head {
+        Kind::For(v, _, c, x, _) => LoopTest {
             tested: v,
             comparison: c,
             limit: x,
         },
-        Kind::Hold(v) => Head {
+        Kind::Hold(v) => LoopTest {
             tested: v,
             comparison: Comparison::Different,
             limit: Operand::Constant(0),
@@ -71,7 +71,7 @@ pub fn head_of(kind: Kind) -> Head
     }
 }
 
-const NO_HEAD: Head = Head {
+const NO_HEAD: LoopTest = LoopTest {
     tested: 0,
     comparison: Comparison::Less,
     limit: Operand::Constant(0),
@@ -228,7 +228,7 @@ fn chased_way(
     rows: &[[u32; 9]; 256],
     count: usize,
     i: usize,
-    head: Head,
+    head: LoopTest,
     step: Step,
     w: u8,
 ) -> Way

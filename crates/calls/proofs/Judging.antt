@@ -12,12 +12,12 @@ use Rattle.rules.specs.Questions.{tickLimit, verdict}
 use Rattle.rules.specs.Scripts.{Script, startEnv, treeOf, reportTicks, Legal, Accepted}
 use Rattle.rules.specs.Report.{reportText, scriptReport}
 use Rattle.analysis_lines.specs.Coded.{firstLines}
-use Rattle.rules.specs.Calls.{accepted, refuses, judgedBy, pricesOf, fitting, written, replyOf, bufferOf}
+use Rattle.rules.specs.Calls.{accepted, refuses, judgedBy, pricesOf, bufferReply, written, replyOf, bufferOf}
 use Rattle.rules.proofs.Accepted.{then-yes, asked-yes}
 use Rattle.analysis_turns.specs.Verdicts.{verdictOf}
 use Rattle.analysis.specs.declared.Figures.{Figures}
 use Rattle.calls.specs.Held.{judgedScript, FiguresFound}
-use Rattle.calls.specs.Told.{ticksOf, MeasuredAs}
+use Rattle.calls.specs.Told.{judgedTicks, MeasuredAs}
 
 by-number : (script : Script) (n p : ℕ) → (n ≡ 0 → ⊥) → judgedBy script (verdictOf n p) ≡ refuses n p
 unfolding verdictOf judgedBy
@@ -58,13 +58,13 @@ module _ (prices : List ℕ) (script : Script) (count : ℕ) (s : Figures) (ls :
 
     -- the report written
     pub reported : (r : Reply) (old new : List ℕ)
-        → (r ≡ fitting (reportText count (firstLines ls (s .loops)) (s .ticks)) (length old)) × (new ≡ written (reportText count (firstLines ls (s .loops)) (s .ticks)) old)
+        → (r ≡ bufferReply (reportText count (firstLines ls (s .loops)) (s .ticks)) (length old)) × (new ≡ written (reportText count (firstLines ls (s .loops)) (s .ticks)) old)
         → MeasuredAs prices (judgedScript prices script) old new (record { reply = r; ticks = s .ticks })
     unfolding replyOf bufferOf
     reported r old new (a, b) = record {
-      reply = a ∙ ap (λ t. fitting t (length old)) text-is ∙ ap (λ j. replyOf prices j (length old)) (sym judged-yes);
+      reply = a ∙ ap (λ t. bufferReply t (length old)) text-is ∙ ap (λ j. replyOf prices j (length old)) (sym judged-yes);
       buffer = b ∙ ap (λ t. written t old) text-is ∙ ap (λ j. bufferOf prices j old) (sym judged-yes);
-      ticks = found .figures .ticks z ∙ ap (ticksOf prices) (sym judged-yes);
+      ticks = found .figures .ticks z ∙ ap (judgedTicks prices) (sym judged-yes);
       few = ticks-few;
     }
 
@@ -74,6 +74,6 @@ module _ (prices : List ℕ) (script : Script) (count : ℕ) (s : Figures) (ls :
   not-reported h old = record {
     reply = ap (λ j. replyOf prices j (length old)) (sym (judged-no h));
     buffer = ap (λ j. bufferOf prices j old) (sym (judged-no h));
-    ticks = ap (ticksOf prices) (sym (judged-no h));
+    ticks = ap (judgedTicks prices) (sym (judged-no h));
     few = omega arith;
   }

@@ -19,7 +19,7 @@ use Rattle.runner.proofs.Start.{runnable}
 use Rattle.analysis.specs.declared.Figures.{Figures}
 use Rattle.calls.specs.declared.Outcome.{Outcome}
 use Rattle.calls.specs.Held.{judgedScript, FiguresFound}
-use Rattle.calls.specs.Told.{ToldNo, Told, Ran, ranRows}
+use Rattle.calls.specs.Told.{ToldNo, Told, RanAs, ranRows}
 use Rattle.calls.proofs.Judging.{judged-no, judged-yes, is-accepted}
 
 -- an answer that tells the reply has its ending, ticks and counts
@@ -28,13 +28,13 @@ told-says o (ran a cs) t = (t .ending, t .ticks, t .counts)
 told-says o (refuses q p) t = tt
 
 -- a refusal leaves the store
-refused-as : {reply : RunReply} {q p : ℕ} {store : List ℤ} {o : Outcome} → reply ≡ refuses q p → ToldNo o q p → Ran reply store store o
+refused-as : {reply : RunReply} {q p : ℕ} {store : List ℤ} {o : Outcome} → reply ≡ refuses q p → ToldNo o q p → RanAs reply store store o
 unfolding storeAfter
-refused-as {reply} {q} {p} {store} {o} e t = subst (λ r. Ran r store store o) (sym e) (record { told = t; store = refl })
+refused-as {reply} {q} {p} {store} {o} e t = subst (λ r. RanAs r store store o) (sym e) (record { told = t; store = refl })
 
 module _ (prices : List ℕ) (script : Script) (count : ℕ) (s : Figures) (ls : List (List ℕ)) (found : FiguresFound prices script count s ls) (store : List ℤ) (picks : List ℕ) (allowance : ℕ) where
   -- refused by 8 to 13
-  pub ran-no : (s .number ≡ 0 → ⊥) → (o : Outcome) → ToldNo o (s .number) (s .place) → Ran (runReply prices (judgedScript prices script) store picks allowance) store store o
+  pub ran-no : (s .number ≡ 0 → ⊥) → (o : Outcome) → ToldNo o (s .number) (s .place) → RanAs (runReply prices (judgedScript prices script) store picks allowance) store store o
   unfolding runReply
   ran-no h o t = refused-as (ap (λ j. runReply prices j store picks allowance) (judged-no prices script count s ls found h)) t
 
@@ -44,7 +44,7 @@ module _ (prices : List ℕ) (script : Script) (count : ℕ) (s : Figures) (ls :
     replied w e = ap (λ j. runReply prices j store picks allowance) (judged-yes prices script count s ls found z) ∙ ap (λ x. stored (pricesOf prices) script x store picks allowance) (sym asked ∙ e)
 
     -- refused by 15
-    pub ran-out : (q p : ℕ) → v ≡ Refused q p → (o : Outcome) → ToldNo o q p → Ran (runReply prices (judgedScript prices script) store picks allowance) store store o
+    pub ran-out : (q p : ℕ) → v ≡ Refused q p → (o : Outcome) → ToldNo o q p → RanAs (runReply prices (judgedScript prices script) store picks allowance) store store o
     unfolding stored
     ran-out q p e o t = refused-as (replied (Refused q p) e) t
 
@@ -70,8 +70,8 @@ module _ (prices : List ℕ) (script : Script) (count : ℕ) (s : Figures) (ls :
 pub ran-all : (prices : List ℕ) → Priced prices → (π : Prices) → π ≡ pricesOf prices → (text : List ℕ) (ranges : List (List ℤ)) (vars : ℕ) (rows : List Row) (count : ℕ) (s : Figures) (ls : List (List ℕ)) → FiguresFound prices (scriptOf text ranges vars rows count) count s ls
     → (store : List ℤ) (picks : List ℕ) (allowance : ℕ) → s .number ≡ 0 → (v : Verdict) → v ≡ storeVerdict 0 (scriptOf text ranges vars rows count .ranges) store → v ≡ Passed → Legal (scriptOf text ranges vars rows count)
     → (least : ℕ) → least ≡ min allowance (s .ticks) → (new : List ℤ) (o : Outcome)
-    → Ran (ranRows text π rows count store picks least) store new o → Ran (runReply prices (judgedScript prices (scriptOf text ranges vars rows count)) store picks allowance) store new o
+    → RanAs (ranRows text π rows count store picks least) store new o → RanAs (runReply prices (judgedScript prices (scriptOf text ranges vars rows count)) store picks allowance) store new o
 unfolding ranScript runScript scriptOf
 ran-all prices q π f text ranges vars rows count s ls found store picks allowance z v asked y legal least e new o =
-    subst (λ r. Ran r store new o)
+    subst (λ r. RanAs r store new o)
     ((λ j. ranRows text (f j) rows count store picks (e j)) ∙ sym (replied-run prices (scriptOf text ranges vars rows count) count s ls found store picks allowance z v asked y legal q))

@@ -22,15 +22,15 @@ use Rattle.calls.specs.declared.Measured.{Measured}
 use Rattle.calls.specs.declared.Outcome.{Outcome}
 
 -- the ticks of an accepted script's report; a refused one has none
-abbrev pub ticksOf : List ℕ → Judged → ℕ
-ticksOf prices (accepted script) = reportTicks (pricesOf prices) script
-ticksOf prices (Judged.refuses q p) = 0
+abbrev pub judgedTicks : List ℕ → Judged → ℕ
+judgedTicks prices (accepted script) = reportTicks (pricesOf prices) script
+judgedTicks prices (Judged.refuses q p) = 0
 
 -- the answer of a report call, the buffer after it, and the ticks, which question 13 limits
 pub record MeasuredAs (prices : List ℕ) (j : Judged) (old new : List ℕ) (m : Measured) : Type 0 where
   pub reply : m .reply ≡ replyOf prices j (length old)
   pub buffer : new ≡ bufferOf prices j old
-  pub ticks : m .ticks ≡ ticksOf prices j
+  pub ticks : m .ticks ≡ judgedTicks prices j
   pub few : m .ticks ≤ 1_000_000_000_000
 
 -- a run: its figures, and the counts of its loops in row order
@@ -60,7 +60,7 @@ Told o (ran a counts) = ToldRun o a counts
 Told o (refuses q p) = ToldNo o q p
 
 -- the answer of a run call, and the store after it
-pub record Ran (reply : RunReply) (old new : List ℤ) (o : Outcome) : Type 0 where
+pub record RanAs (reply : RunReply) (old new : List ℤ) (o : Outcome) : Type 0 where
   pub told : Told o reply
   pub store : new ≡ storeAfter reply old
 

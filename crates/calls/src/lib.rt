@@ -22,7 +22,7 @@ ghost use Rattle.rules.specs.Calls.{Priced, storeVerdict, runReply};
 ghost use Rattle.rules.specs.Claim.{Demand3Of};
 ghost use Rattle.analysis.specs.Whole.{AnalysisOf};
 ghost use Rattle.calls.specs.Held.{Given, judgedScript, admitted};
-ghost use Rattle.calls.specs.Told.{MeasuredAs, ToldNo, Ran, Runs, ranRows};
+ghost use Rattle.calls.specs.Told.{MeasuredAs, ToldNo, RanAs, Runs, ranRows};
 
 // What a report call answers, and the script's ticks: 0 of a refused one.
 pub struct Measured {
@@ -133,7 +133,7 @@ fn run_accepted(
     allowance: u64,
 ) -> Outcome
     requires { ⌜ Runs (now text) prices rows count (now store) allowance ⌝ }
-    ensures { λ r. ⌜ Ran (ranRows (now (text .entry)) prices rows count (now (store .entry)) (now (picks .entry)) allowance) (now (store .entry)) (now (store .exit)) r ⌝ }
+    ensures { λ r. ⌜ RanAs (ranRows (now (text .entry)) prices rows count (now (store .entry)) (now (picks .entry)) allowance) (now (store .entry)) (now (store .exit)) r ⌝ }
 {
     let heads = run_loops::heads_of(rows, count);
     let mut table: [[u64; 3]; 256] = [[0; 3]; 256];
@@ -237,7 +237,7 @@ pub fn run_script(
     allowance: u64,
 ) -> Outcome
     requires { ⌜ Given (now text) ranges vars rows count × Priced (now prices) ⌝ }
-    ensures run { λ r. ⌜ Ran (runReply (now (prices .entry)) (judgedScript (now (prices .entry)) (scriptOf (now (text .entry)) ranges vars rows count)) (now (store .entry)) (now (picks .entry)) allowance) (now (store .entry)) (now (store .exit)) r ⌝ }
+    ensures run { λ r. ⌜ RanAs (runReply (now (prices .entry)) (judgedScript (now (prices .entry)) (scriptOf (now (text .entry)) ranges vars rows count)) (now (store .entry)) (now (picks .entry)) allowance) (now (store .entry)) (now (store .exit)) r ⌝ }
     ensures demand3 { λ r. ⌜ Demand3Of (now (prices .entry)) (judgedScript (now (prices .entry)) (scriptOf (now (text .entry)) ranges vars rows count)) (now (store .entry)) (now (picks .entry)) allowance (r .ending) (r .ticks) (take (r .loops) (r .counts)) ⌝ }
 {
     let by_kind = prices_of(prices);

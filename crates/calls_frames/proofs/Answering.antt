@@ -1,13 +1,13 @@
 -- The answers of the first scripts. Assumes nothing.
-use mathlib.Core.Path.{_≡_, refl, sym, _∙_, ap, subst}
-use mathlib.Core.List.{List, [], _∷_}
+use mathlib.Core.Path.{_≡_, refl, _∙_}
+use mathlib.Core.List.{List, []}
 use Prim.Native.Nat.{ℕ, zero, suc, _+_, _≤_, _<_}
 use native.Mathlib.Decide.{ℕ-discrete}
 use native.Mathlib.Omega.{arith}
 use lib.ListN.{length, getD, set, replicate, length-set, length-replicate}
 use lib.Seq.{getD-set-same, getD-set-other}
 use Rattle.calls_scripts.specs.declared.Held.{Held}
-use Rattle.calls_frames.specs.declared.Progress.{Progress}
+use Rattle.calls_turns.specs.declared.Progress.{Progress}
 use Rattle.calls_frames.specs.declared.Played.{Played}
 use Rattle.calls_frames.specs.Answers.{noAnswer, AnsweredBy, AllAnswered}
 use Rattle.calls_frames.proofs.Playing.{same-default}

@@ -15,12 +15,11 @@ use Rattle.rules_machine.specs.RowMachine.{more, fresh}
 use Rattle.rules.specs.Scripts.{storeOf, Accepted, StoreIn}
 use Rattle.rules.specs.Calls.{pricesOf, scratchSize}
 use Rattle.rules_frames.specs.Frames
-use Rattle.rules_frames.specs.Frames.{after, together, most, ticksIn, Lent, Part, partsOf}
+use Rattle.rules_frames.specs.Frames.{afterFrames, together, most, ticksIn, Lent, ScriptPart, partsOf}
 use Rattle.rules_frames.specs.InTime.{Done, Accepts}
 use Rattle.rules_frames.proofs.FramesAsAlone.{cast-accepts}
 use Rattle.rules.proofs.Demand3File.{file-accepted, test-priced, store-in}
 use Rattle.rules_frames.proofs.Cut.{partAt, cut-length, cut-at}
-use Rattle.run_actions.specs.declared.Machine.{Machine}
 use Rattle.run_actions.specs.declared.Status.the-variants.{Going}
 use Rattle.runner.specs.Pauses.{Paused}
 use Rattle.runner.specs.Answered.{Cleared}
@@ -30,9 +29,12 @@ use Rattle.calls_lists.proofs.Extents.{part-length}
 use Rattle.calls_scripts.specs.declared.Held.{Held}
 use Rattle.calls_scripts.specs.Held.{noPart, noProgress, HeldAs}
 use Rattle.calls_scripts.proofs.Readiness.{Plays, plays-at, plays-all}
-use Rattle.calls_frames.specs.declared.Progress.{Progress}
-use Rattle.calls_frames.specs.Progress.{isWaiting, Turned, FramesReady, Stands, Uncounted, PlayedOut}
-use Rattle.calls_frames.proofs.Standing.{is-done, stands-still, takes-still, not-done, stands-on, takes-on, not-due, may-run-on}
+use Rattle.calls_turns.specs.declared.Progress.{Progress}
+use Rattle.calls_turns.specs.declared.Frame.{Frame}
+use Rattle.calls_turns.specs.declared.AfterTurn.{AfterTurn}
+use Rattle.calls_turns.specs.Progress.{isWaiting, FrameFits, newFrame, Turned, Stands}
+use Rattle.calls_frames.specs.Playing.{FramesReady, Uncounted, PlayedOut}
+use Rattle.calls_turns.proofs.Standing.{is-done, stands-still, takes-still, not-done, stands-on, takes-on, not-due, may-run-on}
 
 -- one script more
 module _ (π : Prices) (q n : ℕ) where
@@ -90,7 +92,7 @@ module _ (prices : List ℕ) (l : Lent) (q : ℕ) (ps : List Frames.Progress) (h
   scripts-count = plays-all accepts ∙ parts-count
 
   module _ (j : ℕ) (h : j < N) where
-    abbrev pub part : Part
+    abbrev pub part : ScriptPart
     part = partAt (l .fileLengths) (l .storeLengths) (l .pickLengths) (l .files) (l .stores) (l .picks) j
 
     is-part : getD (partsOf l) j noPart ≡ part
@@ -100,7 +102,7 @@ module _ (prices : List ℕ) (l : Lent) (q : ℕ) (ps : List Frames.Progress) (h
     plays = subst (λ z. Plays prices scratchSize z (role j)) is-part (plays-at accepts j (omega (arith, parts-count)))
 
     pub held-at : (d : Held) → HeldAs (partOf (l .fileLengths) j (l .files)) (role j .script) (getD held j d)
-    held-at d = subst (λ (z : Part). HeldAs (z .file) (role j .script) (getD held j d)) is-part (on .holds j (omega (arith, parts-count)) d)
+    held-at d = subst (λ (z : ScriptPart). HeldAs (z .file) (role j .script) (getD held j d)) is-part (on .holds j (omega (arith, parts-count)) d)
 
     accepted-at : Accepted π (role j .script)
     accepted-at = file-accepted prices scratchSize (part .file) (role j .script) (plays .yes-13) .script-accepted
@@ -119,21 +121,21 @@ module _ (prices : List ℕ) (l : Lent) (q : ℕ) (ps : List Frames.Progress) (h
 
   -- ---- some script waits after the frame, of the first k
   pub data Waits (n k : ℕ) : Bool → Type 0 where
-    none-waits : ((j : ℕ) → j < k → Done (after π q (role j) (suc n) .stand)) → Waits n k false
-    one-waits : (j : ℕ) → j < k → (Done (after π q (role j) (suc n) .stand) → ⊥) → Waits n k true
+    none-waits : ((j : ℕ) → j < k → Done (afterFrames π q (role j) (suc n) .stand)) → Waits n k false
+    one-waits : (j : ℕ) → j < k → (Done (afterFrames π q (role j) (suc n) .stand) → ⊥) → Waits n k true
 
-  done-more : (n k : ℕ) → ((j : ℕ) → j < k → Done (after π q (role j) (suc n) .stand)) → Done (after π q (role k) (suc n) .stand) → (j : ℕ) → j < k + 1 → Done (after π q (role j) (suc n) .stand)
+  done-more : (n k : ℕ) → ((j : ℕ) → j < k → Done (afterFrames π q (role j) (suc n) .stand)) → Done (afterFrames π q (role k) (suc n) .stand) → (j : ℕ) → j < k + 1 → Done (afterFrames π q (role j) (suc n) .stand)
   done-more n k f d j h = by (ℕ-discrete j k)
     where
-      by : Dec (j ≡ k) → Done (after π q (role j) (suc n) .stand)
-      by (yes e) = subst (λ z. Done (after π q (role z) (suc n) .stand)) (sym e) d
+      by : Dec (j ≡ k) → Done (afterFrames π q (role j) (suc n) .stand)
+      by (yes e) = subst (λ z. Done (afterFrames π q (role z) (suc n) .stand)) (sym e) d
       by (no e) = f j (omega (arith, e))
 
-  waits-still : (n k : ℕ) {b : Bool} → Waits n k b → Done (after π q (role k) (suc n) .stand) → Waits n (k + 1) b
+  waits-still : (n k : ℕ) {b : Bool} → Waits n k b → Done (afterFrames π q (role k) (suc n) .stand) → Waits n (k + 1) b
   waits-still n k (none-waits f) d = none-waits (done-more n k f d)
   waits-still n k (one-waits j h f) d = one-waits j (omega arith) f
 
-  waits-more : (n k : ℕ) {b : Bool} → Waits n k b → (w : Bool) → (w ≡ false → Done (after π q (role k) (suc n) .stand)) → (w ≡ true → Done (after π q (role k) (suc n) .stand) → ⊥) → Waits n (k + 1) (b || w)
+  waits-more : (n k : ℕ) {b : Bool} → Waits n k b → (w : Bool) → (w ≡ false → Done (afterFrames π q (role k) (suc n) .stand)) → (w ≡ true → Done (afterFrames π q (role k) (suc n) .stand) → ⊥) → Waits n (k + 1) (b || w)
   waits-more n k (none-waits f) true g h = one-waits k (omega arith) (h refl)
   waits-more n k (none-waits f) false g h = none-waits (done-more n k f (g refl))
   waits-more n k (one-waits j e f) w g h = one-waits j (omega arith) f
@@ -142,22 +144,22 @@ module _ (prices : List ℕ) (l : Lent) (q : ℕ) (ps : List Frames.Progress) (h
   abbrev pub Here : List ℤ → List (List (List ℕ)) → List Progress → ℕ → ℕ → Type 0
   Here stores counts xs j n = Stands π q (role j) n (getD xs j startPlayer) (partOf (l .storeLengths) j stores) (partOf (l .pickLengths) j (l .picks)) (getD counts j [])
 
-  pub record Playing (stores : List ℤ) (counts : List (List (List ℕ))) (xs : List Progress) (m t n k : ℕ) (w : Bool) : Type 0 where
-    pub frames : n * q ≤ 1_000_000_000_000
+  pub record Playing (stores : List ℤ) (counts : List (List (List ℕ))) (xs : List Progress) (m : ℕ) (f : Frame) (k : ℕ) : Type 0 where
+    pub frames : f .earlier * q ≤ 1_000_000_000_000
     pub upto : k ≤ N
     pub sizes : (length xs ≡ 8) × (length counts ≡ 8) × (length stores ≡ length (l .stores))
-    pub had : (j : ℕ) → j < k → Here stores counts xs j (suc n)
-    pub due : (j : ℕ) → k ≤ j → j < N → Here stores counts xs j n
-    pub taken : t ≡ together π q (take k ps) n
-    pub few : t ≤ k * 1_000_001_000_000
-    pub most : m ≡ most π q ps n
-    pub waits : Waits n k w
+    pub had : (j : ℕ) → j < k → Here stores counts xs j (suc (f .earlier))
+    pub due : (j : ℕ) → k ≤ j → j < N → Here stores counts xs j (f .earlier)
+    pub taken : f .ticks ≡ together π q (take k ps) (f .earlier)
+    pub few : f .ticks ≤ k * 1_000_001_000_000
+    pub most : m ≡ most π q ps (f .earlier)
+    pub waits : Waits (f .earlier) k (f .waits)
 
-  pub playing-late : {stores : List ℤ} {counts : List (List (List ℕ))} {xs : List Progress} {m t n k : ℕ} {w : Bool} → Playing stores counts xs m t n k w → n ≤ 1_000_000_000_000
-  playing-late {n = n} h = omega (arith, h .frames, mul-le-mul-left n (on .fits .tick))
+  pub playing-late : {stores : List ℤ} {counts : List (List (List ℕ))} {xs : List Progress} {m : ℕ} {f : Frame} {k : ℕ} → Playing stores counts xs m f k → f .earlier ≤ 1_000_000_000_000
+  playing-late {f = f} h = omega (arith, h .frames, mul-le-mul-left (f .earlier) (on .fits .tick))
 
   starts : (counts : List (List ℕ)) → Cleared counts → (j : ℕ) → j < N → Stands π q (role j) 0 startPlayer (partOf (l .storeLengths) j (l .stores)) (partOf (l .pickLengths) j (l .picks)) counts
-  unfolding after
+  unfolding afterFrames
   starts counts z j h =
       let e = plays j h .is in
       record {
@@ -170,7 +172,7 @@ module _ (prices : List ℕ) (l : Lent) (q : ℕ) (ps : List Frames.Progress) (h
         long = z .long;
       }
 
-  pub playing-start : (counts : List (List (List ℕ))) → Uncounted counts → Playing (l .stores) counts (replicate 8 startPlayer) 0 0 0 0 false
+  pub playing-start : (counts : List (List (List ℕ))) → Uncounted counts → Playing (l .stores) counts (replicate 8 startPlayer) 0 (newFrame 0) 0
   unfolding most together
   playing-start counts (long, clear) = record {
     frames = omega arith;
@@ -184,7 +186,13 @@ module _ (prices : List ℕ) (l : Lent) (q : ℕ) (ps : List Frames.Progress) (h
     waits = none-waits λ j h. absurd (omega arith);
   }
 
-  module _ (stores : List ℤ) (counts : List (List (List ℕ))) (xs : List Progress) (m t n k : ℕ) (w : Bool) (h : Playing stores counts xs m t n k w) where
+  module _ (stores : List ℤ) (counts : List (List (List ℕ))) (xs : List Progress) (m : ℕ) (f : Frame) (k : ℕ) (h : Playing stores counts xs m f k) where
+    abbrev n : ℕ
+    n = f .earlier
+
+    pub countable : FrameFits f
+    countable = record { earlier = omega (arith, playing-late h); ticks = omega (arith, h .few, h .upto, on .fits .few) }
+
     -- ---- script k
     module _ (inside : k < N) where
       abbrev pub x : Progress
@@ -193,20 +201,17 @@ module _ (prices : List ℕ) (l : Lent) (q : ℕ) (ps : List Frames.Progress) (h
       here : Here stores counts xs k n
       here = h .due k (omega arith) inside
 
-      pub by-default : (d : Progress) → getD xs k d ≡ x
-      by-default d = same-default xs k (omega (arith, h .sizes .0, on .fits .few)) d startPlayer
-
-      next-taken : (r : ℕ) → ticksIn π q (role k) n ≡ r → t + r ≡ together π q (take (k + 1) ps) n
+      next-taken : (r : ℕ) → ticksIn π q (role k) n ≡ r → f .ticks + r ≡ together π q (take (k + 1) ps) n
       next-taken r e = omega (arith, h .taken, together-more π q n ps k (omega (arith, scripts-count)))
 
       -- it is finished
-      pub playing-still : isWaiting (x .machine .status) ≡ false → Playing stores counts xs m t n (k + 1) w
+      pub playing-still : isWaiting (x .machine .status) ≡ false → Playing stores counts xs m f (k + 1)
       playing-still s = record {
         frames = h .frames;
         upto = omega arith;
         sizes = h .sizes;
         had = λ j g. by j g (ℕ-discrete j k);
-        due = λ j g f. h .due j (omega arith) f;
+        due = λ j g i. h .due j (omega arith) i;
         taken = omega (arith, next-taken 0 (takes-still π q (role k) n x _ _ _ here s));
         few = omega (arith, h .few);
         most = h .most;
@@ -225,16 +230,16 @@ module _ (prices : List ℕ) (l : Lent) (q : ℕ) (ps : List Frames.Progress) (h
             (part-same k inside stores (h .sizes .2)) _ _ (held-at k inside d)
 
         -- its ticks so far are few
-        pub few-left : x .machine .left ≤ 1_000_000_000_000
+        few-left : x .machine .left ≤ 1_000_000_000_000
         few-left = omega (arith, here .left, mul-le-mul-right q (here .late), h .frames)
 
-        module _ (r : Machine) (stores′ : List ℤ) (table : List (List ℕ))
-            (turned : Turned π (partOf (l .fileLengths) k (l .files)) (getD held k d) q k (x .machine) r (l .storeLengths) stores stores′ (partOf (l .pickLengths) k (l .picks)) (getD counts k []) table) where
+        module _ (a : AfterTurn) (stores′ : List ℤ) (table : List (List ℕ))
+            (turned : Turned π (partOf (l .fileLengths) k (l .files)) (getD held k d) q k (x .machine) f a (l .storeLengths) stores stores′ (partOf (l .pickLengths) k (l .picks)) (getD counts k []) table) where
           abbrev pub x′ : Progress
-          x′ = record { machine = r; frame = n + 1 }
+          x′ = a .progress
 
           now-here : Stands π q (role k) (suc n) x′ (partOf (l .storeLengths) k stores′) (partOf (l .pickLengths) k (l .picks)) table
-          now-here = stands-on π q (role k) n x _ _ _ here s _ (held-at k inside d .rows) _ _ r (turned .ran)
+          now-here = stands-on π q (role k) n x _ _ _ here s _ (held-at k inside d .rows) _ _ x′ (turned .ran) (ap (λ (z : AfterTurn). z .progress .frame) (turned .turn))
 
           -- the others
           other : (j i : ℕ) → j < N → (j ≡ k → ⊥) → Here stores counts xs j i → Here stores′ (set counts k table) (set xs k x′) j i
@@ -244,18 +249,18 @@ module _ (prices : List ℕ) (l : Lent) (q : ℕ) (ps : List Frames.Progress) (h
           this : Here stores′ (set counts k table) (set xs k x′) k (suc n)
           this = rw (getD-set-same xs k x′ startPlayer (omega (arith, h .sizes .0, on .fits .few)), getD-set-same counts k table [] (omega (arith, h .sizes .1, on .fits .few))) now-here
 
-          pub playing-on : Playing stores′ (set counts k table) (set xs k x′) m (t + (x .machine .left + q - r .left)) n (k + 1) (w || isWaiting (r .status))
-          playing-on = record {
+          pub playing-on : Playing stores′ (set counts k table) (set xs k x′) m (a .frame) (k + 1)
+          playing-on = rw (ap (λ (z : AfterTurn). z .frame) (turned .turn)) (record {
             frames = h .frames;
             upto = omega arith;
             sizes = (length-set xs k x′ ∙ h .sizes .0, length-set counts k table ∙ h .sizes .1, turned .long ∙ h .sizes .2);
             had = λ j g. by j g (ℕ-discrete j k);
-            due = λ j g f. other j n f (λ z. omega arith) (h .due j (omega arith) f);
-            taken = next-taken _ (takes-on π q (role k) n x _ _ _ here s _ (held-at k inside d .rows) _ _ r (turned .ran));
+            due = λ j g i. other j n i (λ z. omega arith) (h .due j (omega arith) i);
+            taken = next-taken _ (takes-on π q (role k) n x _ _ _ here s _ (held-at k inside d .rows) _ _ x′ (turned .ran));
             few = omega (arith, h .few, few-left, on .fits .small);
             most = h .most;
-            waits = waits-more n k (h .waits) (isWaiting (r .status)) (is-done π q (role k) (suc n) x′ _ _ _ now-here) (not-done π q (role k) (suc n) x′ _ _ _ now-here);
-          }
+            waits = waits-more n k (h .waits) (isWaiting (x′ .machine .status)) (is-done π q (role k) (suc n) x′ _ _ _ now-here) (not-done π q (role k) (suc n) x′ _ _ _ now-here);
+          })
             where
               by : (j : ℕ) → j < k + 1 → Dec (j ≡ k) → Here stores′ (set counts k table) (set xs k x′) j (suc n)
               by j g (yes z) = subst (λ i. Here stores′ (set counts k table) (set xs k x′) i (suc n)) (sym z) this
@@ -263,33 +268,33 @@ module _ (prices : List ℕ) (l : Lent) (q : ℕ) (ps : List Frames.Progress) (h
 
     -- ---- the end of a frame
     module _ (all : N ≤ k) where
-      frame-most : (a : ℕ) → a ≡ max m t → a ≡ most π q ps (suc n)
+      frame-most : (a : ℕ) → a ≡ max m (f .ticks) → a ≡ most π q ps (suc n)
       unfolding most
       frame-most a e =
           let whole : together π q (take k ps) n ≡ together π q ps n = ap (λ z. together π q z n) (take-all k ps (omega (arith, scripts-count))) in
           omega (arith, h .most, h .taken)
 
       -- all are finished
-      pub playing-out : w ≡ false → (a : ℕ) → a ≡ max m t → PlayedOut prices l q (record { progress = xs; most = a }) stores counts
-      playing-out e a f = record {
+      pub playing-out : f .waits ≡ false → (a : ℕ) → a ≡ max m (f .ticks) → PlayedOut prices l q (record { progress = xs; most = a }) stores counts
+      playing-out e a g = record {
         ps = ps;
         ready = on .ready;
         n = suc n;
         few = omega (arith, h .frames, on .fits .small, suc-mul n q);
         done = none (h .waits) e;
-        most = frame-most a f;
+        most = frame-most a g;
         long = h .sizes .2;
         each = λ j g d. rw (same-default xs j (omega (arith, h .sizes .0, on .fits .few)) d startPlayer) (h .had j (omega arith));
       }
         where
-          none : {b : Bool} → Waits n k b → b ≡ false → (j : ℕ) → j < N → Done (after π q (role j) (suc n) .stand)
+          none : {b : Bool} → Waits n k b → b ≡ false → (j : ℕ) → j < N → Done (afterFrames π q (role j) (suc n) .stand)
           none (none-waits g) z j i = g j (omega arith)
-          none (one-waits i f g) z j e = absurd (let y : _≡_ {A = ℕ} 0 1 = cc in omega arith)
+          none (one-waits i u g) z j e = absurd (let y : _≡_ {A = ℕ} 0 1 = cc in omega arith)
 
       -- one waits: the next frame
-      pub playing-frame : w ≡ true → (a : ℕ) → a ≡ max m t → Playing stores counts xs a 0 (n + 1) 0 false
+      pub playing-frame : f .waits ≡ true → (a : ℕ) → a ≡ max m (f .ticks) → Playing stores counts xs a (newFrame (n + 1)) 0
       unfolding together
-      playing-frame e a f = record {
+      playing-frame e a g = record {
         frames = one-more (h .waits) e;
         upto = omega arith;
         sizes = h .sizes;
@@ -297,7 +302,7 @@ module _ (prices : List ℕ) (l : Lent) (q : ℕ) (ps : List Frames.Progress) (h
         due = λ j g i. rw add-one (h .had j (omega arith));
         taken = refl;
         few = omega arith;
-        most = rw add-one (frame-most a f);
+        most = rw add-one (frame-most a g);
         waits = none-waits λ j g. absurd (omega arith);
       }
         where

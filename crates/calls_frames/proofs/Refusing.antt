@@ -2,15 +2,13 @@
 use mathlib.Core.Path.{_≡_, refl, ap, subst}
 use mathlib.Core.List.{List}
 use Prim.Native.Nat.{ℕ}
-use lib.IntN.{ℤ}
-use Rattle.rules.specs.declared.Verdict.{Verdict}
 use Rattle.rules.specs.declared.Verdict.the-variants.{Passed, Refused}
 use Rattle.rules.specs.Calls.{Priced, pricesOf, scratchSize}
 use Rattle.rules_frames.specs.Frames.{Lent, partsOf, readiness, playedBy, FramesReply, storesAfter}
 use Rattle.calls_lists.specs.Parts.{Fitted}
 use Rattle.calls_scripts.specs.declared.HeldScripts as code
 use Rattle.calls_scripts.specs.Held.{Lengths, HeldBy, HeldScriptsAs}
-use Rattle.calls_frames.specs.Progress.{MayPlay}
+use Rattle.calls_frames.specs.Playing.{MayPlay}
 use Rattle.calls_frames.specs.Answers.{noFrames, Framed}
 
 pub lengths-fit : (l : Lent) (q : ℕ) → Fitted l q → Lengths (l .files) (l .fileLengths) (l .stores) (l .storeLengths)

@@ -10,16 +10,14 @@ use lib.IntN.{ℤ}
 use lib.ListN.{length, getD, take, drop, replicate, length-drop, length-replicate, getD-replicate}
 use Rattle.rules.specs.declared.Ending.{Ending}
 use Rattle.rules.specs.declared.Ending.the-variants.{Ended, Spent, NoPick}
-use Rattle.rules.specs.declared.LoopCount.{LoopCount}
 use Rattle.rules.specs.declared.Prices.{Prices}
 use Rattle.rules.specs.declared.Verdict.the-variants.{Passed}
-use Rattle.rules.specs.Blocks.{kindsOf}
 use Rattle.rules_machine.specs.RowMachine.{TurnCounts, tallyOf, Place, more, over, countsOf}
 use Rattle.rules.specs.Answers.{storeList}
 use Rattle.rules.specs.Scripts.{none, some, Script, storeOf}
 use Rattle.rules.specs.Calls.{pricesOf, scratchSize, loopRows}
 use Rattle.rules_frames.specs.Frames
-use Rattle.rules_frames.specs.Frames.{stopped, beginning, frameFrom, after, leftOf, ticksOf, most, lasts, playedAs, playedAt, playedOf, answers, Lent, Part, partsOf, cutParts, ready, readiness, played, playedBy, storesOf, storesAfter}
+use Rattle.rules_frames.specs.Frames.{stopped, afterFrames, leftOf, ticksOf, most, lasts, playedAs, playedAt, playedOf, answers, Lent, ScriptPart, partsOf, cutParts, ready, readiness, played, playedBy, storesOf, storesAfter}
 use Rattle.rules_frames.specs.InTime.{Done, AllDone, FramesEnd, NoMore}
 use Rattle.rules_frames.proofs.FramesAsAlone.{cast-accepts, frames-end, no-more}
 use Rattle.rules_frames.proofs.Cut.{joined, cut-length, cut-at, cut-stores}
@@ -35,15 +33,15 @@ use Rattle.runner.proofs.Start.{zero-row, zeros-all}
 use Rattle.run_loops.specs.declared.Heads.{Heads}
 use Rattle.calls_lists.specs.Parts.{partOf}
 use Rattle.calls_scripts.specs.declared.Held.{Held}
-use Rattle.calls_scripts.specs.Held.{HeldAs, noPart, noProgress}
-use Rattle.calls_frames.specs.declared.Progress.{Progress}
+use Rattle.calls_scripts.specs.Held.{noPart, noProgress}
+use Rattle.calls_turns.specs.declared.Progress.{Progress}
 use Rattle.calls_frames.specs.declared.Played as code
 use Rattle.calls_frames.specs.declared.Ended as ended
-use Rattle.calls_frames.specs.declared.Frames as whole
-use Rattle.calls_frames.specs.Progress.{FramesReady, MayPlay, Stands, Uncounted, PlayedOut}
-use Rattle.calls_frames.specs.Answers.{noAnswer, Answerable, AnsweredBy, AllAnswerable, AllAnswered, ToldPlayed, noPlayed, ToldFrames, Framed}
-use Rattle.calls_frames.proofs.Standing.{after-script, after-picks}
-use Rattle.calls_frames.proofs.Playing.{same-default, scripts-count, held-at, inside-at, part-same, plays, part}
+use Rattle.calls_turns.specs.Progress.{Stands}
+use Rattle.calls_frames.specs.Playing.{FramesReady, MayPlay, Uncounted, PlayedOut}
+use Rattle.calls_frames.specs.Answers.{noAnswer, AnsweredBy, AllAnswerable, AllAnswered, ToldPlayed, noPlayed, ToldFrames, Framed}
+use Rattle.calls_turns.proofs.Standing.{after-script, after-picks}
+use Rattle.calls_frames.proofs.Playing.{startPlayer, scripts-count, held-at, inside-at, part-same, plays}
 
 -- no turn is counted at the start
 pub uncounted : Uncounted (replicate 8 (replicate 256 (replicate 3 0)))
@@ -59,9 +57,9 @@ counts-length c (r ∷ rs) = ap suc (counts-length c rs)
 
 -- ---- one script that is finished
 module _ (π : Prices) (q : ℕ) (p : Frames.Progress) (n : ℕ) (x : Progress) (store : List ℤ) (picks : List ℕ) (counts : List (List ℕ)) (s : Stands π q p n x store picks counts)
-    (done : Done (after π q p n .stand)) (lent : p .picks ≡ picks) where
+    (done : Done (afterFrames π q p n .stand)) (lent : p .picks ≡ picks) where
   abbrev P : Frames.Progress
-  P = after π q p n
+  P = afterFrames π q p n
 
   abbrev m : Machine
   m = x .machine
@@ -142,7 +140,7 @@ module _ (π : Prices) (q : ℕ) (p : Frames.Progress) (n : ℕ) (x : Progress) 
 
 -- ---- all scripts
 -- by their indices
-done-all : (π : Prices) (q n : ℕ) (ps : List Frames.Progress) → ((j : ℕ) → j < length ps → Done (after π q (getD ps j noProgress) n .stand)) → AllDone π q ps n
+done-all : (π : Prices) (q n : ℕ) (ps : List Frames.Progress) → ((j : ℕ) → j < length ps → Done (afterFrames π q (getD ps j noProgress) n .stand)) → AllDone π q ps n
 done-all π q n [] f = none
 done-all π q n (p ∷ ps) f = some (f 0 (omega arith)) (done-all π q n ps (λ j h. f (suc j) (omega arith)))
 
@@ -151,13 +149,13 @@ unfolding answers
 answers-length π q n [] = refl
 answers-length π q n (p ∷ ps) = ap suc (answers-length π q n ps)
 
-answers-at : (π : Prices) (q n : ℕ) (ps : List Frames.Progress) (j : ℕ) → j < length ps → getD (answers π q ps n) j noPlayed ≡ playedOf q (after π q (getD ps j noProgress) n)
+answers-at : (π : Prices) (q n : ℕ) (ps : List Frames.Progress) (j : ℕ) → j < length ps → getD (answers π q ps n) j noPlayed ≡ playedOf q (afterFrames π q (getD ps j noProgress) n)
 unfolding answers
 answers-at π q n [] j h = absurd (omega arith)
 answers-at π q n (p ∷ ps) zero h = refl
 answers-at π q n (p ∷ ps) (suc j) h = answers-at π q n ps j (omega arith)
 
-stores-joined : (hs : List Part) (rs : List Frames.Played) → length hs ≡ length rs → ((j : ℕ) → j < length hs → getD hs j noPart .store ≡ getD rs j noPlayed .store) → joined hs ≡ storesOf rs
+stores-joined : (hs : List ScriptPart) (rs : List Frames.Played) → length hs ≡ length rs → ((j : ℕ) → j < length hs → getD hs j noPart .store ≡ getD rs j noPlayed .store) → joined hs ≡ storesOf rs
 unfolding joined storesOf
 stores-joined [] [] e f = refl
 stores-joined [] (r ∷ rs) e f = absurd (omega arith)
@@ -165,7 +163,7 @@ stores-joined (h ∷ hs) [] e f = absurd (omega arith)
 stores-joined (h ∷ hs) (r ∷ rs) e f = λ i. f 0 (omega arith) i ++ stores-joined hs rs (omega arith) (λ j g. f (suc j) (omega arith)) i
 
 -- once all are finished, the answers are those of the last frame that is due
-settles : (prices : List ℕ) (q : ℕ) → 1 ≤ q → (hs : List Part) (ps : List Frames.Progress) → readiness prices scratchSize hs ≡ ready ps → (n : ℕ)
+settles : (prices : List ℕ) (q : ℕ) → 1 ≤ q → (hs : List ScriptPart) (ps : List Frames.Progress) → readiness prices scratchSize hs ≡ ready ps → (n : ℕ)
     → AllDone (pricesOf prices) q ps n → let π : Prices = pricesOf prices in
     (answers π q ps (lasts π q ps) ≡ answers π q ps n) × (most π q ps (lasts π q ps) ≡ most π q ps n)
 unfolding NoMore FramesEnd
@@ -207,16 +205,13 @@ module _ (prices : List ℕ) (l : Lent) (q : ℕ) (held : List Held) (may : MayP
   nobody : Held
   nobody = record { count = 0; rows = []; tables = record { end = []; head = [] }; heads = record { count = 0; rows = [] } }
 
-  one : (j : ℕ) → j < length (l .fileLengths) → ToldPlayed (getD r j noAnswer) (playedOf q (after (pricesOf prices) q (getD ps j noProgress) (out .n)))
-      × (playedOf q (after (pricesOf prices) q (getD ps j noProgress) (out .n)) .store ≡ partOf (l .storeLengths) j stores)
+  one : (j : ℕ) → j < length (l .fileLengths) → ToldPlayed (getD r j noAnswer) (playedOf q (afterFrames (pricesOf prices) q (getD ps j noProgress) (out .n)))
+      × (playedOf q (afterFrames (pricesOf prices) q (getD ps j noProgress) (out .n)) .store ≡ partOf (l .storeLengths) j stores)
   one j h =
       let held-j = held-at prices l q ps held on j h nobody in
-      told-one (pricesOf prices) q (getD ps j noProgress) (out .n) _ _ _ _ (out .each j h noStart) (out .done j h) (ap (λ (z : Frames.Progress). z .picks) (plays prices l q ps held on j h .is))
-      (getD held j nobody .heads) (getD r j noAnswer) (held-j .heads .heads ∙ ap (loopRows 0) (sym (held-j .rows))) (told .each j h noStart nobody)
+      told-one (pricesOf prices) q (getD ps j noProgress) (out .n) _ _ _ _ (out .each j h startPlayer) (out .done j h) (ap (λ (z : Frames.Progress). z .picks) (plays prices l q ps held on j h .is))
+      (getD held j nobody .heads) (getD r j noAnswer) (held-j .heads .heads ∙ ap (loopRows 0) (sym (held-j .rows))) (told .each j h startPlayer nobody)
       (part-same prices l q ps held on j h stores (out .long) ∙ inside-at prices l q ps held on j h .whole)
-    where
-      noStart : Progress
-      noStart = record { machine = record { row = 0; testing = false; left = 0; used = 0; status = Going }; frame = 0 }
 
   abbrev π : Prices
   π = pricesOf prices
@@ -238,11 +233,11 @@ module _ (prices : List ℕ) (l : Lent) (q : ℕ) (held : List Held) (may : MayP
 
   stores-are : stores ≡ storesOf rs
   stores-are =
-      let hs : List Part = cutParts (l .fileLengths) (l .storeLengths) (l .pickLengths) (l .files) stores (l .picks) in
+      let hs : List ScriptPart = cutParts (l .fileLengths) (l .storeLengths) (l .pickLengths) (l .files) stores (l .picks) in
       let n : length hs ≡ length (l .fileLengths) = cut-length (l .fileLengths) (l .storeLengths) (l .pickLengths) (l .files) stores (l .picks) (on .fits .stores) (on .fits .picks) in
       sym (cut-stores (l .fileLengths) (l .storeLengths) (l .pickLengths) (l .files) stores (l .picks) (on .fits .stores) (on .fits .picks) (on .fits .store-sum ∙ sym (out .long)))
       ∙ stores-joined hs rs (n ∙ sym count) λ j h.
-      ap (λ (z : Part). z .store) (cut-at (l .fileLengths) (l .storeLengths) (l .pickLengths) (l .files) stores (l .picks) (on .fits .stores) (on .fits .picks) j (omega arith) noPart)
+      ap (λ (z : ScriptPart). z .store) (cut-at (l .fileLengths) (l .storeLengths) (l .pickLengths) (l .files) stores (l .picks) (on .fits .stores) (on .fits .picks) j (omega arith) noPart)
       ∙ sym (ap (λ (z : Frames.Played). z .store) (answers-at π q (out .n) ps j (omega (arith, answers-length π q (out .n) ps, count))) ∙ one j (omega arith) .1)
 
   pub framed : (m : ℕ) → m ≡ e .most → Framed (playedBy π q (readiness prices scratchSize (partsOf l))) (l .stores) stores (record { verdict = Passed; most = m; scripts = r })

@@ -11,9 +11,9 @@ use Rattle.rules_frames.specs.Frames
 use Rattle.rules_frames.specs.Frames.{FramesReply, played, storesAfter}
 use Rattle.runner.specs.Answered.{ranOf}
 use Rattle.run_loops.specs.declared.Heads.{Heads}
-use Rattle.run_loops.specs.Loops.{noCount, NoneFrom, Placed, HeadCounts}
+use Rattle.run_loops.specs.Loops.{noCount, NoneFrom, FewHeads, HeadCounts}
 use Rattle.calls_scripts.specs.declared.Held.{Held}
-use Rattle.calls_frames.specs.declared.Progress.{Progress}
+use Rattle.calls_turns.specs.declared.Progress.{Progress}
 use Rattle.calls_frames.specs.declared.Played.{Played}
 use Rattle.calls_frames.specs.declared.Frames as code
 
@@ -29,7 +29,7 @@ noFrames q p = record { verdict = Refused q p; most = 0; scripts = replicate 8 n
 pub record Answerable (q : ℕ) (p : Progress) (heads : Heads) : Type 0 where
   pub left : p .machine .left ≤ p .frame * q
   pub few : p .frame * q < 2 ^ 63
-  pub placed : Placed heads
+  pub placed : FewHeads heads
 
 -- its answer is that of its machine
 pub record AnsweredBy (q : ℕ) (p : Progress) (heads : Heads) (counts : List (List ℕ)) (r : Played) : Type 0 where

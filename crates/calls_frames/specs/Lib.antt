@@ -1,3 +1,3 @@
 -- Scripts in their frames, as code holds them.
-pub mod Progress
+pub mod Playing
 pub mod Answers

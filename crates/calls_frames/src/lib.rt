@@ -2,115 +2,23 @@
 use calls::Outcome;
 use calls_prices::prices_of;
 use calls_scripts::Held;
+use calls_turns::Progress;
+use calls_turns::START;
+use calls_turns::new_frame;
+use calls_turns::turn;
+use calls_turns::waiting;
 use min_max::larger;
 use rules::Ending;
-use rules::Prices;
 use rules::Verdict;
-use run_actions::Machine;
-use run_actions::Status;
 use run_loops::Heads;
 use run_loops::NO_COUNT;
 ghost use mathlib.Core.Path.{_≡_};
-ghost use mathlib.Core.Bool.{_||_};
-ghost use mathlib.Core.List.{List};
-ghost use Prim.Native.Nat.{ℕ, _≤_, _<_, max};
-ghost use lib.ListN.{length};
+ghost use Prim.Native.Nat.{_≤_, _<_};
 ghost use Rattle.rules.specs.Calls.{Priced, pricesOf, scratchSize};
 ghost use Rattle.rules_frames.specs.Frames.{partsOf, readiness, playedBy};
-ghost use Rattle.calls_lists.specs.Parts.{lentOf, partOf, Fitted};
-ghost use Rattle.runner.specs.Pauses.{Paused};
-ghost use Rattle.calls_frames.specs.Progress.{isSpent, isWaiting, Turned, MayPlay, Uncounted, PlayedOut};
+ghost use Rattle.calls_lists.specs.Parts.{lentOf, Fitted};
+ghost use Rattle.calls_frames.specs.Playing.{MayPlay, Uncounted, PlayedOut};
 ghost use Rattle.calls_frames.specs.Answers.{noAnswer, noFrames, Answerable, AnsweredBy, AllAnswerable, AllAnswered, Framed};
-
-// A script in its frames: its machine, and the last frame that it ran in.
-pub struct Progress {
-    pub machine: Machine,
-    pub frame: u64,
-}
-
-// Before the first frame: at the first row, and no ticks.
-const START: Progress = Progress {
-    machine: Machine {
-        row: 0,
-        testing: false,
-        left: 0,
-        used: 0,
-        status: Status::Going,
-    },
-    frame: 0,
-};
-
-// Does it wait for ticks?
-fn is_spent(ending: Ending) -> bool
-    ensures { λ r. ⌜ r ≡ isSpent ending ⌝ }
-{
-    match ending {
-        Ending::Ended => false,
-        Ending::Spent => true,
-        Ending::Range => false,
-        Ending::NoPick => false,
-    }
-}
-
-// Is it not finished?
-fn waiting(m: Machine) -> bool
-    ensures { λ r. ⌜ r ≡ isWaiting (m .status) ⌝ }
-{
-    let status = m.status;
-    match status {
-        Status::Going => true,
-        Status::Over(ending, _) => is_spent(ending),
-    }
-}
-
-fn either(a: bool, b: bool) -> bool
-    ensures { λ r. ⌜ r ≡ (a || b) ⌝ }
-{
-    if a { true } else { b }
-}
-
-// Script k, which is not finished, gets q ticks and runs on over its parts of what is lent.
-fn turn(
-    k: usize,
-    files: &[u8],
-    file_lengths: &[usize],
-    stores: &mut [i32],
-    store_lengths: &[usize],
-    picks: &[u8],
-    pick_lengths: &[usize],
-    held: Held,
-    prices: Prices,
-    q: u64,
-    from: Machine,
-    counts: &mut [[u64; 3]; 256],
-) -> Machine
-    requires { ⌜ Fitted (lentOf (now files) (now «file_lengths») (now stores) (now «store_lengths») (now picks) (now «pick_lengths»)) q × (k < length (now «file_lengths»)) × Paused (partOf (now «file_lengths») k (now files)) prices (held .rows) (held .count) (held .tables) q from (partOf (now «store_lengths») k (now stores)) (partOf (now «pick_lengths») k (now picks)) (now counts) ⌝ }
-    ensures { λ r. ⌜ Turned prices (partOf (now («file_lengths» .entry)) k (now (files .entry))) held q k from r (now («store_lengths» .entry)) (now (stores .entry)) (now (stores .exit)) (partOf (now («pick_lengths» .entry)) k (now (picks .entry))) (now (counts .entry)) (now (counts .exit)) ⌝ }
-{
-    let f = calls_lists::part(file_lengths, k);
-    let file_from = f.from;
-    let file_to = f.to;
-    let s = calls_lists::part(store_lengths, k);
-    let store_from = s.from;
-    let store_to = s.to;
-    let p = calls_lists::part(pick_lengths, k);
-    let pick_from = p.from;
-    let pick_to = p.to;
-    let rows = held.rows;
-    let tables = held.tables;
-    runner::run_on(
-        &files[file_from..file_to],
-        rows,
-        held.count,
-        tables,
-        prices,
-        q,
-        from,
-        &mut stores[store_from..store_to],
-        &picks[pick_from..pick_to],
-        counts,
-    )
-}
 
 // The scripts when all are finished, and the most ticks that all together took in one frame.
 pub struct Ended {
@@ -134,21 +42,15 @@ fn play(
     requires { ⌜ MayPlay (now prices) (lentOf (now files) (now «file_lengths») (now stores) (now «store_lengths») (now picks) (now «pick_lengths»)) q held × Uncounted (now counts) ⌝ }
     ensures { λ r. ⌜ PlayedOut (now (prices .entry)) (lentOf (now (files .entry)) (now («file_lengths» .entry)) (now (stores .entry)) (now («store_lengths» .entry)) (now (picks .entry)) (now («pick_lengths» .entry))) q r (now (stores .exit)) (now (counts .exit)) ⌝ }
 {
-    let scripts = file_lengths.len();
     let by_kind = prices_of(prices);
     let mut progress = [START; 8];
     let mut most: u64 = 0;
-    let mut taken: u64 = 0;
-    let mut n: u64 = 0;
+    let mut frame = new_frame(0);
     let mut k: usize = 0;
-    let mut waits = false;
     loop {
-        if k < scripts {
-            let p = progress[k];
-            let m = p.machine;
-            if waiting(m) {
-                let h = held[k];
-                let r = turn(
+        if k < file_lengths.len() {
+            if waiting(progress[k]) {
+                let t = turn(
                     k,
                     files,
                     file_lengths,
@@ -156,30 +58,24 @@ fn play(
                     store_lengths,
                     picks,
                     pick_lengths,
-                    h,
+                    held[k],
                     by_kind,
                     q,
-                    m,
+                    progress[k],
+                    frame,
                     &mut counts[k],
                 );
-                taken = taken + (m.left + q - r.left);
-                progress[k] = Progress {
-                    machine: r,
-                    frame: n + 1,
-                };
-                waits = either(waits, waiting(r));
-                k += 1;
-            } else {
-                k += 1;
+                let after = t.progress;
+                progress[k] = after;
+                frame = t.frame;
             }
+            k += 1;
         } else {
-            n += 1;
-            most = larger(most, taken);
-            if !waits {
+            most = larger(most, frame.ticks);
+            if !frame.waits {
                 return Ended { progress, most };
             }
-            taken = 0;
-            waits = false;
+            frame = new_frame(frame.earlier + 1);
             k = 0;
         }
     }

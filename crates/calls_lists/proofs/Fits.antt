@@ -4,7 +4,7 @@ use Prim.Native.Nat.{ℕ}
 use lib.Dec.{T, leb, eqb, leb→le, eqb→eq}
 use lib.ListN.{length}
 use Rattle.ints.proofs.Diffs.{both}
-use Rattle.rules_frames.specs.Frames.{Lent, sum, within, counted, covered, fitting}
+use Rattle.rules_frames.specs.Frames.{Lent, total, within, counted, covered, fitting}
 use Rattle.calls_lists.specs.Parts.{Fitted}
 
 pub fitted : (l : Lent) (q : ℕ) → T (fitting l q) → Fitted l q
@@ -17,8 +17,8 @@ fitted l q h =
     let (size, alike) = both (within 1 8 n) _ a in
     let (some, few) = both (leb 1 n) _ size in
     let (stores, picks) = both (eqb (length (l .storeLengths)) n) _ alike in
-    let (files, rest) = both (eqb (sum (l .fileLengths)) (length (l .files))) _ c in
-    let (kept, last) = both (eqb (sum (l .storeLengths)) (length (l .stores))) _ rest in
+    let (files, rest) = both (eqb (total (l .fileLengths)) (length (l .files))) _ c in
+    let (kept, last) = both (eqb (total (l .storeLengths)) (length (l .stores))) _ rest in
     record {
       some = leb→le 1 n some;
       few = leb→le n 8 few;

@@ -8,7 +8,7 @@ use lib.Dec.{T, ltb, ltb→lt, nltb→le}
 use mathlib.Core.Bool.{Bool, true, false, not}
 use lib.ListN.{length, getD, take, drop, length-append, length-drop, take-append-drop}
 use lib.Seq.{length-take-le, take-at, drop-at, take-append-le, drop-append-le, drop-append-add, drop-drop}
-use Rattle.rules_frames.specs.Frames.{sum}
+use Rattle.rules_frames.specs.Frames.{total}
 use Rattle.calls_lists.specs.declared.Extent.{Extent}
 use Rattle.calls_lists.specs.Parts.{partOf, ExtentOf}
 use Rattle.calls_lists.proofs.Sums.{sum-within, sum-before}
@@ -48,7 +48,7 @@ module _ {A : Type 0} (xs ys : List A) (a n : ℕ) (size : length ys ≡ n) (fit
       ∙ ap (λ i. drop i xs) w)
 
 -- by the list of lengths
-module _ {A : Type 0} (lengths : List ℕ) (k : ℕ) (s : Extent) (extent : ExtentOf lengths k s) (xs ys : List A) (inside : k < length lengths) (whole : sum lengths ≡ length xs)
+module _ {A : Type 0} (lengths : List ℕ) (k : ℕ) (s : Extent) (extent : ExtentOf lengths k s) (xs ys : List A) (inside : k < length lengths) (whole : total lengths ≡ length xs)
     (size : length ys ≡ s .to - s .from) where
   abbrev result : List A
   result = take (s .from) xs ++ (ys ++ drop (s .to - s .from) (drop (s .from) xs))
@@ -69,8 +69,8 @@ module _ {A : Type 0} (lengths : List ℕ) (k : ℕ) (s : Extent) (extent : Exte
   wrote-others j l other = by (ltb j k) (ltb→lt j k) (nltb→le j k)
     where
       by : (b : Bool) → (T b → j < k) → (T (not b) → k ≤ j) → partOf lengths j result ≡ partOf lengths j xs
-      by true f g = splice-before xs ys (s .from) (s .to - s .from) size fits (sum (take j lengths)) (getD lengths j 0) (omega (arith, sum-before lengths j k (f tt) inside, extent .from))
-      by false f g = splice-after xs ys (s .from) (s .to - s .from) size fits (sum (take j lengths)) (getD lengths j 0) (omega (arith, sum-before lengths k j (le-ne (g tt)) l, extent .from, extent .to))
+      by true f g = splice-before xs ys (s .from) (s .to - s .from) size fits (total (take j lengths)) (getD lengths j 0) (omega (arith, sum-before lengths j k (f tt) inside, extent .from))
+      by false f g = splice-after xs ys (s .from) (s .to - s .from) size fits (total (take j lengths)) (getD lengths j 0) (omega (arith, sum-before lengths k j (le-ne (g tt)) l, extent .from, extent .to))
         where
           le-ne : k ≤ j → k < j
           le-ne h = go (ℕ-discrete j k)

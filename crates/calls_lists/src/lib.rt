@@ -4,12 +4,12 @@ ghost use mathlib.Core.Bool.{_&&_};
 ghost use Prim.Native.Nat.{_<_, _^_};
 ghost use lib.Dec.{eqb};
 ghost use lib.ListN.{length};
-ghost use Rattle.rules_frames.specs.Frames.{sum, within, fitting};
+ghost use Rattle.rules_frames.specs.Frames.{total, within, fitting};
 ghost use Rattle.calls_lists.specs.Parts.{lentOf, ExtentOf};
 
 // Do the lengths add up to n? They are taken from n one after the other: no sum that could overflow is made.
 fn covers(lengths: &[usize], n: usize) -> bool
-    ensures { λ r. ⌜ r ≡ eqb (sum (now (lengths .entry))) n ⌝ }
+    ensures { λ r. ⌜ r ≡ eqb (total (now (lengths .entry))) n ⌝ }
 {
     let mut left = n;
     let mut i = 0;
@@ -82,7 +82,7 @@ pub struct Extent {
 
 // The part of script k.
 pub fn part(lengths: &[usize], k: usize) -> Extent
-    requires { ⌜ (k < length (now lengths)) × (sum (now lengths) < 2 ^ 64) ⌝ }
+    requires { ⌜ (k < length (now lengths)) × (total (now lengths) < 2 ^ 64) ⌝ }
     ensures { λ r. ⌜ ExtentOf (now (lengths .entry)) k r ⌝ }
 {
     let mut from = 0;

@@ -10,7 +10,7 @@ use lib.Seq.{getD-set-same, getD-set-other}
 use Rattle.rules.specs.declared.Verdict.the-variants.{Passed, Refused}
 use Rattle.rules.specs.File.{fileScript}
 use Rattle.rules.specs.Calls.{Judged, pricesOf, Priced, judgedFile, scratchSize}
-use Rattle.rules_frames.specs.Frames.{Progress, Part, Readiness, ready, readiness, cutParts}
+use Rattle.rules_frames.specs.Frames.{Progress, ScriptPart, Readiness, ready, readiness, cutParts}
 use Rattle.rules_frames.proofs.Cut.{partAt, cut-length, cut-at}
 use Rattle.calls.specs.Held.{admitted}
 use Rattle.calls_lists.specs.Parts.{partOf}
@@ -40,7 +40,7 @@ module _ (prices : List ℕ) (files fs : List ℕ) (stores : List ℤ) (ss : Lis
       by j l d (no z) = rw (getD-set-other held k j (e .held) d z) (h .each j (omega arith) d)
 
   module _ (priced : Priced prices) (lengths : Lengths files fs stores ss) (picks ps : List ℕ) (same : length ps ≡ length fs) where
-    abbrev parts : List Part
+    abbrev parts : List ScriptPart
     parts = cutParts fs ss ps files stores picks
 
     part-at : (j : ℕ) → j < length fs → getD parts j noPart ≡ partAt fs ss ps files stores picks j
@@ -63,7 +63,7 @@ module _ (prices : List ℕ) (files fs : List ℕ) (stores : List ℤ) (ss : Lis
           qs,
           e,
           holds-all prices priced parts qs held e λ j m d script y.
-              let z : partOf fs j files ≡ getD parts j noPart .file = ap (λ (x : Part). x .file) (sym (part-at j (omega arith))) in
+              let z : partOf fs j files ≡ getD parts j noPart .file = ap (λ (x : ScriptPart). x .file) (sym (part-at j (omega arith))) in
               subst (λ f. HeldAs f script (getD held j d)) z (h .each j (omega arith) d .held script (ap (λ f. judgedFile (pricesOf prices) (fileScript f)) z ∙ y)),
         )
       where

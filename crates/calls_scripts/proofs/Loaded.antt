@@ -14,7 +14,7 @@ use Rattle.rules.specs.File.{Reading, fileScript}
 use Rattle.rules.specs.Calls.{refuses, pricesOf, judgedFile}
 use Rattle.rules.proofs.ReadLegal.{read-legal, read-short}
 use Rattle.reader.specs.declared.Loaded.{Loaded}
-use Rattle.reader.specs.Read.{Answer, answerOf, loadedAnswer, LoadedAs}
+use Rattle.reader.specs.Read.{ReadAnswer, readAnswer, loadedAnswer, LoadedAs}
 use Rattle.run_loops.specs.Loops.{Listable}
 use Rattle.calls.specs.Held.{Given, judgedScript}
 
@@ -24,29 +24,29 @@ module _ (prices : List ℕ) (file : List ℕ) (l : Loaded) (ranges : List (List
 
   -- the file is refused
   pub file-refused : {q p : ℕ} → l .verdict ≡ Refused q p → judgedFile (pricesOf prices) (fileScript file) ≡ refuses q p
-  unfolding judgedFile answerOf
+  unfolding judgedFile readAnswer
   file-refused {q} {p} z = go (fileScript file) (e .answer)
     where
-      go : (r : Reading Script) → loadedAnswer file l ranges ≡ answerOf r → judgedFile (pricesOf prices) r ≡ refuses q p
+      go : (r : Reading Script) → loadedAnswer file l ranges ≡ readAnswer r → judgedFile (pricesOf prices) r ≡ refuses q p
       go (File.read s rest) a =
-          let v : l .verdict ≡ Passed = ap (λ (x : Answer). x .verdict) a in
+          let v : l .verdict ≡ Passed = ap (λ (x : ReadAnswer). x .verdict) a in
           absurd (let y : _≡_ {A = ℕ} 0 1 = cc in omega arith)
       go (File.refused n k) a =
-          let v : l .verdict ≡ Refused n k = ap (λ (x : Answer). x .verdict) a in
+          let v : l .verdict ≡ Refused n k = ap (λ (x : ReadAnswer). x .verdict) a in
           cc
 
   module _ (z : l .verdict ≡ Passed) where
     loaded : (rest : List (List ℕ)) × (fileScript file ≡ File.read script rest) × (l .vars ≡ length (script .ranges)) × (l .count ≡ length (script .rows))
-    unfolding answerOf
+    unfolding readAnswer
     loaded = go (fileScript file) refl (e .answer)
       where
-        go : (r : Reading Script) → fileScript file ≡ r → loadedAnswer file l ranges ≡ answerOf r
+        go : (r : Reading Script) → fileScript file ≡ r → loadedAnswer file l ranges ≡ readAnswer r
             → (rest : List (List ℕ)) × (fileScript file ≡ File.read script rest) × (l .vars ≡ length (script .ranges)) × (l .count ≡ length (script .rows))
         go (File.read s rest) f a =
-            let g : script ≡ s = ap (λ (x : Answer). x .script) a in
-            (rest, f ∙ ap (λ x. File.read x rest) (sym g), ap (λ (x : Answer). x .vars) a ∙ ap (λ (x : Script). length (x .ranges)) (sym g), ap (λ (x : Answer). x .count) a ∙ ap (λ (x : Script). length (x .rows)) (sym g))
+            let g : script ≡ s = ap (λ (x : ReadAnswer). x .script) a in
+            (rest, f ∙ ap (λ x. File.read x rest) (sym g), ap (λ (x : ReadAnswer). x .vars) a ∙ ap (λ (x : Script). length (x .ranges)) (sym g), ap (λ (x : ReadAnswer). x .count) a ∙ ap (λ (x : Script). length (x .rows)) (sym g))
         go (File.refused n k) f a =
-            let v : l .verdict ≡ Refused n k = ap (λ (x : Answer). x .verdict) a in
+            let v : l .verdict ≡ Refused n k = ap (λ (x : ReadAnswer). x .verdict) a in
             absurd (let y : _≡_ {A = ℕ} 0 1 = cc in omega arith)
 
     -- the file is read
@@ -61,18 +61,18 @@ module _ (prices : List ℕ) (file : List ℕ) (l : Loaded) (ranges : List (List
 
 -- its loops can be listed, also of a refused file, which has no row
 pub listable : (file : List ℕ) (l : Loaded) (ranges : List (List ℤ)) → LoadedAs file (fileScript file) l ranges → Listable (l .rows) (l .count)
-unfolding answerOf scriptOf nestRows
+unfolding readAnswer scriptOf nestRows
 listable file l ranges e = go (fileScript file) refl (e .answer)
   where
     Closed : List RowKind → Type 0
     Closed ks = (n : ℕ) × (nestRows ks (record { open-blocks = []; loops = 0 }) ≡ nest [] n)
 
-    go : (r : Reading Script) → fileScript file ≡ r → loadedAnswer file l ranges ≡ answerOf r → Listable (l .rows) (l .count)
+    go : (r : Reading Script) → fileScript file ≡ r → loadedAnswer file l ranges ≡ readAnswer r → Listable (l .rows) (l .count)
     go (File.read s rest) f a =
         let legal : Legal s = read-legal file s rest f in
-        let rows : take (l .count) (kindsOf file (l .rows)) ≡ s .rows = ap (λ (x : Answer). x .script .rows) a in
-        let count : l .count ≡ length (s .rows) = ap (λ (x : Answer). x .count) a in
+        let rows : take (l .count) (kindsOf file (l .rows)) ≡ s .rows = ap (λ (x : ReadAnswer). x .script .rows) a in
+        let count : l .count ≡ length (s .rows) = ap (λ (x : ReadAnswer). x .count) a in
         record { size = omega (arith, legal .sizes .1); text = file; closed = subst Closed (sym rows) (legal .closed) }
     go (File.refused n k) f a =
-        let none : l .count ≡ 0 = ap (λ (x : Answer). x .count) a in
+        let none : l .count ≡ 0 = ap (λ (x : ReadAnswer). x .count) a in
         record { size = omega arith; text = []; closed = rw none (0, refl) }

@@ -13,7 +13,7 @@ use Rattle.rules.specs.Written.{Written}
 use Rattle.rules.specs.Scripts.{Script, scriptOf}
 use Rattle.rules.specs.File.{fileScript}
 use Rattle.rules.specs.Calls.{Judged, accepted, pricesOf, pricesVerdict, Priced, judgedPriced, judgedFile, scratchSize, judged, storeVerdict}
-use Rattle.rules_frames.specs.Frames.{Progress, beginning, Part, Readiness, ready, joins, enters, readiness}
+use Rattle.rules_frames.specs.Frames.{Progress, beginning, ScriptPart, Readiness, ready, joins, enters, readiness}
 use Rattle.rules_frames.specs.InTime.{Accepts}
 use Rattle.rules_frames.proofs.FramesAsAlone.{cast-accepts}
 use Rattle.analysis_table.specs.Code.{kindAt}
@@ -36,7 +36,7 @@ held-as file ranges vars rows count h k size written script e =
     }
 
 -- one script's answer
-module _ (h : Part) where
+module _ (h : ScriptPart) where
   enters-no : (j : Judged) (rest : Readiness) (q p : ℕ) → admitted j (h .store) ≡ Refused q p → enters j h rest ≡ Readiness.refuses q p
   unfolding enters joins
   enters-no (accepted script) rest q p e = rw e
@@ -54,10 +54,10 @@ module _ (h : Part) where
 
 module _ (prices : List ℕ) where
   -- its own questions
-  abbrev pub answerTo : Part → Verdict
+  abbrev pub answerTo : ScriptPart → Verdict
   answerTo h = admitted (judged prices scratchSize (h .file)) (h .store)
 
-  pub cast-no : (hs : List Part) (k : ℕ) → k < length hs → ((j : ℕ) → j < k → answerTo (getD hs j noPart) ≡ Passed) → (q p : ℕ) → answerTo (getD hs k noPart) ≡ Refused q p
+  pub cast-no : (hs : List ScriptPart) (k : ℕ) → k < length hs → ((j : ℕ) → j < k → answerTo (getD hs j noPart) ≡ Passed) → (q p : ℕ) → answerTo (getD hs k noPart) ≡ Refused q p
       → readiness prices scratchSize hs ≡ Readiness.refuses q p
   unfolding readiness
   cast-no [] k l f q p e = absurd (omega arith)
@@ -65,7 +65,7 @@ module _ (prices : List ℕ) where
   cast-no (h ∷ hs) (suc k) l f q p e =
       ap (enters (judged prices scratchSize (h .file)) h) (cast-no hs k (omega arith) (λ j m. f (suc j) (omega arith)) q p e) ∙ enters-later h _ q p (f 0 (omega arith))
 
-  pub cast-yes : (hs : List Part) → ((j : ℕ) → j < length hs → answerTo (getD hs j noPart) ≡ Passed) → (ps : List Progress) × (readiness prices scratchSize hs ≡ ready ps)
+  pub cast-yes : (hs : List ScriptPart) → ((j : ℕ) → j < length hs → answerTo (getD hs j noPart) ≡ Passed) → (ps : List Progress) × (readiness prices scratchSize hs ≡ ready ps)
   unfolding readiness
   cast-yes [] f = ([], refl)
   cast-yes (h ∷ hs) f =
@@ -79,22 +79,22 @@ module _ (prices : List ℕ) where
   judged-file priced file = ap (λ v. judgedPriced prices v file) priced
 
 -- script j of those that play
-pub record Plays (prices : List ℕ) (scratch : ℕ) (h : Part) (p : Progress) : Type 0 where
+pub record Plays (prices : List ℕ) (scratch : ℕ) (h : ScriptPart) (p : Progress) : Type 0 where
   pub yes-13 : judged prices scratch (h .file) ≡ accepted (p .script)
   pub yes-15 : storeVerdict 0 (p .script .ranges) (h .store) ≡ Passed
   pub is : p ≡ beginning (p .script) (h .store) (h .picks)
 
-pub plays-at : {prices : List ℕ} {scratch : ℕ} {hs : List Part} {ps : List Progress} → Accepts prices scratch hs ps → (j : ℕ) → j < length hs → Plays prices scratch (getD hs j noPart) (getD ps j noProgress)
+pub plays-at : {prices : List ℕ} {scratch : ℕ} {hs : List ScriptPart} {ps : List Progress} → Accepts prices scratch hs ps → (j : ℕ) → j < length hs → Plays prices scratch (getD hs j noPart) (getD ps j noProgress)
 plays-at Accepts.none j l = absurd (omega arith)
 plays-at (Accepts.some a b rest) zero l = record { yes-13 = a; yes-15 = b; is = refl }
 plays-at (Accepts.some a b rest) (suc j) l = plays-at rest j (omega arith)
 
-pub plays-all : {prices : List ℕ} {scratch : ℕ} {hs : List Part} {ps : List Progress} → Accepts prices scratch hs ps → length ps ≡ length hs
+pub plays-all : {prices : List ℕ} {scratch : ℕ} {hs : List ScriptPart} {ps : List Progress} → Accepts prices scratch hs ps → length ps ≡ length hs
 plays-all Accepts.none = refl
 plays-all (Accepts.some a b rest) = ap suc (plays-all rest)
 
 -- all are held
-pub holds-all : (prices : List ℕ) → Priced prices → (hs : List Part) (ps : List Progress) (held : List Held) → readiness prices scratchSize hs ≡ ready ps
+pub holds-all : (prices : List ℕ) → Priced prices → (hs : List ScriptPart) (ps : List Progress) (held : List Held) → readiness prices scratchSize hs ≡ ready ps
     → ((j : ℕ) → j < length hs → (d : Held) (script : Script) → judgedFile (pricesOf prices) (fileScript (getD hs j noPart .file)) ≡ accepted script → HeldAs (getD hs j noPart .file) script (getD held j d))
     → Holds hs ps held
 holds-all prices priced hs ps held e f j l d =

@@ -12,7 +12,7 @@ use Rattle.rules.specs.Written.{Written}
 use Rattle.rules.specs.Scripts.{Script}
 use Rattle.rules.specs.File.{fileScript}
 use Rattle.rules.specs.Calls.{accepted, pricesOf, judgedFile, scratchSize}
-use Rattle.rules_frames.specs.Frames.{Progress, beginning, Part, sum, Readiness, ready, readiness}
+use Rattle.rules_frames.specs.Frames.{Progress, beginning, ScriptPart, total, Readiness, ready, readiness}
 use Rattle.analysis_table.specs.Code.{kindAt}
 use Rattle.run_pairs.specs.Tables.{TablesOf}
 use Rattle.run_loops.specs.Loops.{Headed}
@@ -44,11 +44,11 @@ pub record EnteredAs (prices file : List ℕ) (store : List ℤ) (e : Entered) :
 pub record Lengths (files fileLengths : List ℕ) (stores : List ℤ) (storeLengths : List ℕ) : Type 0 where
   pub few : length fileLengths ≤ 8
   pub same : length storeLengths ≡ length fileLengths
-  pub file-sum : sum fileLengths ≡ length files
-  pub store-sum : sum storeLengths ≡ length stores
+  pub file-sum : total fileLengths ≡ length files
+  pub store-sum : total storeLengths ≡ length stores
 
 -- past the last of a list of parts
-abbrev pub noPart : Part
+abbrev pub noPart : ScriptPart
 noPart = record { file = []; store = []; picks = [] }
 
 -- past the last script in progress
@@ -56,14 +56,14 @@ abbrev pub noProgress : Progress
 noProgress = beginning (record { ranges = []; rows = [] }) [] []
 
 -- the scripts in progress are held
-abbrev pub Holds : List Part → List Progress → List Held → Type 0
+abbrev pub Holds : List ScriptPart → List Progress → List Held → Type 0
 Holds parts ps held = (j : ℕ) → j < length parts → (d : Held) → HeldAs (getD parts j noPart .file) (getD ps j noProgress .script) (getD held j d)
 
 -- all scripts: the readiness of `rules`
-abbrev pub HeldBy : Verdict → List ℕ → List Part → List Held → Type 0
+abbrev pub HeldBy : Verdict → List ℕ → List ScriptPart → List Held → Type 0
 HeldBy Passed prices parts held = (ps : List Progress) × (readiness prices scratchSize parts ≡ ready ps) × Holds parts ps held
 HeldBy (Refused q p) prices parts held = readiness prices scratchSize parts ≡ Readiness.refuses q p
 
 -- the same of what code answers
-abbrev pub HeldScriptsAs : List ℕ → List Part → code.HeldScripts → Type 0
+abbrev pub HeldScriptsAs : List ℕ → List ScriptPart → code.HeldScripts → Type 0
 HeldScriptsAs prices parts c = HeldBy (c .verdict) prices parts (c .held)

@@ -10,7 +10,7 @@ ghost use mathlib.Core.List.{List};
 ghost use Prim.Native.Nat.{ℕ, _≤_};
 ghost use lib.ListN.{length};
 ghost use Rattle.rules.specs.Calls.{Priced};
-ghost use Rattle.rules_frames.specs.Frames.{sum, cutParts};
+ghost use Rattle.rules_frames.specs.Frames.{total, cutParts};
 ghost use Rattle.run_loops.specs.Loops.{Listable};
 ghost use Rattle.calls_scripts.specs.Held.{HeldRows, EnteredAs, Lengths, HeldScriptsAs};
 

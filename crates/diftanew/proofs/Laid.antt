@@ -9,11 +9,11 @@ use lib.Seq.{take-all, take-at, drop-at, set-at, append-snoc, length-take-le, pa
 use Rattle.rules.specs.declared.LoopCount.{LoopCount}
 use Rattle.calls.specs.declared.Outcome.{Outcome}
 use Rattle.calls_frames.specs.declared.Played.{Played}
-use Rattle.diftanew.specs.Numbers.{headNumbers, upTo, numbersOf, scriptNumbers, allNumbers}
+use Rattle.diftanew.specs.Numbers.{headNumbers, loopNumbers, numbersOf, scriptNumbers, allNumbers}
 
 -- a run's answer has 53 numbers
-up-to-length : (k : ℕ) (counts : List LoopCount) (head : List ℕ) → length (upTo k counts head) ≡ length head
-unfolding upTo
+up-to-length : (k : ℕ) (counts : List LoopCount) (head : List ℕ) → length (loopNumbers k counts head) ≡ length head
+unfolding loopNumbers
 up-to-length zero counts head = refl
 up-to-length (suc k) counts head = simp length-set (up-to-length k counts head)
 

@@ -13,33 +13,33 @@ use Rattle.run_loops.specs.Loops.{noCount}
 use Rattle.calls_frames.specs.declared.Played.{Played}
 use Rattle.calls_frames.specs.declared.Frames.{Frames}
 use Rattle.loader.specs.Framing.{mostBy, FramedCall}
-use Rattle.loader.specs.Kept.{numberOf, placeOf, verdictNumber, firstBy, Reported, KeptCall}
+use Rattle.loader.specs.Kept.{replyNumber, replyPlace, verdictNumber, firstBy, Reported, KeptCall}
 
 -- a report call in numbers
 pub record Reported-in-numbers (prices : List ℕ) (judgement : Judged) (old new : List ℕ) (r at : ℕ) : Type 0 where
   pub reply : Reply
   pub reported : Reported prices judgement old new reply
-  pub number : r ≡ numberOf reply
-  pub place : at ≡ placeOf reply
+  pub number : r ≡ replyNumber reply
+  pub place : at ≡ replyPlace reply
 
 -- a run's answer: the ending, or a refusal's place
-unfoldable pub firstOf : Outcome → ℕ
-firstOf o = firstBy (o .verdict) (o .ending)
+unfoldable pub firstNumber : Outcome → ℕ
+firstNumber o = firstBy (o .verdict) (o .ending)
 
 -- then row, ticks, bytes used, and the number of loops
 unfoldable pub headNumbers : Outcome → List ℕ
-headNumbers o = set (set (set (set (set (replicate 53 0) 0 (firstOf o)) 1 (o .row)) 2 (o .ticks)) 3 (o .used)) 4 (o .loops)
+headNumbers o = set (set (set (set (set (replicate 53 0) 0 (firstNumber o)) 1 (o .row)) 2 (o .ticks)) 3 (o .used)) 4 (o .loops)
 
 -- then for loop k its row, all turns and the most in one entry, at 5 + 3k, 6 + 3k and 7 + 3k
-unfoldable pub upTo : ℕ → List LoopCount → List ℕ → List ℕ
-upTo zero counts head = head
-upTo (suc k) counts head =
+unfoldable pub loopNumbers : ℕ → List LoopCount → List ℕ → List ℕ
+loopNumbers zero counts head = head
+loopNumbers (suc k) counts head =
     let c : LoopCount = getD counts k noCount in
-    set (set (set (upTo k counts head) (5 + 3 * k) (c .row)) (6 + 3 * k) (c .all)) (7 + 3 * k) (c .most)
+    set (set (set (loopNumbers k counts head) (5 + 3 * k) (c .row)) (6 + 3 * k) (c .all)) (7 + 3 * k) (c .most)
 
 -- all numbers of a run's answer
 unfoldable pub numbersOf : Outcome → List ℕ
-numbersOf o = upTo (min (o .loops) 16) (o .counts) (headNumbers o)
+numbersOf o = loopNumbers (min (o .loops) 16) (o .counts) (headNumbers o)
 
 -- a run call's answer in numbers: those of an outcome that is document 01's, and that keeps within the report
 pub record Told-in-numbers (prices : List ℕ) (judgement : Judged) (store new : List ℤ) (picks : List ℕ) (allowance r : ℕ) (answer : List ℕ) : Type 0 where

@@ -13,7 +13,7 @@ ghost use Rattle.rules.specs.Calls.{endingNumber};
 ghost use Rattle.loader.specs.Kept.{judgement, verdictNumber};
 ghost use Rattle.loader.specs.Framing.{mostBy};
 ghost use Rattle.calls_lists.specs.Parts.{lentOf};
-ghost use Rattle.diftanew.specs.Numbers.{Reported-in-numbers, firstOf, numbersOf, Told-in-numbers, framesNumbers, Framed-in-numbers};
+ghost use Rattle.diftanew.specs.Numbers.{Reported-in-numbers, firstNumber, numbersOf, Told-in-numbers, framesNumbers, Framed-in-numbers};
 
 // The report of a file under four lent prices. Answers 0 for an accepted file, with the report's length in place, or the refusal's number with its place.
 #[no_mangle]
@@ -54,7 +54,7 @@ fn ending_number(ending: Ending) -> u64
 
 // The first number of an answer: the ending, or a refusal's place.
 fn first_number(o: Outcome) -> u64
-    ensures { λ r. ⌜ r ≡ firstOf o ⌝ }
+    ensures { λ r. ⌜ r ≡ firstNumber o ⌝ }
 {
     let verdict = o.verdict;
     let ending = o.ending;

@@ -9,7 +9,7 @@ use analysis_table::put_rows;
 use calls_prices::ask_prices;
 use calls_prices::prices_of;
 use libc::STDIN_FILENO;
-use program_lists::Lent;
+use program_lists::PricesWord;
 use program_parts::print_text;
 use reader::load;
 use refusal::print_refused;
@@ -143,8 +143,8 @@ fn main() {
     let mut prices = [1u32; 4];
     let lent = program_lists::read_prices(&word[..n], &mut prices);
     match lent {
-        Lent::Nothing => explain_all(1, arguments, &prices),
-        Lent::Four => explain_all(2, arguments, &prices),
-        Lent::Malformed => program_parts::print_wrong_prices(),
+        PricesWord::Nothing => explain_all(1, arguments, &prices),
+        PricesWord::Four => explain_all(2, arguments, &prices),
+        PricesWord::Malformed => program_parts::print_wrong_prices(),
     }
 }

@@ -4,7 +4,7 @@ use crate::remedies::print_remedy;
 use crate::show::print_line;
 use crate::show::print_spaces;
 use explain_margin::LinePlace;
-use explain_margin::Place;
+use explain_margin::PlaceKind;
 use explain_margin::line_of;
 use explain_margin::place_of;
 use program_parts::print_number;
@@ -65,9 +65,9 @@ pub fn print_refused(file: &[u8], vars: usize, count: usize, number: u32, place:
 {
     print_refusal(number, place);
     match place_of(number) {
-        Place::Line => print_line_place(file, place),
-        Place::Row => print_row_place(file, vars, count, place),
-        Place::Neither => (),
+        PlaceKind::Line => print_line_place(file, place),
+        PlaceKind::Row => print_row_place(file, vars, count, place),
+        PlaceKind::Neither => (),
     }
     print_text(b"\ncause\n");
     print_cause(number);

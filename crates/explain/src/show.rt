@@ -7,8 +7,8 @@ use explain_margin::IS_EXACT;
 use explain_margin::LINE;
 use explain_margin::LinePlace;
 use explain_margin::NO_LOOP;
-use explain_margin::Nest;
 use explain_margin::OUTSIDE;
+use explain_margin::OpenBlocks;
 use explain_margin::TICKS;
 use explain_margin::TOTAL;
 use explain_margin::TURNS;
@@ -158,7 +158,7 @@ fn print_row(
     rows: &[[u32; 9]; 256],
     i: usize,
     figures: [u64; 4],
-    nest: Nest,
+    nest: OpenBlocks,
     w: Widths,
     whole: u64,
 )

@@ -2,20 +2,20 @@
 use mathlib.Core.Path.{_≡_, refl, sym, ap, _∙_}
 use mathlib.Core.Bool.{Bool, true, false, cond}
 use mathlib.Core.List.{List, [], _∷_, _++_, map, map-append, append-assoc}
-use Prim.Native.Nat.{ℕ, suc, _+_, _-_, _≤_, _<_, max}
+use Prim.Native.Nat.{ℕ, suc, _+_, _≤_, _<_, max}
 use native.Mathlib.Numerals.{add-one}
 use native.Mathlib.Omega.{arith}
 use borrow.Author.Tests.{ltb-true, ltb-false}
 use lib.Dec.{eqb, ltb}
 use lib.ListN.{length, getD, take, drop, set, length-take, length-drop, length-map, drop-of-length-le}
-use lib.Seq.{drop-cons, drop-drop, getD-drop, getD-take, take-suc, take-all, length-take-le, set-at}
+use lib.Seq.{drop-cons, drop-drop, getD-take, take-suc, take-all, length-take-le, set-at}
 use Rattle.rules.specs.declared.LoopLine.{LoopLine}
 use Rattle.rules.specs.Text.{lf, split}
 use Rattle.reading_text.specs.Words.{before}
 use Rattle.reading_text.proofs.Laws.{split-more, split-last}
 use Rattle.explain_margin.specs.Figures.{lineFigures, putLines, mostIn}
-use Rattle.explain_margin.specs.declared.place.LinePlace.the-variants.{At}
-use Rattle.explain_margin.specs.Places.{LineOf, shownByte}
+use Rattle.explain_margin.specs.declared.place.LinePlace.the-variants.{At, Missing}
+use Rattle.explain_margin.specs.Places.{lineFrom, shownByte}
 
 -- ---- the greatest figure, one row more
 pub most-more : (column : ℕ) (t : List (List ℕ)) (i most : ℕ) → i < length t
@@ -60,32 +60,29 @@ first-line s = go (ltb (before lf s) (length s)) refl
     go true e = (_, split-more lf s (ltb-true _ _ e))
     go false e = ([], split-last lf s (ltb-false _ _ e) ∙ ap (λ p. p ∷ []) (sym (take-all _ s (ltb-false _ _ e))))
 
--- the rest of a file from byte `at` on begins with line i
-module _ (file : List ℕ) (at i : ℕ) (e : drop i (split lf file) ≡ split lf (drop at file)) where
+-- the lines of a file from byte `at` on
+module _ (file : List ℕ) (at : ℕ) where
   pub line-inside : at ≤ length file → at + before lf (drop at file) ≤ length file
   line-inside h = omega (arith, before-within lf (drop at file), length-drop at file)
 
-  pub line-last : at + before lf (drop at file) ≡ length file → length (split lf file) ≡ i + 1
-  line-last h =
-      let one = split-last lf (drop at file) (omega (arith, length-drop at file)) in
-      omega (arith, length-drop i (split lf file), ap length (e ∙ one))
+  pub line-last : at + before lf (drop at file) ≡ length file → (k : ℕ) → lineFrom at (split lf (drop at file)) (suc k) ≡ Missing
+  unfolding lineFrom
+  line-last h k = rw (split-last lf (drop at file) (omega (arith, length-drop at file)))
 
-  pub line-next : at + before lf (drop at file) < length file → drop (i + 1) (split lf file) ≡ split lf (drop (at + before lf (drop at file) + 1) file)
-  line-next h =
-      let more = split-more lf (drop at file) (omega (arith, length-drop at file)) in
+  first-long : length (take (before lf (drop at file)) (drop at file)) ≡ before lf (drop at file)
+  first-long = length-take-le _ (drop at file) (before-within lf (drop at file))
+
+  pub line-next : at + before lf (drop at file) < length file → (k : ℕ)
+      → lineFrom at (split lf (drop at file)) (suc k) ≡ lineFrom (at + before lf (drop at file) + 1) (split lf (drop (at + before lf (drop at file) + 1) file)) k
+  unfolding lineFrom
+  line-next h k =
       let next : at + suc (before lf (drop at file)) ≡ at + before lf (drop at file) + 1 = omega arith in
-      sym (drop-drop 1 i (split lf file)) ∙ ap (drop 1) (e ∙ more) ∙ ap (split lf) (drop-drop (suc (before lf (drop at file))) at file ∙ ap (λ n. drop n file) next)
+      let rest : drop (suc (before lf (drop at file))) (drop at file) ≡ drop (at + before lf (drop at file) + 1) file = drop-drop (suc (before lf (drop at file))) at file ∙ ap (λ n. drop n file) next in
+      ap (λ ls. lineFrom at ls (suc k)) (split-more lf (drop at file) (omega (arith, length-drop at file))) ∙ (λ j. lineFrom (at + first-long j + 1) (split lf (rest j)) k)
 
-  pub line-here : at ≤ length file → LineOf file i (At at (at + before lf (drop at file)))
-  line-here h =
-      let f = first-line (drop at file) in
-      let n : at + before lf (drop at file) - at ≡ before lf (drop at file) = omega arith in
-      let z : i ≡ i + 0 = omega arith in (
-        omega arith,
-        line-inside h,
-        omega (arith, length-drop i (split lf file), ap length (e ∙ f .1)),
-        ap (λ m. take m (drop at file)) n ∙ sym (ap (λ m. getD (split lf file) m []) z ∙ sym (getD-drop i (split lf file) 0 []) ∙ ap (λ l. getD l 0 []) (e ∙ f .1)),
-      )
+  pub line-here : lineFrom at (split lf (drop at file)) 0 ≡ At at (at + before lf (drop at file))
+  unfolding lineFrom
+  line-here = rw (first-line (drop at file) .1, first-long)
 
 -- ---- a text as it is shown, one byte more
 pub shown-more : (text old new : List ℕ) (i b : ℕ) → i < length text → i < length old → new ≡ map shownByte (take i text) ++ drop i old → b ≡ shownByte (getD text i 0)

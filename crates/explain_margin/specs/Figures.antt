@@ -22,8 +22,8 @@ putLines [] t = t
 putLines (l ∷ ls) t = putLines ls (set t (l .row) (lineFigures l))
 
 -- the ticks beside the other figures
-abbrev pub withTicks : List ℕ → ℕ → List ℕ
-withTicks f ticks = getD f 0 0 ∷ getD f 1 0 ∷ getD f 2 0 ∷ ticks ∷ []
+abbrev pub ticksBeside : List ℕ → ℕ → List ℕ
+ticksBeside f ticks = getD f 0 0 ∷ getD f 1 0 ∷ getD f 2 0 ∷ ticks ∷ []
 
 -- a loop or a pick begins
 abbrev pub isHead : Shape → Bool

@@ -11,7 +11,7 @@ ghost use lib.ListN.{length, getD, take, set};
 ghost use Rattle.analysis_table.specs.Code.{kindAt, rowsOf};
 ghost use Rattle.analysis_table.specs.Shapes.{shapeOf};
 ghost use Rattle.analysis_lines.specs.Coded.{linesIn};
-ghost use Rattle.explain_margin.specs.Figures.{exactMark, lineFigures, putLines, withTicks, isHead, mostIn};
+ghost use Rattle.explain_margin.specs.Figures.{exactMark, lineFigures, putLines, ticksBeside, isHead, mostIn};
 
 // The columns of the figures.
 pub const TURNS: usize = 0;
@@ -75,7 +75,7 @@ pub fn is_head(rows: &[[u32; 9]; 256], i: usize) -> bool
 // The ticks of one pass of row i's block, beside its other figures.
 pub fn put_own(figures: &mut [[u64; 4]; 256], i: usize, ticks: u64)
     requires { ⌜ (i < 256) × (length (now figures) ≡ 256) ⌝ }
-    ensures { λ _. ⌜ (now (figures .exit) ≡ set (now (figures .entry)) i (withTicks (getD (now (figures .entry)) i []) ticks)) × (length (now (figures .exit)) ≡ 256) ⌝ }
+    ensures { λ _. ⌜ (now (figures .exit) ≡ set (now (figures .entry)) i (ticksBeside (getD (now (figures .entry)) i []) ticks)) × (length (now (figures .exit)) ≡ 256) ⌝ }
 {
     let turns = figures[i][TURNS];
     let total = figures[i][TOTAL];

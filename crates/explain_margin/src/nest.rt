@@ -3,22 +3,22 @@ use analysis_table::Tag;
 use min_max::smaller_size;
 ghost use mathlib.Core.Path.{_≡_};
 ghost use Prim.Native.Nat.{_*_, _-_, _≤_, min};
-ghost use Rattle.explain_margin.specs.Nesting.{passesOf, writtenAt, openedBy, closedBy, afterRow};
+ghost use Rattle.explain_margin.specs.Nesting.{passesOf, writtenAt, openedBy, closedBy, nestAfter};
 
 // How many blocks are open, and for each depth the passes there: the total of the loop next round it, 1 outside all loops.
-pub struct Nest {
+pub struct OpenBlocks {
     pub depth: usize,
     pub passes: [u64; 9],
 }
 
 // Before the first row.
-pub const OUTSIDE: Nest = Nest {
+pub const OUTSIDE: OpenBlocks = OpenBlocks {
     depth: 0,
     passes: [1; 9],
 };
 
 // How often what stands here is passed.
-pub fn passes_here(nest: Nest) -> u64
+pub fn passes_here(nest: OpenBlocks) -> u64
     ensures { λ r. ⌜ r ≡ passesOf nest ⌝ }
 {
     let depth = nest.depth;
@@ -59,7 +59,7 @@ pub fn indent(tag: Tag, depth: usize) -> usize
 }
 
 // One block more is open, with these passes inside. A file that was read has at most 8.
-fn opened(nest: Nest, inside: u64) -> Nest
+fn opened(nest: OpenBlocks, inside: u64) -> OpenBlocks
     ensures { λ r. ⌜ r ≡ openedBy nest inside ⌝ }
 {
     let depth = nest.depth;
@@ -68,26 +68,26 @@ fn opened(nest: Nest, inside: u64) -> Nest
     }
     let mut passes = nest.passes;
     passes[depth + 1] = inside;
-    Nest {
+    OpenBlocks {
         depth: depth + 1,
         passes: passes,
     }
 }
 
 // The innermost block is closed.
-fn closed(nest: Nest) -> Nest
+fn closed(nest: OpenBlocks) -> OpenBlocks
     ensures { λ r. ⌜ r ≡ closedBy nest ⌝ }
 {
     let passes = nest.passes;
-    Nest {
+    OpenBlocks {
         depth: out_of(nest.depth),
         passes: passes,
     }
 }
 
 // After a row; `total` is the total of the loop whose head it is.
-pub fn after_row(nest: Nest, tag: Tag, total: u64) -> Nest
-    ensures { λ r. ⌜ r ≡ afterRow tag total nest ⌝ }
+pub fn after_row(nest: OpenBlocks, tag: Tag, total: u64) -> OpenBlocks
+    ensures { λ r. ⌜ r ≡ nestAfter tag total nest ⌝ }
 {
     match tag {
         Tag::End => closed(nest),

@@ -2,10 +2,11 @@
 use min_max::smaller_size;
 use reading_text::position;
 ghost use mathlib.Core.Path.{_≡_};
-ghost use Rattle.explain_margin.specs.Places.{within, placeOf, LineOf, shownByte, ShownAs};
+ghost use Rattle.rules.specs.Text.{lf, split};
+ghost use Rattle.explain_margin.specs.Places.{within, placeKind, lineFrom, StandsIn, shownByte, ShownAs};
 
 // What the place of a question is: a line of the file, from 1; a row, from 0; or neither.
-pub enum Place {
+pub enum PlaceKind {
     Line,
     Row,
     Neither,
@@ -18,22 +19,22 @@ fn between(lo: u32, hi: u32, q: u32) -> bool
     lo <= q && q <= hi
 }
 
-pub fn place_of(number: u32) -> Place
-    ensures { λ r. ⌜ r ≡ placeOf number ⌝ }
+pub fn place_of(number: u32) -> PlaceKind
+    ensures { λ r. ⌜ r ≡ placeKind number ⌝ }
 {
     if between(3, 7, number) {
-        return Place::Line;
+        return PlaceKind::Line;
     }
     if number == 17 {
-        return Place::Line;
+        return PlaceKind::Line;
     }
     if between(8, 13, number) {
-        return Place::Row;
+        return PlaceKind::Row;
     }
     if number == 19 {
-        return Place::Row;
+        return PlaceKind::Row;
     }
-    Place::Neither
+    PlaceKind::Neither
 }
 
 // Where a line begins and ends, without its LF; or there is none.
@@ -44,7 +45,7 @@ pub enum LinePlace {
 
 // Line k of a file, from 0.
 pub fn line_of(file: &[u8], k: usize) -> LinePlace
-    ensures { λ r. ⌜ LineOf (now (file .entry)) k r ⌝ }
+    ensures { λ r. ⌜ (r ≡ lineFrom 0 (split lf (now (file .entry))) k) × StandsIn (now (file .entry)) r ⌝ }
 {
     let mut at: usize = 0;
     let mut i: usize = 0;

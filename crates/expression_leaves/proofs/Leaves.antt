@@ -19,7 +19,7 @@ use Rattle.rules.specs.Text.{isDigit, allDigits, valueFrom, isNatural, isNegati
 use Rattle.rules.specs.Parse.{shapeless, isMark, upToMark, fromMark, leaf, atom}
 use Rattle.expression_leaves.specs.Leaves.{ceiling, digitCount, digitValue, DigitsAt, atMark, WholeAt, cutZ, cutExpr, cutIn, said, neither, leafOf, LeafAt}
 use Rattle.expression_leaves.specs.declared.Digits.{Digits}
-use Rattle.expression_leaves.specs.declared.Whole.{Whole}
+use Rattle.expression_leaves.specs.declared.WholeNumber.{WholeNumber}
 
 pub digit-low : (b : ℕ) → isDigit b ≡ true → 48 ≤ b
 unfolding isDigit
@@ -307,7 +307,7 @@ atom-open b t e =
     let g : b ≡ 118 → ⊥ = λ (x : b ≡ 118). omega arith in
     rw (word-other b t f g, natural-other b (upToMark t) (rw e), leaf-plain (b ∷ upToMark t) (fromMark t))
 
-tag-small : (t : ℕ) (b : Bool) (n : Whole) → t ≤ 2 → leafOf t b n .tag ≤ 2
+tag-small : (t : ℕ) (b : Bool) (n : WholeNumber) → t ≤ 2 → leafOf t b n .tag ≤ 2
 unfolding leafOf
 tag-small t b n h = by (n .good) b (eqb (n .value) 0) refl refl
   where
@@ -318,7 +318,7 @@ tag-small t b n h = by (n .good) b (eqb (n .value) 0) refl refl
     by false c z k e = rw k (omega arith)
 
 -- ---- a variable's number is not below 0
-index-whole : (t : ℕ) (n : Whole) → pos (natAbs (leafOf t false n .value)) ≡ leafOf t false n .value
+index-whole : (t : ℕ) (n : WholeNumber) → pos (natAbs (leafOf t false n .value)) ≡ leafOf t false n .value
 unfolding leafOf
 index-whole t n = by (n .good) refl
   where
@@ -326,7 +326,7 @@ index-whole t n = by (n .good) refl
     by true k = rw k
     by false k = rw k
 
-index-negative : (n : Whole) → leafOf 1 true n .tag ≡ 2 → ⊥
+index-negative : (n : WholeNumber) → leafOf 1 true n .tag ≡ 2 → ⊥
 unfolding leafOf
 index-negative n q = by (n .good) (eqb (n .value) 0) refl refl
   where
@@ -344,7 +344,7 @@ module _ (s : List ℕ) (at : ℕ) (within : at < length s) where
   split : drop at s ≡ getD s at 0 ∷ drop (suc at) s
   split = drop-cons s at 0 within
 
-  pub leaf-variable : getD s at 0 ≡ 118 → (n : Whole) → WholeAt s (suc at) n → LeafAt s at (leafOf 2 false n)
+  pub leaf-variable : getD s at 0 ≡ 118 → (n : WholeNumber) → WholeAt s (suc at) n → LeafAt s at (leafOf 2 false n)
   unfolding said atom cutIn cutExpr leafOf
   leaf-variable e n h = by (n .good) refl
     where
@@ -352,7 +352,7 @@ module _ (s : List ℕ) (at : ℕ) (within : at < length s) where
       by true k = record { from = rw k (omega (arith, h .from)); same = rw (k, split, word-variable (getD s at 0) (drop (suc at) s) e, sym (h .good) ∙ k, h .value k, h .rest k); index = λ q. index-whole 2 n; tags = tag-small 2 false n (omega arith) }
       by false k = record { from = rw k (omega (arith, h .from)); same = rw (k, split, word-variable (getD s at 0) (drop (suc at) s) e, sym (h .good) ∙ k, leaf-plain (getD s at 0 ∷ upToMark (drop (suc at) s)) (fromMark (drop (suc at) s))); index = λ q. index-whole 2 n; tags = tag-small 2 false n (omega arith) }
 
-  pub leaf-negative : getD s at 0 ≡ 45 → (n : Whole) → WholeAt s (suc at) n → LeafAt s at (leafOf 1 true n)
+  pub leaf-negative : getD s at 0 ≡ 45 → (n : WholeNumber) → WholeAt s (suc at) n → LeafAt s at (leafOf 1 true n)
   unfolding said atom cutIn cutExpr cutZ leafOf ceiling
   leaf-negative e n h = by (n .good) refl
     where
@@ -375,7 +375,7 @@ module _ (s : List ℕ) (at : ℕ) (within : at < length s) where
               record { from = rw (k, z) (omega (arith, h .from)); same = rw (k, z, split, word-negative (getD s at 0) t e, sym (h .good) ∙ k, ne-eqb (valueFrom 0 (upToMark t)) 0 f, h .value k, h .rest k, negative (valueFrom 0 (upToMark t)) f); index = λ q. absurd (index-negative n q); tags = tag-small 1 true n (omega arith) }
       by false k = record { from = rw k (omega (arith, h .from)); same = rw (k, split, word-negative (getD s at 0) t e, sym (h .good) ∙ k, leaf-plain (getD s at 0 ∷ upToMark t) (fromMark t)); index = λ q. absurd (index-negative n q); tags = tag-small 1 true n (omega arith) }
 
-  pub leaf-other : (getD s at 0 ≡ 45 → ⊥) → (getD s at 0 ≡ 118 → ⊥) → (n : Whole) → WholeAt s at n → LeafAt s at (leafOf 1 false n)
+  pub leaf-other : (getD s at 0 ≡ 45 → ⊥) → (getD s at 0 ≡ 118 → ⊥) → (n : WholeNumber) → WholeAt s at n → LeafAt s at (leafOf 1 false n)
   unfolding said atom cutIn cutExpr cutZ leafOf upToMark fromMark isNatural
   leaf-other f g n h = by (isMark b) refl
     where

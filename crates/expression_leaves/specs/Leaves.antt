@@ -10,7 +10,7 @@ use Rattle.rules.specs.Expressions.{Expr, constant, variable, group, apply}
 use Rattle.rules.specs.Text.{isDigit, valueFrom, isNatural}
 use Rattle.rules.specs.Parse.{Parsed, parsed, shapeless, isMark, upToMark, fromMark, atom}
 use Rattle.expression_leaves.specs.declared.Digits.{Digits}
-use Rattle.expression_leaves.specs.declared.Whole.{Whole}
+use Rattle.expression_leaves.specs.declared.WholeNumber.{WholeNumber}
 use Rattle.expression_leaves.specs.declared.Leaf.{Leaf}
 
 -- past every limit of document 01
@@ -38,7 +38,7 @@ atMark [] = true
 atMark (b ∷ s) = isMark b
 
 -- a number not below 0 stands up to the next mark
-pub record WholeAt (s : List ℕ) (at : ℕ) (r : Whole) : Type 0 where
+pub record WholeAt (s : List ℕ) (at : ℕ) (r : WholeNumber) : Type 0 where
   pub from : at ≤ r .next
   pub good : r .good ≡ isNatural (upToMark (drop at s))
   pub value : r .good ≡ true → r .value ≡ min (valueFrom 0 (upToMark (drop at s))) ceiling
@@ -71,7 +71,7 @@ abbrev pub neither : ℕ → Leaf
 neither k = record { tag = 0; value = pos 0; next = k }
 
 -- the leaf that a number makes: of a tag; the Bool: after a `-`
-unfoldable pub leafOf : ℕ → Bool → Whole → Leaf
+unfoldable pub leafOf : ℕ → Bool → WholeNumber → Leaf
 leafOf t negative n =
     cond (n .good)
     (cond negative (cond (eqb (n .value) 0) (neither (n .next)) (record { tag = t; value = negℤ (pos (n .value)); next = n .next })) (record { tag = t; value = pos (n .value); next = n .next }))

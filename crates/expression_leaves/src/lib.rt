@@ -82,21 +82,21 @@ fn at_mark(s: &[u8], at: usize) -> bool
 }
 
 // A number not below 0 and the byte after it, or none.
-pub struct Whole {
+pub struct WholeNumber {
     pub good: bool,
     pub value: u32,
     pub next: usize,
 }
 
 // The number up to the next mark: digits only, no leading zero.
-fn whole_at(s: &[u8], at: usize) -> Whole
+fn whole_at(s: &[u8], at: usize) -> WholeNumber
     ensures { λ r. ⌜ WholeAt (now (s .entry)) at r ⌝ }
 {
     let d = digits_at(s, at);
     let value = d.value;
     let next = d.next;
     if next == at {
-        return Whole {
+        return WholeNumber {
             good: false,
             value,
             next,
@@ -104,14 +104,14 @@ fn whole_at(s: &[u8], at: usize) -> Whole
     }
     if s[at] == 48 {
         if at + 1 < next {
-            return Whole {
+            return WholeNumber {
                 good: false,
                 value,
                 next,
             };
         }
     }
-    Whole {
+    WholeNumber {
         good: at_mark(s, next),
         value,
         next,
@@ -133,7 +133,7 @@ pub struct Leaf {
 }
 
 // The leaf that a number makes.
-fn leaf_of(tag: u8, negative: bool, n: Whole) -> Leaf
+fn leaf_of(tag: u8, negative: bool, n: WholeNumber) -> Leaf
     requires { ⌜ n .value ≤ 2_000_000_001 ⌝ }
     ensures { λ r. ⌜ r ≡ leafOf tag negative n ⌝ }
 {

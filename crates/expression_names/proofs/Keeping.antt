@@ -17,9 +17,9 @@ use Rattle.rules.specs.Blocks.{Block}
 use Rattle.rules.specs.Steps.{assigns}
 use Rattle.rules.specs.Trips.{keeps}
 use Rattle.rules.specs.Text.{isDigit, allDigits, valueFrom, isNatural, plainWord, wordOf}
-use Rattle.rules.specs.Parse.{Parsed, parsed, shapeless, onward, isMark, upToMark, fromMark, leaf, atom, Ahead, operator, other, ahead, afterTerm, afterFactor, close, factorOf, expression, term, factor, readExpression, atEnd, parse, exprIn}
+use Rattle.rules.specs.Parse.{Parsed, parsed, shapeless, thenParse, isMark, upToMark, fromMark, leaf, atom, Ahead, operator, other, ahead, afterTerm, afterFactor, close, factorOf, expression, term, factor, readExpression, atEnd, parse, exprIn}
 use Rattle.rules.specs.File.{asksExpr}
-use Rattle.rules.specs.Written.{Passed}
+use Rattle.rules.specs.Written.{PassedWord}
 use Rattle.rules.proofs.Laws.{no-true}
 use Rattle.expression_leaves.specs.Leaves.{ceiling, digitCount, digitValue, atMark}
 use Rattle.expression_names.specs.Keeping.{kept}
@@ -90,8 +90,8 @@ module _ (body : Block) where
     keeps-all : {x : Expr} {r : List ℕ} → g ≡ keeps x body && of r → Keeps g (parsed x r)
     nothing : Keeps g shapeless
 
-  onward-keeps : {g h : Bool} {p : Parsed} {k : Expr → List ℕ → Parsed} → Keeps g p → ((x : Expr) (r : List ℕ) → g ≡ keeps x body && of r → Keeps h (k x r)) → Keeps h (onward p k)
-  unfolding onward
+  onward-keeps : {g h : Bool} {p : Parsed} {k : Expr → List ℕ → Parsed} → Keeps g p → ((x : Expr) (r : List ℕ) → g ≡ keeps x body && of r → Keeps h (k x r)) → Keeps h (thenParse p k)
+  unfolding thenParse
   onward-keeps (keeps-all {x = x} {r = r} e) f = f x r e
   onward-keeps nothing f = nothing
 
@@ -179,13 +179,13 @@ module _ (body : Block) where
     factor-keeps zero s = nothing
     factor-keeps (suc n) s = inner-keeps (λ r. expression n (λ x. x) r) s (λ r. expression-keeps n true (λ x. x) (λ y. refl) r)
 
-  whole-keeps : {g : Bool} (vars : ℕ) {p : Parsed} → Keeps g p → asksExpr vars (onward p atEnd) ≡ 0 → g ≡ keeps (exprIn (onward p atEnd)) body
-  unfolding onward atEnd kept
+  whole-keeps : {g : Bool} (vars : ℕ) {p : Parsed} → Keeps g p → asksExpr vars (thenParse p atEnd) ≡ 0 → g ≡ keeps (exprIn (thenParse p atEnd)) body
+  unfolding thenParse atEnd kept
   whole-keeps vars (keeps-all {x = x} {r = []} e) h = e ∙ and-true (keeps x body)
   whole-keeps vars (keeps-all {x = x} {r = b ∷ r} e) h = absurd (omega arith)
   whole-keeps vars nothing h = absurd (omega arith)
 
-  pub passed-keeps : (word : List ℕ) → Passed word → of word ≡ keeps (exprIn (parse word)) body
+  pub passed-keeps : (word : List ℕ) → PassedWord word → of word ≡ keeps (exprIn (parse word)) body
   unfolding parse readExpression keeps
   passed-keeps word p = whole-keeps (p .vars) (expression-keeps _ true (λ x. x) (λ y. refl) word) (p .asks)
 

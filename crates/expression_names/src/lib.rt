@@ -10,7 +10,7 @@ ghost use Rattle.rules.specs.Blocks.{Block};
 ghost use Rattle.rules.specs.Steps.{assigns};
 ghost use Rattle.rules.specs.Trips.{keeps};
 ghost use Rattle.expression_leaves.specs.Leaves.{digitValue};
-ghost use Rattle.rules.specs.Written.{Passed};
+ghost use Rattle.rules.specs.Written.{PassedWord};
 
 // Is a number in the set?
 fn member(set: [bool; 16], w: u32) -> bool
@@ -36,7 +36,7 @@ fn names(word: &[u8], i: usize, set: [bool; 16]) -> bool
 
 // 10: is no variable of such an expression in the set that a body assigns?
 pub fn keeps_in(word: &[u8], set: [bool; 16]) -> bool
-    requires { ⌜ Passed (now word) ⌝ }
+    requires { ⌜ PassedWord (now word) ⌝ }
     ensures { λ r. ⌜ ((body : Block) → ((w : ℕ) → getD set w false ≡ assigns w body) → r ≡ keeps (exprIn (parse (now (word .entry)))) body) ⌝ }
 {
     let mut i: usize = 0;

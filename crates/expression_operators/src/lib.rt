@@ -6,8 +6,8 @@ ghost use mathlib.Core.Path.{_≡_};
 ghost use Rattle.ints.specs.Ints.{minZ, maxZ, clamp};
 ghost use Rattle.rules.specs.Expressions.{operate};
 ghost use Rattle.rules.specs.Values.{lowest, highest, inLimits};
-ghost use Rattle.rules.specs.Evaluate.{held};
-ghost use Rattle.expression_operators.specs.Operators.{operatorOf, sums, JoinsRanges, JoinsRun};
+ghost use Rattle.rules.specs.Evaluate.{clamped};
+ghost use Rattle.expression_operators.specs.Operators.{operatorOf, isSum, JoinsRanges, JoinsRun};
 
 // What part of a text comes to, and the byte after it.
 pub struct PartRange {
@@ -32,7 +32,7 @@ fn operate(op: u8, x: i32, y: i32) -> i64
 
 const L: i64 = 1_000_000_000;
 
-// A number drawn back to -L or L if past it.
+// A number clamped to -L and L.
 pub fn clamp(s: i64) -> i32
     ensures { λ r. ⌜ r ≡ clamp lowest highest s ⌝ }
 {
@@ -52,9 +52,9 @@ pub fn within(z: i64) -> bool
     -1_000_000_000 <= z && z <= 1_000_000_000
 }
 
-// From a least to a largest result: drawn back, and whether one is past ±L.
+// From a least to a largest result: clamped, and whether one is past ±L.
 fn held(least: i64, most: i64) -> Value
-    ensures { λ r. ⌜ r ≡ held least most ⌝ }
+    ensures { λ r. ⌜ r ≡ clamped least most ⌝ }
 {
     Value {
         lo: clamp(least),
@@ -91,7 +91,7 @@ pub fn joined(op: u8, a: PartRange, b: PartRange) -> PartRange
 
 // + or -
 pub fn sums(b: u8) -> bool
-    ensures { λ r. ⌜ r ≡ sums b ⌝ }
+    ensures { λ r. ⌜ r ≡ isSum b ⌝ }
 {
     if b == b'+' {
         return true;

@@ -10,7 +10,7 @@ use Rattle.rules.specs.Expressions.{Expr, constant, variable, group, apply}
 use Rattle.rules.specs.Parse.{Parsed, parsed, shapeless, isMark, atom}
 use Rattle.rules.specs.Values.{inLimits}
 use Rattle.rules.specs.File.{firstRefusal, asksLeaves}
-use Rattle.expression_operators.specs.Operators.{sums}
+use Rattle.expression_operators.specs.Operators.{isSum}
 use Rattle.expression_questions.specs.declared.Scan.{Scan}
 
 -- what is counted on the way: the most parentheses open at a leaf, the operators, and the leaves' first no
@@ -20,8 +20,8 @@ pub record Sizes : Type 0 where
   pub asks : ℕ
 
 -- before the first byte
-abbrev pub nothing : Sizes
-nothing = record { deep = 0; ops = 0; asks = 0 }
+abbrev pub noSizes : Sizes
+noSizes = record { deep = 0; ops = 0; asks = 0 }
 
 -- a leaf at a depth
 unfoldable pub noted : ℕ → ℕ → Expr → Sizes → Sizes
@@ -32,11 +32,11 @@ unfoldable pub oneMore : Sizes → Sizes
 oneMore a = record { deep = a .deep; ops = suc (a .ops); asks = a .asks }
 
 -- a whole tree at a depth
-unfoldable pub counted : ℕ → ℕ → Expr → Sizes → Sizes
-counted vars d (constant k) a = noted vars d (constant k) a
-counted vars d (variable w) a = noted vars d (variable w) a
-counted vars d (group x) a = counted vars (suc d) x a
-counted vars d (apply o x y) a = counted vars d y (oneMore (counted vars d x a))
+unfoldable pub sizesFrom : ℕ → ℕ → Expr → Sizes → Sizes
+sizesFrom vars d (constant k) a = noted vars d (constant k) a
+sizesFrom vars d (variable w) a = noted vars d (variable w) a
+sizesFrom vars d (group x) a = sizesFrom vars (suc d) x a
+sizesFrom vars d (apply o x y) a = sizesFrom vars d y (oneMore (sizesFrom vars d x a))
 
 -- 17, 4 and 5 of what was counted
 unfoldable pub decided : Sizes → ℕ
@@ -82,27 +82,27 @@ finished zero a = decided a
 finished (suc d) a = 3
 
 -- what the end of the word says in a mode
-unfoldable pub ended : Mode → ℕ → Sizes → ℕ
-ended due d a = 3
-ended inside d a = finished d a
-ended shut d a = finished d a
+unfoldable pub endQuestion : Mode → ℕ → Sizes → ℕ
+endQuestion due d a = 3
+endQuestion inside d a = finished d a
+endQuestion shut d a = finished d a
 
 -- the word's question, byte by byte
-unfoldable pub walk : ℕ → Mode → ℕ → Sizes → List ℕ → ℕ
-walk vars m d a [] = ended m d a
-walk vars m d a (b ∷ s) = goes (act vars m d a b s) (λ m d a. walk vars m d a s)
+unfoldable pub wordQuestion : ℕ → Mode → ℕ → Sizes → List ℕ → ℕ
+wordQuestion vars m d a [] = endQuestion m d a
+wordQuestion vars m d a (b ∷ s) = goes (act vars m d a b s) (λ m d a. wordQuestion vars m d a s)
 
 -- what is to come of a scan
 abbrev pub sizesOf : Scan → Sizes
 sizesOf c = record { deep = c .deep; ops = c .ops; asks = c .asks }
 
 -- the question of a word that a scan has read so far
-unfoldable pub outcome : ℕ → List ℕ → Scan → ℕ
-outcome vars word c = cond (c .good) (walk vars (cond (c .due) due shut) (c .depth) (sizesOf c) (drop (c .at) word)) 3
+unfoldable pub scanQuestion : ℕ → List ℕ → Scan → ℕ
+scanQuestion vars word c = cond (c .good) (wordQuestion vars (cond (c .due) due shut) (c .depth) (sizesOf c) (drop (c .at) word)) 3
 
 -- how much of a word a scan has before it
-unfoldable pub ahead : List ℕ → Scan → ℕ
-ahead word c = cond (c .good) (suc (2 * (length word - c .at) + cond (c .due) 1 0)) 0
+unfoldable pub bytesAhead : List ℕ → Scan → ℕ
+bytesAhead word c = cond (c .good) (suc (2 * (length word - c .at) + cond (c .due) 1 0)) 0
 
 -- a scan that goes on: no count is past the place
 pub record MayScan (word : List ℕ) (c : Scan) : Type 0 where
@@ -112,11 +112,11 @@ pub record MayScan (word : List ℕ) (c : Scan) : Type 0 where
   pub ops : c .ops ≤ c .at
 
 -- one step of a scan
-pub record Steps (vars : ℕ) (word : List ℕ) (c r : Scan) : Type 0 where
-  pub same : outcome vars word r ≡ outcome vars word c
+pub record ScanStep (vars : ℕ) (word : List ℕ) (c r : Scan) : Type 0 where
+  pub same : scanQuestion vars word r ≡ scanQuestion vars word c
   pub depth : r .depth ≤ r .at
   pub ops : r .ops ≤ r .at
-  pub less : ahead word r < ahead word c
+  pub less : bytesAhead word r < bytesAhead word c
 
 -- 4 or 5 of a leaf, by its tag
 unfoldable pub askedOf : ℕ → ℕ → ℤ → ℕ
@@ -124,4 +124,4 @@ askedOf vars t z = cond (eqb t 2) (cond (ltb (natAbs z) vars) 0 5) (cond (inLimi
 
 -- * + -
 unfoldable pub operates : ℕ → Bool
-operates b = cond (eqb b 42) true (sums b)
+operates b = cond (eqb b 42) true (isSum b)

@@ -12,7 +12,7 @@ ghost use Prim.Native.Nat.{_≤_, max};
 ghost use lib.IntN.{pos, natAbs};
 ghost use Rattle.rules.specs.Parse.{parse};
 ghost use Rattle.rules.specs.File.{asksExpr};
-ghost use Rattle.expression_questions.specs.Asking.{due, shut as afterFactor, sizesOf, ended, MayScan, Steps, askedOf, operates};
+ghost use Rattle.expression_questions.specs.Asking.{due, shut as afterFactor, sizesOf, endQuestion, MayScan, ScanStep, askedOf, operates};
 
 // A walk over a word: whether its shape is good so far, whether a factor is due, the open parentheses, the most of them at a leaf, the operators, the
 // leaves' first no, and the next byte.
@@ -46,7 +46,7 @@ fn asks_leaf(tag: u8, value: i32, vars: u32) -> u32
 // Where a factor is due: a parenthesis, or a constant or a variable.
 fn step_due(word: &[u8], vars: u32, c: Scan) -> Scan
     requires { ⌜ (vars ≤ 16) × (c .due ≡ true) × MayScan (now word) c ⌝ }
-    ensures { λ r. ⌜ Steps vars (now (word .entry)) c r ⌝ }
+    ensures { λ r. ⌜ ScanStep vars (now (word .entry)) c r ⌝ }
 {
     let at = c.at;
     if word[at] == b'(' {
@@ -98,7 +98,7 @@ fn operates(b: u8) -> bool
 // After a factor: an operator, or a parenthesis.
 fn step_after(word: &[u8], vars: u32, c: Scan) -> Scan
     requires { ⌜ (c .due ≡ false) × MayScan (now word) c ⌝ }
-    ensures { λ r. ⌜ Steps vars (now (word .entry)) c r ⌝ }
+    ensures { λ r. ⌜ ScanStep vars (now (word .entry)) c r ⌝ }
 {
     let at = c.at;
     let depth = c.depth;
@@ -140,7 +140,7 @@ fn step_after(word: &[u8], vars: u32, c: Scan) -> Scan
 
 // After the last byte: 3 if a factor is due or a parenthesis is open, then 17, 4 and 5.
 fn verdict(c: Scan) -> u32
-    ensures { λ r. ⌜ r ≡ ended (cond (c .due) due afterFactor) (c .depth) (sizesOf c) ⌝ }
+    ensures { λ r. ⌜ r ≡ endQuestion (cond (c .due) due afterFactor) (c .depth) (sizesOf c) ⌝ }
 {
     if c.due {
         return 3;

@@ -11,12 +11,12 @@ use lib.IntN.{ℤ, pos, negℤ, natAbs}
 use borrow.Author.Tests.{leb-true, leb-false, lt-ltb, eq-eqb, ne-eqb, eqb-true}
 use Rattle.rules.specs.declared.Operator.the-variants.{Add, Sub, Mul}
 use Rattle.rules.specs.Expressions.{Expr, constant, variable, group, apply, Numbers, meaning}
-use Rattle.rules.specs.Parse.{Parsed, parsed, shapeless, onward, atom, Ahead, operator, other, ahead, afterTerm, afterFactor, close, factorOf, readExpression, readFactor}
+use Rattle.rules.specs.Parse.{Parsed, parsed, shapeless, thenParse, atom, Ahead, operator, other, ahead, afterTerm, afterFactor, close, factorOf, readExpression, readFactor}
 use Rattle.rules.proofs.Parsing.{factor-is}
 use Rattle.expression_leaves.specs.declared.Leaf.{Leaf}
-use Rattle.expression_leaves.specs.declared.Whole.{Whole}
+use Rattle.expression_leaves.specs.declared.WholeNumber.{WholeNumber}
 use Rattle.expression_leaves.specs.Leaves.{cutExpr, cutIn, said, neither, leafOf, LeafAt}
-use Rattle.expression_operators.specs.Operators.{operatorOf, joins, sums}
+use Rattle.expression_operators.specs.Operators.{operatorOf, joinedBy, isSum}
 use Rattle.expressions.specs.Evaluating.{shut, Gives}
 
 -- ---- what is read
@@ -29,8 +29,8 @@ record Onward (p : Parsed) (k : Expr → List ℕ → Parsed) (e : Expr) (s : Li
   first : p ≡ parsed x r
   then : k x r ≡ parsed e s
 
-onward-is : (p : Parsed) {k : Expr → List ℕ → Parsed} {e : Expr} {s : List ℕ} → onward p k ≡ parsed e s → Onward p k e s
-unfolding onward
+onward-is : (p : Parsed) {k : Expr → List ℕ → Parsed} {e : Expr} {s : List ℕ} → thenParse p k ≡ parsed e s → Onward p k e s
+unfolding thenParse
 onward-is (parsed x r) h = record { x = x; r = r; first = refl; then = h }
 onward-is shapeless {e = e} {s = s} h = not-parsed e s h
 
@@ -78,7 +78,7 @@ module _ {A : Type 0} (n : Numbers A) (f : ℕ → A) (text : List ℕ) (at : �
   unfolding said cutIn
   no-leaf k h = record { from = h .from; same = λ x s e. not-parsed (cutExpr x) s (h .same ∙ ap cutIn e) }
 
-  module _ (w : Whole) where
+  module _ (w : WholeNumber) where
     pub variable-gives : LeafAt text at (leafOf 2 false w) → Gives n f text (atom (drop at text)) at (f (w .value)) (w .next)
     unfolding leafOf
     variable-gives h = by (w .good) h
@@ -124,8 +124,8 @@ pub end-term : (text : List ℕ) (i : ℕ) → length text ≤ i → afterTerm (
 unfolding afterTerm
 end-term text i h = rw (drop-of-length-le text h)
 
-pub no-term : (text : List ℕ) (i : ℕ) → i < length text → sums (byte text i) ≡ false → afterTerm (drop i text) ≡ other
-unfolding afterTerm sums
+pub no-term : (text : List ℕ) (i : ℕ) → i < length text → isSum (byte text i) ≡ false → afterTerm (drop i text) ≡ other
+unfolding afterTerm isSum
 no-term text i h e = rw (drop-cons text i 0 h) (by (eqb (byte text i) 43) (eqb (byte text i) 45) e)
   where
     by : (p q : Bool) → cond p true q ≡ false → cond p (operator Add (drop (suc i) text)) (cond q (operator Sub (drop (suc i) text)) other) ≡ other
@@ -133,8 +133,8 @@ no-term text i h e = rw (drop-cons text i 0 h) (by (eqb (byte text i) 43) (eqb (
     by false true k = absurd (let z : _≡_ {A = ℕ} 0 1 = cc in omega arith)
     by false false k = refl
 
-pub more-term : (text : List ℕ) (i : ℕ) → i < length text → sums (byte text i) ≡ true → afterTerm (drop i text) ≡ operator (operatorOf (byte text i)) (drop (suc i) text)
-unfolding afterTerm sums operatorOf
+pub more-term : (text : List ℕ) (i : ℕ) → i < length text → isSum (byte text i) ≡ true → afterTerm (drop i text) ≡ operator (operatorOf (byte text i)) (drop (suc i) text)
+unfolding afterTerm isSum operatorOf
 more-term text i h e = rw (drop-cons text i 0 h) (by (eqb (byte text i) 43) (eqb (byte text i) 45) refl refl e)
   where
     by : (p q : Bool) → eqb (byte text i) 43 ≡ p → eqb (byte text i) 45 ≡ q → cond p true q ≡ true
@@ -143,8 +143,8 @@ more-term text i h e = rw (drop-cons text i 0 h) (by (eqb (byte text i) 43) (eqb
     by false true a b k = rw (eqb-true (byte text i) 45 b)
     by false false a b k = absurd (let z : _≡_ {A = ℕ} 0 1 = cc in omega arith)
 
-pub sums-later : (b : ℕ) → sums b ≡ true → eqb b 0 ≡ false
-unfolding sums
+pub sums-later : (b : ℕ) → isSum b ≡ true → eqb b 0 ≡ false
+unfolding isSum
 sums-later zero e = absurd (let z : _≡_ {A = ℕ} 0 1 = cc in omega arith)
 sums-later (suc b) e = ne-eqb (suc b) 0 (λ (k : suc b ≡ 0). omega arith)
 
@@ -170,7 +170,7 @@ step-in text i b s e = (l, (let c : byte text i ∷ drop (suc i) text ≡ b ∷ 
     l : i < length text
     l = omega (arith, length-drop i text, ap length e)
 
-group-is : (text : List ℕ) (at : ℕ) → at < length text → byte text at ≡ 40 → readFactor (drop at text) ≡ onward (readExpression (λ x. x) (drop (suc at) text)) close
+group-is : (text : List ℕ) (at : ℕ) → at < length text → byte text at ≡ 40 → readFactor (drop at text) ≡ thenParse (readExpression (λ x. x) (drop (suc at) text)) close
 unfolding factorOf
 group-is text at h e = factor-is (drop at text) ∙ rw (drop-cons text at 0 h, eq-eqb (byte text at) 40 e)
 
@@ -201,11 +201,11 @@ module _ {A : Type 0} (n : Numbers A) (f : ℕ → A) (text : List ℕ) (at : �
 
 -- ---- a term of factors, an expression of terms: `part` reads one, `look` the operator after it, `chain` all of them
 module _ {A : Type 0} (n : Numbers A) (f : ℕ → A) (text : List ℕ) (part : List ℕ → Parsed) (look : List ℕ → Ahead) (chain : (Expr → Expr) → List ℕ → Parsed)
-    (is : (left : Expr → Expr) (s : List ℕ) → chain left s ≡ onward (part s) λ x r. ahead (look r) (λ o t. chain (apply o (left x)) t) (parsed (left x) r)) where
+    (is : (left : Expr → Expr) (s : List ℕ) → chain left s ≡ thenParse (part s) λ x r. ahead (look r) (λ o t. chain (apply o (left x)) t) (parsed (left x) r)) where
   -- before a part: what stands before it with its operator, and the text from it on
   pub record Partly (e : Expr) (s : List ℕ) (op : ℕ) (a : A) (i : ℕ) : Type 0 where
     pub left : Expr → Expr
-    pub value : (x : Expr) (v : A) → v ≡ meaning n f (cutExpr x) → joins n op a v ≡ meaning n f (cutExpr (left x))
+    pub value : (x : Expr) (v : A) → v ≡ meaning n f (cutExpr x) → joinedBy n op a v ≡ meaning n f (cutExpr (left x))
     pub rest : chain left (drop i text) ≡ parsed e s
 
   pub record ChainBegun (at op : ℕ) (a : A) (i : ℕ) : Type 0 where
@@ -223,10 +223,10 @@ module _ {A : Type 0} (n : Numbers A) (f : ℕ → A) (text : List ℕ) (part : 
     pub same : (e : Expr) (s : List ℕ) → chain (λ x. x) (drop at text) ≡ parsed e s → Tree e s a i
 
   pub begins : (at : ℕ) (a : A) → ChainBegun at 0 a at
-  unfolding joins
+  unfolding joinedBy
   begins at a = record { from = omega arith; same = λ e s k. record { left = λ x. x; value = λ x v h. h; rest = k } }
 
-  pub reads : {at op : ℕ} {a : A} {i : ℕ} → ChainBegun at op a i → {v : A} {k : ℕ} → Gives n f text (part (drop i text)) i v k → {w : A} {j : ℕ} → (w ≡ joins n op a v) × (j ≡ k) → Chained at w j
+  pub reads : {at op : ℕ} {a : A} {i : ℕ} → ChainBegun at op a i → {v : A} {k : ℕ} → Gives n f text (part (drop i text)) i v k → {w : A} {j : ℕ} → (w ≡ joinedBy n op a v) × (j ≡ k) → Chained at w j
   reads {i = i} b {v = v} g {j = j} (h, m) = record {
     from = omega (arith, b .from, g .from, m);
     same = λ e s q.
@@ -238,7 +238,7 @@ module _ {A : Type 0} (n : Numbers A) (f : ℕ → A) (text : List ℕ) (part : 
   }
 
   pub goes : {at : ℕ} {a : A} {i : ℕ} → Chained at a i → (op : ℕ) → eqb op 0 ≡ false → look (drop i text) ≡ operator (operatorOf op) (drop (suc i) text) → ChainBegun at op a (suc i)
-  unfolding ahead joins meaning cutExpr
+  unfolding ahead joinedBy meaning cutExpr
   goes {a = a} {i = i} c op h l = record {
     from = omega (arith, c .from);
     same = λ e s k.

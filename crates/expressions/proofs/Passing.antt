@@ -11,11 +11,11 @@ use borrow.Author.Tests.{ltb-true}
 use Rattle.rules.proofs.Expressions.{limits}
 use Rattle.rules.specs.Expressions.{Expr, constant, variable, group, apply, Numbers, meaning}
 use Rattle.rules.specs.Values.{lowest, highest, inLimits}
-use Rattle.rules.specs.Parse.{Parsed, parsed, shapeless, onward, atEnd, parse, exprIn, readExpression}
+use Rattle.rules.specs.Parse.{Parsed, parsed, shapeless, thenParse, atEnd, parse, exprIn, readExpression}
 use Rattle.rules.specs.File.{turnOf, firstRefusal, asksSize, asksLeaves, asksExpr}
 use Rattle.expression_leaves.specs.Leaves.{ceiling, cutZ, cutExpr}
 use Rattle.expressions.specs.Evaluating.{Gives}
-use Rattle.rules.specs.Written.{Passed}
+use Rattle.rules.specs.Written.{PassedWord}
 
 refusal-none : (p q : ℕ) → firstRefusal p q ≡ 0 → (p ≡ 0) × (q ≡ 0)
 unfolding firstRefusal
@@ -59,13 +59,13 @@ whole : (p : Parsed) (vars : ℕ) → vars ≤ 16 → asksExpr vars p ≡ 0 → 
 whole (parsed x s) vars f e = record { tree = x; rest = s; same = refl; kept = cut-same vars f x (refusal-none (asksSize x) (asksLeaves vars x) e .1) }
 whole shapeless vars f e = absurd (omega arith)
 
-whole-read : (p : Parsed) (x : Expr) (s : List ℕ) → onward p atEnd ≡ parsed x s → p ≡ parsed x []
-unfolding onward atEnd
+whole-read : (p : Parsed) (x : Expr) (s : List ℕ) → thenParse p atEnd ≡ parsed x s → p ≡ parsed x []
+unfolding thenParse atEnd
 whole-read (parsed y []) x s e = let k : y ≡ x = cc in ap (λ z. parsed z []) k
 whole-read (parsed y (b ∷ r)) x s e = absurd (let z : _≡_ {A = ℕ} 0 1 = cc in omega arith)
 whole-read shapeless x s e = absurd (let z : _≡_ {A = ℕ} 0 1 = cc in omega arith)
 
-pub passed-value : {A : Type 0} (n : Numbers A) (f : ℕ → A) (text : List ℕ) → Passed text → (v : A) (k : ℕ) → Gives n f text (readExpression (λ x. x) (drop 0 text)) 0 v k → v ≡ meaning n f (exprIn (parse text))
+pub passed-value : {A : Type 0} (n : Numbers A) (f : ℕ → A) (text : List ℕ) → PassedWord text → (v : A) (k : ℕ) → Gives n f text (readExpression (λ x. x) (drop 0 text)) 0 v k → v ≡ meaning n f (exprIn (parse text))
 unfolding parse
 passed-value n f text p v k h =
     let w = whole (parse text) (p .vars) (p .few) (p .asks) in

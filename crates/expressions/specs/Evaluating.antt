@@ -11,12 +11,12 @@ use Rattle.rules.specs.Expressions.{Expr, Numbers, meaning}
 use Rattle.rules.specs.Parse.{Parsed, parsed}
 use Rattle.rules.specs.Values.{number}
 use Rattle.rules.specs.Ranges.{Env}
-use Rattle.rules.specs.Evaluate.{between}
+use Rattle.rules.specs.Evaluate.{notPast}
 use Rattle.rules.specs.Scripts.{storeOf}
 use Rattle.expression_operators.specs.declared.PartRange.{PartRange}
 use Rattle.expression_operators.specs.declared.PartValue.{PartValue}
 use Rattle.expression_leaves.specs.Leaves.{cutExpr}
-use Rattle.expression_operators.specs.Operators.{ranges, run, valueOf, resultIn}
+use Rattle.expression_operators.specs.Operators.{ranges, runNumbers, valueOf, partResult}
 
 -- a number, before the byte `next`
 abbrev pub cameTo : ℤ → ℕ → PartValue
@@ -24,7 +24,7 @@ cameTo z next = record { number = z; past = false; next = next }
 
 -- each variable's ends, from two lists
 unfoldable pub valuesOf : List ℤ → List ℤ → ℕ → Value
-valuesOf los his w = between (getD los w (pos 0)) (getD his w (pos 0))
+valuesOf los his w = notPast (getD los w (pos 0)) (getD his w (pos 0))
 
 -- each variable's range, from a list of pairs of ends
 unfoldable pub endsOf : List (List ℤ) → Env
@@ -45,4 +45,4 @@ GivesRange los his text p at r = Gives ranges (valuesOf los his) text p at (valu
 
 -- the same in a run
 abbrev pub GivesRun : List ℤ → List ℕ → Parsed → ℕ → PartValue → Type 0
-GivesRun store text p at r = Gives run (λ w. number (storeOf store w)) text p at (resultIn r) (r .next)
+GivesRun store text p at r = Gives runNumbers (λ w. number (storeOf store w)) text p at (partResult r) (r .next)

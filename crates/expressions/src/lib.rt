@@ -18,7 +18,7 @@ ghost use Rattle.rules.specs.Evaluate.{rangeIn, evaluated, resultOf};
 ghost use Rattle.rules.specs.Ranges.{bounds};
 ghost use Rattle.rules.specs.Scripts.{storeOf};
 ghost use Rattle.expressions.specs.Evaluating.{valuesOf, endsOf, shut, cameTo, GivesRange, GivesRun};
-ghost use Rattle.rules.specs.Written.{Passed};
+ghost use Rattle.rules.specs.Written.{PassedWord};
 
 // A number by its index, 0 past the last.
 fn entry(s: &[i32], i: usize) -> i32
@@ -140,7 +140,7 @@ fn expression(text: &[u8], at: usize, los: &[i32], his: &[i32]) -> PartRange
 
 // The range of an expression that the questions 3, 17, 4 and 5 have passed: each variable lies between two numbers.
 pub fn evaluate(text: &[u8], los: &[i32], his: &[i32]) -> Value
-    requires { ⌜ Passed (now text) ⌝ }
+    requires { ⌜ PassedWord (now text) ⌝ }
     ensures { λ r. ⌜ r ≡ evaluated (valuesOf (now (los .entry)) (now (his .entry))) (exprIn (parse (now (text .entry)))) ⌝ }
 {
     let got = expression(text, 0, los, his);
@@ -153,7 +153,7 @@ pub fn evaluate(text: &[u8], los: &[i32], his: &[i32]) -> Value
 
 // The range of such an expression, from the variables' ranges.
 pub fn bounds_in(text: &[u8], ranges: &[[i32; 2]; 16]) -> Value
-    requires { ⌜ Passed (now text) × (length (now ranges) ≡ 16) ⌝ }
+    requires { ⌜ PassedWord (now text) × (length (now ranges) ≡ 16) ⌝ }
     ensures { λ r. ⌜ rangeIn r ≡ bounds (endsOf (now (ranges .entry))) (exprIn (parse (now (text .entry)))) ⌝ }
 {
     let mut los = [0i32; 16];
@@ -271,7 +271,7 @@ fn expression_run(text: &[u8], at: usize, store: &[i32]) -> PartValue
 
 // What such an expression comes to in a run, from the store's numbers.
 pub fn value_in(text: &[u8], store: &[i32]) -> Value
-    requires { ⌜ Passed (now text) ⌝ }
+    requires { ⌜ PassedWord (now text) ⌝ }
     ensures { λ r. ⌜ resultOf r ≡ value (exprIn (parse (now (text .entry)))) (storeOf (now (store .entry))) ⌝ }
 {
     let got = expression_run(text, 0, store);

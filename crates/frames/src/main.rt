@@ -4,7 +4,7 @@
 use calls_frames::Frames;
 use calls_frames::Played;
 use loader::SCRATCH;
-use program_lists::Lent;
+use program_lists::PricesWord;
 use program_lists::Values;
 use program_parts::print_text;
 use program_words::Number;
@@ -25,17 +25,17 @@ pub enum Words {
 }
 
 // A script's three words, and how much of what is lent each takes.
-pub struct Part {
+pub struct Share {
     pub words: Words,
     pub file: usize,
     pub picks: usize,
     pub values: usize,
 }
 
-fn wrong(words: Words) -> Part
+fn wrong(words: Words) -> Share
     ensures { λ r. ⌜ (r .file ≡ 0) × (r .picks ≡ 0) × (r .values ≡ 0) ⌝ }
 {
-    Part {
+    Share {
         words,
         file: 0,
         picks: 0,
@@ -44,14 +44,14 @@ fn wrong(words: Words) -> Part
 }
 
 // Reads the values of argument i, and then all is right; the store's 17 places do, as for `rehearse`.
-fn read_last(i: usize, file: usize, picks: usize, store: &mut [i32]) -> Part
+fn read_last(i: usize, file: usize, picks: usize, store: &mut [i32]) -> Share
     ensures { λ r. ⌜ (r .file ≤ file) × (r .picks ≤ picks) × (r .values ≤ length (now (store .entry))) ⌝ }
 {
     let mut word = io::buffer();
     let n = os::arg(i, &mut word);
     let values = program_lists::read_word_values(&word[..n], store);
     match values {
-        Values::Count(count) => Part {
+        Values::Count(count) => Share {
             words: Words::Right,
             file,
             picks,
@@ -62,7 +62,7 @@ fn read_last(i: usize, file: usize, picks: usize, store: &mut [i32]) -> Part
 }
 
 // Reads the picks of argument i, as far as there is room, and the values after them.
-fn read_picks(i: usize, file: usize, picks: &mut [u8], store: &mut [i32]) -> Part
+fn read_picks(i: usize, file: usize, picks: &mut [u8], store: &mut [i32]) -> Share
     requires { ⌜ i ≤ 100 ⌝ }
     ensures { λ r. ⌜ (r .file ≤ file) × (r .picks ≤ length (now (picks .entry))) × (r .values ≤ length (now (store .entry))) ⌝ }
 {
@@ -76,7 +76,7 @@ fn read_picks(i: usize, file: usize, picks: &mut [u8], store: &mut [i32]) -> Par
 }
 
 // Reads the file that argument i names, the picks and the values after it.
-fn read_script(i: usize, file: &mut [u8], picks: &mut [u8], store: &mut [i32]) -> Part
+fn read_script(i: usize, file: &mut [u8], picks: &mut [u8], store: &mut [i32]) -> Share
     requires { ⌜ i ≤ 99 ⌝ }
     ensures { λ r. ⌜ (r .file ≤ length (now (file .entry))) × (r .picks ≤ length (now (picks .entry))) × (r .values ≤ length (now (store .entry))) ⌝ }
 {
@@ -108,7 +108,7 @@ fn read_scripts(
     pick_lengths: &mut [usize],
     stores: &mut [i32],
     store_lengths: &mut [usize],
-) -> Part
+) -> Share
     requires { ⌜ (first ≤ 3) × (scripts ≤ 8) × (length (now files) ≡ 131_080) × (length (now picks) ≡ 131_072) × (length (now stores) ≡ 136) ⌝ }
     requires { ⌜ (length (now «file_lengths») ≡ 8) × (length (now «pick_lengths») ≡ 8) × (length (now «store_lengths») ≡ 8) ⌝ }
     ensures { λ r. ⌜ (r .file ≤ 131_080) × (r .picks ≤ 131_072) × (r .values ≤ 136) ⌝ }
@@ -139,7 +139,7 @@ fn read_scripts(
         value = value + part.values;
         k += 1;
     }
-    Part {
+    Share {
         words: Words::Right,
         file,
         picks: pick,
@@ -330,8 +330,8 @@ fn main() {
     let mut prices = [1u32; 4];
     let lent = program_lists::read_prices(&word[..n], &mut prices);
     match lent {
-        Lent::Nothing => read_q(1, arguments, &prices),
-        Lent::Four => read_q(2, arguments, &prices),
-        Lent::Malformed => program_parts::print_wrong_prices(),
+        PricesWord::Nothing => read_q(1, arguments, &prices),
+        PricesWord::Four => read_q(2, arguments, &prices),
+        PricesWord::Malformed => program_parts::print_wrong_prices(),
     }
 }

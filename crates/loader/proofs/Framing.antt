@@ -15,7 +15,7 @@ use Rattle.rules.specs.Values.{Store}
 use Rattle.rules.specs.Answers.{storeList}
 use Rattle.rules.specs.Calls.{pricesOf, scratchSize, SameFromAnyScratch}
 use Rattle.rules_frames.specs.Frames
-use Rattle.rules_frames.specs.Frames.{Progress, due, Lent, Part, partsOf, Readiness, enters, readiness, fitting, FramesReply, played, playedBy, framesReply, storesOf, storesAfter, sum}
+use Rattle.rules_frames.specs.Frames.{Progress, due, Lent, ScriptPart, partsOf, Readiness, enters, readiness, fitting, FramesReply, played, playedBy, framesReply, storesOf, storesAfter, total}
 use Rattle.rules_frames.specs.InTime.{alone, Accepts, Alone, AllInTime}
 use Rattle.rules_frames.proofs.FramesAsAlone.{all-in-time}
 use Rattle.rules.proofs.Demand3File.{same-from-any-scratch, store-in}
@@ -33,13 +33,13 @@ use Rattle.loader.proofs.Laws.{lent-no, lent-room}
 
 -- ---- the questions
 -- one readiness from every scratch that is long enough
-cast-scratch : (prices : List ℕ) (a b : ℕ) → scratchSize ≤ a → scratchSize ≤ b → (hs : List Part) → readiness prices a hs ≡ readiness prices b hs
+cast-scratch : (prices : List ℕ) (a b : ℕ) → scratchSize ≤ a → scratchSize ≤ b → (hs : List ScriptPart) → readiness prices a hs ≡ readiness prices b hs
 unfolding readiness SameFromAnyScratch
 cast-scratch prices a b x y [] = refl
 cast-scratch prices a b x y (h ∷ hs) = λ i. enters (same-from-any-scratch prices a b (h .file) x y i) h (cast-scratch prices a b x y hs i)
 
 -- 1 or 16 has no: so has the first script's
-cast-lent : (prices : List ℕ) (scratch q p : ℕ) → lentVerdict prices scratch ≡ Refused q p → (hs : List Part) → 1 ≤ length hs → readiness prices scratch hs ≡ Readiness.refuses q p
+cast-lent : (prices : List ℕ) (scratch q p : ℕ) → lentVerdict prices scratch ≡ Refused q p → (hs : List ScriptPart) → 1 ≤ length hs → readiness prices scratch hs ≡ Readiness.refuses q p
 unfolding readiness enters
 cast-lent prices scratch q p e [] l = absurd (omega arith)
 cast-lent prices scratch q p e (h ∷ hs) l = ap (λ j. enters j h (readiness prices scratch hs)) (lent-no prices scratch (h .file) e)
@@ -79,29 +79,29 @@ told-first f (FramesReply.refuses q p) t = ap (λ (z : code.Frames). mostBy (z .
 
 -- ---- in time
 -- script j of those that are as alone
-alone-at : {π : Prices} {q : ℕ} {hs : List Part} {ps : List Progress} {rs : List Frames.Played} → Alone π q hs ps rs → (j : ℕ) → j < length hs
-    → let script : Script = getD ps j noProgress .script in let h : Part = getD hs j noPart in
+alone-at : {π : Prices} {q : ℕ} {hs : List ScriptPart} {ps : List Progress} {rs : List Frames.Played} → Alone π q hs ps rs → (j : ℕ) → j < length hs
+    → let script : Script = getD ps j noProgress .script in let h : ScriptPart = getD hs j noPart in
     (f : ℕ) × (1 ≤ f) × (f ≤ due q (reportTicks π script)) × (getD rs j noPlayed ≡ alone π script (h .store) (h .picks) (reportTicks π script) f)
 alone-at Alone.none j l = absurd (omega arith)
 alone-at (Alone.some {f = f} a b rest) zero l = (f, a, b, refl)
 alone-at (Alone.some a b rest) (suc j) l = alone-at rest j (omega arith)
 
-alone-length : {π : Prices} {q : ℕ} {hs : List Part} {ps : List Progress} {rs : List Frames.Played} → Alone π q hs ps rs → length rs ≡ length hs
+alone-length : {π : Prices} {q : ℕ} {hs : List ScriptPart} {ps : List Progress} {rs : List Frames.Played} → Alone π q hs ps rs → length rs ≡ length hs
 alone-length Alone.none = refl
 alone-length (Alone.some a b rest) = ap suc (alone-length rest)
 
 -- the stores end to end, in their parts
 part-stores : (ss : List ℕ) (rs : List Frames.Played) → length ss ≡ length rs → ((i : ℕ) → i < length rs → length (getD rs i noPlayed .store) ≡ getD ss i 0) → (j : ℕ) → j < length rs
     → partOf ss j (storesOf rs) ≡ getD rs j noPlayed .store
-unfolding storesOf sum
+unfolding storesOf total
 part-stores [] [] e f j h = absurd (omega arith)
 part-stores [] (r ∷ rs) e f j h = absurd (omega arith)
 part-stores (s ∷ ss) [] e f j h = absurd (omega arith)
 part-stores (s ∷ ss) (r ∷ rs) e f zero h = take-at (r .store) (storesOf rs) s (f 0 (omega arith))
 part-stores (s ∷ ss) (r ∷ rs) e f (suc j) h =
-    let n : s + sum (take j ss) ≡ length (r .store) + sum (take j ss) = omega (arith, f 0 (omega arith)) in
+    let n : s + total (take j ss) ≡ length (r .store) + total (take j ss) = omega (arith, f 0 (omega arith)) in
     ap (λ k. take (getD ss j 0) (drop k (r .store ++ storesOf rs))) n
-    ∙ ap (take (getD ss j 0)) (drop-append-add (r .store) (storesOf rs) (sum (take j ss)))
+    ∙ ap (take (getD ss j 0)) (drop-append-add (r .store) (storesOf rs) (total (take j ss)))
     ∙ part-stores ss rs (omega arith) (λ i g. f (suc i) (omega arith)) j (omega arith)
 
 list-length : (n : ℕ) (f : Store) → length (storeList n f) ≡ n
@@ -148,7 +148,7 @@ module _ (prices : List ℕ) (scratch : ℕ) (l : Lent) (q : ℕ) (new : List �
     abbrev script : ℕ → Script
     script j = getD ps j noProgress .script
 
-    abbrev part : ℕ → Part
+    abbrev part : ℕ → ScriptPart
     part j = getD (partsOf l) j noPart
 
     -- its run alone with allowance T, finished in frame g
@@ -162,7 +162,7 @@ module _ (prices : List ℕ) (scratch : ℕ) (l : Lent) (q : ℕ) (new : List �
         ap (λ (y : Frames.Played). length (y .store)) z
         ∙ alone-store π (script i) (part i .store) (part i .picks) (reportTicks π (script i)) g
         ∙ sym (store-in (script i) (part i .store) (p .yes-15) .whole)
-        ∙ ap (λ (y : Part). length (y .store)) (cut-at (l .fileLengths) (l .storeLengths) (l .pickLengths) (l .files) (l .stores) (l .picks) (fit .stores) (fit .picks) i (omega (arith, number)) noPart)
+        ∙ ap (λ (y : ScriptPart). length (y .store)) (cut-at (l .fileLengths) (l .storeLengths) (l .pickLengths) (l .files) (l .stores) (l .picks) (fit .stores) (fit .picks) i (omega (arith, number)) noPart)
         ∙ part-length (l .storeLengths) (l .stores) i (omega (arith, number, fit .stores)) (fit .store-sum)
 
     module _ (j : ℕ) (h : j < length (l .fileLengths)) (g : ℕ) (some : 1 ≤ g) (late : g ≤ due q (reportTicks π (script j))) (z : getD rs j noPlayed ≡ by-itself j g) where

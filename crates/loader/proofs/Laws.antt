@@ -13,11 +13,11 @@ use Rattle.rules.specs.declared.Reply.{Reply}
 use Rattle.rules.specs.File.{fileScript}
 use Rattle.rules.specs.Calls.{Judged, refuses, pricesOf, pricesVerdict, Priced, judgedPriced, scratchSize, judgedFile, judged, replyOf, bufferOf, RunReply, ran, runReply, storeAfter}
 use Rattle.rules.proofs.Demand3File.{demand3-call}
-use Rattle.calls.specs.Told.{MeasuredAs, Told, Ran, ToldNo}
+use Rattle.calls.specs.Told.{MeasuredAs, Told, RanAs, ToldNo}
 use Rattle.calls.specs.declared.Measured.{Measured}
 use Rattle.calls.specs.declared.Outcome.{Outcome}
 use Rattle.calls.proofs.Runs.{told-says}
-use Rattle.loader.specs.Kept.{numberOf, placeOf, verdictNumber, firstBy, runNumber, runFirst, lentVerdict, Reported, KeptCall}
+use Rattle.loader.specs.Kept.{replyNumber, replyPlace, verdictNumber, firstBy, runNumber, runFirst, lentVerdict, Reported, KeptCall}
 
 -- the questions 1 and 16
 module _ (prices : List ℕ) (scratch : ℕ) where
@@ -64,7 +64,7 @@ module _ {prices : List ℕ} {j : Judged} {old : List ℕ} where
   reported-same e h = rw e h
 
   pub reported-as : {k : Judged} {new : List ℕ} {m : Measured} → j ≡ k → MeasuredAs prices k old new m → Reported prices j old new (m .reply)
-  reported-as e h = rw e (record { answer = h .reply; number = ap numberOf (h .reply); place = ap placeOf (h .reply); buffer = h .buffer })
+  reported-as e h = rw e (record { answer = h .reply; number = ap replyNumber (h .reply); place = ap replyPlace (h .reply); buffer = h .buffer })
 
 -- the numbers of an answer that tells a reply
 told-number : (o : Outcome) (reply : RunReply) → Told o reply → verdictNumber (o .verdict) ≡ runNumber reply
@@ -77,16 +77,16 @@ told-first o (RunReply.refuses q p) t = ap (λ v. firstBy v (o .ending)) (t .ver
 
 -- a run that is refused, and one that is judged as another is
 module _ (prices : List ℕ) {store : List ℤ} (picks : List ℕ) (allowance : ℕ) {o : Outcome} {j : Judged} where
-  pub ran-no : {q p : ℕ} → j ≡ refuses q p → ToldNo o q p → Ran (runReply prices j store picks allowance) store store o
+  pub ran-no : {q p : ℕ} → j ≡ refuses q p → ToldNo o q p → RanAs (runReply prices j store picks allowance) store store o
   unfolding runReply storeAfter
   ran-no e t = rw e (record { told = t; store = refl })
 
-  pub ran-same : {k : Judged} {new : List ℤ} → j ≡ k → Ran (runReply prices k store picks allowance) store new o → Ran (runReply prices j store picks allowance) store new o
+  pub ran-same : {k : Judged} {new : List ℤ} → j ≡ k → RanAs (runReply prices k store picks allowance) store new o → RanAs (runReply prices j store picks allowance) store new o
   ran-same e r = rw e r
 
 -- its numbers, and demand 3
 pub kept : (prices : List ℕ) (scratch : ℕ) (file : List ℕ) {store new : List ℤ} (picks : List ℕ) (allowance : ℕ) {o : Outcome}
-    → Ran (runReply prices (judged prices scratch file) store picks allowance) store new o → KeptCall prices (judged prices scratch file) store new picks allowance o
+    → RanAs (runReply prices (judged prices scratch file) store picks allowance) store new o → KeptCall prices (judged prices scratch file) store new picks allowance o
 kept prices scratch file {store} picks allowance {o} r =
     let reply = runReply prices (judged prices scratch file) store picks allowance in
     record {

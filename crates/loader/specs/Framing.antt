@@ -9,7 +9,7 @@ use Rattle.rules.specs.declared.Verdict.the-variants.{Passed, Refused}
 use Rattle.rules.specs.declared.Prices.{Prices}
 use Rattle.rules.specs.Scripts.{Script, reportTicks}
 use Rattle.rules.specs.Calls.{pricesOf}
-use Rattle.rules_frames.specs.Frames.{Progress, due, Lent, Part, partsOf, FramesReply, played, refuses, framesReply}
+use Rattle.rules_frames.specs.Frames.{Progress, due, Lent, ScriptPart, partsOf, FramesReply, played, refuses, framesReply}
 use Rattle.rules_frames.specs.InTime.{alone, Accepts}
 use Rattle.calls_lists.specs.Parts.{partOf}
 use Rattle.calls_scripts.specs.Held.{noPart, noProgress}
@@ -34,7 +34,7 @@ framesFirst (played rs m) = m
 framesFirst (refuses q p) = p
 
 -- a script's answer, and its store after the call: it is finished by frame ceil(T/q), or the first if T is 0, "and its ending, store, ticks and turns equal those of running alone with allowance T"
-pub record OnTime (π : Prices) (q : ℕ) (script : Script) (h : Part) (x : Played) (store : List ℤ) : Type 0 where
+pub record OnTime (π : Prices) (q : ℕ) (script : Script) (h : ScriptPart) (x : Played) (store : List ℤ) : Type 0 where
   pub frame : (1 ≤ x .frame) × (x .frame ≤ due q (reportTicks π script))
   pub same : ToldPlayed x (alone π script (h .store) (h .picks) (reportTicks π script) (x .frame))
   pub kept : store ≡ alone π script (h .store) (h .picks) (reportTicks π script) (x .frame) .store

@@ -9,7 +9,7 @@ ghost use mathlib.Core.Path.{_≡_};
 ghost use lib.ListN.{length};
 ghost use Rattle.rules.specs.File.{fileScript};
 ghost use Rattle.rules.specs.Calls.{pricesOf, Priced, judgedFile, runReply};
-ghost use Rattle.calls.specs.Told.{Ran};
+ghost use Rattle.calls.specs.Told.{RanAs};
 ghost use Rattle.calls_lists.specs.Parts.{lentOf};
 ghost use Rattle.loader.specs.Kept.{lentVerdict, judgement, Reported, KeptCall};
 ghost use Rattle.loader.specs.Framing.{FramedCall};
@@ -74,7 +74,7 @@ pub fn report(file: &[u8], prices: &[u32], scratch: &mut [u32], buffer: &mut [u8
 // The run of a file under prices that 16 has passed: the questions 2 to 13, 15, 17 and 19.
 fn run_file(file: &[u8], prices: &[u32], store: &mut [i32], picks: &[u8], allowance: u64) -> Outcome
     requires { ⌜ Priced (now prices) ⌝ }
-    ensures { λ r. ⌜ Ran (runReply (now (prices .entry)) (judgedFile (pricesOf (now (prices .entry))) (fileScript (now (file .entry)))) (now (store .entry)) (now (picks .entry)) allowance) (now (store .entry)) (now (store .exit)) r ⌝ }
+    ensures { λ r. ⌜ RanAs (runReply (now (prices .entry)) (judgedFile (pricesOf (now (prices .entry))) (fileScript (now (file .entry)))) (now (store .entry)) (now (picks .entry)) allowance) (now (store .entry)) (now (store .exit)) r ⌝ }
 {
     let none: [i32; 2] = [0; 2];
     let mut ranges = [none; 16];

@@ -5,7 +5,7 @@ use Prim.Native.Nat.{ℕ}
 use lib.IntN.{ℤ, pos, negℤ}
 use Rattle.rules.specs.Text.{prefixed, split, startsWith, equals, isDigit, allDigits, valueFrom, isNatural}
 use Rattle.program_words.specs.Words.{sized, numberIn, valueIn}
-use Rattle.program_lists.specs.declared.Lent.the-variants.{Nothing, Four, Malformed}
+use Rattle.program_lists.specs.declared.PricesWord.the-variants.{Nothing, Four, Malformed}
 use Rattle.program_lists.specs.declared.Values.the-variants.{Count, Wrong}
 use Rattle.program_lists.specs.Lists.{allPrices, fourPrices, pricesKept, lentIn, lentPrices, valuesIn, valuesKept, untilSpace, lineWords, commaWords}
 

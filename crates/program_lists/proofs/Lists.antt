@@ -13,7 +13,7 @@ use lib.Seq.{set-out}
 use Rattle.rules.specs.Text.{split}
 use Rattle.reading_text.specs.Words.{before}
 use Rattle.program_words.specs.declared.Number as numbers
-use Rattle.program_words.specs.declared.Value as values
+use Rattle.program_words.specs.declared.StoreValue as values
 use Rattle.program_words.specs.Words.{numberIn, isPrice, pricedIn, valueIn, isValue, keptIn}
 use Rattle.program_lists.specs.declared.Values.the-variants.{Count, Wrong}
 use Rattle.program_lists.specs.Lists.{comma, allPrices, fourPrices, pricesKept, valuesIn, valuesKept}
@@ -26,7 +26,7 @@ value-none : (w : List ℕ) (ws : List (List ℕ)) (n : ℕ) (s : List ℤ) → 
 unfolding valuesIn valuesKept
 value-none w ws n s h = (rw h, rw h (same (valueIn w) h))
   where
-    same : (v : values.Value) → isValue v ≡ false → s ≡ keptIn v s n
+    same : (v : values.StoreValue) → isValue v ≡ false → s ≡ keptIn v s n
     same (values.the-variants.Is x) e = absurd (let z : _≡_ {A = Bool} true false = e in let y : _≡_ {A = ℕ} 0 1 = cc in omega arith)
     same values.the-variants.Malformed e = refl
 
@@ -35,7 +35,7 @@ value-one : (w : List ℕ) (ws : List (List ℕ)) (n : ℕ) (s : List ℤ) → i
 unfolding valuesIn valuesKept
 value-one w ws n s h = (rw h, rw h)
 
-kept-length : (v : values.Value) (s : List ℤ) (n : ℕ) → length (keptIn v s n) ≡ length s
+kept-length : (v : values.StoreValue) (s : List ℤ) (n : ℕ) → length (keptIn v s n) ≡ length s
 kept-length (values.the-variants.Is x) s n = length-set s n x
 kept-length values.the-variants.Malformed s n = refl
 

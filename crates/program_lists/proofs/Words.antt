@@ -10,7 +10,7 @@ use lib.IntN.{ℤ}
 use lib.ListN.{length, getD, take, drop}
 use Rattle.rules.specs.Text.{space, minus, split, startsWith, equals}
 use Rattle.reading_text.proofs.Laws.{part-rest}
-use Rattle.program_lists.specs.declared.Lent.the-variants.{Nothing, Four, Malformed}
+use Rattle.program_lists.specs.declared.PricesWord.the-variants.{Nothing, Four, Malformed}
 use Rattle.program_lists.specs.declared.Values.{Values}
 use Rattle.program_lists.specs.declared.Values.the-variants.{Count}
 use Rattle.program_lists.specs.Lists.{comma, pricesKey, fourPrices, pricesKept, lentIn, lentPrices, valuesIn, valuesKept, untilSpace, lineWords, commaWords}

@@ -7,7 +7,7 @@ use lib.IntN.{ℤ}
 use lib.ListN.{length, getD, take, drop}
 use Rattle.rules.specs.Text.{space, minus, split, startsWith, equals}
 use Rattle.program_words.specs.Words.{numberIn, isPrice, pricedIn, valueIn, isValue, keptIn}
-use Rattle.program_lists.specs.declared.Lent as lents
+use Rattle.program_lists.specs.declared.PricesWord as lents
 use Rattle.program_lists.specs.declared.Values as counts
 
 -- `,`
@@ -33,7 +33,7 @@ pricesKept [] at prices = prices
 pricesKept (w ∷ ws) at prices = cond (isPrice (numberIn w)) (pricesKept ws (suc at) (pricedIn (numberIn w) prices at)) prices
 
 -- what a first word says of the prices: `prices=` and four prices with commas between them
-unfoldable pub lentIn : List ℕ → lents.Lent
+unfoldable pub lentIn : List ℕ → lents.PricesWord
 lentIn word =
     cond (startsWith pricesKey word)
     (cond (fourPrices (split comma (drop 7 word))) lents.the-variants.Four lents.the-variants.Malformed)

@@ -10,7 +10,7 @@ ghost use Rattle.rules.specs.Text.{split};
 ghost use Rattle.program_lists.specs.Lists.{comma, fourPrices, pricesKept, lentIn, lentPrices, valuesIn, valuesKept, lineWords, commaWords};
 
 // What a first word says of the prices: nothing, four, or not what it should.
-pub enum Lent {
+pub enum PricesWord {
     Nothing,
     Four,
     Malformed,
@@ -44,17 +44,17 @@ fn put_prices(list: &[u8], prices: &mut [u32]) -> bool
 }
 
 // Keeps the prices of a first word that is `prices=A,C,P,T`.
-pub fn read_prices(word: &[u8], prices: &mut [u32]) -> Lent
+pub fn read_prices(word: &[u8], prices: &mut [u32]) -> PricesWord
     requires { ⌜ length (now prices) ≡ 4 ⌝ }
     ensures { λ r. ⌜ (r ≡ lentIn (now (word .entry))) × (now (prices .exit) ≡ lentPrices (now (word .entry)) (now (prices .entry))) ⌝ }
 {
     if !starts_with(word, b"prices=") {
-        return Lent::Nothing;
+        return PricesWord::Nothing;
     }
     if put_prices(&word[7..], prices) {
-        return Lent::Four;
+        return PricesWord::Four;
     }
-    Lent::Malformed
+    PricesWord::Malformed
 }
 
 // Keeps the values of a list, with a separator between them, as far as the store has places.

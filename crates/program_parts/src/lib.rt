@@ -3,7 +3,7 @@ mod lines;
 mod print;
 mod script;
 
-pub use lines::Line;
+pub use lines::LineKind;
 pub use lines::answer_input;
 pub use print::print_front;
 pub use print::print_number;

@@ -5,14 +5,14 @@ use crate::script::rehearse_file;
 use crate::script::report_file;
 use bytes::scan::find;
 use libc::STDIN_FILENO;
-use program_lists::Lent;
+use program_lists::PricesWord;
 use program_lists::read_line_values;
 use program_lists::read_prices;
 ghost use Prim.Native.Nat.{_≤_};
 ghost use lib.ListN.{length};
 
 // What a line is: the name of a file to report, or a run, `[prices=A,C,P,T] NAME ALLOWANCE PICKS VALUE ..`.
-pub enum Line {
+pub enum LineKind {
     File,
     Run,
 }
@@ -51,24 +51,24 @@ fn priced_line(line: &[u8]) {
     let b = next(line, a);
     let lent = read_prices(&line[0..a], &mut prices);
     match lent {
-        Lent::Nothing => run_line(line, &prices),
-        Lent::Four => run_line(&line[b..], &prices),
-        Lent::Malformed => print_wrong_prices(),
+        PricesWord::Nothing => run_line(line, &prices),
+        PricesWord::Four => run_line(&line[b..], &prices),
+        PricesWord::Malformed => print_wrong_prices(),
     }
 }
 
 // Prints a line, and the report or the run that it asks for.
-fn answer_line(kind: Line, line: &[u8]) {
+fn answer_line(kind: LineKind, line: &[u8]) {
     print_text(line);
     print_text(b"\n");
     match kind {
-        Line::File => report_file(line),
-        Line::Run => priced_line(line),
+        LineKind::File => report_file(line),
+        LineKind::Run => priced_line(line),
     }
 }
 
 // Answers each line of a list.
-fn answer_lines(kind: Line, list: &[u8]) {
+fn answer_lines(kind: LineKind, list: &[u8]) {
     let mut at = 0;
     while at < list.len() {
         let end = find(list, at, list.len(), b'\n');
@@ -78,7 +78,7 @@ fn answer_lines(kind: Line, list: &[u8]) {
 }
 
 // Answers each line of standard input.
-pub fn answer_input(kind: Line) {
+pub fn answer_input(kind: LineKind) {
     let mut list = io::large_buffer();
     let n = io::read_full(STDIN_FILENO, &mut list);
     answer_lines(kind, &list[..n]);

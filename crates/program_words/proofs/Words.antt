@@ -12,7 +12,7 @@ use lib.Seq.{take-all}
 use Rattle.rules.specs.Text.{startsWith, equals, isDigit, allDigits, isNatural}
 use Rattle.program_words.specs.Words.{spelledIn, numberIn, upwardOf, downwardOf, valueIn}
 use Rattle.program_words.specs.declared.Number as numbers
-use Rattle.program_words.specs.declared.Value as values
+use Rattle.program_words.specs.declared.StoreValue as values
 
 -- a word of the same length that starts with a word is that word
 pub same-word : (k w : List ℕ) → length w ≡ length k → startsWith k w ≡ equals k w

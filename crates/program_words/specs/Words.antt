@@ -8,7 +8,7 @@ use lib.IntN.{ℤ, pos, negℤ}
 use lib.ListN.{length, set}
 use Rattle.rules.specs.Text.{minus, equals, isDigit, allDigits, valueFrom, isNatural}
 use Rattle.program_words.specs.declared.Number as numbers
-use Rattle.program_words.specs.declared.Value as values
+use Rattle.program_words.specs.declared.StoreValue as values
 
 -- the value of a digit, or 10
 unfoldable pub digitOf : ℕ → ℕ
@@ -27,28 +27,28 @@ unfoldable pub numberIn : List ℕ → numbers.Number
 numberIn w = cond (isNatural w) (sized (valueFrom 0 w)) numbers.the-variants.Malformed
 
 -- a number as a value of 32 bits
-abbrev pub upwardOf : numbers.Number → values.Value
+abbrev pub upwardOf : numbers.Number → values.StoreValue
 upwardOf (numbers.the-variants.Is n) = cond (ltb n 2_147_483_648) (values.the-variants.Is (pos n)) values.the-variants.Malformed
 upwardOf numbers.the-variants.Malformed = values.the-variants.Malformed
 
 -- the same under `-`, which stands only before a non-zero number
-abbrev pub downwardOf : numbers.Number → values.Value
+abbrev pub downwardOf : numbers.Number → values.StoreValue
 downwardOf (numbers.the-variants.Is n) =
     cond (eqb n 0) values.the-variants.Malformed (cond (leb n 2_147_483_648) (values.the-variants.Is (negℤ (pos n))) values.the-variants.Malformed)
 downwardOf numbers.the-variants.Malformed = values.the-variants.Malformed
 
 -- the value of the store that a word is
-unfoldable pub valueIn : List ℕ → values.Value
+unfoldable pub valueIn : List ℕ → values.StoreValue
 valueIn [] = values.the-variants.Malformed
 valueIn (b ∷ w) = cond (eqb b minus) (downwardOf (numberIn w)) (upwardOf (numberIn (b ∷ w)))
 
 -- a store with that value at a place, if there is one and the store has the place
-abbrev pub keptIn : values.Value → List ℤ → ℕ → List ℤ
+abbrev pub keptIn : values.StoreValue → List ℤ → ℕ → List ℤ
 keptIn (values.the-variants.Is x) store at = set store at x
 keptIn values.the-variants.Malformed store at = store
 
 -- whether there is one
-abbrev pub isValue : values.Value → Bool
+abbrev pub isValue : values.StoreValue → Bool
 isValue (values.the-variants.Is x) = true
 isValue values.the-variants.Malformed = false
 

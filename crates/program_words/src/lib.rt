@@ -15,7 +15,7 @@ pub enum Number {
 }
 
 // A word that is a value of the store, or is none.
-pub enum Value {
+pub enum StoreValue {
     Is(i32),
     Malformed,
 }
@@ -70,44 +70,44 @@ pub fn read_number(word: &[u8]) -> Number
 }
 
 // A value from 0 on.
-fn upward(n: Number) -> Value
+fn upward(n: Number) -> StoreValue
     ensures { λ r. ⌜ r ≡ upwardOf n ⌝ }
 {
     match n {
         Number::Is(m) => {
             if m < 2_147_483_648 {
-                return Value::Is(m as i32);
+                return StoreValue::Is(m as i32);
             }
-            Value::Malformed
+            StoreValue::Malformed
         }
-        Number::Malformed => Value::Malformed,
+        Number::Malformed => StoreValue::Malformed,
     }
 }
 
 // A value below 0.
-fn downward(n: Number) -> Value
+fn downward(n: Number) -> StoreValue
     ensures { λ r. ⌜ r ≡ downwardOf n ⌝ }
 {
     match n {
         Number::Is(m) => {
             if m == 0 {
-                return Value::Malformed;
+                return StoreValue::Malformed;
             }
             if m > 2_147_483_648 {
-                return Value::Malformed;
+                return StoreValue::Malformed;
             }
-            Value::Is((0 - (m as i64)) as i32)
+            StoreValue::Is((0 - (m as i64)) as i32)
         }
-        Number::Malformed => Value::Malformed,
+        Number::Malformed => StoreValue::Malformed,
     }
 }
 
 // The value of the store that a word is.
-fn read_value(word: &[u8]) -> Value
+fn read_value(word: &[u8]) -> StoreValue
     ensures { λ r. ⌜ r ≡ valueIn (now (word .entry)) ⌝ }
 {
     if word.len() == 0 {
-        return Value::Malformed;
+        return StoreValue::Malformed;
     }
     if word[0] == b'-' {
         return downward(read_number(&word[1..]));
@@ -121,13 +121,13 @@ pub fn keep_value(word: &[u8], store: &mut [i32], at: usize) -> bool
 {
     let v = read_value(word);
     match v {
-        Value::Is(x) => {
+        StoreValue::Is(x) => {
             if at < store.len() {
                 store[at] = x;
             }
             true
         }
-        Value::Malformed => false,
+        StoreValue::Malformed => false,
     }
 }
 

@@ -26,7 +26,7 @@ use Rattle.reading_nesting.specs.declared.Blocks.{Blocks}
 use Rattle.reading_nesting.specs.declared.Placed.{Placed}
 use Rattle.reading_nesting.specs.Open.{nestOf, nestedOf, Shallow}
 use Rattle.reading_nesting.proofs.Laws.{nest-none}
-use Rattle.reading_rows.specs.declared.Line.{Line}
+use Rattle.reading_rows.specs.declared.RowLine.{RowLine}
 use Rattle.reading_lines.specs.Lines.{fileLines}
 use Rattle.reader.specs.Read.{LineRead, WrittenRows}
 use Rattle.reading_lines.proofs.Lines.{next-none, lines-next}
@@ -140,14 +140,14 @@ module _ (file : List ℕ) (at vars n : ℕ) (rows : List Row) (blocks : Blocks)
   unfolding given
   stops q z e = record { same = e ∙ rw (ne-eqb q 0 z); written = λ y. absurd (z y) }
 
-  pub rows-wrong : (q : ℕ) → LineRead (drop next file) next vars (Line.Wrong q)
+  pub rows-wrong : (q : ℕ) → LineRead (drop next file) next vars (RowLine.Wrong q)
       → RowsRead file at vars n (record { number = q; place = 4 + vars + i; at = next; blocks = blocks; rows = rows })
   unfolding rowLine
   rows-wrong q line =
       let e = line .line file refl in
       stops q (row-wrong vars _ q (sym e)) (row-step (Wrong q) e)
 
-  module _ (k : Kind) (line : LineRead (drop next file) next vars (Line.Read k len)) (p : Placed) (f : nestedOf p ≡ nestRow (viewOf (kindOf file k)) (nestOf blocks)) where
+  module _ (k : Kind) (line : LineRead (drop next file) next vars (RowLine.Read k len)) (p : Placed) (f : nestedOf p ≡ nestRow (viewOf (kindOf file k)) (nestOf blocks)) where
     said : (Read (kindOf file k) ≡ rowOf vars (nextTexts rowKey (fileLines (drop next file)))) × (len ≡ before 10 (drop next file))
     said = (line .line file refl, line .ends)
 

@@ -10,7 +10,7 @@ use Rattle.reading_text.specs.Words.{before, parts}
 use Rattle.reading_lines.specs.Lines.{fileLines, keyed, clean}
 use Rattle.reader.specs.Read.{LineRead}
 use Rattle.reading_lines.proofs.Lines.{last, Keyed, keyed-at, at-none}
-use Rattle.reading_rows.specs.declared.Line.{Line}
+use Rattle.reading_rows.specs.declared.RowLine.{RowLine}
 use Rattle.reading_rows.specs.Rows.{Rowed}
 
 -- a row line
@@ -19,7 +19,7 @@ module _ (s : List ℕ) (vars : ℕ) where
   unfolding clean last
   row-there e = keyed-at rowKey s 3 refl refl e
 
-  pub row-yes : (base : ℕ) (r : Line) → keyed rowKey s ≡ true → Rowed s base (rowOf vars (parts (drop 3 s))) (3 + before 10 (drop 3 s)) r → LineRead s base vars r
+  pub row-yes : (base : ℕ) (r : RowLine) → keyed rowKey s ≡ true → Rowed s base (rowOf vars (parts (drop 3 s))) (3 + before 10 (drop 3 s)) r → LineRead s base vars r
   row-yes base r e l =
       let k = row-there e in
       subst (λ ts. Rowed s base (rowOf vars ts) (before 10 s) r) (sym (k .texts)) (subst (λ n. Rowed s base (rowOf vars (parts (drop 3 s))) n r) (k .line) l)
@@ -28,6 +28,6 @@ module _ (s : List ℕ) (vars : ℕ) where
   unfolding rowOf wordsRow wordsOf
   no-row ts e = rw e
 
-  pub row-no : (base : ℕ) → keyed rowKey s ≡ false → LineRead s base vars (Line.Wrong 3)
+  pub row-no : (base : ℕ) → keyed rowKey s ≡ false → LineRead s base vars (RowLine.Wrong 3)
   unfolding clean
   row-no base e = let n = no-row (nextTexts rowKey (fileLines s)) (at-none rowKey s refl e) in record { line = λ file d. n; written = λ file d. tt; ends = tt }

@@ -19,14 +19,14 @@ use borrow.Author.Tests.{eq-eqb, ne-eqb, eqb-true, eqb-false, ltb-true, ltb-fals
 use Rattle.rules.specs.Ranges.{Range}
 use Rattle.rules.specs.Scripts.{Script, pairRanges, BlankFrom, scriptOf}
 use Rattle.rules.specs.Text.{prefixed, split}
-use Rattle.rules.specs.File.{Reading, read, refused, andThen, unless, turnOf, firstRefusal, asksRest, asksClosed, lastLine, rowLines, noRows}
+use Rattle.rules.specs.File.{Reading, read, refused, thenLines, unless, turnOf, firstRefusal, asksRest, asksClosed, lastLine, rowLines, noRows}
 use Rattle.reading_nesting.specs.Open.{nestOf}
 use Rattle.reading_nesting.proofs.Laws.{closed-depth, open-depth}
 use Rattle.reading_head.specs.declared.Head.{Head}
 use Rattle.reader.specs.declared.Loaded.{Loaded}
 use Rattle.reading_lines.specs.Lines.{fileLines}
 use Rattle.reading_head.specs.Head.{HeadRead, passing, headRead}
-use Rattle.reader.specs.Read.{rowsVerdict, ifRead, answerOf, loadedAnswer, WrittenRows, RowsPart, LoadedAs}
+use Rattle.reader.specs.Read.{rowsVerdict, ifRead, readAnswer, loadedAnswer, WrittenRows, RowsPart, LoadedAs}
 use Rattle.reading_lines.proofs.Lines.{split-some}
 use Rattle.reader.proofs.Fill.{Stop, given, RowsRead}
 
@@ -46,15 +46,15 @@ rest-none [] h = refl
 rest-none (x ∷ t) h = absurd (omega arith)
 
 module _ (file : List ℕ) (at vars n : ℕ) (l : Stop) (f : RowsRead file at vars n l) (ranges : List Range) where
-  pub rows-refused : (l .number ≡ 0 → ⊥) → andThen (rowLines vars n (4 + vars) (fileLines (drop at file)) noRows) (lastLine (4 + vars + n) ranges) ≡ refused (l .number) (l .place)
-  unfolding andThen given
+  pub rows-refused : (l .number ≡ 0 → ⊥) → thenLines (rowLines vars n (4 + vars) (fileLines (drop at file)) noRows) (lastLine (4 + vars + n) ranges) ≡ refused (l .number) (l .place)
+  unfolding thenLines given
   rows-refused z = rw (f .same, ne-eqb (l .number) 0 z) refl
 
   module _ (z : l .number ≡ 0) where
     -- the rows are read: the line after the last
-    last : andThen (rowLines vars n (4 + vars) (fileLines (drop at file)) noRows) (lastLine (4 + vars + n) ranges)
+    last : thenLines (rowLines vars n (4 + vars) (fileLines (drop at file)) noRows) (lastLine (4 + vars + n) ranges)
         ≡ lastLine (4 + vars + n) ranges (record { kinds = take n (kindsOf file (l .rows)); nest = nestOf (l .blocks) }) (fileLines (drop (l .at) file))
-    unfolding andThen given
+    unfolding thenLines given
     last = rw (f .same, eq-eqb (l .number) 0 z) refl
 
     ends-at : length file ≤ l .at → fileLines (drop (l .at) file) ≡ [] ∷ []
@@ -67,25 +67,25 @@ module _ (file : List ℕ) (at vars n : ℕ) (l : Stop) (f : RowsRead file at va
         go true e = f (closed-depth (l .blocks) (eqb-true _ _ e))
         go false e = g (open-depth (l .blocks) (eqb-false _ _ e))
 
-    pub bytes-after : l .at < length file → andThen (rowLines vars n (4 + vars) (fileLines (drop at file)) noRows) (lastLine (4 + vars + n) ranges) ≡ refused 3 (4 + vars + n)
+    pub bytes-after : l .at < length file → thenLines (rowLines vars n (4 + vars) (fileLines (drop at file)) noRows) (lastLine (4 + vars + n) ranges) ≡ refused 3 (4 + vars + n)
     unfolding lastLine unless firstRefusal turnOf
     bytes-after h =
         let r : asksRest (fileLines (drop (l .at) file)) ≡ 3 = rest-some (drop (l .at) file) (omega (arith, length-drop (l .at) file)) in
         last ∙ by-depth (λ e. rw (r, e) refl) (λ e. rw (r, e) refl)
 
-    pub left-open : length file ≤ l .at → (l .blocks .depth ≡ 0 → ⊥) → andThen (rowLines vars n (4 + vars) (fileLines (drop at file)) noRows) (lastLine (4 + vars + n) ranges) ≡ refused 6 (4 + vars + n)
+    pub left-open : length file ≤ l .at → (l .blocks .depth ≡ 0 → ⊥) → thenLines (rowLines vars n (4 + vars) (fileLines (drop at file)) noRows) (lastLine (4 + vars + n) ranges) ≡ refused 6 (4 + vars + n)
     unfolding lastLine unless firstRefusal asksRest
     left-open h o = last ∙ rw (ends-at h, open-depth (l .blocks) o) refl
 
     pub all-read : length file ≤ l .at → l .blocks .depth ≡ 0
-        → andThen (rowLines vars n (4 + vars) (fileLines (drop at file)) noRows) (lastLine (4 + vars + n) ranges) ≡ read (record { ranges = ranges; rows = take n (kindsOf file (l .rows)) }) ([] ∷ [])
+        → thenLines (rowLines vars n (4 + vars) (fileLines (drop at file)) noRows) (lastLine (4 + vars + n) ranges) ≡ read (record { ranges = ranges; rows = take n (kindsOf file (l .rows)) }) ([] ∷ [])
     unfolding lastLine unless firstRefusal asksRest
     all-read h o = last ∙ rw (ends-at h, closed-depth (l .blocks) o) refl
 
 -- a head and what follows it: the first no of both, and the script
 module _ (file : List ℕ) (ranges : List (List ℤ)) (h : Head) (l : Stop) (f : RowsRead file (h .at) (h .vars) (h .count) l) where
   abbrev tail : Reading Script
-  tail = andThen (rowLines (h .vars) (h .count) (4 + h .vars) (fileLines (drop (h .at) file)) noRows) (lastLine (4 + h .vars + h .count) (take (h .vars) (pairRanges ranges)))
+  tail = thenLines (rowLines (h .vars) (h .count) (4 + h .vars) (fileLines (drop (h .at) file)) noRows) (lastLine (4 + h .vars + h .count) (take (h .vars) (pairRanges ranges)))
 
   abbrev later : Verdict
   later = rowsVerdict (l .number) (l .place) (ltb (l .at) (length file)) (l .blocks .depth) (4 + h .vars + h .count)
@@ -129,8 +129,8 @@ rows-passed Passed u q line more d end e z = go (eqb q 0) refl e
 -- a loaded file is the reading of its script
 pub loaded : (file : List ℕ) (v : Verdict) (vars count : ℕ) (rows : List Row) (ranges : List (List ℤ)) (reading : Reading Script)
     → passing v (read (scriptOf file ranges vars rows count) ([] ∷ [])) ≡ reading → vars ≤ 16 → (v ≡ Passed → length ranges ≡ 16) → count ≤ length rows
-    → loadedAnswer file (record { verdict = v; vars = ifRead v vars; count = ifRead v count; rows = rows }) ranges ≡ answerOf reading
-unfolding passing answerOf scriptOf
+    → loadedAnswer file (record { verdict = v; vars = ifRead v vars; count = ifRead v count; rows = rows }) ranges ≡ readAnswer reading
+unfolding passing readAnswer scriptOf
 loaded file Passed vars count rows ranges reading e small long all =
     let a : length (take vars (pairRanges ranges)) ≡ vars = length-take-le vars (pairRanges ranges) (omega (arith, long refl, pairs-length ranges)) in
     let b : length (take count (kindsOf file rows)) ≡ count = kinds-first file count rows all in

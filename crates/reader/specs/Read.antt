@@ -16,7 +16,7 @@ use Rattle.rules.specs.declared.Verdict.the-variants.{Passed, Refused}
 use Rattle.rules.specs.Questions.{asked}
 use Rattle.rules.specs.File.{Reading, read, refused, rowKey, rowOf}
 use Rattle.reading_text.specs.Words.{before}
-use Rattle.reading_rows.specs.declared.Line.{Line}
+use Rattle.reading_rows.specs.declared.RowLine.{RowLine}
 use Rattle.reading_rows.specs.Rows.{Rowed}
 use Rattle.reading_head.specs.declared.Head.{Head}
 use Rattle.reader.specs.declared.Loaded.{Loaded}
@@ -24,7 +24,7 @@ use Rattle.reading_lines.specs.Lines.{fileLines}
 use Rattle.reading_head.specs.Head.{passing, headRead}
 
 -- what a row line reads: the row, and its length without the LF; `rest` begins at the file's byte `base`
-abbrev pub LineRead : List ℕ → ℕ → ℕ → Line → Type 0
+abbrev pub LineRead : List ℕ → ℕ → ℕ → RowLine → Type 0
 LineRead rest base vars r = Rowed rest base (rowOf vars (nextTexts rowKey (fileLines rest))) (before 10 rest) r
 
 -- the expressions of the first n rows stand in the file
@@ -50,23 +50,23 @@ pub record RowsPart (file : List ℕ) (h : Head) (r : Loaded) : Type 0 where
   pub written : r .verdict ≡ Passed → WrittenRows file (r .rows) (h .count)
 
 -- what the reader answers: the verdict, the numbers of variables and rows, and the script; a refused file has none
-pub record Answer : Type 0 where
+pub record ReadAnswer : Type 0 where
   pub verdict : Verdict
   pub vars : ℕ
   pub count : ℕ
   pub script : Script
 
 -- the answer of a reading
-unfoldable pub answerOf : Reading Script → Answer
-answerOf (read script rest) = record { verdict = Passed; vars = length (script .ranges); count = length (script .rows); script = script }
-answerOf (refused q p) = record { verdict = Refused q p; vars = 0; count = 0; script = record { ranges = []; rows = [] } }
+unfoldable pub readAnswer : Reading Script → ReadAnswer
+readAnswer (read script rest) = record { verdict = Passed; vars = length (script .ranges); count = length (script .rows); script = script }
+readAnswer (refused q p) = record { verdict = Refused q p; vars = 0; count = 0; script = record { ranges = []; rows = [] } }
 
 -- the same as code holds it: the first `vars` pairs of the lent array, the first `count` rows, beside the file
-abbrev pub loadedAnswer : List ℕ → Loaded → List (List ℤ) → Answer
+abbrev pub loadedAnswer : List ℕ → Loaded → List (List ℤ) → ReadAnswer
 loadedAnswer file r ranges = record { verdict = r .verdict; vars = r .vars; count = r .count; script = scriptOf file ranges (r .vars) (r .rows) (r .count) }
 
 -- a loaded file is this reading
 pub record LoadedAs (file : List ℕ) (reading : Reading Script) (r : Loaded) (ranges : List (List ℤ)) : Type 0 where
-  pub answer : loadedAnswer file r ranges ≡ answerOf reading
+  pub answer : loadedAnswer file r ranges ≡ readAnswer reading
   pub blank : r .verdict ≡ Passed → BlankFrom (r .vars) ranges
   pub written : WrittenRows file (r .rows) (r .count)

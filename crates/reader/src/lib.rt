@@ -3,7 +3,7 @@ use reading_head::load_head;
 use reading_lines::keyed;
 use reading_nesting::Blocks;
 use reading_nesting::nest_row;
-use reading_rows::Line;
+use reading_rows::RowLine;
 use reading_rows::row_of;
 use rules::BLANK;
 use rules::Row;
@@ -16,14 +16,14 @@ ghost use Rattle.rules.specs.File.{fileScript};
 ghost use Rattle.reader.specs.Read.{LineRead, rowsVerdict, ifRead, LoadedAs};
 
 // The next line's row. The rest begins at the file's byte `base`.
-fn row_line(rest: &[u8], base: usize, vars: u32) -> Line
+fn row_line(rest: &[u8], base: usize, vars: u32) -> RowLine
     requires { ⌜ (vars ≤ 16) × (base + length (now rest) ≤ 16_384) ⌝ }
     ensures { λ r. ⌜ LineRead (now (rest .entry)) base vars r ⌝ }
 {
     if keyed(rest, b"row=") {
         return row_of(rest, 3, base, vars);
     }
-    Line::Wrong(3)
+    RowLine::Wrong(3)
 }
 
 // The questions after the head: of the line where the rows stopped, 3 of bytes after the last row, 6 of blocks that are open there.
@@ -90,7 +90,7 @@ pub fn load(file: &[u8], ranges: &mut [[i32; 2]; 16]) -> Loaded
     while i < head.count {
         let l = row_line(&file[next..], next, head.vars as u32);
         match l {
-            Line::Read(kind, end) => {
+            RowLine::Read(kind, end) => {
                 let p = nest_row(kind, blocks);
                 stopped = p.number;
                 if stopped != 0 {
@@ -102,7 +102,7 @@ pub fn load(file: &[u8], ranges: &mut [[i32; 2]; 16]) -> Loaded
                 next = next + end + 1;
                 i += 1;
             }
-            Line::Wrong(q) => {
+            RowLine::Wrong(q) => {
                 stopped = q;
                 break;
             }

@@ -13,7 +13,7 @@ use Rattle.rules.proofs.Laws.{pairs-length, pairs-set}
 use Rattle.reading_lines.specs.declared.Ranged.{Ranged}
 use Rattle.reading_head.specs.declared.Ranges.{Ranges}
 use Rattle.reading_lines.specs.Lines.{fileLines, rangeRead, RangeRead}
-use Rattle.reading_head.specs.Head.{Pairs, rangesOf, RangesRead}
+use Rattle.reading_head.specs.Head.{RangeArray, rangesOf, RangesRead}
 use Rattle.rules.specs.Scripts.{pairRange, pairRanges, BlankFrom}
 
 -- one pair more
@@ -33,7 +33,7 @@ blank-more r i p b = record { blank = λ w h. ap pairRange (getD-set-other r i w
 pub record RangesUpto (file : List ℕ) (at n : ℕ) (ranges : List (List ℤ)) (next i : ℕ) : Type 0 where
   pub few : i ≤ n
   pub within : next ≤ length file
-  pub pairs : Pairs i ranges
+  pub pairs : RangeArray i ranges
   pub same : rangeLines n 3 (fileLines (drop at file)) [] ≡ rangeLines (n - i) (3 + i) (fileLines (drop next file)) (take i (pairRanges ranges))
 
 pub less-one : (n i : ℕ) → i < n → n - i ≡ suc (n - (i + 1))
@@ -67,7 +67,7 @@ unfolding rangeLines rangesOf
 ranges-all file at n ranges next i u h =
     let e : i ≡ n = omega (arith, u .few) in
     let z : n - i ≡ 0 = omega arith in
-    record { all = u .same ∙ rw (z, e); within = (u .within, subst (λ m. Pairs m ranges) e (u .pairs)) }
+    record { all = u .same ∙ rw (z, e); within = (u .within, subst (λ m. RangeArray m ranges) e (u .pairs)) }
 
 pub ranges-none : (file : List ℕ) (at n : ℕ) → at ≤ length file → RangesUpto file at n (replicate 16 (pos 0 ∷ (pos 0 ∷ []))) at 0
 ranges-none file at n h = record {

@@ -8,7 +8,7 @@ use Rattle.rules.specs.Ranges.{Range}
 use Rattle.rules.specs.Scripts.{Script, pairRanges, BlankFrom}
 use Rattle.rules.specs.declared.Verdict.{Verdict}
 use Rattle.rules.specs.declared.Verdict.the-variants.{Passed, Refused}
-use Rattle.rules.specs.File.{Reading, read, refused, rangeLines, rowLines, noRows, andThen, lastLine, rowPart}
+use Rattle.rules.specs.File.{Reading, read, refused, rangeLines, rowLines, noRows, thenLines, lastLine, rowPart}
 use Rattle.reading_head.specs.declared.Ranges.{Ranges}
 use Rattle.reading_head.specs.declared.Head.{Head}
 use Rattle.reading_lines.specs.Lines.{fileLines}
@@ -19,13 +19,13 @@ rangesOf file n (Ranges.Until next) ranges = read (take n (pairRanges ranges)) (
 rangesOf file n (Ranges.Refused q p) ranges = refused q p
 
 -- an array of 16 pairs, [0, 0] from variable n on
-pub record Pairs (n : ℕ) (ranges : List (List ℤ)) : Type 0 where
+pub record RangeArray (n : ℕ) (ranges : List (List ℤ)) : Type 0 where
   pub long : length ranges ≡ 16
   pub blank : BlankFrom n ranges
 
 -- the range lines lie within the file, and the array is filled
 abbrev pub RangesWithin : List ℕ → ℕ → Ranges → List (List ℤ) → Type 0
-RangesWithin file n (Ranges.Until next) ranges = (next ≤ length file) × Pairs n ranges
+RangesWithin file n (Ranges.Until next) ranges = (next ≤ length file) × RangeArray n ranges
 RangesWithin file n (Ranges.Refused q p) ranges = Unit {0}
 
 -- r is what the n range lines from byte `at` on say
@@ -42,7 +42,7 @@ passing (Refused q p) r = refused q p
 unfoldable pub headRead : List ℕ → List (List ℤ) → Head → Reading Script
 headRead file ranges h =
     passing (h .verdict)
-    (andThen (rowLines (h .vars) (h .count) (4 + h .vars) (fileLines (drop (h .at) file)) noRows) (lastLine (4 + h .vars + h .count) (take (h .vars) (pairRanges ranges))))
+    (thenLines (rowLines (h .vars) (h .count) (4 + h .vars) (fileLines (drop (h .at) file)) noRows) (lastLine (4 + h .vars + h .count) (take (h .vars) (pairRanges ranges))))
 
 -- a refused one
 abbrev pub noHead : ℕ → ℕ → Head
@@ -63,9 +63,9 @@ pub record CountPart (file : List ℕ) (at vars : ℕ) (h : Head) : Type 0 where
 -- a head whose file gives this reading
 pub record HeadRead (file : List ℕ) (reading : Reading Script) (h : Head) (ranges : List (List ℤ)) : Type 0 where
   pub script : headRead file ranges h ≡ reading
-  pub pairs : h .verdict ≡ Passed → Pairs (h .vars) ranges
+  pub pairs : h .verdict ≡ Passed → RangeArray (h .vars) ranges
   pub within : HeadWithin file h
 
 -- a file with rows is not too long
-abbrev pub Sized : List ℕ → Head → Type 0
-Sized file h = 0 < h .count → length file ≤ 16_384
+abbrev pub NotTooLong : List ℕ → Head → Type 0
+NotTooLong file h = 0 < h .count → length file ≤ 16_384

@@ -9,7 +9,7 @@ use lib.Dec.{eqb, ltb}
 use borrow.Author.Tests.{ltb-true, ltb-false, eq-eqb, ne-eqb, eqb-true, eqb-false}
 use lib.ListN.{length, getD, take, drop}
 use Rattle.rules.specs.Text.{prefixed, split, startsWith, wordsOf, lineTexts, nextTexts, nextWords, nextLines}
-use Rattle.reading_text.specs.Words.{before, NoMore, parts, following}
+use Rattle.reading_text.specs.Words.{before, HasEnd, parts, following}
 use Rattle.rules.specs.File.{asksEnd}
 use Rattle.reading_text.proofs.Laws.{split-more, split-last}
 use Rattle.reading_text.proofs.Cut.{cut-end}
@@ -109,18 +109,18 @@ same-start (k ∷ (l ∷ key)) (b ∷ s) e = start-step k b (l ∷ key) s (clean
 pub record Words (key s : List ℕ) : Type 0 where
   pub texts : split 32 (drop (length key) (take (before 10 s) s)) ≡ parts (drop (last key) s)
   pub line : last key + before 10 (drop (last key) s) ≡ before 10 s
-  pub ends : NoMore (drop (last key) s)
+  pub ends : HasEnd (drop (last key) s)
 
-key-one : (k b : ℕ) (s : List ℕ) → eqb b 10 ≡ false → NoMore (b ∷ s) → Words (k ∷ []) (b ∷ s)
-unfolding before NoMore parts last
+key-one : (k b : ℕ) (s : List ℕ) → eqb b 10 ≡ false → HasEnd (b ∷ s) → Words (k ∷ []) (b ∷ s)
+unfolding before HasEnd parts last
 key-one k b s n h = record { texts = simp n; line = simp n (omega arith); ends = h }
 
 key-more : (k l b : ℕ) (key s : List ℕ) → eqb b 10 ≡ false → Words (l ∷ key) s → Words (k ∷ (l ∷ key)) (b ∷ s)
 unfolding before last
 key-more k l b key s n w = record { texts = simp n (w .texts); line = simp n (omega (arith, w .line)); ends = w .ends }
 
-ends-on : (b : ℕ) (s : List ℕ) → eqb b 10 ≡ false → NoMore (b ∷ s) → NoMore s
-unfolding before NoMore
+ends-on : (b : ℕ) (s : List ℕ) → eqb b 10 ≡ false → HasEnd (b ∷ s) → HasEnd s
+unfolding before HasEnd
 ends-on b s n h = let k : suc (before 10 s) < suc (length s) = rw n at h in omega arith
 
 -- the byte that a key's byte meets is no LF
@@ -130,7 +130,7 @@ met k b key s c e =
     let (f, g) = cases (eqb b k) (startsWith key s) e in
     (ap (λ x. eqb x 10) (eqb-true b k f) ∙ clean-first k key c, g)
 
-key-words : (key s : List ℕ) → clean key ≡ true → startsWith key s ≡ true → NoMore s → Words key s
+key-words : (key s : List ℕ) → clean key ≡ true → startsWith key s ≡ true → HasEnd s → Words key s
 unfolding clean startsWith
 key-words [] s c e h = absurd (let z : _≡_ {A = ℕ} 0 1 = cc in omega arith)
 key-words (k ∷ key) [] c e h = absurd (let z : _≡_ {A = ℕ} 0 1 = cc in omega arith)
@@ -143,7 +143,7 @@ module _ (key s : List ℕ) (c : clean key ≡ true) where
   -- a line with the key
   module _ (e : keyed key s ≡ true) where
     pub at-words : Words key s
-    unfolding NoMore
+    unfolding HasEnd
     at-words = let (h, f) = keyed-yes key s e in key-words key s c f h
 
     pub at-next : nextTexts key (fileLines s) ≡ parts (drop (last key) s)
@@ -172,7 +172,7 @@ found-line (x ∷ s) (suc i) h e = go (eqb x 10) (found-line s i (omega arith) e
 
 -- a line with the key, whose last byte is at p
 pub record Keyed (key s : List ℕ) (p : ℕ) : Type 0 where
-  pub ends : NoMore (drop p s)
+  pub ends : HasEnd (drop p s)
   pub texts : nextTexts key (fileLines s) ≡ parts (drop p s)
   pub words : nextWords key (fileLines s) ≡ following (drop p s)
   pub line : p + before 10 (drop p s) ≡ before 10 s

@@ -12,7 +12,7 @@ use borrow.Author.Tests.{eqb-true}
 use Rattle.rules.specs.declared.Operator.{Operator}
 use Rattle.rules.specs.Expressions.{Expr, constant, variable, group, apply}
 use Rattle.rules.specs.Text.{isDigit}
-use Rattle.rules.specs.Parse.{Parsed, parsed, shapeless, onward, upToMark, fromMark, leaf, atom, Ahead, operator, other, ahead, afterTerm, afterFactor, close, factorOf, expression, term, factor, readExpression, readTerm, readFactor, atEnd, parse}
+use Rattle.rules.specs.Parse.{Parsed, parsed, shapeless, thenParse, upToMark, fromMark, leaf, atom, Ahead, operator, other, ahead, afterTerm, afterFactor, close, factorOf, expression, term, factor, readExpression, readTerm, readFactor, atEnd, parse}
 use Rattle.rules.proofs.Parsing.{expression-is, term-is, factor-is}
 use Rattle.expression_leaves.proofs.Leaves.{atom-open}
 
@@ -33,8 +33,8 @@ unfolding ahead bareIn bare
 ahead-neither (operator p t) f o l x r h = h p t
 ahead-neither other f o l x r h = refl
 
-onward-neither : (p : Parsed) (k : Expr → List ℕ → Parsed) → ((x : Expr) (r : List ℕ) → bareIn (k x r) ≡ shapeless) → bareIn (onward p k) ≡ shapeless
-unfolding onward bareIn
+onward-neither : (p : Parsed) (k : Expr → List ℕ → Parsed) → ((x : Expr) (r : List ℕ) → bareIn (k x r) ≡ shapeless) → bareIn (thenParse p k) ≡ shapeless
+unfolding thenParse bareIn
 onward-neither (parsed x r) k h = h x r
 onward-neither shapeless k h = refl
 
@@ -49,28 +49,28 @@ neither-term zero o l s = refl
 neither-term (suc n) o l s = onward-neither (factor n s) _ λ x r. ahead-neither (afterFactor r) _ o l x r λ p t. neither-term n p (apply o l x) t
 
 -- ---- one part, to the end
-end-neither : (p : Parsed) → bareIn p ≡ shapeless → bareIn (onward p atEnd) ≡ shapeless
-unfolding onward atEnd bareIn
+end-neither : (p : Parsed) → bareIn p ≡ shapeless → bareIn (thenParse p atEnd) ≡ shapeless
+unfolding thenParse atEnd bareIn
 end-neither (parsed x []) h = h
 end-neither (parsed x (b ∷ r)) h = refl
 end-neither shapeless h = refl
 
 module _ (part : List ℕ → Parsed) (look : List ℕ → Ahead) (chain : (Expr → Expr) → List ℕ → Parsed)
-    (is : (left : Expr → Expr) (s : List ℕ) → chain left s ≡ onward (part s) λ x r. ahead (look r) (λ o t. chain (apply o (left x)) t) (parsed (left x) r))
+    (is : (left : Expr → Expr) (s : List ℕ) → chain left s ≡ thenParse (part s) λ x r. ahead (look r) (λ o t. chain (apply o (left x)) t) (parsed (left x) r))
     (none : look [] ≡ other) (neither : (o : Operator) (l : Expr) (s : List ℕ) → bareIn (chain (apply o l) s) ≡ shapeless) where
-  look-end : (k : Ahead) (x : Expr) (b : ℕ) (r : List ℕ) → bareIn (onward (ahead k (λ o t. chain (apply o x) t) (parsed x (b ∷ r))) atEnd) ≡ shapeless
-  unfolding ahead onward atEnd bareIn
+  look-end : (k : Ahead) (x : Expr) (b : ℕ) (r : List ℕ) → bareIn (thenParse (ahead k (λ o t. chain (apply o x) t) (parsed x (b ∷ r))) atEnd) ≡ shapeless
+  unfolding ahead thenParse atEnd bareIn
   look-end (operator o t) x b r = end-neither (chain (apply o x) t) (neither o x t)
   look-end other x b r = refl
 
-  part-end : (p : Parsed) → bareIn (onward (onward p λ x r. ahead (look r) (λ o t. chain (apply o x) t) (parsed x r)) atEnd) ≡ bareIn (onward p atEnd)
-  unfolding onward atEnd bareIn
+  part-end : (p : Parsed) → bareIn (thenParse (thenParse p λ x r. ahead (look r) (λ o t. chain (apply o x) t) (parsed x r)) atEnd) ≡ bareIn (thenParse p atEnd)
+  unfolding thenParse atEnd bareIn
   part-end (parsed x []) = rw none (unfold ahead in refl)
   part-end (parsed x (b ∷ r)) = look-end (look (b ∷ r)) x b r
   part-end shapeless = refl
 
-  chain-end : (w : List ℕ) → bareIn (onward (chain (λ x. x) w) atEnd) ≡ bareIn (onward (part w) atEnd)
-  chain-end w = ap (λ p. bareIn (onward p atEnd)) (is (λ x. x) w) ∙ part-end (part w)
+  chain-end : (w : List ℕ) → bareIn (thenParse (chain (λ x. x) w) atEnd) ≡ bareIn (thenParse (part w) atEnd)
+  chain-end w = ap (λ p. bareIn (thenParse p atEnd)) (is (λ x. x) w) ∙ part-end (part w)
 
 look-term : afterTerm [] ≡ other
 unfolding afterTerm
@@ -97,19 +97,19 @@ close-neither x (b ∷ r) = by (eqb b 41)
     by true = refl
     by false = refl
 
-factor-end : (w : List ℕ) → bareIn (onward (readFactor w) atEnd) ≡ bareIn (onward (atom w) atEnd)
-unfolding bareIn onward
-factor-end w = ap (λ p. bareIn (onward p atEnd)) (factor-is w) ∙ by w
+factor-end : (w : List ℕ) → bareIn (thenParse (readFactor w) atEnd) ≡ bareIn (thenParse (atom w) atEnd)
+unfolding bareIn thenParse
+factor-end w = ap (λ p. bareIn (thenParse p atEnd)) (factor-is w) ∙ by w
   where
-    by : (w : List ℕ) → bareIn (onward (factorOf (λ r. readExpression (λ x. x) r) w) atEnd) ≡ bareIn (onward (atom w) atEnd)
+    by : (w : List ℕ) → bareIn (thenParse (factorOf (λ r. readExpression (λ x. x) r) w) atEnd) ≡ bareIn (thenParse (atom w) atEnd)
     by [] = unfold factorOf atom in refl
     by (b ∷ s) = unfold factorOf in go (eqb b 40) refl
       where
-        go : (t : Bool) → eqb b 40 ≡ t → bareIn (onward (cond t (onward (readExpression (λ x. x) s) close) (atom (b ∷ s))) atEnd) ≡ bareIn (onward (atom (b ∷ s)) atEnd)
-        go true e = end-neither (onward (readExpression (λ x. x) s) close) (onward-neither (readExpression (λ x. x) s) close close-neither) ∙ ap (λ p. bareIn (onward p atEnd)) (sym (atom-open b s (eqb-true b 40 e)))
+        go : (t : Bool) → eqb b 40 ≡ t → bareIn (thenParse (cond t (thenParse (readExpression (λ x. x) s) close) (atom (b ∷ s))) atEnd) ≡ bareIn (thenParse (atom (b ∷ s)) atEnd)
+        go true e = end-neither (thenParse (readExpression (λ x. x) s) close) (onward-neither (readExpression (λ x. x) s) close close-neither) ∙ ap (λ p. bareIn (thenParse p atEnd)) (sym (atom-open b s (eqb-true b 40 e)))
         go false e = refl
 
-pub word-end : (w : List ℕ) → bareIn (parse w) ≡ bareIn (onward (atom w) atEnd)
+pub word-end : (w : List ℕ) → bareIn (parse w) ≡ bareIn (thenParse (atom w) atEnd)
 unfolding parse
 word-end w =
     chain-end (readTerm (λ x. x)) afterTerm readExpression expression-is look-term neither-sum w

@@ -28,12 +28,12 @@ use Rattle.rules.proofs.Word as word
 use Rattle.rules.proofs.ReadLegal.{refusal-yes}
 use Rattle.reading_rows.proofs.Bare.{bare, bareIn}
 use Rattle.reading_rows.proofs.Words.{Alone, alone}
-use Rattle.reading_text.specs.Words.{before, cutWord, parts, following, spelling, Next}
+use Rattle.reading_text.specs.Words.{before, cutWord, parts, following, spelling, WordRead}
 use Rattle.reading_text.specs.declared.WordFound.{WordFound}
 use Rattle.reading_text.proofs.Line.{Says, says-word, Reached, reach-text, reach-end, ends-within}
 use Rattle.reading_text.proofs.Cut.{lowest-below, cut-number, cut-number-of, cut-variable, cut-variable-of, row-cut}
-use Rattle.reading_rows.specs.declared.Line.{Line}
-use Rattle.reading_rows.specs.Rows.{after, exprs, Bare, Rowed, WordsRead}
+use Rattle.reading_rows.specs.declared.RowLine.{RowLine}
+use Rattle.reading_rows.specs.Rows.{wordsAfter, exprs, Bare, Rowed, WordsRead}
 use Rattle.reading_words.specs.Words.{textIn, Means, Small, operandAt}
 use Rattle.reading_words.proofs.Laws.{small-variable, no-keyword, no-keywords, none-asks, parse-none}
 
@@ -171,7 +171,7 @@ pub record Spelled (s : List ℕ) (at k vars p end : ℕ) (w : Word) : Type 0 wh
   pub long : end ≤ length s
   pub few : vars ≤ 16
 
-pub spelled : (s : List ℕ) (at k p vars : ℕ) → Reached s at k p → vars ≤ 16 → (r : WordFound) → Next s p r → (w : Word) → w ≡ cutWord (following (drop at s) k) → Spelled s at k vars p (r .end) w
+pub spelled : (s : List ℕ) (at k p vars : ℕ) → Reached s at k p → vars ≤ 16 → (r : WordFound) → WordRead s p r → (w : Word) → w ≡ cutWord (following (drop at s) k) → Spelled s at k vars p (r .end) w
 spelled s at k p vars h few r n w e =
     let t = reach-text s at k p h r n in
     record { text = t; means = means vars few (drop at s) k w _ e t; long = omega (arith, ends-within s (r .end) (n .ends)); few = few }
@@ -192,11 +192,11 @@ module _ {s : List ℕ} {at k vars p end : ℕ} {w : Word} (t : Spelled s at k v
 
 -- ---- a row's line, whose words are read up to the byte p
 module _ (s : List ℕ) (at m p base : ℕ) (f : (ℕ → Word) → (ℕ → Parsed) → RowRead) (h : Reached s at m p) where
-  pub lined-read : (k : Kind) → ((file : List ℕ) → drop base file ≡ s → (Read (kindOf file k) ≡ f (after Missing (drop at s)) (exprs shapeless (drop at s))) × Written file k)
-      → asksEnd (after Missing (drop at s) (suc m)) ≡ 0 → WordsRead s at base f (Line.Read k p)
+  pub lined-read : (k : Kind) → ((file : List ℕ) → drop base file ≡ s → (Read (kindOf file k) ≡ f (wordsAfter Missing (drop at s)) (exprs shapeless (drop at s))) × Written file k)
+      → asksEnd (wordsAfter Missing (drop at s) (suc m)) ≡ 0 → WordsRead s at base f (RowLine.Read k p)
   lined-read k e z = record { line = λ file d. e file d .0; written = λ file d. e file d .1; ends = reach-end s at m p h z }
 
-pub lined-wrong : (s : List ℕ) (at base : ℕ) (f : (ℕ → Word) → (ℕ → Parsed) → RowRead) (q : ℕ) → Wrong q ≡ f (after Missing (drop at s)) (exprs shapeless (drop at s)) → WordsRead s at base f (Line.Wrong q)
+pub lined-wrong : (s : List ℕ) (at base : ℕ) (f : (ℕ → Word) → (ℕ → Parsed) → RowRead) (q : ℕ) → Wrong q ≡ f (wordsAfter Missing (drop at s)) (exprs shapeless (drop at s)) → WordsRead s at base f (RowLine.Wrong q)
 lined-wrong s at base f q e = record { line = λ file d. e; written = λ file d. tt; ends = tt }
 
 -- a row without words says the same in each text
@@ -215,26 +215,26 @@ bare-says (Kind.For v s c x d) b file = absurd b
 bare-says (Kind.Hold v) b file = absurd b
 
 -- a loop with a test
-module _ (after : Bool) (vars : ℕ) (w : ℕ → Word) (ex : ℕ → Parsed) (q : ℕ) where
-  pub test-read : (file : List ℕ) (k : Kind) (v : ℕ) (c : Comparison) (x : Operand) → q ≡ asksTest vars w ex → q ≡ 0 → k ≡ cond after (Kind.Do v c x) (Kind.While v c x)
-      → v ≡ variableOf (w 1) → c ≡ comparisonOf (w 2) → (exprOf file x ≡ exprIn (ex 3)) × WrittenOperand file x → (Read (kindOf file k) ≡ cond after (doRow vars w ex) (whileRow vars w ex)) × Written file k
+module _ (wordsAfter : Bool) (vars : ℕ) (w : ℕ → Word) (ex : ℕ → Parsed) (q : ℕ) where
+  pub test-read : (file : List ℕ) (k : Kind) (v : ℕ) (c : Comparison) (x : Operand) → q ≡ asksTest vars w ex → q ≡ 0 → k ≡ cond wordsAfter (Kind.Do v c x) (Kind.While v c x)
+      → v ≡ variableOf (w 1) → c ≡ comparisonOf (w 2) → (exprOf file x ≡ exprIn (ex 3)) × WrittenOperand file x → (Read (kindOf file k) ≡ cond wordsAfter (doRow vars w ex) (whileRow vars w ex)) × Written file k
   unfolding doRow whileRow kindOf
-  test-read file k v c x e z f a b (d, i) = go after f
+  test-read file k v c x e z f a b (d, i) = go wordsAfter f
     where
       go : (t : Bool) → k ≡ cond t (Kind.Do v c x) (Kind.While v c x) → (Read (kindOf file k) ≡ cond t (doRow vars w ex) (whileRow vars w ex)) × Written file k
       go true g = rw g (checked-read _ _ _ _ e z (rw (a, b, d)), i)
       go false g = rw g (checked-read _ _ _ _ e z (rw (a, b, d)), i)
 
-  pub test-wrong : q ≡ asksTest vars w ex → (q ≡ 0 → ⊥) → Wrong q ≡ cond after (doRow vars w ex) (whileRow vars w ex)
+  pub test-wrong : q ≡ asksTest vars w ex → (q ≡ 0 → ⊥) → Wrong q ≡ cond wordsAfter (doRow vars w ex) (whileRow vars w ex)
   unfolding doRow whileRow
-  test-wrong e n = go after
+  test-wrong e n = go wordsAfter
     where
       go : (t : Bool) → Wrong q ≡ cond t (doRow vars w ex) (whileRow vars w ex)
       go true = checked-wrong _ _ _ e n
       go false = checked-wrong _ _ _ e n
 
 -- the first word of a row is asked no more
-pub named-after : (vars : ℕ) (x : Word) (p : Parsed) (s : List ℕ) (n : Name) → namedRow vars (after Missing s) (exprs shapeless s) n ≡ namedRow vars (after x s) (exprs p s) n
+pub named-after : (vars : ℕ) (x : Word) (p : Parsed) (s : List ℕ) (n : Name) → namedRow vars (wordsAfter Missing s) (exprs shapeless s) n ≡ namedRow vars (wordsAfter x s) (exprs p s) n
 unfolding setRow moveRow offRow cueRow bareRow whileRow doRow forRow holdRow asksTest asksFor
 named-after vars x p s Name.Set = refl
 named-after vars x p s Name.Add = refl
@@ -252,7 +252,7 @@ named-after vars x p s Name.For = refl
 named-after vars x p s Name.Hold = refl
 
 -- the row of a line from its first word x
-module _ (s : List ℕ) (at base vars : ℕ) (f : WordFound) (n : Next s at f) (few : vars ≤ 16) (x : Word) (said : Says f x) where
+module _ (s : List ℕ) (at base vars : ℕ) (f : WordFound) (n : WordRead s at f) (few : vars ≤ 16) (x : Word) (said : Says f x) where
   abbrev first : Parsed
   first = parse (spelling (drop at s) 0)
 
@@ -264,21 +264,21 @@ module _ (s : List ℕ) (at base vars : ℕ) (f : WordFound) (n : Next s at f) (
       same zero = refl
       same (suc k) = ap parse (sym (n .texts k))
 
-  whole : wordsRow vars (after x (drop (f .end) s)) (exprs first (drop (f .end) s)) ≡ rowOf vars (parts (drop at s))
+  whole : wordsRow vars (wordsAfter x (drop (f .end) s)) (exprs first (drop (f .end) s)) ≡ rowOf vars (parts (drop at s))
   unfolding rowOf following
-  whole = ap (wordsRow vars (after x (drop (f .end) s))) texts ∙ row-cut vars (after x (drop (f .end) s)) (following (drop at s)) _ few words
+  whole = ap (wordsRow vars (wordsAfter x (drop (f .end) s))) texts ∙ row-cut vars (wordsAfter x (drop (f .end) s)) (following (drop at s)) _ few words
     where
-      words : (k : ℕ) → k < 8 → after x (drop (f .end) s) k ≡ cutWord (following (drop at s) k)
+      words : (k : ℕ) → k < 8 → wordsAfter x (drop (f .end) s) k ≡ cutWord (following (drop at s) k)
       words zero h = says-word f x said ∙ n .word
       words (suc k) h = ap cutWord (sym (n .more k))
 
-  pub row-other : OneOf no-keywords (tagOf word.the-type x) → Rowed s base (rowOf vars (parts (drop at s))) (at + before 10 (drop at s)) (Line.Wrong 3)
+  pub row-other : OneOf no-keywords (tagOf word.the-type x) → Rowed s base (rowOf vars (parts (drop at s))) (at + before 10 (drop at s)) (RowLine.Wrong 3)
   unfolding wordsRow
-  row-other o = record { line = λ file d. no-keyword x o .1 vars (after x (drop (f .end) s)) (exprs first (drop (f .end) s)) ∙ whole; written = λ file d. tt; ends = tt }
+  row-other o = record { line = λ file d. no-keyword x o .1 vars (wordsAfter x (drop (f .end) s)) (exprs first (drop (f .end) s)) ∙ whole; written = λ file d. tt; ends = tt }
 
-  pub row-named : (name : Name) (r : Line) → x ≡ Keyword name → WordsRead s (f .end) base (λ w y. namedRow vars w y name) r → Rowed s base (rowOf vars (parts (drop at s))) (at + before 10 (drop at s)) r
+  pub row-named : (name : Name) (r : RowLine) → x ≡ Keyword name → WordsRead s (f .end) base (λ w y. namedRow vars w y name) r → Rowed s base (rowOf vars (parts (drop at s))) (at + before 10 (drop at s)) r
   unfolding wordsRow
   row-named name r e l =
-      let same : namedRow vars (after Missing (drop (f .end) s)) (exprs shapeless (drop (f .end) s)) name ≡ rowOf vars (parts (drop at s)) =
-      named-after vars x first (drop (f .end) s) name ∙ ap (firstWord vars (after x (drop (f .end) s)) (exprs first (drop (f .end) s))) (sym e) ∙ whole in
+      let same : namedRow vars (wordsAfter Missing (drop (f .end) s)) (exprs shapeless (drop (f .end) s)) name ≡ rowOf vars (parts (drop at s)) =
+      named-after vars x first (drop (f .end) s) name ∙ ap (firstWord vars (wordsAfter x (drop (f .end) s)) (exprs first (drop (f .end) s))) (sym e) ∙ whole in
       rw (← same, ← n .line) l

@@ -10,7 +10,7 @@ use Rattle.rules.specs.declared.Word.{Word}
 use Rattle.rules.specs.declared.Word.the-variants.{Missing, Number, Variable, Compares, Keyword, Other}
 use Rattle.rules.specs.Expressions.{Expr, constant, variable, group, apply}
 use Rattle.rules.specs.Text.{isDigit, allDigits, isNatural, isNegative, isVariable, plainWord, wordOf}
-use Rattle.rules.specs.Parse.{Parsed, parsed, shapeless, onward, isMark, upToMark, fromMark, leaf, atom, atEnd, parse}
+use Rattle.rules.specs.Parse.{Parsed, parsed, shapeless, thenParse, isMark, upToMark, fromMark, leaf, atom, atEnd, parse}
 use Rattle.rules.proofs.Laws.{both}
 use Rattle.expression_leaves.proofs.Leaves.{digit-mark, leaf-plain}
 use Rattle.reading_rows.proofs.Bare.{bare, bareIn, word-end}
@@ -96,8 +96,8 @@ marked b s n =
     go false true z v = leaf-plain (b ∷ s) []
     go false false z v = leaf-plain (b ∷ s) []
 
-leaf-all : (w : Word) → bareIn (onward (leaf w []) atEnd) ≡ leaf w []
-unfolding onward atEnd bareIn bare
+leaf-all : (w : Word) → bareIn (thenParse (leaf w []) atEnd) ≡ leaf w []
+unfolding thenParse atEnd bareIn bare
 leaf-all Missing = refl
 leaf-all (Number z) = refl
 leaf-all (Variable v) = refl
@@ -105,8 +105,8 @@ leaf-all (Compares c) = refl
 leaf-all (Keyword n) = refl
 leaf-all Other = refl
 
-leaf-more : (w : Word) (c : ℕ) (r : List ℕ) → bareIn (onward (leaf w (c ∷ r)) atEnd) ≡ shapeless
-unfolding onward atEnd bareIn
+leaf-more : (w : Word) (c : ℕ) (r : List ℕ) → bareIn (thenParse (leaf w (c ∷ r)) atEnd) ≡ shapeless
+unfolding thenParse atEnd bareIn
 leaf-more Missing c r = refl
 leaf-more (Number z) c r = refl
 leaf-more (Variable v) c r = refl
@@ -114,12 +114,12 @@ leaf-more (Compares d) c r = refl
 leaf-more (Keyword n) c r = refl
 leaf-more Other c r = refl
 
-atom-all : (w : List ℕ) → bareIn (onward (atom w) atEnd) ≡ leaf (wordOf w) []
+atom-all : (w : List ℕ) → bareIn (thenParse (atom w) atEnd) ≡ leaf (wordOf w) []
 unfolding atom
-atom-all [] = unfold onward bareIn wordOf isNatural isNegative isVariable in sym (leaf-plain [] [])
+atom-all [] = unfold thenParse bareIn wordOf isNatural isNegative isVariable in sym (leaf-plain [] [])
 atom-all (b ∷ s) = go (fromMark s) refl
   where
-    go : (r : List ℕ) → fromMark s ≡ r → bareIn (onward (leaf (wordOf (b ∷ upToMark s)) (fromMark s)) atEnd) ≡ leaf (wordOf (b ∷ s)) []
+    go : (r : List ℕ) → fromMark s ≡ r → bareIn (thenParse (leaf (wordOf (b ∷ upToMark s)) (fromMark s)) atEnd) ≡ leaf (wordOf (b ∷ s)) []
     go [] e = rw (no-mark s e, e) (leaf-all (wordOf (b ∷ s)))
     go (c ∷ r) e = rw e (leaf-more (wordOf (b ∷ upToMark s)) c r) ∙ sym (marked b s (λ (f : fromMark s ≡ []). let z : _≡_ {A = ℕ} 0 1 = cc in omega arith))
 

@@ -11,12 +11,12 @@ use Rattle.rules.specs.Parse.{Parsed, shapeless, parse}
 use Rattle.rules.specs.Written.{Written}
 use Rattle.rules.specs.File.{RowRead, Read, Wrong}
 use Rattle.reading_text.specs.Words.{before, cutWord, following, spelling}
-use Rattle.reading_rows.specs.declared.Line.{Line}
+use Rattle.reading_rows.specs.declared.RowLine.{RowLine}
 
 -- the word x, and the words after a text's first byte, their numbers cut off
-abbrev pub after : Word → List ℕ → ℕ → Word
-after x s zero = x
-after x s (suc k) = cutWord (following s k)
+abbrev pub wordsAfter : Word → List ℕ → ℕ → Word
+wordsAfter x s zero = x
+wordsAfter x s (suc k) = cutWord (following s k)
 
 -- what is read of those words as expressions
 abbrev pub exprs : Parsed → List ℕ → ℕ → Parsed
@@ -38,26 +38,26 @@ Bare (Kind.For v s c x d) = ⊥
 Bare (Kind.Hold v) = ⊥
 
 -- what a line stands for, beside the file's text
-abbrev pub readOf : List ℕ → Line → RowRead
-readOf file (Line.Read k end) = Read (kindOf file k)
-readOf file (Line.Wrong q) = Wrong q
+abbrev pub readOf : List ℕ → RowLine → RowRead
+readOf file (RowLine.Read k end) = Read (kindOf file k)
+readOf file (RowLine.Wrong q) = Wrong q
 
 -- its row's expressions stand in the file
-abbrev pub WrittenLine : List ℕ → Line → Type 0
-WrittenLine file (Line.Read k end) = Written file k
-WrittenLine file (Line.Wrong q) = Unit {0}
+abbrev pub WrittenLine : List ℕ → RowLine → Type 0
+WrittenLine file (RowLine.Read k end) = Written file k
+WrittenLine file (RowLine.Wrong q) = Unit {0}
 
 -- a row that is read has `end`, the byte of its line's LF
-abbrev pub EndsAt : ℕ → Line → Type 0
-EndsAt n (Line.Read k end) = end ≡ n
-EndsAt n (Line.Wrong q) = Unit {0}
+abbrev pub LineEndsAt : ℕ → RowLine → Type 0
+LineEndsAt n (RowLine.Read k end) = end ≡ n
+LineEndsAt n (RowLine.Wrong q) = Unit {0}
 
 -- what is read of a line of the text s, which begins at a file's byte `base`: this row, and the line's end
-pub record Rowed (s : List ℕ) (base : ℕ) (row : RowRead) (end : ℕ) (r : Line) : Type 0 where
+pub record Rowed (s : List ℕ) (base : ℕ) (row : RowRead) (end : ℕ) (r : RowLine) : Type 0 where
   pub line : (file : List ℕ) → drop base file ≡ s → readOf file r ≡ row
   pub written : (file : List ℕ) → drop base file ≡ s → WrittenLine file r
-  pub ends : EndsAt end r
+  pub ends : LineEndsAt end r
 
 -- the words after the first are read as f says; the line ends at its LF
-abbrev pub WordsRead : List ℕ → ℕ → ℕ → ((ℕ → Word) → (ℕ → Parsed) → RowRead) → Line → Type 0
-WordsRead s at base f r = Rowed s base (f (after Missing (drop at s)) (exprs shapeless (drop at s))) (at + before 10 (drop at s)) r
+abbrev pub WordsRead : List ℕ → ℕ → ℕ → ((ℕ → Word) → (ℕ → Parsed) → RowRead) → RowLine → Type 0
+WordsRead s at base f r = Rowed s base (f (wordsAfter Missing (drop at s)) (exprs shapeless (drop at s))) (at + before 10 (drop at s)) r

@@ -29,30 +29,30 @@ ghost use Prim.Native.Nat.{ℕ, _+_, _≤_};
 ghost use lib.ListN.{length, drop};
 ghost use Rattle.rules.specs.File.{bareRow, setRow, moveRow, offRow, cueRow, whileRow, doRow, forRow, holdRow, namedRow, rowOf};
 ghost use Rattle.rules.specs.Blocks.{kindOf};
-ghost use Rattle.reading_text.specs.Words.{before, NoMore, parts};
+ghost use Rattle.reading_text.specs.Words.{before, HasEnd, parts};
 ghost use Rattle.reading_rows.specs.Rows.{Bare, WordsRead, Rowed};
 
 // A row's line: its row and the byte of the line's LF, or the question that has no.
-pub enum Line {
+pub enum RowLine {
     Read(Kind, usize),
     Wrong(u32),
 }
 
 // `pick`, `else`, `end`
-fn bare_row(s: &[u8], at: usize, vars: u32, kind: Kind) -> Line
-    requires { ⌜ NoMore (drop at (now s)) × Bare kind ⌝ }
+fn bare_row(s: &[u8], at: usize, vars: u32, kind: Kind) -> RowLine
+    requires { ⌜ HasEnd (drop at (now s)) × Bare kind ⌝ }
     ensures { λ r. ⌜ ((base : ℕ) → WordsRead (now (s .entry)) at base (λ w x. bareRow vars w x (kindOf [] kind)) r) ⌝ }
 {
     let q = asks_last(s, at);
     if q == 0 {
-        return Line::Read(kind, at);
+        return RowLine::Read(kind, at);
     }
-    Line::Wrong(q)
+    RowLine::Wrong(q)
 }
 
 // `set v0 X`
-fn set_row(s: &[u8], at: usize, base: usize, vars: u32) -> Line
-    requires { ⌜ NoMore (drop at (now s)) × (vars ≤ 16) × (base + length (now s) ≤ 16_384) ⌝ }
+fn set_row(s: &[u8], at: usize, base: usize, vars: u32) -> RowLine
+    requires { ⌜ HasEnd (drop at (now s)) × (vars ≤ 16) × (base + length (now s) ≤ 16_384) ⌝ }
     ensures { λ r. ⌜ WordsRead (now (s .entry)) at base (setRow vars) r ⌝ }
 {
     let a = next_word(s, at);
@@ -64,14 +64,14 @@ fn set_row(s: &[u8], at: usize, base: usize, vars: u32) -> Line
     let q = first_refusal(asks_variable(vars, v), last);
     if q == 0 {
         let kind = Kind::Set(variable_of(vars, v), operand_of(base, a.end, end, x));
-        return Line::Read(kind, end);
+        return RowLine::Read(kind, end);
     }
-    Line::Wrong(q)
+    RowLine::Wrong(q)
 }
 
 // `add v0 C`, `sub v0 C`, `mul v0 C`, `div v0 C`
-fn move_row(s: &[u8], at: usize, vars: u32, name: Name) -> Line
-    requires { ⌜ NoMore (drop at (now s)) × (vars ≤ 16) ⌝ }
+fn move_row(s: &[u8], at: usize, vars: u32, name: Name) -> RowLine
+    requires { ⌜ HasEnd (drop at (now s)) × (vars ≤ 16) ⌝ }
     ensures { λ r. ⌜ ((base : ℕ) → WordsRead (now (s .entry)) at base (λ w x. moveRow vars w x name) r) ⌝ }
 {
     let a = next_word(s, at);
@@ -83,14 +83,14 @@ fn move_row(s: &[u8], at: usize, vars: u32, name: Name) -> Line
     let q = first_refusal(asks_variable(vars, v), last);
     if q == 0 {
         let kind = Kind::Move(variable_of(vars, v), change_of(name, x));
-        return Line::Read(kind, end);
+        return RowLine::Read(kind, end);
     }
-    Line::Wrong(q)
+    RowLine::Wrong(q)
 }
 
 // `off v0 v1 > C`
-fn off_row(s: &[u8], at: usize, vars: u32) -> Line
-    requires { ⌜ NoMore (drop at (now s)) × (vars ≤ 16) ⌝ }
+fn off_row(s: &[u8], at: usize, vars: u32) -> RowLine
+    requires { ⌜ HasEnd (drop at (now s)) × (vars ≤ 16) ⌝ }
     ensures { λ r. ⌜ ((base : ℕ) → WordsRead (now (s .entry)) at base (offRow vars) r) ⌝ }
 {
     let a = next_word(s, at);
@@ -113,14 +113,14 @@ fn off_row(s: &[u8], at: usize, vars: u32) -> Line
         let flag = variable_of(vars, v);
         let watched = variable_of(vars, w);
         let kind = Kind::Off(flag, watched, comparison_of(o), number_of(k));
-        return Line::Read(kind, end);
+        return RowLine::Read(kind, end);
     }
-    Line::Wrong(q)
+    RowLine::Wrong(q)
 }
 
 // `cue N`
-fn cue_row(s: &[u8], at: usize, vars: u32) -> Line
-    requires { ⌜ NoMore (drop at (now s)) ⌝ }
+fn cue_row(s: &[u8], at: usize, vars: u32) -> RowLine
+    requires { ⌜ HasEnd (drop at (now s)) ⌝ }
     ensures { λ r. ⌜ ((base : ℕ) → WordsRead (now (s .entry)) at base (cueRow vars) r) ⌝ }
 {
     let a = next_word(s, at);
@@ -129,9 +129,9 @@ fn cue_row(s: &[u8], at: usize, vars: u32) -> Line
     let q = first_refusal(asks_number(0, 9_999, n), asks_last(s, end));
     if q == 0 {
         let kind = Kind::Cue(amount(n));
-        return Line::Read(kind, end);
+        return RowLine::Read(kind, end);
     }
-    Line::Wrong(q)
+    RowLine::Wrong(q)
 }
 
 // A loop with a test, asked before each turn or after.
@@ -145,8 +145,8 @@ fn test(after: bool, v: u8, c: Comparison, x: Operand) -> Kind
 }
 
 // `while v0 <= X`, `do v0 <= X`
-fn test_row(s: &[u8], at: usize, base: usize, vars: u32, after: bool) -> Line
-    requires { ⌜ NoMore (drop at (now s)) × (vars ≤ 16) × (base + length (now s) ≤ 16_384) ⌝ }
+fn test_row(s: &[u8], at: usize, base: usize, vars: u32, after: bool) -> RowLine
+    requires { ⌜ HasEnd (drop at (now s)) × (vars ≤ 16) × (base + length (now s) ≤ 16_384) ⌝ }
     ensures { λ r. ⌜ WordsRead (now (s .entry)) at base (λ w x. cond after (doRow vars w x) (whileRow vars w x)) r ⌝ }
 {
     let a = next_word(s, at);
@@ -162,14 +162,14 @@ fn test_row(s: &[u8], at: usize, base: usize, vars: u32, after: bool) -> Line
     if q == 0 {
         let limit = operand_of(base, b.end, end, x);
         let kind = test(after, variable_of(vars, v), comparison_of(o), limit);
-        return Line::Read(kind, end);
+        return RowLine::Read(kind, end);
     }
-    Line::Wrong(q)
+    RowLine::Wrong(q)
 }
 
 // `for v0 X <= Y add C`
-fn for_row(s: &[u8], at: usize, base: usize, vars: u32) -> Line
-    requires { ⌜ NoMore (drop at (now s)) × (vars ≤ 16) × (base + length (now s) ≤ 16_384) ⌝ }
+fn for_row(s: &[u8], at: usize, base: usize, vars: u32) -> RowLine
+    requires { ⌜ HasEnd (drop at (now s)) × (vars ≤ 16) × (base + length (now s) ≤ 16_384) ⌝ }
     ensures { λ r. ⌜ WordsRead (now (s .entry)) at base (forRow vars) r ⌝ }
 {
     let a = next_word(s, at);
@@ -195,14 +195,14 @@ fn for_row(s: &[u8], at: usize, base: usize, vars: u32) -> Line
         let limit = operand_of(base, c.end, d.end, y);
         let step = step_of(n, z);
         let kind = Kind::For(variable_of(vars, v), start, comparison_of(o), limit, step);
-        return Line::Read(kind, end);
+        return RowLine::Read(kind, end);
     }
-    Line::Wrong(q)
+    RowLine::Wrong(q)
 }
 
 // `hold v0`
-fn hold_row(s: &[u8], at: usize, vars: u32) -> Line
-    requires { ⌜ NoMore (drop at (now s)) × (vars ≤ 16) ⌝ }
+fn hold_row(s: &[u8], at: usize, vars: u32) -> RowLine
+    requires { ⌜ HasEnd (drop at (now s)) × (vars ≤ 16) ⌝ }
     ensures { λ r. ⌜ ((base : ℕ) → WordsRead (now (s .entry)) at base (holdRow vars) r) ⌝ }
 {
     let a = next_word(s, at);
@@ -211,14 +211,14 @@ fn hold_row(s: &[u8], at: usize, vars: u32) -> Line
     let q = first_refusal(asks_variable(vars, v), asks_last(s, end));
     if q == 0 {
         let kind = Kind::Hold(variable_of(vars, v));
-        return Line::Read(kind, end);
+        return RowLine::Read(kind, end);
     }
-    Line::Wrong(q)
+    RowLine::Wrong(q)
 }
 
 // By the first word, which ends at the byte `at`.
-fn named_row(s: &[u8], at: usize, base: usize, vars: u32, name: Name) -> Line
-    requires { ⌜ NoMore (drop at (now s)) × (vars ≤ 16) × (base + length (now s) ≤ 16_384) ⌝ }
+fn named_row(s: &[u8], at: usize, base: usize, vars: u32, name: Name) -> RowLine
+    requires { ⌜ HasEnd (drop at (now s)) × (vars ≤ 16) × (base + length (now s) ≤ 16_384) ⌝ }
     ensures { λ r. ⌜ WordsRead (now (s .entry)) at base (λ w x. namedRow vars w x name) r ⌝ }
 {
     match name {
@@ -240,8 +240,8 @@ fn named_row(s: &[u8], at: usize, base: usize, vars: u32, name: Name) -> Line
 }
 
 // The row whose first word begins after the byte `at`, or its first question that has no. The text s begins at the file's byte `base`.
-pub fn row_of(s: &[u8], at: usize, base: usize, vars: u32) -> Line
-    requires { ⌜ NoMore (drop at (now s)) × (vars ≤ 16) × (base + length (now s) ≤ 16_384) ⌝ }
+pub fn row_of(s: &[u8], at: usize, base: usize, vars: u32) -> RowLine
+    requires { ⌜ HasEnd (drop at (now s)) × (vars ≤ 16) × (base + length (now s) ≤ 16_384) ⌝ }
     ensures { λ r. ⌜ Rowed (now (s .entry)) base (rowOf vars (parts (drop at (now (s .entry))))) (at + before 10 (drop at (now (s .entry)))) r ⌝ }
 {
     let f = next_word(s, at);
@@ -249,6 +249,6 @@ pub fn row_of(s: &[u8], at: usize, base: usize, vars: u32) -> Line
     let end = f.end;
     match first {
         Word::Keyword(n) => named_row(s, end, base, vars, n),
-        _ => Line::Wrong(3),
+        _ => RowLine::Wrong(3),
     }
 }

@@ -15,7 +15,7 @@ use borrow.Author.Tests.{leb-true, leb-false, ltb-true, ltb-false, eq-eqb, ne-eq
 use Rattle.rules.specs.declared.Word.{Word}
 use Rattle.rules.specs.declared.Word.the-variants.{Missing, Number, Variable, Compares, Keyword, Other}
 use Rattle.rules.specs.Text.{prefixed, split, startsWith, equals, isDigit, allDigits, valueFrom, isNatural, isNegative, isVariable, comparisonWord, blockWord, plainWord, wordOf, wordsOf}
-use Rattle.reading_text.specs.declared.Value.{Value}
+use Rattle.reading_text.specs.declared.DigitsRead.{DigitsRead}
 use Rattle.expression_leaves.specs.Leaves.{ceiling, cutZ}
 use Rattle.reading_text.specs.Words.{before, marks, stops, stop, front, cutWord, digitsOf, naturalOf}
 use Rattle.expression_leaves.proofs.Leaves.{digit-low}
@@ -173,24 +173,24 @@ upto-more s i v u h d r e = record {
   value = u .value ∙ ap (λ (n : ℕ). min n ceiling) (value-more s i v h) ∙ value-cut (drop (suc i) s) _ _ (omega arith);
 }
 
-pub upto-end : (s : List ℕ) (i v : ℕ) → Upto s v i → length s ≤ i → Value.Of v i ≡ digitsOf s
+pub upto-end : (s : List ℕ) (i v : ℕ) → Upto s v i → length s ≤ i → DigitsRead.Of v i ≡ digitsOf s
 unfolding digitsOf ceiling
 upto-end s i v u h =
     let e : v ≡ min (valueFrom 0 s) ceiling = omega (arith, u .value, u .small, value-end s i v h) in
     let l : i ≡ length s = omega (arith, u .within) in
     rw (u .all, all-end s i h, ← e, ← l)
 
-pub upto-stop : (s : List ℕ) (i v : ℕ) → Upto s v i → i < length s → isDigit (getD s i 0) ≡ false → Value.None ≡ digitsOf s
+pub upto-stop : (s : List ℕ) (i v : ℕ) → Upto s v i → i < length s → isDigit (getD s i 0) ≡ false → DigitsRead.None ≡ digitsOf s
 unfolding digitsOf
 upto-stop s i v u h d = rw (u .all, all-stop s i h d)
 
 -- a number not below 0
-pub natural-none : (s : List ℕ) → length s ≡ 0 → Value.None ≡ naturalOf s
+pub natural-none : (s : List ℕ) → length s ≡ 0 → DigitsRead.None ≡ naturalOf s
 unfolding naturalOf isNatural
 natural-none [] h = refl
 natural-none (b ∷ s) h = absurd (omega arith)
 
-pub natural-zero : (s : List ℕ) → 1 < length s → getD s 0 0 ≡ 48 → Value.None ≡ naturalOf s
+pub natural-zero : (s : List ℕ) → 1 < length s → getD s 0 0 ≡ 48 → DigitsRead.None ≡ naturalOf s
 unfolding naturalOf isNatural
 natural-zero [] h e = absurd (omega arith)
 natural-zero (b ∷ []) h e = absurd (omega arith)
@@ -201,7 +201,7 @@ unfolding naturalOf isNatural digitsOf allDigits
 natural-long [] h k = absurd (k refl)
 natural-long (b ∷ []) h k = go (isDigit b)
   where
-    go : (t : Bool) → cond (cond t true false) (Value.Of (min (valueFrom 0 (b ∷ [])) ceiling) 1) Value.None ≡ cond t (Value.Of (min (valueFrom 0 (b ∷ [])) ceiling) 1) Value.None
+    go : (t : Bool) → cond (cond t true false) (DigitsRead.Of (min (valueFrom 0 (b ∷ [])) ceiling) 1) DigitsRead.None ≡ cond t (DigitsRead.Of (min (valueFrom 0 (b ∷ [])) ceiling) 1) DigitsRead.None
     go true = refl
     go false = refl
 natural-long (b ∷ (c ∷ s)) h k = rw (ne-eqb b 48 h)
@@ -211,30 +211,30 @@ unfolding naturalOf isNatural digitsOf allDigits
 natural-one [] h k = absurd (k refl)
 natural-one (b ∷ []) h k = go (isDigit b)
   where
-    go : (t : Bool) → cond (cond t true false) (Value.Of (min (valueFrom 0 (b ∷ [])) ceiling) 1) Value.None ≡ cond t (Value.Of (min (valueFrom 0 (b ∷ [])) ceiling) 1) Value.None
+    go : (t : Bool) → cond (cond t true false) (DigitsRead.Of (min (valueFrom 0 (b ∷ [])) ceiling) 1) DigitsRead.None ≡ cond t (DigitsRead.Of (min (valueFrom 0 (b ∷ [])) ceiling) 1) DigitsRead.None
     go true = refl
     go false = refl
 natural-one (b ∷ (c ∷ s)) h k = absurd (omega arith)
 
 -- what `digits` and `natural` found
-found-yes : (s : List ℕ) (test : Bool) (v n : ℕ) → cond test (Value.Of (min (valueFrom 0 s) ceiling) (length s)) Value.None ≡ Value.Of v n
+found-yes : (s : List ℕ) (test : Bool) (v n : ℕ) → cond test (DigitsRead.Of (min (valueFrom 0 s) ceiling) (length s)) DigitsRead.None ≡ DigitsRead.Of v n
     → (test ≡ true) × (v ≡ min (valueFrom 0 s) ceiling) × (n ≡ length s)
 found-yes s true v n e = (refl, cc, cc)
 found-yes s false v n e = let z : _≡_ {A = ℕ} 0 1 = cc in absurd (omega arith)
 
-found-no : (s : List ℕ) (test : Bool) → cond test (Value.Of (min (valueFrom 0 s) ceiling) (length s)) Value.None ≡ Value.None → test ≡ false
+found-no : (s : List ℕ) (test : Bool) → cond test (DigitsRead.Of (min (valueFrom 0 s) ceiling) (length s)) DigitsRead.None ≡ DigitsRead.None → test ≡ false
 found-no s true e = let z : _≡_ {A = ℕ} 0 1 = cc in absurd (omega arith)
 found-no s false e = refl
 
-pub is-natural : (s : List ℕ) (v n : ℕ) → naturalOf s ≡ Value.Of v n → (isNatural s ≡ true) × (v ≡ min (valueFrom 0 s) ceiling) × (n ≡ length s)
+pub is-natural : (s : List ℕ) (v n : ℕ) → naturalOf s ≡ DigitsRead.Of v n → (isNatural s ≡ true) × (v ≡ min (valueFrom 0 s) ceiling) × (n ≡ length s)
 unfolding naturalOf
 is-natural s v n e = found-yes s (isNatural s) v n e
 
-pub not-natural : (s : List ℕ) → naturalOf s ≡ Value.None → isNatural s ≡ false
+pub not-natural : (s : List ℕ) → naturalOf s ≡ DigitsRead.None → isNatural s ≡ false
 unfolding naturalOf
 not-natural s e = found-no s (isNatural s) e
 
-pub digits-many : (s : List ℕ) (v n : ℕ) → digitsOf s ≡ Value.Of v n → n ≡ length s
+pub digits-many : (s : List ℕ) (v n : ℕ) → digitsOf s ≡ DigitsRead.Of v n → n ≡ length s
 unfolding digitsOf
 digits-many s v n e = found-yes s (allDigits s) v n e .2
 
@@ -253,7 +253,7 @@ not-digits (b ∷ (c ∷ s)) h = rw h (go (eqb b 48))
     go true = refl
     go false = refl
 
-pub natural-other : (s : List ℕ) → digitsOf s ≡ Value.None → Value.None ≡ naturalOf s
+pub natural-other : (s : List ℕ) → digitsOf s ≡ DigitsRead.None → DigitsRead.None ≡ naturalOf s
 unfolding digitsOf naturalOf
 natural-other s e = rw (not-digits s (found-no s (allDigits s) e))
 
@@ -267,7 +267,7 @@ pub cut-plain : (s : List ℕ) → cutWord (plainWord s) ≡ plainWord s
 unfolding plainWord blockWord comparisonWord
 cut-plain s = simp cut-cond (unfold cutWord in refl)
 
-pub word-number : (s : List ℕ) (v n : ℕ) → naturalOf s ≡ Value.Of v n → Number (pos v) ≡ cutWord (wordOf s)
+pub word-number : (s : List ℕ) (v n : ℕ) → naturalOf s ≡ DigitsRead.Of v n → Number (pos v) ≡ cutWord (wordOf s)
 unfolding wordOf cutWord cutZ
 word-number s v n e = let (t, h, _) = is-natural s v n e in rw (t, h)
 
@@ -288,7 +288,7 @@ word-marked [] h n = absurd (omega arith)
 word-marked (b ∷ t) h n = rw n
 
 module _ (s : List ℕ) (some : 0 < length s) (none : isNatural s ≡ false) where
-  pub mark-none : naturalOf (drop 1 s) ≡ Value.None → plainWord s ≡ cutWord (wordOf s)
+  pub mark-none : naturalOf (drop 1 s) ≡ DigitsRead.None → plainWord s ≡ cutWord (wordOf s)
   mark-none e = rw (word-marked s some none, not-natural (drop 1 s) e) (go (eqb (getD s 0 0) 45) (eqb (getD s 0 0) 118))
     where
       go : (p q : Bool) → plainWord s ≡ cutWord (cond (cond p false false) (Number (negℤ (pos (valueFrom 0 (drop 1 s))))) (cond (cond q false false) (Variable (valueFrom 0 (drop 1 s))) (plainWord s)))
@@ -306,7 +306,7 @@ module _ (s : List ℕ) (some : 0 < length s) (none : isNatural s ≡ false) whe
       go false true f g h = absurd (let z : _≡_ {A = ℕ} 0 1 = cc in omega arith)
       go false false f g h = rw (word-marked s some none, g, f) (sym (cut-plain s))
 
-  module _ (v n : ℕ) (e : naturalOf (drop 1 s) ≡ Value.Of v n) where
+  module _ (v n : ℕ) (e : naturalOf (drop 1 s) ≡ DigitsRead.Of v n) where
     pub mark-variable : getD s 0 0 ≡ 118 → Variable v ≡ cutWord (wordOf s)
     unfolding cutWord
     mark-variable h =
@@ -343,6 +343,6 @@ pub minus-is : (v : ℕ) → v ≤ 2_000_000_001 → pos 0 -ℤ toZ w32 v ≡ ne
 minus-is v h = rw (toZ-pos w32 v (omega arith)) (+ℤ-idl (negℤ (pos v)))
 
 -- a number that `natural` found is cut off
-pub natural-small : (s : List ℕ) (v n : ℕ) → naturalOf s ≡ Value.Of v n → v ≤ 2_000_000_001
+pub natural-small : (s : List ℕ) (v n : ℕ) → naturalOf s ≡ DigitsRead.Of v n → v ≤ 2_000_000_001
 unfolding ceiling
 natural-small s v n e = let (_, h, _) = is-natural s v n e in omega arith

@@ -12,7 +12,7 @@ use Rattle.rules.specs.declared.Word.{Word}
 use Rattle.rules.specs.declared.Word.the-variants.{Missing, Number, Variable, Compares, Keyword, Other}
 use Rattle.rules.specs.Text.{split, allDigits, valueFrom, isNatural, wordOf, wordsOf}
 use Rattle.expression_leaves.specs.Leaves.{ceiling, cutZ}
-use Rattle.reading_text.specs.declared.Value.{Value}
+use Rattle.reading_text.specs.declared.DigitsRead.{DigitsRead}
 use Rattle.reading_text.specs.declared.WordFound.{WordFound}
 
 -- how many bytes stand before the first b, or all
@@ -47,12 +47,12 @@ cutWord (Keyword n) = Keyword n
 cutWord Other = Other
 
 -- digits, as a number and how many
-unfoldable pub digitsOf : List ℕ → Value
-digitsOf s = cond (allDigits s) (Value.Of (min (valueFrom 0 s) ceiling) (length s)) Value.None
+unfoldable pub digitsOf : List ℕ → DigitsRead
+digitsOf s = cond (allDigits s) (DigitsRead.Of (min (valueFrom 0 s) ceiling) (length s)) DigitsRead.None
 
 -- a text as a number not below 0, and its digits
-unfoldable pub naturalOf : List ℕ → Value
-naturalOf s = cond (isNatural s) (Value.Of (min (valueFrom 0 s) ceiling) (length s)) Value.None
+unfoldable pub naturalOf : List ℕ → DigitsRead
+naturalOf s = cond (isNatural s) (DigitsRead.Of (min (valueFrom 0 s) ceiling) (length s)) DigitsRead.None
 
 -- a text as one number: its first byte lowest, a 1 after the last
 unfoldable pub packed : List ℕ → ℕ
@@ -120,8 +120,8 @@ pub record Reads (s : List ℕ) (r : WordFound) : Type 0 where
   pub end : r .end ≡ stop s
 
 -- an LF stands in a text
-unfoldable pub NoMore : List ℕ → Type 0
-NoMore s = before 10 s < length s
+unfoldable pub HasEnd : List ℕ → Type 0
+HasEnd s = before 10 s < length s
 
 -- the words after a text's first byte, up to the line's LF; none if the first byte is that
 unfoldable pub parts : List ℕ → List (List ℕ)
@@ -137,10 +137,10 @@ unfoldable pub spelling : List ℕ → ℕ → List ℕ
 spelling s k = getD (parts s) k []
 
 -- one word of a line is read, and the others begin after the byte `end`
-pub record Next (s : List ℕ) (at : ℕ) (r : WordFound) : Type 0 where
+pub record WordRead (s : List ℕ) (at : ℕ) (r : WordFound) : Type 0 where
   pub word : wordIn (r .tag) (r .value) ≡ cutWord (following (drop at s) 0)
   pub text : spelling (drop at s) 0 ≡ take (r .end - (at + 1)) (drop (at + 1) s)
   pub more : (k : ℕ) → following (drop at s) (suc k) ≡ following (drop (r .end) s) k
   pub texts : (k : ℕ) → spelling (drop at s) (suc k) ≡ spelling (drop (r .end) s) k
   pub line : r .end + before 10 (drop (r .end) s) ≡ at + before 10 (drop at s)
-  pub ends : NoMore (drop (r .end) s)
+  pub ends : HasEnd (drop (r .end) s)

@@ -10,7 +10,7 @@ ghost use lib.IntN.{pos, negℤ};
 ghost use Prim.Native.Nat.{_≤_, _<_};
 ghost use lib.ListN.{length, drop};
 ghost use Rattle.rules.specs.Text.{startsWith, isNatural, plainWord, wordOf};
-ghost use Rattle.reading_text.specs.Words.{before, marks, stops, stop, front, cutWord, digitsOf, naturalOf, Packs, keywords, packedWord, wordIn, NoMore, Reads, Next};
+ghost use Rattle.reading_text.specs.Words.{before, marks, stops, stop, front, cutWord, digitsOf, naturalOf, Packs, keywords, packedWord, wordIn, HasEnd, Reads, WordRead};
 
 // How many bytes stand before the first b, or all.
 pub fn position(s: &[u8], b: u8) -> usize
@@ -68,13 +68,13 @@ fn stop(s: &[u8]) -> usize
 }
 
 // A number not below 0 and how many digits it has, or none.
-enum Value {
+enum DigitsRead {
     None,
     Of(u32, usize),
 }
 
 // The word at the front, if it has digits only.
-fn digits(s: &[u8]) -> Value
+fn digits(s: &[u8]) -> DigitsRead
     ensures { λ r. ⌜ r ≡ digitsOf (front (now (s .entry))) ⌝ }
 {
     let mut value: u64 = 0;
@@ -86,32 +86,32 @@ fn digits(s: &[u8]) -> Value
             i += 1;
         } else {
             if stops(b) {
-                return Value::Of(value as u32, i);
+                return DigitsRead::Of(value as u32, i);
             }
-            return Value::None;
+            return DigitsRead::None;
         }
     }
-    Value::Of(value as u32, i)
+    DigitsRead::Of(value as u32, i)
 }
 
 // The word at the front as a number not below 0: no leading zero.
-fn natural(s: &[u8]) -> Value
+fn natural(s: &[u8]) -> DigitsRead
     ensures { λ r. ⌜ r ≡ naturalOf (front (now (s .entry))) ⌝ }
 {
     let d = digits(s);
-    let Value::Of(v, n) = d else {
-        return Value::None;
+    let DigitsRead::Of(v, n) = d else {
+        return DigitsRead::None;
     };
     if n == 0 {
-        return Value::None;
+        return DigitsRead::None;
     }
     if n == 1 {
-        return Value::Of(v, n);
+        return DigitsRead::Of(v, n);
     }
     if s[0] == 48 {
-        return Value::None;
+        return DigitsRead::None;
     }
-    Value::Of(v, n)
+    DigitsRead::Of(v, n)
 }
 
 // The bytes of a short text in one number: the first byte lowest, a 1 after the last.
@@ -344,7 +344,7 @@ fn marked(s: &[u8]) -> WordFound
         return other_word(s);
     }
     let n = natural(&s[1..]);
-    let Value::Of(v, k) = n else {
+    let DigitsRead::Of(v, k) = n else {
         return other_word(s);
     };
     if first == b'v' {
@@ -373,12 +373,12 @@ fn word_of(s: &[u8]) -> WordFound
 {
     let n = natural(s);
     match n {
-        Value::Of(v, k) => WordFound {
+        DigitsRead::Of(v, k) => WordFound {
             tag: NUMBER,
             value: signed(false, v),
             end: k,
         },
-        Value::None => {
+        DigitsRead::None => {
             if s.len() == 0 {
                 return WordFound {
                     tag: OTHER,
@@ -400,8 +400,8 @@ fn word_of(s: &[u8]) -> WordFound
 
 // The next word of a line: it begins after the byte `at`, and there is none if that is the line's LF.
 pub fn next_word(s: &[u8], at: usize) -> WordFound
-    requires { ⌜ NoMore (drop at (now s)) ⌝ }
-    ensures { λ r. ⌜ Next (now (s .entry)) at r ⌝ }
+    requires { ⌜ HasEnd (drop at (now s)) ⌝ }
+    ensures { λ r. ⌜ WordRead (now (s .entry)) at r ⌝ }
 {
     if s[at] == b'\n' {
         return WordFound {

@@ -14,7 +14,7 @@ use Rattle.rules.specs.declared.Name.{Name}
 use Rattle.rules.specs.declared.Operand.{Operand}
 use Rattle.rules.specs.declared.Word.{Word}
 use Rattle.rules.specs.declared.Word.the-variants.{Missing, Number, Variable, Compares, Keyword, Other}
-use Rattle.rules.specs.Parse.{Parsed, shapeless, onward, factorOf, expression, readExpression, parse}
+use Rattle.rules.specs.Parse.{Parsed, shapeless, thenParse, factorOf, expression, readExpression, parse}
 use Rattle.rules.specs.File.{Wrong, asksNumber, asksVariable, asksExpr, asksChange, asksStep, asksOne, variableOf, numberOf, changeOf, stepOf, firstWord}
 use Rattle.rules.proofs.Name.{the-type}
 use Rattle.rules.proofs.Word as word
@@ -120,7 +120,7 @@ no-keyword Other o = (λ _. (refl, refl), λ _ _ _. refl)
 
 -- an empty text is no expression
 pub parse-none : parse [] ≡ shapeless
-unfolding parse onward readExpression expression factorOf
+unfolding parse thenParse readExpression expression factorOf
 parse-none = refl
 
 -- an empty text passes no question

@@ -12,7 +12,7 @@ ghost use lib.IntN.{pos, natAbs};
 ghost use Rattle.rules.specs.Values.{highest};
 ghost use Rattle.rules.specs.File.{asksEnd, asksNumber, asksVariable, asksExpr, asksComparison, asksOrdered, asksChange, asksStep, asksOne, asksOrder, numberOf, variableOf, comparisonOf, changeOf, stepOf};
 ghost use Rattle.rules.specs.Parse.{parse};
-ghost use Rattle.reading_text.specs.Words.{NoMore, following};
+ghost use Rattle.reading_text.specs.Words.{HasEnd, following};
 ghost use Rattle.reading_words.specs.Words.{textIn, Means, Small, operandAt};
 
 // Question 4 of a number.
@@ -250,7 +250,7 @@ pub fn step_of(x: Word, w: Word) -> Change
 
 // Whether the byte `at` is the line's LF: nothing stands after it.
 pub fn asks_last(s: &[u8], at: usize) -> u32
-    requires { ⌜ NoMore (drop at (now s)) ⌝ }
+    requires { ⌜ HasEnd (drop at (now s)) ⌝ }
     ensures { λ r. ⌜ r ≡ asksEnd (following (drop at (now (s .entry))) 0) ⌝ }
 {
     if s[at] == b'\n' { 0 } else { 3 }

@@ -2,7 +2,7 @@
 // store and the turns of its loops. The prices are four ones if they are not given. ALLOWANCE is a number or `plan`, PICKS a word of 0 and 1 or `-`,
 // and the values are the store.
 
-use program_lists::Lent;
+use program_lists::PricesWord;
 use program_lists::Values;
 ghost use Prim.Native.Nat.{_≤_};
 
@@ -68,8 +68,8 @@ fn main() {
     let mut prices = [1u32; 4];
     let lent = program_lists::read_prices(&word[..n], &mut prices);
     match lent {
-        Lent::Nothing => start(1, arguments, &prices),
-        Lent::Four => start(2, arguments, &prices),
-        Lent::Malformed => program_parts::print_wrong_prices(),
+        PricesWord::Nothing => start(1, arguments, &prices),
+        PricesWord::Four => start(2, arguments, &prices),
+        PricesWord::Malformed => program_parts::print_wrong_prices(),
     }
 }

@@ -15,7 +15,7 @@ use borrow.Author.Tests.{le-leb, lt-leb}
 use Rattle.ints.proofs.Parts.{ints, add-parts, minus-parts}
 use Rattle.rules.specs.declared.LoopLine.{LoopLine}
 use Rattle.rules.specs.declared.Reply.the-variants.{Accepted, Refused}
-use Rattle.rules.specs.Calls.{fitting, written}
+use Rattle.rules.specs.Calls.{bufferReply, written}
 use Rattle.rules.specs.Figures.{Line}
 use Rattle.rules.specs.Report.{lineOf, linesOf, joined, sign, size, decimal, stepName, firstEnd, secondEnd, exactName, keyLine, loopLine, loopLines, reportText, ticksKey}
 use Rattle.report_pieces.specs.declared.Label.the-variants.{Loop, Space, Newline}
@@ -115,10 +115,10 @@ unfolding joined
 three-length a b c = simp (length-append, append-nil) (omega arith)
 
 -- the answer and the buffer, where the text does not fit and where it does
-pub refused-text : (text old : List ℕ) (n : ℕ) → n ≡ length text → length old < n → (Refused 14 n ≡ fitting text (length old)) × (old ≡ written text old)
-unfolding fitting written
+pub refused-text : (text old : List ℕ) (n : ℕ) → n ≡ length text → length old < n → (Refused 14 n ≡ bufferReply text (length old)) × (old ≡ written text old)
+unfolding bufferReply written
 refused-text text old n e h = let l : length old < length text = omega arith in rw (lt-leb _ _ l) (ap (λ (k : ℕ). Refused 14 k) e, refl)
 
-pub accepted-text : (text old new : List ℕ) (r : ℕ) → length text ≤ length old → Wrote text old new r → (Accepted r ≡ fitting text (length old)) × (new ≡ written text old)
-unfolding fitting written
+pub accepted-text : (text old new : List ℕ) (r : ℕ) → length text ≤ length old → Wrote text old new r → (Accepted r ≡ bufferReply text (length old)) × (new ≡ written text old)
+unfolding bufferReply written
 accepted-text text old new r h w = rw (le-leb _ _ h, w .count) (refl, w .kept)

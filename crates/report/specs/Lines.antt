@@ -9,9 +9,9 @@ use Rattle.report.specs.declared.End.the-variants.{Change, Factor}
 use Rattle.rules.specs.Report.{joined, linesOf, keyLine, loopLines, reportKey, rowsKey, loopsKey}
 
 -- an end's number
-abbrev pub endOf : End → ℤ
-endOf (Change z) = z
-endOf (Factor n) = pos n
+abbrev pub endNumber : End → ℤ
+endNumber (Change z) = z
+endNumber (Factor n) = pos n
 
 -- `report=1`, `rows=R`, `loops=K`
 unfoldable pub headText : ℕ → ℕ → List ℕ

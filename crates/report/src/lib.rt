@@ -8,11 +8,11 @@ use rules_steps::Step;
 ghost use mathlib.Core.Path.{_≡_};
 ghost use Prim.Native.Nat.{_≤_};
 ghost use lib.ListN.{length};
-ghost use Rattle.rules.specs.Calls.{fitting, written};
+ghost use Rattle.rules.specs.Calls.{bufferReply, written};
 ghost use Rattle.rules.specs.Report.{joined, decimal, sign, size, stepName, firstEnd, secondEnd, exactName, loopLine, lineOf, reportText};
-ghost use Rattle.analysis_lines.specs.Coded.{linesIn, firstLines, Lent};
+ghost use Rattle.analysis_lines.specs.Coded.{linesIn, firstLines, LineTable};
 ghost use Rattle.report_pieces.specs.Pieces.{pieceText, pieceTexts, Wrote};
-ghost use Rattle.report.specs.Lines.{endOf, headText, loopsText};
+ghost use Rattle.report.specs.Lines.{endNumber, headText, loopsText};
 
 // How far z is from 0.
 pub fn size(z: i64) -> u64
@@ -38,7 +38,7 @@ struct Ends {
 
 // Both ends of a step, as its kind has them.
 fn both_ends(step: Step) -> Ends
-    ensures { λ r. ⌜ (endOf (r .first) ≡ firstEnd step) × (endOf (r .second) ≡ secondEnd step) ⌝ }
+    ensures { λ r. ⌜ (endNumber (r .first) ≡ firstEnd step) × (endNumber (r .second) ≡ secondEnd step) ⌝ }
 {
     match step {
         Step::Add(a, b) => Ends {
@@ -62,7 +62,7 @@ fn both_ends(step: Step) -> Ends
 
 // `-` before a negative end.
 fn end_sign(end: End) -> Piece
-    ensures { λ r. ⌜ pieceText r ≡ sign (endOf end) ⌝ }
+    ensures { λ r. ⌜ pieceText r ≡ sign (endNumber end) ⌝ }
 {
     match end {
         End::Change(z) => {
@@ -77,7 +77,7 @@ fn end_sign(end: End) -> Piece
 
 // An end's digits.
 fn end_size(end: End) -> Piece
-    ensures { λ r. ⌜ pieceText r ≡ decimal (size (endOf end)) ⌝ }
+    ensures { λ r. ⌜ pieceText r ≡ decimal (size (endNumber end)) ⌝ }
 {
     match end {
         End::Change(z) => Piece::Number(size(z)),
@@ -148,7 +148,7 @@ fn head_len(rows: usize, loops: usize) -> usize
 
 // The loops' lines: how many bytes they have.
 fn loops_len(lines: &[[u64; 7]; 16], loops: usize) -> usize
-    requires { ⌜ Lent loops (now lines) ⌝ }
+    requires { ⌜ LineTable loops (now lines) ⌝ }
     ensures { λ r. ⌜ (r ≡ length (loopsText (linesIn (now (lines .entry))) loops)) × (r ≤ 5440) ⌝ }
 {
     let mut len: usize = 0;
@@ -163,7 +163,7 @@ fn loops_len(lines: &[[u64; 7]; 16], loops: usize) -> usize
 
 // The report's length.
 pub fn report_len(rows: usize, lines: &[[u64; 7]; 16], loops: usize, ticks: u64) -> usize
-    requires { ⌜ Lent loops (now lines) ⌝ }
+    requires { ⌜ LineTable loops (now lines) ⌝ }
     ensures { λ r. ⌜ r ≡ length (reportText rows (firstLines (now (lines .entry)) loops) ticks) ⌝ }
 {
     let before = head_len(rows, loops) + loops_len(lines, loops);
@@ -182,7 +182,7 @@ fn put_head(rows: usize, loops: usize, buffer: &mut [u8]) -> usize
 
 // Writes the loops' lines, each into the unused rest of the buffer.
 fn put_loops(lines: &[[u64; 7]; 16], loops: usize, buffer: &mut [u8]) -> usize
-    requires { ⌜ Lent loops (now lines) × (length (loopsText (linesIn (now lines)) loops) ≤ length (now buffer)) ⌝ }
+    requires { ⌜ LineTable loops (now lines) × (length (loopsText (linesIn (now lines)) loops) ≤ length (now buffer)) ⌝ }
     ensures { λ r. ⌜ Wrote (loopsText (linesIn (now (lines .entry))) loops) (now (buffer .entry)) (now (buffer .exit)) r ⌝ }
 {
     let mut at: usize = 0;
@@ -203,7 +203,7 @@ fn put_lines(
     ticks: u64,
     buffer: &mut [u8],
 ) -> usize
-    requires { ⌜ Lent loops (now lines) × (length (reportText rows (firstLines (now lines) loops) ticks) ≤ length (now buffer)) ⌝ }
+    requires { ⌜ LineTable loops (now lines) × (length (reportText rows (firstLines (now lines) loops) ticks) ≤ length (now buffer)) ⌝ }
     ensures { λ r. ⌜ Wrote (reportText rows (firstLines (now (lines .entry)) loops) ticks) (now (buffer .entry)) (now (buffer .exit)) r ⌝ }
 {
     let a = put_head(rows, loops, buffer);
@@ -219,8 +219,8 @@ pub fn write_report(
     ticks: u64,
     buffer: &mut [u8],
 ) -> Reply
-    requires { ⌜ Lent loops (now lines) ⌝ }
-    ensures { λ r. ⌜ (r ≡ fitting (reportText rows (firstLines (now (lines .entry)) loops) ticks) (length (now (buffer .entry)))) × (now (buffer .exit) ≡ written (reportText rows (firstLines (now (lines .entry)) loops) ticks) (now (buffer .entry))) ⌝ }
+    requires { ⌜ LineTable loops (now lines) ⌝ }
+    ensures { λ r. ⌜ (r ≡ bufferReply (reportText rows (firstLines (now (lines .entry)) loops) ticks) (length (now (buffer .entry)))) × (now (buffer .exit) ≡ written (reportText rows (firstLines (now (lines .entry)) loops) ticks) (now (buffer .entry))) ⌝ }
 {
     let len = report_len(rows, lines, loops, ticks);
     if buffer.len() < len {

@@ -16,12 +16,12 @@ use Rattle.rules.specs.Expressions.{Expr, constant, variable, group, app
 use Rattle.rules.specs.Values.{lowest, highest, inLimits, Store, choose, Result, number, past, limited, operated, value}
 use Rattle.rules.specs.Ranges.{Env, spread, bounds}
 use Rattle.rules.specs.Scripts.{ExprLimits}
-use Rattle.rules.specs.Evaluate.{between, rangeIn, least, most, held, combined, evaluated, ofRanges, ofStore, resultOf}
+use Rattle.rules.specs.Evaluate.{notPast, rangeIn, least, largest, clamped, combined, evaluated, ofRanges, ofStore, resultOf}
 use Rattle.rules.proofs.Expressions.{limits}
 
 -- ---- the ends are the range's
 pub evaluated-range : (ρ : Env) (e : Expr) → rangeIn (evaluated (ofRanges ρ) e) ≡ bounds ρ e
-unfolding evaluated combined held least most bounds spread meaning
+unfolding evaluated combined clamped least largest bounds spread meaning
 evaluated-range ρ (constant k) = refl
 evaluated-range ρ (variable w) = refl
 evaluated-range ρ (group e) = evaluated-range ρ e
@@ -30,7 +30,7 @@ evaluated-range ρ (apply o d e) = λ t. spread o (evaluated-range ρ d t) (eval
 -- ---- the number is the run's
 -- a value from a run's number
 abbrev Stands : Value → Result → Type 0
-Stands v (number z) = v ≡ between z z
+Stands v (number z) = v ≡ notPast z z
 Stands v past = v .past ≡ true
 
 or-true : (a : Bool) {b : Bool} → b ≡ true → a || b ≡ true
@@ -46,20 +46,20 @@ max-same z = eq-out (maxZ z z) z (omega (arith, max-parts z z))
 clamp-same : (z : ℤ) → T (inLimits z) → clamp lowest highest z ≡ z
 clamp-same z h = let (a, b) = limits z h in eq-out (clamp lowest highest z) z (omega (arith, clamp-parts lowest highest z))
 
-one-combined : (o : Operator) (x y : ℤ) → Stands (combined o (between x x) (between y y)) (limited (operate o x y))
-unfolding combined held least most limited choose
+one-combined : (o : Operator) (x y : ℤ) → Stands (combined o (notPast x x) (notPast y y)) (limited (operate o x y))
+unfolding combined clamped least largest limited choose
 one-combined o x y = by (inLimits (operate o x y)) (λ t. t) refl
   where
     z : ℤ
     z = operate o x y
 
-    lo : least o (rangeIn (between x x)) (rangeIn (between y y)) ≡ z
+    lo : least o (rangeIn (notPast x x)) (rangeIn (notPast y y)) ≡ z
     lo = (λ t. minZ (min-same z t) (min-same z t)) ∙ min-same z
 
-    hi : most o (rangeIn (between x x)) (rangeIn (between y y)) ≡ z
+    hi : largest o (rangeIn (notPast x x)) (rangeIn (notPast y y)) ≡ z
     hi = (λ t. maxZ (max-same z t) (max-same z t)) ∙ max-same z
 
-    by : (b : Bool) → (T b → T (inLimits z)) → inLimits z ≡ b → Stands (combined o (between x x) (between y y)) (choose b (number z) past)
+    by : (b : Bool) → (T b → T (inLimits z)) → inLimits z ≡ b → Stands (combined o (notPast x x) (notPast y y)) (choose b (number z) past)
     by true f e = let d = clamp-same z (f tt) in λ t. record {
       lo = (ap (clamp lowest highest) lo ∙ d) t;
       hi = (ap (clamp lowest highest) hi ∙ d) t;
@@ -68,10 +68,10 @@ one-combined o x y = by (inLimits (operate o x y)) (λ t. t) refl
     by false f e = λ t. not ((ap inLimits lo ∙ e) t && (ap inLimits hi ∙ e) t)
 
 operated-stands : (o : Operator) (a b : Value) (p q : Result) → Stands a p → Stands b q → Stands (combined o a b) (operated o p q)
-unfolding operated combined held
+unfolding operated combined clamped
 operated-stands o a b (number x) (number y) h k = subst (λ v. Stands v (limited (operate o x y))) (λ t. combined o (sym h t) (sym k t)) (one-combined o x y)
-operated-stands o a b (number x) past h k = λ t. or-true (a .past) k t || held (least o (rangeIn a) (rangeIn b)) (most o (rangeIn a) (rangeIn b)) .past
-operated-stands o a b past q h k = λ t. h t || b .past || held (least o (rangeIn a) (rangeIn b)) (most o (rangeIn a) (rangeIn b)) .past
+operated-stands o a b (number x) past h k = λ t. or-true (a .past) k t || clamped (least o (rangeIn a) (rangeIn b)) (largest o (rangeIn a) (rangeIn b)) .past
+operated-stands o a b past q h k = λ t. h t || b .past || clamped (least o (rangeIn a) (rangeIn b)) (largest o (rangeIn a) (rangeIn b)) .past
 
 value-stands : (f : Store) (e : Expr) → Stands (evaluated (ofStore f) e) (value e f)
 unfolding evaluated value meaning

@@ -12,8 +12,8 @@ use Rattle.rules.specs.declared.Operator.the-variants.{Add, Sub, Mul}
 use Rattle.rules.specs.Expressions.{Expr, constant, variable, group, apply, operate, meaning}
 use Rattle.rules.specs.Values.{lowest, highest, choose, number, past, limited, operated, value, applied, compares, tried, decide}
 use Rattle.rules.specs.Text.{equals, isDigit, allDigits, valueFrom, isNatural, isNegative, isVariable, comparisonWord, blockWord, plainWord, wordOf}
-use Rattle.rules.specs.Parse.{Parsed, parsed, shapeless, onward, isMark, upToMark, fromMark, atom, ahead, afterTerm, afterFactor, close, factorOf, expression, readExpression, atEnd, parse, depth, operators}
-use Rattle.rules.specs.Blocks.{RowKind, End, For, viewOf, withLast, snoc, inFront, loopHead, plainRow, closes, onRow, build}
+use Rattle.rules.specs.Parse.{Parsed, parsed, shapeless, thenParse, isMark, upToMark, fromMark, atom, ahead, afterTerm, afterFactor, close, factorOf, expression, readExpression, atEnd, parse, depth, operators}
+use Rattle.rules.specs.Blocks.{RowKind, End, For, viewOf, withLast, snoc, inFront, loopHead, plainRow, closes, builtRow, build}
 use Rattle.rules.specs.Ranges.{Range, spread, bounds}
 use Rattle.rules.specs.Figures.{ones}
 use Rattle.rules.specs.Run.{prepend, bind, closing, charge, write, result, exec, iter, starting, turning, enter, run}
@@ -62,7 +62,7 @@ texts =
     ∷ []
 
 all-texts : given texts ≡ wanted texts
-unfolding given wanted texts case parse readExpression expression onward ahead afterTerm afterFactor factorOf close atom atEnd isMark upToMark fromMark wordOf isNatural isNegative isVariable isDigit allDigits valueFrom plainWord blockWord comparisonWord equals
+unfolding given wanted texts case parse readExpression expression thenParse ahead afterTerm afterFactor factorOf close atom atEnd isMark upToMark fromMark wordOf isNatural isNegative isVariable isDigit allDigits valueFrom plainWord blockWord comparisonWord equals
 all-texts = refl
 
 -- ---- question 3
@@ -93,7 +93,7 @@ shapes =
     ∷ []
 
 all-shapes : refused shapes ≡ shapeless ∷ shapeless ∷ shapeless ∷ shapeless ∷ shapeless ∷ shapeless ∷ shapeless ∷ shapeless ∷ shapeless ∷ shapeless ∷ shapeless ∷ shapeless ∷ shapeless ∷ shapeless ∷ shapeless ∷ shapeless ∷ shapeless ∷ shapeless ∷ []
-unfolding refused shapes parse readExpression expression onward ahead afterTerm afterFactor factorOf close atom atEnd isMark upToMark fromMark wordOf isNatural isNegative isVariable isDigit allDigits valueFrom plainWord blockWord comparisonWord equals
+unfolding refused shapes parse readExpression expression thenParse ahead afterTerm afterFactor factorOf close atom atEnd isMark upToMark fromMark wordOf isNatural isNegative isVariable isDigit allDigits valueFrom plainWord blockWord comparisonWord equals
 all-shapes = refl
 
 -- ---- the questions 3, 17, 4 and 5 in this order, with two variables
@@ -117,7 +117,7 @@ words =
 
 -- 8 open; 9 open; 9 open, one after the other; 15 operators; 16 operators; 9 open and past L; 9 open and not closed; past L, and no such variable; no such variable; both inside
 all-words : asked words ≡ 0 ∷ 17 ∷ 0 ∷ 0 ∷ 17 ∷ 17 ∷ 3 ∷ 4 ∷ 5 ∷ 0 ∷ []
-unfolding asked words turnOf firstRefusal asksSize asksLeaves depth operators lowest highest parse readExpression expression onward ahead afterTerm afterFactor factorOf close atom atEnd isMark upToMark fromMark wordOf isNatural isNegative isVariable isDigit allDigits valueFrom plainWord blockWord comparisonWord equals
+unfolding asked words turnOf firstRefusal asksSize asksLeaves depth operators lowest highest parse readExpression expression thenParse ahead afterTerm afterFactor factorOf close atom atEnd isMark upToMark fromMark wordOf isNatural isNegative isVariable isDigit allDigits valueFrom plainWord blockWord comparisonWord equals
 all-words = refl
 
 -- ---- twice the rig plus two: its range for a rig of 3 to 5, its value for a rig of 4
@@ -154,5 +154,5 @@ abbrev square-run : Answer
 square-run = runTree ones 2 (treeOf rows) (storeOf (pos 0 ∷ (pos 100_000 ∷ []))) [] 99
 
 square-ends : (square-run .ending ≡ Ending.Range) × (square-run .row ≡ 0) × (square-run .ticks ≡ 2) × (square-run .entries ≡ record { row = 0; turns = 0; tested = false } ∷ [])
-unfolding runTree answer treeOf build onRow viewOf withLast loopHead plainRow closes inFront snoc run enter starting turning iter exec bind prepend closing choose charge write result applied compares tried decide value meaning operated limited operate lowest highest
+unfolding runTree answer treeOf build builtRow viewOf withLast loopHead plainRow closes inFront snoc run enter starting turning iter exec bind prepend closing choose charge write result applied compares tried decide value meaning operated limited operate lowest highest
 square-ends = (refl, refl, refl, refl)

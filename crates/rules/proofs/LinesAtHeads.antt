@@ -7,7 +7,7 @@ use native.Mathlib.Omega.{arith}
 use borrow.Author.Tests.{ltb-true}
 use lib.Dec.{ltb}
 use lib.ListN.{length}
-use Rattle.rules.specs.Blocks.{Plain, Form, Test, Last, no-step, step-by, View, is-plain, is-pick, is-else, is-end, is-loop, viewOf, Block, done, plain, pick, loop, Part, to-end, to-else, Built, parts, misfit, snoc, inFront, withLast, loopHead, pickHead, plainRow, closes, onRow, build, RowKind}
+use Rattle.rules.specs.Blocks.{Plain, Form, Test, Last, no-step, step-by, View, is-plain, is-pick, is-else, is-end, is-loop, viewOf, Block, done, plain, pick, loop, Part, to-end, to-else, Built, parts, misfit, snoc, inFront, withLast, loopHead, pickHead, plainRow, closes, builtRow, build, RowKind}
 use Rattle.rules.specs.Nesting.{Open, in-loop, in-pick, in-else, Nest, Nested, nested, wrong, nest, opens, elses, ends, nestRow, andRows, nestRows}
 use Rattle.rules.specs.Ranges.{Env, afterRow, join, atStart}
 use Rattle.rules.specs.Trips.{inside, outside, after}
@@ -116,8 +116,8 @@ unfolding closes Heads partsHeads
 close-heads new e (parts p ps) hs h = ap (λ r. r ++ partsHeads (p ∷ ps)) e ∙ h
 close-heads new e misfit hs h = tt
 
-row-heads : (v : View) (i : ℕ) (b : Built) (hs : List ℕ) → Heads hs b → Heads (cond (isLoop v) (i ∷ hs) hs) (onRow v i b)
-unfolding onRow isLoop partHeads heads
+row-heads : (v : View) (i : ℕ) (b : Built) (hs : List ℕ) → Heads hs b → Heads (cond (isLoop v) (i ∷ hs) hs) (builtRow v i b)
+unfolding builtRow isLoop partHeads heads
 row-heads (is-plain p) i b hs h = plain-heads i p b hs h
 row-heads is-pick i b hs h = pick-heads i b hs h
 row-heads is-else i b hs h = close-heads (to-else i done) refl b hs h

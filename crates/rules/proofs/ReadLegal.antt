@@ -106,8 +106,8 @@ step-yes (Keyword n) w e = change-yes n w e
 step-yes Other w e = no-zero _ e
 
 -- a row inside its limits, with its variables below V
-abbrev Fine : ℕ → RowKind → Type 0
-Fine vars k = RowLimits k × RowBelow vars k
+abbrev Limited : ℕ → RowKind → Type 0
+Limited vars k = RowLimits k × RowBelow vars k
 
 wrong-not : {A : Type 0} (q : ℕ) (k : RowKind) → Wrong q ≡ Read k → A
 wrong-not q k e = absurd (let z : _≡_ {A = ℕ} 0 1 = cc in omega arith)
@@ -119,9 +119,9 @@ checked-yes Q zero r k e f = subst Q (let h : r ≡ k = cc in h) (f refl)
 checked-yes Q (suc q) r k e f = wrong-not _ k e
 
 module _ (vars : ℕ) (w : ℕ → Word) (x : ℕ → Parsed) where
-  move-fine : (n : Name) (k : RowKind) → File.moveRow vars w x n ≡ Read k → Fine vars k
+  move-fine : (n : Name) (k : RowKind) → File.moveRow vars w x n ≡ Read k → Limited vars k
   unfolding File.moveRow
-  move-fine n k e = checked-yes (Fine vars) _ _ k e λ h.
+  move-fine n k e = checked-yes (Limited vars) _ _ k e λ h.
       let (a, b) = refusal-yes _ _ h in
       let (c, _) = refusal-yes _ _ b in
       (change-yes n (w 2) c, variable-yes vars (w 1) a)
@@ -135,13 +135,13 @@ module _ (vars : ℕ) (w : ℕ → Word) (x : ℕ → Parsed) where
       let (f, g) = expr-yes vars (x 3) e in
       (variable-yes vars (w 1) a, f, g)
 
-  bare-fine : (r k : RowKind) → Fine vars r → File.bareRow vars w x r ≡ Read k → Fine vars k
+  bare-fine : (r k : RowKind) → Limited vars r → File.bareRow vars w x r ≡ Read k → Limited vars k
   unfolding File.bareRow
-  bare-fine r k f e = checked-yes (Fine vars) _ r k e (λ _. f)
+  bare-fine r k f e = checked-yes (Limited vars) _ r k e (λ _. f)
 
-  named-fine : (n : Name) (k : RowKind) → File.namedRow vars w x n ≡ Read k → Fine vars k
+  named-fine : (n : Name) (k : RowKind) → File.namedRow vars w x n ≡ Read k → Limited vars k
   unfolding File.setRow File.cueRow File.whileRow File.doRow File.forRow File.asksFor File.offRow File.holdRow
-  named-fine Name.Set k e = checked-yes (Fine vars) _ _ k e λ h.
+  named-fine Name.Set k e = checked-yes (Limited vars) _ _ k e λ h.
       let (a, b) = refusal-yes _ _ h in
       let (c, _) = refusal-yes _ _ b in
       let (f, g) = expr-yes vars (x 2) c in
@@ -150,20 +150,20 @@ module _ (vars : ℕ) (w : ℕ → Word) (x : ℕ → Parsed) where
   named-fine Name.Sub k e = move-fine Name.Sub k e
   named-fine Name.Mul k e = move-fine Name.Mul k e
   named-fine Name.Div k e = move-fine Name.Div k e
-  named-fine Name.Off k e = checked-yes (Fine vars) _ _ k e λ h.
+  named-fine Name.Off k e = checked-yes (Limited vars) _ _ k e λ h.
       let (a, b) = refusal-yes _ _ h in
       let (c, d) = refusal-yes _ _ b in
       let (_, f) = refusal-yes _ _ d in
       let (g, _) = refusal-yes _ _ f in
       (number-yes lowest highest (w 4) g, (variable-yes vars (w 1) a, variable-yes vars (w 2) c))
-  named-fine Name.Hold k e = checked-yes (Fine vars) _ _ k e λ h. let (a, _) = refusal-yes _ _ h in (tt, variable-yes vars (w 1) a)
-  named-fine Name.Cue k e = checked-yes (Fine vars) _ _ k e λ h. let (a, _) = refusal-yes _ _ h in (omega (ints, amount-yes 0 (pos 9_999) (w 1) a .1), tt)
+  named-fine Name.Hold k e = checked-yes (Limited vars) _ _ k e λ h. let (a, _) = refusal-yes _ _ h in (tt, variable-yes vars (w 1) a)
+  named-fine Name.Cue k e = checked-yes (Limited vars) _ _ k e λ h. let (a, _) = refusal-yes _ _ h in (omega (ints, amount-yes 0 (pos 9_999) (w 1) a .1), tt)
   named-fine Name.Pick k e = bare-fine RowKind.Pick k (tt, tt) e
   named-fine Name.Else k e = bare-fine RowKind.Else k (tt, tt) e
   named-fine Name.End k e = bare-fine RowKind.End k (tt, tt) e
-  named-fine Name.While k e = checked-yes (Fine vars) _ _ k e λ h. let (a, b, c) = test-fine h in (b, (a, c))
-  named-fine Name.Do k e = checked-yes (Fine vars) _ _ k e λ h. let (a, b, c) = test-fine h in (b, (a, c))
-  named-fine Name.For k e = checked-yes (Fine vars) _ _ k e λ h.
+  named-fine Name.While k e = checked-yes (Limited vars) _ _ k e λ h. let (a, b, c) = test-fine h in (b, (a, c))
+  named-fine Name.Do k e = checked-yes (Limited vars) _ _ k e λ h. let (a, b, c) = test-fine h in (b, (a, c))
+  named-fine Name.For k e = checked-yes (Limited vars) _ _ k e λ h.
       let (a, b) = refusal-yes _ _ h in
       let (c, d) = refusal-yes _ _ b in
       let (_, f) = refusal-yes _ _ d in
@@ -173,7 +173,7 @@ module _ (vars : ℕ) (w : ℕ → Word) (x : ℕ → Parsed) where
       let (xl, xb) = expr-yes vars (x 4) g in
       ((sl, xl, step-yes (w 5) (w 6) j), (variable-yes vars (w 1) a, sb, xb))
 
-  first-fine : (y : Word) (k : RowKind) → File.firstWord vars w x y ≡ Read k → Fine vars k
+  first-fine : (y : Word) (k : RowKind) → File.firstWord vars w x y ≡ Read k → Limited vars k
   first-fine Missing k e = wrong-not 3 k e
   first-fine (Number z) k e = wrong-not 3 k e
   first-fine (Variable v) k e = wrong-not 3 k e
@@ -198,8 +198,8 @@ unless-yes (suc q) p r x ls e = refused-not _ p x ls e
 pub data First {A B : Type 0} (r : File.Reading A) (k : A → List (List ℕ) → File.Reading B) (y : B) (ms : List (List ℕ)) : Type 0 where
   first : (x : A) (ls : List (List ℕ)) → r ≡ File.read x ls → k x ls ≡ File.read y ms → First r k y ms
 
-pub then-yes : {A B : Type 0} (r : File.Reading A) (k : A → List (List ℕ) → File.Reading B) (y : B) (ms : List (List ℕ)) → File.andThen r k ≡ File.read y ms → First r k y ms
-unfolding File.andThen
+pub then-yes : {A B : Type 0} (r : File.Reading A) (k : A → List (List ℕ) → File.Reading B) (y : B) (ms : List (List ℕ)) → File.thenLines r k ≡ File.read y ms → First r k y ms
+unfolding File.thenLines
 then-yes (File.read x ls) k y ms e = first x ls refl e
 then-yes (File.refused q p) k y ms e = refused-not q p y ms e
 
@@ -317,7 +317,7 @@ rows-legal vars ranges ls ms script v a l e = by-count (then-yes _ _ script ms e
           closed = (rows .nest .loops, s .nests ∙ closed-nest (rows .nest) closed);
         })
 
-    by-count : First (File.countLine File.rowsKey 256 (3 + vars) ls) (λ n more. File.andThen (File.rowLines vars n (4 + vars) more File.noRows) (λ rows rest. File.lastLine (4 + vars + n) ranges rows rest)) script ms → Legal script
+    by-count : First (File.countLine File.rowsKey 256 (3 + vars) ls) (λ n more. File.thenLines (File.rowLines vars n (4 + vars) more File.noRows) (λ rows rest. File.lastLine (4 + vars + n) ranges rows rest)) script ms → Legal script
     by-count (first n more e₁ e₂) = by-rows n (count-fine File.rowsKey 256 (3 + vars) ls more n e₁) more (then-yes _ _ script ms e₂)
 
 -- a file that is read is legal
@@ -332,7 +332,7 @@ read-legal file script ms e = by-size (leb (length file) 16_384) e
     by-vars : (ls : List (List ℕ)) → First (File.countLine File.varsKey 16 2 ls) (λ vars rest. File.rangePart vars rest) script ms → Legal script
     by-vars ls (first vars more e₁ e₂) = by-ranges vars (count-fine File.varsKey 16 2 ls more vars e₁) more (then-yes _ _ script ms e₂)
 
-    by-script : First (File.scriptLine (split lf file)) (λ _ more. File.andThen (File.countLine File.varsKey 16 2 more) (λ vars rest. File.rangePart vars rest)) script ms → Legal script
+    by-script : First (File.scriptLine (split lf file)) (λ _ more. File.thenLines (File.countLine File.varsKey 16 2 more) (λ vars rest. File.rangePart vars rest)) script ms → Legal script
     by-script (first x more e₁ e₂) = by-vars more (then-yes _ _ script ms e₂)
 
     by-size : (b : Bool) → cond b (File.linesScript (split lf file)) (File.refused 2 16_384) ≡ File.read script ms → Legal script

@@ -6,7 +6,7 @@ use Prim.Native.Nat.{ℕ, suc, _+_}
 use native.Mathlib.Omega.{arith}
 use lib.Dec.{ltb}
 use lib.ListN.{length}
-use Rattle.rules.specs.Blocks.{Plain, Test, Form, Last, View, is-plain, is-pick, is-else, is-end, is-loop, viewOf, Block, done, Part, to-end, to-else, Built, parts, misfit, inFront, loopHead, pickHead, plainRow, closes, onRow, build, RowKind}
+use Rattle.rules.specs.Blocks.{Plain, Test, Form, Last, View, is-plain, is-pick, is-else, is-end, is-loop, viewOf, Block, done, Part, to-end, to-else, Built, parts, misfit, inFront, loopHead, pickHead, plainRow, closes, builtRow, build, RowKind}
 use Rattle.rules.specs.Nesting.{Open, in-loop, in-pick, in-else, Nest, Nested, nested, wrong, nest, opens, elses, ends, nestRow, andRows, nestRows}
 
 -- the parts from a row on fit the blocks that are open before it; the last part runs to row `rows`
@@ -114,8 +114,8 @@ end-fit rows (o ∷ st) i n b rest last e ih = by o b (ih _ e)
     by in-else misfit h = absurd h
 
 row-fit : (rows : ℕ) (w : View) (i : ℕ) (s : Nest) (b : Built) (rest : Nest → Nested) (last : Nest) → andRows (nestRow w s) rest ≡ nested last
-    → ((t : Nest) → rest t ≡ nested last → FitBuilt rows (t .open-blocks) b) → FitBuilt rows (s .open-blocks) (onRow w i b)
-unfolding nestRow opens andRows onRow
+    → ((t : Nest) → rest t ≡ nested last → FitBuilt rows (t .open-blocks) b) → FitBuilt rows (s .open-blocks) (builtRow w i b)
+unfolding nestRow opens andRows builtRow
 row-fit rows (is-plain p) i s b rest last e ih = plain-fit rows _ i p b (ih s e)
 row-fit rows is-pick i s b rest last e ih = pick-fit rows _ i b (ih _ (opened-yes (ltb (length (s .open-blocks)) 8) _ rest last e))
 row-fit rows is-else i s b rest last e ih = else-fit rows (s .open-blocks) i (s .loops) b rest last e ih

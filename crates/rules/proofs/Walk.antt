@@ -11,7 +11,7 @@ use Rattle.rules.specs.Blocks.{Test, Form, while, do-while, hold, for, B
 use Rattle.rules.specs.Steps.{step, firstEnd, isAdd}
 use Rattle.rules.specs.Ranges.{Env, bounds, edge}
 use Rattle.rules.specs.Turns.{climb, whileTurns, atTest}
-use Rattle.rules.specs.Passes.{Pass, any, valued, later, passAt, sum, sumOver, sums, firstPass, fromConstant, triangle, upTo, turnsIn, overPasses}
+use Rattle.rules.specs.Passes.{Pass, any, valued, later, passAt, sum, sumOver, sums, firstPass, fromConstant, triangle, withLimit, turnsIn, overPasses}
 use Rattle.rules.specs.Figures.{Round, alike, often, totalOf, inBody}
 use Rattle.rules.proofs.Triangles.{over-sum, over-same, over-times, over-past, rising-elim, for-turns, to-constant}
 use Rattle.rules.specs.Trips.{isOwn, wayOf, turns}
@@ -23,7 +23,7 @@ turnsWalk r k form ρ test body = sumOver k (r .by) (r .count) (λ j. turnsIn j 
 
 -- a triangle's turns for the value x: those from its start to x, or to x − 1
 pub triangle-turns : (v : ℕ) (x : ℤ) (form : Form) (ρ : Env) (test : Test) (body : Block) → T (triangle v form test body)
-    → turns form ρ (upTo x test) body
+    → turns form ρ (withLimit x test) body
     ≡ climb (record { start = ρ (test .tested) .lo; limit = edge (test .comparison) (record { lo = x; hi = x }); step = firstEnd (step (test .tested) body) })
 unfolding triangle bounds meaning whileTurns atTest firstEnd
 triangle-turns v x while ρ test body t = absurd t
@@ -37,7 +37,7 @@ triangle-turns v x (for o) ρ test body t =
     let (_, t₂) = both (isOwn (wayOf (for o) test body)) _ t₁ in
     let (add, t₃) = both (isAdd st) _ t₂ in
     let (up, _) = both (upward (test .comparison)) _ t₃ in
-    for-turns o ρ (upTo x test) body (to-constant o x test body)
+    for-turns o ρ (withLimit x test) body (to-constant o x test body)
     ∙ rising-elim (λ st o. whileTurns st o (atTest false st s) (record { lo = x; hi = x }) e ≡ climb (record { start = s .lo; limit = e; step = firstEnd st })) st (test .comparison) add up (λ a b. refl)
 
 -- ---- sums of figures

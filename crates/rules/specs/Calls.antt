@@ -74,8 +74,8 @@ unfoldable pub SameFromAnyScratch : Type 0
 SameFromAnyScratch = (prices : List ℕ) (a b : ℕ) (file : List ℕ) → scratchSize ≤ a → scratchSize ≤ b → judged prices a file ≡ judged prices b file
 
 -- 14: "is the buffer at least as long as the report?"
-unfoldable pub fitting : List ℕ → ℕ → Reply
-fitting text room = cond (leb (length text) room) (Accepted (length text)) (Refused 14 (length text))
+unfoldable pub bufferReply : List ℕ → ℕ → Reply
+bufferReply text room = cond (leb (length text) room) (Accepted (length text)) (Refused 14 (length text))
 
 -- the text at the front of the buffer; "bytes past a report keep their values"
 unfoldable pub over : List ℕ → List ℕ → List ℕ
@@ -87,7 +87,7 @@ written text old = cond (leb (length text) (length old)) (over text old) old
 
 -- what the report call answers: "the report's length, which an accepted report call answers too", or number and place
 unfoldable pub replyOf : List ℕ → Judged → ℕ → Reply
-replyOf prices (accepted script) room = fitting (scriptReport (pricesOf prices) script) room
+replyOf prices (accepted script) room = bufferReply (scriptReport (pricesOf prices) script) room
 replyOf prices (refuses q p) room = Refused q p
 
 -- the buffer after it

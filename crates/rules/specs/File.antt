@@ -272,9 +272,9 @@ pub data Reading (A : Type 0) : Type 0 where
   refused : ℕ → ℕ → Reading A
 
 -- then the lines after them
-unfoldable pub andThen : {A B : Type 0} → Reading A → (A → List (List ℕ) → Reading B) → Reading B
-andThen (read x ls) k = k x ls
-andThen (refused q p) k = refused q p
+unfoldable pub thenLines : {A B : Type 0} → Reading A → (A → List (List ℕ) → Reading B) → Reading B
+thenLines (read x ls) k = k x ls
+thenLines (refused q p) k = refused q p
 
 -- the question q of line p, then what follows
 unfoldable pub unless : {A : Type 0} → ℕ → ℕ → Reading A → Reading A
@@ -384,17 +384,17 @@ noRows = record { kinds = []; nest = record { open-blocks = []; loops = 0 } }
 -- from `rows=R` on; V variables
 unfoldable pub rowPart : ℕ → List Range → List (List ℕ) → Reading Script
 rowPart vars ranges ls =
-    andThen (countLine rowsKey 256 (3 + vars) ls) λ n more.
-    andThen (rowLines vars n (4 + vars) more noRows) λ rows rest.
+    thenLines (countLine rowsKey 256 (3 + vars) ls) λ n more.
+    thenLines (rowLines vars n (4 + vars) more noRows) λ rows rest.
     lastLine (4 + vars + n) ranges rows rest
 
 -- from the ranges on
 unfoldable pub rangePart : ℕ → List (List ℕ) → Reading Script
-rangePart vars ls = andThen (rangeLines vars 3 ls []) λ ranges more. rowPart vars ranges more
+rangePart vars ls = thenLines (rangeLines vars 3 ls []) λ ranges more. rowPart vars ranges more
 
 -- "Key=value lines in this order"
 unfoldable pub linesScript : List (List ℕ) → Reading Script
-linesScript ls = andThen (scriptLine ls) λ _ more. andThen (countLine varsKey 16 2 more) λ vars rest. rangePart vars rest
+linesScript ls = thenLines (scriptLine ls) λ _ more. thenLines (countLine varsKey 16 2 more) λ vars rest. rangePart vars rest
 
 -- 2: "Is the file at most 16,384 bytes?"
 unfoldable pub fileScript : List ℕ → Reading Script

@@ -12,7 +12,7 @@ use Rattle.rules.specs.Parse.{parse, exprIn}
 use Rattle.rules.specs.File.{asksExpr}
 
 -- a word that the questions 3, 17, 4 and 5 have passed as an expression
-pub record Passed (word : List ℕ) : Type 0 where
+pub record PassedWord (word : List ℕ) : Type 0 where
   pub vars : ℕ
   pub few : vars ≤ 16
   pub asks : asksExpr vars (parse word) ≡ 0
@@ -27,7 +27,7 @@ Composed (apply o x y) = Unit {0}
 -- n bytes of the text from `at` on are an expression that has passed its questions, and neither a constant nor a variable
 pub record InText (text : List ℕ) (at n : ℕ) : Type 0 where
   pub within : at + n ≤ length text
-  pub passed : Passed (take n (drop at text))
+  pub passed : PassedWord (take n (drop at text))
   pub composed : Composed (exprIn (parse (take n (drop at text))))
 
 -- an operand's expression stands in the text

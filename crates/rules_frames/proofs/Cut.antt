@@ -6,14 +6,14 @@ use native.Mathlib.Omega.{arith}
 use lib.IntN.{ℤ}
 use lib.ListN.{length, getD, take, drop, length-drop, take-append-drop}
 use lib.Seq.{drop-drop}
-use Rattle.rules_frames.specs.Frames.{Part, cutParts, sum}
+use Rattle.rules_frames.specs.Frames.{ScriptPart, cutParts, total}
 
 -- part j
-abbrev pub partAt : List ℕ → List ℕ → List ℕ → List ℕ → List ℤ → List ℕ → ℕ → Part
+abbrev pub partAt : List ℕ → List ℕ → List ℕ → List ℕ → List ℤ → List ℕ → ℕ → ScriptPart
 partAt fs ss ps files stores picks j = record {
-  file = take (getD fs j 0) (drop (sum (take j fs)) files);
-  store = take (getD ss j 0) (drop (sum (take j ss)) stores);
-  picks = take (getD ps j 0) (drop (sum (take j ps)) picks);
+  file = take (getD fs j 0) (drop (total (take j fs)) files);
+  store = take (getD ss j 0) (drop (total (take j ss)) stores);
+  picks = take (getD ps j 0) (drop (total (take j ps)) picks);
 }
 
 pub cut-length : (fs ss ps files : List ℕ) (stores : List ℤ) (picks : List ℕ) → length ss ≡ length fs → length ps ≡ length fs → length (cutParts fs ss ps files stores picks) ≡ length fs
@@ -23,9 +23,9 @@ cut-length (f ∷ fs) [] ps files stores picks a b = absurd (omega arith)
 cut-length (f ∷ fs) (s ∷ ss) [] files stores picks a b = absurd (omega arith)
 cut-length (f ∷ fs) (s ∷ ss) (p ∷ ps) files stores picks a b = ap suc (cut-length fs ss ps _ _ _ (omega arith) (omega arith))
 
-pub cut-at : (fs ss ps files : List ℕ) (stores : List ℤ) (picks : List ℕ) → length ss ≡ length fs → length ps ≡ length fs → (j : ℕ) → j < length fs → (none : Part)
+pub cut-at : (fs ss ps files : List ℕ) (stores : List ℤ) (picks : List ℕ) → length ss ≡ length fs → length ps ≡ length fs → (j : ℕ) → j < length fs → (none : ScriptPart)
     → getD (cutParts fs ss ps files stores picks) j none ≡ partAt fs ss ps files stores picks j
-unfolding cutParts sum
+unfolding cutParts total
 cut-at [] ss ps files stores picks a b j l none = absurd (omega arith)
 cut-at (f ∷ fs) [] ps files stores picks a b j l none = absurd (omega arith)
 cut-at (f ∷ fs) (s ∷ ss) [] files stores picks a b j l none = absurd (omega arith)
@@ -33,19 +33,19 @@ cut-at (f ∷ fs) (s ∷ ss) (p ∷ ps) files stores picks a b zero l none = ref
 cut-at (f ∷ fs) (s ∷ ss) (p ∷ ps) files stores picks a b (suc j) l none =
     cut-at fs ss ps (drop f files) (drop s stores) (drop p picks) (omega arith) (omega arith) j (omega arith) none
     ∙ (λ k. record {
-      file = take (getD fs j 0) (drop-drop (sum (take j fs)) f files k);
-      store = take (getD ss j 0) (drop-drop (sum (take j ss)) s stores k);
-      picks = take (getD ps j 0) (drop-drop (sum (take j ps)) p picks k);
+      file = take (getD fs j 0) (drop-drop (total (take j fs)) f files k);
+      store = take (getD ss j 0) (drop-drop (total (take j ss)) s stores k);
+      picks = take (getD ps j 0) (drop-drop (total (take j ps)) p picks k);
     })
 
 -- the stores end to end
-unfoldable pub joined : List Part → List ℤ
+unfoldable pub joined : List ScriptPart → List ℤ
 joined [] = []
 joined (h ∷ hs) = h .store ++ joined hs
 
-pub cut-stores : (fs ss ps files : List ℕ) (stores : List ℤ) (picks : List ℕ) → length ss ≡ length fs → length ps ≡ length fs → sum ss ≡ length stores
+pub cut-stores : (fs ss ps files : List ℕ) (stores : List ℤ) (picks : List ℕ) → length ss ≡ length fs → length ps ≡ length fs → total ss ≡ length stores
     → joined (cutParts fs ss ps files stores picks) ≡ stores
-unfolding cutParts sum joined
+unfolding cutParts total joined
 cut-stores [] [] ps files [] picks a b e = refl
 cut-stores [] [] ps files (x ∷ xs) picks a b e = absurd (omega arith)
 cut-stores [] (s ∷ ss) ps files stores picks a b e = absurd (omega arith)

@@ -8,7 +8,7 @@ use Rattle.ints.specs.Ints.{minZ, maxZ, clamp}
 use Rattle.rules.specs.Expressions.{meaning}
 use Rattle.rules.specs.declared.Ending.the-variants.{Ended}
 use Rattle.rules.specs.Values.{lowest, highest, value, applied, compares, tried, decide}
-use Rattle.rules.specs.Blocks.{viewOf, snoc, inFront, withLast, loopHead, plainRow, closes, onRow, build}
+use Rattle.rules.specs.Blocks.{viewOf, snoc, inFront, withLast, loopHead, plainRow, closes, builtRow, build}
 use Rattle.rules_steps.specs.Joins.{then}
 use Rattle.rules.specs.Steps.{sets, assigns, changeStep, sourceStep, rowStep, stepFrom, moving, equalEnds, isAdd, behind, soleRow, soleOf, difference}
 use Rattle.rules.specs.Ranges.{bounds, sourceRange, afterRow, atStart, edge, insideRange, byStep, outsideRange, suits}
@@ -22,7 +22,7 @@ use Rattle.rules.specs.Nesting.{opens, ends, nestRow}
 use Rattle.rules.specs.Scripts.{treeOf}
 use Rattle.rules.specs.Text.{split, prefixed, startsWith, equals, isDigit, allDigits, valueFrom, isNatural, isNegative, isVariable, comparisonWord, blockWord, plainWord, wordOf, wordsOf, nextLines, lineTexts, nextTexts}
 use Rattle.rules.specs.File.{fileScript, linesScript, rangePart, rowPart, scriptLine, countLine, rangeLines, rowLines, rowLine, placed, lastLine, unless, asksRest, asksClosed, asksRange, asksOrder, asksFor, firstRefusal, rangeWords, checked, bareRow, cueRow, forRow, wordsRow, rowOf, turnOf, asksSize, asksLeaves}
-use Rattle.rules.specs.Parse.{onward, isMark, upToMark, fromMark, atom, ahead, afterTerm, afterFactor, close, factorOf, expression, atEnd, parse, depth, operators, readExpression}
+use Rattle.rules.specs.Parse.{thenParse, isMark, upToMark, fromMark, atom, ahead, afterTerm, afterFactor, close, factorOf, expression, atEnd, parse, depth, operators, readExpression}
 use Rattle.rules.specs.Report.{firstEnd}
 use Rattle.rules_machine.specs.RowMachine.{next, onEnd, tests, paid, begin, turn, pairs, pairRow, push, rank, countsOf}
 use Rattle.rules.specs.Answers.{storeList}
@@ -39,10 +39,10 @@ lent files stores fs ss ps = record { files = files; stores = stores; picks = []
 
 the-frames : framesReply Calls.fourOnes 1_024 (lent the-file (pos 0 ∷ (pos 1 ∷ [])) (length the-file ∷ []) (2 ∷ []) (0 ∷ [])) 20
     ≡ played (record { frame = 2; ending = Ended; row = 6; ticks = 32; used = 0; store = pos 11 ∷ (pos 6 ∷ []); counts = record { row = 0; all = 2; most = 2 } ∷ (record { row = 1; all = 7; most = 6 } ∷ []) } ∷ []) 20
-unfolding the-file Calls.judged Calls.judgedPriced Calls.pricesVerdict Calls.judgedFile Calls.judgedBy fileScript linesScript rangePart rowPart scriptLine countLine rangeLines rowLines rowLine placed lastLine File.andThen unless asksRest asksClosed asksRange asksOrder asksFor firstRefusal rangeWords checked bareRow cueRow forRow rowOf split prefixed startsWith equals isDigit allDigits valueFrom isNatural isNegative isVariable comparisonWord blockWord plainWord wordOf wordsOf nextLines nestRow opens ends treeOf build onRow loopHead plainRow closes inFront snoc verdict andThen loopsVerdict asked loopVerdict known moving keeps suits hasFigure blocksVerdict tickLimit ticks price loopTicks led turnsOf innerOf outerOf misses soleWay tripBy isAdd behind soleRow soleOf whileTurns climb atTest atStart loopEnv insideRange outsideRange byStep bounds edge stepFrom then rowStep sourceStep changeStep assigns sets afterRow sourceRange applied lowest highest minZ maxZ clamp limitWay difference lineTexts nextTexts Frames.onward isMark upToMark fromMark atom ahead afterTerm afterFactor close factorOf expression readExpression atEnd parse depth operators turnOf asksSize asksLeaves meaning later sum Frames.sum sumOver sums firstPass triangle turnsIn overPasses firstEnd equalEnds toward holdWay wayOf framesReply fitting counted covered cutParts readiness enters joins Calls.storeVerdict playedBy lasts due answers playedAt playedAs countsOf Calls.loopRows Calls.isLoop storeList most together takes Frames.after frameFrom runsOn stopped leftOf ticksOf next RowMachine.onRow onEnd tests paid RowMachine.outcome begin turn pairs pairRow push RowMachine.closing rank exec charge choose write value result compares decide tried onward wordsRow viewOf withLast
+unfolding the-file Calls.judged Calls.judgedPriced Calls.pricesVerdict Calls.judgedFile Calls.judgedBy fileScript linesScript rangePart rowPart scriptLine countLine rangeLines rowLines rowLine placed lastLine File.thenLines unless asksRest asksClosed asksRange asksOrder asksFor firstRefusal rangeWords checked bareRow cueRow forRow rowOf split prefixed startsWith equals isDigit allDigits valueFrom isNatural isNegative isVariable comparisonWord blockWord plainWord wordOf wordsOf nextLines nestRow opens ends treeOf build builtRow loopHead plainRow closes inFront snoc verdict andThen loopsVerdict asked loopVerdict known moving keeps suits hasFigure blocksVerdict tickLimit ticks price loopTicks led turnsOf innerOf outerOf misses soleWay tripBy isAdd behind soleRow soleOf whileTurns climb atTest atStart loopEnv insideRange outsideRange byStep bounds edge stepFrom then rowStep sourceStep changeStep assigns sets afterRow sourceRange applied lowest highest minZ maxZ clamp limitWay difference lineTexts nextTexts Frames.onward isMark upToMark fromMark atom ahead afterTerm afterFactor close factorOf expression readExpression atEnd parse depth operators turnOf asksSize asksLeaves meaning later sum Frames.total sumOver sums firstPass triangle turnsIn overPasses firstEnd equalEnds toward holdWay wayOf framesReply fitting counted covered cutParts readiness enters joins Calls.storeVerdict playedBy lasts due answers playedAt playedAs countsOf Calls.loopRows Calls.isLoop storeList most together takes Frames.afterFrames frameFrom runsOn stopped leftOf ticksOf next RowMachine.onRow onEnd tests paid RowMachine.outcome begin turn pairs pairRow push RowMachine.closesRow rank exec charge choose write value result compares decide tried thenParse wordsRow viewOf withLast
 the-frames = refl
 
 -- a store that is wrong in script 0 comes before a file that is wrong in script 1
 the-first-no : framesReply Calls.fourOnes 1_024 (lent the-file (pos 3 ∷ (pos 1 ∷ [])) (length the-file ∷ (0 ∷ [])) (2 ∷ (0 ∷ [])) (0 ∷ (0 ∷ []))) 20 ≡ FramesReply.refuses 15 0
-unfolding the-file Calls.judged Calls.judgedPriced Calls.pricesVerdict Calls.judgedFile Calls.judgedBy fileScript linesScript rangePart rowPart scriptLine countLine rangeLines rowLines rowLine placed lastLine File.andThen unless asksRest asksClosed asksRange asksOrder asksFor firstRefusal rangeWords checked bareRow cueRow forRow rowOf split prefixed startsWith equals isDigit allDigits valueFrom isNatural isNegative isVariable comparisonWord blockWord plainWord wordOf wordsOf nextLines nestRow opens ends treeOf build onRow loopHead plainRow closes inFront snoc verdict andThen loopsVerdict asked loopVerdict known moving keeps suits hasFigure blocksVerdict tickLimit ticks price loopTicks led turnsOf innerOf outerOf misses soleWay tripBy isAdd behind soleRow soleOf whileTurns climb atTest atStart loopEnv insideRange outsideRange byStep bounds edge stepFrom then rowStep sourceStep changeStep assigns sets afterRow sourceRange applied lowest highest minZ maxZ clamp limitWay difference lineTexts nextTexts Frames.onward isMark upToMark fromMark atom ahead afterTerm afterFactor close factorOf expression readExpression atEnd parse depth operators turnOf asksSize asksLeaves meaning later sum Frames.sum sumOver sums firstPass triangle turnsIn overPasses firstEnd equalEnds toward holdWay wayOf framesReply fitting counted covered cutParts readiness enters joins Calls.storeVerdict playedBy decide tried onward wordsRow viewOf withLast
+unfolding the-file Calls.judged Calls.judgedPriced Calls.pricesVerdict Calls.judgedFile Calls.judgedBy fileScript linesScript rangePart rowPart scriptLine countLine rangeLines rowLines rowLine placed lastLine File.thenLines unless asksRest asksClosed asksRange asksOrder asksFor firstRefusal rangeWords checked bareRow cueRow forRow rowOf split prefixed startsWith equals isDigit allDigits valueFrom isNatural isNegative isVariable comparisonWord blockWord plainWord wordOf wordsOf nextLines nestRow opens ends treeOf build builtRow loopHead plainRow closes inFront snoc verdict andThen loopsVerdict asked loopVerdict known moving keeps suits hasFigure blocksVerdict tickLimit ticks price loopTicks led turnsOf innerOf outerOf misses soleWay tripBy isAdd behind soleRow soleOf whileTurns climb atTest atStart loopEnv insideRange outsideRange byStep bounds edge stepFrom then rowStep sourceStep changeStep assigns sets afterRow sourceRange applied lowest highest minZ maxZ clamp limitWay difference lineTexts nextTexts Frames.onward isMark upToMark fromMark atom ahead afterTerm afterFactor close factorOf expression readExpression atEnd parse depth operators turnOf asksSize asksLeaves meaning later sum Frames.total sumOver sums firstPass triangle turnsIn overPasses firstEnd equalEnds toward holdWay wayOf framesReply fitting counted covered cutParts readiness enters joins Calls.storeVerdict playedBy decide tried thenParse wordsRow viewOf withLast
 the-first-no = refl

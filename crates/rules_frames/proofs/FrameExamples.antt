@@ -14,9 +14,9 @@ use Rattle.rules.specs.declared.Prices.{Prices}
 use Rattle.rules.specs.Scripts.{Script}
 use Rattle.rules.specs.Run.{choose, charge, write, result, exec}
 use Rattle.rules.specs.Answers.{storeList}
-use Rattle.rules_machine.specs.RowMachine.{next, onRow, onEnd, tests, paid, picked, outcome, begin, turn, pairs, pairRow, push, closing, rank, countsOf}
+use Rattle.rules_machine.specs.RowMachine.{next, onRow, onEnd, tests, paid, picked, outcome, begin, turn, pairs, pairRow, push, closesRow, rank, countsOf}
 use Rattle.rules.specs.Calls.{isLoop, loopRows}
-use Rattle.rules_frames.specs.Frames.{stopped, onward, runsOn, Progress, beginning, frameFrom, after, leftOf, ticksOf, takes, together, most, playedAs, playedAt, answers, Lent, partsOf, cutParts, sum, counted, covered, fitting}
+use Rattle.rules_frames.specs.Frames.{stopped, onward, runsOn, Progress, beginning, frameFrom, afterFrames, leftOf, ticksOf, takes, together, most, playedAs, playedAt, answers, Lent, partsOf, cutParts, total, counted, covered, fitting}
 
 -- a cue is dear
 abbrev prices : Prices
@@ -36,18 +36,18 @@ both = beginning chase (pos 0 ∷ (pos 1 ∷ [])) [] ∷ (beginning choice [] []
 
 -- the ticks together in the frames 1, 2, 9 and 10: the chase leaves 1 tick of its first 7, and takes 8 in the second frame
 the-ticks : (together prices 7 both 0 ∷ (together prices 7 both 1 ∷ (together prices 7 both 8 ∷ (together prices 7 both 9 ∷ [])))) ≡ 10 ∷ (8 ∷ (4 ∷ (0 ∷ [])))
-unfolding together takes after frameFrom runsOn onward stopped leftOf ticksOf next onRow onEnd tests paid picked outcome begin turn pairs pairRow push closing rank exec charge choose write value meaning result applied compares tried decide lowest highest viewOf
+unfolding together takes afterFrames frameFrom runsOn onward stopped leftOf ticksOf next onRow onEnd tests paid picked outcome begin turn pairs pairRow push closesRow rank exec charge choose write value meaning result applied compares tried decide lowest highest viewOf
 the-ticks = refl
 
 -- ended in frame 9 and lacking a pick in frame 1; at most 10 ticks in one frame
 the-answers : answers prices 7 both 9
     ≡ record { frame = 9; ending = Ended; row = 6; ticks = 60; used = 0; store = pos 11 ∷ (pos 6 ∷ []); counts = record { row = 0; all = 2; most = 2 } ∷ (record { row = 1; all = 7; most = 6 } ∷ []) }
     ∷ (record { frame = 1; ending = NoPick; row = 1; ticks = 4; used = 0; store = []; counts = [] } ∷ [])
-unfolding answers playedAt playedAs countsOf loopRows isLoop storeList after frameFrom runsOn onward stopped leftOf ticksOf next onRow onEnd tests paid picked outcome begin turn pairs pairRow push closing rank exec charge choose write value meaning result applied compares tried decide lowest highest viewOf
+unfolding answers playedAt playedAs countsOf loopRows isLoop storeList afterFrames frameFrom runsOn onward stopped leftOf ticksOf next onRow onEnd tests paid picked outcome begin turn pairs pairRow push closesRow rank exec charge choose write value meaning result applied compares tried decide lowest highest viewOf
 the-answers = refl
 
 the-most : most prices 7 both 9 ≡ 10
-unfolding most together takes after frameFrom runsOn onward stopped leftOf ticksOf next onRow onEnd tests paid picked outcome begin turn pairs pairRow push closing rank exec charge choose write value meaning result applied compares tried decide lowest highest viewOf
+unfolding most together takes afterFrames frameFrom runsOn onward stopped leftOf ticksOf next onRow onEnd tests paid picked outcome begin turn pairs pairRow push closesRow rank exec charge choose write value meaning result applied compares tried decide lowest highest viewOf
 the-most = refl
 
 -- question 20: what is lent for two scripts, with their lengths
@@ -65,7 +65,7 @@ the-fits : (fitting (lent (2 ∷ (1 ∷ [])) (0 ∷ (2 ∷ [])) (1 ∷ (0 ∷ []
     ∷ (fitting (lent (2 ∷ (1 ∷ [])) (0 ∷ (1 ∷ [])) (1 ∷ (0 ∷ []))) 7 ∷ (fitting (record { files = []; stores = []; picks = []; fileLengths = []; storeLengths = []; pickLengths = [] }) 7
     ∷ (fitting (lent (repeated 8 (3 ∷ [])) (repeated 8 (2 ∷ [])) (repeated 8 (1 ∷ []))) 7 ∷ [])))))))
     ≡ true ∷ (false ∷ (false ∷ (false ∷ (false ∷ (false ∷ (false ∷ []))))))
-unfolding fitting counted covered sum repeated
+unfolding fitting counted covered total repeated
 the-fits = refl
 
 -- cut: the first script has two bytes, no number and a pick

@@ -21,7 +21,7 @@ use Rattle.rules.specs.Answers.{Answer, answer, runTree, storeList, sumAt, most
 use Rattle.rules_machine.specs.RowMachine.{TurnCounts, Place, Next, more, over, steps, start, pairs, rank, Partners, Replies, countsOf}
 use Rattle.rules.specs.Calls.{Judged, accepted, pricesOf, judged, storeVerdict, loopRows, countsAt, runScript}
 use Rattle.rules.specs.Claim.{Unspent, Demand3}
-use Rattle.rules_frames.specs.Frames.{given, Progress, beginning, frameFrom, frameOf, after, leftOf, ticksOf, takes, together, most, due, lasts, playedAs, playedAt, playedOf, answers, Lent, Part, partsOf, counted, covered, fitting, Readiness, ready, joins, enters, readiness, FramesReply, played, playedBy, framesReply}
+use Rattle.rules_frames.specs.Frames.{given, Progress, beginning, frameFrom, frameOf, afterFrames, leftOf, ticksOf, takes, together, most, due, lasts, playedAs, playedAt, playedOf, answers, Lent, ScriptPart, partsOf, counted, covered, fitting, Readiness, ready, joins, enters, readiness, FramesReply, played, playedBy, framesReply}
 use Rattle.rules_frames.specs.InTime.{StandsAs, alone, Done, InTime, dearest, CarriesOn, AsAlone, FramesAsAlone, Accepts, Alone, AllInTime, AllDone, FramesEnd, NoMore}
 use Rattle.rules.proofs.TreeOf.{tree-of}
 use Rattle.rules_machine.proofs.PairsIn.{partners}
@@ -55,17 +55,17 @@ unfolding frameFrom
 frame-done π q n p (more m) h = absurd h
 frame-done π q n p (over e i s c) h = refl
 
-settled : (π : Prices) (q : ℕ) (p : Progress) (n j : ℕ) → Done (after π q p n .stand) → after π q p (j + n) ≡ after π q p n
-unfolding after
-settled π q p n zero h = let e : 0 + n ≡ n = omega arith in ap (after π q p) e
+settled : (π : Prices) (q : ℕ) (p : Progress) (n j : ℕ) → Done (afterFrames π q p n .stand) → afterFrames π q p (j + n) ≡ afterFrames π q p n
+unfolding afterFrames
+settled π q p n zero h = let e : 0 + n ≡ n = omega arith in ap (afterFrames π q p) e
 settled π q p n (suc j) h =
     let e : suc j + n ≡ suc (j + n) = omega arith in
-    ap (after π q p) e
+    ap (afterFrames π q p) e
     ∙ ap (frameOf π q (suc (j + n))) (settled π q p n j h)
-    ∙ frame-done π q (suc (j + n)) (after π q p n) (after π q p n .stand) h
+    ∙ frame-done π q (suc (j + n)) (afterFrames π q p n) (afterFrames π q p n .stand) h
 
-pub settled-at : (π : Prices) (q : ℕ) (p : Progress) (n m : ℕ) → n ≤ m → Done (after π q p n .stand) → after π q p m ≡ after π q p n
-settled-at π q p n m l h = let e : m ≡ (m - n) + n = omega arith in ap (after π q p) e ∙ settled π q p n (m - n) h
+pub settled-at : (π : Prices) (q : ℕ) (p : Progress) (n m : ℕ) → n ≤ m → Done (afterFrames π q p n .stand) → afterFrames π q p m ≡ afterFrames π q p n
+settled-at π q p n m l h = let e : m ≡ (m - n) + n = omega arith in ap (afterFrames π q p) e ∙ settled π q p n (m - n) h
 
 -- the counts of a tally that has counted the entries
 counts-same : (c : TurnCounts) (es : List Entry) (ps : List ℕ) → ((p : ℕ) → c .sum p ≡ sumAt p es) → ((p : ℕ) → c .most p ≡ mostAt p es) → countsOf c ps ≡ countsAt es ps
@@ -161,8 +161,8 @@ module _ (π : Prices) (one : 1 ≤ π .test) (script : Script) (ok : Accepted �
     stage-frame k _ (runs-yet {m = m} h) = stage-at k (k * q + q) _ (sym (suc-mul k q)) (resumes π one rows matching-end matching-head fit _ m q h)
     stage-frame k _ (is-over l m h) = is-over l (omega arith) h
 
-    stage : (n : ℕ) → Stage n (after π q (beginning script store picks) n)
-    unfolding after
+    stage : (n : ℕ) → Stage n (afterFrames π q (beginning script store picks) n)
+    unfolding afterFrames
     stage zero = before refl
     stage (suc n) = stage-frame n _ (stage n)
 
@@ -234,7 +234,7 @@ module _ (π : Prices) (one : 1 ≤ π .test) (script : Script) (ok : Accepted �
     stage-first k n _ l (is-over first last r) f m = absurd (omega (arith, f (stage-stands n _ l (is-over first last r) .0)))
 
     abbrev played-for : ℕ → Progress
-    played-for n = after π q (beginning script store picks) n
+    played-for n = afterFrames π q (beginning script store picks) n
 
     stage-in-time : (n : ℕ) → due q (reportTicks π script) ≤ n → InTime π q script store picks (played-for n)
     stage-in-time n is-moved =
@@ -247,7 +247,7 @@ module _ (π : Prices) (one : 1 ≤ π .test) (script : Script) (ok : Accepted �
         (record { finished = d; frame = (f, l); first = λ m some-m less. stage-first _ m _ some-m (stage m) (same-frame m (omega arith)) less; same = e })
 
     as-alone : (n : ℕ) → AsAlone π script store picks q n (played-for n)
-    unfolding after
+    unfolding afterFrames
     as-alone n = record {
       stands = λ l. stage-stands n _ l (stage n);
       ticks = omega (arith, stage-ticks n _ (stage n), stage-ticks (suc n) _ (stage-frame n _ (stage n)), stage-takes n _ (stage n));
@@ -270,33 +270,33 @@ module _ (prices : List ℕ) (scratch q : ℕ) (tick : 1 ≤ q) where
   abbrev π : Prices
   π = pricesOf prices
 
-  of-part : (h : Part) (script : Script) → judged prices scratch (h .file) ≡ accepted script → storeVerdict 0 (script .ranges) (h .store) ≡ passed
-      → (n : ℕ) → AsAlone π script (h .store) (h .picks) q n (after π q (beginning script (h .store) (h .picks)) n)
+  of-part : (h : ScriptPart) (script : Script) → judged prices scratch (h .file) ≡ accepted script → storeVerdict 0 (script .ranges) (h .store) ≡ passed
+      → (n : ℕ) → AsAlone π script (h .store) (h .picks) q n (afterFrames π q (beginning script (h .store) (h .picks)) n)
   of-part h script e v n =
       let f = file-accepted prices scratch (h .file) script e in
       as-alone π (test-priced prices (f .priced)) script (f .script-accepted) (h .store) (store-in script (h .store) v) (h .picks) q tick n
 
-  answers-alone : {hs : List Part} {ps : List Progress} → Accepts prices scratch hs ps → (n : ℕ) → lasts π q ps ≤ n → Alone π q hs ps (answers π q ps n)
+  answers-alone : {hs : List ScriptPart} {ps : List Progress} → Accepts prices scratch hs ps → (n : ℕ) → lasts π q ps ≤ n → Alone π q hs ps (answers π q ps n)
   unfolding answers lasts
   answers-alone Accepts.none n l = Alone.none
   answers-alone (Accepts.some {h = h} {script = script} e v rest) n l =
       let t = of-part h script e v n .in-time (omega arith) in
       rw (t .same) (Alone.some (t .frame .0) (t .frame .1) (answers-alone rest n (omega arith)))
 
-  all-done : {hs : List Part} {ps : List Progress} → Accepts prices scratch hs ps → (n : ℕ) → lasts π q ps ≤ n → AllDone π q ps n
+  all-done : {hs : List ScriptPart} {ps : List Progress} → Accepts prices scratch hs ps → (n : ℕ) → lasts π q ps ≤ n → AllDone π q ps n
   unfolding lasts
   all-done Accepts.none n l = none
   all-done (Accepts.some {h = h} {script = script} e v rest) n l = some (of-part h script e v n .in-time (omega arith) .finished) (all-done rest n (omega arith))
 
-  together-takes : {hs : List Part} {ps : List Progress} → Accepts prices scratch hs ps → (n : ℕ) → together π q ps n ≤ length ps * (q + dearest π)
+  together-takes : {hs : List ScriptPart} {ps : List Progress} → Accepts prices scratch hs ps → (n : ℕ) → together π q ps n ≤ length ps * (q + dearest π)
   unfolding together
   together-takes Accepts.none n = omega arith
   together-takes (Accepts.some {h = h} {ps = ps} {script = script} e v rest) n =
-      let p : ℕ → Progress = after π q (beginning script (h .store) (h .picks)) in
+      let p : ℕ → Progress = afterFrames π q (beginning script (h .store) (h .picks)) in
       let one-more = takes-most π (length (script .rows)) (n * q) q (p n .stand) (p (suc n) .stand) (of-part h script e v n .carries) in
       omega (arith, together-takes rest n, suc-mul (length ps) (q + dearest π))
 
-  most-takes : {hs : List Part} {ps : List Progress} → Accepts prices scratch hs ps → (n : ℕ) → most π q ps n ≤ length ps * (q + dearest π)
+  most-takes : {hs : List ScriptPart} {ps : List Progress} → Accepts prices scratch hs ps → (n : ℕ) → most π q ps n ≤ length ps * (q + dearest π)
   unfolding most
   most-takes h zero = omega arith
   most-takes h (suc n) = omega (arith, together-takes h n, most-takes h n)
@@ -323,8 +323,8 @@ together-settled π q n m l (p ∷ ps) (some d ds) =
     omega (
       arith,
       together-settled π q n m l ps ds,
-      ap (λ (r : Progress). takes q (r .stand) (after π q p (suc m) .stand)) (settled-at π q p n m l d),
-      takes-none q (after π q p n .stand) (after π q p (suc m) .stand) d,
+      ap (λ (r : Progress). takes q (r .stand) (afterFrames π q p (suc m) .stand)) (settled-at π q p n m l d),
+      takes-none q (afterFrames π q p n .stand) (afterFrames π q p (suc m) .stand) d,
     )
 
 most-settled : (π : Prices) (q n j : ℕ) (ps : List Progress) → AllDone π q ps n → most π q ps (j + n) ≡ most π q ps n
@@ -344,7 +344,7 @@ refuses-not n p ps e = absurd (let z : _≡_ {A = ℕ} 0 1 = cc in omega arith)
 
 module _ (prices : List ℕ) (scratch : ℕ) where
   -- one script more
-  module _ (h : Part) (hs : List Part) (ps : List Progress) (script : Script) (yes-13 : judged prices scratch (h .file) ≡ accepted script) where
+  module _ (h : ScriptPart) (hs : List ScriptPart) (ps : List Progress) (script : Script) (yes-13 : judged prices scratch (h .file) ≡ accepted script) where
     joins-accepts : (v : Verdict) → storeVerdict 0 (script .ranges) (h .store) ≡ v → (rest : Readiness) → ((qs : List Progress) → rest ≡ ready qs → Accepts prices scratch hs qs)
         → joins script v h rest ≡ ready ps → Accepts prices scratch (h ∷ hs) ps
     unfolding joins
@@ -354,14 +354,14 @@ module _ (prices : List ℕ) (scratch : ℕ) where
     joins-accepts passed v (Readiness.refuses n p) ih e = refuses-not n p ps e
     joins-accepts (refused n p) v rest ih e = refuses-not n p ps e
 
-  enters-accepts : (h : Part) (hs : List Part) (ps : List Progress) (j : Judged) → judged prices scratch (h .file) ≡ j → ((qs : List Progress) → readiness prices scratch hs ≡ ready qs → Accepts prices scratch hs qs)
+  enters-accepts : (h : ScriptPart) (hs : List ScriptPart) (ps : List Progress) (j : Judged) → judged prices scratch (h .file) ≡ j → ((qs : List Progress) → readiness prices scratch hs ≡ ready qs → Accepts prices scratch hs qs)
       → enters j h (readiness prices scratch hs) ≡ ready ps → Accepts prices scratch (h ∷ hs) ps
   unfolding enters
   enters-accepts h hs ps (accepted script) r ih e = joins-accepts h hs ps script r _ refl (readiness prices scratch hs) ih e
   enters-accepts h hs ps (Judged.refuses n p) r ih e = refuses-not n p ps e
 
   -- the scripts that play are accepted, each with its store
-  pub cast-accepts : (hs : List Part) (ps : List Progress) → readiness prices scratch hs ≡ ready ps → Accepts prices scratch hs ps
+  pub cast-accepts : (hs : List ScriptPart) (ps : List Progress) → readiness prices scratch hs ≡ ready ps → Accepts prices scratch hs ps
   unfolding readiness
   cast-accepts [] ps e = let same : [] ≡ ps = cc in subst (Accepts prices scratch []) same Accepts.none
   cast-accepts (h ∷ hs) ps e = enters-accepts h hs ps _ refl (λ qs r. cast-accepts hs qs r) e

@@ -74,9 +74,9 @@ abbrev pub frameOf : Prices → ℕ → ℕ → Progress → Progress
 frameOf π q n p = frameFrom π q n p (p .stand)
 
 -- a script after n frames
-unfoldable pub after : Prices → ℕ → Progress → ℕ → Progress
-after π q p zero = p
-after π q p (suc n) = frameOf π q (suc n) (after π q p n)
+unfoldable pub afterFrames : Prices → ℕ → Progress → ℕ → Progress
+afterFrames π q p zero = p
+afterFrames π q p (suc n) = frameOf π q (suc n) (afterFrames π q p n)
 
 -- what is left
 unfoldable pub leftOf : Next → ℕ
@@ -94,7 +94,7 @@ takes q (over e i s c) b = 0
 
 -- in frame n + 1
 abbrev pub ticksIn : Prices → ℕ → Progress → ℕ → ℕ
-ticksIn π q p n = takes q (after π q p n .stand) (after π q p (suc n) .stand)
+ticksIn π q p n = takes q (afterFrames π q p n .stand) (afterFrames π q p (suc n) .stand)
 
 -- ---- all scripts
 -- the ticks that all together take in frame n + 1
@@ -151,7 +151,7 @@ playedOf q p = playedAt q p (p .stand)
 -- the answers after n frames
 unfoldable pub answers : Prices → ℕ → List Progress → ℕ → List Played
 answers π q [] n = []
-answers π q (p ∷ ps) n = playedOf q (after π q p n) ∷ answers π q ps n
+answers π q (p ∷ ps) n = playedOf q (afterFrames π q p n) ∷ answers π q ps n
 
 -- ---- the call
 -- "files, stores and picks are each lent end to end with a list of their lengths"
@@ -164,13 +164,13 @@ pub record Lent : Type 0 where
   pub pickLengths : List ℕ
 
 -- one script's part of it
-pub record Part : Type 0 where
+pub record ScriptPart : Type 0 where
   pub file : List ℕ
   pub store : List ℤ
   pub picks : List ℕ
 
 -- cut by the lengths
-unfoldable pub cutParts : List ℕ → List ℕ → List ℕ → List ℕ → List ℤ → List ℕ → List Part
+unfoldable pub cutParts : List ℕ → List ℕ → List ℕ → List ℕ → List ℤ → List ℕ → List ScriptPart
 cutParts [] ss ps files stores picks = []
 cutParts (f ∷ fs) [] ps files stores picks = []
 cutParts (f ∷ fs) (s ∷ ss) [] files stores picks = []
@@ -178,13 +178,13 @@ cutParts (f ∷ fs) (s ∷ ss) (p ∷ ps) files stores picks =
     record { file = take f files; store = take s stores; picks = take p picks } ∷ cutParts fs ss ps (drop f files) (drop s stores) (drop p picks)
 
 -- the parts of all scripts
-abbrev pub partsOf : Lent → List Part
+abbrev pub partsOf : Lent → List ScriptPart
 partsOf l = cutParts (l .fileLengths) (l .storeLengths) (l .pickLengths) (l .files) (l .stores) (l .picks)
 
 -- what they add up to
-unfoldable pub sum : List ℕ → ℕ
-sum [] = 0
-sum (n ∷ ns) = n + sum ns
+unfoldable pub total : List ℕ → ℕ
+total [] = 0
+total (n ∷ ns) = n + total ns
 
 -- from a to b
 abbrev pub within : ℕ → ℕ → ℕ → Bool
@@ -196,7 +196,7 @@ counted l = within 1 8 (length (l .fileLengths)) && (eqb (length (l .storeLength
 
 -- that add up to what is lent
 unfoldable pub covered : Lent → Bool
-covered l = eqb (sum (l .fileLengths)) (length (l .files)) && (eqb (sum (l .storeLengths)) (length (l .stores)) && eqb (sum (l .pickLengths)) (length (l .picks)))
+covered l = eqb (total (l .fileLengths)) (length (l .files)) && (eqb (total (l .storeLengths)) (length (l .stores)) && eqb (total (l .pickLengths)) (length (l .picks)))
 
 -- 20 has yes
 unfoldable pub fitting : Lent → ℕ → Bool
@@ -208,18 +208,18 @@ pub data Readiness : Type 0 where
   refuses : ℕ → ℕ → Readiness
 
 -- a script with the answer to its question 15, before the others
-unfoldable pub joins : Script → Verdict → Part → Readiness → Readiness
+unfoldable pub joins : Script → Verdict → ScriptPart → Readiness → Readiness
 joins script passed h (ready ps) = ready (beginning script (h .store) (h .picks) ∷ ps)
 joins script passed h (refuses q p) = refuses q p
 joins script (refused q p) h rest = refuses q p
 
 -- the same with the answer to its questions 1, 16 and 2 to 13
-unfoldable pub enters : Judged → Part → Readiness → Readiness
+unfoldable pub enters : Judged → ScriptPart → Readiness → Readiness
 enters (accepted script) h rest = joins script (storeVerdict 0 (script .ranges) (h .store)) h rest
 enters (Judged.refuses q p) h rest = refuses q p
 
 -- "else the first refused script's own number and place"
-unfoldable pub readiness : List ℕ → ℕ → List Part → Readiness
+unfoldable pub readiness : List ℕ → ℕ → List ScriptPart → Readiness
 readiness prices scratch [] = ready []
 readiness prices scratch (h ∷ hs) = enters (judged prices scratch (h .file)) h (readiness prices scratch hs)
 

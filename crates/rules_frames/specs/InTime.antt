@@ -13,7 +13,7 @@ use Rattle.rules.specs.Answers.{Answer, storeList}
 use Rattle.rules_machine.specs.RowMachine.{Place, Next, more, over, next, pairs, rank, Partners, Replies}
 use Rattle.rules.specs.Calls.{accepted, pricesOf, judged, storeVerdict, loopRows, countsAt, runScript}
 use Rattle.rules.specs.Claim.{Unspent}
-use Rattle.rules_frames.specs.Frames.{runsOn, given, Progress, beginning, after, ticksIn, most, due, lasts, Played, playedOf, answers, Lent, Part, partsOf, played, framesReply}
+use Rattle.rules_frames.specs.Frames.{runsOn, given, Progress, beginning, afterFrames, ticksIn, most, due, lasts, Played, playedOf, answers, Lent, ScriptPart, partsOf, played, framesReply}
 
 -- For all prices with a test of at least one tick, all rows with their partner rows and all places: what has stopped before a price that did not
 -- fit, and gets d ticks more, comes to stand where it had come with d ticks more from the beginning.
@@ -82,18 +82,18 @@ pub record AsAlone (π : Prices) (script : Script) (store : List ℤ) (picks : L
 unfoldable pub FramesAsAlone : Type 0
 FramesAsAlone =
     (π : Prices) → 1 ≤ π .test → (script : Script) → Accepted π script → (store : List ℤ) → StoreIn script store → (picks : List ℕ) (q n : ℕ) → 1 ≤ q
-    → AsAlone π script store picks q n (after π q (beginning script store picks) n)
+    → AsAlone π script store picks q n (afterFrames π q (beginning script store picks) n)
 
 -- the scripts of the call, each accepted with its store
-pub data Accepts (prices : List ℕ) (scratch : ℕ) : List Part → List Progress → Type 0 where
+pub data Accepts (prices : List ℕ) (scratch : ℕ) : List ScriptPart → List Progress → Type 0 where
   none : Accepts prices scratch [] []
-  some : {h : Part} {hs : List Part} {ps : List Progress} {script : Script} → judged prices scratch (h .file) ≡ accepted script
+  some : {h : ScriptPart} {hs : List ScriptPart} {ps : List Progress} {script : Script} → judged prices scratch (h .file) ≡ accepted script
       → storeVerdict 0 (script .ranges) (h .store) ≡ passed → Accepts prices scratch hs ps → Accepts prices scratch (h ∷ hs) (beginning script (h .store) (h .picks) ∷ ps)
 
 -- the answers to these scripts, each as alone with allowance T
-pub data Alone (π : Prices) (q : ℕ) : List Part → List Progress → List Played → Type 0 where
+pub data Alone (π : Prices) (q : ℕ) : List ScriptPart → List Progress → List Played → Type 0 where
   none : Alone π q [] [] []
-  some : {h : Part} {hs : List Part} {p : Progress} {ps : List Progress} {rs : List Played} {f : ℕ} → 1 ≤ f → f ≤ due q (reportTicks π (p .script)) → Alone π q hs ps rs
+  some : {h : ScriptPart} {hs : List ScriptPart} {p : Progress} {ps : List Progress} {rs : List Played} {f : ℕ} → 1 ≤ f → f ≤ due q (reportTicks π (p .script)) → Alone π q hs ps rs
       → Alone π q (h ∷ hs) (p ∷ ps) (alone π (p .script) (h .store) (h .picks) (reportTicks π (p .script)) f ∷ rs)
 
 -- the same of the whole call
@@ -104,12 +104,12 @@ AllInTime =
 
 -- all are finished after n frames
 abbrev pub AllDone : Prices → ℕ → List Progress → ℕ → Type 0
-AllDone π q ps n = All (λ p. Done (after π q p n .stand)) ps
+AllDone π q ps n = All (λ p. Done (afterFrames π q p n .stand)) ps
 
 -- The loop of frames ends, by the last frame that is due; each frame takes at most q and the dearest price of each script.
 unfoldable pub FramesEnd : Type 0
 FramesEnd =
-    (prices : List ℕ) (scratch q : ℕ) → 1 ≤ q → (hs : List Part) (ps : List Progress) → Accepts prices scratch hs ps → (n : ℕ)
+    (prices : List ℕ) (scratch q : ℕ) → 1 ≤ q → (hs : List ScriptPart) (ps : List Progress) → Accepts prices scratch hs ps → (n : ℕ)
     → let π : Prices = pricesOf prices in
     (lasts π q ps ≤ n → AllDone π q ps n) × (most π q ps n ≤ length ps * (q + dearest π))
 

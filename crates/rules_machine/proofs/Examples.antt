@@ -20,5 +20,5 @@ read-over (over e i s c) = i ∷ (s .left ∷ (c .sum 0 ∷ (c .sum 1 ∷ (c .mo
 
 the-row-run : read-over (steps ones rows (pairs rows 6 .end) (pairs rows 6 .head) 60 (more (start (record { store = storeOf (pos 0 ∷ (pos 1 ∷ [])); left = 32; picks = [] }))))
     ≡ 6 ∷ (0 ∷ (2 ∷ (7 ∷ (2 ∷ (6 ∷ [])))))
-unfolding viewOf steps next RowMachine.onRow onEnd tests paid outcome begin turn pairs pairRow push RowMachine.closing exec charge choose write value result applied compares lowest highest meaning tried decide
+unfolding viewOf steps next RowMachine.onRow onEnd tests paid outcome begin turn pairs pairRow push RowMachine.closesRow exec charge choose write value result applied compares lowest highest meaning tried decide
 the-row-run = refl

@@ -10,7 +10,7 @@ use lib.ListN.{length}
 use Rattle.rules.specs.Values.{put}
 use Rattle.rules.specs.Blocks.{Test, Form, Last, View, is-plain, is-pick, is-else, is-end, is-loop, viewAt, Block, parts, to-end, build, endOf, endAt, RowKind}
 use Rattle.rules.specs.Scripts.{All, none, some}
-use Rattle.rules_machine.specs.RowMachine.{Opens, Partners, Pairs, push, closing, pairRow, pairs}
+use Rattle.rules_machine.specs.RowMachine.{Opens, Partners, Pairs, push, closesRow, pairRow, pairs}
 use Rattle.rules.proofs.Rows.{LoopAt, PickAt, alone, both, block-last, block-plain, block-pick, block-else, block-end, block-loop}
 
 -- the open rows, innermost first, if the innermost part closes at row e: by an `end`, or by an `else` with its `end`
@@ -93,45 +93,45 @@ module _ (rows : List RowKind) (tree : Block) (whole : build 0 rows ≡ parts (t
   -- row j closes row k, the innermost open one
   module _ (j : ℕ) (h : j < length rows) where
     module _ (k : ℕ) (is : List ℕ) (f g : ℕ → ℕ) (l : k < j) (e : endAt rows (suc k) ≡ j) where
-      matching-end-here : Known rows (suc j) (closing j (k ∷ is) f g) k
-      unfolding closing
+      matching-end-here : Known rows (suc j) (closesRow j (k ∷ is) f g) k
+      unfolding closesRow
       matching-end-here =
           let s : put f k j k ≡ j = at-same k j (f k) in
           closed (s ∙ sym e) (ap (put g j k) e ∙ at-same j k (g j)) (omega arith) (omega arith)
 
-      matching-end-known : (i : ℕ) → Known rows j (record { stack = k ∷ is; end = f; head = g }) i → Known rows (suc j) (closing j (k ∷ is) f g) i
-      unfolding closing
+      matching-end-known : (i : ℕ) → Known rows j (record { stack = k ∷ is; end = f; head = g }) i → Known rows (suc j) (closesRow j (k ∷ is) f g) i
+      unfolding closesRow
       matching-end-known i (closed a b c d) = by (ℕ-discrete i k)
         where
-          by : Dec (i ≡ k) → Known rows (suc j) (closing j (k ∷ is) f g) i
-          by (yes q) = subst (λ m. Known rows (suc j) (closing j (k ∷ is) f g) m) (sym q) matching-end-here
+          by : Dec (i ≡ k) → Known rows (suc j) (closesRow j (k ∷ is) f g) i
+          by (yes q) = subst (λ m. Known rows (suc j) (closesRow j (k ∷ is) f g) m) (sym q) matching-end-here
           by (no n) =
               let s : put f k j i ≡ f i = at-other i k j (f i) n in
               closed (s ∙ a) (at-other (endAt rows (suc i)) j k (g (endAt rows (suc i))) (λ z. omega arith) ∙ b) (omega arith) (omega arith)
       matching-end-known i (waits w) = by w refl refl
         where
-          by : {m : ℕ} {ms : List ℕ} → Waits i (m ∷ ms) → m ≡ k → ms ≡ is → Known rows (suc j) (closing j (k ∷ is) f g) i
-          by top q r = subst (λ m. Known rows (suc j) (closing j (k ∷ is) f g) m) (sym q) matching-end-here
+          by : {m : ℕ} {ms : List ℕ} → Waits i (m ∷ ms) → m ≡ k → ms ≡ is → Known rows (suc j) (closesRow j (k ∷ is) f g) i
+          by top q r = subst (λ m. Known rows (suc j) (closesRow j (k ∷ is) f g) m) (sym q) matching-end-here
           by (under w) q r = waits (subst (Waits i) r w)
 
     -- an `end` and an `else` at row j
     closed-end : (st : List ℕ) (f g : ℕ → ℕ) → Chain rows st j → ((i : ℕ) → i < j → Opens (viewAt rows i) → Known rows j (record { stack = st; end = f; head = g }) i)
-        → viewAt rows j ≡ is-end → Paired rows (suc j) (closing j st f g)
-    unfolding closing
+        → viewAt rows j ≡ is-end → Paired rows (suc j) (closesRow j st f g)
+    unfolding closesRow
     closed-end [] f g (bottom q) known r = absurd (omega arith)
     closed-end (k ∷ is) f g (by-end l m e _ c) known r =
         record { chain = c; known = with-row j _ (λ i u o. matching-end-known k is f g l e i (known i u o)) (λ o. absurd (subst Opens r o)) }
     closed-end (k ∷ is) f g (by-else _ _ q _ _ _ _) known r = absurd (let z : _≡_ {A = ℕ} 0 1 = cc in omega arith)
 
     closed-else : (st : List ℕ) (f g : ℕ → ℕ) → Chain rows st j → ((i : ℕ) → i < j → Opens (viewAt rows i) → Known rows j (record { stack = st; end = f; head = g }) i)
-        → viewAt rows j ≡ is-else → Paired rows (suc j) (push j (closing j st f g))
-    unfolding closing push
+        → viewAt rows j ≡ is-else → Paired rows (suc j) (push j (closesRow j st f g))
+    unfolding closesRow push
     closed-else [] f g (bottom q) known r = absurd (omega arith)
     closed-else (k ∷ is) f g (by-end _ _ _ q _) known r = absurd (let z : _≡_ {A = ℕ} 0 1 = cc in omega arith)
     closed-else (k ∷ is) f g (by-else l e _ l′ m′ r′ c) known r =
         record { chain = by-end l′ m′ refl r′ c; known = with-row j _ (λ i u o. under-it i (matching-end-known k is f g l e i (known i u o))) (λ o. waits top) }
       where
-        under-it : (i : ℕ) → Known rows (suc j) (closing j (k ∷ is) f g) i → Known rows (suc j) (push j (closing j (k ∷ is) f g)) i
+        under-it : (i : ℕ) → Known rows (suc j) (closesRow j (k ∷ is) f g) i → Known rows (suc j) (push j (closesRow j (k ∷ is) f g)) i
         under-it i (waits w) = waits (under w)
         under-it i (closed a b c d) = closed a b c d
 
@@ -183,8 +183,8 @@ module _ (R : ℕ) where
   unfolding push
   push-in j p l h = record { stacked = some l (h .stacked); matching-end-in = h .matching-end-in; matching-head-in = h .matching-head-in }
 
-  closing-in : (j : ℕ) (st : List ℕ) (f g : ℕ → ℕ) → j < R → Inside R (record { stack = st; end = f; head = g }) → Inside R (closing j st f g)
-  unfolding closing
+  closing-in : (j : ℕ) (st : List ℕ) (f g : ℕ → ℕ) → j < R → Inside R (record { stack = st; end = f; head = g }) → Inside R (closesRow j st f g)
+  unfolding closesRow
   closing-in j [] f g l h = h
   closing-in j (i ∷ is) f g l h = by (h .stacked)
     where

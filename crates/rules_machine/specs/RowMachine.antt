@@ -171,16 +171,16 @@ unfoldable pub push : ℕ → Pairs → Pairs
 push j p = record { stack = j ∷ p .stack; end = p .end; head = p .head }
 
 -- row j closes the innermost open row
-unfoldable pub closing : ℕ → List ℕ → (ℕ → ℕ) → (ℕ → ℕ) → Pairs
-closing j [] f g = record { stack = []; end = f; head = g }
-closing j (i ∷ is) f g = record { stack = is; end = put f i j; head = put g j i }
+unfoldable pub closesRow : ℕ → List ℕ → (ℕ → ℕ) → (ℕ → ℕ) → Pairs
+closesRow j [] f g = record { stack = []; end = f; head = g }
+closesRow j (i ∷ is) f g = record { stack = is; end = put f i j; head = put g j i }
 
 -- row j
 unfoldable pub pairRow : View → ℕ → Pairs → Pairs
 pairRow (is-plain p) j ps = ps
 pairRow is-pick j ps = push j ps
-pairRow is-else j ps = push j (closing j (ps .stack) (ps .end) (ps .head))
-pairRow is-end j ps = closing j (ps .stack) (ps .end) (ps .head)
+pairRow is-else j ps = push j (closesRow j (ps .stack) (ps .end) (ps .head))
+pairRow is-end j ps = closesRow j (ps .stack) (ps .end) (ps .head)
 pairRow (is-loop form test last) j ps = push j ps
 
 -- after j rows

@@ -6,7 +6,7 @@ use Rattle.rules.specs.Expressions.{meaning}
 use Rattle.rules.specs.declared.Comparison.the-variants.{Less}
 use Rattle.rules.specs.declared.Change.the-variants.{Add}
 use Rattle.rules.specs.Values.{lowest, highest, applied}
-use Rattle.rules.specs.Blocks.{viewOf, snoc, inFront, withLast, loopHead, plainRow, closes, onRow, build, Move, Cue, End, While}
+use Rattle.rules.specs.Blocks.{viewOf, snoc, inFront, withLast, loopHead, plainRow, closes, builtRow, build, Move, Cue, End, While}
 use Rattle.rules_steps.specs.Joins.{then}
 use Rattle.rules.specs.Steps.{sets, assigns, changeStep, sourceStep, rowStep, stepFrom, equalEnds, isAdd, behind, soleRow, soleOf, difference}
 use Rattle.rules.specs.Ranges.{bounds, sourceRange, afterRow, atStart, edge, insideRange, byStep, outsideRange}
@@ -40,7 +40,7 @@ season-text : Season.sheetText (Season.sheetOf a-season) ≡
     116 ∷ 105 ∷ 99 ∷ 107 ∷ 115 ∷ 61 ∷ 54 ∷ 52 ∷ 10 ∷
     103 ∷ 114 ∷ 101 ∷ 97 ∷ 116 ∷ 101 ∷ 115 ∷ 116 ∷ 61 ∷ 51 ∷ 50 ∷ 10 ∷
     103 ∷ 114 ∷ 111 ∷ 117 ∷ 112 ∷ 115 ∷ 61 ∷ 49 ∷ 10 ∷ []
-unfolding a-season Season.sheetText Season.sheetOf Season.scriptsOf Season.refusalsOf Season.met Season.sumOfTicks Season.mostTicks Season.firsts Season.among Season.sameGroup Season.numberLines equals scriptReport reportText keyLine loopLine loopLines joined decimal decimalIn sign size stepName firstEnd secondEnd exactName treeOf build onRow loopHead plainRow closes inFront snoc lines ticks price loopTicks led turnsOf innerOf outerOf misses soleWay tripBy isAdd behind soleRow soleOf whileTurns climb atTest equalEnds atStart loopEnv insideRange outsideRange byStep bounds edge stepFrom then rowStep sourceStep changeStep assigns sets afterRow sourceRange applied lowest highest minZ maxZ clamp limitWay difference meaning totalOf inBody later sum sumOver sums firstPass triangle turnsIn overPasses viewOf withLast toward holdWay wayOf Season.sameReport Season.cuesOf Season.cueOf
+unfolding a-season Season.sheetText Season.sheetOf Season.scriptsOf Season.refusalsOf Season.met Season.sumOfTicks Season.mostTicks Season.firsts Season.among Season.sameGroup Season.numberLines equals scriptReport reportText keyLine loopLine loopLines joined decimal decimalIn sign size stepName firstEnd secondEnd exactName treeOf build builtRow loopHead plainRow closes inFront snoc lines ticks price loopTicks led turnsOf innerOf outerOf misses soleWay tripBy isAdd behind soleRow soleOf whileTurns climb atTest equalEnds atStart loopEnv insideRange outsideRange byStep bounds edge stepFrom then rowStep sourceStep changeStep assigns sets afterRow sourceRange applied lowest highest minZ maxZ clamp limitWay difference meaning totalOf inBody later sum sumOver sums firstPass triangle turnsIn overPasses viewOf withLast toward holdWay wayOf Season.sameReport Season.cuesOf Season.cueOf
 season-text = refl
 
 -- ---- change 13: a rain and a fire of equal length

@@ -31,8 +31,8 @@ holdsZero [] = false
 holdsZero (b ∷ bs) = eqb b 0 || holdsZero bs
 
 -- a name that is not "empty, over 255 bytes", and holds no 0 byte
-unfoldable pub opens : List ℕ → Bool
-opens name = leb 1 (length name) && (leb (length name) 255 && not (holdsZero name))
+unfoldable pub goodName : List ℕ → Bool
+goodName name = leb 1 (length name) && (leb (length name) 255 && not (holdsZero name))
 
 -- ---- the sheet
 -- what the questions say of each file, with "four ones as prices"; every scratch that question 1 passes gives the same

@@ -9,7 +9,7 @@ use Rattle.rules_steps.specs.declared.Step.{Step}
 use Rattle.rules_steps.specs.declared.Step.the-variants.{Add, Grow, Shrink, Unknown}
 use Rattle.rules_steps.specs.declared.Two.{Two}
 use Rattle.rules_steps.specs.declared.Two.the-variants.{Adds, Grows, Shrinks, Mixture}
-use Rattle.rules_steps.specs.Joins.{stands, cap, product, then, either}
+use Rattle.rules_steps.specs.Joins.{stands, factorLimit, product, then, either}
 use Rattle.rules_steps.specs.Ends.{Near, Factors, EndsWithin}
 use Rattle.rules_steps.specs.Joins.{twoOf}
 
@@ -21,7 +21,7 @@ TwoEnds n m (Shrinks f g h k) = Factors f g × Factors h k
 TwoEnds n m Mixture = Unit {0}
 
 one-fits : Factors 1 1
-unfolding cap
+unfolding factorLimit
 one-fits = record { first = omega arith; second = omega arith }
 
 -- the ends of two steps of one kind, or of a mixture
@@ -58,11 +58,11 @@ eitherTwo (Shrinks f g h k) = Shrink (min f h) (max g k)
 eitherTwo Mixture = Unknown
 
 -- a factor times 1
-one-left : (f : ℕ) → f ≤ cap → product 1 f ≡ f
+one-left : (f : ℕ) → f ≤ factorLimit → product 1 f ≡ f
 unfolding product
 one-left f h = omega arith
 
-one-right : (f : ℕ) → f ≤ cap → product f 1 ≡ f
+one-right : (f : ℕ) → f ≤ factorLimit → product f 1 ≡ f
 unfolding product
 one-right f h = omega arith
 

@@ -3,7 +3,7 @@ use Prim.Native.Nat.{ℕ, _*_, _≤_}
 use lib.IntN.{ℤ, pos, negℤ}
 use lib.Signed.{_≤ℤ_}
 use Rattle.rules_steps.specs.declared.Step.{Step}
-use Rattle.rules_steps.specs.Joins.{cap}
+use Rattle.rules_steps.specs.Joins.{factorLimit}
 
 -- a number within n times L of 0
 pub record Near (n : ℕ) (z : ℤ) : Type 0 where
@@ -12,8 +12,8 @@ pub record Near (n : ℕ) (z : ℤ) : Type 0 where
 
 -- two factors, not above the cap
 pub record Factors (f g : ℕ) : Type 0 where
-  pub first : f ≤ cap
-  pub second : g ≤ cap
+  pub first : f ≤ factorLimit
+  pub second : g ≤ factorLimit
 
 -- the ends of a step that n rows make
 abbrev pub EndsWithin : ℕ → Step → Type 0

@@ -24,12 +24,12 @@ isStill (Shrink f g) = false
 isStill Unknown = false
 
 -- "A factor above 2,000,000,001 counts as that number"
-unfoldable pub cap : ℕ
-cap = 2_000_000_001
+unfoldable pub factorLimit : ℕ
+factorLimit = 2_000_000_001
 
 -- "Grow ends multiplied, Shrink likewise"
 unfoldable pub product : ℕ → ℕ → ℕ
-product f g = min (f * g) cap
+product f g = min (f * g) factorLimit
 
 -- "In sequence": Add ends are summed, factors multiplied; "Add[0,0] is neutral except that Unknown stays Unknown; anything else is Unknown"
 unfoldable pub then : Step → Step → Step

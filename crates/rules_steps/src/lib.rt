@@ -6,7 +6,7 @@ use min_max::smaller;
 ghost use mathlib.Core.Path.{_≡_};
 ghost use mathlib.Core.Bool.{cond};
 ghost use Prim.Native.Nat.{_≤_};
-ghost use Rattle.rules_steps.specs.Joins.{isStill, cap, product, then, either, twoOf};
+ghost use Rattle.rules_steps.specs.Joins.{isStill, factorLimit, product, then, either, twoOf};
 ghost use Rattle.rules_steps.specs.Ends.{EndsWithin};
 
 // How a variable moves in one turn: the least and the most change, a factor, a divisor, or not known.
@@ -96,7 +96,7 @@ const CAP: u64 = 2_000_000_001;
 
 // The product of two factors.
 fn product(f: u64, g: u64) -> u64
-    requires { ⌜ (f ≤ cap) × (g ≤ cap) ⌝ }
+    requires { ⌜ (f ≤ factorLimit) × (g ≤ factorLimit) ⌝ }
     ensures { λ r. ⌜ r ≡ product f g ⌝ }
 {
     let p = f * g;

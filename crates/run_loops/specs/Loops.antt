@@ -33,13 +33,13 @@ pub record Listable (rows : List Row) (count : ℕ) : Type 0 where
   pub closed : (n : ℕ) × (nestRows (take count (kindsOf text rows)) (record { open-blocks = []; loops = 0 }) ≡ nest [] n)
 
 -- at most 16 of them, each among 256 rows
-pub record Placed (h : Heads) : Type 0 where
+pub record FewHeads (h : Heads) : Type 0 where
   pub few : h .count ≤ 16
   pub small : (k : ℕ) → k < h .count → getD (h .rows) k 0 < 256
 
 -- the head rows of the loops
 pub record Headed (rows : List RowKind) (h : Heads) : Type 0 where
-  pub placed : Placed h
+  pub placed : FewHeads h
   pub heads : take (h .count) (h .rows) ≡ loopRows 0 rows
 
 -- loops with these head rows, and their counts

@@ -12,7 +12,7 @@ ghost use lib.ListN.{take};
 ghost use Rattle.rules.specs.Blocks.{viewOf, kindOf, kindsOf};
 ghost use Rattle.rules_machine.specs.RowMachine.{tallyOf};
 ghost use Rattle.rules.specs.Calls.{isLoop};
-ghost use Rattle.run_loops.specs.Loops.{withHead, Listable, Placed, Headed, HeadCounts};
+ghost use Rattle.run_loops.specs.Loops.{withHead, Listable, FewHeads, Headed, HeadCounts};
 
 // What stands past the last loop.
 pub const NO_COUNT: LoopCount = LoopCount {
@@ -90,7 +90,7 @@ pub fn heads_of(rows: [Row; 256], count: usize) -> Heads
 
 // These loops, with the counts by row.
 pub fn loops_of(heads: Heads, counts: &[[u64; 3]; 256]) -> Loops
-    requires { ⌜ Placed heads ⌝ }
+    requires { ⌜ FewHeads heads ⌝ }
     ensures { λ r. ⌜ HeadCounts (take (heads .count) (heads .rows)) (tallyOf (now (counts .entry))) r ⌝ }
 {
     let mut listed = [NO_COUNT; 16];

@@ -7,7 +7,7 @@ use native.Mathlib.Omega.{arith}
 use lib.ListN.{length, getD, set, replicate}
 use lib.Seq.{getD-set-same, getD-set-other}
 use Rattle.rules.specs.Blocks.{RowKind}
-use Rattle.rules_machine.specs.RowMachine.{Pairs, push, closing, pairs}
+use Rattle.rules_machine.specs.RowMachine.{Pairs, push, closesRow, pairs}
 use Rattle.rules.proofs.Laws.{put-set}
 use Rattle.run_pairs.specs.Tables.{stackOf, tableOf}
 
@@ -32,20 +32,20 @@ pushed st f g d j h =
     let b = stack-set st d j d (omega arith) in
     ap (λ n. table (stackOf (set st d j) n) f g) (add-one d) ∙ (λ i. table (a i ∷ b i) f g)
 
-pub closed-none : (st : List ℕ) (d j : ℕ) (f g : ℕ → ℕ) → d ≡ 0 → table (stackOf st d) f g ≡ closing j (stackOf st d) f g
-unfolding closing stackOf
+pub closed-none : (st : List ℕ) (d j : ℕ) (f g : ℕ → ℕ) → d ≡ 0 → table (stackOf st d) f g ≡ closesRow j (stackOf st d) f g
+unfolding closesRow stackOf
 closed-none st d j f g e = rw e refl
 
 pub closed-top : (st sh op : List ℕ) (d j : ℕ) → (d ≡ 0 → ⊥) → getD st (d - 1) 0 < length sh → j < length op
-    → table (stackOf st (d - 1)) (tableOf (set sh (getD st (d - 1) 0) j)) (tableOf (set op j (getD st (d - 1) 0))) ≡ closing j (stackOf st d) (tableOf sh) (tableOf op)
-unfolding closing stackOf
+    → table (stackOf st (d - 1)) (tableOf (set sh (getD st (d - 1) 0) j)) (tableOf (set op j (getD st (d - 1) 0))) ≡ closesRow j (stackOf st d) (tableOf sh) (tableOf op)
+unfolding closesRow stackOf
 closed-top st sh op zero j n h k = absurd (n refl)
 closed-top st sh op (suc d) j n h k =
     let e : suc d - 1 ≡ d = omega arith in
     let i = getD st (suc d - 1) 0 in
     let a = put-set sh i j 0 h in
     let b = put-set op j i 0 k in
-    (λ t. table (stackOf st (e t)) (a t) (b t)) ∙ (λ t. closing j (getD st (e t) 0 ∷ stackOf st d) (tableOf sh) (tableOf op))
+    (λ t. table (stackOf st (e t)) (a t) (b t)) ∙ (λ t. closesRow j (getD st (e t) 0 ∷ stackOf st d) (tableOf sh) (tableOf op))
 
 -- no row has a partner yet
 zero-at : (n i : ℕ) → _≡_ {A = ℕ} (getD (replicate n 0) i 0) 0

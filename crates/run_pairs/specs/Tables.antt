@@ -5,7 +5,7 @@ use Prim.Native.Nat.{ℕ, zero, suc, _≤_}
 use lib.ListN.{length, getD}
 use Rattle.rules.specs.declared.Kind.{Kind}
 use Rattle.rules.specs.Blocks.{RowKind, viewOf, kindOf}
-use Rattle.rules_machine.specs.RowMachine.{Pairs, push, closing, pairRow, pairs}
+use Rattle.rules_machine.specs.RowMachine.{Pairs, push, closesRow, pairRow, pairs}
 use Rattle.run_pairs.specs.declared.Tables.{Tables}
 
 -- the first n numbers of an array, the last one first
@@ -32,7 +32,7 @@ pub record Pushed (j depth : ℕ) (stack : List ℕ) (r : ℕ) (stack′ : List 
 
 -- row j closes the innermost open row
 pub record RowCloses (j depth : ℕ) (matching-end matching-head stack : List ℕ) (r : ℕ) (matching-end′ matching-head′ : List ℕ) : Type 0 where
-  pub same : pairsOf matching-end′ matching-head′ stack r ≡ closing j (stackOf stack depth) (tableOf matching-end) (tableOf matching-head)
+  pub same : pairsOf matching-end′ matching-head′ stack r ≡ closesRow j (stackOf stack depth) (tableOf matching-end) (tableOf matching-head)
   pub deep : r ≤ j
 
 -- row j, of kind k

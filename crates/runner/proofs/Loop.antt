@@ -29,7 +29,7 @@ use Rattle.run_actions.specs.declared.Status.{Status}
 use Rattle.run_actions.specs.declared.Status.the-variants.{Going, Over}
 use Rattle.run_actions.specs.States.{phaseOf, stateOf, placeOf, byStatus, nextOf, andTests, endTo, rowTo, restBy, endRest, rowRest, isGoing, overAt, Room, Doable, Fitting, StepsIn}
 use Rattle.runner.proofs.StepGives.{Gives, gives-more, step-gives}
-use Rattle.runner.specs.Runs.{Runnable, RoomToCount, roomy-over, roomy-more, MayStep, RunOver, Finished}
+use Rattle.runner.specs.Runs.{Runnable, RoomToCount, roomy-over, roomy-more, MayStep, RunOver, RanToEnd}
 
 -- every element by its index
 pub all-index : {A : Type 0} {Q : A → Type 0} (l : List A) (i : ℕ) (d : A) → All Q l → i < length l → Q (getD l i d)
@@ -273,7 +273,7 @@ module _ {text : List ℕ} (π : Prices) (rows : List Row) (count : ℕ) (t : Ta
 
   -- it is over
   pub runs-over : (m : Machine) (store : List ℤ) (counts : List (List ℕ)) → Runs text π rows count t picks m₀ store₀ counts₀ m store counts → isGoing (m .status) ≡ false
-      → Finished π ks t m₀ m store₀ store picks (tallyOf counts₀) (tallyOf counts)
+      → RanToEnd π ks t m₀ m store₀ store picks (tallyOf counts₀) (tallyOf counts)
   runs-over m store counts now off = record { n = now .held .n; same = now .held .same; over = off; came = λ on. now .came on off; left = now .left; used = now .used }
 
   -- it has come this far and is going: the loop may begin there, and what that ends in, the whole ends in
@@ -290,7 +290,7 @@ module _ {text : List ℕ} (π : Prices) (rows : List Row) (count : ℕ) (t : Ta
       used = now .used;
     }
 
-    pub finished-on : (r : Machine) (store′ : List ℤ) (c′ : TurnCounts) → Finished π ks t m r store store′ picks (tallyOf counts) c′ → Finished π ks t m₀ r store₀ store′ picks (tallyOf counts₀) c′
+    pub finished-on : (r : Machine) (store′ : List ℤ) (c′ : TurnCounts) → RanToEnd π ks t m r store store′ picks (tallyOf counts) c′ → RanToEnd π ks t m₀ r store₀ store′ picks (tallyOf counts₀) c′
     finished-on r store′ c′ f =
         let here : (k : ℕ) → steps π ks matching-end matching-head (now .held .n + k) (nextOf m₀ store₀ picks (tallyOf counts₀)) ≡ steps π ks matching-end matching-head k (nextOf m store picks (tallyOf counts))
         = λ k. steps-add π (ready .price) ks matching-end matching-head fit (now .held .n) k (nextOf m₀ store₀ picks (tallyOf counts₀)) ∙ ap (steps π ks matching-end matching-head k) (now .held .same) in

@@ -25,7 +25,7 @@ use Rattle.run_actions.specs.declared.Machine.{Machine}
 use Rattle.run_actions.specs.declared.Status.{Status}
 use Rattle.run_actions.specs.declared.Status.the-variants.{Going, Over}
 use Rattle.run_actions.specs.States.{stateOf, placeOf, byStatus, isGoing}
-use Rattle.runner.specs.Runs.{Runnable, roomy-more, MayStep, Finished}
+use Rattle.runner.specs.Runs.{Runnable, roomy-more, MayStep, RanToEnd}
 use Rattle.runner.specs.Answered.{runOf, Cleared, ranBy, MayRun, Answered}
 use Rattle.runner.proofs.Loop.{partners-of}
 
@@ -96,7 +96,7 @@ module _ {text : List ℕ} (π : Prices) (rows : List Row) (count : ℕ) (full :
   begins = ap (λ c. more (placeOf (startOf allowance) store picks c)) (clear .zero)
 
   module _ (r : Machine) (store′ : List ℤ) (counts′ : List (List ℕ)) (same : length store′ ≡ length store)
-      (done : Finished π (take count (kindsOf text rows)) t (startOf allowance) r store store′ picks (tallyOf counts) (tallyOf counts′)) where
+      (done : RanToEnd π (take count (kindsOf text rows)) t (startOf allowance) r store store′ picks (tallyOf counts) (tallyOf counts′)) where
     abbrev answered : Status → Type 0
     answered s = Answered (runOf π (take count (kindsOf text rows)) store picks allowance) (ranBy s r allowance) (length store) store′ (tallyOf counts′)
 

@@ -21,7 +21,7 @@ use Rattle.run_actions.specs.declared.Machine.{Machine}
 use Rattle.run_actions.specs.declared.Status.{Status}
 use Rattle.run_actions.specs.declared.Status.the-variants.{Going, Over}
 use Rattle.run_actions.specs.States.{phaseOf, stateOf, placeOf, byStatus, nextOf, isGoing, onAt}
-use Rattle.runner.specs.Runs.{MayStep, RunOver, Finished}
+use Rattle.runner.specs.Runs.{MayStep, RunOver, RanToEnd}
 use Rattle.runner.specs.Pauses.{standBy, standOf, withTicks, Waiting, Awaits, no-place, at-place, MayTest, Tested, Paused, RanOn}
 use Rattle.runner.proofs.Loop.{partners-of, going-is, Runs, runs-start, doable, fitting, head-in, runs-step}
 use Rattle.runner.proofs.Awaiting.{waiting-at, is-testing, awaits-steps}
@@ -71,7 +71,7 @@ module _ {text : List ℕ} (π : Prices) (rows : List Row) (count : ℕ) (t : Ta
 
 module _ {text : List ℕ} (π : Prices) (rows : List Row) (count : ℕ) (t : Tables) (q : ℕ) (m : Machine) (store : List ℤ) (picks : List ℕ) (counts : List (List ℕ))
     (paused : Paused text π rows count t q m store picks counts) (r : Machine) (store′ : List ℤ) (counts′ : List (List ℕ))
-    (done : Finished π (take count (kindsOf text rows)) t (withTicks q m) r store store′ picks (tallyOf counts) (tallyOf counts′)) where
+    (done : RanToEnd π (take count (kindsOf text rows)) t (withTicks q m) r store store′ picks (tallyOf counts) (tallyOf counts′)) where
   abbrev ks : List RowKind
   ks = take count (kindsOf text rows)
 

@@ -59,21 +59,21 @@ pub record RanOn (π : Prices) (rows : List RowKind) (q : ℕ) (m r : Machine) (
   pub long : length counts′ ≡ 256
 
 -- the kind of row i
-abbrev pub kindIn : List Row → ℕ → Kind
-kindIn rows i = getD rows i (record { kind = Kind.End }) .kind
+abbrev pub rowKindAt : List Row → ℕ → Kind
+rowKindAt rows i = getD rows i (record { kind = Kind.End }) .kind
 
 -- m waits for a for's test, which can be done
 pub record MayTest (text : List ℕ) (rows : List Row) (t : Tables) (m : Machine) (store : List ℤ) (counts : List (List ℕ)) : Type 0 where
-  pub row : Doable text (tableOf (t .end) (m .row)) (m .row) (kindIn rows (m .row)) store counts
-  pub head : Doable text (m .row) (tableOf (t .head) (m .row)) (kindIn rows (tableOf (t .head) (m .row))) store counts
+  pub row : Doable text (tableOf (t .end) (m .row)) (m .row) (rowKindAt rows (m .row)) store counts
+  pub head : Doable text (m .row) (tableOf (t .head) (m .row)) (rowKindAt rows (tableOf (t .head) (m .row))) store counts
   pub on : m .testing ≡ true
-  pub waits : awaits (viewOf (kindOf text (kindIn rows (m .row)))) (viewOf (kindOf text (kindIn rows (tableOf (t .head) (m .row))))) ≡ true
+  pub waits : awaits (viewOf (kindOf text (rowKindAt rows (m .row)))) (viewOf (kindOf text (rowKindAt rows (tableOf (t .head) (m .row))))) ≡ true
 
 -- it has been done: one step of `rules`' machine, after which no other test is to come
 pub record Tested (text : List ℕ) (π : Prices) (rows : List Row) (t : Tables) (m r : Machine) (store : List ℤ) (c : TurnCounts) (counts′ : List (List ℕ)) : Type 0 where
   pub step : (ks : List RowKind) (picks : List ℕ)
-      → Fitting ks (tableOf (t .end)) (tableOf (t .head)) (m .row) (tableOf (t .end) (m .row)) (tableOf (t .head) (m .row)) (viewOf (kindOf text (kindIn rows (tableOf (t .head) (m .row)))))
-      → StepsIn m r store store picks c (tallyOf counts′) (rowTo π ks (tableOf (t .end)) (tableOf (t .head)) (viewOf (kindOf text (kindIn rows (m .row)))) (m .row) (phaseOf (m .testing)))
-      (rowRest π ks (tableOf (t .end)) (tableOf (t .head)) (viewOf (kindOf text (kindIn rows (m .row)))) (m .row) (phaseOf (m .testing)))
+      → Fitting ks (tableOf (t .end)) (tableOf (t .head)) (m .row) (tableOf (t .end) (m .row)) (tableOf (t .head) (m .row)) (viewOf (kindOf text (rowKindAt rows (tableOf (t .head) (m .row)))))
+      → StepsIn m r store store picks c (tallyOf counts′) (rowTo π ks (tableOf (t .end)) (tableOf (t .head)) (viewOf (kindOf text (rowKindAt rows (m .row)))) (m .row) (phaseOf (m .testing)))
+      (rowRest π ks (tableOf (t .end)) (tableOf (t .head)) (viewOf (kindOf text (rowKindAt rows (m .row)))) (m .row) (phaseOf (m .testing)))
   pub long : length counts′ ≡ 256
   pub fresh : isGoing (r .status) ≡ true → r .testing ≡ false

@@ -53,7 +53,7 @@ pub record RunOver (π : Prices) (rows : List RowKind) (matching-end matching-he
   pub rests : (i : ℕ) → r .status ≡ Over Spent i → (r .row ≡ w .row) × (phaseOf (r .testing) ≡ w .phase)
 
 -- some steps of `rules`' machine lead from m to r, and r is over
-pub record Finished (π : Prices) (rows : List RowKind) (t : Tables) (m r : Machine) (store store′ : List ℤ) (picks : List ℕ) (c c′ : TurnCounts) : Type 0 where
+pub record RanToEnd (π : Prices) (rows : List RowKind) (t : Tables) (m r : Machine) (store store′ : List ℤ) (picks : List ℕ) (c c′ : TurnCounts) : Type 0 where
   pub n : ℕ
   pub same : steps π rows (tableOf (t .end)) (tableOf (t .head)) n (nextOf m store picks c) ≡ nextOf r store′ picks c′
   pub over : isGoing (r .status) ≡ false

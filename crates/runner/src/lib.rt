@@ -12,7 +12,7 @@ ghost use lib.ListN.{length, take};
 ghost use Rattle.rules.specs.Blocks.{kindsOf};
 ghost use Rattle.rules_machine.specs.RowMachine.{tallyOf};
 ghost use Rattle.run_actions.specs.States.{isGoing, onAt};
-ghost use Rattle.runner.specs.Runs.{MayStep, Finished};
+ghost use Rattle.runner.specs.Runs.{MayStep, RanToEnd};
 ghost use Rattle.runner.specs.Pauses.{MayTest, Tested, Paused, RanOn};
 ghost use Rattle.runner.specs.Answered.{Cleared, ranOf, runOf, MayRun, Answered};
 
@@ -40,7 +40,7 @@ pub fn resume(
     counts: &mut [[u64; 3]; 256],
 ) -> Machine
     requires { ⌜ MayStep (now text) prices rows count tables from (now store) (now picks) (now counts) × (onAt from (from .left) (from .row) false ≡ from) ⌝ }
-    ensures { λ r. ⌜ Finished prices (take count (kindsOf (now (text .entry)) rows)) tables from r (now (store .entry)) (now (store .exit)) (now (picks .entry)) (tallyOf (now (counts .entry))) (tallyOf (now (counts .exit))) × (length (now (counts .exit)) ≡ 256) ⌝ }
+    ensures { λ r. ⌜ RanToEnd prices (take count (kindsOf (now (text .entry)) rows)) tables from r (now (store .entry)) (now (store .exit)) (now (picks .entry)) (tallyOf (now (counts .entry))) (tallyOf (now (counts .exit))) × (length (now (counts .exit)) ≡ 256) ⌝ }
 {
     let mut m = run_actions::on(from, from.left, from.row, false);
     while going(m) {

@@ -19,7 +19,7 @@ ghost use Prim.Native.Nat.{_≤_, _<_};
 ghost use lib.ListN.{length};
 ghost use Rattle.rules.specs.Calls.{Judged};
 ghost use Rattle.io.specs.Counts.{Counts};
-ghost use Rattle.season_files.specs.Holds.{Holds, SheetWithRoom};
+ghost use Rattle.season_files.specs.Holds.{SeasonSoFar, SheetWithRoom};
 ghost use Rattle.season.specs.Listed.{Listed, WithOne, SheetOf};
 
 // The names so far: the line that is open, whether more is to be read, and whether a read failed.
@@ -93,7 +93,7 @@ fn add_named(
     cues: &mut [u32],
 ) -> Sheet
     requires { ⌜ (k < 64) × (length (now names) ≡ 16_640) × SheetWithRoom sheet (now counts) (now firsts) (now reports) (now fired) (now cues) ⌝ }
-    ensures { λ r. ⌜ ((js : List Judged) → Holds js sheet (now (counts .entry)) (now (firsts .entry)) (now (reports .entry)) (now (fired .entry)) (now (cues .entry)) → WithOne js r (now (counts .exit)) (now (firsts .exit)) (now (reports .exit)) (now (fired .exit)) (now (cues .exit))) ⌝ }
+    ensures { λ r. ⌜ ((js : List Judged) → SeasonSoFar js sheet (now (counts .entry)) (now (firsts .entry)) (now (reports .entry)) (now (fired .entry)) (now (cues .entry)) → WithOne js r (now (counts .exit)) (now (firsts .exit)) (now (reports .exit)) (now (fired .exit)) (now (cues .exit))) ⌝ }
 {
     let mut file = [0u8; 16_385];
     let n = read_named(k, names, lengths, &mut file);

@@ -19,26 +19,26 @@ use Rattle.rules.specs.Figures.{ones}
 use Rattle.rules.specs.Scripts.{Script, reportTicks, scriptOf}
 use Rattle.rules.specs.File.{fileScript}
 use Rattle.rules.specs.Report.{scriptReport, longestReport}
-use Rattle.rules.specs.Calls.{Judged, accepted, refuses, fourOnes, Priced, pricesVerdict, judgedBy, judged, fitting, over, written, replyOf, bufferOf}
+use Rattle.rules.specs.Calls.{Judged, accepted, refuses, fourOnes, Priced, pricesVerdict, judgedBy, judged, bufferReply, over, written, replyOf, bufferOf}
 use Rattle.rules_season.specs.Season.{cuesOf, judgedAll, scriptsOf, refusalsOf, met, sumOfTicks, among, firsts, sheetOf}
 use Rattle.rules.proofs.LongestReport.{longest-report}
 use Rattle.rules_season.proofs.GroupsExact.{length-end, scripts-end, scripts-same}
 use Rattle.reader.specs.declared.Loaded.{Loaded}
 use Rattle.reader.specs.Read.{LoadedAs}
 use Rattle.calls.specs.declared.Measured.{Measured}
-use Rattle.calls.specs.Told.{ticksOf, MeasuredAs}
+use Rattle.calls.specs.Told.{judgedTicks, MeasuredAs}
 use Rattle.calls.specs.Held.{judgedScript}
 use Rattle.calls.proofs.Tables.{few-rows}
 use Rattle.calls_scripts.proofs.Loaded.{file-read, file-given}
 use Rattle.loader.proofs.Laws.{lent-yes}
 use Rattle.report_pieces.specs.Pieces.{Wrote}
 use Rattle.report_pieces.proofs.Laws.{wrote-length}
-use Rattle.season_groups.specs.Firsts.{total, partsOf, Firsts, more}
+use Rattle.season_groups.specs.Firsts.{total, cutBy, Firsts, more}
 use Rattle.season_groups.proofs.Laws.{parts-moved}
 use Rattle.season_sheet.specs.declared.Sheet.{Sheet}
-use Rattle.season_sheet.specs.Figures.{Figures, Accepting, Refusing}
+use Rattle.season_sheet.specs.Figures.{SheetIs, Accepting, Refusing}
 use Rattle.season_files.specs.declared.FileFigures.{FileFigures}
-use Rattle.season_files.specs.Holds.{asMeasured, FoundAs, keptBy, Holds}
+use Rattle.season_files.specs.Holds.{asMeasured, FoundAs, keptBy, SeasonSoFar}
 
 pub ones-priced : Priced fourOnes
 unfolding pricesVerdict
@@ -62,7 +62,7 @@ pub record Took (s : Script) (len : ℕ) (new : List ℕ) (ticks : ℕ) : Type 0
 module _ (file old new : List ℕ) (m : Measured) (h : MeasuredAs fourOnes (judged fourOnes 1_024 file) old new m) (room : longestReport ≤ length old) where
   -- an accepted file: its report is at the front
   taken : (s : Script) → judged fourOnes 1_024 file ≡ accepted s → (m .reply ≡ Accepted (length (scriptReport ones s))) × Took s (length (scriptReport ones s)) new (m .ticks) × (length new ≡ length old)
-  unfolding replyOf bufferOf fitting written over
+  unfolding replyOf bufferOf bufferReply written over
   taken s e =
       let short : length (scriptReport ones s) ≤ longestReport = longest-report fourOnes 1_024 file s e in
       let fits = le-leb (length (scriptReport ones s)) (length old) (omega arith) in
@@ -74,7 +74,7 @@ module _ (file old new : List ℕ) (m : Measured) (h : MeasuredAs fourOnes (judg
           report = ap (take (length (scriptReport ones s))) text ∙ take-append-seam (scriptReport ones s) (drop (length (scriptReport ones s)) old);
           short = short;
           within = omega arith;
-          figure = h .ticks ∙ ap (ticksOf fourOnes) e;
+          figure = h .ticks ∙ ap (judgedTicks fourOnes) e;
         },
         same,
       )
@@ -126,9 +126,9 @@ module _ (used : ℕ) (old ys : List ℕ) (l : used ≤ length old) (e : length 
   placed-rest = ap (drop used) placed-is ∙ drop-at (take used old) ys used front-long
 
 -- ---- no file
-pub holds-none : (s : Sheet) (counts lengths reports fired cues : List ℕ) → Figures [] s counts × (s .groups ≡ 0) × (s .used ≡ 0) × (s .cued ≡ 0) × (length counts ≡ 21)
-    → length lengths ≡ 64 → length reports ≡ 133_696 → length fired ≡ 64 → length cues ≡ 16_384 → Holds [] s counts lengths reports fired cues
-unfolding sheetOf scriptsOf refusalsOf met sumOfTicks firsts partsOf total
+pub holds-none : (s : Sheet) (counts lengths reports fired cues : List ℕ) → SheetIs [] s counts × (s .groups ≡ 0) × (s .used ≡ 0) × (s .cued ≡ 0) × (length counts ≡ 21)
+    → length lengths ≡ 64 → length reports ≡ 133_696 → length fired ≡ 64 → length cues ≡ 16_384 → SeasonSoFar [] s counts lengths reports fired cues
+unfolding sheetOf scriptsOf refusalsOf met sumOfTicks firsts cutBy total
 holds-none s counts lengths reports fired cues (f, g, u, v, n) l r m o = record {
   figures = f;
   firsts = subst (λ k. Firsts [] k lengths reports fired cues) (λ i. record { groups = sym g i; used = sym u i; cued = sym v i }) (record {
@@ -158,13 +158,13 @@ judged-count [] = refl
 judged-count (f ∷ files) = omega (arith, judged-count files)
 
 -- ---- the sheet with it
-module _ (js : List Judged) (old new : Sheet) (counts lengths reports fired cues : List ℕ) (h : Holds js old counts lengths reports fired cues) where
+module _ (js : List Judged) (old new : Sheet) (counts lengths reports fired cues : List ℕ) (h : SeasonSoFar js old counts lengths reports fired cues) where
   pub holds-accepted : (s : Script) (j : Judged) → j ≡ accepted s → (ticks len count : ℕ) (fresh : Bool) (lengths' reports' fired' cues' : List ℕ) → Accepting old ticks len count fresh new → ticks ≡ reportTicks ones s → ticks ≤ 1_000_000_000_000
       → (fresh ≡ not (among s (scriptsOf js))) × Firsts (scriptsOf js ++ (s ∷ [])) (more fresh (keptBy old) len count) lengths' reports' fired' cues'
-      → length lengths' ≡ 64 → length reports' ≡ 133_696 → length fired' ≡ 64 → length cues' ≡ 16_384 → Holds (js ++ (j ∷ [])) new counts lengths' reports' fired' cues'
+      → length lengths' ≡ 64 → length reports' ≡ 133_696 → length fired' ≡ 64 → length cues' ≡ 16_384 → SeasonSoFar (js ++ (j ∷ [])) new counts lengths' reports' fired' cues'
   holds-accepted s j e ticks len count fresh lengths' reports' fired' cues' a t few (f, g) p r m o =
       let same : more fresh (keptBy old) len count ≡ keptBy new = λ i. record { groups = sym (a .classes) i; used = sym (a .bytes) i; cued = sym (a .cues) i } in
-      subst (λ z. Holds (js ++ (z ∷ [])) new counts lengths' reports' fired' cues') (sym e) (record {
+      subst (λ z. SeasonSoFar (js ++ (z ∷ [])) new counts lengths' reports' fired' cues') (sym e) (record {
         figures = a .sheet js s counts (h .figures) t f;
         firsts = subst (λ z. Firsts z (keptBy new) lengths' reports' fired' cues') (sym (scripts-end js s)) (subst (λ z. Firsts (scriptsOf js ++ (s ∷ [])) z lengths' reports' fired' cues') same g);
         files = omega (arith, a .accepts, a .refusals, h .files, length-end js (accepted s));
@@ -183,10 +183,10 @@ module _ (js : List Judged) (old new : Sheet) (counts lengths reports fired cues
       one false = omega arith
 
   pub holds-refused : (q p : ℕ) (j : Judged) → j ≡ refuses q p → (counts' reports' cues' : List ℕ) → Refusing old q counts counts' new → Firsts (scriptsOf js) (keptBy old) lengths reports' fired cues' → length reports' ≡ length reports → length cues' ≡ length cues
-      → Holds (js ++ (j ∷ [])) new counts' lengths reports' fired cues'
+      → SeasonSoFar (js ++ (j ∷ [])) new counts' lengths reports' fired cues'
   holds-refused q p j e counts' reports' cues' a g r o =
       let same : keptBy old ≡ keptBy new = λ i. record { groups = sym (a .classes) i; used = sym (a .bytes) i; cued = sym (a .cues) i } in
-      subst (λ z. Holds (js ++ (z ∷ [])) new counts' lengths reports' fired cues') (sym e) (record {
+      subst (λ z. SeasonSoFar (js ++ (z ∷ [])) new counts' lengths reports' fired cues') (sym e) (record {
         figures = a .sheet js p (h .figures);
         firsts = subst (λ z. Firsts z (keptBy new) lengths reports' fired cues') (sym (scripts-same js q p)) (subst (λ z. Firsts (scriptsOf js) z lengths reports' fired cues') same g);
         files = omega (arith, a .accepts, a .refusals, h .files, length-end js (refuses q p));
@@ -201,7 +201,7 @@ module _ (js : List Judged) (old new : Sheet) (counts lengths reports fired cues
       })
 
 -- ---- what stands at the call
-module _ (file counts lengths reports fired cues : List ℕ) (sheet : Sheet) (js : List Judged) (h : Holds js sheet counts lengths reports fired cues) (l : length js < 64) where
+module _ (file counts lengths reports fired cues : List ℕ) (sheet : Sheet) (js : List Judged) (h : SeasonSoFar js sheet counts lengths reports fired cues) (l : length js < 64) where
   abbrev behind : List ℕ
   behind = midOf (sheet .used) (length reports - sheet .used) reports
 

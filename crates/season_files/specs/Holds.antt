@@ -12,7 +12,7 @@ use Rattle.calls.specs.Told.{MeasuredAs}
 use Rattle.season_groups.specs.declared.Kept.{Kept}
 use Rattle.season_groups.specs.Firsts.{Firsts}
 use Rattle.season_sheet.specs.declared.Sheet.{Sheet}
-use Rattle.season_sheet.specs.Figures.{Figures}
+use Rattle.season_sheet.specs.Figures.{SheetIs}
 use Rattle.season_files.specs.declared.FileFigures.{FileFigures}
 
 -- the answer and the ticks of a report call
@@ -31,8 +31,8 @@ abbrev pub keptBy : Sheet → Kept
 keptBy s = record { groups = s .groups; used = s .used; cued = s .cued }
 
 -- the figures are the sheet of these files, and the reports and cue numbers of their groups' first files are kept; and how large each number can be
-pub record Holds (js : List Judged) (s : Sheet) (counts lengths reports fired cues : List ℕ) : Type 0 where
-  pub figures : Figures js s counts
+pub record SeasonSoFar (js : List Judged) (s : Sheet) (counts lengths reports fired cues : List ℕ) : Type 0 where
+  pub figures : SheetIs js s counts
   pub firsts : Firsts (scriptsOf js) (keptBy s) lengths reports fired cues
   pub files : s .accepted + s .refused ≡ length js
   pub sum : s .ticks ≤ 1_000_000_000_000 * length js
@@ -46,4 +46,4 @@ pub record Holds (js : List Judged) (s : Sheet) (counts lengths reports fired cu
 
 -- a sheet of fewer than 64 files
 abbrev pub SheetWithRoom : Sheet → List ℕ → List ℕ → List ℕ → List ℕ → List ℕ → Type 0
-SheetWithRoom s counts lengths reports fired cues = (js : List Judged) × Holds js s counts lengths reports fired cues × (length js < 64)
+SheetWithRoom s counts lengths reports fired cues = (js : List Judged) × SeasonSoFar js s counts lengths reports fired cues × (length js < 64)

@@ -13,7 +13,7 @@ ghost use mathlib.Core.List.{List, [], _∷_, _++_};
 ghost use Prim.Native.Nat.{_≤_};
 ghost use lib.ListN.{length};
 ghost use Rattle.rules.specs.Calls.{Judged, fourOnes, judged};
-ghost use Rattle.season_files.specs.Holds.{FoundAs, Holds, SheetWithRoom};
+ghost use Rattle.season_files.specs.Holds.{FoundAs, SeasonSoFar, SheetWithRoom};
 
 // How many files a season has at most, the bytes of that many longest reports, and the cues of that many files of 256 rows.
 pub const FILES: usize = 64;
@@ -74,7 +74,7 @@ pub fn add_file(
     cues: &mut [u32],
 ) -> Sheet
     requires { ⌜ SheetWithRoom sheet (now counts) (now lengths) (now reports) (now fired) (now cues) ⌝ }
-    ensures { λ r. ⌜ ((js : List Judged) → Holds js sheet (now (counts .entry)) (now (lengths .entry)) (now (reports .entry)) (now (fired .entry)) (now (cues .entry)) → Holds (js ++ (judged fourOnes 1_024 (now (file .entry)) ∷ [])) r (now (counts .exit)) (now (lengths .exit)) (now (reports .exit)) (now (fired .exit)) (now (cues .exit))) ⌝ }
+    ensures { λ r. ⌜ ((js : List Judged) → SeasonSoFar js sheet (now (counts .entry)) (now (lengths .entry)) (now (reports .entry)) (now (fired .entry)) (now (cues .entry)) → SeasonSoFar (js ++ (judged fourOnes 1_024 (now (file .entry)) ∷ [])) r (now (counts .exit)) (now (lengths .exit)) (now (reports .exit)) (now (fired .exit)) (now (cues .exit))) ⌝ }
 {
     let used = sheet.used;
     let cued = sheet.cued;

@@ -17,7 +17,7 @@ use Rattle.rules.specs.Text.{equals}
 use Rattle.rules_season.specs.Season.{cuesOf, sameGroup, among, firsts}
 use Rattle.rules_season.proofs.GroupsExact.{firsts-end, among-firsts}
 use Rattle.season_groups.specs.declared.Kept.{Kept}
-use Rattle.season_groups.specs.Firsts.{total, partsOf, scriptCues, Parts, Firsts, more}
+use Rattle.season_groups.specs.Firsts.{total, cutBy, scriptCues, Parts, Firsts, more}
 
 pub total-end : (ns : List ℕ) (n : ℕ) → total (ns ++ (n ∷ [])) ≡ total ns + n
 unfolding total
@@ -25,10 +25,10 @@ total-end [] n = omega arith
 total-end (m ∷ ns) n = omega (arith, total-end ns n)
 
 -- one part more
-pub parts-end : (ns : List ℕ) (n : ℕ) (text : List ℕ) → partsOf (ns ++ (n ∷ [])) text ≡ partsOf ns text ++ (take n (drop (total ns) text) ∷ [])
-unfolding partsOf total
+pub parts-end : (ns : List ℕ) (n : ℕ) (text : List ℕ) → cutBy (ns ++ (n ∷ [])) text ≡ cutBy ns text ++ (take n (drop (total ns) text) ∷ [])
+unfolding cutBy total
 parts-end [] n text = refl
-parts-end (m ∷ ns) n text = ap (λ l. take m text ∷ l) (parts-end ns n (drop m text) ∙ ap (λ l. partsOf ns (drop m text) ++ (take n l ∷ [])) (drop-drop (total ns) m text))
+parts-end (m ∷ ns) n text = ap (λ l. take m text ∷ l) (parts-end ns n (drop m text) ∙ ap (λ l. cutBy ns (drop m text) ++ (take n l ∷ [])) (drop-drop (total ns) m text))
 
 -- the parts do not read past their sum
 drop-take : (n k : ℕ) (l : List ℕ) → drop n (take k l) ≡ take (k - n) (drop n l)
@@ -37,8 +37,8 @@ drop-take (suc n) zero l = let e : 0 ≡ 0 - suc n = omega arith in ap (λ z. ta
 drop-take (suc n) (suc k) [] = sym (take-nil (suc k - suc n))
 drop-take (suc n) (suc k) (x ∷ l) = let e : k - n ≡ suc k - suc n = omega arith in drop-take n k l ∙ ap (λ z. take z (drop n l)) e
 
-pub parts-front : (ns : List ℕ) (a b : List ℕ) (k : ℕ) → total ns ≤ k → take k a ≡ take k b → partsOf ns a ≡ partsOf ns b
-unfolding partsOf total
+pub parts-front : (ns : List ℕ) (a b : List ℕ) (k : ℕ) → total ns ≤ k → take k a ≡ take k b → cutBy ns a ≡ cutBy ns b
+unfolding cutBy total
 parts-front [] a b k h e = refl
 parts-front (n ∷ ns) a b k h e =
     let front = sym (take-take n k a (omega arith)) ∙ ap (take n) e ∙ take-take n k b (omega arith) in
@@ -57,7 +57,7 @@ part-more most groups used len lengths text part parts h l f m =
     let next : take (groups + 1) (set lengths groups len) ≡ take groups lengths ++ (len ∷ []) = ap (λ n. take n (set lengths groups len)) (add-one groups) ∙ take-suc-set lengths groups len l in
     record {
       each =
-          ap (λ ns. partsOf ns text) next ∙ parts-end (take groups lengths) len text ∙ ap (λ u. partsOf (take groups lengths) text ++ (take len (drop u text) ∷ [])) (h .sum)
+          ap (λ ns. cutBy ns text) next ∙ parts-end (take groups lengths) len text ∙ ap (λ u. cutBy (take groups lengths) text ++ (take len (drop u text) ∷ [])) (h .sum)
           ∙ (λ i. h .each i ++ (f i ∷ []));
       sum = ap total next ∙ total-end (take groups lengths) len ∙ ap (λ u. u + len) (h .sum);
       room = rw (add-one, mul-suc) (omega (arith, h .room));
@@ -101,21 +101,21 @@ module _ (ss : List Script) (s : Script) (k : Kept) (lengths reports counts cues
       }
 
 -- ---- the search, first by first
-pub among-none : (s : Script) (ss : List Script) (lengths text : List ℕ) → length lengths ≡ 0 → partsOf lengths text ≡ map (scriptReport ones) ss → false ≡ among s ss
-unfolding partsOf among
+pub among-none : (s : Script) (ss : List Script) (lengths text : List ℕ) → length lengths ≡ 0 → cutBy lengths text ≡ map (scriptReport ones) ss → false ≡ among s ss
+unfolding cutBy among
 among-none s [] lengths text h e = refl
 among-none s (t ∷ ss) [] text h e = absurd (omega (arith, ap length e))
 among-none s (t ∷ ss) (n ∷ ns) text h e = absurd (omega arith)
 
 -- the first of the parts, and the others
-split-parts : (f : Script → List ℕ) (t : Script) (ts : List Script) (lengths text : List ℕ) → (length lengths ≡ 0 → ⊥) → partsOf lengths text ≡ map f (t ∷ ts)
-    → (take (getD lengths 0 0) text ≡ f t) × (partsOf (drop 1 lengths) (drop (getD lengths 0 0) text) ≡ map f ts)
-unfolding partsOf
+split-parts : (f : Script → List ℕ) (t : Script) (ts : List Script) (lengths text : List ℕ) → (length lengths ≡ 0 → ⊥) → cutBy lengths text ≡ map f (t ∷ ts)
+    → (take (getD lengths 0 0) text ≡ f t) × (cutBy (drop 1 lengths) (drop (getD lengths 0 0) text) ≡ map f ts)
+unfolding cutBy
 split-parts f t ts [] text h e = absurd (h refl)
 split-parts f t ts (n ∷ ns) text h e = (ap (λ (l : List (List ℕ)). getD l 0 []) e, ap (λ (l : List (List ℕ)). drop 1 l) e)
 
-no-parts : (lengths text : List ℕ) → (length lengths ≡ 0 → ⊥) → partsOf lengths text ≡ [] → ⊥
-unfolding partsOf
+no-parts : (lengths text : List ℕ) → (length lengths ≡ 0 → ⊥) → cutBy lengths text ≡ [] → ⊥
+unfolding cutBy
 no-parts [] text h e = h refl
 no-parts (n ∷ ns) text h e = omega (arith, ap length e)
 
@@ -124,7 +124,7 @@ module _ (s : Script) (lengths text counts cues : List ℕ) (some : length lengt
   both : length counts ≡ 0 → ⊥
   both e = some (sym same ∙ e)
 
-  pub among-first : (ss : List Script) → partsOf lengths text ≡ map (scriptReport ones) ss → partsOf counts cues ≡ map scriptCues ss → known ≡ true → true ≡ among s ss
+  pub among-first : (ss : List Script) → cutBy lengths text ≡ map (scriptReport ones) ss → cutBy counts cues ≡ map scriptCues ss → known ≡ true → true ≡ among s ss
   unfolding among
   among-first [] e f h = absurd (no-parts lengths text some e)
   among-first (t ∷ ts) e f h =
@@ -132,8 +132,8 @@ module _ (s : Script) (lengths text counts cues : List ℕ) (some : length lengt
       let (c, d) = split-parts scriptCues t ts counts cues both f in
       sym (ap (λ z. z || among s ts) (sym (first t a c) ∙ h))
 
-  pub among-later : (ss : List Script) → partsOf lengths text ≡ map (scriptReport ones) ss → partsOf counts cues ≡ map scriptCues ss → known ≡ false → {later : Bool}
-      → ((ts : List Script) → partsOf (drop 1 lengths) (drop (getD lengths 0 0) text) ≡ map (scriptReport ones) ts → partsOf (drop 1 counts) (drop (getD counts 0 0) cues) ≡ map scriptCues ts → later ≡ among s ts) → later ≡ among s ss
+  pub among-later : (ss : List Script) → cutBy lengths text ≡ map (scriptReport ones) ss → cutBy counts cues ≡ map scriptCues ss → known ≡ false → {later : Bool}
+      → ((ts : List Script) → cutBy (drop 1 lengths) (drop (getD lengths 0 0) text) ≡ map (scriptReport ones) ts → cutBy (drop 1 counts) (drop (getD counts 0 0) cues) ≡ map scriptCues ts → later ≡ among s ts) → later ≡ among s ss
   unfolding among
   among-later [] e f h rest = absurd (no-parts lengths text some e)
   among-later (t ∷ ts) e f h rest =
@@ -152,13 +152,13 @@ pub total-also : (lengths counts : List ℕ) → (length lengths ≡ 0 → ⊥) 
 total-also lengths counts h e = total-rest counts (λ z. h (sym e ∙ z))
 
 -- the parts from the front of the list alone
-front-parts : {most groups used : ℕ} {lengths text : List ℕ} {parts : List (List ℕ)} → Parts most groups used lengths text parts → partsOf (take groups lengths) (take used text) ≡ parts
+front-parts : {most groups used : ℕ} {lengths text : List ℕ} {parts : List (List ℕ)} → Parts most groups used lengths text parts → cutBy (take groups lengths) (take used text) ≡ parts
 front-parts {groups = groups} {used} {lengths} {text} h = parts-front (take groups lengths) (take used text) text used (omega (arith, h .sum)) (take-take used used text (omega arith)) ∙ h .each
 
 -- what the search over the firsts says of all files
 pub known-is : (ss : List Script) (s : Script) (k : Kept) (len count : ℕ) (lengths reports counts cues : List ℕ) → Firsts ss k lengths reports counts cues → take len (drop (k .used) reports) ≡ scriptReport ones s
     → take count (drop (k .cued) cues) ≡ cuesOf (s .rows) → {known : Bool}
-    → ((ts : List Script) (t : Script) → partsOf (take (k .groups) lengths) (take (k .used) reports) ≡ map (scriptReport ones) ts → partsOf (take (k .groups) counts) (take (k .cued) cues) ≡ map scriptCues ts
+    → ((ts : List Script) (t : Script) → cutBy (take (k .groups) lengths) (take (k .used) reports) ≡ map (scriptReport ones) ts → cutBy (take (k .groups) counts) (take (k .cued) cues) ≡ map scriptCues ts
     → take (k .used + len - k .used) (drop (k .used) reports) ≡ scriptReport ones t → take (k .cued + count - k .cued) (drop (k .cued) cues) ≡ cuesOf (t .rows) → known ≡ among t ts)
     → known ≡ among s ss
 known-is ss s k len count lengths reports counts cues h e f g =

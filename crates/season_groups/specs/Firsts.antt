@@ -16,9 +16,9 @@ total [] = 0
 total (n ∷ ns) = n + total ns
 
 -- the parts of a text that have these lengths, one after the other
-unfoldable pub partsOf : List ℕ → List ℕ → List (List ℕ)
-partsOf [] text = []
-partsOf (n ∷ ns) text = take n text ∷ partsOf ns (drop n text)
+unfoldable pub cutBy : List ℕ → List ℕ → List (List ℕ)
+cutBy [] text = []
+cutBy (n ∷ ns) text = take n text ∷ cutBy ns (drop n text)
 
 -- a script's cue numbers
 abbrev pub scriptCues : Script → List ℕ
@@ -26,7 +26,7 @@ scriptCues s = cuesOf (s .rows)
 
 -- parts of a list kept one after the other: those of the first `groups` lengths, which take its first `used` places, at most `most` each
 pub record Parts (most groups used : ℕ) (lengths text : List ℕ) (parts : List (List ℕ)) : Type 0 where
-  pub each : partsOf (take groups lengths) text ≡ parts
+  pub each : cutBy (take groups lengths) text ≡ parts
   pub sum : total (take groups lengths) ≡ used
   pub room : used ≤ most * groups
 

@@ -8,7 +8,7 @@ ghost use Rattle.rules.specs.Scripts.{Script};
 ghost use Rattle.rules.specs.Report.{scriptReport};
 ghost use Rattle.rules.specs.Text.{equals};
 ghost use Rattle.rules_season.specs.Season.{cuesOf, sameGroup, among};
-ghost use Rattle.season_groups.specs.Firsts.{total, partsOf, scriptCues, Behind, FirstsAfter};
+ghost use Rattle.season_groups.specs.Firsts.{total, cutBy, scriptCues, Behind, FirstsAfter};
 
 // Whether two lists of cue numbers are the same.
 fn same_cues(first: &[u32], cues: &[u32]) -> bool
@@ -47,7 +47,7 @@ fn is_known(
     cues: &[u32],
 ) -> bool
     requires { ⌜ (total (now lengths) ≤ length (now firsts)) × (length (now counts) ≡ length (now lengths)) × (total (now counts) ≤ length (now fired)) ⌝ }
-    ensures { λ r. ⌜ ((ss : List Script) (s : Script) → partsOf (now (lengths .entry)) (now (firsts .entry)) ≡ map (scriptReport ones) ss → partsOf (now (counts .entry)) (now (fired .entry)) ≡ map scriptCues ss → now (report .entry) ≡ scriptReport ones s → now (cues .entry) ≡ cuesOf (s .rows) → r ≡ among s ss) ⌝ }
+    ensures { λ r. ⌜ ((ss : List Script) (s : Script) → cutBy (now (lengths .entry)) (now (firsts .entry)) ≡ map (scriptReport ones) ss → cutBy (now (counts .entry)) (now (fired .entry)) ≡ map scriptCues ss → now (report .entry) ≡ scriptReport ones s → now (cues .entry) ≡ cuesOf (s .rows) → r ≡ among s ss) ⌝ }
 {
     if lengths.len() == 0 {
         return false;

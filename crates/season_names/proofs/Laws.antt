@@ -11,30 +11,30 @@ use lib.ListN.{length, getD, take, drop, set, length-append, length-take, length
 use lib.Seq.{drop-cons, take-all, take-append-le, take-append-seam, getD-set-same, getD-set-other, take-suc-set, take-set-le, drop-set-add, take-suc}
 use borrow.Author.Tests.{le-leb, lt-leb, eq-eqb, ne-eqb, eqb-true, eqb-false}
 use Rattle.rules.specs.Text.{lf, split}
-use Rattle.rules_season.specs.Season.{untilLast, namesOf, holdsZero, opens}
-use Rattle.season_names.specs.Kept.{Kept, listed, Opened}
+use Rattle.rules_season.specs.Season.{untilLast, namesOf, holdsZero, goodName}
+use Rattle.season_names.specs.Kept.{NamesKept, listed, Opened}
 use Rattle.season_names.proofs.Lines.{some-line, byte-count, byte-before, byte-last, here-count, here-before, here-last, names-most, names-fewer, name-line, last-named, last-none}
 
 -- ---- the number of a line that is before another, or is it
-sooner : (k n : ℕ) → k < n + 1 → (k < n) ⊎ (k ≡ n)
-sooner zero zero h = inr refl
-sooner zero (suc n) h = inl (omega arith)
-sooner (suc k) zero h = absurd (omega arith)
-sooner (suc k) (suc n) h = by (sooner k n (omega arith))
+below-or-at : (k n : ℕ) → k < n + 1 → (k < n) ⊎ (k ≡ n)
+below-or-at zero zero h = inr refl
+below-or-at zero (suc n) h = inl (omega arith)
+below-or-at (suc k) zero h = absurd (omega arith)
+below-or-at (suc k) (suc n) h = by (below-or-at k n (omega arith))
   where
     by : (k < n) ⊎ (k ≡ n) → (suc k < suc n) ⊎ (suc k ≡ suc n)
     by (inl l) = inl (omega arith)
     by (inr e) = inr (ap suc e)
 
 -- ---- nothing read
-pub kept-none : (names lengths : List ℕ) → length names ≡ 16_640 → length lengths ≡ 66 → getD lengths 0 0 ≡ 0 → Kept [] 0 names lengths
+pub kept-none : (names lengths : List ℕ) → length names ≡ 16_640 → length lengths ≡ 66 → getD lengths 0 0 ≡ 0 → NamesKept [] 0 names lengths
 unfolding split
 kept-none names lengths n l z = record {
   long = n;
   room = l;
   last = omega arith;
-  size = λ k m f. by-size k (sooner k 0 (omega arith));
-  line = λ k m f. by-line k (sooner k 0 (omega arith));
+  size = λ k m f. by-size k (below-or-at k 0 (omega arith));
+  line = λ k m f. by-line k (below-or-at k 0 (omega arith));
 }
   where
     by-size : (k : ℕ) → (k < 0) ⊎ (k ≡ 0) → getD lengths k 0 ≡ min 256 (length (getD (split lf []) k []))
@@ -57,9 +57,9 @@ module _ (x : ℕ) (s : List ℕ) where
           (omega (arith, here-count s), λ k l. here-before s k (omega arith))
       by false e = (omega (arith, byte-count x s e), λ k l. byte-before x s e k l)
 
-module _ (input : List ℕ) (at : ℕ) (names lengths : List ℕ) (h : Kept input at names lengths) where
+module _ (input : List ℕ) (at : ℕ) (names lengths : List ℕ) (h : NamesKept input at names lengths) where
   -- nothing is kept after 65 lines
-  pub kept-full : (x : ℕ) → 65 ≤ at → Kept (input ++ (x ∷ [])) at names lengths
+  pub kept-full : (x : ℕ) → 65 ≤ at → NamesKept (input ++ (x ∷ [])) at names lengths
   kept-full x full =
       let many : 66 ≤ length (split lf input) = omega (arith, h .last) in
       record {
@@ -75,13 +75,13 @@ module _ (input : List ℕ) (at : ℕ) (names lengths : List ℕ) (h : Kept inpu
     count-is = omega (arith, h .last)
 
     -- an LF
-    pub kept-lf : Kept (input ++ (lf ∷ [])) (at + 1) names (set lengths (at + 1) 0)
+    pub kept-lf : NamesKept (input ++ (lf ∷ [])) (at + 1) names (set lengths (at + 1) 0)
     kept-lf = record {
       long = h .long;
       room = length-set lengths (at + 1) 0 ∙ h .room;
       last = omega (arith, count-is, here-count input);
-      size = λ k l m. by-size k l (sooner k (length (split lf input)) (omega (arith, here-count input)));
-      line = λ k l m. by-line k l (sooner k (length (split lf input)) (omega (arith, here-count input)));
+      size = λ k l m. by-size k l (below-or-at k (length (split lf input)) (omega (arith, here-count input)));
+      line = λ k l m. by-line k l (below-or-at k (length (split lf input)) (omega (arith, here-count input)));
     }
       where
         fresh : getD (set lengths (at + 1) 0) (length (split lf input)) 0 ≡ 0
@@ -110,13 +110,13 @@ module _ (input : List ℕ) (at : ℕ) (names lengths : List ℕ) (h : Kept inpu
       long-is = h .size at free (omega (arith, count-is))
 
       -- a byte past the 256 that are kept
-      pub kept-past : 256 ≤ getD lengths at 0 → Kept (input ++ (x ∷ [])) at names lengths
+      pub kept-past : 256 ≤ getD lengths at 0 → NamesKept (input ++ (x ∷ [])) at names lengths
       kept-past full = record {
         long = h .long;
         room = h .room;
         last = omega (arith, h .last, byte-count x input other);
-        size = λ k l m. by-size k l (sooner k at (omega (arith, count-is, byte-count x input other)));
-        line = λ k l m. by-line k l (sooner k at (omega (arith, count-is, byte-count x input other)));
+        size = λ k l m. by-size k l (below-or-at k at (omega (arith, count-is, byte-count x input other)));
+        line = λ k l m. by-line k l (below-or-at k at (omega (arith, count-is, byte-count x input other)));
       }
         where
           by-size : (k : ℕ) → k < 65 → (k < at) ⊎ (k ≡ at) → getD lengths k 0 ≡ min 256 (length (getD (split lf (input ++ (x ∷ []))) k []))
@@ -132,13 +132,13 @@ module _ (input : List ℕ) (at : ℕ) (names lengths : List ℕ) (h : Kept inpu
               (h .line at free (omega (arith, count-is)) ∙ sym (take-append-le 256 line (x ∷ []) (omega (arith, long-is))) ∙ ap (λ z. take 256 z) (sym (byte-last x input other at count-is)))
 
       -- a byte that is kept, at its place
-      pub kept-byte : getD lengths at 0 < 256 → (p : ℕ) → p ≡ 256 * at + getD lengths at 0 → Kept (input ++ (x ∷ [])) at (set names p x) (set lengths at (getD lengths at 0 + 1))
+      pub kept-byte : getD lengths at 0 < 256 → (p : ℕ) → p ≡ 256 * at + getD lengths at 0 → NamesKept (input ++ (x ∷ [])) at (set names p x) (set lengths at (getD lengths at 0 + 1))
       kept-byte small p e = record {
         long = length-set names p x ∙ h .long;
         room = length-set lengths at (getD lengths at 0 + 1) ∙ h .room;
         last = omega (arith, h .last, byte-count x input other);
-        size = λ k l m. by-size k l (sooner k at (omega (arith, count-is, byte-count x input other)));
-        line = λ k l m. by-line k l (sooner k at (omega (arith, count-is, byte-count x input other)));
+        size = λ k l m. by-size k l (below-or-at k at (omega (arith, count-is, byte-count x input other)));
+        line = λ k l m. by-line k l (below-or-at k at (omega (arith, count-is, byte-count x input other)));
       }
         where
           n : ℕ
@@ -182,7 +182,7 @@ module _ (input : List ℕ) (at : ℕ) (names lengths : List ℕ) (h : Kept inpu
               ∙ ap (λ z. take 256 z) (sym (byte-last x input other at count-is)))
 
 -- ---- how many names
-module _ (input : List ℕ) (at : ℕ) (names lengths : List ℕ) (h : Kept input at names lengths) where
+module _ (input : List ℕ) (at : ℕ) (names lengths : List ℕ) (h : NamesKept input at names lengths) where
   -- more than 64
   pub too-many : 65 ≤ at → listed (namesOf input) ≡ 0
   unfolding listed namesOf
@@ -238,17 +238,17 @@ unfolding holdsZero
 zero-none name i h = rw (drop-of-length-le name {i = i} h)
 
 -- ---- which name is opened
-pub empty-shut : (name : List ℕ) → length name ≡ 0 → false ≡ opens name
-unfolding opens
+pub empty-shut : (name : List ℕ) → length name ≡ 0 → false ≡ goodName name
+unfolding goodName
 empty-shut name h = rw h
 
-pub short-opens : (name : List ℕ) → (length name ≡ 0 → ⊥) → length name ≤ 255 → {z : Bool} → z ≡ holdsZero name → not z ≡ opens name
-unfolding opens
+pub short-opens : (name : List ℕ) → (length name ≡ 0 → ⊥) → length name ≤ 255 → {z : Bool} → z ≡ holdsZero name → not z ≡ goodName name
+unfolding goodName
 short-opens [] f h e = absurd (f refl)
 short-opens (b ∷ bs) f h e = rw (e, le-leb 1 (length (b ∷ bs)) (omega arith), le-leb (length (b ∷ bs)) 255 h)
 
-pub long-shut : (name : List ℕ) → 255 < length name → opens name ≡ false
-unfolding opens
+pub long-shut : (name : List ℕ) → 255 < length name → goodName name ≡ false
+unfolding goodName
 long-shut name h = by (leb 1 (length name)) (lt-leb (length name) 255 h)
   where
     by : (c : Bool) → leb (length name) 255 ≡ false → (c && (leb (length name) 255 && not (holdsZero name))) ≡ false
@@ -256,13 +256,13 @@ long-shut name h = by (leb 1 (length name)) (lt-leb (length name) 255 h)
     by false e = refl
 
 -- none of a name that does not open, all of one that does
-pub opened-none : {name bytes : List ℕ} → opens name ≡ false → bytes ≡ [] → Opened name bytes 0
+pub opened-none : {name bytes : List ℕ} → goodName name ≡ false → bytes ≡ [] → Opened name bytes 0
 opened-none {name} e f = record { whole = f ∙ ap (λ c. cond c name []) (sym e); count = ap (λ c. length (cond c name [])) (sym e) }
 
-pub opened-all : {name bytes : List ℕ} (n : ℕ) → opens name ≡ true → bytes ≡ name → n ≡ length name → Opened name bytes n
+pub opened-all : {name bytes : List ℕ} (n : ℕ) → goodName name ≡ true → bytes ≡ name → n ≡ length name → Opened name bytes n
 opened-all {name} n e f g = record { whole = f ∙ ap (λ c. cond c name []) (sym e); count = g ∙ ap (λ c. length (cond c name [])) (sym e) }
 
-module _ (input : List ℕ) (at : ℕ) (names lengths : List ℕ) (h : Kept input at names lengths) (k : ℕ) (l : k < 65) (m : k < length (namesOf input)) where
+module _ (input : List ℕ) (at : ℕ) (names lengths : List ℕ) (h : NamesKept input at names lengths) (k : ℕ) (l : k < 65) (m : k < length (namesOf input)) where
   abbrev name : List ℕ
   name = getD (namesOf input) k []
 
@@ -277,7 +277,7 @@ module _ (input : List ℕ) (at : ℕ) (names lengths : List ℕ) (h : Kept inpu
   pub name-size : getD lengths k 0 ≡ min 256 (length name)
   name-size = h .size k l there ∙ ap (λ z. min 256 (length z)) (sym name-is)
 
-  pub name-long : 255 < getD lengths k 0 → opens name ≡ false
+  pub name-long : 255 < getD lengths k 0 → goodName name ≡ false
   name-long f = long-shut name (omega (arith, name-size))
 
   pub name-kept : getD lengths k 0 ≤ 255 → take (getD lengths k 0) (drop (256 * k) names) ≡ name

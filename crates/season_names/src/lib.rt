@@ -6,8 +6,8 @@ ghost use mathlib.Core.List.{List, [], _∷_, _++_};
 ghost use Prim.Native.Nat.{ℕ, _*_, _≤_, _<_};
 ghost use lib.Dec.{eqb};
 ghost use lib.ListN.{length, getD, take, drop};
-ghost use Rattle.rules_season.specs.Season.{namesOf, holdsZero, opens};
-ghost use Rattle.season_names.specs.Kept.{Kept, listed, Opened};
+ghost use Rattle.rules_season.specs.Season.{namesOf, holdsZero, goodName};
+ghost use Rattle.season_names.specs.Kept.{NamesKept, listed, Opened};
 
 // How many bytes of a line are kept, of how many lines, and all of them.
 pub const LINE: usize = 256;
@@ -23,7 +23,7 @@ const MOST: usize = 64;
 
 // Nothing is read yet: line 0 is open.
 pub fn start(names: &mut [u8; ROOM], lengths: &mut [usize; 66]) -> usize
-    ensures { λ r. ⌜ Kept [] r (now (names .exit)) (now (lengths .exit)) ⌝ }
+    ensures { λ r. ⌜ NamesKept [] r (now (names .exit)) (now (lengths .exit)) ⌝ }
 {
     *names = [0; ROOM];
     *lengths = [0; 66];
@@ -32,7 +32,7 @@ pub fn start(names: &mut [u8; ROOM], lengths: &mut [usize; 66]) -> usize
 
 // One byte more of the input. Line `at` is open; after 65 lines nothing is kept.
 fn push(at: usize, b: u8, names: &mut [u8; ROOM], lengths: &mut [usize; 66]) -> usize
-    ensures { λ r. ⌜ ((input : List ℕ) → Kept input at (now (names .entry)) (now (lengths .entry)) → Kept (input ++ (b ∷ [])) r (now (names .exit)) (now (lengths .exit))) ⌝ }
+    ensures { λ r. ⌜ ((input : List ℕ) → NamesKept input at (now (names .entry)) (now (lengths .entry)) → NamesKept (input ++ (b ∷ [])) r (now (names .exit)) (now (lengths .exit))) ⌝ }
 {
     if at >= LINES {
         return at;
@@ -51,7 +51,7 @@ fn push(at: usize, b: u8, names: &mut [u8; ROOM], lengths: &mut [usize; 66]) -> 
 
 // A block more of the input.
 pub fn push_all(at: usize, block: &[u8], names: &mut [u8; ROOM], lengths: &mut [usize; 66]) -> usize
-    ensures { λ r. ⌜ ((input : List ℕ) → Kept input at (now (names .entry)) (now (lengths .entry)) → Kept (input ++ now (block .entry)) r (now (names .exit)) (now (lengths .exit))) ⌝ }
+    ensures { λ r. ⌜ ((input : List ℕ) → NamesKept input at (now (names .entry)) (now (lengths .entry)) → NamesKept (input ++ now (block .entry)) r (now (names .exit)) (now (lengths .exit))) ⌝ }
 {
     let mut line = at;
     let mut i = 0;
@@ -74,7 +74,7 @@ fn filled(length: usize) -> usize
 
 // How many names there are: what stands after the last LF is one if it is not empty. 0 for no name or more than 64.
 pub fn count(at: usize, lengths: &[usize; 66]) -> usize
-    ensures { λ r. ⌜ ((input names : List ℕ) → Kept input at names (now (lengths .entry)) → r ≡ listed (namesOf input)) × (r ≤ 64) ⌝ }
+    ensures { λ r. ⌜ ((input names : List ℕ) → NamesKept input at names (now (lengths .entry)) → r ≡ listed (namesOf input)) × (r ≤ 64) ⌝ }
 {
     if at >= LINES {
         return 0;
@@ -102,7 +102,7 @@ fn holds_zero(name: &[u8]) -> bool
 
 // Whether a name is opened: not an empty one, none over 255 bytes, none with a 0 byte.
 fn opens(name: &[u8]) -> bool
-    ensures { λ r. ⌜ r ≡ opens (now (name .entry)) ⌝ }
+    ensures { λ r. ⌜ r ≡ goodName (now (name .entry)) ⌝ }
 {
     if name.len() == 0 {
         return false;
@@ -115,7 +115,7 @@ fn opens(name: &[u8]) -> bool
 
 // How many bytes of name k are to be opened: all, or none of a name that does not open.
 pub fn opened(k: usize, names: &[u8], lengths: &[usize; 66]) -> usize
-    ensures name { λ r. ⌜ ((input : List ℕ) (at : ℕ) → Kept input at (now (names .entry)) (now (lengths .entry)) → k < 65 → k < length (namesOf input) → Opened (getD (namesOf input) k []) (take r (drop (256 * k) (now (names .entry)))) r) ⌝ }
+    ensures name { λ r. ⌜ ((input : List ℕ) (at : ℕ) → NamesKept input at (now (names .entry)) (now (lengths .entry)) → k < 65 → k < length (namesOf input) → Opened (getD (namesOf input) k []) (take r (drop (256 * k) (now (names .entry)))) r) ⌝ }
     ensures room { λ r. ⌜ r ≤ 255 ⌝ }
 {
     if k >= LINES {

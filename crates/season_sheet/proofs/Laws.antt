@@ -15,17 +15,17 @@ use Rattle.rules_season.specs.Season as season
 use Rattle.rules_season.specs.Season.{scriptsOf, refusalsOf, met, sumOfTicks, mostTicks, among, firsts, sheetOf, withAccepted, withRefused, SheetGrows}
 use Rattle.rules_season.proofs.GroupsExact.{sheet-grows}
 use Rattle.season_sheet.specs.declared.Sheet.{Sheet}
-use Rattle.season_sheet.specs.Figures.{Figures, Accepting, CounterRaised, Refusing}
+use Rattle.season_sheet.specs.Figures.{SheetIs, Accepting, CounterRaised, Refusing}
 
 -- no file
-pub no-file : {s : Sheet} {counts : List ℕ} → s .accepted ≡ 0 → s .refused ≡ 0 → ((q : ℕ) → q < 21 → getD counts q 0 ≡ 0) → s .ticks ≡ 0 → s .greatest ≡ 0 → s .groups ≡ 0 → Figures [] s counts
+pub no-file : {s : Sheet} {counts : List ℕ} → s .accepted ≡ 0 → s .refused ≡ 0 → ((q : ℕ) → q < 21 → getD counts q 0 ≡ 0) → s .ticks ≡ 0 → s .greatest ≡ 0 → s .groups ≡ 0 → SheetIs [] s counts
 unfolding sheetOf scriptsOf refusalsOf met sumOfTicks mostTicks firsts
 no-file a r n t g c = record { accepts = a; refusals = r; numbers = n; sum = t; most = g; classes = c }
 
 -- an accepted one
 module _ (old new : Sheet) (ticks : ℕ) (fresh : Bool) (a : new .accepted ≡ old .accepted + 1) (r : new .refused ≡ old .refused) (t : new .ticks ≡ old .ticks + ticks)
     (m : new .greatest ≡ max (old .greatest) ticks) (g : new .groups ≡ old .groups + cond fresh 1 0) where
-  one-accepted : (js : List Judged) (s : Script) (counts : List ℕ) → Figures js old counts → ticks ≡ reportTicks ones s → fresh ≡ not (among s (scriptsOf js)) → Figures (js ++ (accepted s ∷ [])) new counts
+  one-accepted : (js : List Judged) (s : Script) (counts : List ℕ) → SheetIs js old counts → ticks ≡ reportTicks ones s → fresh ≡ not (among s (scriptsOf js)) → SheetIs (js ++ (accepted s ∷ [])) new counts
   unfolding SheetGrows withAccepted
   one-accepted js s counts h e f =
       let grown : withAccepted (scriptsOf js) s (sheetOf js) ≡ sheetOf (js ++ (accepted s ∷ [])) = sym (sheet-grows js .0 s) in
@@ -61,7 +61,7 @@ not-counted q counts e l = record { long = e; numbers = λ k m. let f : eqb k q 
 
 module _ (old new : Sheet) (q : ℕ) (counts counts' : List ℕ) (a : new .accepted ≡ old .accepted) (r : new .refused ≡ old .refused + 1) (t : new .ticks ≡ old .ticks)
     (m : new .greatest ≡ old .greatest) (g : new .groups ≡ old .groups) (u : new .used ≡ old .used) (v : new .cued ≡ old .cued) (n : CounterRaised q counts counts') where
-  one-refused : (js : List Judged) (p : ℕ) → Figures js old counts → Figures (js ++ (refuses q p ∷ [])) new counts'
+  one-refused : (js : List Judged) (p : ℕ) → SheetIs js old counts → SheetIs (js ++ (refuses q p ∷ [])) new counts'
   unfolding SheetGrows withRefused
   one-refused js p h =
       let grown : withRefused q (sheetOf js) ≡ sheetOf (js ++ (refuses q p ∷ [])) = sym (sheet-grows js .1 q p) in

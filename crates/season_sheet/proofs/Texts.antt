@@ -17,7 +17,7 @@ use Rattle.rules.proofs.LongestReport.{decimal-short, key-short}
 use Rattle.report_pieces.specs.Pieces.{Wrote}
 use Rattle.report_pieces.proofs.Laws.{joined-append, wrote-nothing, wrote-then, wrote-length}
 use Rattle.season_sheet.specs.declared.Sheet.{Sheet}
-use Rattle.season_sheet.specs.Figures.{figuresOf, Figures, frontText, metText, numbersText, tailText, SheetWritten}
+use Rattle.season_sheet.specs.Figures.{figuresOf, SheetIs, frontText, metText, numbersText, tailText, SheetWritten}
 
 -- a key and a number, and a line of another key and number
 pub pair-short : (first second : List ℕ) (x y : ℕ) → length ((first ++ decimal x) ++ keyLine second y) ≤ length first + length second + 41
@@ -134,7 +134,7 @@ numbers-same (suc m) q f g h e =
     let n = e q (omega arith) in
     λ i. cond (eqb (n i) 0) (r i) (keyLine (numberKey q) (n i) ∷ r i)
 
-pub text-same : (js : List Judged) (s : Sheet) (counts : List ℕ) → Figures js s counts → sheetText (figuresOf s counts) ≡ sheetText (sheetOf js)
+pub text-same : (js : List Judged) (s : Sheet) (counts : List ℕ) → SheetIs js s counts → sheetText (figuresOf s counts) ≡ sheetText (sheetOf js)
 unfolding sheetText
 text-same js s counts h =
     let n = numbers-same 20 1 (λ q. getD counts q 0) (sheetOf js .counts) (omega arith) (h .numbers) in

@@ -26,7 +26,7 @@ figuresOf s counts = record {
 }
 
 -- they are the sheet of these files
-pub record Figures (js : List Judged) (s : Sheet) (counts : List ℕ) : Type 0 where
+pub record SheetIs (js : List Judged) (s : Sheet) (counts : List ℕ) : Type 0 where
   pub accepts : s .accepted ≡ sheetOf js .accepted
   pub refusals : s .refused ≡ sheetOf js .refused
   pub numbers : (q : ℕ) → q < 21 → getD counts q 0 ≡ sheetOf js .counts q
@@ -36,7 +36,7 @@ pub record Figures (js : List Judged) (s : Sheet) (counts : List ℕ) : Type 0 w
 
 -- an accepted file more: it is the sheet with that file at the end; and what moved
 pub record Accepting (old : Sheet) (ticks len count : ℕ) (fresh : Bool) (new : Sheet) : Type 0 where
-  pub sheet : (js : List Judged) (s : Script) (counts : List ℕ) → Figures js old counts → ticks ≡ reportTicks ones s → fresh ≡ not (among s (scriptsOf js)) → Figures (js ++ (accepted s ∷ [])) new counts
+  pub sheet : (js : List Judged) (s : Script) (counts : List ℕ) → SheetIs js old counts → ticks ≡ reportTicks ones s → fresh ≡ not (among s (scriptsOf js)) → SheetIs (js ++ (accepted s ∷ [])) new counts
   pub accepts : new .accepted ≡ old .accepted + 1
   pub refusals : new .refused ≡ old .refused
   pub sum : new .ticks ≡ old .ticks + ticks
@@ -51,7 +51,7 @@ pub record CounterRaised (q : ℕ) (old new : List ℕ) : Type 0 where
 
 -- a refused file more
 pub record Refusing (old : Sheet) (q : ℕ) (counts counts' : List ℕ) (new : Sheet) : Type 0 where
-  pub sheet : (js : List Judged) (p : ℕ) → Figures js old counts → Figures (js ++ (refuses q p ∷ [])) new counts'
+  pub sheet : (js : List Judged) (p : ℕ) → SheetIs js old counts → SheetIs (js ++ (refuses q p ∷ [])) new counts'
   pub accepts : new .accepted ≡ old .accepted
   pub refusals : new .refused ≡ old .refused + 1
   pub sum : new .ticks ≡ old .ticks
@@ -81,5 +81,5 @@ tailText t g n = joined (keyLine ticksKey t ∷ (keyLine greatestKey g ∷ (keyL
 -- the sheet's text is written: that of its figures, and so of the files whose sheet it is
 pub record SheetWritten (s : Sheet) (counts old new : List ℕ) (r : ℕ) : Type 0 where
   pub text : Wrote (sheetText (figuresOf s counts)) old new r
-  pub season : (js : List Judged) → Figures js s counts → Wrote (sheetText (sheetOf js)) old new r
+  pub season : (js : List Judged) → SheetIs js s counts → Wrote (sheetText (sheetOf js)) old new r
   pub short : r ≤ 1_144

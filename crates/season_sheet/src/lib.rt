@@ -8,7 +8,7 @@ ghost use lib.ListN.{length, getD};
 ghost use Rattle.rules.specs.Report.{decimal, keyLine};
 ghost use Rattle.rules_season.specs.Season.{refusalText};
 ghost use Rattle.report_pieces.specs.Pieces.{Wrote};
-ghost use Rattle.season_sheet.specs.Figures.{Figures, Accepting, CounterRaised, Refusing, frontText, metText, numbersText, tailText, SheetWritten};
+ghost use Rattle.season_sheet.specs.Figures.{SheetIs, Accepting, CounterRaised, Refusing, frontText, metText, numbersText, tailText, SheetWritten};
 
 // The figures, but for the refusals by number, which stand in an array of 21; and how many bytes the reports and how many numbers the cues of the groups' first files take.
 pub struct Sheet {
@@ -23,7 +23,7 @@ pub struct Sheet {
 
 // The sheet of no file.
 pub fn empty(counts: &mut [u64; 21]) -> Sheet
-    ensures { λ r. ⌜ Figures [] r (now (counts .exit)) × (r .groups ≡ 0) × (r .used ≡ 0) × (r .cued ≡ 0) × (length (now (counts .exit)) ≡ 21) ⌝ }
+    ensures { λ r. ⌜ SheetIs [] r (now (counts .exit)) × (r .groups ≡ 0) × (r .used ≡ 0) × (r .cued ≡ 0) × (length (now (counts .exit)) ≡ 21) ⌝ }
 {
     *counts = [0; 21];
     Sheet {

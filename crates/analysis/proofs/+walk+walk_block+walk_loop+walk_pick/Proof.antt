@@ -18,7 +18,8 @@ use Rattle.analysis_steps.proofs.Walking.{ready, begin, pick-at, loop-at, at-cl
 use Rattle.analysis_intervals.specs.Env.{envOf, rangeOf}
 use Rattle.analysis_transfer.specs.Env.{widenedEnv}
 use Rattle.analysis_ranges.proofs.Loops.{outside-after}
-use Rattle.analysis.specs.Fold.{TallyLines, withLines, tallied, IsBlock}
+use Rattle.analysis_tallies.specs.Tallies.{TallyLines, withLines, tallied}
+use Rattle.analysis.specs.Fold.{IsBlock}
 use Rattle.analysis.proofs.Folding.{fold-none}
 use Rattle.analysis.proofs.Going.{block-shape, loop-shape, refused-in, closing, restart-walkable, Going, room, go-plain, go-block, block-stops, pick-room, pick-first, pick-second, part-by, past-pick, loop-room, loop-refused, body-refused, body-walkable, body-by, past-loop}
 use borrow.Fn.Kinds.{In}
@@ -38,12 +39,12 @@ use Rattle.analysis.proofs.+walk+walk_block+walk_loop+walk_pick.Lts-wal
 use Rattle.analysis_passes.proofs.branch.Reads as branch-reads
 use Rattle.analysis_transfer.proofs.step_row.Reads as step-row-reads
 use Rattle.analysis.proofs.after_pick.Reads as after-pick-reads
-use Rattle.analysis.proofs.ended.Reads as ended-reads
-use Rattle.analysis.proofs.enter_loop.Reads as enter-loop-reads
-use Rattle.analysis.proofs.leave_loop.Reads as leave-loop-reads
-use Rattle.analysis.proofs.leave_pick.Reads as leave-pick-reads
-use Rattle.analysis.proofs.past_row.Reads as past-row-reads
-use Rattle.analysis.proofs.restarted.Reads as restarted-reads
+use Rattle.analysis_tallies.proofs.ended.Reads as ended-reads
+use Rattle.analysis_entries.proofs.enter_loop.Reads as enter-loop-reads
+use Rattle.analysis_entries.proofs.leave_loop.Reads as leave-loop-reads
+use Rattle.analysis_tallies.proofs.leave_pick.Reads as leave-pick-reads
+use Rattle.analysis_tallies.proofs.past_row.Reads as past-row-reads
+use Rattle.analysis_tallies.proofs.restarted.Reads as restarted-reads
 use Rattle.analysis_table.proofs.past_else.Reads as past-else-reads
 use Rattle.analysis_table.proofs.shape_at.Reads as shape-at-reads
 use Rattle.analysis.proofs.+walk+walk_block+walk_loop+walk_pick.{statement}

@@ -2,7 +2,7 @@
 use borrow.Author.Needs.{needs}
 use native.Mathlib.Omega.{arith}
 use denote.Ref.{now}
-use mathlib.Core.Path.{_≡_, refl, sym, subst, _∙_}
+use mathlib.Core.Path.{_≡_, refl, sym, ap, _∙_}
 use Prim.Native.Nat.{ℕ, _-_, _≤_, _<_}
 use lib.ListN.{length}
 use Rattle.rules.specs.Blocks.{Block, done}
@@ -15,9 +15,10 @@ use Rattle.analysis_steps.specs.Tree.{blockAt, endAt, Ready}
 use Rattle.analysis_steps.proofs.Walking as walking
 use Rattle.analysis_steps.proofs.Walking.{begin, plain-next, plain-row, at-close}
 use Rattle.analysis_intervals.specs.Env.{envOf}
+use Rattle.analysis_ticks.specs.Capped.{capped}
 use Rattle.analysis.proofs.Legals.{ready, few-in}
-use Rattle.analysis_blocks.specs.Figure.{FigureOf}
-use Rattle.analysis_blocks.specs.Toward.{PartOf, AtBlock}
+use Rattle.analysis_blocks.specs.Figure.{blockTicks}
+use Rattle.analysis_blocks.specs.Toward.{PartOf, BlockBefore}
 use Rattle.analysis_blocks.proofs.Parts.{part-all, part-then, part-is, part-row}
 use Rattle.analysis_blocks.proofs.Results.{past-last, file-ends, figure-is}
 use Rattle.analysis_blocks.proofs.block_ticks.Statement.{statement}
@@ -77,7 +78,7 @@ loop-again c =
     )
 
 -- a block at such a row
-at-block : (c : tie.In-loop Inv μ) {s : Shape} → let a = c .before .before .before .before .args in let rows = rowsOf (now (a .rows)) in shapeOf (kindAt rows (c .before .loop .i)) ≡ s → AtBlock (now (a .text)) rows (a .count) (c .before .loop .i) (a .head) s (c .before .loop .r)
+at-block : (c : tie.In-loop Inv μ) {s : Shape} → let a = c .before .before .before .before .args in let rows = rowsOf (now (a .rows)) in shapeOf (kindAt rows (c .before .loop .i)) ≡ s → BlockBefore (now (a .text)) rows (a .count) (c .before .loop .i) (a .head) s (c .before .loop .r)
 at-block c h = let v = c .before .loop .inv in record { ready = ready-at (c .before .before .before .before) (below c); is = h; before = c .loop-test .taken; inside = c .before .before .if1 .left; ends = v .2; long = v .0 }
 
 toward-pick-requires : tie.Need-toward-pick-requires Inv μ
@@ -121,7 +122,8 @@ returns-3 c =
     let a = s .args in
     let v = c .before .before .loop .inv in
     let e : c .before .before .loop .i ≡ a .head = omega (arith, v .1, c .before .loop-test .left) in
-    subst (λ h. FigureOf (a .prices) (scriptOf (now (a .text)) (a .ranges) (a .vars) (rowsOf (now (a .rows))) (a .count)) h (c .own-ticks .result)) e (figure-is (a .prices) (now (a .text)) (a .ranges) (a .vars) (rowsOf (now (a .rows))) (a .count) (s .pre .0) (s .pre .1) (all s) (s .pre .3) _ _ (c .own-ticks .result) (v .3) (c .own-ticks .ensures))
+    let script = scriptOf (now (a .text)) (a .ranges) (a .vars) (rowsOf (now (a .rows))) (a .count) in
+    c .own-ticks .ensures ∙ figure-is (a .prices) (now (a .text)) (a .ranges) (a .vars) (rowsOf (now (a .rows))) (a .count) (s .pre .0) (s .pre .1) (all s) (s .pre .3) _ _ (s .pre .7) (v .3) ∙ ap (λ h. capped (blockTicks (a .prices) script h)) e
 
 pub block-ticks-spec : {M : Type 1} → statement M
 block-ticks-spec =

@@ -7,7 +7,8 @@ use mir.Val.{SFits}
 use mir.Facts.{toZ-ofZ, sfits-lit}
 use Rattle.ints.specs.Ints.{eqZ}
 use Rattle.ints.proofs.Parts.{ints, eqZ-yes, eqZ-no, eq-test}
-use Rattle.analysis_figures.specs.Needs.{meeting, wideRange}
+use Rattle.analysis_comparisons.specs.Wide.{wideRange}
+use Rattle.analysis_figures.specs.Needs.{meeting}
 use Rattle.analysis_figures.proofs.Answers.{apart-few}
 use Rattle.analysis_figures.proofs.Products.{Product, product}
 use Rattle.analysis_figures.proofs.meets.Statement.{statement}

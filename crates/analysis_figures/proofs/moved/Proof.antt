@@ -7,10 +7,11 @@ use borrow.Author.Tests.{leb-true}
 use mir.Syntax.{w64}
 use mir.Val.{SFits}
 use mir.Facts.{toZ-ofZ}
-use Rattle.rules_steps.specs.Joins.{cap}
+use Rattle.rules_steps.specs.Joins.{factorLimit}
 use Rattle.rules.specs.Steps.{moving}
 use Rattle.rules.specs.Turns.{moved}
-use Rattle.analysis_figures.proofs.Small.{Small, small, Summed, summed, Scaled, scaled}
+use Rattle.analysis_comparisons.proofs.Small.{Small, small}
+use Rattle.analysis_figures.proofs.Moves.{Summed, summed, Scaled, scaled}
 use Rattle.analysis_figures.proofs.moved.Statement.{statement}
 use Rattle.analysis_figures.proofs.moved.Tie as tie
 
@@ -27,7 +28,7 @@ sums c =
     (summed _ _ (s .pre .2 .low) (e .0), summed _ _ (s .pre .2 .high) (e .1))
 
 grown : (c : tie.After-known-told2) → let s = c .before .before .before .before .before in Scaled (s .args .s .lo) (c .before .step2 .given .0 .0) × Scaled (s .args .s .hi) (c .before .step2 .given .0 .0)
-unfolding cap
+unfolding factorLimit
 grown c =
     let s = c .before .before .before .before .before in
     let e = rw (c .before .step2 .given .1) at (s .pre .0) in
@@ -40,7 +41,7 @@ mul-t15 : tie.Need-mul-t15
 mul-t15 c = let k = grown c .1 in simp (toZ-ofZ (high (c .before .before .before .before .before) .a64), toZ-ofZ (k .f64)) (k .product)
 
 shrunk : (c : tie.After-known-told3) → let s = c .before .before .before .before .before in let f = c .before .step3 .given .0 .0 in Scaled (s .args .s .hi) f × (2 ≤ f) × (f ≤ 2_000_000_001)
-unfolding cap moving
+unfolding factorLimit moving
 shrunk c =
     let s = c .before .before .before .before .before in
     let e = rw (c .before .step3 .given .1) at (s .pre .0) in

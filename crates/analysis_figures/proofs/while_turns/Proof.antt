@@ -3,7 +3,7 @@ use mathlib.Core.Path.{_≡_, sym, subst₃}
 use lib.IntN.{ℤ}
 use Rattle.rules_steps.specs.declared.Step.the-variants.{Add}
 use Rattle.rules.specs.Ranges.{Sort, sort}
-use Rattle.analysis_figures.specs.declared.WideInterval.{WideInterval}
+use Rattle.analysis_comparisons.specs.declared.WideInterval.{WideInterval}
 use Rattle.analysis_figures.specs.Needs.{Countable}
 use borrow.Author.Needs.{sfits-of, needs}
 use mir.Syntax.{w64}

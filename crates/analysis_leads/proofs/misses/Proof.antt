@@ -1,70 +1,47 @@
 -- `analysis_leads::misses` meets its contract.
 use borrow.Author.Needs.{needs}
+use mathlib.Core.Path.{_≡_, refl, sym, _∙_}
+use mathlib.Core.Bool.{false}
 use mir.Syntax.{w32, w64}
 use mir.Val.{SFits}
 use mir.Facts.{toZ-ofZ}
+use Rattle.rules.specs.Ranges.{sort}
 use Rattle.rules.specs.Trips.{misses}
-use Rattle.analysis_figures.proofs.Small.{word}
+use Rattle.analysis_comparisons.proofs.Small.{word}
+use Rattle.analysis_comparisons.proofs.Sorts.{is-rising, is-falling, unordered}
+use Rattle.analysis_intervals.specs.Env.{rangeOf}
 use Rattle.analysis_leads.proofs.misses.Statement.{statement}
 use Rattle.analysis_leads.proofs.misses.Tie as tie
 
 cast-lo : tie.Need-cast-lo
-cast-lo c = let f : SFits w32 (c .before .before .args .s .lo) = search needs in let h = word _ f in search needs
+cast-lo c = let f : SFits w32 (c .before .before .before .before .args .s .lo) = search needs in let h = word _ f in search needs
 
 cast-hi : tie.Need-cast-hi
-cast-hi c = let f : SFits w32 (c .before .before .before .before .args .s .hi) = search needs in let h = word _ f in search needs
+cast-hi c = let f : SFits w32 (c .before .before .before .before .before .before .args .s .hi) = search needs in let h = word _ f in search needs
 
 returns : tie.Need-returns
 unfolding misses
 returns c =
-    let f : SFits w32 (c .before .before .before .before .before .before .args .s .lo) = search needs in
-    let g : SFits w64 (c .before .before .before .before .before .before .args .e) = search needs in
+    let a = c .before .before .before .before .args in
+    let f : SFits w32 (a .s .lo) = search needs in
+    let g : SFits w64 (a .e) = search needs in
     let h = word _ f in
-    rw (c .enum-told .given .1) (simp (toZ-ofZ f, toZ-ofZ (h .a64), toZ-ofZ g))
+    rw (is-rising (sort (a .comparison)) (sym (c .before .before .before .rises .ensures) ∙ c .before .before .if1 .taken)) (simp (toZ-ofZ f, toZ-ofZ (h .a64), toZ-ofZ g))
 
 returns-2 : tie.Need-returns-2
 unfolding misses
 returns-2 c =
-    let f : SFits w32 (c .before .before .before .before .before .before .args .s .lo) = search needs in
-    let g : SFits w64 (c .before .before .before .before .before .before .args .e) = search needs in
+    let a = c .before .before .before .before .before .before .args in
+    let f : SFits w32 (a .s .hi) = search needs in
+    let g : SFits w64 (a .e) = search needs in
     let h = word _ f in
-    rw (c .enum-told2 .given .1) (simp (toZ-ofZ f, toZ-ofZ (h .a64), toZ-ofZ g))
+    rw (is-falling (sort (a .comparison)) (sym (c .before .before .before .falls .ensures) ∙ c .before .before .if2 .taken)) (simp (toZ-ofZ f, toZ-ofZ (h .a64), toZ-ofZ g))
 
 returns-3 : tie.Need-returns-3
 unfolding misses
 returns-3 c =
-    let f : SFits w32 (c .before .before .before .before .before .before .args .s .hi) = search needs in
-    let g : SFits w64 (c .before .before .before .before .before .before .args .e) = search needs in
-    let h = word _ f in
-    rw (c .enum-told3 .given .1) (simp (toZ-ofZ f, toZ-ofZ (h .a64), toZ-ofZ g))
-
-returns-4 : tie.Need-returns-4
-unfolding misses
-returns-4 c =
-    let f : SFits w32 (c .before .before .before .before .before .before .args .s .hi) = search needs in
-    let g : SFits w64 (c .before .before .before .before .before .before .args .e) = search needs in
-    let h = word _ f in
-    rw (c .enum-told4 .given .1) (simp (toZ-ofZ f, toZ-ofZ (h .a64), toZ-ofZ g))
-
-returns-5 : tie.Need-returns-5
-unfolding misses
-returns-5 c = rw (c .enum-told5 .given .1)
-
-returns-6 : tie.Need-returns-6
-unfolding misses
-returns-6 c = rw (c .enum-told6 .given .1)
+    let a = c .before .before .before .before .args in
+    unordered (λ d. false ≡ misses d (rangeOf (a .s)) (a .e)) (sort (a .comparison)) (sym (c .before .before .before .rises .ensures) ∙ c .before .before .if1 .left) (sym (c .before .falls .ensures) ∙ c .if2 .left) refl refl
 
 pub misses-spec : {M : Type 1} → statement M
-misses-spec =
-    tie.close
-    (tie.spec
-    cast-lo
-    cast-hi
-    (λ c. search needs) (λ c. search needs) (λ c. search needs) (λ c. search needs)
-    (λ c. search needs) (λ c. search needs)
-    returns
-    returns-2
-    returns-3
-    returns-4
-    returns-5
-    returns-6)
+misses-spec = tie.close (tie.spec (λ c κs. search needs) cast-lo returns (λ c κs. search needs) cast-hi returns-2 returns-3)

@@ -8,7 +8,7 @@ use lib.IntN.{pos, _+ℤ_, _*ℤ_}
 use Rattle.rules.specs.Ranges.{Range, edge}
 use Rattle.rules.specs.Turns.{climb}
 use Rattle.rules.specs.Passes.{sum}
-use Rattle.analysis_figures.proofs.Small.{small}
+use Rattle.analysis_comparisons.proofs.Small.{small}
 use Rattle.analysis_passes.proofs.Values.{sum-is, step-up, near-more}
 use Rattle.analysis_passes.proofs.summed.Statement.{statement}
 use Rattle.analysis_passes.proofs.summed.Tie as tie

@@ -6,13 +6,13 @@ use native.Mathlib.Omega.{arith}
 use lib.ListN.{length}
 use Rattle.rules.specs.Ranges.{join}
 use Rattle.analysis_intervals.specs.Env.{envOf}
-use Rattle.analysis_transfer.specs.Env.{EnvIs, upTo}
+use Rattle.analysis_transfer.specs.Env.{EnvIs, envUpTo}
 use Rattle.analysis_transfer.proofs.Envs.{up-none, up-put, up-all, join-at, join-far}
 use Rattle.analysis_transfer.proofs.joined.Statement.{statement}
 use Rattle.analysis_transfer.proofs.joined.Tie as tie
 
 abbrev Inv-loop : tie.InvT-loop
-Inv-loop a b r₀ i₀ r i = (i ≤ 16) × EnvIs r (upTo i (join (envOf a) (envOf b)) (envOf a))
+Inv-loop a b r₀ i₀ r i = (i ≤ 16) × EnvIs r (envUpTo i (join (envOf a) (envOf b)) (envOf a))
 
 abbrev μ-loop : tie.MeasureT-loop
 μ-loop a b r₀ i₀ r i = 16 - i

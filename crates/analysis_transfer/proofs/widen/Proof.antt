@@ -6,14 +6,14 @@ use native.Mathlib.Omega.{arith}
 use lib.ListN.{length}
 use Rattle.analysis_steps.specs.Sets.{setOf}
 use Rattle.analysis_intervals.specs.Env.{envOf, rangeOf}
-use Rattle.analysis_transfer.specs.Env.{EnvIs, upTo, widenedEnv}
+use Rattle.analysis_transfer.specs.Env.{EnvIs, envUpTo, widenedEnv}
 use Rattle.analysis_transfer.proofs.Envs.{up-none, up-here, up-put, up-all}
 use Rattle.analysis_transfer.proofs.Loops.{wide-at, wide-far}
 use Rattle.analysis_transfer.proofs.widen.Statement.{statement}
 use Rattle.analysis_transfer.proofs.widen.Tie as tie
 
 abbrev Inv-loop : tie.InvT-loop
-Inv-loop r₀ set mine v w₀ r w = (w ≤ 16) × EnvIs r (upTo w (widenedEnv (setOf set) (rangeOf mine) v (envOf r₀)) (envOf r₀))
+Inv-loop r₀ set mine v w₀ r w = (w ≤ 16) × EnvIs r (envUpTo w (widenedEnv (setOf set) (rangeOf mine) v (envOf r₀)) (envOf r₀))
 
 abbrev μ-loop : tie.MeasureT-loop
 μ-loop r₀ set mine v w₀ r w = 16 - w

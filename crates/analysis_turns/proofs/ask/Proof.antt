@@ -12,7 +12,8 @@ use Rattle.rules.specs.Turns.{atTest}
 use Rattle.rules.specs.Trips.{Trip, firstOf, edgeOf}
 use Rattle.rules.specs.Questions.{known, hasFigure}
 use Rattle.analysis_trips.specs.Found.{tripOf}
-use Rattle.analysis_figures.specs.Needs.{wideRange, Countable}
+use Rattle.analysis_comparisons.specs.Wide.{wideRange}
+use Rattle.analysis_figures.specs.Needs.{Countable}
 use Rattle.analysis_figures.proofs.Answers.{countable, turns-few}
 use Rattle.analysis_figures.proofs.Moves.{ranged}
 use Rattle.analysis_turns.proofs.Verdicts.{refused-19, refused-8, refused-9, refused-10, refused-11, refused-12, accepted, not-yes, not-no}

@@ -10,7 +10,7 @@ use Rattle.rules.specs.Claim.{Demand3Of}
 use Rattle.rules.proofs.Demand3File.{demand3-script}
 use Rattle.calls.specs.declared.Outcome.{Outcome}
 use Rattle.calls.specs.Held.{judgedScript, FiguresFound}
-use Rattle.calls.specs.Told.{Ran}
+use Rattle.calls.specs.Told.{RanAs}
 use Rattle.calls.proofs.Tables.{four, fine, few-rows, found-by}
 use Rattle.calls.proofs.Judging.{ticks-few}
 use Rattle.calls.proofs.Runs.{told-says, ran-no, ran-out, may-run, ran-all}
@@ -38,8 +38,8 @@ found c = let s = c .before .before .before .before .before in found-by _ _ _ _ 
 
 -- demand 3 of that answer
 with-kept : (s : tie.Start) (o : Outcome) (new : List ℤ)
-    → Ran (runReply (s .args .prices .now) (judgedScript (s .args .prices .now) (script s)) (s .args .store .now) (s .args .picks .now) (s .args .allowance)) (s .args .store .now) new o
-    → Ran (runReply (s .args .prices .now) (judgedScript (s .args .prices .now) (script s)) (s .args .store .now) (s .args .picks .now) (s .args .allowance)) (s .args .store .now) new o
+    → RanAs (runReply (s .args .prices .now) (judgedScript (s .args .prices .now) (script s)) (s .args .store .now) (s .args .picks .now) (s .args .allowance)) (s .args .store .now) new o
+    → RanAs (runReply (s .args .prices .now) (judgedScript (s .args .prices .now) (script s)) (s .args .store .now) (s .args .picks .now) (s .args .allowance)) (s .args .store .now) new o
     × Demand3Of (s .args .prices .now) (judgedScript (s .args .prices .now) (script s)) (s .args .store .now) (s .args .picks .now) (s .args .allowance) (o .ending) (o .ticks) (take (o .loops) (o .counts))
 with-kept s o new r =
     (r, demand3-script (s .args .prices .now) (s .args .store .now) (s .args .picks .now) (s .args .allowance) (o .ending) (o .ticks) (take (o .loops) (o .counts)) (s .pre .1) (script s) (s .pre .0 .legal) (told-says o (runReply (s .args .prices .now) (judgedScript (s .args .prices .now) (script s)) (s .args .store .now) (s .args .picks .now) (s .args .allowance)) (r .told)))

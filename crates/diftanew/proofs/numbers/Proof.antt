@@ -2,20 +2,20 @@
 use mathlib.Core.Path.{_≡_, refl}
 use Prim.Native.Nat.{_-_, _≤_, min}
 use native.Mathlib.Numerals.{add-one}
-use Rattle.diftanew.specs.Numbers.{upTo, headNumbers, numbersOf}
+use Rattle.diftanew.specs.Numbers.{loopNumbers, headNumbers, numbersOf}
 use borrow.Author.Needs.{needs}
 use native.Mathlib.Omega.{arith}
 use Rattle.diftanew.proofs.numbers.Statement.{statement}
 use Rattle.diftanew.proofs.numbers.Tie as tie
 
 abbrev Inv-loop : tie.InvT-loop
-Inv-loop loops counts n a₀ k₀ a k = (k ≤ n) × (a ≡ upTo k counts a₀)
+Inv-loop loops counts n a₀ k₀ a k = (k ≤ n) × (a ≡ loopNumbers k counts a₀)
 
 abbrev μ-loop : tie.MeasureT-loop
 μ-loop loops counts n a₀ k₀ a k = n - k
 
 loop-holds : tie.Need-loop-holds Inv-loop μ-loop
-unfolding upTo
+unfolding loopNumbers
 loop-holds c = (omega arith, refl)
 
 array-copy-out-c : tie.Need-array-copy-out-c Inv-loop μ-loop
@@ -31,7 +31,7 @@ array-write-a-8 : tie.Need-array-write-a-8 Inv-loop μ-loop
 array-write-a-8 c = let h = c .before .before .before .before .at-most-16 .ensures in search needs
 
 loop-again : tie.Need-loop-again Inv-loop μ-loop
-unfolding upTo
+unfolding loopNumbers
 loop-again c = (omega (arith, c .before .loop-test .taken), rw (add-one, c .before .before .loop .inv .1) refl)
 
 returns : tie.Need-returns Inv-loop μ-loop

@@ -8,7 +8,7 @@ use Rattle.rules.specs.Blocks.{Block}
 use Rattle.rules.specs.Steps.{assigns}
 use Rattle.rules.specs.Trips.{keeps}
 use Rattle.rules.specs.Parse.{exprIn, parse}
-use Rattle.rules.specs.Written.{Passed}
+use Rattle.rules.specs.Written.{PassedWord}
 use Rattle.expression_names.specs.Keeping.{kept}
 use Rattle.expression_names.proofs.Keeping.{Unnamed, unnamed-none, unnamed-more, named-at, unnamed-all, passed-keeps}
 use borrow.Author.Needs.{needs}
@@ -22,7 +22,7 @@ abbrev μ-loop : tie.MeasureT-loop
 μ-loop word set i₀ i = length word - i
 
 -- by the bytes as by the tree
-same : {r : Bool} (set : List Bool) (word : List ℕ) → Passed word → kept (λ w. getD set w false) word ≡ r → (body : Block) → ((w : ℕ) → getD set w false ≡ assigns w body) → r ≡ keeps (exprIn (parse word)) body
+same : {r : Bool} (set : List Bool) (word : List ℕ) → PassedWord word → kept (λ w. getD set w false) word ≡ r → (body : Block) → ((w : ℕ) → getD set w false ≡ assigns w body) → r ≡ keeps (exprIn (parse word)) body
 same set word p e body h = sym e ∙ ap (λ f. kept f word) (fun-ext h) ∙ passed-keeps body word p
 
 returns : tie.Need-returns Inv-loop μ-loop

@@ -2,12 +2,12 @@ use mir.Syntax.{w32}
 use mir.Val.{SFits}
 use mir.Facts.{toZ-ofZ}
 use borrow.Author.Needs.{needs, sfits-of}
-use Rattle.rules.specs.Evaluate.{held}
+use Rattle.rules.specs.Evaluate.{clamped}
 use Rattle.expression_operators.proofs.held.Statement.{statement}
 use Rattle.expression_operators.proofs.held.Tie as tie
 
 returns : tie.Need-returns
-unfolding held
+unfolding clamped
 returns c =
     let f = c .before .before .before .before .fits in
     let g0 : SFits w32 (c .before .before .before .clamp .result) = sfits-of (c .before .before .before .clamp .ok) in

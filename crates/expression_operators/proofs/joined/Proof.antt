@@ -6,17 +6,17 @@ use borrow.Author.Needs.{needs, sfits-of}
 use borrow.Author.Tests.{eq-eqb, ne-eqb}
 use Rattle.ints.specs.Ints.{minZ, maxZ}
 use Rattle.rules.specs.Expressions.{operate}
-use Rattle.rules.specs.Evaluate.{held, least, most, combined}
-use Rattle.expression_operators.specs.Operators.{joins, operatorOf}
+use Rattle.rules.specs.Evaluate.{clamped, least, largest, combined}
+use Rattle.expression_operators.specs.Operators.{joinedBy, operatorOf}
 use Rattle.expression_operators.proofs.joined.Statement.{statement}
 use Rattle.expression_operators.proofs.joined.Tie as tie
 
 returns : tie.Need-returns
-unfolding joins
+unfolding joinedBy
 returns c = (rw (eq-eqb _ _ (c .if1 .taken)), refl)
 
 returns-2 : tie.Need-returns-2
-unfolding joins combined least most
+unfolding joinedBy combined least largest
 returns-2 c =
     let e = c .before .before .before .before .before .before .before .before .before .before .before .before .before .before .before .before .before .before .before .before .before .before .before in
     let s = e .before .args in
@@ -57,7 +57,7 @@ returns-2 c =
     let m1 : higher .result ≡ maxZ (operate1 .result) (operate2 .result) = simp (toZ-ofZ operate1-fits, toZ-ofZ operate2-fits) at (higher .ensures) in
     let m2 : higher2 .result ≡ maxZ (operate3 .result) (operate4 .result) = simp (toZ-ofZ operate3-fits, toZ-ofZ operate4-fits) at (higher2 .ensures) in
     let m3 : higher3 .result ≡ maxZ (higher .result) (higher2 .result) = simp (toZ-ofZ higher-fits, toZ-ofZ higher2-fits) at (higher3 .ensures) in
-    let v : h .result ≡ held (lower3 .result) (higher3 .result) = simp (toZ-ofZ lower3-fits, toZ-ofZ higher3-fits) at (h .ensures) in
+    let v : h .result ≡ clamped (lower3 .result) (higher3 .result) = simp (toZ-ofZ lower3-fits, toZ-ofZ higher3-fits) at (h .ensures) in
     (rw (ne-eqb _ _ (e .if1 .left), toZ-ofZ g0, toZ-ofZ g1, v, l3, l1, l2, m3, m1, m2, e1, e2, e3, e4), refl)
 
 pub joined-spec : {M : Type 1} → statement M

@@ -7,13 +7,13 @@ use borrow.Author.Needs.{needs, sfits-of}
 use borrow.Author.Tests.{eq-eqb, ne-eqb}
 use Rattle.rules.specs.Expressions.{operate}
 use Rattle.rules.specs.Values.{inLimits}
-use Rattle.expression_operators.specs.Operators.{joins, operatorOf}
+use Rattle.expression_operators.specs.Operators.{joinedBy, operatorOf}
 use Rattle.expression_operators.proofs.Operators.{limits-fit, run-within, run-past}
 use Rattle.expression_operators.proofs.joined_run.Statement.{statement}
 use Rattle.expression_operators.proofs.joined_run.Tie as tie
 
 returns : tie.Need-returns
-unfolding joins
+unfolding joinedBy
 returns c = (rw (eq-eqb _ _ (c .if1 .taken)), refl)
 
 cast-t8 : tie.Need-cast-t8
@@ -23,7 +23,7 @@ cast-t8 c =
     rw (toZ-ofZ g) (limits-fit _ (simp (toZ-ofZ g) at (sym (c .before .within .ensures) ∙ c .if2 .taken)))
 
 returns-2 : tie.Need-returns-2
-unfolding joins
+unfolding joinedBy
 returns-2 c =
     let w = c .before .before .before .within in
     let o = c .before .before .before .before .operate in
@@ -37,7 +37,7 @@ returns-2 c =
     (rw (ne-eqb _ _ (i .if1 .left), toZ-ofZ g, toZ-ofZ (limits-fit _ yes), e) (run-within _ _ _ (rw e at yes) (s .a .past) (s .b .past)), refl)
 
 returns-3 : tie.Need-returns-3
-unfolding joins
+unfolding joinedBy
 returns-3 c =
     let o = c .before .before .operate in
     let i = c .before .before .before .before .before in

@@ -5,20 +5,20 @@ use denote.Ref.{now}
 use borrow.Author.Needs.{needs}
 use Rattle.rules.specs.Parse.{parse}
 use Rattle.rules.specs.File.{asksExpr}
-use Rattle.expression_questions.specs.Asking.{outcome, ahead}
+use Rattle.expression_questions.specs.Asking.{scanQuestion, bytesAhead}
 use Rattle.expression_questions.proofs.Asking.{walk-asks}
 use Rattle.expression_questions.proofs.Scanning.{at-end, at-wrong}
 use Rattle.expression_questions.proofs.question.Statement.{statement}
 use Rattle.expression_questions.proofs.question.Tie as tie
 
 abbrev Inv-loop : tie.InvT-loop
-Inv-loop word vars c₀ c = (outcome vars word c ≡ asksExpr vars (parse word)) × (c .depth ≤ c .at) × (c .ops ≤ c .at)
+Inv-loop word vars c₀ c = (scanQuestion vars word c ≡ asksExpr vars (parse word)) × (c .depth ≤ c .at) × (c .ops ≤ c .at)
 
 abbrev μ-loop : tie.MeasureT-loop
-μ-loop word vars c₀ c = ahead word c
+μ-loop word vars c₀ c = bytesAhead word c
 
 loop-holds : tie.Need-loop-holds Inv-loop μ-loop
-unfolding outcome
+unfolding scanQuestion
 loop-holds c = (walk-asks _ _, omega arith, omega arith)
 
 returns : tie.Need-returns Inv-loop μ-loop

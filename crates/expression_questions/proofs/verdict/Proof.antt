@@ -7,7 +7,7 @@ use lib.Dec.{leb}
 use borrow.Author.Needs.{needs}
 use borrow.Author.Tests.{le-leb, lt-leb}
 use Rattle.rules.specs.File.{firstRefusal}
-use Rattle.expression_questions.specs.Asking.{Sizes, due, shut, sizesOf, decided, finished, ended}
+use Rattle.expression_questions.specs.Asking.{Sizes, due, shut, sizesOf, decided, finished, endQuestion}
 use Rattle.expression_questions.proofs.verdict.Statement.{statement}
 use Rattle.expression_questions.proofs.verdict.Tie as tie
 
@@ -26,19 +26,19 @@ and-false true = refl
 and-false false = refl
 
 returns : tie.Need-returns
-unfolding ended
+unfolding endQuestion
 returns c = rw (c .if1 .taken)
 
 returns-2 : tie.Need-returns-2
-unfolding ended
+unfolding endQuestion
 returns-2 c = rw (c .before .before .if1 .left) (open-one _ _ (c .if2 .taken))
 
 returns-3 : tie.Need-returns-3
-unfolding ended decided firstRefusal
+unfolding endQuestion decided firstRefusal
 returns-3 c = rw (c .before .before .before .before .before .before .if1 .left) (rw (le-leb _ _ (c .before .before .if3 .taken), le-leb _ _ (c .if4 .taken)) at (open-none _ (sizesOf (c .before .before .before .before .before .before .before .args .c)) (c .before .before .before .before .if2 .left)))
 
 returns-4 : tie.Need-returns-4
-unfolding ended decided
+unfolding endQuestion decided
 returns-4 c =
     let a = c .before .before .before .before .before .before .args .c in
     let big : leb (a .deep) 8 && leb (a .ops) 15 ≡ false = ⊎-elim (λ w. rw (lt-leb _ _ (w .2 .left)) (and-false (leb (a .deep) 8))) (λ w. rw (lt-leb _ _ (w .left))) (c .before .if3 .came) in

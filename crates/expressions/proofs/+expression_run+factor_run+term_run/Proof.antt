@@ -14,7 +14,7 @@ use Rattle.rules.specs.Parse.{afterTerm, afterFactor, readExpression, readTerm,
 use Rattle.rules.proofs.Parsing.{term-is, expression-is}
 use Rattle.rules.specs.Values.{number}
 use Rattle.rules.specs.Scripts.{storeOf}
-use Rattle.expression_operators.specs.Operators.{operatorOf, run, resultIn}
+use Rattle.expression_operators.specs.Operators.{operatorOf, runNumbers, partResult}
 use Rattle.expressions.proofs.Evaluating.{ChainBegun, begins, reads, goes, stops, no-factor, end-factor, more-factor, no-term, end-term, more-term, sums-later, factor-atom, factor-group}
 use Rattle.expressions.proofs.expression_run.Reads as expression-run
 use Rattle.expressions.proofs.expression_run.Kinds as expression-run-kinds
@@ -70,13 +70,13 @@ abbrev term-run-given : ℕ → term-run-lts.Claims
 term-run-given t = (factor-run-below t, factor-run.Post, joined-run-reads.Asked, joined-run-reads.Learnt)
 
 abbrev expression-run-inv : expression-run-lts.InvT-loop
-expression-run-inv text at store got₀ op₀ from₀ got op from = ChainBegun run (λ w. number (storeOf store w)) text (readTerm (λ x. x)) afterTerm readExpression expression-is at op (resultIn got) from
+expression-run-inv text at store got₀ op₀ from₀ got op from = ChainBegun runNumbers (λ w. number (storeOf store w)) text (readTerm (λ x. x)) afterTerm readExpression expression-is at op (partResult got) from
 
 abbrev expression-run-μ : expression-run-lts.MeasureT-loop
 expression-run-μ text at store got₀ op₀ from₀ got op from = length text - from
 
 abbrev term-run-inv : term-run-lts.InvT-loop
-term-run-inv text at store got₀ op₀ from₀ got op from = ChainBegun run (λ w. number (storeOf store w)) text readFactor afterFactor readTerm term-is at op (resultIn got) from
+term-run-inv text at store got₀ op₀ from₀ got op from = ChainBegun runNumbers (λ w. number (storeOf store w)) text readFactor afterFactor readTerm term-is at op (partResult got) from
 
 abbrev term-run-μ : term-run-lts.MeasureT-loop
 term-run-μ text at store got₀ op₀ from₀ got op from = length text - from

@@ -8,7 +8,7 @@ use mir.Facts.{toZ-ofZ}
 use Rattle.ints.proofs.Parts.{ints, minus-parts}
 use borrow.Author.Needs.{needs}
 use borrow.Author.Tests.{le-leb, lt-leb, ne-eqb}
-use Rattle.program_words.specs.declared.Value.the-variants.{Is}
+use Rattle.program_words.specs.declared.StoreValue.the-variants.{Is}
 use Rattle.program_words.proofs.downward.Statement.{statement}
 use Rattle.program_words.proofs.downward.Tie as tie
 

@@ -6,7 +6,7 @@ use Rattle.rules.specs.Blocks.{kindOf}
 use Rattle.rules.specs.File.{asksEnd, bareRow}
 use Rattle.rules.specs.declared.Word.the-variants.{Missing}
 use Rattle.reading_text.proofs.Line.{Reached, reach-none, reach-last}
-use Rattle.reading_rows.specs.Rows.{after}
+use Rattle.reading_rows.specs.Rows.{wordsAfter}
 use Rattle.reading_rows.proofs.Laws.{checked-read, checked-wrong, lined-read, lined-wrong, bare-says}
 use borrow.Author.Needs.{needs}
 use Rattle.reading_rows.proofs.bare_row.Statement.{statement}
@@ -16,7 +16,7 @@ use Rattle.reading_rows.proofs.bare_row.Tie as tie
 reached : (c : tie.Start) → Reached (now (c .args .s)) (c .args .at) 0 (c .args .at)
 reached c = reach-none _ _ (c .pre .0)
 
-asked : (c : tie.After-asks-last) → let a = c .before .before .args in c .asks-last .result ≡ asksEnd (after Missing (drop (a .at) (now (a .s))) 1)
+asked : (c : tie.After-asks-last) → let a = c .before .before .args in c .asks-last .result ≡ asksEnd (wordsAfter Missing (drop (a .at) (now (a .s))) 1)
 asked c = c .asks-last .ensures ∙ reach-last _ _ 0 _ (reached (c .before .before))
 
 returns : tie.Need-returns

@@ -6,7 +6,7 @@ use Rattle.rules.proofs.ReadLegal.{refusal-yes}
 use Rattle.rules.specs.File.{firstRefusal, asksEnd, asksNumber, cueRow}
 use Rattle.rules.specs.declared.Word.the-variants.{Missing}
 use Rattle.reading_text.proofs.Line.{Reached, reach-none, reach-word, reach-last}
-use Rattle.reading_rows.specs.Rows.{after}
+use Rattle.reading_rows.specs.Rows.{wordsAfter}
 use Rattle.reading_rows.proofs.Laws.{checked-read, checked-wrong, lined-read, lined-wrong}
 use Rattle.reading_words.proofs.Laws.{number-wider}
 use Rattle.rules.specs.Values.{highest}
@@ -17,12 +17,12 @@ use Rattle.reading_rows.proofs.cue_row.Statement.{statement}
 use Rattle.reading_rows.proofs.cue_row.Tie as tie
 
 -- the word read
-words : (c : tie.After-said) → let a = c .before .before .before .before .args in let w = after Missing (drop (a .at) (now (a .s))) in
+words : (c : tie.After-said) → let a = c .before .before .before .before .args in let w = wordsAfter Missing (drop (a .at) (now (a .s))) in
     (c .said .result ≡ w 1) × Reached (now (a .s)) (a .at) 1 (c .before .before .next-word .result .end)
 words c = reach-word _ _ 0 _ (reach-none _ _ (c .before .before .before .before .pre)) _ (c .before .before .next-word .ensures) _ (search needs, c .said .ensures)
 
 -- the words' questions
-asked : (c : tie.After-first-refusal) → let a = c .before .before .before .before .before .before .before .args in let w = after Missing (drop (a .at) (now (a .s))) in
+asked : (c : tie.After-first-refusal) → let a = c .before .before .before .before .before .before .before .args in let w = wordsAfter Missing (drop (a .at) (now (a .s))) in
     c .first-refusal .result ≡ firstRefusal (asksNumber (pos 0) (pos 9_999) (w 1)) (asksEnd (w 2))
 asked c = let (n, r) = words (c .before .before .before) in
     rw (c .first-refusal .ensures, c .before .before .asks-number .ensures, c .before .asks-last .ensures, n, reach-last _ _ 1 _ r)

@@ -6,14 +6,14 @@ use Rattle.rules.specs.Parse.{shapeless}
 use Rattle.rules.specs.File.{asksFor, forRow}
 use Rattle.rules.specs.declared.Word.the-variants.{Missing}
 use Rattle.reading_text.proofs.Line.{Reached, reach-none, reach-word, reach-last}
-use Rattle.reading_rows.specs.Rows.{after, exprs}
+use Rattle.reading_rows.specs.Rows.{wordsAfter, exprs}
 use Rattle.reading_rows.proofs.Laws.{checked-read, checked-wrong, Spelled, spelled, spelled-asks, spelled-fits, spelled-says, lined-read, lined-wrong, for-yes}
 use borrow.Author.Needs.{sfits-of, needs}
 use Rattle.reading_rows.proofs.for_row.Statement.{statement}
 use Rattle.reading_rows.proofs.for_row.Tie as tie
 
 -- the words read
-words : (c : tie.After-said6) → let a = c .before .before .before .before .before .before .before .before .before .before .before .before .before .before .before .before .before .before .before .args in let w = after Missing (drop (a .at) (now (a .s))) in
+words : (c : tie.After-said6) → let a = c .before .before .before .before .before .before .before .before .before .before .before .before .before .before .before .before .before .before .before .args in let w = wordsAfter Missing (drop (a .at) (now (a .s))) in
     (c .before .before .before .before .before .before .before .before .before .before .before .before .before .before .before .said .result ≡ w 1) × Spelled (now (a .s)) (a .at) 1 (a .vars) (c .before .before .before .before .before .before .before .before .before .before .before .before .before .before .before .before .before .next-word .result .end) (c .before .before .before .before .before .before .before .before .before .before .before .before .before .before .next-word2 .result .end) (c .before .before .before .before .before .before .before .before .before .before .before .before .said2 .result) × (c .before .before .before .before .before .before .before .before .before .said3 .result ≡ w 3)
     × Spelled (now (a .s)) (a .at) 3 (a .vars) (c .before .before .before .before .before .before .before .before .before .before .before .next-word3 .result .end) (c .before .before .before .before .before .before .before .before .next-word4 .result .end) (c .before .before .before .before .before .before .said4 .result) × (c .before .before .before .said5 .result ≡ w 5) × (c .said6 .result ≡ w 6) × Reached (now (a .s)) (a .at) 6 (c .before .before .next-word6 .result .end)
 words c = let h = c .before .before .before .before .before .before .before .before .before .before .before .before .before .before .before .before .before .before .before .pre in
@@ -32,7 +32,7 @@ asks-expression-requires-2 : tie.Need-asks-expression-requires-2
 asks-expression-requires-2 c κs = let (_, t, _, _, _, _, _) = words (c .before .before .before .before .before .before .before) in (t .long, t .few, t .means)
 
 -- the words' questions
-asked : (c : tie.After-first-refusal5) → let a = c .before .before .before .before .before .before .before .before .before .before .before .before .before .before .before .before .before .before .before .before .before .before .before .before .before .before .before .before .before .before .args in c .first-refusal5 .result ≡ asksFor (a .vars) (after Missing (drop (a .at) (now (a .s)))) (exprs shapeless (drop (a .at) (now (a .s))))
+asked : (c : tie.After-first-refusal5) → let a = c .before .before .before .before .before .before .before .before .before .before .before .before .before .before .before .before .before .before .before .before .before .before .before .before .before .before .before .before .before .before .args in c .first-refusal5 .result ≡ asksFor (a .vars) (wordsAfter Missing (drop (a .at) (now (a .s)))) (exprs shapeless (drop (a .at) (now (a .s))))
 unfolding asksFor
 asked c = let (v, x, o, y, n, z, r) = words (c .before .before .before .before .before .before .before .before .before .before .before) in
     rw (c .first-refusal5 .ensures, c .before .asks-variable .ensures, c .before .before .first-refusal4 .ensures, spelled-asks x (c .before .before .before .asks-expression2 .ensures), c .before .before .before .before .first-refusal3 .ensures, c .before .before .before .before .before .asks-comparison .ensures, c .before .before .before .before .before .before .first-refusal2 .ensures, spelled-asks y (c .before .before .before .before .before .before .before .asks-expression .ensures), c .before .before .before .before .before .before .before .before .first-refusal .ensures, c .before .before .before .before .before .before .before .before .before .before .asks-step .ensures, c .before .before .before .before .before .before .before .before .before .asks-last .ensures, v, o, n, z, reach-last _ _ 6 _ r)

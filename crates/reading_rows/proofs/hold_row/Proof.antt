@@ -6,19 +6,19 @@ use Rattle.rules.proofs.ReadLegal.{refusal-yes}
 use Rattle.rules.specs.File.{firstRefusal, asksEnd, asksVariable, holdRow}
 use Rattle.rules.specs.declared.Word.the-variants.{Missing}
 use Rattle.reading_text.proofs.Line.{Reached, reach-none, reach-word, reach-last}
-use Rattle.reading_rows.specs.Rows.{after}
+use Rattle.reading_rows.specs.Rows.{wordsAfter}
 use Rattle.reading_rows.proofs.Laws.{checked-read, checked-wrong, lined-read, lined-wrong}
 use borrow.Author.Needs.{needs}
 use Rattle.reading_rows.proofs.hold_row.Statement.{statement}
 use Rattle.reading_rows.proofs.hold_row.Tie as tie
 
 -- the word read
-words : (c : tie.After-said) → let a = c .before .before .before .before .args in let w = after Missing (drop (a .at) (now (a .s))) in
+words : (c : tie.After-said) → let a = c .before .before .before .before .args in let w = wordsAfter Missing (drop (a .at) (now (a .s))) in
     (c .said .result ≡ w 1) × Reached (now (a .s)) (a .at) 1 (c .before .before .next-word .result .end)
 words c = reach-word _ _ 0 _ (reach-none _ _ (c .before .before .before .before .pre .0)) _ (c .before .before .next-word .ensures) _ (search needs, c .said .ensures)
 
 -- the words' questions
-asked : (c : tie.After-first-refusal) → let a = c .before .before .before .before .before .before .before .args in let w = after Missing (drop (a .at) (now (a .s))) in
+asked : (c : tie.After-first-refusal) → let a = c .before .before .before .before .before .before .before .args in let w = wordsAfter Missing (drop (a .at) (now (a .s))) in
     c .first-refusal .result ≡ firstRefusal (asksVariable (a .vars) (w 1)) (asksEnd (w 2))
 asked c = let (n, r) = words (c .before .before .before) in
     rw (c .first-refusal .ensures, c .before .before .asks-variable .ensures, c .before .asks-last .ensures, n, reach-last _ _ 1 _ r)

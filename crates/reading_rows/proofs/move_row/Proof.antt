@@ -5,19 +5,19 @@ use Rattle.rules.specs.Blocks.{kindOf}
 use Rattle.rules.specs.File.{firstRefusal, asksEnd, asksVariable, asksChange, moveRow}
 use Rattle.rules.specs.declared.Word.the-variants.{Missing}
 use Rattle.reading_text.proofs.Line.{Reached, reach-two, reach-last}
-use Rattle.reading_rows.specs.Rows.{after}
+use Rattle.reading_rows.specs.Rows.{wordsAfter}
 use Rattle.reading_rows.proofs.Laws.{two-yes, checked-read, checked-wrong, lined-read, lined-wrong}
 use borrow.Author.Needs.{needs}
 use Rattle.reading_rows.proofs.move_row.Statement.{statement}
 use Rattle.reading_rows.proofs.move_row.Tie as tie
 
 -- the words read
-words : (c : tie.After-said2) → let a = c .before .before .before .before .before .before .before .args in let w = after Missing (drop (a .at) (now (a .s))) in
+words : (c : tie.After-said2) → let a = c .before .before .before .before .before .before .before .args in let w = wordsAfter Missing (drop (a .at) (now (a .s))) in
     (c .before .before .before .said .result ≡ w 1) × (c .said2 .result ≡ w 2) × Reached (now (a .s)) (a .at) 2 (c .before .before .next-word2 .result .end)
 words c = reach-two _ _ (c .before .before .before .before .before .before .before .pre .0) _ (c .before .before .before .before .before .next-word .ensures) _ (search needs, c .before .before .before .said .ensures) _ (c .before .before .next-word2 .ensures) _ (search needs, c .said2 .ensures)
 
 -- the words' questions
-asked : (c : tie.After-first-refusal2) → let a = c .before .before .before .before .before .before .before .before .before .before .before .before .args in let w = after Missing (drop (a .at) (now (a .s))) in
+asked : (c : tie.After-first-refusal2) → let a = c .before .before .before .before .before .before .before .before .before .before .before .before .args in let w = wordsAfter Missing (drop (a .at) (now (a .s))) in
     c .first-refusal2 .result ≡ firstRefusal (asksVariable (a .vars) (w 1)) (firstRefusal (asksChange (a .name) (w 2)) (asksEnd (w 3)))
 asked c = let (v, x, r) = words (c .before .before .before .before .before) in
     rw (c .first-refusal2 .ensures, c .before .asks-variable .ensures, c .before .before .first-refusal .ensures, c .before .before .before .before .asks-change .ensures, c .before .before .before .asks-last .ensures, v, x, reach-last _ _ 2 _ r)

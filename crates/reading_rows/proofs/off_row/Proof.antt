@@ -9,14 +9,14 @@ use Rattle.rules.specs.Values.{lowest, highest}
 use Rattle.rules.specs.File.{firstRefusal, asksEnd, asksNumber, asksVariable, asksOrdered, offRow}
 use Rattle.rules.specs.declared.Word.the-variants.{Missing}
 use Rattle.reading_text.proofs.Line.{Reached, reach-two, reach-word, reach-last}
-use Rattle.reading_rows.specs.Rows.{after}
+use Rattle.reading_rows.specs.Rows.{wordsAfter}
 use Rattle.reading_rows.proofs.Laws.{checked-read, checked-wrong, four-yes, lined-read, lined-wrong}
 use borrow.Author.Needs.{sfits-of, needs}
 use Rattle.reading_rows.proofs.off_row.Statement.{statement}
 use Rattle.reading_rows.proofs.off_row.Tie as tie
 
 -- the words read
-words : (c : tie.After-said4) → let a = c .before .before .before .before .before .before .before .before .before .before .before .before .before .args in let w = after Missing (drop (a .at) (now (a .s))) in
+words : (c : tie.After-said4) → let a = c .before .before .before .before .before .before .before .before .before .before .before .before .before .args in let w = wordsAfter Missing (drop (a .at) (now (a .s))) in
     (c .before .before .before .before .before .before .before .before .before .said .result ≡ w 1) × (c .before .before .before .before .before .before .said2 .result ≡ w 2) × (c .before .before .before .said3 .result ≡ w 3) × (c .said4 .result ≡ w 4) × Reached (now (a .s)) (a .at) 4 (c .before .before .next-word4 .result .end)
 words c = let h = c .before .before .before .before .before .before .before .before .before .before .before .before .before .pre in
     let (v, w, p) = reach-two _ _ (h .0) _ (c .before .before .before .before .before .before .before .before .before .before .before .next-word .ensures) _ (sfits-of (c .before .before .before .before .before .before .before .before .before .before .struct-told .given .1 .0 .1), c .before .before .before .before .before .before .before .before .before .said .ensures) _ (c .before .before .before .before .before .before .before .before .next-word2 .ensures) _ (sfits-of (c .before .before .before .before .before .before .before .struct-told2 .given .1 .0 .1), c .before .before .before .before .before .before .said2 .ensures) in
@@ -25,7 +25,7 @@ words c = let h = c .before .before .before .before .before .before .before .bef
     (v, w, o, k, r)
 
 -- the words' questions
-asked : (c : tie.After-first-refusal4) → let a = c .before .before .before .before .before .before .before .before .before .before .before .before .before .before .before .before .before .before .before .before .before .before .args in let w = after Missing (drop (a .at) (now (a .s))) in
+asked : (c : tie.After-first-refusal4) → let a = c .before .before .before .before .before .before .before .before .before .before .before .before .before .before .before .before .before .before .before .before .before .before .args in let w = wordsAfter Missing (drop (a .at) (now (a .s))) in
     c .first-refusal4 .result ≡ firstRefusal (asksVariable (a .vars) (w 1)) (firstRefusal (asksVariable (a .vars) (w 2)) (firstRefusal (asksOrdered (w 3)) (firstRefusal (asksNumber lowest highest (w 4)) (asksEnd (w 5)))))
 unfolding lowest highest
 asked c = let (v, w, o, k, r) = words (c .before .before .before .before .before .before .before .before .before) in

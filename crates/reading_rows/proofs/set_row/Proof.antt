@@ -6,14 +6,14 @@ use Rattle.rules.specs.Parse.{shapeless}
 use Rattle.rules.specs.File.{firstRefusal, asksEnd, asksVariable, asksExpr, setRow}
 use Rattle.rules.specs.declared.Word.the-variants.{Missing}
 use Rattle.reading_text.proofs.Line.{Reached, reach-none, reach-word, reach-last}
-use Rattle.reading_rows.specs.Rows.{after, exprs}
+use Rattle.reading_rows.specs.Rows.{wordsAfter, exprs}
 use Rattle.reading_rows.proofs.Laws.{two-yes, checked-read, checked-wrong, Spelled, spelled, spelled-asks, spelled-fits, spelled-says, lined-read, lined-wrong}
 use borrow.Author.Needs.{needs}
 use Rattle.reading_rows.proofs.set_row.Statement.{statement}
 use Rattle.reading_rows.proofs.set_row.Tie as tie
 
 -- the words read
-words : (c : tie.After-said2) → let a = c .before .before .before .before .before .before .before .args in let w = after Missing (drop (a .at) (now (a .s))) in
+words : (c : tie.After-said2) → let a = c .before .before .before .before .before .before .before .args in let w = wordsAfter Missing (drop (a .at) (now (a .s))) in
     (c .before .before .before .said .result ≡ w 1) × Spelled (now (a .s)) (a .at) 1 (a .vars) (c .before .before .before .before .before .next-word .result .end) (c .before .before .next-word2 .result .end) (c .said2 .result) × Reached (now (a .s)) (a .at) 2 (c .before .before .next-word2 .result .end)
 words c = let h = c .before .before .before .before .before .before .before .pre in
     let (v, p) = reach-word _ _ 0 _ (reach-none _ _ (h .0)) _ (c .before .before .before .before .before .next-word .ensures) _ (search needs, c .before .before .before .said .ensures) in
@@ -24,7 +24,7 @@ asks-expression-requires : tie.Need-asks-expression-requires
 asks-expression-requires c κs = let (_, t, _) = words c in (t .long, t .few, t .means)
 
 -- the words' questions
-asked : (c : tie.After-first-refusal2) → let a = c .before .before .before .before .before .before .before .before .before .before .before .before .args in let w = after Missing (drop (a .at) (now (a .s))) in
+asked : (c : tie.After-first-refusal2) → let a = c .before .before .before .before .before .before .before .before .before .before .before .before .args in let w = wordsAfter Missing (drop (a .at) (now (a .s))) in
     c .first-refusal2 .result ≡ firstRefusal (asksVariable (a .vars) (w 1)) (firstRefusal (asksExpr (a .vars) (exprs shapeless (drop (a .at) (now (a .s))) 2)) (asksEnd (w 3)))
 asked c = let (v, t, r) = words (c .before .before .before .before .before) in
     rw (c .first-refusal2 .ensures, c .before .asks-variable .ensures, c .before .before .first-refusal .ensures, spelled-asks t (c .before .before .before .before .asks-expression .ensures), c .before .before .before .asks-last .ensures, v, reach-last _ _ 2 _ r)

@@ -6,14 +6,14 @@ use Rattle.rules.specs.Parse.{shapeless}
 use Rattle.rules.specs.File.{asksTest, variableOf, comparisonOf, doRow, whileRow}
 use Rattle.rules.specs.declared.Word.the-variants.{Missing}
 use Rattle.reading_text.proofs.Line.{Reached, reach-two, reach-word, reach-last}
-use Rattle.reading_rows.specs.Rows.{after, exprs}
+use Rattle.reading_rows.specs.Rows.{wordsAfter, exprs}
 use Rattle.reading_rows.proofs.Laws.{Spelled, spelled, spelled-asks, spelled-fits, spelled-says, lined-read, lined-wrong, test-yes, test-read, test-wrong}
 use borrow.Author.Needs.{needs}
 use Rattle.reading_rows.proofs.test_row.Statement.{statement}
 use Rattle.reading_rows.proofs.test_row.Tie as tie
 
 -- the words read
-words : (c : tie.After-said3) → let a = c .before .before .before .before .before .before .before .before .before .before .args in let w = after Missing (drop (a .at) (now (a .s))) in
+words : (c : tie.After-said3) → let a = c .before .before .before .before .before .before .before .before .before .before .args in let w = wordsAfter Missing (drop (a .at) (now (a .s))) in
     (c .before .before .before .before .before .before .said .result ≡ w 1) × (c .before .before .before .said2 .result ≡ w 2) × Spelled (now (a .s)) (a .at) 2 (a .vars) (c .before .before .before .before .before .next-word2 .result .end) (c .before .before .next-word3 .result .end) (c .said3 .result) × Reached (now (a .s)) (a .at) 3 (c .before .before .next-word3 .result .end)
 words c = let h = c .before .before .before .before .before .before .before .before .before .before .pre in
     let (v, o, p) = reach-two _ _ (h .0) _ (c .before .before .before .before .before .before .before .before .next-word .ensures) _ (search needs, c .before .before .before .before .before .before .said .ensures) _ (c .before .before .before .before .before .next-word2 .ensures) _ (search needs, c .before .before .before .said2 .ensures) in
@@ -24,7 +24,7 @@ asks-expression-requires : tie.Need-asks-expression-requires
 asks-expression-requires c κs = let (_, _, t, _) = words c in (t .long, t .few, t .means)
 
 -- the words' questions
-asked : (c : tie.After-first-refusal3) → let a = c .before .before .before .before .before .before .before .before .before .before .before .before .before .before .before .before .before .args in c .first-refusal3 .result ≡ asksTest (a .vars) (after Missing (drop (a .at) (now (a .s)))) (exprs shapeless (drop (a .at) (now (a .s))))
+asked : (c : tie.After-first-refusal3) → let a = c .before .before .before .before .before .before .before .before .before .before .before .before .before .before .before .before .before .args in c .first-refusal3 .result ≡ asksTest (a .vars) (wordsAfter Missing (drop (a .at) (now (a .s)))) (exprs shapeless (drop (a .at) (now (a .s))))
 unfolding asksTest
 asked c = let (v, o, t, r) = words (c .before .before .before .before .before .before .before) in
     rw (c .first-refusal3 .ensures, c .before .asks-variable .ensures, c .before .before .first-refusal2 .ensures, c .before .before .before .asks-comparison .ensures, c .before .before .before .before .first-refusal .ensures, spelled-asks t (c .before .before .before .before .before .before .asks-expression .ensures), c .before .before .before .before .before .asks-last .ensures, v, o, reach-last _ _ 3 _ r)
@@ -41,12 +41,12 @@ returns c = let a = c .before .before .before .before .before .before .before .b
     let e = asked (c .before .before .before .before .before) in
     let (_, y, z) = test-yes _ _ _ _ e (c .before .before .before .before .if1 .taken) in
     lined-read _ _ 3 _ (a .base) (λ w x. cond (a .after) (doRow (a .vars) w x) (whileRow (a .vars) w x)) r _ (λ file d.
-    test-read (a .after) (a .vars) (after Missing (drop (a .at) (now (a .s)))) (exprs shapeless (drop (a .at) (now (a .s)))) _ file _ _ _ _ e (c .before .before .before .before .if1 .taken) (c .test .ensures) (c .before .before .variable-of .ensures ∙ ap variableOf v) (c .before .comparison-of .ensures ∙ ap comparisonOf o)
+    test-read (a .after) (a .vars) (wordsAfter Missing (drop (a .at) (now (a .s)))) (exprs shapeless (drop (a .at) (now (a .s)))) _ file _ _ _ _ e (c .before .before .before .before .if1 .taken) (c .test .ensures) (c .before .before .variable-of .ensures ∙ ap variableOf v) (c .before .comparison-of .ensures ∙ ap comparisonOf o)
     (spelled-says t y (a .base) file d _ (c .before .before .before .operand-of .ensures))) z
 
 returns-2 : tie.Need-returns-2
 returns-2 c = let a = c .before .before .before .before .before .before .before .before .before .before .before .before .before .before .before .before .before .before .args in
-    lined-wrong _ _ (a .base) (λ w x. cond (a .after) (doRow (a .vars) w x) (whileRow (a .vars) w x)) _ (test-wrong (a .after) (a .vars) (after Missing (drop (a .at) (now (a .s)))) (exprs shapeless (drop (a .at) (now (a .s)))) _ (asked (c .before)) (c .if1 .left))
+    lined-wrong _ _ (a .base) (λ w x. cond (a .after) (doRow (a .vars) w x) (whileRow (a .vars) w x)) _ (test-wrong (a .after) (a .vars) (wordsAfter Missing (drop (a .at) (now (a .s)))) (exprs shapeless (drop (a .at) (now (a .s)))) _ (asked (c .before)) (c .if1 .left))
 
 pub test-row-spec : {M : Type 1} → statement M
 test-row-spec =

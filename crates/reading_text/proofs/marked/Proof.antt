@@ -5,7 +5,7 @@ use lib.ListN.{length, getD, drop, length-drop}
 use denote.Ref.{now}
 use Rattle.reading_text.proofs.Laws.{mark-plain, mark-none, mark-variable, mark-other, mark-zero, mark-negative, natural-small, is-natural, part-rest, front-length, front-at, front-rest, stop-within}
 use Rattle.reading_text.specs.Words.{marks, stop, front, naturalOf, variableWord, wordIn}
-use Rattle.reading_text.specs.declared.Value.{Value}
+use Rattle.reading_text.specs.declared.DigitsRead.{DigitsRead}
 use Rattle.rules.specs.Text.{isNatural}
 use mathlib.Core.Bool.{Bool, true, false, not}
 use mir.Facts.{toZ-ofZ}
@@ -34,12 +34,12 @@ first : (c : tie.After-natural) → getD (word c) 0 0 ≡ getD (text c) 0 0
 first c = front-at (text c) 0 (c .before .before .before .before .before .before .pre .0)
 
 -- its length, where the bytes after the first are a number
-size : (c : tie.After-natural) (v k : ℕ) → c .natural .result ≡ Value.Of v k → k + 1 ≡ stop (text c)
+size : (c : tie.After-natural) (v k : ℕ) → c .natural .result ≡ DigitsRead.Of v k → k + 1 ≡ stop (text c)
 size c v k e =
     let (_, _, n) = is-natural (drop 1 (word c)) v k (found c ∙ e) in
     omega (arith, n, length-drop 1 (word c), front-length (text c), some c)
 
-fits : (c : tie.After-natural) (v k : ℕ) → c .natural .result ≡ Value.Of v k → k + 1 ≤ length (text c)
+fits : (c : tie.After-natural) (v k : ℕ) → c .natural .result ≡ DigitsRead.Of v k → k + 1 ≤ length (text c)
 fits c v k e = omega (arith, size c v k e, stop-within (text c))
 
 within : (c : tie.Start) → 0 < length (now (c .args .s))

@@ -5,7 +5,7 @@ use lib.ListN.{length}
 use denote.Ref.{now}
 use Rattle.reading_text.proofs.Laws.{digits-many, natural-other, natural-none, natural-one, natural-zero, natural-long, front-at, front-length, stop-within}
 use Rattle.reading_text.specs.Words.{front, digitsOf}
-use Rattle.reading_text.specs.declared.Value.{Value}
+use Rattle.reading_text.specs.declared.DigitsRead.{DigitsRead}
 use borrow.Author.Needs.{needs}
 use native.Mathlib.Omega.{arith}
 use Rattle.reading_text.proofs.natural.Statement.{statement}
@@ -15,7 +15,7 @@ use Rattle.reading_text.proofs.natural.Tie as tie
 abbrev text : tie.After-digits → List ℕ
 text c = now (c .before .before .args .s)
 
-many : (c : tie.After-digits) (v n : ℕ) → c .digits .result ≡ Value.Of v n → n ≡ length (front (text c))
+many : (c : tie.After-digits) (v n : ℕ) → c .digits .result ≡ DigitsRead.Of v n → n ≡ length (front (text c))
 many c v n e = digits-many (front (text c)) v n (sym (c .digits .ensures) ∙ e)
 
 returns : tie.Need-returns

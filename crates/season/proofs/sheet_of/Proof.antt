@@ -7,14 +7,14 @@ use Prim.Native.Nat.{ℕ, _+_, _-_, _≤_}
 use lib.ListN.{length, length-replicate}
 use Rattle.rules_season.specs.Season.{judgedAll}
 use Rattle.rules_season.proofs.GroupsExact.{length-end}
-use Rattle.season_files.specs.Holds.{Holds}
+use Rattle.season_files.specs.Holds.{SeasonSoFar}
 use Rattle.season_files.proofs.Laws.{holds-none, judged-end, judged-count}
 use Rattle.season.proofs.sheet_of.Statement.{statement}
 use Rattle.season.proofs.sheet_of.Tie as tie
 
 abbrev Inv-loop : tie.InvT-loop
 Inv-loop count names lengths counts₀ firsts₀ reports₀ fired₀ cues₀ sheet₀ k₀ counts firsts reports fired cues sheet k =
-    (files : List (List ℕ)) × (length files ≡ k) × (k ≤ count) × Holds (judgedAll files) sheet counts firsts reports fired cues
+    (files : List (List ℕ)) × (length files ≡ k) × (k ≤ count) × SeasonSoFar (judgedAll files) sheet counts firsts reports fired cues
 
 abbrev μ-loop : tie.MeasureT-loop
 μ-loop count names lengths counts₀ firsts₀ reports₀ fired₀ cues₀ sheet₀ k₀ counts firsts reports fired cues sheet k = count - k

@@ -2,7 +2,7 @@
 use mathlib.Core.Path.{_≡_, refl, sym, ap, _∙_}
 use native.Mathlib.Omega.{arith}
 use borrow.Author.Needs.{needs}
-use Rattle.rules_season.specs.Season.{opens}
+use Rattle.rules_season.specs.Season.{goodName}
 use Rattle.season_names.proofs.Laws.{opened-none, opened-all, name-size, name-long, name-kept, name-room, bytes-are}
 use Rattle.season_names.proofs.opened.Statement.{statement}
 use Rattle.season_names.proofs.opened.Tie as tie
@@ -12,13 +12,13 @@ returns-4 c = (
   λ input at h l m.
       let short = c .before .before .before .before .if2 .left in
       let size = name-size input at _ _ h _ l m in
-      opened-all _ (ap opens (sym (bytes-are input at _ _ h _ l m short)) ∙ sym (c .before .opens .ensures) ∙ c .if4 .taken) (name-kept input at _ _ h _ l m short) (omega (arith, size, short)),
+      opened-all _ (ap goodName (sym (bytes-are input at _ _ h _ l m short)) ∙ sym (c .before .opens .ensures) ∙ c .if4 .taken) (name-kept input at _ _ h _ l m short) (omega (arith, size, short)),
   c .before .before .before .before .if2 .left,
 )
 
 returns-5 : tie.Need-returns-5
 returns-5 c = (
-  λ input at h l m. opened-none (ap opens (sym (bytes-are input at _ _ h _ l m (c .before .before .before .before .if2 .left))) ∙ sym (c .before .opens .ensures) ∙ c .if4 .left) refl,
+  λ input at h l m. opened-none (ap goodName (sym (bytes-are input at _ _ h _ l m (c .before .before .before .before .if2 .left))) ∙ sym (c .before .opens .ensures) ∙ c .if4 .left) refl,
   omega arith,
 )
 

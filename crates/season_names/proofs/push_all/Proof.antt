@@ -7,12 +7,12 @@ use native.Mathlib.Omega.{arith}
 use lib.ListN.{length, take}
 use lib.Seq.{take-suc, take-all}
 use borrow.Author.Needs.{needs}
-use Rattle.season_names.specs.Kept.{Kept}
+use Rattle.season_names.specs.Kept.{NamesKept}
 use Rattle.season_names.proofs.push_all.Statement.{statement}
 use Rattle.season_names.proofs.push_all.Tie as tie
 
 abbrev Inv-loop : tie.InvT-loop
-Inv-loop at block names₀ lengths₀ line₀ i₀ names lengths line i = (i ≤ length block) × ((input : List ℕ) → Kept input at names₀ lengths₀ → Kept (input ++ take i block) line names lengths)
+Inv-loop at block names₀ lengths₀ line₀ i₀ names lengths line i = (i ≤ length block) × ((input : List ℕ) → NamesKept input at names₀ lengths₀ → NamesKept (input ++ take i block) line names lengths)
 
 abbrev μ-loop : tie.MeasureT-loop
 μ-loop at block names₀ lengths₀ line₀ i₀ names lengths line i = length block - i

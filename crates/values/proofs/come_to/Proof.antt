@@ -5,13 +5,13 @@ use denote.Ref.{now}
 use mir.Facts.{toZ-ofZ, sfits-widen}
 use mir.Syntax.{w32, w64}
 use mir.Val.{SFits}
-use Rattle.rules.specs.Written.{Passed}
+use Rattle.rules.specs.Written.{PassedWord}
 use Rattle.values.proofs.Results.{in-number, in-past, part}
 use Rattle.values.proofs.come_to.Statement.{statement}
 use Rattle.values.proofs.come_to.Tie as tie
 
 value-in-requires : tie.Need-value-in-requires
-value-in-requires c κs = let s = c .before .before in subst Passed (sym (part (now (s .args .text)) (s .args .at) (s .args .n))) (s .pre .passed)
+value-in-requires c κs = let s = c .before .before in subst PassedWord (sym (part (now (s .args .text)) (s .args .at) (s .args .n))) (s .pre .passed)
 
 returns : tie.Need-returns
 returns c =

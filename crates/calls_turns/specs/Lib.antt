@@ -1,0 +1,2 @@
+-- Scripts in their frames, as code holds them.
+pub mod Progress
