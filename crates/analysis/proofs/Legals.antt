@@ -13,8 +13,11 @@ use Rattle.rules.specs.declared.Row.{Row}
 use Rattle.rules.specs.Blocks.{End, kindsOf}
 use Rattle.rules.specs.Written.{Written}
 use Rattle.rules.specs.Scripts as scripts
-use Rattle.rules.specs.Scripts.{All, none, some, pairRange, pairRanges, BlankFrom, RowLimits, RowBelow, scriptOf, ofBuilt, treeOf, Legal}
+use Rattle.rules.specs.Scripts.{All, none, some, pairRange, pairRanges, BlankFrom, RowLimits, RowBelow, scriptOf, treeOf, Legal}
+use Rattle.rules.specs.Passes.{any}
+use Rattle.rules.specs.Figures.{alike}
 use Rattle.rules.proofs.Laws.{kinds-length}
+use Rattle.rules.proofs.LinesAtHeads.{lines-few}
 use Rattle.rules.proofs.TreeOf.{tree-of}
 use Rattle.rules.proofs.Rows.{block-whole}
 use Rattle.analysis_table.specs.Code.{kindAt}
@@ -23,7 +26,7 @@ use Rattle.analysis_steps.specs.Tree.{kinds, blockAt, Whole, Ready}
 use Rattle.analysis_steps.proofs.Laws.{kind-is}
 use Rattle.analysis_intervals.specs.Env.{envOf}
 use Rattle.analysis.specs.Fold.{loopCount}
-use Rattle.analysis.proofs.Counts.{few-loops}
+use Rattle.analysis.proofs.Counts.{lines-count}
 
 pub all-get : {A : Type 0} {Q : A → Type 0} (l : List A) → All Q l → (i : ℕ) → i < length l → (d : A) → Q (getD l i d)
 all-get [] none i h d = absurd (omega arith)
@@ -80,9 +83,7 @@ module _ (text : List ℕ) (ranges : List (List ℤ)) (vars : ℕ) (rows : List 
   file-is = block-whole (kinds text rows count) (whole .tree) (whole .builds)
 
   pub few-in : loopCount (blockAt text rows count 0) ≤ 16
-  unfolding scriptOf treeOf
+  unfolding scriptOf
   few-in =
-      let (n, e) = legal .closed in
-      let w = whole in
-      let q : blockAt text rows count 0 ≡ w .tree = file-is ∙ ap ofBuilt (w .builds) in
-      subst (λ b. loopCount b ≤ 16) (sym q) (few-loops (kinds text rows count) n (w .tree) e (w .builds))
+      let script = scriptOf text ranges vars rows count in
+      omega (arith, ap loopCount file-is, lines-count (treeOf (script .rows)) (alike 1) any (scripts.startEnv (script .ranges)), lines-few script legal)

@@ -17,7 +17,7 @@ use analysis_transfer::joined;
 use analysis_transfer::step_row;
 use rules::Prices;
 ghost use mathlib.Core.Path.{_≡_};
-ghost use Prim.Native.Nat.{ℕ, _+_, _*_, _≤_, _<_};
+ghost use Prim.Native.Nat.{ℕ, _+_, _≤_, _<_};
 ghost use lib.ListN.{length};
 ghost use Rattle.rules.specs.Bounds.{FinePrices};
 ghost use Rattle.rules.specs.Written.{Written};

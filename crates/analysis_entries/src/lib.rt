@@ -66,7 +66,7 @@ fn pass_counts(inner: Round, turns: u64, all: u64, count: u64) -> PassCounts
 }
 
 // Is v, kept before a loop, kept after its start?
-pub fn kept_at(kind: Kind, v: u8, kept: bool) -> bool
+fn kept_at(kind: Kind, v: u8, kept: bool) -> bool
     ensures { λ r. ⌜ ((text : List ℕ) → r ≡ kept && not (starts v (formOf text kind) (testOf text kind))) ⌝ }
 {
     match kind {

@@ -137,7 +137,7 @@ fn choice(first: bool, a: i32, b: i32) -> i32
     if first { a } else { b }
 }
 
-// A range of 32 bits.
+// A range of 32 bits as one of 64.
 pub fn whole(s: Interval) -> WideInterval
     ensures { λ r. ⌜ (wideRange r ≡ rangeOf s) × Unmoved r ⌝ }
 {

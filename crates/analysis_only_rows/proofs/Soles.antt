@@ -15,7 +15,7 @@ use Rattle.rules.specs.declared.Comparison.{Comparison}
 use Rattle.rules.specs.Expressions.{Expr, constant, variable, group, apply}
 use Rattle.rules.specs.Written.{Composed, Written}
 use Rattle.rules.specs.Blocks.{Plain, Source, from, off, assign, viewOf, exprOf, kindOf, withLast, Block, done, plain, pick, loop}
-use Rattle.rules.specs.Steps.{sets, starts, assigns, Sole, other, sole, behind, soleAt, soleRow, soleOf}
+use Rattle.rules.specs.Steps.{sets, starts, assigns, other, sole, behind, soleAt, soleRow, soleOf}
 use Rattle.rules.proofs.Sole.{behind-none, behind-twice}
 use Rattle.rules.proofs.Kind.{the-type}
 use Rattle.analysis_table.specs.declared.Shape.{Shape}

@@ -2,32 +2,20 @@
 use mathlib.Core.Path.{_≡_, refl, sym, ap, _∙_, fun-ext}
 use mathlib.Core.Bool.{Bool, true, false, cond, _&&_}
 use Prim.Native.Nat.{ℕ}
-use lib.Dec.{T, leb}
+use lib.Dec.{T}
 use Rattle.ints.proofs.Diffs.{both}
 use Rattle.rules.specs.Values.{upward}
 use Rattle.rules.specs.Blocks.{Test, Form, Block}
 use Rattle.rules.specs.Steps.{isAdd, step}
-use Rattle.rules.specs.Ranges.{Env, ordered, sort}
-use Rattle.rules.specs.Trips.{Way, own, broken, copied, chase, watched, isOwn, wayOf, isExact, Trip, tripBy, trip, turnsOf, turns}
-use Rattle.rules.specs.Passes.{Pass, any, valued, sumOver, sums, fromConstant, isAlone, triangle, withLimit, turnsIn}
+use Rattle.rules.specs.Ranges.{Env}
+use Rattle.rules.specs.Trips.{Way, own, broken, copied, chase, watched, isOwn, wayOf, Trip, tripBy, trip, turns}
+use Rattle.rules.specs.Passes.{Pass, any, valued, sumOver, fromConstant, isAlone, triangle, withLimit, turnsIn}
 use Rattle.rules.specs.Figures as figures
 use Rattle.rules.proofs.Triangles.{own-trip}
 use Rattle.rules.proofs.Walk.{turnsWalk, triangle-turns}
-use Rattle.analysis_passes.specs.Rounds.{sumsBy, triangleBy, climbTo, turnsBy, walkedBy}
+use Rattle.analysis_passes.specs.Rounds.{triangleBy, climbTo, turnsBy, walkedBy}
 
 module _ (form : Form) (ρ : Env) (test : Test) (body : Block) where
-  pub sums-is : sums form ρ test body ≡ sumsBy (trip form ρ test body) (turns form ρ test body)
-  unfolding sums tripBy
-  sums-is = by (wayOf form test body)
-    where
-      by : (w : Way) → isOwn w && (isExact (tripBy w form ρ test body) && (isAdd (step (test .tested) body) && (ordered (sort (test .comparison)) && leb (turnsOf (tripBy w form ρ test body)) 4_096)))
-          ≡ sumsBy (tripBy w form ρ test body) (turnsOf (tripBy w form ρ test body))
-      by own = refl
-      by (copied w ahead) = refl
-      by (chase w) = refl
-      by (watched w c k ahead) = refl
-      by broken = refl
-
   triangle-is : (v : ℕ) → triangle v form test body ≡ triangleBy form (test .limit) (trip form ρ test body) v
   unfolding triangle tripBy
   triangle-is v = by (wayOf form test body)

@@ -3,11 +3,8 @@ use rules::Change;
 use rules_steps::Step;
 ghost use mathlib.Core.Path.{_≡_};
 ghost use mathlib.Core.Bool.{cond};
-ghost use Prim.Native.Nat.{_≤_, min, max};
-ghost use Rattle.ints.specs.Ints.{minZ, maxZ};
-ghost use Rattle.rules_steps.specs.Joins.{still, isStill, factorLimit, product, then, either};
+ghost use Rattle.rules_steps.specs.Joins.{still};
 ghost use Rattle.rules.specs.Steps.{changeStep};
-ghost use Rattle.rules_steps.specs.Ends.{EndsWithin};
 ghost use Rattle.rules.specs.Bounds.{FineChange};
 
 // The step, or the standing step.

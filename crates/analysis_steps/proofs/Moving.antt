@@ -16,7 +16,6 @@ use Rattle.analysis_table.specs.Code.{kindAt}
 use Rattle.analysis_table.specs.declared.Shape.{Shape}
 use Rattle.analysis_table.specs.Shapes.{shapeOf, plainOf}
 use Rattle.analysis_steps.specs.declared.StepOver.{StepOver}
-use Rattle.analysis_steps.specs.declared.Moves.{Moves}
 use Rattle.analysis_steps.specs.Tree.{Ready, Walked, blockAt, headOf}
 use Rattle.analysis_steps.specs.Sets.{setOf, none, withRow, bothOf, assignsFrom, SetIs}
 use Rattle.analysis_steps.specs.Body.{AtLoop, MovesOf, BodyMoves}

@@ -5,7 +5,6 @@ use mathlib.Core.List.{List}
 use Prim.Native.Nat.{ℕ, _+_, _-_, _≤_, _<_}
 use lib.ListN.{length}
 use Rattle.rules.specs.declared.Row.{Row}
-use Rattle.rules_steps.specs.declared.Step.{Step}
 use Rattle.rules.specs.Blocks.{Block}
 use Rattle.rules.specs.Steps.{assigns, step}
 use Rattle.rules_steps.specs.Ends.{EndsWithin}

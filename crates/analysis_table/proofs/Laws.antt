@@ -10,7 +10,7 @@ use lib.ListN.{length, getD, set}
 use Rattle.rules.specs.declared.Row.{Row}
 use Rattle.rules.specs.declared.Kind.{Kind}
 use Rattle.rules.specs.declared.Kind.the-variants.{Set, Move, Cue, Pick, Else, End, While, Do, For, Off, Hold}
-use Rattle.rules.specs.Blocks.{viewOf, kindOf, kindsOf}
+use Rattle.rules.specs.Blocks.{viewOf, kindOf}
 use Rattle.rules.specs.Steps.{sets}
 use Rattle.analysis_table.specs.declared.Tag.{Tag}
 use Rattle.analysis_table.specs.Code.{numbersAt, rowTag, kindBy, kindIn, kindAt, rowIn, rowsOf}

@@ -1,7 +1,7 @@
 -- What a row of the table stands for: its numbers are the kind's tag; the variable; the first operand's tag and value; the comparison; the
 -- limit's tag and value; the change's tag and value. An off has its watched variable and its constant in the places of the two operands.
 use mathlib.Core.Path.{_≡_}
-use mathlib.Core.Bool.{Bool, cond}
+use mathlib.Core.Bool.{cond}
 use mathlib.Core.List.{List, [], map}
 use Prim.Native.Nat.{ℕ, min, _/_, _%_}
 use lib.Dec.{eqb}

@@ -1,5 +1,5 @@
 -- The questions 19 and 8 to 12 in their order, from the answers that the code finds.
-use mathlib.Core.Path.{_≡_, refl, sym, ap, ap₂, _∙_}
+use mathlib.Core.Path.{_≡_, refl, sym, ap₂, _∙_}
 use mathlib.Core.Bool.{Bool, true, false, not}
 use Prim.Native.Nat.{ℕ}
 use lib.IntN.{ℤ}
@@ -7,8 +7,7 @@ use Rattle.rules.specs.Steps.{moving}
 use Rattle.rules.specs.Ranges.{Range, sort, suits}
 use Rattle.rules.specs.Turns.{whileTurns}
 use Rattle.rules.specs.Trips.{Trip, edgeOf, firstOf, led, turnsOf}
-use Rattle.rules.specs.declared.Verdict.the-variants.{Refused as refused}
-use Rattle.rules.specs.Questions.{asked, known, hasFigure, loopVerdict, ofTrip}
+use Rattle.rules.specs.Questions.{asked, known, hasFigure, loopVerdict}
 use Rattle.analysis_turns.specs.declared.Figure.{Figure}
 use Rattle.analysis_turns.specs.Verdicts.{FigureOf}
 

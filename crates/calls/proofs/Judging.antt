@@ -4,7 +4,7 @@ use mathlib.Core.List.{List}
 use Prim.Native.Nat.{ℕ, zero, suc, _≤_}
 use native.Mathlib.Omega.{arith}
 use lib.Dec.{leb, leb→le}
-use lib.ListN.{length, take}
+use lib.ListN.{length}
 use Rattle.rules.specs.declared.Reply.{Reply}
 use Rattle.rules.specs.declared.Reply.the-variants.{Refused}
 use Rattle.rules.specs.declared.Verdict.the-variants.{Passed as passed}

@@ -4,7 +4,7 @@ use mathlib.Core.List.{List}
 use Prim.Native.Nat.{ℕ, _≤_, _<_}
 use native.Mathlib.Omega.{arith}
 use lib.IntN.{ℤ}
-use lib.ListN.{length, getD, take}
+use lib.ListN.{length, take}
 use Rattle.rules.specs.declared.Row.{Row}
 use Rattle.rules.specs.declared.Prices.{Prices}
 use Rattle.rules.specs.Blocks.{RowKind, End, kindsOf}

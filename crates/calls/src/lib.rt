@@ -13,7 +13,7 @@ use run_loops::NO_COUNT;
 ghost use mathlib.Core.Path.{_≡_};
 ghost use mathlib.Core.Bool.{_&&_};
 ghost use mathlib.Core.List.{List};
-ghost use Prim.Native.Nat.{ℕ, _≤_, min};
+ghost use Prim.Native.Nat.{ℕ, _≤_};
 ghost use lib.Signed.{leZ};
 ghost use lib.ListN.{length, take};
 ghost use Rattle.rules.specs.Bounds.{FinePrices};

@@ -1,5 +1,4 @@
 -- What question 20's yes says. Assumes nothing.
-use mathlib.Core.Bool.{_&&_}
 use Prim.Native.Nat.{ℕ}
 use lib.Dec.{T, leb, eqb, leb→le, eqb→eq}
 use lib.ListN.{length}

@@ -1,7 +1,7 @@
 -- The first scripts have entered. Assumes nothing.
-use mathlib.Core.Path.{_≡_, refl, sym, _∙_, ap, subst}
+use mathlib.Core.Path.{_≡_, sym, _∙_, ap, subst}
 use mathlib.Core.List.{List, []}
-use Prim.Native.Nat.{ℕ, _+_, _≤_, _<_}
+use Prim.Native.Nat.{ℕ, _+_, _<_}
 use native.Mathlib.Decide.{ℕ-discrete}
 use native.Mathlib.Omega.{arith}
 use lib.IntN.{ℤ}
@@ -9,7 +9,7 @@ use lib.ListN.{length, getD, set, length-set}
 use lib.Seq.{getD-set-same, getD-set-other}
 use Rattle.rules.specs.declared.Verdict.the-variants.{Passed, Refused}
 use Rattle.rules.specs.File.{fileScript}
-use Rattle.rules.specs.Calls.{Judged, pricesOf, Priced, judgedFile, scratchSize}
+use Rattle.rules.specs.Calls.{pricesOf, Priced, judgedFile, scratchSize}
 use Rattle.rules_frames.specs.Frames.{Progress, ScriptPart, Readiness, ready, readiness, cutParts}
 use Rattle.rules_frames.proofs.Cut.{partAt, cut-length, cut-at}
 use Rattle.calls.specs.Held.{admitted}

@@ -1,5 +1,5 @@
 -- The readiness, script by script. Assumes nothing.
-use mathlib.Core.Path.{_≡_, refl, sym, _∙_, ap, subst}
+use mathlib.Core.Path.{_≡_, refl, sym, _∙_, ap}
 use mathlib.Core.List.{List, [], _∷_}
 use Prim.Native.Nat.{ℕ, zero, suc, _≤_, _<_}
 use native.Mathlib.Omega.{arith}
@@ -12,7 +12,7 @@ use Rattle.rules.specs.Blocks.{kindsOf}
 use Rattle.rules.specs.Written.{Written}
 use Rattle.rules.specs.Scripts.{Script, scriptOf}
 use Rattle.rules.specs.File.{fileScript}
-use Rattle.rules.specs.Calls.{Judged, accepted, pricesOf, pricesVerdict, Priced, judgedPriced, judgedFile, scratchSize, judged, storeVerdict}
+use Rattle.rules.specs.Calls.{Judged, accepted, pricesOf, Priced, judgedPriced, judgedFile, scratchSize, judged, storeVerdict}
 use Rattle.rules_frames.specs.Frames.{Progress, beginning, ScriptPart, Readiness, ready, joins, enters, readiness}
 use Rattle.rules_frames.specs.InTime.{Accepts}
 use Rattle.rules_frames.proofs.FramesAsAlone.{cast-accepts}

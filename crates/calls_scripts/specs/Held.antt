@@ -1,13 +1,13 @@
 -- A script as it is held for the frames, and all of them.
 use mathlib.Core.Path.{_≡_}
 use mathlib.Core.List.{List, []}
-use Prim.Native.Nat.{ℕ, _≤_, _<_, _^_}
+use Prim.Native.Nat.{ℕ, _≤_, _<_}
 use lib.IntN.{ℤ}
 use lib.ListN.{length, getD, take}
 use Rattle.rules.specs.declared.Row.{Row}
 use Rattle.rules.specs.declared.Verdict.{Verdict}
 use Rattle.rules.specs.declared.Verdict.the-variants.{Passed, Refused}
-use Rattle.rules.specs.Blocks.{RowKind, kindsOf}
+use Rattle.rules.specs.Blocks.{kindsOf}
 use Rattle.rules.specs.Written.{Written}
 use Rattle.rules.specs.Scripts.{Script}
 use Rattle.rules.specs.File.{fileScript}

@@ -7,10 +7,10 @@ use run_loops::Heads;
 use run_pairs::Tables;
 ghost use mathlib.Core.Path.{_≡_};
 ghost use mathlib.Core.List.{List};
-ghost use Prim.Native.Nat.{ℕ, _≤_};
+ghost use Prim.Native.Nat.{ℕ};
 ghost use lib.ListN.{length};
 ghost use Rattle.rules.specs.Calls.{Priced};
-ghost use Rattle.rules_frames.specs.Frames.{total, cutParts};
+ghost use Rattle.rules_frames.specs.Frames.{cutParts};
 ghost use Rattle.run_loops.specs.Loops.{Listable};
 ghost use Rattle.calls_scripts.specs.Held.{HeldRows, EnteredAs, Lengths, HeldScriptsAs};
 

@@ -17,7 +17,6 @@ use rules::Prices;
 use rules::Row;
 use rules::Verdict;
 use show::print_script;
-ghost use mathlib.Core.Path.{_≡_};
 ghost use lib.ListN.{length};
 ghost use Rattle.rules.specs.Calls.{Priced};
 ghost use Rattle.calls.specs.Held.{Given};

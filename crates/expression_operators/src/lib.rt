@@ -3,7 +3,7 @@ use min_max::higher;
 use min_max::lower;
 use rules::Value;
 ghost use mathlib.Core.Path.{_≡_};
-ghost use Rattle.ints.specs.Ints.{minZ, maxZ, clamp};
+ghost use Rattle.ints.specs.Ints.{clamp};
 ghost use Rattle.rules.specs.Expressions.{operate};
 ghost use Rattle.rules.specs.Values.{lowest, highest, inLimits};
 ghost use Rattle.rules.specs.Evaluate.{clamped};

@@ -16,11 +16,11 @@ use Rattle.rules.specs.declared.Word.{Word}
 use Rattle.rules.specs.declared.Word.the-variants.{Missing, Number, Variable, Compares, Keyword, Other}
 use Rattle.rules.specs.declared.Operator.{Operator}
 use Rattle.rules.specs.Expressions.{Expr, constant, variable, group, apply}
-use Rattle.rules.specs.Text.{minus, wordOf}
-use Rattle.rules.specs.Parse.{Parsed, parsed, shapeless, thenParse, isMark, upToMark, fromMark, leaf, atom, Ahead, operator, other, ahead, afterTerm, afterFactor, close, factorOf, expression, term, factor, readExpression, readTerm, readFactor, atEnd, parse, depth, operators}
+use Rattle.rules.specs.Text.{wordOf}
+use Rattle.rules.specs.Parse.{Parsed, parsed, shapeless, thenParse, isMark, upToMark, fromMark, leaf, atom, Ahead, operator, other, ahead, afterTerm, afterFactor, close, factorOf, readExpression, readTerm, readFactor, atEnd, parse, depth, operators}
 use Rattle.rules.specs.File.{turnOf, firstRefusal, asksSize, asksLeaves, asksExpr}
-use Rattle.rules.proofs.Parsing.{After, after-length, Short, short, nothing as no-short, Later, later, stop as no-later, after-term, after-factor, short-expression, short-term, short-factor, expression-is, term-is, factor-is}
-use Rattle.expression_questions.specs.Asking.{Sizes, noSizes, noted, oneMore, sizesFrom, decided, Mode, due, inside, shut, Act, stop, on, goes, leafAct, closeAct, markAct, act, finished, endQuestion, wordQuestion}
+use Rattle.rules.proofs.Parsing.{after-length, Short, short, nothing as no-short, Later, later, stop as no-later, after-term, after-factor, short-term, short-factor, expression-is, term-is, factor-is}
+use Rattle.expression_questions.specs.Asking.{Sizes, noSizes, noted, oneMore, sizesFrom, decided, due, inside, shut, stop, on, goes, leafAct, closeAct, markAct, act, finished, endQuestion, wordQuestion}
 
 -- ---- what is counted
 refusal-none : (p : ℕ) → firstRefusal p 0 ≡ p

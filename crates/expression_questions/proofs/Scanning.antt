@@ -1,23 +1,20 @@
 -- A scan's steps are those of the walk.
 use mathlib.Core.Path.{_≡_, refl, sym, _∙_, ap}
 use mathlib.Core.Bool.{Bool, true, false, cond}
-use mathlib.Core.List.{List, [], _∷_}
-use Prim.Native.Nat.{ℕ, zero, suc, max, _+_, _*_, _-_, _≤_, _<_}
+use mathlib.Core.List.{List, _∷_}
+use Prim.Native.Nat.{ℕ, zero, suc, max, _-_, _≤_, _<_}
 use native.Mathlib.Omega.{arith}
-use lib.Dec.{eqb, ltb}
-use lib.IntN.{ℤ, natAbs}
+use lib.Dec.{eqb}
 use lib.ListN.{length, getD, drop, drop-of-length-le}
 use lib.Seq.{drop-cons}
-use borrow.Author.Tests.{eq-eqb, ne-eqb, eqb-true}
-use Rattle.rules.specs.Expressions.{constant, variable}
-use Rattle.rules.specs.Parse.{Parsed, parsed, shapeless, atom}
-use Rattle.rules.specs.Values.{inLimits}
+use borrow.Author.Tests.{eq-eqb, ne-eqb}
+use Rattle.rules.specs.Parse.{atom}
 use Rattle.rules.specs.File.{firstRefusal, asksLeaves}
 use Rattle.expression_leaves.specs.declared.Leaf.{Leaf}
 use Rattle.expression_questions.specs.declared.Scan.{Scan}
 use Rattle.expression_leaves.specs.Leaves.{cutIn, said, LeafAt}
 use Rattle.expression_operators.specs.Operators.{isSum}
-use Rattle.expression_questions.specs.Asking.{Sizes, noted, oneMore, sizesFrom, Mode, due, shut, on, stop, goes, closeAct, markAct, act, endQuestion, wordQuestion, sizesOf, scanQuestion, bytesAhead, MayScan, ScanStep, askedOf, operates}
+use Rattle.expression_questions.specs.Asking.{noted, oneMore, sizesFrom, due, shut, on, stop, goes, closeAct, markAct, act, endQuestion, wordQuestion, sizesOf, scanQuestion, bytesAhead, MayScan, ScanStep, askedOf, operates}
 use Rattle.expression_questions.proofs.Asking.{follow, atShut, leaf-steps}
 
 pub at-end : (vars : ℕ) (word : List ℕ) (c : Scan) → c .good ≡ true → length word ≤ c .at → endQuestion (cond (c .due) due shut) (c .depth) (sizesOf c) ≡ scanQuestion vars word c

@@ -8,7 +8,7 @@ use min_max::larger_size;
 use reading_order::first_refusal;
 ghost use mathlib.Core.Path.{_≡_};
 ghost use mathlib.Core.Bool.{true, false, cond};
-ghost use Prim.Native.Nat.{_≤_, max};
+ghost use Prim.Native.Nat.{_≤_};
 ghost use lib.IntN.{pos, natAbs};
 ghost use Rattle.rules.specs.Parse.{parse};
 ghost use Rattle.rules.specs.File.{asksExpr};

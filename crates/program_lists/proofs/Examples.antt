@@ -2,7 +2,7 @@
 use mathlib.Core.Path.{_≡_, refl}
 use mathlib.Core.List.{List, [], _∷_}
 use Prim.Native.Nat.{ℕ}
-use lib.IntN.{ℤ, pos, negℤ}
+use lib.IntN.{pos, negℤ}
 use Rattle.rules.specs.Text.{prefixed, split, startsWith, equals, isDigit, allDigits, valueFrom, isNatural}
 use Rattle.program_words.specs.Words.{sized, numberIn, valueIn}
 use Rattle.program_lists.specs.declared.PricesWord.the-variants.{Nothing, Four, Malformed}

@@ -6,7 +6,7 @@ ghost use mathlib.Core.Bool.{true, cond};
 ghost use Prim.Native.Nat.{_≤_, _<_, min};
 ghost use lib.ListN.{length};
 ghost use Rattle.rules.specs.Text.{equals};
-ghost use Rattle.program_words.specs.Words.{digitOf, spelledIn, numberIn, upwardOf, downwardOf, valueIn, keptIn, isValue, isPrice, pricedIn, planWord, allowanceIn, isNone, allBits, bitsOf, PutPicks};
+ghost use Rattle.program_words.specs.Words.{digitOf, spelledIn, numberIn, upwardOf, downwardOf, valueIn, keptIn, isValue, isPrice, pricedIn, allowanceIn, isNone, allBits, bitsOf, PutPicks};
 
 // A word that is a number, or is none.
 pub enum Number {

@@ -1,7 +1,7 @@
 // Questions 6 and 7, row by row: the blocks that are open.
 use rules::Kind;
 ghost use mathlib.Core.Path.{_≡_};
-ghost use Prim.Native.Nat.{ℕ, _+_, _≤_, _<_};
+ghost use Prim.Native.Nat.{ℕ, _+_, _<_};
 ghost use mathlib.Core.List.{List};
 ghost use Rattle.rules.specs.Blocks.{viewOf, kindOf};
 ghost use Rattle.rules.specs.Nesting.{nestRow, in-loop, in-pick};

@@ -2,17 +2,12 @@
 use mathlib.Core.Path.{_≡_, refl, sym, _∙_, ap}
 use mathlib.Core.Bool.{Bool, true, false, cond}
 use mathlib.Core.List.{List, [], _∷_}
-use Prim.Native.Nat.{ℕ, zero, suc, _≤_, _<_}
-use native.Mathlib.Omega.{arith}
+use Prim.Native.Nat.{ℕ, zero, suc}
 use lib.Dec.{eqb}
-use lib.IntN.{ℤ, pos, natAbs}
-use lib.ListN.{length, getD, drop, drop-of-length-le}
-use lib.Seq.{drop-cons}
 use borrow.Author.Tests.{eqb-true}
 use Rattle.rules.specs.declared.Operator.{Operator}
 use Rattle.rules.specs.Expressions.{Expr, constant, variable, group, apply}
-use Rattle.rules.specs.Text.{isDigit}
-use Rattle.rules.specs.Parse.{Parsed, parsed, shapeless, thenParse, upToMark, fromMark, leaf, atom, Ahead, operator, other, ahead, afterTerm, afterFactor, close, factorOf, expression, term, factor, readExpression, readTerm, readFactor, atEnd, parse}
+use Rattle.rules.specs.Parse.{Parsed, parsed, shapeless, thenParse, atom, Ahead, operator, other, ahead, afterTerm, afterFactor, close, factorOf, expression, term, factor, readExpression, readTerm, readFactor, atEnd, parse}
 use Rattle.rules.proofs.Parsing.{expression-is, term-is, factor-is}
 use Rattle.expression_leaves.proofs.Leaves.{atom-open}
 

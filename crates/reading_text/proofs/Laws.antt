@@ -1,20 +1,20 @@
 -- Laws of words and of numbers of any length. Assumes nothing.
 use mathlib.Core.Path.{_≡_, refl, sym, ap, _∙_}
-use mathlib.Core.Bool.{Bool, true, false, not, cond, _&&_}
+use mathlib.Core.Bool.{Bool, true, false, not, cond}
 use mathlib.Core.List.{List, [], _∷_}
 use Prim.Native.Nat.{ℕ, zero, suc, _+_, _*_, _-_, _≤_, _<_, min}
 use native.Mathlib.Omega.{arith}
 use lib.ListN.{length, getD, take, drop, drop-of-length-le, length-drop}
 use lib.Seq.{drop-cons, take-all, length-take-le, getD-take}
-use lib.Dec.{leb, ltb, eqb}
+use lib.Dec.{eqb}
 use lib.IntN.{pos, negℤ, _-ℤ_, +ℤ-idl}
 use mir.Syntax.{w32}
-use mir.Val.{SFits, toZ, ofZ}
-use mir.ValLaws.{toZ-pos, toZ-ofZ}
-use borrow.Author.Tests.{leb-true, leb-false, ltb-true, ltb-false, eq-eqb, ne-eqb, eqb-true, eqb-false}
+use mir.Val.{SFits, toZ}
+use mir.ValLaws.{toZ-pos}
+use borrow.Author.Tests.{eq-eqb, ne-eqb}
 use Rattle.rules.specs.declared.Word.{Word}
-use Rattle.rules.specs.declared.Word.the-variants.{Missing, Number, Variable, Compares, Keyword, Other}
-use Rattle.rules.specs.Text.{prefixed, split, startsWith, equals, isDigit, allDigits, valueFrom, isNatural, isNegative, isVariable, comparisonWord, blockWord, plainWord, wordOf, wordsOf}
+use Rattle.rules.specs.declared.Word.the-variants.{Number, Variable, Other}
+use Rattle.rules.specs.Text.{prefixed, split, startsWith, equals, isDigit, allDigits, valueFrom, isNatural, isNegative, isVariable, comparisonWord, blockWord, plainWord, wordOf}
 use Rattle.reading_text.specs.declared.DigitsRead.{DigitsRead}
 use Rattle.expression_leaves.specs.Leaves.{ceiling, cutZ}
 use Rattle.reading_text.specs.Words.{before, marks, stops, stop, front, cutWord, digitsOf, naturalOf}

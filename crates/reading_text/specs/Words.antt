@@ -5,7 +5,7 @@ use mathlib.Core.Path.{_≡_}
 use Prim.Native.Nat.{ℕ, zero, suc, min, _+_, _*_, _-_, _<_}
 use lib.Dec.{eqb}
 use lib.ListN.{length, getD, take, drop}
-use lib.IntN.{ℤ, pos, negsuc, negℤ}
+use lib.IntN.{ℤ, pos, negsuc}
 use Rattle.rules.specs.declared.Comparison.the-variants.{Less, AtMost, Greater, AtLeast, Equal, Different}
 use Rattle.rules.specs.declared.Name.{Name}
 use Rattle.rules.specs.declared.Word.{Word}

@@ -1,8 +1,8 @@
 -- Laws of the report's lines. Assumes nothing.
 use mathlib.Core.Path.{_≡_, refl, sym, ap, _∙_}
 use mathlib.Core.Bool.{true, false}
-use mathlib.Core.List.{List, [], _∷_, _++_, append-assoc, append-nil}
-use Prim.Native.Nat.{ℕ, zero, suc, _+_, _-_, _≤_, _<_, _^_}
+use mathlib.Core.List.{List, [], _∷_, append-assoc, append-nil}
+use Prim.Native.Nat.{ℕ, zero, suc, _+_, _≤_, _<_, _^_}
 use native.Mathlib.Omega.{arith}
 use lib.IntN.{ℤ, pos, negsuc, natAbs, _+ℤ_, _-ℤ_}
 use lib.Signed.{ltZ, nonNeg}
@@ -20,7 +20,7 @@ use Rattle.rules.specs.Figures.{Line}
 use Rattle.rules.specs.Report.{lineOf, linesOf, joined, sign, size, decimal, stepName, firstEnd, secondEnd, exactName, keyLine, loopLine, loopLines, reportText, ticksKey}
 use Rattle.report_pieces.specs.declared.Label.the-variants.{Loop, Space, Newline}
 use Rattle.report_pieces.specs.declared.Piece.{Piece}
-use Rattle.report_pieces.specs.declared.Piece.the-variants.{Nothing, Fixed, Number}
+use Rattle.report_pieces.specs.declared.Piece.the-variants.{Fixed, Number}
 use Rattle.report_pieces.specs.Pieces.{pieceText, pieceTexts, Wrote}
 use Rattle.report_pieces.proofs.Laws.{joined-append}
 use Rattle.report.specs.Lines.{headText, loopsText}

@@ -27,7 +27,7 @@ use Rattle.rules.specs.Questions.{verdict, loopsVerdict}
 use Rattle.rules.specs.Count.{worstStart}
 use Rattle.rules.specs.Run.{State, Entry, Out, go, holds, turning, run}
 use Rattle.rules.specs.Answers.{answer, runTree, own, sumAt, mostAt}
-use Rattle.rules.specs.Scripts.{All, none, some, and-then, Pairwise, startEnv, storeOf, treeOf, reportTicks, reportLines}
+use Rattle.rules.specs.Scripts.{All, none, some, and-then, Pairwise, startEnv, storeOf, treeOf, reportTicks}
 use Rattle.rules.specs.Calls.{pricesOf, loopRows, countsAt, runScript}
 use Rattle.rules.specs.Claim.{Counts-fit, Unspent, Keeps, Demand3}
 use Rattle.rules.specs.Reached.{Outside, here, after-row, after-pick, after-loop, Reached, Bytes, CanHappen, FiguresHappen, FiguresHappenFile}

@@ -1,5 +1,5 @@
 -- Expressions as code evaluates them over ranges: both ends at once, and whether a result went past ±L; and a run's result from such a value.
-use mathlib.Core.Bool.{Bool, false, not, cond, _&&_, _||_}
+use mathlib.Core.Bool.{false, not, cond, _&&_, _||_}
 use Prim.Native.Nat.{ℕ}
 use lib.IntN.{ℤ}
 use Rattle.ints.specs.Ints.{minZ, maxZ, clamp}

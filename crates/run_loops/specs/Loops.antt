@@ -1,7 +1,7 @@
 -- The loops of the rows in row order, by their head rows, with their counts.
 use mathlib.Core.Path.{_≡_}
 use mathlib.Core.Bool.{Bool, true, false}
-use mathlib.Core.List.{List, [], _∷_}
+use mathlib.Core.List.{List, []}
 use Prim.Native.Nat.{ℕ, _+_, _≤_, _<_}
 use lib.ListN.{length, getD, set, take}
 use Rattle.rules.specs.declared.Row.{Row}

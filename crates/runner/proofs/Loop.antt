@@ -1,21 +1,18 @@
 -- The loop over the steps of the machine: what a step keeps, and what falls. Assumes nothing.
 use mathlib.Core.Path.{_≡_, refl, sym, _∙_, ap, subst}
-use mathlib.Core.Bool.{Bool, true, false, cond}
+use mathlib.Core.Bool.{true, false}
 use mathlib.Core.List.{List, [], _∷_}
 use Prim.Native.Nat.{ℕ, zero, suc, _+_, _≤_, _<_}
 use native.Mathlib.Omega.{arith}
-use lib.Dec.{T, eqb, eqb→eq}
 use lib.ListN.{length, getD, take}
 use lib.IntN.{ℤ}
 use Rattle.rules.specs.declared.Kind.{Kind}
 use Rattle.rules.specs.declared.Row.{Row}
-use Rattle.rules.specs.declared.Ending.{Ending}
 use Rattle.rules.specs.declared.Ending.the-variants.{Ended, Spent}
-use Rattle.rules.specs.Values.{put, Tried, passes, fails, beyond}
-use Rattle.rules.specs.Blocks.{RowKind, End, kindOf, Test, Form, while, do-while, hold, for, Last, no-step, step-by, View, is-plain, is-pick, is-else, is-end, is-loop, viewOf, viewAt, kindsOf}
+use Rattle.rules.specs.Blocks.{RowKind, End, kindOf, Test, while, do-while, hold, for, no-step, step-by, View, is-plain, is-pick, is-else, is-end, is-loop, viewOf, viewAt, kindsOf}
 use Rattle.rules.specs.declared.Prices.{Prices}
-use Rattle.rules.specs.Run.{State, Out, go, halt, holds}
-use Rattle.rules_machine.specs.RowMachine.{TurnCounts, tallyOf, begin, turn, Phase, fresh, testing, Place, Next, more, over, to, chosen, decide, outcome, paid, picked, tests, onEnd, onRow, next, steps, Partners, pairs, rank}
+use Rattle.rules.specs.Run.{State, Out, go, halt}
+use Rattle.rules_machine.specs.RowMachine.{TurnCounts, tallyOf, begin, turn, Phase, fresh, testing, Place, Next, more, over, to, outcome, tests, onEnd, onRow, next, steps, Partners, pairs, rank}
 use Rattle.rules.specs.Scripts.{All, some, RowLimits, RowBelow}
 use Rattle.rules_machine.proofs.RowMachineRuns.{falls-more, next-row, next-past, steps-add}
 use Rattle.rules_machine.proofs.PairsIn.{partners, pairs-in}

@@ -1,6 +1,6 @@
 -- What runs on is what `rules` says. Assumes nothing.
 use mathlib.Core.Path.{_≡_, refl, sym, _∙_, ap, subst}
-use mathlib.Core.Bool.{Bool, true, false}
+use mathlib.Core.Bool.{true, false}
 use mathlib.Core.List.{List}
 use Prim.Native.Nat.{ℕ, _<_}
 use native.Mathlib.Omega.{arith}
@@ -11,7 +11,7 @@ use Rattle.rules.specs.declared.Prices.{Prices}
 use Rattle.rules.specs.declared.Ending.{Ending}
 use Rattle.rules.specs.declared.Ending.the-variants.{Ended, Spent, NoPick}
 use Rattle.rules.specs.Blocks.{RowKind, kindsOf}
-use Rattle.rules_machine.specs.RowMachine.{TurnCounts, tallyOf, Place, Next, more, over, next, pairs}
+use Rattle.rules_machine.specs.RowMachine.{tallyOf, Place, more, over, pairs}
 use Rattle.rules_frames.specs.Frames.{stopped, runsOn, given}
 use Rattle.rules_frames.proofs.Resumed.{runs-on-is}
 use Rattle.rules.proofs.Laws.{kinds-first, kind-of}
@@ -20,8 +20,8 @@ use Rattle.run_pairs.specs.Tables.{tableOf}
 use Rattle.run_actions.specs.declared.Machine.{Machine}
 use Rattle.run_actions.specs.declared.Status.{Status}
 use Rattle.run_actions.specs.declared.Status.the-variants.{Going, Over}
-use Rattle.run_actions.specs.States.{phaseOf, stateOf, placeOf, byStatus, nextOf, isGoing, onAt}
-use Rattle.runner.specs.Runs.{MayStep, RunOver, RanToEnd}
+use Rattle.run_actions.specs.States.{phaseOf, stateOf, placeOf, byStatus, isGoing, onAt}
+use Rattle.runner.specs.Runs.{RanToEnd}
 use Rattle.runner.specs.Pauses.{standBy, standOf, withTicks, Waiting, Awaits, no-place, at-place, MayTest, Tested, Paused, RanOn}
 use Rattle.runner.proofs.Loop.{partners-of, going-is, Runs, runs-start, doable, fitting, head-in, runs-step}
 use Rattle.runner.proofs.Awaiting.{waiting-at, is-testing, awaits-steps}

@@ -8,7 +8,7 @@ use lib.Dec.{T, eqb, eqb-refl}
 use lib.ListN.{length, getD, length-append, List·getD-append}
 use lib.Seq.{getD-append-seam}
 use Rattle.rules.specs.Text.{lf, prefixed, split}
-use Rattle.rules_season.specs.Season.{untilLast, namesOf}
+use Rattle.rules_season.specs.Season.{untilLast}
 
 -- a byte more at the end of the last line
 longer : ℕ → List (List ℕ) → List (List ℕ)

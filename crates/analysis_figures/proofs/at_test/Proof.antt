@@ -1,6 +1,5 @@
 -- `analysis_figures::at_test` meets its contract.
 use borrow.Author.Needs.{needs}
-use mathlib.Core.Path.{refl}
 use Rattle.rules.specs.Turns.{atTest}
 use Rattle.analysis_figures.proofs.Moves.{unmoved-begun}
 use Rattle.analysis_figures.proofs.at_test.Statement.{statement}

@@ -1,10 +1,9 @@
 -- `analysis_only_rows::sole_of` meets its contract: what the rows walked assign, and the block that is left.
 use denote.Ref.{now}
 use borrow.Author.Needs.{needs}
-use native.Mathlib.Omega.{arith}
 use mathlib.Core.Path.{_≡_, refl, sym, _∙_}
 use mathlib.Core.List.{[]}
-use Prim.Native.Nat.{ℕ, _+_, _-_}
+use Prim.Native.Nat.{_-_}
 use lib.ListN.{length}
 use Rattle.analysis_table.specs.Code.{kindAt, rowsOf}
 use Rattle.analysis_table.specs.Shapes.{pastElse}

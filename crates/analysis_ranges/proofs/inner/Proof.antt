@@ -1,6 +1,5 @@
 -- `analysis_ranges::inner` meets its contract.
 use borrow.Author.Needs.{needs}
-use mathlib.Core.Path.{_≡_, refl, sym, _∙_}
 use Rattle.rules.specs.Values.{lowest, highest}
 use Rattle.rules.specs.Trips.{innerOf}
 use Rattle.analysis_ranges.proofs.inner.Statement.{statement}

@@ -1,6 +1,5 @@
 -- `analysis_ranges::outer` meets its contract.
 use borrow.Author.Needs.{needs}
-use mathlib.Core.Path.{_≡_, refl, sym, _∙_}
 use Rattle.rules.specs.Values.{lowest, highest}
 use Rattle.rules.specs.Trips.{outerOf}
 use Rattle.analysis_ranges.proofs.outer.Statement.{statement}

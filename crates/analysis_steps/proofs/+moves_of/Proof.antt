@@ -1,7 +1,7 @@
 -- `analysis_steps::moves_of` meets its contract: what the rows walked do, and the block that is left.
 use denote.Ref.{now}
 use borrow.Author.Needs.{needs}
-use Prim.Native.Nat.{ℕ, _<_, _-_, _+_}
+use Prim.Native.Nat.{ℕ, _-_, _<_}
 use mathlib.Core.Path.{_≡_, refl, sym, ap, _∙_}
 use mathlib.Core.Logic.{⊎-elim}
 use Rattle.rules_steps.specs.declared.Step.the-variants.{Unknown}

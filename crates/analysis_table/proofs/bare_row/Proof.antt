@@ -1,5 +1,4 @@
 use Rattle.analysis_table.specs.Code.{kindBy, kindIn}
-use borrow.Author.Needs.{needs}
 use Rattle.analysis_table.proofs.bare_row.Statement.{statement}
 use Rattle.analysis_table.proofs.bare_row.Tie as tie
 

@@ -2,7 +2,7 @@
 use denote.Ref.{now}
 use borrow.Author.Needs.{needs}
 use native.Mathlib.Omega.{arith}
-use mathlib.Core.Path.{_≡_, refl, sym, ap, _∙_}
+use mathlib.Core.Path.{_≡_, sym, ap, _∙_}
 use mathlib.Core.Bool.{not, cond, _&&_}
 use Rattle.rules.specs.Steps.{step, isAdd, moving}
 use Rattle.rules.specs.Ranges.{sort, ordered}

@@ -1,7 +1,7 @@
 -- `analysis_ways::way_of` meets its contract.
 use borrow.Author.Needs.{needs}
 use mathlib.Core.Path.{_≡_, refl, sym, ap, _∙_}
-use mathlib.Core.Bool.{true, false, false≢true}
+use mathlib.Core.Bool.{false, false≢true}
 use Rattle.rules_steps.specs.declared.Step.{Step}
 use Rattle.rules_steps.specs.declared.Step.the-variants.{Unknown}
 use Rattle.rules.specs.Questions.{known}

@@ -1,5 +1,5 @@
 -- `calls::run_accepted` meets its contract. Assumes nothing.
-use mathlib.Core.Path.{refl, _∙_}
+use mathlib.Core.Path.{refl}
 use mathlib.Core.List.{[]}
 use lib.ListN.{take}
 use Rattle.rules.specs.Blocks.{kindsOf}

@@ -1,6 +1,4 @@
 -- `calls_frames::run_frames` meets its contract. Assumes nothing.
-use mathlib.Core.Path.{_≡_, refl, sym, ap, subst}
-use Rattle.rules_frames.specs.Frames.{playedBy, storesAfter}
 use Rattle.calls_frames.proofs.Refusing.{lengths-fit, may-play, no-play}
 use borrow.Author.Needs.{needs}
 use Rattle.calls_frames.proofs.run_frames.Statement.{statement}

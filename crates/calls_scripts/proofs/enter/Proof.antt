@@ -1,8 +1,7 @@
 -- `calls_scripts::enter` meets its contract. Assumes nothing.
-use mathlib.Core.Path.{_≡_, refl, sym, _∙_, ap}
+use mathlib.Core.Path.{refl, sym, _∙_, ap, _≡_}
 use Prim.Native.Nat.{ℕ}
 use native.Mathlib.Omega.{arith}
-use Rattle.rules.specs.Scripts.{Script, scriptOf, startEnv, treeOf}
 use Rattle.rules.specs.Questions.{verdict}
 use Rattle.rules.specs.Calls.{pricesOf}
 use Rattle.rules.proofs.Demand3File.{judged-accepted}

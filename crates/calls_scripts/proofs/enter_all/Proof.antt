@@ -1,5 +1,5 @@
 -- `calls_scripts::enter_all` meets its contract. The invariant: the first k scripts have entered. Assumes nothing.
-use mathlib.Core.Path.{_≡_, subst₂}
+use mathlib.Core.Path.{subst₂}
 use Prim.Native.Nat.{_-_, _≤_, _<_}
 use native.Mathlib.Omega.{arith}
 use lib.ListN.{length}

@@ -1,5 +1,5 @@
 use borrow.Author.Needs.{needs}
-use mathlib.Core.Path.{_∙_, sym}
+use mathlib.Core.Path.{_∙_}
 use lib.ListN.{drop-of-length-le}
 use lib.Seq.{drop-cons}
 use denote.Ref.{now}

@@ -1,11 +1,10 @@
-use mathlib.Core.Path.{_≡_, sym, ap, _∙_}
-use Prim.Native.Nat.{_+_, _-_, _<_, _≤_}
+use mathlib.Core.Path.{sym, _∙_}
+use Prim.Native.Nat.{_-_}
 use native.Mathlib.Numerals.{add-one}
 use native.Mathlib.Omega.{arith}
 use lib.ListN.{length}
-use denote.Ref.{now}
 use borrow.Author.Needs.{needs}
-use Rattle.expression_leaves.proofs.Leaves.{NoDigit, no-digit, no-byte, Upto, upto-none, upto-more, upto-end}
+use Rattle.expression_leaves.proofs.Leaves.{no-digit, no-byte, Upto, upto-none, upto-more, upto-end}
 use Rattle.expression_leaves.proofs.digits_at.Statement.{statement}
 use Rattle.expression_leaves.proofs.digits_at.Tie as tie
 

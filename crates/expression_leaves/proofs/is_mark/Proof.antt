@@ -1,8 +1,5 @@
 use borrow.Author.Tests.{le-leb, lt-leb, ne-eqb}
-use Prim.Native.Nat.{_≤_}
 use mathlib.Core.Path.{_≡_}
-use mathlib.Core.Bool.{true}
-use lib.Dec.{leb}
 use native.Mathlib.Omega.{arith}
 use Rattle.rules.specs.Parse.{isMark}
 use Rattle.expression_leaves.proofs.is_mark.Statement.{statement}

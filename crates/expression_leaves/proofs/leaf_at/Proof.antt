@@ -1,9 +1,5 @@
-use mathlib.Core.Path.{_≡_, sym, _∙_, ap, subst}
 use native.Mathlib.Numerals.{add-one}
-use native.Mathlib.Omega.{arith}
-use denote.Ref.{now}
 use borrow.Author.Needs.{needs}
-use Rattle.expression_leaves.specs.Leaves.{LeafAt}
 use Rattle.expression_leaves.proofs.Leaves.{leaf-past, leaf-variable, leaf-negative, leaf-other}
 use Rattle.expression_leaves.proofs.leaf_at.Statement.{statement}
 use Rattle.expression_leaves.proofs.leaf_at.Tie as tie

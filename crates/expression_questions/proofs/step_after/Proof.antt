@@ -1,6 +1,5 @@
-use mathlib.Core.Path.{_≡_, sym, _∙_, ap}
+use mathlib.Core.Path.{sym, _∙_}
 use native.Mathlib.Numerals.{add-one}
-use native.Mathlib.Omega.{arith}
 use borrow.Author.Needs.{needs}
 use Rattle.expression_questions.proofs.Scanning.{operated, closed, too-closed, no-mark}
 use Rattle.expression_questions.proofs.step_after.Statement.{statement}

@@ -1,5 +1,5 @@
-use mathlib.Core.Path.{_≡_, refl, sym, _∙_, ap}
-use mathlib.Core.Bool.{Bool, true, false, cond, _&&_}
+use mathlib.Core.Path.{_≡_, refl, _∙_}
+use mathlib.Core.Bool.{Bool, true, false, _&&_}
 use mathlib.Core.Logic.{⊎-elim}
 use Prim.Native.Nat.{ℕ, zero, suc, _≤_, _<_}
 use native.Mathlib.Omega.{arith}
@@ -7,7 +7,7 @@ use lib.Dec.{leb}
 use borrow.Author.Needs.{needs}
 use borrow.Author.Tests.{le-leb, lt-leb}
 use Rattle.rules.specs.File.{firstRefusal}
-use Rattle.expression_questions.specs.Asking.{Sizes, due, shut, sizesOf, decided, finished, endQuestion}
+use Rattle.expression_questions.specs.Asking.{Sizes, sizesOf, decided, finished, endQuestion}
 use Rattle.expression_questions.proofs.verdict.Statement.{statement}
 use Rattle.expression_questions.proofs.verdict.Tie as tie
 

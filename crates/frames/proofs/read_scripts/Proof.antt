@@ -1,7 +1,7 @@
 -- `frames::read_scripts` is safe and ends: each script takes no more than its share of the room, and the measure is the number of scripts left. Assumes nothing.
 use Prim.Native.Nat.{_+_, _-_, _*_, _≤_}
 use mathlib.Core.Path.{_≡_}
-use lib.ListN.{length, take, drop, length-take, length-drop}
+use lib.ListN.{length, drop, length-take, length-drop}
 use borrow.Author.Needs.{needs}
 use native.Mathlib.Omega.{arith}
 use Rattle.frames.proofs.read_scripts.Statement.{statement}

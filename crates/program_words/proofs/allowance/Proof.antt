@@ -1,5 +1,5 @@
 -- `program_words::allowance` meets its contract.
-use mathlib.Core.Path.{_≡_, sym, _∙_}
+use mathlib.Core.Path.{sym}
 use borrow.Author.Needs.{needs}
 use Rattle.program_words.specs.Words.{allowanceIn}
 use Rattle.program_words.proofs.allowance.Statement.{statement}

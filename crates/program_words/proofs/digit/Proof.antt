@@ -1,5 +1,4 @@
 -- `program_words::digit` meets its contract.
-use Prim.Native.Nat.{_≤_}
 use native.Mathlib.Omega.{arith}
 use borrow.Author.Needs.{needs}
 use Rattle.program_words.proofs.Digits.{digit-low, digit-high, digit-in}

@@ -1,5 +1,5 @@
 -- `program_words::downward` meets its contract: a number up to 2^31 fits 32 bits under its sign.
-use mathlib.Core.Path.{_≡_, sym, ap}
+use mathlib.Core.Path.{_≡_, ap}
 use Prim.Native.Nat.{ℕ, _≤_}
 use lib.IntN.{pos, negℤ, _-ℤ_, +ℤ-idl}
 use mir.Syntax.{w32, w64}

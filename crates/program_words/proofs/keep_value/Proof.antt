@@ -1,14 +1,10 @@
 -- `program_words::keep_value` meets its contract.
-use mathlib.Core.Path.{_≡_, refl, sym, _∙_, ap}
-use mathlib.Core.Bool.{Bool}
-use mathlib.Core.List.{List}
-use lib.IntN.{ℤ}
-use lib.ListN.{set}
+use mathlib.Core.Path.{sym, _∙_, ap}
 use mir.Syntax.{w32}
 use mir.Val.{SFits}
 use mir.Facts.{toZ-ofZ}
 use borrow.Author.Needs.{needs}
-use Rattle.program_words.specs.Words.{valueIn, keptIn, isValue}
+use Rattle.program_words.specs.Words.{keptIn, isValue}
 use Rattle.program_words.proofs.Words.{set-past}
 use Rattle.program_words.proofs.keep_value.Statement.{statement}
 use Rattle.program_words.proofs.keep_value.Tie as tie

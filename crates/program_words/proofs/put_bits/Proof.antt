@@ -1,5 +1,5 @@
 -- `program_words::put_bits` meets its contract: the digits passed are put. The measure is what is left of the word.
-use mathlib.Core.Path.{_≡_, sym, _∙_}
+use mathlib.Core.Path.{_≡_, _∙_}
 use Prim.Native.Nat.{ℕ, _-_}
 use native.Mathlib.Numerals.{add-one}
 use native.Mathlib.Omega.{arith}

@@ -1,5 +1,5 @@
 -- `program_words::read_value` meets its contract.
-use mathlib.Core.Path.{_≡_, sym, _∙_, ap}
+use mathlib.Core.Path.{_∙_, ap}
 use native.Mathlib.Omega.{arith}
 use borrow.Author.Needs.{needs}
 use Rattle.program_words.specs.Words.{numberIn, upwardOf, downwardOf}

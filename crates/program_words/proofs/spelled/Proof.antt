@@ -1,5 +1,5 @@
 -- `program_words::spelled` meets its contract: the digits passed spell n. The measure is what is left of the word.
-use Prim.Native.Nat.{_-_, _*_, _+_, _≤_, _<_}
+use Prim.Native.Nat.{_-_, _≤_}
 use native.Mathlib.Numerals.{add-one}
 use native.Mathlib.Omega.{arith}
 use lib.ListN.{length}

@@ -1,5 +1,4 @@
 -- `program_words::upward` meets its contract.
-use mathlib.Core.Path.{_≡_}
 use borrow.Author.Needs.{needs}
 use borrow.Author.Tests.{lt-ltb, le-ltb}
 use Rattle.program_words.proofs.upward.Statement.{statement}

@@ -1,7 +1,6 @@
 use mathlib.Core.Path.{refl}
 use Rattle.rules.specs.Questions.{andThen}
 use borrow.Author.Needs.{needs}
-use native.Mathlib.Omega.{arith}
 use Rattle.reader.proofs.and_then.Statement.{statement}
 use Rattle.reader.proofs.and_then.Tie as tie
 

@@ -2,7 +2,6 @@ use mathlib.Core.Path.{refl}
 use borrow.Author.Tests.{eq-eqb, ne-eqb}
 use Rattle.rules.specs.Questions.{asked}
 use Rattle.reader.specs.Read.{rowsVerdict}
-use borrow.Author.Needs.{needs}
 use Rattle.reader.proofs.ask_rows.Statement.{statement}
 use Rattle.reader.proofs.ask_rows.Tie as tie
 

@@ -6,7 +6,6 @@ use Rattle.reading_text.proofs.Laws.{part-rest}
 use Rattle.reading_lines.specs.Lines.{clean, CountRead}
 use Rattle.reading_head.proofs.Heads.{count-refused, count-says}
 use borrow.Author.Needs.{needs}
-use native.Mathlib.Omega.{arith}
 use Rattle.reading_head.proofs.load_count.Statement.{statement}
 use Rattle.reading_head.proofs.load_count.Tie as tie
 

@@ -3,7 +3,6 @@ use denote.Ref.{now}
 use Rattle.reading_lines.specs.Lines.{Within, countOf}
 use Rattle.reading_head.proofs.Heads.{head-refused, none-sized, head-same, script-then, script-refused, file-long}
 use borrow.Author.Needs.{needs}
-use native.Mathlib.Omega.{arith}
 use Rattle.reading_head.proofs.load_head.Statement.{statement}
 use Rattle.reading_head.proofs.load_head.Tie as tie
 

@@ -1,10 +1,9 @@
-use mathlib.Core.Path.{refl, sym, _∙_, subst}
+use mathlib.Core.Path.{refl, subst}
 use lib.ListN.{drop, length-drop}
 use denote.Ref.{now}
 use Rattle.rules.specs.File.{varsKey, rangePart}
 use Rattle.reading_text.proofs.Laws.{part-rest}
 use Rattle.reading_lines.specs.Lines.{clean, CountRead}
-use Rattle.reading_head.specs.Head.{HeadRead}
 use Rattle.reading_head.proofs.Heads.{after-count, after-wrong, head-refused}
 use borrow.Author.Needs.{needs}
 use native.Mathlib.Omega.{arith}

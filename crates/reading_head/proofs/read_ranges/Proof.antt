@@ -1,4 +1,4 @@
-use mathlib.Core.Path.{_∙_, subst}
+use mathlib.Core.Path.{subst}
 use Prim.Native.Nat.{_-_}
 use lib.ListN.{drop, length-drop}
 use denote.Ref.{now}
@@ -10,7 +10,6 @@ use Rattle.reading_head.specs.Head.{rangesOf}
 use Rattle.reading_lines.specs.Lines.{RangeRead}
 use Rattle.reading_head.proofs.Fill.{RangesUpto, ranges-none, ranges-more, ranges-wrong, ranges-all}
 use borrow.Author.Needs.{needs}
-use native.Mathlib.Omega.{arith}
 use Rattle.reading_head.proofs.read_ranges.Statement.{statement}
 use Rattle.reading_head.proofs.read_ranges.Tie as tie
 

@@ -1,9 +1,9 @@
 use mathlib.Core.Path.{_≡_, sym, ap, _∙_}
-use Prim.Native.Nat.{_+_, _-_, _<_, _≤_}
+use Prim.Native.Nat.{_+_, _-_, _<_}
 use native.Mathlib.Numerals.{add-one}
 use lib.ListN.{length, drop}
 use denote.Ref.{now}
-use Rattle.reading_text.proofs.Laws.{Upto, upto-none, upto-more, upto-stop, upto-end, stop-here, stop-on, stop-end, stop-within, front-length, front-at, digit-on}
+use Rattle.reading_text.proofs.Laws.{Upto, upto-none, upto-more, upto-stop, upto-end, stop-here, stop-on, stop-end, front-length, front-at, digit-on}
 use Rattle.reading_text.specs.Words.{stop, front}
 use borrow.Author.Needs.{needs}
 use native.Mathlib.Omega.{arith}
@@ -15,9 +15,6 @@ Inv-loop s value₀ i₀ value i = Upto (front s) value i × (stop s ≡ i + sto
 
 abbrev μ-loop : tie.MeasureT-loop
 μ-loop s value₀ i₀ value i = length s - i
-
-abbrev Digit : Type 0
-Digit = tie.After-is-digit Inv-loop μ-loop
 
 loop-holds : tie.Need-loop-holds Inv-loop μ-loop
 loop-holds c = (upto-none _, omega arith)

@@ -4,7 +4,7 @@ use Prim.Native.Nat.{ℕ}
 use lib.ListN.{length}
 use denote.Ref.{now}
 use Rattle.reading_text.proofs.Laws.{digits-many, natural-other, natural-none, natural-one, natural-zero, natural-long, front-at, front-length, stop-within}
-use Rattle.reading_text.specs.Words.{front, digitsOf}
+use Rattle.reading_text.specs.Words.{front}
 use Rattle.reading_text.specs.declared.DigitsRead.{DigitsRead}
 use borrow.Author.Needs.{needs}
 use native.Mathlib.Omega.{arith}

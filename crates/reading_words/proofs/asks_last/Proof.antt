@@ -1,4 +1,4 @@
-use mathlib.Core.Path.{sym, ap, _∙_}
+use mathlib.Core.Path.{sym, ap}
 use denote.Ref.{now}
 use Rattle.rules.specs.File.{asksEnd}
 use Rattle.reading_text.proofs.Line.{ends-within, last-yes, last-no}

@@ -2,7 +2,7 @@ use mir.Facts.{toZ-ofZ}
 use mir.Syntax.{w64}
 use mir.Val.{SFits}
 use borrow.Author.Needs.{needs}
-use Rattle.rules.specs.Report.{decimal, size}
+use Rattle.rules.specs.Report.{size}
 use Rattle.report.proofs.end_size.Statement.{statement}
 use Rattle.report.proofs.end_size.Tie as tie
 

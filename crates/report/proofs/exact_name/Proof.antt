@@ -1,5 +1,3 @@
-use borrow.Author.Needs.{needs}
-use mathlib.Core.Bool.{true, false}
 use Rattle.rules.specs.Report.{exactName}
 use Rattle.report.proofs.exact_name.Statement.{statement}
 use Rattle.report.proofs.exact_name.Tie as tie

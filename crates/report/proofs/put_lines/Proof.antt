@@ -1,7 +1,6 @@
 use denote.Ref.{now}
 use borrow.Author.Needs.{needs}
 use native.Mathlib.Omega.{arith}
-use mathlib.Core.Path.{_≡_}
 use mathlib.Core.List.{[], _∷_}
 use Prim.Native.Nat.{_≤_}
 use lib.ListN.{length, length-drop}
@@ -10,7 +9,7 @@ use Rattle.analysis_lines.specs.Coded.{linesIn}
 use Rattle.analysis_lines.proofs.Laws.{lent-room}
 use Rattle.report.specs.Lines.{headText, loopsText}
 use Rattle.report.proofs.Laws.{report-parts}
-use Rattle.report_pieces.proofs.Laws.{first-room, second-room, second-written, third-room, third-written, writing-all, part-rest}
+use Rattle.report_pieces.proofs.Laws.{first-room, second-room, third-room, third-written, writing-all, part-rest}
 use Rattle.report.proofs.put_lines.Statement.{statement}
 use Rattle.report.proofs.put_lines.Tie as tie
 

@@ -1,10 +1,5 @@
-use borrow.Author.Needs.{needs}
 use native.Mathlib.Omega.{arith}
-use mathlib.Core.Path.{_≡_, ap, _∙_}
-use lib.IntN.{ℤ, pos, natAbs}
 use mir.Facts.{toZ-ofZ}
-use mir.Syntax.{w64}
-use mir.Val.{SFits}
 use Rattle.report.proofs.Laws.{Below, below, above, above-size}
 use Rattle.report.proofs.size.Statement.{statement}
 use Rattle.report.proofs.size.Tie as tie

@@ -1,8 +1,7 @@
 use Rattle.report_pieces.proofs.Laws.{room-one, room-more, wrote-none, wrote-one, wrote-more}
 use borrow.Author.Needs.{needs}
 use native.Mathlib.Omega.{arith}
-use mathlib.Core.Path.{sym, ap, _∙_}
-use Prim.Native.Nat.{ℕ, _+_, _<_}
+use Prim.Native.Nat.{ℕ, _<_}
 use borrow.Fn.Kinds.{In}
 use borrow.Fn.PlainCycle.{Measures, is, falls, and}
 use Rattle.report_pieces.proofs.put_digits.Reads as put-digits

@@ -1,7 +1,5 @@
 use native.Mathlib.Omega.{arith}
 use borrow.Author.Needs.{needs}
-use mathlib.Core.Path.{_≡_}
-use Prim.Native.Nat.{_≤_}
 use lib.ListN.{length-take}
 use Rattle.report_pieces.proofs.Laws.{wrote-copy}
 use Rattle.report_pieces.proofs.put_label.Statement.{statement}

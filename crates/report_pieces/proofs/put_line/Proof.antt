@@ -1,11 +1,10 @@
 use borrow.Author.Needs.{needs}
 use native.Mathlib.Omega.{arith}
-use mathlib.Core.Path.{_≡_, sym, ap, _∙_}
-use mathlib.Core.List.{[]}
-use Prim.Native.Nat.{ℕ, _+_, _-_, _≤_}
+use mathlib.Core.Path.{_≡_, _∙_}
+use Prim.Native.Nat.{_+_, _-_, _≤_}
 use lib.ListN.{length, getD, length-drop}
 use Rattle.report_pieces.specs.declared.Piece.the-variants.{Nothing}
-use Rattle.report_pieces.specs.Pieces.{pieceText, pieceTexts, Wrote}
+use Rattle.report_pieces.specs.Pieces.{pieceText, pieceTexts}
 use Rattle.report_pieces.proofs.Laws.{Writing, writing-none, writing-room, writing-more, writing-all, pieces-count, piece-at, part-rest}
 use Rattle.report_pieces.proofs.put_line.Statement.{statement}
 use Rattle.report_pieces.proofs.put_line.Tie as tie

@@ -4,8 +4,8 @@ use Rattle.rules.proofs.LinesAtHeads.{heads-few}
 use Rattle.rules.specs.Calls.{isLoop, loopRows}
 use Rattle.run_loops.specs.Loops.{withHead}
 use Rattle.rules.proofs.Laws.{kinds-first, kind-of}
-use Rattle.rules.specs.Blocks.{viewOf, kindOf, kindsOf}
-use lib.ListN.{length, getD, take}
+use Rattle.rules.specs.Blocks.{viewOf, kindsOf}
+use lib.ListN.{length, take}
 use Prim.Native.Nat.{ℕ, _+_, _-_, _≤_}
 use mathlib.Core.Path.{_≡_, refl, _∙_, ap, subst}
 use mathlib.Core.List.{List, []}

@@ -1,7 +1,6 @@
 -- `season::read_names` meets its contract: what was read is kept. The measure is the count of the turns.
 use mathlib.Core.List.{[]}
 use borrow.Author.Needs.{needs}
-use native.Mathlib.Omega.{arith}
 use Rattle.season.specs.Listed.{Listed}
 use Rattle.season.proofs.read_names.Statement.{statement}
 use Rattle.season.proofs.read_names.Tie as tie

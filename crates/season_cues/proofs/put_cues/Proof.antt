@@ -1,13 +1,13 @@
 -- `season_cues::put_cues` meets its contract: the cue numbers of the rows passed are put. The measure is how many rows are left.
-use mathlib.Core.Path.{_≡_, refl, sym, ap, _∙_}
-use mathlib.Core.List.{List, [], _++_}
-use Prim.Native.Nat.{ℕ, _+_, _-_, _≤_}
+use mathlib.Core.Path.{_≡_, refl}
+use mathlib.Core.List.{List}
+use Prim.Native.Nat.{ℕ, _-_, _≤_}
 use native.Mathlib.Omega.{arith}
 use lib.ListN.{length, take}
 use lib.Seq.{take-all}
 use borrow.Author.Needs.{needs}
 use Rattle.rules.specs.Blocks.{kindsOf}
-use Rattle.rules_season.specs.Season.{cueOf, cuesOf}
+use Rattle.rules_season.specs.Season.{cuesOf}
 use Rattle.rules.proofs.Laws.{kinds-first, kind-of}
 use Rattle.report_pieces.specs.Pieces.{Wrote}
 use Rattle.report_pieces.proofs.Laws.{wrote-nothing}

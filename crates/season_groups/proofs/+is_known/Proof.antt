@@ -1,7 +1,6 @@
 -- `season_groups::is_known` meets its contract. The measure is how many firsts are left. Assumes nothing.
 use borrow.Author.Needs.{needs}
 use native.Mathlib.Omega.{arith}
-use mathlib.Core.Path.{_≡_, sym, _∙_}
 use Prim.Native.Nat.{ℕ, _≤_, _<_}
 use lib.ListN.{length, getD, length-drop, length-take}
 use borrow.Fn.Kinds.{In}

@@ -1,8 +1,8 @@
 -- `season_groups::keep_first` meets its contract. Assumes nothing.
-use mathlib.Core.Path.{_≡_, sym, ap, _∙_}
+use mathlib.Core.Path.{sym, ap, _∙_}
 use mathlib.Core.Bool.{not}
 use native.Mathlib.Omega.{arith}
-use lib.ListN.{length-take, length-set}
+use lib.ListN.{length-take}
 use borrow.Author.Needs.{needs}
 use Rattle.season_groups.proofs.Laws.{known-is, known-yes, known-no}
 use Rattle.season_groups.proofs.keep_first.Statement.{statement}

@@ -1,11 +1,9 @@
 -- `season_names::holds_zero` meets its contract: no byte passed is 0. The measure is what is left of the name.
 use mathlib.Core.Path.{_≡_, refl, sym, _∙_}
-use Prim.Native.Nat.{ℕ, _-_, _≤_}
+use Prim.Native.Nat.{_-_}
 use native.Mathlib.Numerals.{add-one}
-use native.Mathlib.Omega.{arith}
 use lib.ListN.{length, drop}
 use borrow.Author.Needs.{needs}
-use borrow.Author.Tests.{eq-eqb, ne-eqb}
 use Rattle.rules_season.specs.Season.{holdsZero}
 use Rattle.season_names.proofs.Laws.{zero-here, zero-later, zero-none}
 use Rattle.season_names.proofs.holds_zero.Statement.{statement}

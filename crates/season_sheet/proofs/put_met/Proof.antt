@@ -1,7 +1,6 @@
 -- `season_sheet::put_met` meets its contract. Assumes nothing.
 use borrow.Author.Needs.{needs}
 use native.Mathlib.Omega.{arith}
-use mathlib.Core.Path.{refl}
 use mathlib.Core.List.{[], _∷_, _++_}
 use Rattle.rules_season.specs.Season.{refusedWord}
 use Rattle.report_pieces.proofs.Laws.{wrote-nothing}

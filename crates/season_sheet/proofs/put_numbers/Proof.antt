@@ -1,7 +1,6 @@
 -- `season_sheet::put_numbers` meets its contract: the numbers before q are written. The measure is how many are left.
 use borrow.Author.Needs.{needs}
 use native.Mathlib.Omega.{arith}
-use mathlib.Core.Path.{_≡_}
 use Prim.Native.Nat.{_-_}
 use lib.ListN.{getD, length-drop}
 use Rattle.report_pieces.proofs.Laws.{part-rest}

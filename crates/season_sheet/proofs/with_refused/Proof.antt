@@ -1,7 +1,6 @@
 -- `season_sheet::with_refused` meets its contract. Assumes nothing.
 use mathlib.Core.Path.{refl}
 use borrow.Author.Needs.{needs}
-use native.Mathlib.Omega.{arith}
 use Rattle.season_sheet.proofs.Laws.{refusing}
 use Rattle.season_sheet.proofs.with_refused.Statement.{statement}
 use Rattle.season_sheet.proofs.with_refused.Tie as tie

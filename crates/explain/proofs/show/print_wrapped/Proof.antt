@@ -2,7 +2,6 @@
 use Prim.Native.Nat.{_-_, _≤_}
 use lib.ListN.{length}
 use borrow.Author.Needs.{needs}
-use native.Mathlib.Omega.{arith}
 use Rattle.explain.proofs.show.print_wrapped.Statement.{statement}
 use Rattle.explain.proofs.show.print_wrapped.Tie as tie
 

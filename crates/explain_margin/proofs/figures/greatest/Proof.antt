@@ -1,7 +1,7 @@
 -- `explain_margin::figures::greatest` meets its contract. Assumes nothing.
 use borrow.Author.Needs.{needs}
 use native.Mathlib.Omega.{arith}
-use mathlib.Core.Path.{_≡_, sym, ap, _∙_}
+use mathlib.Core.Path.{_≡_, sym, _∙_}
 use Prim.Native.Nat.{_-_, _≤_, max}
 use lib.ListN.{drop}
 use Rattle.explain_margin.specs.Figures.{mostIn}

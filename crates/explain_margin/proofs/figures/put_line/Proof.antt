@@ -1,7 +1,6 @@
 -- `explain_margin::figures::put_line` meets its contract. Assumes nothing.
 use borrow.Author.Needs.{needs}
 use mathlib.Core.Path.{sym}
-use lib.ListN.{length-set}
 use lib.Seq.{set-out}
 use Rattle.explain_margin.proofs.figures.put_line.Statement.{statement}
 use Rattle.explain_margin.proofs.figures.put_line.Tie as tie

@@ -1,6 +1,4 @@
 -- `explain_margin::place::shown` meets its contract. Assumes nothing.
-use borrow.Author.Needs.{needs}
-use native.Mathlib.Omega.{arith}
 use borrow.Author.Tests.{le-leb, lt-leb}
 use Rattle.explain_margin.proofs.place.shown.Statement.{statement}
 use Rattle.explain_margin.proofs.place.shown.Tie as tie

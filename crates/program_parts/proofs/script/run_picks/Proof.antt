@@ -1,6 +1,5 @@
 -- `script::run_picks` is safe: the picks lie in their room. Assumes nothing.
 use mathlib.Core.Path.{sym}
-use native.Mathlib.Omega.{arith}
 use lib.Seq.{length-take-le}
 use borrow.Author.Needs.{needs}
 use Rattle.program_parts.proofs.script.run_picks.Statement.{statement}
