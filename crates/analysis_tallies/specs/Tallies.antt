@@ -60,6 +60,9 @@ lastTicks text π k = lastPrice π (headOf text k .last)
 
 -- r is t with other ticks spent; its lines and its verdict stay
 pub record Restarted (t : TallyLines) (kept : Bool) (spent : ℕ) (r : TallyLines) : Type 0 where
+  pub number : r .number ≡ 0
+  pub place : r .place ≡ 0
+  pub next : r .next ≡ 0
   pub same : r .lines ≡ t .lines
   pub value : (ρ : Env) → tallied r ρ ≡ record { env = ρ; kept = kept; verdict = passed; spent = spent; over = overOf (t .over); lines = firstLines (t .lines) (t .loops); loops = t .loops }
 
@@ -74,6 +77,8 @@ lineFor i τ turns total = record { row = i; step = τ .step; turns = turns; tot
 -- r is t with one line more, at its end
 pub record LineAdded (t : TallyLines) (i : ℕ) (τ : Trip) (turns total spent : ℕ) (kept : Bool) (r : TallyLines) : Type 0 where
   pub number : r .number ≡ 0
+  pub place : r .place ≡ 0
+  pub next : r .next ≡ 0
   pub long : length (r .lines) ≡ 16
   pub value : (ρ : Env) → tallied r ρ ≡ record {
     env = ρ;
@@ -88,6 +93,7 @@ pub record LineAdded (t : TallyLines) (i : ℕ) (τ : Trip) (turns total spent :
 -- own: the block's own ticks; all: those in all passes
 pub record BlockClosed (t inner : TallyLines) (e own all : ℕ) (keep : Bool) (r : TallyLines) : Type 0 where
   pub number : r .number ≡ 0
+  pub place : r .place ≡ 0
   pub kept : r .kept ≡ keep
   pub spent : r .spent ≡ capped (t .spent + all)
   pub over : OverOf (inner .over) e own (r .over)
@@ -100,4 +106,5 @@ pub record EndedAt (t : TallyLines) (i : ℕ) (r : TallyLines) : Type 0 where
   pub same : r .lines ≡ t .lines
   pub value : (ρ : Env) → tallied r ρ ≡ tallied t ρ
   pub number : r .number ≡ 0
+  pub place : r .place ≡ 0
   pub next : r .next ≡ i

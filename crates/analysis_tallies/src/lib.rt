@@ -150,7 +150,7 @@ pub fn closed(t: Tally, inner: Tally, e: usize, own: u64, all: u64, kept: bool) 
 
 // A refusal at row i.
 pub fn refused(t: Tally, number: u32, i: usize) -> Tally
-    ensures { λ r. ⌜ (r .number ≡ number) × (r .place ≡ i) ⌝ }
+    ensures { λ r. ⌜ (r .number ≡ number) × (r .place ≡ i) × (r .kept ≡ t .kept) × (r .over ≡ t .over) × (r .spent ≡ t .spent) × (r .loops ≡ t .loops) × (r .next ≡ 0) ⌝ }
 {
     Tally {
         number: number,

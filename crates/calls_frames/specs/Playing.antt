@@ -4,7 +4,6 @@ use mathlib.Core.List.{List, []}
 use Prim.Native.Nat.{ℕ, _*_, _≤_, _<_}
 use lib.IntN.{ℤ}
 use lib.ListN.{length, getD}
-use Rattle.rules.specs.declared.Ending.the-variants.{Ended}
 use Rattle.rules.specs.Calls.{Priced, pricesOf, scratchSize}
 use Rattle.rules_frames.specs.Frames
 use Rattle.rules_frames.specs.Frames.{Lent, partsOf, afterFrames, most, ready, readiness}

@@ -28,6 +28,9 @@ plus-requires c κs = let h = few c in (c .before .before .pre .4, omega arith)
 
 returns : tie.Need-returns
 returns c = λ text ls. let s = c .before .before .before .before .before .args in record {
+  number = refl;
+  place = refl;
+  next = refl;
   same = refl;
   value = λ ρ. state-is refl (c .both .ensures ∙ ap (λ b. s .t .kept && not b) (c .before .sets-it .ensures text)) refl
       (c .before .before .plus .ensures ∙ ap (λ p. capped (s .t .spent + s .round .count * p)) (c .before .before .before .before .plain-price .ensures text)) refl refl refl;
