@@ -58,6 +58,7 @@ module _ (π : Prices) (fine : FinePrices π) (text : List ℕ) (ranges : List (
   unfolding scriptOf andThen
   result t₀ t ls e s f (of-loop h p q) m u k v free = record {
     verdict = moved (verdict π count) ∙ verdict-loop π count ρ b (t .number) (t .place) h (refused-in s h) ∙ (λ j. verdictOf (sym p j) (sym q j));
+    place = λ z. absurd (h (sym p ∙ z));
     ticks = λ z. absurd (h (sym p ∙ z));
     loops = λ z. absurd (h (sym p ∙ z));
     long = λ z. absurd (h (sym p ∙ z));
@@ -68,6 +69,7 @@ module _ (π : Prices) (fine : FinePrices π) (text : List ℕ) (ranges : List (
       let part = part-of false 0 passed [] 0 e (s .whole z) in
       record {
         verdict = moved (verdict π count) ∙ verdict-block π count ρ b (part .verdict) (t .over) (part .over) l ∙ (λ j. verdictOf (sym p j) (sym q j));
+        place = λ w. no-number p w;
         ticks = λ w. no-number p w;
         loops = λ w. no-number p w;
         long = λ w. no-number p w;
@@ -78,18 +80,20 @@ module _ (π : Prices) (fine : FinePrices π) (text : List ℕ) (ranges : List (
       let part = part-of false 0 passed [] 0 e (s .whole z) in
       record {
         verdict = moved (verdict π count) ∙ verdict-file π count ρ b (part .verdict) (t .over) (part .over) l (omega (arith, part .spent, over-once (pos 0) (λ j. ticks π j ρ b))) ∙ (λ j. verdictOf (sym p j) (sym q j));
+        place = λ w. no-number p w;
         ticks = λ w. no-number p w;
         loops = λ w. no-number p w;
         long = λ w. no-number p w;
         lines = λ w. no-number p w;
         none = free;
       }
-  result t₀ t ls e s f (none z l o p) j u k v free =
+  result t₀ t ls e s f (none z l o p q) j u k v free =
       let part = part-of false 0 passed [] 0 e (s .whole z) in
       let m : ticks π any ρ b ≤ 1_000_000_000_000 = omega (arith, part .spent, over-once (pos 0) (λ j. ticks π j ρ b)) in
       let n : t .spent ≡ ticks π any ρ b = omega (arith, part .spent, over-once (pos 0) (λ j. ticks π j ρ b)) in
       record {
         verdict = moved (verdict π count) ∙ verdict-passed π count ρ b (part .verdict) (t .over) (part .over) l (f .place) m ∙ (λ d. verdictOf (sym p d) (f .place));
+        place = λ w. q;
         ticks = λ w. u w ∙ n ∙ sym (moved (ticks π any));
         loops = λ w. omega (arith, v w, part .count, few-in text ranges vars rows count legal few all);
         long = λ w. part .long;

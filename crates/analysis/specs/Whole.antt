@@ -17,11 +17,12 @@ pub data FirstNo (t : Tally) (count : ℕ) (r : Refusal) : Type 0 where
   of-loop : (t .number ≡ 0 → ⊥) → r .number ≡ t .number → r .place ≡ t .place → FirstNo t count r
   of-block : t .number ≡ 0 → t .over < 256 → r .number ≡ 13 → r .place ≡ t .over → FirstNo t count r
   of-file : t .number ≡ 0 → 256 ≤ t .over → 1_000_000_000_000 < t .spent → r .number ≡ 13 → r .place ≡ count → FirstNo t count r
-  none : t .number ≡ 0 → 256 ≤ t .over → t .spent ≤ 1_000_000_000_000 → r .number ≡ 0 → FirstNo t count r
+  none : t .number ≡ 0 → 256 ≤ t .over → t .spent ≤ 1_000_000_000_000 → r .number ≡ 0 → r .place ≡ 0 → FirstNo t count r
 
--- number and place are the verdict; of an accepted file, the ticks and the lines are the report's, and of a refused one there are none
+-- number and place are the verdict; of an accepted file, the place is 0, and the ticks and the lines are the report's; of a refused one there are none
 pub record AnalysisOf (π : Prices) (script : Script) (rows : ℕ) (s : Figures) (table : List (List ℕ)) : Type 0 where
   pub verdict : verdict π rows (startEnv (script .ranges)) (treeOf (script .rows)) ≡ verdictOf (s .number) (s .place)
+  pub place : s .number ≡ 0 → s .place ≡ 0
   pub ticks : s .number ≡ 0 → s .ticks ≡ reportTicks π script
   pub loops : s .number ≡ 0 → s .loops ≤ 16
   pub long : s .number ≡ 0 → length table ≡ 16

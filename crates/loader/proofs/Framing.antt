@@ -16,7 +16,7 @@ use Rattle.rules.specs.Answers.{storeList}
 use Rattle.rules.specs.Calls.{pricesOf, scratchSize, SameFromAnyScratch}
 use Rattle.rules_frames.specs.Frames
 use Rattle.rules_frames.specs.Frames.{Progress, due, Lent, ScriptPart, partsOf, Readiness, enters, readiness, fitting, FramesReply, played, playedBy, framesReply, storesOf, storesAfter, total}
-use Rattle.rules_frames.specs.InTime.{alone, Accepts, Alone, AllInTime}
+use Rattle.rules_frames.specs.InTime.{alone, Accepts, Alone, FirstFrame, allAlone, Greatest, AllInTime}
 use Rattle.rules_frames.proofs.FramesAsAlone.{all-in-time}
 use Rattle.rules.proofs.Demand3File.{same-from-any-scratch, store-in}
 use Rattle.rules_frames.proofs.Cut.{cut-length, cut-at}
@@ -81,7 +81,7 @@ told-first f (FramesReply.refuses q p) t = ap (λ (z : code.Frames). mostBy (z .
 -- script j of those that are as alone
 alone-at : {π : Prices} {q : ℕ} {hs : List ScriptPart} {ps : List Progress} {rs : List Frames.Played} → Alone π q hs ps rs → (j : ℕ) → j < length hs
     → let script : Script = getD ps j noProgress .script in let h : ScriptPart = getD hs j noPart in
-    (f : ℕ) × (1 ≤ f) × (f ≤ due q (reportTicks π script)) × (getD rs j noPlayed ≡ alone π script (h .store) (h .picks) (reportTicks π script) f)
+    (f : ℕ) × FirstFrame π q script (h .store) (h .picks) f × (f ≤ due q (reportTicks π script)) × (getD rs j noPlayed ≡ alone π script (h .store) (h .picks) (reportTicks π script) f)
 alone-at Alone.none j l = absurd (omega arith)
 alone-at (Alone.some {f = f} a b rest) zero l = (f, a, b, refl)
 alone-at (Alone.some a b rest) (suc j) l = alone-at rest j (omega arith)
@@ -127,6 +127,7 @@ module _ (prices : List ℕ) (scratch : ℕ) (l : Lent) (q : ℕ) (new : List �
       × Accepts prices scratch (partsOf l) ps
       × ((j : ℕ) → j < length (l .fileLengths)
       → OnTime π q (getD ps j noProgress .script) (getD (partsOf l) j noPart) (getD (f .scripts) j noAnswer) (partOf (l .storeLengths) j new))
+      × Greatest (allAlone π q (partsOf l) ps) (f .most)
 
   -- 20 has yes
   did-fit : (rs : List Frames.Played) (m : ℕ) → framesReply prices scratch l q ≡ played rs m → Fitted l q
@@ -138,7 +139,7 @@ module _ (prices : List ℕ) (scratch : ℕ) (l : Lent) (q : ℕ) (new : List �
       by false z e = absurd (let y : _≡_ {A = ℕ} 0 1 = cc in omega arith)
 
   module _ (rs : List Frames.Played) (m : ℕ) (told : ToldFrames f rs m) (kept : new ≡ storesOf rs) (fit : Fitted l q) (ps : List Progress) (accepts : Accepts prices scratch (partsOf l) ps)
-      (as-alone : Alone π q (partsOf l) ps rs) where
+      (as-alone : Alone π q (partsOf l) ps rs) (highest : Greatest (allAlone π q (partsOf l) ps) m) where
     count : length (partsOf l) ≡ length (l .fileLengths)
     count = cut-length (l .fileLengths) (l .storeLengths) (l .pickLengths) (l .files) (l .stores) (l .picks) (fit .stores) (fit .picks)
 
@@ -165,7 +166,7 @@ module _ (prices : List ℕ) (scratch : ℕ) (l : Lent) (q : ℕ) (new : List �
         ∙ ap (λ (y : ScriptPart). length (y .store)) (cut-at (l .fileLengths) (l .storeLengths) (l .pickLengths) (l .files) (l .stores) (l .picks) (fit .stores) (fit .picks) i (omega (arith, number)) noPart)
         ∙ part-length (l .storeLengths) (l .stores) i (omega (arith, number, fit .stores)) (fit .store-sum)
 
-    module _ (j : ℕ) (h : j < length (l .fileLengths)) (g : ℕ) (some : 1 ≤ g) (late : g ≤ due q (reportTicks π (script j))) (z : getD rs j noPlayed ≡ by-itself j g) where
+    module _ (j : ℕ) (h : j < length (l .fileLengths)) (g : ℕ) (first : FirstFrame π q (script j) (part j .store) (part j .picks) g) (late : g ≤ due q (reportTicks π (script j))) (z : getD rs j noPlayed ≡ by-itself j g) where
       t : ToldPlayed (getD (f .scripts) j noAnswer) (getD rs j noPlayed)
       t = told .each j (omega (arith, number))
 
@@ -177,19 +178,20 @@ module _ (prices : List ℕ) (scratch : ℕ) (l : Lent) (q : ℕ) (new : List �
 
       on-time : OnTime π q (script j) (part j) (getD (f .scripts) j noAnswer) (partOf (l .storeLengths) j new)
       on-time = record {
-        frame = (omega (arith, its-frame), omega (arith, its-frame));
+        frame = subst (FirstFrame π q (script j) (part j .store) (part j .picks)) (sym its-frame) first;
+        by-due = omega (arith, its-frame);
         same = subst (ToldPlayed (getD (f .scripts) j noAnswer)) here t;
         kept = ap (partOf (l .storeLengths) j) kept ∙ part-stores (l .storeLengths) rs (omega (arith, number, fit .stores)) long j (omega (arith, number)) ∙ ap (λ (y : Frames.Played). y .store) here;
       }
 
     all-on-time : InTime
-    all-on-time = (ps, accepts, λ j h. let (g, a, b, z) = alone-at as-alone j (omega (arith, count)) in on-time j h g a b z)
+    all-on-time = (ps, accepts, λ j h. let (g, a, b, z) = alone-at as-alone j (omega (arith, count)) in on-time j h g a b z, subst (Greatest (allAlone π q (partsOf l) ps)) (sym (told .most)) highest)
 
   in-time : (r : FramesReply) → framesReply prices scratch l q ≡ r → Framed r (l .stores) new f → f .verdict ≡ Passed → InTime
   unfolding storesAfter AllInTime
   in-time (played rs m) e h v =
-      let (ps, accepts, as-alone) = all-in-time prices scratch l q rs m e in
-      all-on-time rs m (h .told) (h .stores) (did-fit rs m e) ps accepts as-alone
+      let (ps, accepts, as-alone, highest) = all-in-time prices scratch l q rs m e in
+      all-on-time rs m (h .told) (h .stores) (did-fit rs m e) ps accepts as-alone highest
   in-time (FramesReply.refuses n p) e h v = absurd (let z : f .verdict ≡ Refused n p = ap (λ (y : code.Frames). y .verdict) (h .told) in let y : _≡_ {A = ℕ} 0 1 = cc in omega arith)
 
   pub framed-call : Framed (framesReply prices scratch l q) (l .stores) new f → FramedCall prices scratch l q new f

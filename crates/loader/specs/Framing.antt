@@ -10,7 +10,7 @@ use Rattle.rules.specs.declared.Prices.{Prices}
 use Rattle.rules.specs.Scripts.{Script, reportTicks}
 use Rattle.rules.specs.Calls.{pricesOf}
 use Rattle.rules_frames.specs.Frames.{Progress, due, Lent, ScriptPart, partsOf, FramesReply, played, refuses, framesReply}
-use Rattle.rules_frames.specs.InTime.{alone, Accepts}
+use Rattle.rules_frames.specs.InTime.{alone, Accepts, FirstFrame, allAlone, Greatest}
 use Rattle.calls_lists.specs.Parts.{partOf}
 use Rattle.calls_scripts.specs.Held.{noPart, noProgress}
 use Rattle.calls_frames.specs.declared.Played.{Played}
@@ -33,13 +33,16 @@ abbrev pub framesFirst : FramesReply → ℕ
 framesFirst (played rs m) = m
 framesFirst (refuses q p) = p
 
--- a script's answer, and its store after the call: it is finished by frame ceil(T/q), or the first if T is 0, "and its ending, store, ticks and turns equal those of running alone with allowance T"
+-- a script's answer, and its store after the call: it is finished in the first frame in which running alone is not spent, by frame ceil(T/q), or the first if T is 0, "and its ending, store, ticks and
+-- turns equal those of running alone with allowance T"
 pub record OnTime (π : Prices) (q : ℕ) (script : Script) (h : ScriptPart) (x : Played) (store : List ℤ) : Type 0 where
-  pub frame : (1 ≤ x .frame) × (x .frame ≤ due q (reportTicks π script))
+  pub frame : FirstFrame π q script (h .store) (h .picks) (x .frame)
+  pub by-due : x .frame ≤ due q (reportTicks π script)
   pub same : ToldPlayed x (alone π script (h .store) (h .picks) (reportTicks π script) (x .frame))
   pub kept : store ≡ alone π script (h .store) (h .picks) (reportTicks π script) (x .frame) .store
 
--- the call: its answer, also by its numbers, and the stores are document 02's; and if it is accepted, each script's own answer is in time
+-- the call: its answer, also by its numbers, and the stores are document 02's; and if it is accepted, each script's own answer is in time, and `most` is the greatest sum, over the frames, of what the
+-- runs alone take
 pub record FramedCall (prices : List ℕ) (scratch : ℕ) (l : Lent) (q : ℕ) (new : List ℤ) (f : Frames) : Type 0 where
   pub answer : Framed (framesReply prices scratch l q) (l .stores) new f
   pub number : verdictNumber (f .verdict) ≡ framesNumber (framesReply prices scratch l q)
@@ -49,3 +52,4 @@ pub record FramedCall (prices : List ℕ) (scratch : ℕ) (l : Lent) (q : ℕ) (
       × Accepts prices scratch (partsOf l) ps
       × ((j : ℕ) → j < length (l .fileLengths)
       → OnTime (pricesOf prices) q (getD ps j noProgress .script) (getD (partsOf l) j noPart) (getD (f .scripts) j noAnswer) (partOf (l .storeLengths) j new))
+      × Greatest (allAlone (pricesOf prices) q (partsOf l) ps) (f .most)

@@ -8,6 +8,7 @@ use rules::Verdict;
 ghost use mathlib.Core.Path.{_≡_};
 ghost use lib.ListN.{length};
 ghost use Rattle.rules.specs.File.{fileScript};
+ghost use Rattle.rules.specs.Report.{longestReport};
 ghost use Rattle.rules.specs.Calls.{pricesOf, Priced, judgedFile, runReply};
 ghost use Rattle.calls.specs.Told.{RanAs};
 ghost use Rattle.calls_lists.specs.Parts.{lentOf};
@@ -19,6 +20,13 @@ pub const SCRATCH: usize = 1_024;
 
 // The bytes of the longest report, by `longest-report`: a buffer of that many never meets question 14.
 pub const REPORT: usize = 2_089;
+
+// The same number, tied to the definitions: every report fits into that many bytes.
+pub fn longest_report() -> usize
+    ensures { λ r. ⌜ r ≡ longestReport ⌝ }
+{
+    REPORT
+}
 
 // The questions of what is lent beside the file: 1 of the scratch, by its length, then 16 of the prices.
 fn ask_lent(prices: &[u32], scratch: usize) -> Verdict

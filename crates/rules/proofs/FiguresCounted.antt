@@ -19,7 +19,7 @@ use Rattle.rules.specs.Values.{compares, quotient, upward}
 use Rattle.rules.specs.Ranges.{Range, edge, rising, falling, ordered, sort}
 use Rattle.rules.specs.Turns.{climb, powers, scale, whileTurns, moved, atTest, turnedUp, fromZero, turnsTo}
 use Rattle.rules.specs.Trips.{Lead, nothing, untested, tries, edgeOf, firstOf, misses, led, turnsOf, flag}
-use Rattle.rules.specs.Count.{Counted, CountedAfter, stop, turn, worstStart, worstLimit, worstMove, CountedEntry, FiguresCounted, Stepped, EdgeKeeps, TurnedUpKeeps, FromZeroKeeps, ByOneKeeps}
+use Rattle.rules.specs.Count.{Counted, CountedAfter, stop, turn, worstStart, worstLimit, worstMove, CountedEntry, FiguresCounted, CountedLoop, EdgeKeeps, TurnedUpKeeps, FromZeroKeeps, ByOneKeeps}
 use Rattle.rules.proofs.Links.{Fit}
 use Rattle.rules.proofs.Scaling.{powers-more, powers-none, scale-is}
 use Rattle.rules.proofs.MovesKeep.{edge-keeps, turned-up-keeps, from-zero-keeps, by-one-keeps}
@@ -45,20 +45,20 @@ count-by test move Inv φ on off x inv = subst (λ n. Counted test move x n) ref
     from (suc n) x inv e = go n (λ y i q. from n y i q) x inv e (test x) (λ t. t) (λ t. t)
 
 -- ---- Add: by the moves, from the last loop
-last-counted : (m : ℤ) → Stepped AtMost (record { start = pos 0; limit = m; step = pos 1 }) (turnsTo m)
+last-counted : (m : ℤ) → CountedLoop AtMost (record { start = pos 0; limit = m; step = pos 1 }) (turnsTo m)
 unfolding compares
-last-counted m = subst (Stepped AtMost (record { start = pos 0; limit = m; step = pos 1 })) (left m) (count-by (λ i. leZ i m) (λ i. i +ℤ pos 1) (λ _. Unit {0}) (λ i. gap (of m ⊕ nat 1) (of i))
+last-counted m = subst (CountedLoop AtMost (record { start = pos 0; limit = m; step = pos 1 })) (left m) (count-by (λ i. leZ i m) (λ i. i +ℤ pos 1) (λ _. Unit {0}) (λ i. gap (of m ⊕ nat 1) (of i))
     (λ i _ p. (tt, omega (tests, add-parts i (pos 1)))) (λ i _ p. omega tests) (pos 0) tt)
   where
     left : (m : ℤ) → gap (of m ⊕ nat 1) (nat 0) ≡ turnsTo m
     left (pos n) = omega arith
     left (negsuc n) = omega arith
 
-count-up : (l : AddLoop) → nat 1 ≼ of (l .step) → Stepped AtMost l (climb l)
+count-up : (l : AddLoop) → nat 1 ≼ of (l .step) → CountedLoop AtMost l (climb l)
 unfolding climb FromZeroKeeps ByOneKeeps
 count-up l rise = from-zero-keeps l _ .1 (by-one-keeps (fromZero l) refl (omega ints) _ .1 (last-counted _))
 
-count-down : (l : AddLoop) → of (l .step) ≼ minus 1 → Stepped AtLeast l (climb (turnedUp l))
+count-down : (l : AddLoop) → of (l .step) ≼ minus 1 → CountedLoop AtLeast l (climb (turnedUp l))
 unfolding TurnedUpKeeps
 count-down l fall = turned-up-keeps l _ .1 (count-up (turnedUp l) (omega (arith, neg-parts (l .step))))
 

@@ -50,11 +50,11 @@ loops-not (loop i e form test body rest) ρ =
     (not-then (loopsVerdict (inside form (atStart form test ρ) test body) body) _ (loops-not body _) (loops-not rest _))
 
 -- ---- 13 over the list of blocks
-unfoldable listed : List BlockTicks → Verdict
+unfoldable pub listed : List BlockTicks → Verdict
 listed [] = passed
 listed (c ∷ cs) = asked 13 (c .row) (leb (c .ticks) tickLimit) (listed cs)
 
-asked-then : (q p : ℕ) (b : Bool) (v w : Verdict) → asked q p b (andThen v w) ≡ andThen (asked q p b v) w
+pub asked-then : (q p : ℕ) (b : Bool) (v w : Verdict) → asked q p b (andThen v w) ≡ andThen (asked q p b v) w
 unfolding asked andThen
 asked-then q p true v w = refl
 asked-then q p false v w = refl
@@ -64,7 +64,7 @@ unfolding listed andThen
 listed-append [] ys = refl
 listed-append (c ∷ xs) ys = ap (asked 13 (c .row) (leb (c .ticks) tickLimit)) (listed-append xs ys) ∙ asked-then 13 (c .row) (leb (c .ticks) tickLimit) (listed xs) (listed ys)
 
-blocks-listed : (π : Prices) (b : Block) (ρ : Env) → blocksVerdict π ρ b ≡ listed (blocks π ρ b)
+pub blocks-listed : (π : Prices) (b : Block) (ρ : Env) → blocksVerdict π ρ b ≡ listed (blocks π ρ b)
 unfolding blocksVerdict blocks listed
 blocks-listed π done ρ = refl
 blocks-listed π (plain i p rest) ρ = blocks-listed π rest (afterRow ρ p)

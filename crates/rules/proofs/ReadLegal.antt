@@ -26,7 +26,7 @@ use Rattle.rules.specs.File
 use Rattle.rules.specs.File.{RowRead, Read, Wrong}
 
 -- a number is not 0 and a question too
-no-zero : {A : Type 0} (q : ℕ) → suc q ≡ 0 → A
+pub no-zero : {A : Type 0} (q : ℕ) → suc q ≡ 0 → A
 no-zero q e = absurd (omega arith)
 
 -- of two questions that have yes
@@ -40,7 +40,7 @@ refusal-yes (suc p) (suc q) e = go (leb (File.turnOf (suc p)) (File.turnOf (suc 
     go true h = no-zero p h
     go false h = no-zero q h
 
-yes-of : (b : Bool) (q : ℕ) → cond b 0 (suc q) ≡ 0 → T b
+pub yes-of : (b : Bool) (q : ℕ) → cond b 0 (suc q) ≡ 0 → T b
 yes-of true q e = tt
 yes-of false q e = no-zero q e
 
@@ -109,7 +109,7 @@ step-yes Other w e = no-zero _ e
 abbrev Limited : ℕ → RowKind → Type 0
 Limited vars k = RowLimits k × RowBelow vars k
 
-wrong-not : {A : Type 0} (q : ℕ) (k : RowKind) → Wrong q ≡ Read k → A
+pub wrong-not : {A : Type 0} (q : ℕ) (k : RowKind) → Wrong q ≡ Read k → A
 wrong-not q k e = absurd (let z : _≡_ {A = ℕ} 0 1 = cc in omega arith)
 
 -- a row that is read: its questions have yes
@@ -185,7 +185,7 @@ pub row-fine : (vars : ℕ) (texts : List (List ℕ)) (k : RowKind) → File.row
 unfolding File.rowOf File.wordsRow
 row-fine vars texts k e = first-fine vars (wordsOf texts) (λ i. parse (getD texts i [])) (wordsOf texts 0) k e
 
-refused-not : {A B : Type 0} (q p : ℕ) (x : A) (ls : List (List ℕ)) → File.refused q p ≡ File.read x ls → B
+pub refused-not : {A B : Type 0} (q p : ℕ) (x : A) (ls : List (List ℕ)) → File.refused q p ≡ File.read x ls → B
 refused-not q p x ls e = absurd (let z : _≡_ {A = ℕ} 0 1 = cc in omega arith)
 
 -- a question that has yes, and what follows it
@@ -279,7 +279,7 @@ rows-fine vars (suc n) p ls done rows ms h e = by (File.rowOf vars (nextTexts Fi
     by (Wrong c) r ih f = refused-not c p rows ms f
 
 -- a count
-count-fine : (key : List ℕ) (most p : ℕ) (ls ms : List (List ℕ)) (n : ℕ) → File.countLine key most p ls ≡ File.read n ms → n ≤ most
+pub count-fine : (key : List ℕ) (most p : ℕ) (ls ms : List (List ℕ)) (n : ℕ) → File.countLine key most p ls ≡ File.read n ms → n ≤ most
 unfolding File.countLine
 count-fine key most p ls ms n e =
     let (q, f) = unless-yes _ p _ n ms e in

@@ -1,5 +1,6 @@
 -- Rows whose blocks all close, by question 6, build a tree.
 use mathlib.Core.Path.{_≡_, sym, ap, subst}
+use mathlib.Core.Logic.{_↔_, Iff·rfl}
 use mathlib.Core.Bool.{Bool, true, false, cond, _&&_}
 use mathlib.Core.List.{List, [], _∷_}
 use Prim.Native.Nat.{ℕ, suc, _+_}
@@ -10,7 +11,7 @@ use Rattle.rules.specs.Blocks.{Plain, Test, Form, Last, View, is-plain, 
 use Rattle.rules.specs.Nesting.{Open, in-loop, in-pick, in-else, Nest, Nested, nested, wrong, nest, opens, elses, ends, nestRow, andRows, nestRows}
 
 -- the parts from a row on fit the blocks that are open before it; the last part runs to row `rows`
-abbrev Fit : ℕ → List Open → List Part → Type 0
+abbrev pub Fit : ℕ → List Open → List Part → Type 0
 Fit rows [] [] = ⊥
 Fit rows [] (to-end e b ∷ []) = e ≡ rows
 Fit rows [] (to-end e b ∷ (p ∷ ps)) = ⊥
@@ -27,28 +28,28 @@ Fit rows (in-else ∷ st) [] = ⊥
 Fit rows (in-else ∷ st) (to-end e b ∷ ps) = Fit rows st ps
 Fit rows (in-else ∷ st) (to-else e b ∷ ps) = ⊥
 
-abbrev FitBuilt : ℕ → List Open → Built → Type 0
+abbrev pub FitBuilt : ℕ → List Open → Built → Type 0
 FitBuilt rows st (parts p ps) = Fit rows st (p ∷ ps)
 FitBuilt rows st misfit = ⊥
 
 module _ (rows : ℕ) where
   -- a part keeps its kind
-  front : (st : List Open) (f : Block → Block) (p : Part) (ps : List Part) → Fit rows st (p ∷ ps) → Fit rows st (inFront f p ∷ ps)
+  pub front : (st : List Open) (f : Block → Block) (p : Part) (ps : List Part) → Fit rows st (p ∷ ps) ↔ Fit rows st (inFront f p ∷ ps)
   unfolding inFront
-  front [] f (to-end e b) [] h = h
-  front [] f (to-end e b) (q ∷ qs) h = h
-  front [] f (to-else e b) ps h = h
-  front (in-loop ∷ st) f (to-end e b) ps h = h
-  front (in-loop ∷ st) f (to-else e b) ps h = h
-  front (in-pick ∷ st) f (to-end e b) ps h = h
-  front (in-pick ∷ st) f (to-else e b) [] h = h
-  front (in-pick ∷ st) f (to-else e b) (to-end g c ∷ ps) h = h
-  front (in-pick ∷ st) f (to-else e b) (to-else g c ∷ ps) h = h
-  front (in-else ∷ st) f (to-end e b) ps h = h
-  front (in-else ∷ st) f (to-else e b) ps h = h
+  front [] f (to-end e b) [] = Iff·rfl
+  front [] f (to-end e b) (q ∷ qs) = Iff·rfl
+  front [] f (to-else e b) ps = Iff·rfl
+  front (in-loop ∷ st) f (to-end e b) ps = Iff·rfl
+  front (in-loop ∷ st) f (to-else e b) ps = Iff·rfl
+  front (in-pick ∷ st) f (to-end e b) ps = Iff·rfl
+  front (in-pick ∷ st) f (to-else e b) [] = Iff·rfl
+  front (in-pick ∷ st) f (to-else e b) (to-end g c ∷ ps) = Iff·rfl
+  front (in-pick ∷ st) f (to-else e b) (to-else g c ∷ ps) = Iff·rfl
+  front (in-else ∷ st) f (to-end e b) ps = Iff·rfl
+  front (in-else ∷ st) f (to-else e b) ps = Iff·rfl
 
   -- no open block fits no part
-  some-part : {A : Type 0} (st : List Open) → Fit rows st [] → A
+  pub some-part : {A : Type 0} (st : List Open) → Fit rows st [] → A
   some-part [] h = absurd h
   some-part (in-loop ∷ st) h = absurd h
   some-part (in-pick ∷ st) h = absurd h
@@ -56,21 +57,21 @@ module _ (rows : ℕ) where
 
   plain-fit : (st : List Open) (i : ℕ) (p : Plain) (b : Built) → FitBuilt rows st b → FitBuilt rows st (plainRow i p b)
   unfolding plainRow
-  plain-fit st i p (parts q qs) h = front st _ q qs h
+  plain-fit st i p (parts q qs) h = front st _ q qs .0 h
   plain-fit st i p misfit h = absurd h
 
   loop-fit : (st : List Open) (i : ℕ) (form : Form) (test : Test) (last : Last) (b : Built) → FitBuilt rows (in-loop ∷ st) b → FitBuilt rows st (loopHead i form test last b)
   unfolding loopHead
-  loop-fit st i form test last (parts (to-end e body) (rest ∷ more)) h = front st _ rest more h
+  loop-fit st i form test last (parts (to-end e body) (rest ∷ more)) h = front st _ rest more .0 h
   loop-fit st i form test last (parts (to-end e body) []) h = some-part st h
   loop-fit st i form test last (parts (to-else e body) more) h = absurd h
   loop-fit st i form test last misfit h = absurd h
 
   pick-fit : (st : List Open) (i : ℕ) (b : Built) → FitBuilt rows (in-pick ∷ st) b → FitBuilt rows st (pickHead i b)
   unfolding pickHead
-  pick-fit st i (parts (to-end e a) (rest ∷ more)) h = front st _ rest more h
+  pick-fit st i (parts (to-end e a) (rest ∷ more)) h = front st _ rest more .0 h
   pick-fit st i (parts (to-end e a) []) h = some-part st h
-  pick-fit st i (parts (to-else k a) (to-end e b ∷ (rest ∷ more))) h = front st _ rest more h
+  pick-fit st i (parts (to-else k a) (to-end e b ∷ (rest ∷ more))) h = front st _ rest more .0 h
   pick-fit st i (parts (to-else k a) (to-end e b ∷ [])) h = some-part st h
   pick-fit st i (parts (to-else k a) (to-else e b ∷ more)) h = absurd h
   pick-fit st i (parts (to-else k a) []) h = absurd h

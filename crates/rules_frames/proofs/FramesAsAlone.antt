@@ -5,7 +5,7 @@ use mathlib.Core.List.{List, [], _∷_}
 use Prim.Native.Nat.{ℕ, zero, suc, _+_, _-_, _*_, _/_, _%_, _≤_, _<_, max}
 use native.Mathlib.Omega.{arith}
 use native.Mathlib.Nat.{suc-mul, mul-le-mul-right, div-add-mod', mod-lt}
-use lib.Dec.{T, leb, leb→le, nleb→lt}
+use lib.Dec.{T, leb, ltb, leb→le, nleb→lt, ltb→lt, nltb→le}
 use lib.IntN.{ℤ}
 use lib.ListN.{length}
 use Rattle.ints.proofs.Diffs.{both}
@@ -22,7 +22,7 @@ use Rattle.rules_machine.specs.RowMachine.{TurnCounts, Place, Next, more, over,
 use Rattle.rules.specs.Calls.{Judged, accepted, pricesOf, judged, storeVerdict, loopRows, countsAt, runScript}
 use Rattle.rules.specs.Claim.{Unspent, Demand3}
 use Rattle.rules_frames.specs.Frames.{given, Progress, beginning, frameFrom, frameOf, afterFrames, leftOf, ticksOf, takes, together, most, due, lasts, playedAs, playedAt, playedOf, answers, Lent, ScriptPart, partsOf, counted, covered, fitting, Readiness, ready, joins, enters, readiness, FramesReply, played, playedBy, framesReply}
-use Rattle.rules_frames.specs.InTime.{StandsAs, alone, Done, InTime, dearest, CarriesOn, AsAlone, FramesAsAlone, Accepts, Alone, AllInTime, AllDone, FramesEnd, NoMore}
+use Rattle.rules_frames.specs.InTime.{StandsAs, alone, Done, InTime, dearest, CarriesOn, AsAlone, FramesAsAlone, Accepts, Alone, aloneIn, allAlone, Greatest, AllInTime, AllDone, FramesEnd, NoMore}
 use Rattle.rules.proofs.TreeOf.{tree-of}
 use Rattle.rules_machine.proofs.PairsIn.{partners}
 use Rattle.rules_machine.proofs.RowMachineRuns.{row-answer}
@@ -233,6 +233,12 @@ module _ (π : Prices) (one : 1 ≤ π .test) (script : Script) (ok : Accepted �
     stage-first k n _ l (runs-yet r) f m = sym (stage-stands n _ l (runs-yet r) .2 .ending)
     stage-first k n _ l (is-over first last r) f m = absurd (omega (arith, f (stage-stands n _ l (is-over first last r) .0)))
 
+    -- in its frame it is finished
+    stage-last : (k : ℕ) (p : Progress) → Stage k p → Done (p .stand) → Unspent (runs (p .frame * q) .ending)
+    stage-last k _ (before z) d = absurd d
+    stage-last k _ (runs-yet h) d = absurd d
+    stage-last k _ (is-over {e = e} {i = i} {s = s} {c = c} {f = f} first last (finished n r u)) d = subst Unspent (answered (f * q) n e i s c r .ending) u
+
     abbrev played-for : ℕ → Progress
     played-for n = afterFrames π q (beginning script store picks) n
 
@@ -244,7 +250,12 @@ module _ (π : Prices) (one : 1 ≤ π .test) (script : Script) (ok : Accepted �
         let same-frame : (m : ℕ) → m ≤ k → Done (played-for m .stand) → played-for m .frame ≡ played-for k .frame
         = λ m less o. ap (λ (p : Progress). p .frame) (sym (settled-at π q (beginning script store picks) m k less o)) in
         subst (InTime π q script store picks) (sym (settled-at π q (beginning script store picks) k n is-moved d))
-        (record { finished = d; frame = (f, l); first = λ m some-m less. stage-first _ m _ some-m (stage m) (same-frame m (omega arith)) less; same = e })
+        (record {
+          finished = d;
+          frame = record { some = f; first = λ m some-m less. stage-first _ m _ some-m (stage m) (same-frame m (omega arith)) less; last = stage-last k _ (stage k) d };
+          by-due = l;
+          same = e;
+        })
 
     as-alone : (n : ℕ) → AsAlone π script store picks q n (played-for n)
     unfolding afterFrames
@@ -281,7 +292,7 @@ module _ (prices : List ℕ) (scratch q : ℕ) (tick : 1 ≤ q) where
   answers-alone Accepts.none n l = Alone.none
   answers-alone (Accepts.some {h = h} {script = script} e v rest) n l =
       let t = of-part h script e v n .in-time (omega arith) in
-      rw (t .same) (Alone.some (t .frame .0) (t .frame .1) (answers-alone rest n (omega arith)))
+      rw (t .same) (Alone.some (t .frame) (t .by-due) (answers-alone rest n (omega arith)))
 
   all-done : {hs : List ScriptPart} {ps : List Progress} → Accepts prices scratch hs ps → (n : ℕ) → lasts π q ps ≤ n → AllDone π q ps n
   unfolding lasts
@@ -300,6 +311,12 @@ module _ (prices : List ℕ) (scratch q : ℕ) (tick : 1 ≤ q) where
   unfolding most
   most-takes h zero = omega arith
   most-takes h (suc n) = omega (arith, together-takes h n, most-takes h n)
+
+  -- what all together take in a frame is what each takes alone
+  together-alone : {hs : List ScriptPart} {ps : List Progress} → Accepts prices scratch hs ps → (n : ℕ) → together π q ps n ≡ allAlone π q hs ps n
+  unfolding together allAlone aloneIn
+  together-alone Accepts.none n = refl
+  together-alone (Accepts.some {h = h} {script = script} e v rest) n = omega (arith, of-part h script e v n .ticks, together-alone rest n)
 
 pub frames-end : FramesEnd
 unfolding FramesEnd
@@ -338,6 +355,53 @@ pub no-more : NoMore
 unfolding NoMore
 no-more π q ps n m l d = let e : m ≡ (m - n) + n = omega arith in (answers-settled π q n m l ps d, ap (most π q ps) e ∙ most-settled π q n (m - n) ps d)
 
+-- the most of n frames: none takes more, and some frame takes it
+module _ (π : Prices) (q : ℕ) (ps : List Progress) where
+  most-bound : (n m : ℕ) → m < n → together π q ps m ≤ most π q ps n
+  unfolding most
+  most-bound zero m l = absurd (omega arith)
+  most-bound (suc n) m l = by (ltb m n) (ltb→lt m n) (nltb→le m n) (most-bound n m)
+    where
+      by : (b : Bool) → (T b → m < n) → (T (not b) → n ≤ m) → (m < n → together π q ps m ≤ most π q ps n) → together π q ps m ≤ max (most π q ps n) (together π q ps n)
+      by true f g ih = omega (arith, ih (f tt))
+      by false f g ih = let e : m ≡ n = omega (arith, g tt) in omega (arith, ap (together π q ps) e)
+
+  most-reached : (z : ℕ) → together π q ps z ≡ 0 → (n : ℕ) → (k : ℕ) × (together π q ps k ≡ most π q ps n)
+  unfolding most
+  most-reached z e zero = (z, e)
+  most-reached z e (suc n) = by (leb (together π q ps n) (most π q ps n)) (leb→le _ _) (nleb→lt _ _) (most-reached z e n)
+    where
+      by : (b : Bool) → (T b → together π q ps n ≤ most π q ps n) → (T (not b) → most π q ps n < together π q ps n) → (k : ℕ) × (together π q ps k ≡ most π q ps n)
+          → (k : ℕ) × (together π q ps k ≡ max (most π q ps n) (together π q ps n))
+      by true f g (k, h) = (k, omega (arith, f tt))
+      by false f g (k, h) = (n, omega (arith, g tt))
+
+greatest : (prices : List ℕ) (scratch q : ℕ) → 1 ≤ q → {hs : List ScriptPart} {ps : List Progress} → Accepts prices scratch hs ps
+    → Greatest (allAlone (pricesOf prices) q hs ps) (most (pricesOf prices) q ps (lasts (pricesOf prices) q ps))
+greatest prices scratch q tick {hs} {ps} h = record { bound = λ n. bound n (ltb n last) (ltb→lt n last) (nltb→le n last); reached = (k, sym (together-alone prices scratch q tick h k) ∙ r) }
+  where
+    ρ : Prices
+    ρ = pricesOf prices
+
+    last : ℕ
+    last = lasts ρ q ps
+
+    ended : AllDone ρ q ps last
+    ended = all-done prices scratch q tick h last (omega arith)
+
+    bound : (n : ℕ) (b : Bool) → (T b → n < last) → (T (not b) → last ≤ n) → allAlone ρ q hs ps n ≤ most ρ q ps last
+    bound n true f g = omega (arith, together-alone prices scratch q tick h n, most-bound ρ q ps last n (f tt))
+    bound n false f g = omega (arith, together-alone prices scratch q tick h n, together-settled ρ q last n (g tt) ps ended)
+
+    some-frame : (k : ℕ) × (together ρ q ps k ≡ most ρ q ps last)
+    some-frame = most-reached ρ q ps last (together-settled ρ q last last (omega arith) ps ended) last
+
+    k : ℕ
+    k = some-frame .0
+
+    r : together ρ q ps k ≡ most ρ q ps last
+    r = some-frame .1
+
 -- ---- the call
 refuses-not : {A : Type 0} (n p : ℕ) (ps : List Progress) → Readiness.refuses n p ≡ ready ps → A
 refuses-not n p ps e = absurd (let z : _≡_ {A = ℕ} 0 1 = cc in omega arith)
@@ -375,14 +439,19 @@ pub all-in-time : AllInTime
 unfolding AllInTime framesReply playedBy
 all-in-time prices scratch l q rs m e = by (fitting l q) (fitting-tick l q) e
   where
-    at : (c : Readiness) → readiness prices scratch (partsOf l) ≡ c → 1 ≤ q → playedBy (pricesOf prices) q c ≡ played rs m → (ps : List Progress) × Accepts prices scratch (partsOf l) ps × Alone (pricesOf prices) q (partsOf l) ps rs
+    at : (c : Readiness) → readiness prices scratch (partsOf l) ≡ c → 1 ≤ q → playedBy (pricesOf prices) q c ≡ played rs m → (ps : List Progress) × Accepts prices scratch (partsOf l) ps × Alone (pricesOf prices) q (partsOf l) ps rs × Greatest (allAlone (pricesOf prices) q (partsOf l) ps) m
     at (ready ps) c tick e =
         let h = cast-accepts prices scratch (partsOf l) ps c in
         let same : answers (pricesOf prices) q ps (lasts (pricesOf prices) q ps) ≡ rs = cc in
-        (ps, h, subst (Alone (pricesOf prices) q (partsOf l) ps) same (answers-alone prices scratch q tick h (lasts (pricesOf prices) q ps) (omega arith)))
+        let least : most (pricesOf prices) q ps (lasts (pricesOf prices) q ps) ≡ m = cc in (
+          ps,
+          h,
+          subst (Alone (pricesOf prices) q (partsOf l) ps) same (answers-alone prices scratch q tick h (lasts (pricesOf prices) q ps) (omega arith)),
+          subst (Greatest (allAlone (pricesOf prices) q (partsOf l) ps)) least (greatest prices scratch q tick h),
+        )
     at (Readiness.refuses n p) c tick e = absurd (let z : _≡_ {A = ℕ} 0 1 = cc in omega arith)
 
     by : (b : Bool) → (T b → 1 ≤ q) → cond b (playedBy (pricesOf prices) q (readiness prices scratch (partsOf l))) (FramesReply.refuses 20 0) ≡ played rs m
-        → (ps : List Progress) × Accepts prices scratch (partsOf l) ps × Alone (pricesOf prices) q (partsOf l) ps rs
+        → (ps : List Progress) × Accepts prices scratch (partsOf l) ps × Alone (pricesOf prices) q (partsOf l) ps rs × Greatest (allAlone (pricesOf prices) q (partsOf l) ps) m
     by true f e = at _ refl (f tt) e
     by false f e = absurd (let z : _≡_ {A = ℕ} 0 1 = cc in omega arith)

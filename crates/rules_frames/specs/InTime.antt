@@ -1,7 +1,7 @@
 -- What change 14 says of its frames: each script does what it does alone, and is finished in time.
 use mathlib.Core.List.{List, [], _∷_}
 use mathlib.Core.Path.{_≡_}
-use Prim.Native.Nat.{ℕ, suc, _+_, _*_, _≤_, _<_, max}
+use Prim.Native.Nat.{ℕ, suc, _+_, _-_, _*_, _≤_, _<_, max}
 use lib.IntN.{ℤ}
 use lib.ListN.{length}
 use Rattle.rules.specs.Blocks.{RowKind}
@@ -47,11 +47,17 @@ abbrev pub Done : Next → Type 0
 Done (more m) = ⊥
 Done (over e i s c) = Unspent e
 
+-- frame f is the first, from 1, in which running alone is not spent: by frame n a script has got n · q ticks
+pub record FirstFrame (π : Prices) (q : ℕ) (script : Script) (store : List ℤ) (picks : List ℕ) (f : ℕ) : Type 0 where
+  pub some : 1 ≤ f
+  pub first : (n : ℕ) → 1 ≤ n → n < f → runScript π script store picks (n * q) .ending ≡ Spent
+  pub last : Unspent (runScript π script store picks (f * q) .ending)
+
 -- a script as it should be from frame ceil(T/q) on: finished by then, in the first frame by which it has the ticks for it, and as alone with allowance T
 pub record InTime (π : Prices) (q : ℕ) (script : Script) (store : List ℤ) (picks : List ℕ) (p : Progress) : Type 0 where
   pub finished : Done (p .stand)
-  pub frame : (1 ≤ p .frame) × (p .frame ≤ due q (reportTicks π script))
-  pub first : (n : ℕ) → 1 ≤ n → n < p .frame → runScript π script store picks (n * q) .ending ≡ Spent
+  pub frame : FirstFrame π q script store picks (p .frame)
+  pub by-due : p .frame ≤ due q (reportTicks π script)
   pub same : playedOf q p ≡ alone π script store picks (reportTicks π script) (p .frame)
 
 -- the dearest price
@@ -93,14 +99,30 @@ pub data Accepts (prices : List ℕ) (scratch : ℕ) : List ScriptPart → List 
 -- the answers to these scripts, each as alone with allowance T
 pub data Alone (π : Prices) (q : ℕ) : List ScriptPart → List Progress → List Played → Type 0 where
   none : Alone π q [] [] []
-  some : {h : ScriptPart} {hs : List ScriptPart} {p : Progress} {ps : List Progress} {rs : List Played} {f : ℕ} → 1 ≤ f → f ≤ due q (reportTicks π (p .script)) → Alone π q hs ps rs
+  some : {h : ScriptPart} {hs : List ScriptPart} {p : Progress} {ps : List Progress} {rs : List Played} {f : ℕ} → FirstFrame π q (p .script) (h .store) (h .picks) f
+      → f ≤ due q (reportTicks π (p .script)) → Alone π q hs ps rs
       → Alone π q (h ∷ hs) (p ∷ ps) (alone π (p .script) (h .store) (h .picks) (reportTicks π (p .script)) f ∷ rs)
 
--- the same of the whole call
+-- what running alone takes in frame n + 1: the ticks that q more of allowance are good for
+unfoldable pub aloneIn : Prices → ℕ → Script → ScriptPart → ℕ → ℕ
+aloneIn π q script h n = runScript π script (h .store) (h .picks) (suc n * q) .ticks - runScript π script (h .store) (h .picks) (n * q) .ticks
+
+-- all scripts, each alone, added up
+unfoldable pub allAlone : Prices → ℕ → List ScriptPart → List Progress → ℕ → ℕ
+allAlone π q [] ps n = 0
+allAlone π q (h ∷ hs) [] n = 0
+allAlone π q (h ∷ hs) (p ∷ ps) n = aloneIn π q (p .script) h n + allAlone π q hs ps n
+
+-- m is the greatest of g 0, g 1, ..
+pub record Greatest (g : ℕ → ℕ) (m : ℕ) : Type 0 where
+  pub bound : (n : ℕ) → g n ≤ m
+  pub reached : (n : ℕ) × (g n ≡ m)
+
+-- the same of the whole call, and "the most ticks that all together took in one frame"
 unfoldable pub AllInTime : Type 0
 AllInTime =
     (prices : List ℕ) (scratch : ℕ) (l : Lent) (q : ℕ) (rs : List Played) (m : ℕ) → framesReply prices scratch l q ≡ played rs m
-    → (ps : List Progress) × Accepts prices scratch (partsOf l) ps × Alone (pricesOf prices) q (partsOf l) ps rs
+    → (ps : List Progress) × Accepts prices scratch (partsOf l) ps × Alone (pricesOf prices) q (partsOf l) ps rs × Greatest (allAlone (pricesOf prices) q (partsOf l) ps) m
 
 -- all are finished after n frames
 abbrev pub AllDone : Prices → ℕ → List Progress → ℕ → Type 0

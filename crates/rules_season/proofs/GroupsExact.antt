@@ -239,11 +239,7 @@ firsts-all seen (s ∷ ss) x m = by (among s seen) (λ k. k) (case (List·Memᴰ
     by false f (inr (inl h)) = case (among-end x s seen h) inl (λ g. inr (s, List·Memᴰ·head refl, g))
     by false f (inr (inr (t, m, g))) = inr (t, List·Memᴰ·tail m, g)
 
-pub groups-exact : GroupsExact
-unfolding GroupsExact among
-groups-exact ss = (firsts-apart [] ss, λ s m. case (firsts-all [] ss s m) (λ h. absurd h) (λ w. w))
-
--- ---- the firsts stand for all
+-- each first is one of the files
 firsts-in : (seen ss : List Script) (t : Script) → List·Memᴰ t (firsts seen ss) → List·Memᴰ t ss
 unfolding firsts
 firsts-in seen [] t m = m
@@ -256,6 +252,11 @@ firsts-in seen (s ∷ ss) t m = by (among s seen) (firsts-in (seen ++ (s ∷ [])
     by true f m = List·Memᴰ·tail (f m)
     by false f m = case (List·Memᴰ·cases-cons m) List·Memᴰ·head (λ n. List·Memᴰ·tail (f n))
 
+pub groups-exact : GroupsExact
+unfolding GroupsExact among
+groups-exact ss = (firsts-apart [] ss, λ s m. case (firsts-all [] ss s m) (λ h. absurd h) (λ w. w), firsts-in [] ss)
+
+-- ---- the firsts stand for all
 same-bool : (a b : Bool) → (T a → T b) → (T b → T a) → a ≡ b
 same-bool true true f g = refl
 same-bool true false f g = absurd (f tt)

@@ -11,7 +11,7 @@ use Rattle.rules.specs.Figures.{ones}
 use Rattle.rules.specs.Scripts.{Script, reportTicks}
 use Rattle.rules.specs.Text.{lf, split, equals}
 use Rattle.rules.specs.Report.{decimal, joined, ticksKey, gap, newline, keyLine, scriptReport}
-use Rattle.rules.specs.Calls.{Judged, accepted, refuses, fourOnes, judged}
+use Rattle.rules.specs.Calls.{Judged, accepted, refuses, fourOnes, scratchSize, judged}
 
 -- ---- the names
 -- the last line "may lack its LF": what stands after the last LF is a name if it is not empty
@@ -38,7 +38,7 @@ goodName name = leb 1 (length name) && (leb (length name) 255 && not (holdsZero 
 -- what the questions say of each file, with "four ones as prices"; every scratch that question 1 passes gives the same
 unfoldable pub judgedAll : List (List ℕ) → List Judged
 judgedAll [] = []
-judgedAll (f ∷ fs) = judged fourOnes 1_024 f ∷ judgedAll fs
+judgedAll (f ∷ fs) = judged fourOnes scratchSize f ∷ judgedAll fs
 
 -- the accepted scripts, in the order of the list
 unfoldable pub scriptsOf : List Judged → List Script
@@ -159,6 +159,15 @@ sheetText s =
 unfoldable pub refusalText : ℕ → ℕ → List ℕ
 refusalText q p = joined (refusedKey ∷ (decimal q ∷ (gap ∷ (decimal p ∷ (newline ∷ [])))))
 
+-- the counts of n numbers from q on, added up
+unfoldable pub countsFrom : ℕ → ℕ → (ℕ → ℕ) → ℕ
+countsFrom zero q counts = 0
+countsFrom (suc n) q counts = counts q + countsFrom n (suc q) counts
+
+-- the lines `refused-NUMBER` add up to `refused`: no file is refused by a number that has no line
+unfoldable pub RefusedAddUp : Type 0
+RefusedAddUp = (files : List (List ℕ)) → countsFrom 20 1 (sheetOf (judgedAll files) .counts) ≡ sheetOf (judgedAll files) .refused
+
 -- ---- what code needs: one more file at the end of the list
 -- an accepted one; `seen` are the accepted scripts before it
 unfoldable pub withAccepted : List Script → Script → Sheet → Sheet
@@ -194,12 +203,13 @@ pub data Apart : List Script → Type 0 where
   none-apart : Apart []
   more-apart : {s : Script} {ss : List Script} → ((t : Script) → List·Memᴰ t ss → T (not (sameGroup s t))) → Apart ss → Apart (s ∷ ss)
 
--- "Each figure is exact over the list": no two of the firsts are in one group, and each accepted file is in the group of one of them
+-- "Each figure is exact over the list": no two of the firsts are in one group, each accepted file is in the group of one of them, and each first is one of the files
 unfoldable pub GroupsExact : Type 0
 GroupsExact =
     (ss : List Script)
     → Apart (firsts [] ss)
     × ((s : Script) → List·Memᴰ s ss → (t : Script) × List·Memᴰ t (firsts [] ss) × T (sameGroup t s))
+    × ((t : Script) → List·Memᴰ t (firsts [] ss) → List·Memᴰ t ss)
 
 -- ---- change 13
 -- the group is that of equal reports and equal cue numbers

@@ -11,7 +11,7 @@ returns-2 : tie.Need-returns-2
 returns-2 c = of-block (c .before .before .if1 .left) (c .if2 .taken) refl refl
 
 returns-3 : tie.Need-returns-3
-returns-3 c = none (c .before .before .before .before .if1 .left) (c .before .before .if2 .left) (c .if3 .taken) refl
+returns-3 c = none (c .before .before .before .before .if1 .left) (c .before .before .if2 .left) (c .if3 .taken) refl refl
 
 returns-4 : tie.Need-returns-4
 returns-4 c = of-file (c .before .before .before .before .if1 .left) (c .before .before .if2 .left) (c .if3 .left) refl refl
