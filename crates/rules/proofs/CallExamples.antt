@@ -19,7 +19,7 @@ use Rattle.rules.specs.Values.{lowest, highest, choose, limited, operate
 use Rattle.rules.specs.Text.{lf, split, prefixed, startsWith, equals, isDigit, allDigits, valueFrom, isNatural, isNegative, isVariable, comparisonWord, blockWord, plainWord, wordOf, wordsOf, lineTexts, nextTexts, nextLines}
 use Rattle.rules.specs.Parse.{thenParse, isMark, upToMark, fromMark, atom, ahead, afterTerm, afterFactor, factorOf, expression, readExpression, atEnd, parse, depth, operators}
 use Rattle.rules.specs.Blocks.{RowKind, Set, Move, Cue, Pick, Else, End, While, Do, For, Off, Hold, viewOf}
-use Rattle.rules.specs.Nesting.{opens, elses, ends, nestRow}
+use Rattle.rules.specs.Nesting.{Nested, wrong, nest, opens, elses, ends, nestRow, andRows, nestRows}
 use Rattle.rules.specs.Questions.{Verdict, passed, refused}
 use Rattle.rules.specs.Scripts.{Script}
 use Rattle.rules.specs.File.{turnOf, firstRefusal, asksSize, asksLeaves, RowRead, Read, Wrong, checked, bareRow, setRow, moveRow, offRow, cueRow, asksTest, whileRow, doRow, asksFor, forRow, holdRow, wordsRow, rowOf, Reading, thenLines, unless, rowKey, scriptLine, countLine, asksOrder, asksRange, rangeWords, rangeLines, placed, rowLine, rowLines, asksRest, asksClosed, lastLine, rowPart, rangePart, linesScript, fileScript}
@@ -99,9 +99,29 @@ no-rows : Agree RowRead (
 unfolding found wanted line
 no-rows = refl
 
+-- ---- 6 and 7
+times : ℕ → List RowKind → List RowKind
+times zero rows = []
+times (suc n) rows = rows ++ times n rows
+
+nests : List RowKind → Nested
+unfolding viewOf opens elses ends nestRow andRows nestRows
+nests rows = nestRows rows (record { open-blocks = []; loops = 0 })
+
+-- picks and loops 8 and 9 deep; 16 and 17 loops; `else` and `end` that close no fitting block
+all-nests : Agree Nested (
+    (nests (times 8 (Pick ∷ []) ++ times 8 (End ∷ [])), nest [] 0) ∷ (nests (times 9 (Pick ∷ [])), wrong 7)
+    ∷ (nests (times 8 (Hold 0 ∷ []) ++ times 8 (End ∷ [])), nest [] 8) ∷ (nests (times 9 (Hold 0 ∷ [])), wrong 7)
+    ∷ (nests (times 16 (Hold 0 ∷ (End ∷ []))), nest [] 16) ∷ (nests (times 17 (Hold 0 ∷ (End ∷ []))), wrong 7)
+    ∷ (nests (Pick ∷ (Else ∷ (End ∷ []))), nest [] 0) ∷ (nests (Pick ∷ (Else ∷ (Else ∷ []))), wrong 6) ∷ (nests (Hold 0 ∷ (Else ∷ [])), wrong 6)
+    ∷ (nests (Else ∷ []), wrong 6) ∷ (nests (End ∷ []), wrong 6)
+    ∷ [])
+unfolding found wanted times nests
+all-nests = refl
+
 -- ---- a file
 reads : String → Reading Script
-unfolding line nextLines thenLines unless scriptLine countLine asksOrder asksRange rangeWords rangeLines viewOf opens elses ends nestRow placed rowLine rowLines asksRest asksClosed lastLine rowPart rangePart linesScript fileScript
+unfolding line nextLines thenLines unless scriptLine countLine asksOrder asksRange rangeWords rangeLines nests placed rowLine rowLines asksRest asksClosed lastLine rowPart rangePart linesScript fileScript
 reads s = fileScript (bytes s)
 
 all-files : Agree (Reading Script) (
@@ -167,13 +187,14 @@ figures : List RowKind → Report
 unfolding analysed
 figures rows = analysed (from-to 0 0 ∷ (from-to 0 0 ∷ [])) rows
 
+abbrev million-million : Report
+million-million =
+    Report.report (record { row = 0; step = Step.Add (pos 1) (pos 1); turns = 500_000; total = 500_000; exact = true }
+    ∷ (record { row = 1; step = Step.Add (pos 1) (pos 1); turns = 999_998; total = 499_999_000_000; exact = true } ∷ [])) 1_000_000_000_000
+
 -- 10^12 ticks; one more in the loop (a while's last test), in a block round it (a pick), in the file (a row after it)
 tick-limit : Agree Report (
-    (
-      figures (long (Do 0 Less (const 500_000))),
-      Report.report (record { row = 0; step = Step.Add (pos 1) (pos 1); turns = 500_000; total = 500_000; exact = true }
-      ∷ (record { row = 1; step = Step.Add (pos 1) (pos 1); turns = 999_998; total = 499_999_000_000; exact = true } ∷ [])) 1_000_000_000_000,
-    )
+    (figures (long (Do 0 Less (const 500_000))), million-million)
     ∷ (figures (long (While 0 Less (const 500_000))), Report.refuses 13 4)
     ∷ (figures (Pick ∷ (long (Do 0 Less (const 500_000)) ++ (End ∷ []))), Report.refuses 13 6)
     ∷ (figures (long (Do 0 Less (const 500_000)) ++ (Cue 1 ∷ [])), Report.refuses 13 6)
@@ -351,7 +372,7 @@ all-entries = refl
 
 -- document 01's run, with its counts; and a file that is refused
 run-call : (tells (runReply fourOnes (Judged.accepted the-script) (two 0 1) [] 32) (two 0 1)
-        ≡ ran 0 6 32 0 (two 11 6) (record { row = 0; all = 2; most = 2 } ∷ (record { row = 1; all = 7; most = 6 } ∷ [])))
+    ≡ ran 0 6 32 0 (two 11 6) (record { row = 0; all = 2; most = 2 } ∷ (record { row = 1; all = 7; most = 6 } ∷ [])))
     × (tells (runReply fourOnes (Judged.refuses 9 2) (two 0 1) [] 32) (two 0 1) ≡ not-run 9 2 (two 0 1))
 unfolding runs
 run-call = (refl, refl)
