@@ -29,7 +29,7 @@ use Rattle.rules_machine.proofs.RowMachineRuns.{row-answer}
 use Rattle.rules.proofs.Demand3.{demand3}
 use Rattle.rules.proofs.Demand3File.{file-accepted, test-priced, store-in}
 use Rattle.rules_machine.proofs.RunMore.{run-more}
-use Rattle.rules_frames.proofs.Resumed.{Above, above, above-same, above-above, steps-room, Pauses, finished, waiting, step-more, runs-on, pauses-less, resumes}
+use Rattle.rules_frames.proofs.Resumed.{Above, above, above-same, steps-room, Pauses, finished, waiting, step-more, runs-on, pauses-less, resumes}
 
 -- ceil(T/q) frames have T ticks
 due-enough : (q t : ℕ) → 1 ≤ q → (1 ≤ due q t) × (t ≤ due q t * q)
@@ -170,7 +170,7 @@ module _ (π : Prices) (one : 1 ≤ π .test) (script : Script) (ok : Accepted �
     stage-stands : (k : ℕ) (p : Progress) → 1 ≤ k → Stage k p → StandsAs π rows (runs (k * q)) (p .frame * q) picks (p .stand)
     stage-stands k _ l (before z) = absurd (omega arith)
     stage-stands k _ l (runs-yet (waiting {m = m} {i = i} n r w)) =
-        (i, w .again (m .now) ∙ w .stop, answered (k * q) (suc n) Spent i _ _ (step-more π one rows matching-end matching-head fit n _ _ r ∙ w .stop))
+        (i, w .stop, answered (k * q) (suc n) Spent i _ _ (step-more π one rows matching-end matching-head fit n _ _ r ∙ w .stop))
     stage-stands k _ l (is-over {e = e} {i = i} {s = s} {c = c} {f = f} first last (finished n r u)) =
         let a = answered (f * q) n e i s c r in
         (u, subst (λ z. Replies z (f * q) picks e i s c) (sym (grown (f * q) (k * q) (mul-le-mul-right q last) (subst Unspent (a .ending) u))) a)
@@ -199,7 +199,7 @@ module _ (π : Prices) (one : 1 ≤ π .test) (script : Script) (ok : Accepted �
     stage-carries k _ (before z) = record { left = omega arith; counts = λ p. (omega arith, omega arith) }
     stage-carries k _ (runs-yet (waiting n r w)) =
         let (j, z, l) = steps-room π one rows matching-end matching-head fit n _ _ r blank 0 (above-same blank) in
-        record { left = w .carried; counts = with-room _ _ (above-above z (w .fewer)) (omega arith) }
+        record { left = w .carried; counts = with-room _ _ z (omega arith) }
     stage-carries k _ (is-over first last h) = tt
 
     -- with T ticks given it is finished, with the answer of its run alone

@@ -51,18 +51,6 @@ exec-paid π i (cue n) s c k = by (leb (π .cue) (s .left)) _
     by true u = refl
     by false u = refl
 
--- the counts where the machine waits: an entry that begins there has begun
-unfoldable pub begun : View → Phase → ℕ → TurnCounts → TurnCounts
-begun (is-plain p) ph i c = c
-begun is-pick ph i c = c
-begun is-else ph i c = c
-begun is-end ph i c = c
-begun (is-loop while t last) ph i c = begin i c
-begun (is-loop hold t last) ph i c = begin i c
-begun (is-loop do-while t last) ph i c = c
-begun (is-loop (for x) t last) fresh i c = begin i c
-begun (is-loop (for x) t last) testing i c = c
-
 -- the counts c are at most n above b
 pub data Above (n : ℕ) (b c : TurnCounts) : Type 0 where
   above : ((p : ℕ) → (c .turns p ≤ b .turns p + n) × (c .sum p ≤ b .sum p + n)) → Above n b c
@@ -95,146 +83,109 @@ above-turn h {b} {c} (above f) = above λ p.
     by false e g n l = omega arith
 
 module _ (π : Prices) (d : ℕ) where
-  -- from the state s and the counts b it goes on or ends, and so it does with d more ticks; or it waits, with the counts c and less than a price
-  data Step (s : State) (b c : TurnCounts) : Next → Next → Type 0 where
-    on : {m : Place} → m .now .left ≤ s .left → Above 1 b (m .tally) → Step s b c (more m) (more (given d m))
-    ends : {e : Ending} {i : ℕ} {t : State} {c′ : TurnCounts} → Unspent e → t .left ≤ s .left → Step s b c (over e i t c′) (over e i (plus d t) c′)
-    waits : {i : ℕ} {a : Next} → s .left < dearest π → Above 0 b c → Step s b c (over Spent i s c) a
+  -- from the state s and the counts c it goes on or ends, and so it does with d more ticks; or it waits, with less than a price
+  data Step (s : State) (c : TurnCounts) : Next → Next → Type 0 where
+    on : {m : Place} → m .now .left ≤ s .left → Above 1 c (m .tally) → Step s c (more m) (more (given d m))
+    ends : {e : Ending} {i : ℕ} {t : State} {c′ : TurnCounts} → Unspent e → t .left ≤ s .left → Step s c (over e i t c′) (over e i (plus d t) c′)
+    waits : {i : ℕ} {a : Next} → s .left < dearest π → Step s c (over Spent i s c) a
 
-  step-chosen : {s : State} {b c : TurnCounts} (t : Bool) {x y u v : Next} → Step s b c x u → Step s b c y v → Step s b c (chosen t x y) (chosen t u v)
+  step-chosen : {s : State} {c : TurnCounts} (t : Bool) {x y u v : Next} → Step s c x u → Step s c y v → Step s c (chosen t x y) (chosen t u v)
   unfolding chosen
   step-chosen true h k = h
   step-chosen false h k = k
 
-  step-paid : (p i : ℕ) (s : State) {b : TurnCounts} (c : TurnCounts) (k : State → Next) → Above 0 b c → p ≤ dearest π
-      → ((t : State) → t .left ≤ s .left → Step s b c (k t) (k (plus d t))) → Step s b c (paid p i s c k) (paid p i (plus d s) c k)
+  step-paid : (p i : ℕ) (s : State) (c : TurnCounts) (k : State → Next) → p ≤ dearest π
+      → ((t : State) → t .left ≤ s .left → Step s c (k t) (k (plus d t))) → Step s c (paid p i s c k) (paid p i (plus d s) c k)
   unfolding paid chosen
-  step-paid p i s {b} c k z h f = by (leb p (s .left)) (leb p (s .left + d)) (fits-more d p (s .left)) (less-more d p (s .left)) (nleb→lt p (s .left))
+  step-paid p i s c k h f = by (leb p (s .left)) (leb p (s .left + d)) (fits-more d p (s .left)) (less-more d p (s .left)) (nleb→lt p (s .left))
     where
       rest : ℕ → State
       rest l = record { store = s .store; left = l; picks = s .picks }
 
       by : (u v : Bool) → (T u → T v) → (T u → s .left + d - p ≡ s .left - p + d) → (T (not u) → s .left < p)
-          → Step s b c (chosen u (k (rest (s .left - p))) (over Spent i s c)) (chosen v (k (rest (s .left + d - p))) (over Spent i (plus d s) c))
-      by true true g e l = subst (λ n. Step s b c (k (rest (s .left - p))) (k (rest n))) (sym (e tt)) (f _ (omega arith))
+          → Step s c (chosen u (k (rest (s .left - p))) (over Spent i s c)) (chosen v (k (rest (s .left + d - p))) (over Spent i (plus d s) c))
+      by true true g e l = subst (λ n. Step s c (k (rest (s .left - p))) (k (rest n))) (sym (e tt)) (f _ (omega arith))
       by true false g e l = absurd (g tt)
-      by false v g e l = waits (omega (arith, l tt)) z
+      by false v g e l = waits (omega (arith, l tt))
 
-  step-picked : (i j : ℕ) (l : List ℕ) (s t : State) (c : TurnCounts) → t .left ≤ s .left → Step s c c (picked i j l t c) (picked i j l (plus d t) c)
+  step-picked : (i j : ℕ) (l : List ℕ) (s t : State) (c : TurnCounts) → t .left ≤ s .left → Step s c (picked i j l t c) (picked i j l (plus d t) c)
   unfolding picked
   step-picked i j [] s t c h = ends tt h
   step-picked i j (x ∷ xs) s t c h = step-chosen (eqb x 0) (on h (above-one (above-same c))) (on h (above-one (above-same c)))
 
-  step-tests : (h e : ℕ) (t : Test) (s : State) {b c : TurnCounts} → Above 0 b c → Step s b c (tests π h e t s c) (tests π h e t (plus d s) c)
+  step-tests : (h e : ℕ) (t : Test) (s : State) (c : TurnCounts) → Step s c (tests π h e t s c) (tests π h e t (plus d s) c)
   unfolding tests
-  step-tests h e t s {b} {c} z = step-paid _ h s c _ z (omega arith) λ u l. decide-both (Step s b c) (holds t (u .store)) (on l (above-turn h z)) (on l (above-one z)) (ends tt l)
+  step-tests h e t s c =
+      step-paid _ h s c _ (omega arith) λ u l. decide-both (Step s c) (holds t (u .store)) (on l (above-turn h (above-same c))) (on l (above-one (above-same c))) (ends tt l)
 
-  step-wrote : (i v : ℕ) (r : Result) (s t : State) {b c : TurnCounts} (j : ℕ) (ph : Phase) → Above 0 b c → t .left ≤ s .left
-      → Step s b c (wrote i v r c (λ u. to j ph u c) t) (wrote i v r c (λ u. to j ph u c) (plus d t))
-  unfolding wrote
-  step-wrote i v (number y) s t j ph z h = step-chosen (inLimits y) (on h (above-one z)) (ends tt h)
-  step-wrote i v past s t j ph z h = ends tt h
+  -- the counts with which a row goes on
+  module _ {c : TurnCounts} (x : TurnCounts) (z : Above 1 c x) where
+    step-wrote : (i v : ℕ) (r : Result) (s t : State) (j : ℕ) (ph : Phase) → t .left ≤ s .left
+        → Step s c (wrote i v r c (λ u. to j ph u x) t) (wrote i v r c (λ u. to j ph u x) (plus d t))
+    unfolding wrote
+    step-wrote i v (number y) s t j ph h = step-chosen (inLimits y) (on h z) (ends tt h)
+    step-wrote i v past s t j ph h = ends tt h
 
-  step-acted : (i : ℕ) (p : Plain) (s t : State) {b c : TurnCounts} (j : ℕ) (ph : Phase) → Above 0 b c → t .left ≤ s .left
-      → Step s b c (acted i p c (λ u. to j ph u c) t) (acted i p c (λ u. to j ph u c) (plus d t))
-  unfolding acted
-  step-acted i (assign v x) s t j ph z h = step-wrote i v _ s t j ph z h
-  step-acted i (cue n) s t j ph z h = on h (above-one z)
+    step-acted : (i : ℕ) (p : Plain) (s t : State) (j : ℕ) (ph : Phase) → t .left ≤ s .left
+        → Step s c (acted i p c (λ u. to j ph u x) t) (acted i p c (λ u. to j ph u x) (plus d t))
+    unfolding acted
+    step-acted i (assign v y) s t j ph h = step-wrote i v _ s t j ph h
+    step-acted i (cue n) s t j ph h = on h z
 
   price-most : (p : Plain) → price π p ≤ dearest π
   unfolding price
   price-most (assign v x) = omega arith
   price-most (cue n) = omega arith
 
-  step-exec : (i : ℕ) (p : Plain) (s : State) {b c : TurnCounts} (j : ℕ) (ph : Phase) → Above 0 b c
-      → Step s b c (outcome (exec π i p s) c (λ u. to j ph u c)) (outcome (exec π i p (plus d s)) c (λ u. to j ph u c))
-  step-exec i p s {b} {c} j ph z =
-      subst₂ (Step s b c) (sym (exec-paid π i p s c _)) (sym (exec-paid π i p (plus d s) c _)) (step-paid (price π p) i s c _ z (price-most p) λ t l. step-acted i p s t j ph z l)
+  step-exec : (i : ℕ) (p : Plain) (s : State) {c : TurnCounts} (x : TurnCounts) (j : ℕ) (ph : Phase) → Above 1 c x
+      → Step s c (outcome (exec π i p s) c (λ u. to j ph u x)) (outcome (exec π i p (plus d s)) c (λ u. to j ph u x))
+  step-exec i p s {c} x j ph z =
+      subst₂ (Step s c) (sym (exec-paid π i p s c _)) (sym (exec-paid π i p (plus d s) c _)) (step-paid (price π p) i s c _ (price-most p) λ t l. step-acted x z i p s t j ph l)
 
   -- to another row
-  step-to : (j : ℕ) (ph : Phase) (s : State) {b c x : TurnCounts} → Above 1 b x → Step s b c (to j ph s x) (to j ph (plus d s) x)
+  step-to : (j : ℕ) (ph : Phase) (s : State) {c x : TurnCounts} → Above 1 c x → Step s c (to j ph s x) (to j ph (plus d s) x)
   step-to j ph s z = on (le-refl _) z
 
   module _ (rows : List RowKind) (matching-end matching-head : ℕ → ℕ) where
-    step-end : (r : View) (h e : ℕ) (ph : Phase) (s : State) (c : TurnCounts) → Step s c c (onEnd π rows matching-end matching-head r h e ph s c) (onEnd π rows matching-end matching-head r h e ph (plus d s) c)
+    step-end : (r : View) (h e : ℕ) (ph : Phase) (s : State) (c : TurnCounts) → Step s c (onEnd π rows matching-end matching-head r h e ph s c) (onEnd π rows matching-end matching-head r h e ph (plus d s) c)
     unfolding onEnd
     step-end (is-plain p) h e ph s c = step-to _ _ s (above-one (above-same c))
     step-end is-pick h e ph s c = step-to _ _ s (above-one (above-same c))
     step-end is-else h e ph s c = step-to _ _ s (above-one (above-same c))
     step-end is-end h e ph s c = step-to _ _ s (above-one (above-same c))
-    step-end (is-loop form t no-step) h e ph s c = step-tests h e t s (above-same c)
-    step-end (is-loop form t (step-by p)) h e fresh s c = step-exec h p s e testing (above-same c)
-    step-end (is-loop form t (step-by p)) h e testing s c = step-tests h e t s (above-same c)
+    step-end (is-loop form t last) h e testing s c = step-tests h e t s c
+    step-end (is-loop form t no-step) h e fresh s c = step-to _ _ s (above-one (above-same c))
+    step-end (is-loop form t (step-by p)) h e fresh s c = step-exec h p s c e testing (above-one (above-same c))
 
-    step-row : (r : View) (i : ℕ) (ph : Phase) (s : State) (c : TurnCounts)
-        → Step s c (begun r ph i c) (onRow π rows matching-end matching-head r i ph s c) (onRow π rows matching-end matching-head r i ph (plus d s) c)
-    unfolding onRow begun
-    step-row (is-plain p) i ph s c = step-exec i p s _ _ (above-same c)
-    step-row is-pick i ph s c = step-paid _ i s c _ (above-same c) (omega arith) λ t l. step-picked i _ (t .picks) s t c l
+    step-row : (r : View) (i : ℕ) (ph : Phase) (s : State) (c : TurnCounts) → Step s c (onRow π rows matching-end matching-head r i ph s c) (onRow π rows matching-end matching-head r i ph (plus d s) c)
+    unfolding onRow
+    step-row (is-plain p) i ph s c = step-exec i p s c _ _ (above-one (above-same c))
+    step-row is-pick i ph s c = step-paid _ i s c _ (omega arith) λ t l. step-picked i _ (t .picks) s t c l
     step-row is-else i ph s c = step-to _ _ s (above-one (above-same c))
     step-row is-end i ph s c = step-end (viewAt rows (matching-head i)) (matching-head i) i ph s c
-    step-row (is-loop while t last) i ph s c = step-tests i _ t s (above-begin i c)
-    step-row (is-loop hold t last) i ph s c = step-tests i _ t s (above-begin i c)
+    step-row (is-loop while t last) i ph s c = step-to _ _ s (above-one (above-begin i c))
+    step-row (is-loop hold t last) i ph s c = step-to _ _ s (above-one (above-begin i c))
     step-row (is-loop do-while t last) i ph s c = step-to _ _ s (above-turn i (above-begin i c))
-    step-row (is-loop (for x) t last) i fresh s c = step-exec i _ s i testing (above-begin i c)
-    step-row (is-loop (for x) t last) i testing s c = step-tests i _ t s (above-same c)
+    step-row (is-loop (for x) t last) i ph s c = step-exec i _ s (begin i c) _ testing (above-one (above-begin i c))
 
-    step-next : (m : Place) → Step (m .now) (m .tally) (begun (viewAt rows (m .row)) (m .phase) (m .row) (m .tally)) (next π rows matching-end matching-head m) (next π rows matching-end matching-head (given d m))
+    step-next : (m : Place) → Step (m .now) (m .tally) (next π rows matching-end matching-head m) (next π rows matching-end matching-head (given d m))
     unfolding next
     step-next m = step-chosen (ltb (m .row) (length rows)) (step-row (viewAt rows (m .row)) (m .row) (m .phase) (m .now) (m .tally)) (ends tt (omega arith))
 
--- to begin it again changes nothing
-begin-again : (h : ℕ) (c : TurnCounts) → begin h (begin h c) ≡ begin h c
-unfolding begin
-begin-again h c = λ k. record { turns = λ w. twice (eqb w h) (c .turns w) k; sum = c .sum; most = c .most }
-  where
-    twice : (b : Bool) (x : ℕ) → cond b 0 (cond b 0 x) ≡ cond b 0 x
-    twice true x = refl
-    twice false x = refl
-
 module _ (π : Prices) (rows : List RowKind) (matching-end matching-head : ℕ → ℕ) where
-  row-again : (r : View) (i : ℕ) (ph : Phase) (s : State) (c : TurnCounts) → onRow π rows matching-end matching-head r i ph s (begun r ph i c) ≡ onRow π rows matching-end matching-head r i ph s c
-  unfolding onRow begun
-  row-again (is-plain p) i ph s c = refl
-  row-again is-pick i ph s c = refl
-  row-again is-else i ph s c = refl
-  row-again is-end i ph s c = refl
-  row-again (is-loop while t last) i ph s c = ap (tests π i (matching-end i) t s) (begin-again i c)
-  row-again (is-loop hold t last) i ph s c = ap (tests π i (matching-end i) t s) (begin-again i c)
-  row-again (is-loop do-while t last) i ph s c = refl
-  row-again (is-loop (for x) t last) i fresh s c = ap (λ b. outcome (exec π i (assign (t .tested) (from x)) s) b (λ u. to i testing u b)) (begin-again i c)
-  row-again (is-loop (for x) t last) i testing s c = refl
-
-  -- the counts and the place where it waits
-  abbrev waitTally : Place → TurnCounts
-  waitTally m = begun (viewAt rows (m .row)) (m .phase) (m .row) (m .tally)
-
-  abbrev waitPlace : Place → Place
-  waitPlace m = record { row = m .row; phase = m .phase; now = m .now; tally = waitTally m }
-
   -- a place whose next price does not fit
   pub record Waits (m : Place) (i : ℕ) : Type 0 where
-    pub stop : next π rows matching-end matching-head m ≡ over Spent i (m .now) (waitTally m)
+    pub stop : next π rows matching-end matching-head m ≡ over Spent i (m .now) (m .tally)
     pub carried : m .now .left < dearest π
-    pub fewer : Above 0 (m .tally) (waitTally m)
-    pub again : (s : State) → next π rows matching-end matching-head (record { row = m .row; phase = m .phase; now = s; tally = waitTally m })
-        ≡ next π rows matching-end matching-head (record { row = m .row; phase = m .phase; now = s; tally = m .tally })
 
-  waits-next : (m : Place) (i : ℕ) (s : State) (c : TurnCounts) → next π rows matching-end matching-head m ≡ over Spent i s c → (s ≡ m .now) × (c ≡ waitTally m) × Waits m i
-  unfolding next chosen
+  waits-next : (m : Place) (i : ℕ) (s : State) (c : TurnCounts) → next π rows matching-end matching-head m ≡ over Spent i s c → (s ≡ m .now) × (c ≡ m .tally) × Waits m i
   waits-next m i s c e =
-      let (p, q, l, z) = spent (subst (λ x. Step π 0 (m .now) (m .tally) (waitTally m) x (next π rows matching-end matching-head (given 0 m))) e (step-next π 0 rows matching-end matching-head m)) in
-      (p, q, record { stop = e ∙ (λ k. over Spent i (p k) (q k)); carried = l; fewer = z; again = by (ltb (m .row) (length rows)) _ e })
+      let (p, q, l) = spent (subst (λ x. Step π 0 (m .now) (m .tally) x (next π rows matching-end matching-head (given 0 m))) e (step-next π 0 rows matching-end matching-head m)) in
+      (p, q, record { stop = e ∙ (λ k. over Spent i (p k) (q k)); carried = l })
     where
-      spent : {s t : State} {b c c′ : TurnCounts} {y : Next} → Step π 0 s b c (over Spent i t c′) y → (t ≡ s) × (c′ ≡ c) × (s .left < dearest π) × Above 0 b c
+      spent : {s t : State} {c c′ : TurnCounts} {y : Next} → Step π 0 s c (over Spent i t c′) y → (t ≡ s) × (c′ ≡ c) × (s .left < dearest π)
       spent (ends u l) = absurd u
-      spent (waits l z) = (refl, refl, l, z)
-
-      by : (b : Bool) (x : Next) → chosen b x (over Ended (length rows) (m .now) (m .tally)) ≡ over Spent i s c → (u : State)
-          → chosen b (onRow π rows matching-end matching-head (viewAt rows (m .row)) (m .row) (m .phase) u (waitTally m)) (over Ended (length rows) u (waitTally m))
-          ≡ chosen b (onRow π rows matching-end matching-head (viewAt rows (m .row)) (m .row) (m .phase) u (m .tally)) (over Ended (length rows) u (m .tally))
-      by true x e u = row-again (viewAt rows (m .row)) (m .row) (m .phase) u (m .tally)
-      by false x e u = absurd (let z : _≡_ {A = ℕ} 0 1 = cc in omega arith)
+      spent (waits l) = (refl, refl, l)
 
 -- ---- it runs until it finishes or waits
 module _ (π : Prices) (some-ticks : 1 ≤ π .test) (rows : List RowKind) (matching-end matching-head : ℕ → ℕ) (fit : Partners rows matching-end matching-head) where
@@ -244,11 +195,11 @@ module _ (π : Prices) (some-ticks : 1 ≤ π .test) (rows : List RowKind) (matc
   reached-more d zero m p e = let same : m ≡ p = cc in ap (λ z. more (given d z)) same
   reached-more d (suc n) m p e = by (step-next π d rows matching-end matching-head m) e (λ w. reached-more d n w p)
     where
-      by : {s : State} {b c : TurnCounts} {x y : Next} → Step π d s b c x y → steps π rows matching-end matching-head n x ≡ more p
+      by : {s : State} {c : TurnCounts} {x y : Next} → Step π d s c x y → steps π rows matching-end matching-head n x ≡ more p
           → ((w : Place) → steps π rows matching-end matching-head n (more w) ≡ more p → steps π rows matching-end matching-head n (more (given d w)) ≡ more (given d p)) → steps π rows matching-end matching-head n y ≡ more (given d p)
       by (on {m = w} l z) e ih = ih w e
       by (ends {e = f} {i = i} {t = t} {c′ = c} u l) e ih = absurd (let z : _≡_ {A = ℕ} 0 1 = cc (steps-over π some-ticks rows matching-end matching-head fit n f i t c) in omega arith)
-      by (waits {i = i} l z) e ih = absurd (let z : _≡_ {A = ℕ} 0 1 = cc (steps-over π some-ticks rows matching-end matching-head fit n Spent i _ _) in omega arith)
+      by (waits {i = i} l) e ih = absurd (let z : _≡_ {A = ℕ} 0 1 = cc (steps-over π some-ticks rows matching-end matching-head fit n Spent i _ _) in omega arith)
 
   -- no step gains ticks
   steps-less : (n : ℕ) (a : Next) → leftOf (steps π rows matching-end matching-head n a) ≤ leftOf a
@@ -256,10 +207,10 @@ module _ (π : Prices) (some-ticks : 1 ≤ π .test) (rows : List RowKind) (matc
   steps-less zero a = omega arith
   steps-less (suc n) (more m) = omega (arith, steps-less n (next π rows matching-end matching-head m), by (step-next π 0 rows matching-end matching-head m))
     where
-      by : {s : State} {b c : TurnCounts} {x y : Next} → Step π 0 s b c x y → leftOf x ≤ s .left
+      by : {s : State} {c : TurnCounts} {x y : Next} → Step π 0 s c x y → leftOf x ≤ s .left
       by (on l z) = l
       by (ends u l) = l
-      by (waits l z) = omega arith
+      by (waits l) = omega arith
   steps-less (suc n) (over e i s c) = omega arith
 
   -- no count rises by more than the rank falls
@@ -271,7 +222,7 @@ module _ (π : Prices) (some-ticks : 1 ≤ π .test) (rows : List RowKind) (matc
       subst (λ r. (j : ℕ) × Above j b (r .tally) × (j + rank (length rows) r ≤ k + rank (length rows) m)) same (k, z, omega arith)
   steps-room (suc n) m p e b k z = by (next π rows matching-end matching-head m) refl (step-next π 0 rows matching-end matching-head m) e (λ w r y. steps-room n w p r b (k + 1) y)
     where
-      by : (x : Next) → next π rows matching-end matching-head m ≡ x → {s : State} {c : TurnCounts} {y : Next} → Step π 0 s (m .tally) c x y → steps π rows matching-end matching-head n x ≡ more p
+      by : (x : Next) → next π rows matching-end matching-head m ≡ x → {s : State} {y : Next} → Step π 0 s (m .tally) x y → steps π rows matching-end matching-head n x ≡ more p
           → ((w : Place) → steps π rows matching-end matching-head n (more w) ≡ more p → Above (k + 1) b (w .tally) → (j : ℕ) × Above j b (p .tally) × (j + rank (length rows) p ≤ k + 1 + rank (length rows) w))
           → (j : ℕ) × Above j b (p .tally) × (j + rank (length rows) p ≤ k + rank (length rows) m)
       by (more w) q (on l y) e ih =
@@ -280,10 +231,10 @@ module _ (π : Prices) (some-ticks : 1 ≤ π .test) (rows : List RowKind) (matc
           (j, x, omega arith)
       by (over f i t c) q s e ih = absurd (let z : _≡_ {A = ℕ} 0 1 = cc (steps-over π some-ticks rows matching-end matching-head fit n f i t c) in omega arith)
 
-  -- from a on it ends so; or it waits there, with its counts
+  -- from a on it ends so; or it waits there
   pub data Pauses (a : Next) : Next → Type 0 where
     finished : {e : Ending} {i : ℕ} {s : State} {c : TurnCounts} (n : ℕ) → steps π rows matching-end matching-head n a ≡ over e i s c → Unspent e → Pauses a (over e i s c)
-    waiting : {m : Place} {i : ℕ} (n : ℕ) → steps π rows matching-end matching-head n a ≡ more m → Waits π rows matching-end matching-head m i → Pauses a (more (waitPlace π rows matching-end matching-head m))
+    waiting : {m : Place} {i : ℕ} (n : ℕ) → steps π rows matching-end matching-head n a ≡ more m → Waits π rows matching-end matching-head m i → Pauses a (more m)
 
   -- one step more
   pub step-more : (n : ℕ) (a : Next) (m : Place) → steps π rows matching-end matching-head n a ≡ more m → steps π rows matching-end matching-head (suc n) a ≡ next π rows matching-end matching-head m
@@ -311,16 +262,6 @@ module _ (π : Prices) (some-ticks : 1 ≤ π .test) (rows : List RowKind) (matc
       onward-pauses a n (suc k) p (step-more k a m r ∙ q) (omega arith) (next π rows matching-end matching-head p) refl
   onward-pauses a (suc n) k m r l (over e i s c) q = stopped-pauses a k m r e i s c q
 
-  -- of the place from which it runs on only row and phase are kept where it stops
-  onward-from : (n : ℕ) (m : Place) (c : TurnCounts) (x : Next)
-      → onward π rows matching-end matching-head (suc n) m x ≡ onward π rows matching-end matching-head (suc n) (record { row = m .row; phase = m .phase; now = m .now; tally = c }) x
-  unfolding onward stopped
-  onward-from n m c (more p) = refl
-  onward-from n m c (over Ended i s d) = refl
-  onward-from n m c (over Spent i s d) = refl
-  onward-from n m c (over Ending.Range i s d) = refl
-  onward-from n m c (over NoPick i s d) = refl
-
   -- from a place that is reached, and from where it is
   runs-after : (a : Next) (k : ℕ) (m : Place) → steps π rows matching-end matching-head k a ≡ more m → Pauses a (runsOn π rows matching-end matching-head m)
   unfolding runsOn
@@ -338,16 +279,12 @@ module _ (π : Prices) (some-ticks : 1 ≤ π .test) (rows : List RowKind) (matc
 
   -- Spent is a pause: what waits and gets d ticks more runs on as with d ticks more from the start.
   pub resumes : (m p : Place) (d : ℕ) → Pauses (more m) (more p) → Pauses (more (given d m)) (runsOn π rows matching-end matching-head (given d p))
-  unfolding runsOn rank
-  resumes m _ d (waiting {m = w} n r h) =
-      subst (Pauses (more (given d m)))
-      (onward-from _ (given d w) (waitTally π rows matching-end matching-head w) (next π rows matching-end matching-head (given d w)) ∙ ap (onward π rows matching-end matching-head _ _) (sym (h .again (plus d (w .now)))))
-      (runs-after (more (given d m)) n (given d w) (reached-more d n m w r))
+  resumes m _ d (waiting {m = w} n r h) = runs-after (more (given d m)) n (given d w) (reached-more d n m w r)
 
   -- ---- it pauses in one way
   data Final : Next → Next → Type 0 where
     at-end : {e : Ending} {i : ℕ} {s : State} {c : TurnCounts} → Unspent e → Final (over e i s c) (over e i s c)
-    at-wait : {m : Place} {i : ℕ} → Waits π rows matching-end matching-head m i → Final (more m) (more (waitPlace π rows matching-end matching-head m))
+    at-wait : {m : Place} {i : ℕ} → Waits π rows matching-end matching-head m i → Final (more m) (more m)
 
   final-once : {a x y : Next} → Final a x → Final a y → x ≡ y
   final-once (at-end u) (at-end v) = refl

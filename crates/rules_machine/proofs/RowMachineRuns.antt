@@ -46,13 +46,16 @@ own-zero : (b : Bool) → _≡_ {A = ℕ} (cond b 0 0) 0
 own-zero true = refl
 own-zero false = refl
 
--- an entry begins: it has no turn yet
-told-begin : (c : TurnCounts) (h : ℕ) (log : List Entry) → Tells c log → Tells (begin h c) (log ++ entry h 0 false)
-unfolding begin
-told-begin c h log (tells f) = tells λ p.
+-- an entry that begins has no turn yet
+told-none : (c : TurnCounts) (h : ℕ) (log : List Entry) → Tells c log → Tells c (log ++ entry h 0 false)
+told-none c h log (tells f) = tells λ p.
     let (a, b) = f p in
     let z : own p h 0 ≡ 0 = own-zero (eqb p h) in
     (omega (arith, sum-entry p log h 0 false), omega (arith, most-entry p log h 0 false))
+
+told-begun : (c : TurnCounts) (h : ℕ) (log : List Entry) → Tells c log → Tells (begin h c) log
+unfolding begin
+told-begun c h log (tells f) = tells f
 
 -- a turn begins
 told-turn : (c : TurnCounts) (h k : ℕ) (log : List Entry) → c .turns h ≡ k → Tells c (log ++ entry h k false) → Tells (turn h c) (log ++ entry h (suc k) false)
@@ -386,9 +389,13 @@ module _ (π : Prices) (rows : List RowKind) (matching-end matching-head : ℕ �
         abbrev body : Block
         body = withLast last i (blockAt rows (suc i))
 
-        -- from the head to the test
-        to-tests : (ph : Phase) (s : State) (c d : TurnCounts) → onRow π rows matching-end matching-head (is-loop form t last) i ph s c ≡ tests π i (matching-end i) t s d → Reach (to i ph s c) (tests π i last-row t s d)
-        to-tests ph s c d e = subst (λ z. Reach (to i ph s c) (tests π i z t s d)) (fit .matching-ends i h open-it) (subst (λ z. Reach (to i ph s c) z) e (from-head ph s c))
+        -- the test, and from where the head sends the machine
+        at-test : (s : State) (c : TurnCounts) → Reach (to last-row testing s c) (tests π i last-row t s c)
+        unfolding onEnd
+        at-test s c = from-end testing s c
+
+        sent : (s : State) (c : TurnCounts) → Reach (to (matching-end i) testing s c) (tests π i last-row t s c)
+        sent s c = subst (λ z. Reach (to z testing s c) (tests π i last-row t s c)) (sym (fit .matching-ends i h open-it)) (at-test s c)
 
         -- a turn: from the body's first row to the test
         abbrev Turns : Type 0
@@ -409,37 +416,36 @@ module _ (π : Prices) (rows : List RowKind) (matching-end matching-head : ℕ �
       -- a turn by the body's last row
       sim-turn : (form : Form) (t : Test) (last : Last) (w : viewAt rows i ≡ is-loop form t last) → Turns form t last w
       unfolding onEnd withLast
-      sim-turn form t no-step w s c log told = does-to (later (suc i) (omega arith) (omega arith) s c log told) (λ u d. from-end form t no-step w fresh u d)
+      sim-turn form t no-step w s c log told = does-to (later (suc i) (omega arith) (omega arith) s c log told) (λ u d. reach-trans (from-end form t no-step w fresh u d) (at-test form t no-step w u d))
       sim-turn form t (step-by p) w s c log told =
           subst (λ z. Does (tests π i (endAt rows (suc i)) t) (suc i) c log (to (suc i) fresh s c) z) (sym (run-snoc π (blockAt rows (suc i)) i p s))
           (does-bind (later (suc i) (omega arith) (omega arith) s c log told)
           (λ u es d told′. does-from (from-end form t (step-by p) w fresh u d)
-          (does-to {K = to (endAt rows (suc i)) testing} (does-row (suc i) d (log ++ es) (bare-exec π i p u) told′) (λ v e. from-end form t (step-by p) w testing v e))))
+          (does-to {K = to (endAt rows (suc i)) testing} (does-row (suc i) d (log ++ es) (bare-exec π i p u) told′) (λ v e. at-test form t (step-by p) w v e))))
 
       -- an entry by the loop's form
       sim-enter : (form : Form) (t : Test) (last : Last) → viewAt rows i ≡ is-loop form t last → Good i
       unfolding onRow enter starting turning bind closing
       sim-enter while t last w = sim-loop while t last w λ s c log told.
           subst (λ z. Does (to (suc (endAt rows (suc i))) fresh) i c log (to i fresh s c) z) (sym (prepend-none _))
-          (does-from (to-tests while t last w fresh s c (begin i c) refl)
-          (does-since i i (omega arith) (kept-begin i c) (sim-tests while t last w (sim-turn while t last w) 0 s (begin i c) log (begin-turns i c) (told-begin c i log told))))
+          (does-from (reach-trans (from-head while t last w fresh s c) (sent while t last w s (begin i c)))
+          (does-since i i (omega arith) (kept-begin i c) (sim-tests while t last w (sim-turn while t last w) 0 s (begin i c) log (begin-turns i c) (told-begun c i _ (told-none c i log told)))))
       sim-enter hold t last w = sim-loop hold t last w λ s c log told.
           subst (λ z. Does (to (suc (endAt rows (suc i))) fresh) i c log (to i fresh s c) z) (sym (prepend-none _))
-          (does-from (to-tests hold t last w fresh s c (begin i c) refl)
-          (does-since i i (omega arith) (kept-begin i c) (sim-tests hold t last w (sim-turn hold t last w) 0 s (begin i c) log (begin-turns i c) (told-begin c i log told))))
+          (does-from (reach-trans (from-head hold t last w fresh s c) (sent hold t last w s (begin i c)))
+          (does-since i i (omega arith) (kept-begin i c) (sim-tests hold t last w (sim-turn hold t last w) 0 s (begin i c) log (begin-turns i c) (told-begun c i _ (told-none c i log told)))))
       sim-enter do-while t last w = sim-loop do-while t last w λ s c log told.
           let one : TurnCounts = turn i (begin i c) in
           subst (λ z. Does (to (suc (endAt rows (suc i))) fresh) i c log (to i fresh s c) z) (sym (prepend-none _))
           (does-from (from-head do-while t last w fresh s c)
           (does-since i i (omega arith) (kept-trans i i c (begin i c) one (omega arith) (kept-begin i c) (kept-turn i (begin i c)))
-          (does-part i 1 (sim-turn do-while t last w s one _ (told-turn (begin i c) i 0 log (begin-turns i c) (told-begin c i log told))) (thru-all {Q = λ _. Unit {0}} _ (λ _. tt))
+          (does-part i 1 (sim-turn do-while t last w s one _ (told-turn (begin i c) i 0 log (begin-turns i c) (told-begun c i _ (told-none c i log told)))) (thru-all {Q = λ _. Unit {0}} _ (λ _. tt))
           (λ u es d _ q told′. sim-tests do-while t last w (sim-turn do-while t last w) 1 u d (log ++ es) (q ∙ turn-turns i (begin i c) ∙ ap suc (begin-turns i c)) told′))))
       sim-enter (for x) t last w = sim-loop (for x) t last w λ s c log told.
           does-from (from-head (for x) t last w fresh s c)
-          (does-since i i (omega arith) (kept-begin i c)
-          (does-part {K = to i testing} i 0 (does-row (suc i) (begin i c) _ (bare-exec π i _ s) (told-begin c i log told)) (thru-all {Q = λ _. Unit {0}} _ (λ _. tt))
-          (λ u es d _ q told′. does-from (to-tests (for x) t last w testing u d d refl)
-          (sim-tests (for x) t last w (sim-turn (for x) t last w) 0 u d (log ++ es) (q ∙ begin-turns i c) told′))))
+          (does-part {K = λ u d. to (matching-end i) testing u (begin i d)} i 0 (does-row (suc i) c _ (bare-exec π i _ s) (told-none c i log told)) (thru-all {Q = λ _. Unit {0}} _ (λ _. tt))
+          (λ u es d _ q told′. does-from (sent (for x) t last w u (begin i d))
+          (does-since i i (omega arith) (kept-begin i d) (sim-tests (for x) t last w (sim-turn (for x) t last w) 0 u (begin i d) (log ++ es) (begin-turns i d) (told-begun d i _ told′)))))
 
       sim-row : (v : View) → viewAt rows i ≡ v → Good i
       sim-row (is-plain p) w = sim-plain p w
@@ -496,14 +502,19 @@ module _ (π : Prices) (some-ticks : 1 ≤ π .test) (rows : List RowKind) (matc
   lower-to i j ph s u c l m h =
       lower-more {m = record { row = j; phase = fresh; now = u; tally = c }} m (later-row (2 * R + 2) (s .left) (u .left) (2 * (R - j) + 1) (2 * (R - i) + phaseRank ph) h (omega arith))
 
-  lower-exec : (i h : ℕ) (p : Plain) (ph : Phase) (s : State) (c : TurnCounts) (j : ℕ) (ph′ : Phase) → j ≤ R → 2 * (R - j) + phaseRank ph′ < 2 * (R - i) + phaseRank ph
-      → Lower R (size i ph s) (outcome (exec π h p s) c (λ u. to j ph′ u c))
+  lower-exec : (i h : ℕ) (p : Plain) (ph : Phase) (s : State) (c d : TurnCounts) (j : ℕ) (ph′ : Phase) → j ≤ R → 2 * (R - j) + phaseRank ph′ < 2 * (R - i) + phaseRank ph
+      → Lower R (size i ph s) (outcome (exec π h p s) c (λ u. to j ph′ u d))
   unfolding outcome rank Fewer
-  lower-exec i h p ph s c j ph′ m l = by (exec π h p s) (exec-less π (s .left) h p s (omega arith))
+  lower-exec i h p ph s c d j ph′ m l = by (exec π h p s) (exec-less π (s .left) h p s (omega arith))
     where
-      by : (o : Out) → Thru (Fewer π (s .left)) o → Lower R (size i ph s) (outcome o c (λ u. to j ph′ u c))
+      by : (o : Out) → Thru (Fewer π (s .left)) o → Lower R (size i ph s) (outcome o c (λ u. to j ph′ u d))
       by (go u es) (went f) = lower-more m (later-row (2 * R + 2) (s .left) (u .left) _ _ f l)
       by (halt e k u es) f = lower-over
+
+  -- to a test
+  lower-test : (i e : ℕ) (ph : Phase) (s : State) (c : TurnCounts) → e < R → 2 * (R - e) < 2 * (R - i) + phaseRank ph → Lower R (size i ph s) (to e testing s c)
+  unfolding rank
+  lower-test i e ph s c m l = lower-more {m = record { row = e; phase = testing; now = s; tally = c }} (omega arith) (later-row (2 * R + 2) (s .left) (s .left) _ _ (omega arith) (omega arith))
 
   lower-tests : (i h e : ℕ) (t : Test) (ph : Phase) (s : State) (c : TurnCounts) → h < R → i ≤ e → e < R → Lower R (size i ph s) (tests π h e t s c)
   unfolding tests paid rank
@@ -536,23 +547,22 @@ module _ (π : Prices) (some-ticks : 1 ≤ π .test) (rows : List RowKind) (matc
   lower-end is-pick h e ph s c q l = lower-to e (suc e) ph s s c (omega arith) l (omega arith)
   lower-end is-else h e ph s c q l = lower-to e (suc e) ph s s c (omega arith) l (omega arith)
   lower-end is-end h e ph s c q l = lower-to e (suc e) ph s s c (omega arith) l (omega arith)
-  lower-end (is-loop form t no-step) h e ph s c q l = lower-tests e h e t ph s c (head-in h form t no-step q) (omega arith) l
-  lower-end (is-loop form t (step-by p)) h e fresh s c q l = lower-exec e h p fresh s c e testing (omega arith) (omega arith)
-  lower-end (is-loop form t (step-by p)) h e testing s c q l = lower-tests e h e t testing s c (head-in h form t (step-by p) q) (omega arith) l
+  lower-end (is-loop form t last) h e testing s c q l = lower-tests e h e t testing s c (head-in h form t last q) (omega arith) l
+  lower-end (is-loop form t no-step) h e fresh s c q l = lower-test e e fresh s c (omega arith) (omega arith)
+  lower-end (is-loop form t (step-by p)) h e fresh s c q l = lower-exec e h p fresh s c c e testing (omega arith) (omega arith)
 
   lower-row : (w : View) (i : ℕ) (ph : Phase) (s : State) (c : TurnCounts) → i < R → (Opens w → (i < matching-end i) × (matching-end i < R)) → Lower R (size i ph s) (onRow π rows matching-end matching-head w i ph s c)
   unfolding onRow paid
-  lower-row (is-plain p) i ph s c l f = lower-exec i i p ph s c (suc i) fresh l (omega arith)
+  lower-row (is-plain p) i ph s c l f = lower-exec i i p ph s c c (suc i) fresh l (omega arith)
   lower-row is-pick i ph s c l f =
       let (a, b) = f tt in
       lower-chosen (leb (π .pick) (s .left)) (λ _. lower-picked i (suc (matching-end i)) (s .picks) ph s _ c l (omega arith) b (omega arith)) (λ _. lower-over)
   lower-row is-else i ph s c l f = let (a, b) = f tt in lower-to i (suc (matching-end i)) ph s s c (omega arith) b (omega arith)
   lower-row is-end i ph s c l f = lower-end _ (matching-head i) i ph s c refl l
-  lower-row (is-loop while t last) i ph s c l f = let (a, b) = f tt in lower-tests i i (matching-end i) t ph s (begin i c) l (omega arith) b
-  lower-row (is-loop hold t last) i ph s c l f = let (a, b) = f tt in lower-tests i i (matching-end i) t ph s (begin i c) l (omega arith) b
+  lower-row (is-loop while t last) i ph s c l f = let (a, b) = f tt in lower-test i (matching-end i) ph s (begin i c) b (omega arith)
+  lower-row (is-loop hold t last) i ph s c l f = let (a, b) = f tt in lower-test i (matching-end i) ph s (begin i c) b (omega arith)
   lower-row (is-loop do-while t last) i ph s c l f = lower-to i (suc i) ph s s _ (omega arith) l (omega arith)
-  lower-row (is-loop (for x) t last) i fresh s c l f = lower-exec i i _ fresh s (begin i c) i testing (omega arith) (omega arith)
-  lower-row (is-loop (for x) t last) i testing s c l f = let (a, b) = f tt in lower-tests i i (matching-end i) t testing s c l (omega arith) b
+  lower-row (is-loop (for x) t last) i ph s c l f = let (a, b) = f tt in lower-exec i i _ ph s c (begin i c) (matching-end i) testing (omega arith) (omega arith)
 
   -- one step: ended, or at a row of at most R with a lower measure
   falls : (m : Place) → Lower R (rank R m) (next π rows matching-end matching-head m)

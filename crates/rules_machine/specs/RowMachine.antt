@@ -1,4 +1,5 @@
--- The run as a machine over the numbered rows, for code that has no tree. Each step handles one row and takes at most one price, so that it can pause before any.
+-- The run as a machine over the numbered rows, for code that has no tree. Each step takes at most one price, so that it can pause before any. A loop's test is made at
+-- its `end` row alone: the head of a while, a for or a hold sends the machine there.
 use mathlib.Core.List.{List, [], _∷_}
 use mathlib.Core.Path.{_≡_}
 use Prim.Native.Nat.{ℕ, zero, suc, _+_, _-_, _*_, _<_, max}
@@ -41,7 +42,7 @@ turn h c = record {
   most = put (c .most) h (max (c .most h) (suc (c .turns h)));
 }
 
--- before a row: it is still to come, or a for's start or step is done and its test is to come
+-- before a row: it is still to come, or, at a loop's `end`, the loop's test is to come
 pub data Phase : Type 0 where
   fresh testing : Phase
 
@@ -88,9 +89,9 @@ module _ (π : Prices) (rows : List RowKind) (matching-end matching-head : ℕ �
   onEnd is-pick h e ph s c = to (suc e) fresh s c
   onEnd is-else h e ph s c = to (suc e) fresh s c
   onEnd is-end h e ph s c = to (suc e) fresh s c
-  onEnd (is-loop form t no-step) h e ph s c = tests π h e t s c
+  onEnd (is-loop form t last) h e testing s c = tests π h e t s c
+  onEnd (is-loop form t no-step) h e fresh s c = to e testing s c
   onEnd (is-loop form t (step-by p)) h e fresh s c = outcome (exec π h p s) c (λ u. to e testing u c)
-  onEnd (is-loop form t (step-by p)) h e testing s c = tests π h e t s c
 
   -- row i
   unfoldable pub onRow : View → ℕ → Phase → State → TurnCounts → Next
@@ -98,11 +99,10 @@ module _ (π : Prices) (rows : List RowKind) (matching-end matching-head : ℕ �
   onRow is-pick i ph s c = paid (π .pick) i s c (λ u. picked i (suc (matching-end i)) (u .picks) u c)
   onRow is-else i ph s c = to (suc (matching-end i)) fresh s c
   onRow is-end i ph s c = onEnd (viewAt rows (matching-head i)) (matching-head i) i ph s c
-  onRow (is-loop while t last) i ph s c = tests π i (matching-end i) t s (begin i c)
-  onRow (is-loop hold t last) i ph s c = tests π i (matching-end i) t s (begin i c)
+  onRow (is-loop while t last) i ph s c = to (matching-end i) testing s (begin i c)
+  onRow (is-loop hold t last) i ph s c = to (matching-end i) testing s (begin i c)
   onRow (is-loop do-while t last) i ph s c = to (suc i) fresh s (turn i (begin i c))
-  onRow (is-loop (for x) t last) i fresh s c = outcome (exec π i (assign (t .tested) (from x)) s) (begin i c) (λ u. to i testing u (begin i c))
-  onRow (is-loop (for x) t last) i testing s c = tests π i (matching-end i) t s c
+  onRow (is-loop (for x) t last) i ph s c = outcome (exec π i (assign (t .tested) (from x)) s) c (λ u. to (matching-end i) testing u (begin i c))
 
   -- one step; past the last row the run is ended
   unfoldable pub next : Place → Next
