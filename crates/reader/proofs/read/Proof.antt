@@ -9,8 +9,8 @@ use Rattle.reader.proofs.Fill.{RowsUpto, RowsRead, rows-none, rows-more
 use Rattle.reader.proofs.Loads.{load-read, then-passed, rows-passed, loads}
 use borrow.Author.Needs.{needs}
 use native.Mathlib.Omega.{arith}
-use Rattle.reader.proofs.load.Statement.{statement}
-use Rattle.reader.proofs.load.Tie as tie
+use Rattle.reader.proofs.read.Statement.{statement}
+use Rattle.reader.proofs.read.Tie as tie
 
 abbrev Inv-loop : tie.InvT-loop
 Inv-loop file ranges head rows₀ blocks₀ next₀ stopped₀ i₀ rows blocks next stopped i = RowsUpto file (head .at) (head .vars) (head .count) rows blocks next i × (stopped ≡ 0)
@@ -108,8 +108,8 @@ returns c =
       long = c .before .before .before .before .before .before .before .before .before .loop .inv .0 .size;
     })
 
-pub load-spec : {M : Type 1} → statement M
-load-spec =
+pub read-spec : {M : Type 1} → statement M
+read-spec =
     tie.close
     (tie.spec
     Inv-loop
