@@ -1,5 +1,5 @@
 // The scripts that are to play together: each file is read and asked its own questions, 15 of its store included, and its rows are kept. No store is touched.
-use reader::load;
+use reader::read;
 use rules::BLANK;
 use rules::Row;
 use rules::Verdict;
@@ -71,7 +71,7 @@ fn enter(file: &[u8], prices: &[u32], store: &[i32]) -> Entered
 {
     let none: [i32; 2] = [0; 2];
     let mut ranges = [none; 16];
-    let l = load(file, &mut ranges);
+    let l = read(file, &mut ranges);
     let first = l.verdict;
     let rows = l.rows;
     let held = hold(rows, l.count);

@@ -11,7 +11,7 @@ use calls_prices::prices_of;
 use libc::STDIN_FILENO;
 use program_lists::PricesWord;
 use program_parts::print_text;
-use reader::load;
+use reader::read;
 use refusal::print_refused;
 use rules::Prices;
 use rules::Row;
@@ -71,7 +71,7 @@ fn explain_priced(file: &[u8], prices: &[u32])
 {
     let none: [i32; 2] = [0; 2];
     let mut ranges = [none; 16];
-    let l = load(file, &mut ranges);
+    let l = read(file, &mut ranges);
     let verdict = l.verdict;
     match verdict {
         Verdict::Passed => {

@@ -2,7 +2,7 @@
 use calls::Outcome;
 use calls_frames::Frames;
 use calls_prices::ask_prices;
-use reader::load;
+use reader::read;
 use rules::Reply;
 use rules::Verdict;
 ghost use mathlib.Core.Path.{_≡_};
@@ -45,7 +45,7 @@ fn report_file(file: &[u8], prices: &[u32], buffer: &mut [u8]) -> Reply
 {
     let none: [i32; 2] = [0; 2];
     let mut ranges = [none; 16];
-    let l = load(file, &mut ranges);
+    let l = read(file, &mut ranges);
     let verdict = l.verdict;
     match verdict {
         Verdict::Passed => {
@@ -86,7 +86,7 @@ fn run_file(file: &[u8], prices: &[u32], store: &mut [i32], picks: &[u8], allowa
 {
     let none: [i32; 2] = [0; 2];
     let mut ranges = [none; 16];
-    let l = load(file, &mut ranges);
+    let l = read(file, &mut ranges);
     let verdict = l.verdict;
     match verdict {
         Verdict::Passed => {

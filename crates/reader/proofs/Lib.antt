@@ -2,3 +2,4 @@
 pub mod Lines
 pub mod Fill
 pub mod Loads
+pub mod Packs

@@ -23,10 +23,10 @@ use Rattle.rules.specs.File.{Reading, read, refused, thenLines, unless, turnOf,
 use Rattle.reading_nesting.specs.Open.{nestOf}
 use Rattle.reading_nesting.proofs.Laws.{closed-depth, open-depth}
 use Rattle.reading_head.specs.declared.Head.{Head}
-use Rattle.reader.specs.declared.Loaded.{Loaded}
+use Rattle.reader.specs.declared.ReadFile.{ReadFile}
 use Rattle.reading_lines.specs.Lines.{fileLines}
 use Rattle.reading_head.specs.Head.{HeadRead, passing, headRead}
-use Rattle.reader.specs.Read.{rowsVerdict, ifRead, readAnswer, loadedAnswer, WrittenRows, RowsPart, LoadedAs}
+use Rattle.reader.specs.Read.{rowsVerdict, ifRead, readAnswer, loadedAnswer, WrittenRows, RowsPart, ReadAs, loadedOf}
 use Rattle.reading_lines.proofs.Lines.{split-some}
 use Rattle.reader.proofs.Fill.{Stop, given, RowsRead}
 
@@ -126,10 +126,10 @@ rows-passed Passed u q line more d end e z = go (eqb q 0) refl e
     go true f g = eqb-true q 0 f
     go false f g = absurd (let y : _≡_ {A = ℕ} 0 1 = cc in omega arith)
 
--- a loaded file is the reading of its script
+-- a file that was read is the reading of its script
 pub loaded : (file : List ℕ) (v : Verdict) (vars count : ℕ) (rows : List Row) (ranges : List (List ℤ)) (reading : Reading Script)
     → passing v (read (scriptOf file ranges vars rows count) ([] ∷ [])) ≡ reading → vars ≤ 16 → (v ≡ Passed → length ranges ≡ 16) → count ≤ length rows
-    → loadedAnswer file (record { verdict = v; vars = ifRead v vars; count = ifRead v count; rows = rows }) ranges ≡ readAnswer reading
+    → loadedAnswer file (record { verdict = v; vars = ifRead v vars; count = ifRead v count }) rows ranges ≡ readAnswer reading
 unfolding passing readAnswer scriptOf
 loaded file Passed vars count rows ranges reading e small long all =
     let a : length (take vars (pairRanges ranges)) ≡ vars = length-take-le vars (pairRanges ranges) (omega (arith, long refl, pairs-length ranges)) in
@@ -137,7 +137,7 @@ loaded file Passed vars count rows ranges reading e small long all =
     rw (← e, a, b) refl
 loaded file (Refused q p) vars count rows ranges reading e small long all = rw (← e) refl
 
-pub loads : (file : List ℕ) (reading : Reading Script) (h : Head) (r : Loaded) (ranges : List (List ℤ)) → HeadRead file reading h ranges → RowsPart file h r → LoadedAs file reading r ranges
+pub loads : (file : List ℕ) (reading : Reading Script) (h : Head) (r : ReadFile) (ranges : List (List ℤ)) → HeadRead file reading h ranges → RowsPart file h r → ReadAs file reading (loadedOf r) (r .rows) ranges
 loads file reading h r ranges a b = record {
   answer = same ∙ loaded file (r .verdict) (h .vars) (h .count) (r .rows) ranges reading (b .script ranges ∙ a .script) (a .within .vars) (λ z. a .pairs (b .passes z) .long) (omega (arith, b .long, a .within .count));
   blank = λ z. subst (λ n. BlankFrom n ranges) (sym (b .vars ∙ ap (λ v. ifRead v (h .vars)) z)) (a .pairs (b .passes z) .blank);
@@ -148,5 +148,5 @@ loads file reading h r ranges a b = record {
     all Passed e i k = b .written e i (let n : r .count ≡ h .count = b .count ∙ ap (λ v. ifRead v (h .count)) e in omega arith)
     all (Refused q p) e i k = absurd (let n : r .count ≡ 0 = b .count ∙ ap (λ v. ifRead v (h .count)) e in omega arith)
 
-    same : loadedAnswer file r ranges ≡ loadedAnswer file (record { verdict = r .verdict; vars = ifRead (r .verdict) (h .vars); count = ifRead (r .verdict) (h .count); rows = r .rows }) ranges
+    same : loadedAnswer file (loadedOf r) (r .rows) ranges ≡ loadedAnswer file (record { verdict = r .verdict; vars = ifRead (r .verdict) (h .vars); count = ifRead (r .verdict) (h .count) }) (r .rows) ranges
     same = rw (b .vars, b .count) refl

@@ -19,9 +19,12 @@ use Rattle.reading_text.specs.Words.{before}
 use Rattle.reading_rows.specs.declared.RowLine.{RowLine}
 use Rattle.reading_rows.specs.Rows.{Rowed}
 use Rattle.reading_head.specs.declared.Head.{Head}
+use Rattle.reader.specs.declared.ReadFile.{ReadFile}
 use Rattle.reader.specs.declared.Loaded.{Loaded}
 use Rattle.reading_lines.specs.Lines.{fileLines}
 use Rattle.reading_head.specs.Head.{passing, headRead}
+use Rattle.table.specs.Code.{rowsOf}
+use Rattle.table.specs.Paired.{Table}
 
 -- what a row line reads: the row, and its length without the LF; `rest` begins at the file's byte `base`
 abbrev pub LineRead : List ℕ → ℕ → ℕ → RowLine → Type 0
@@ -41,7 +44,7 @@ ifRead Passed n = n
 ifRead (Refused q p) n = 0
 
 -- the rows after a head: its file's script, or the first no
-pub record RowsPart (file : List ℕ) (h : Head) (r : Loaded) : Type 0 where
+pub record RowsPart (file : List ℕ) (h : Head) (r : ReadFile) : Type 0 where
   pub script : (ranges : List (List ℤ)) → passing (r .verdict) (read (scriptOf file ranges (h .vars) (r .rows) (h .count)) ([] ∷ [])) ≡ headRead file ranges h
   pub passes : r .verdict ≡ Passed → h .verdict ≡ Passed
   pub vars : r .vars ≡ ifRead (r .verdict) (h .vars)
@@ -62,11 +65,20 @@ readAnswer (read script rest) = record { verdict = Passed; vars = length (script
 readAnswer (refused q p) = record { verdict = Refused q p; vars = 0; count = 0; script = record { ranges = []; rows = [] } }
 
 -- the same as code holds it: the first `vars` pairs of the lent array, the first `count` rows, beside the file
-abbrev pub loadedAnswer : List ℕ → Loaded → List (List ℤ) → ReadAnswer
-loadedAnswer file r ranges = record { verdict = r .verdict; vars = r .vars; count = r .count; script = scriptOf file ranges (r .vars) (r .rows) (r .count) }
+abbrev pub loadedAnswer : List ℕ → Loaded → List Row → List (List ℤ) → ReadAnswer
+loadedAnswer file l rows ranges = record { verdict = l .verdict; vars = l .vars; count = l .count; script = scriptOf file ranges (l .vars) rows (l .count) }
 
--- a loaded file is this reading
-pub record LoadedAs (file : List ℕ) (reading : Reading Script) (r : Loaded) (ranges : List (List ℤ)) : Type 0 where
-  pub answer : loadedAnswer file r ranges ≡ readAnswer reading
-  pub blank : r .verdict ≡ Passed → BlankFrom (r .vars) ranges
-  pub written : WrittenRows file (r .rows) (r .count)
+-- a file with these rows is this reading
+pub record ReadAs (file : List ℕ) (reading : Reading Script) (l : Loaded) (rows : List Row) (ranges : List (List ℤ)) : Type 0 where
+  pub answer : loadedAnswer file l rows ranges ≡ readAnswer reading
+  pub blank : l .verdict ≡ Passed → BlankFrom (l .vars) ranges
+  pub written : WrittenRows file rows (l .count)
+
+-- a file that was read, without its rows
+abbrev pub loadedOf : ReadFile → Loaded
+loadedOf r = record { verdict = r .verdict; vars = r .vars; count = r .count }
+
+-- a loaded file is this reading with the rows that the table holds
+pub record LoadedAs (file : List ℕ) (reading : Reading Script) (l : Loaded) (ranges : List (List ℤ)) (t : List ℕ) : Type 0 where
+  pub reads : ReadAs file reading l (rowsOf t) ranges
+  pub table : Table file (rowsOf t) (l .count) t

@@ -10,6 +10,7 @@ use lib.Seq.{take-append-seam, take-at, drop-at}
 use borrow.Author.Tests.{le-leb}
 use borrow.Rule.Slice.PartMut.{midOf, putMid}
 use Rattle.rules.specs.declared.Reply.the-variants.{Accepted, Refused}
+use Rattle.rules.specs.declared.Row.{Row}
 use Rattle.rules.specs.declared.Verdict.{Verdict}
 use Rattle.rules.specs.declared.Verdict.the-variants.{Passed}
 use Rattle.rules.specs.Blocks.{kindsOf}
@@ -22,7 +23,7 @@ use Rattle.rules_season.specs.Season.{cuesOf, judgedAll, scriptsOf, refusalsOf,
 use Rattle.rules.proofs.LongestReport.{longest-report}
 use Rattle.rules_season.proofs.GroupsExact.{length-end, scripts-end, scripts-same}
 use Rattle.reader.specs.declared.Loaded.{Loaded}
-use Rattle.reader.specs.Read.{LoadedAs}
+use Rattle.reader.specs.Read.{ReadAs}
 use Rattle.calls.specs.declared.Measured.{Measured}
 use Rattle.calls.specs.Told.{judgedTicks, MeasuredAs}
 use Rattle.calls.specs.Held.{judgedScript}
@@ -295,17 +296,17 @@ unfolding judgedBy
 same-script script s Passed e = cc
 same-script script s (Verdict.Refused q p) e = absurd (let z : _≡_ {A = ℕ} 0 1 = cc in omega arith)
 
-module _ (file : List ℕ) (l : Loaded) (ranges : List (List ℤ)) (e : LoadedAs file (fileScript file) l ranges) (z : l .verdict ≡ Passed) where
+module _ (file : List ℕ) (l : Loaded) (rows : List Row) (ranges : List (List ℤ)) (e : ReadAs file (fileScript file) l rows ranges) (z : l .verdict ≡ Passed) where
   abbrev held : Script
-  held = scriptOf file ranges (l .vars) (l .rows) (l .count)
+  held = scriptOf file ranges (l .vars) rows (l .count)
 
   judged-is : judged fourOnes 1_024 file ≡ judgedScript fourOnes held
-  judged-is = lent-yes fourOnes 1_024 ones-priced file ∙ file-read fourOnes file l ranges e z
+  judged-is = lent-yes fourOnes 1_024 ones-priced file ∙ file-read fourOnes file l rows ranges e z
 
   pub rows-few : l .count ≤ 256
-  rows-few = few-rows _ _ _ _ _ (file-given fourOnes file l ranges e z)
+  rows-few = few-rows _ _ _ _ _ (file-given fourOnes file l rows ranges e z)
 
-  pub found-read : {old new cues cues' : List ℕ} {m : Measured} {n : ℕ} → MeasuredAs fourOnes (judgedScript fourOnes held) old new m → Wrote (cuesOf (take (l .count) (kindsOf file (l .rows)))) cues cues' n → n ≤ l .count → 256 ≤ length cues
+  pub found-read : {old new cues cues' : List ℕ} {m : Measured} {n : ℕ} → MeasuredAs fourOnes (judgedScript fourOnes held) old new m → Wrote (cuesOf (take (l .count) (kindsOf file rows))) cues cues' n → n ≤ l .count → 256 ≤ length cues
       → FoundAs (judged fourOnes 1_024 file) old new cues cues' (record { reply = m .reply; ticks = m .ticks; cues = n })
   unfolding scriptOf
   found-read {cues = cues} {cues'} {n = n} h w f r = record {

@@ -1,6 +1,6 @@
 // A season's files, one after the other: each is read, judged under four ones and counted on the sheet.
 use calls::measure_script;
-use reader::load;
+use reader::read;
 use rules::Reply;
 use rules::Verdict;
 use season_cues::put_cues;
@@ -36,7 +36,7 @@ fn measure(file: &[u8], rest: &mut [u8], cues: &mut [u32]) -> FileFigures
 {
     let none: [i32; 2] = [0; 2];
     let mut ranges = [none; 16];
-    let l = load(file, &mut ranges);
+    let l = read(file, &mut ranges);
     let verdict = l.verdict;
     match verdict {
         Verdict::Passed => {

@@ -1,5 +1,5 @@
 -- The fields of a row's numbers, packed and read back. Assumes nothing.
-use mathlib.Core.Path.{_≡_, refl, ap, _∙_}
+use mathlib.Core.Path.{_≡_, refl, sym, ap, subst, _∙_}
 use mathlib.Core.List.{List, [], _∷_}
 use Prim.Native.Nat.{ℕ, zero, suc, _+_, _*_, _/_, _%_, _≤_, _<_}
 use native.Mathlib.Omega.{arith}
@@ -14,7 +14,7 @@ use Rattle.rules.specs.declared.Comparison.the-variants.{Different}
 use Rattle.rules.specs.declared.Change.{Change}
 use Rattle.table.specs.declared.Tag.{Tag}
 use Rattle.table.specs.Code.{constantIn, operandIn, isExpression, comparisonBy, changeIn, limitIn, stepIn, tagIn, kindBy, kindIn}
-use Rattle.table.specs.Packing.{FirstIs, TestIn, TestRow, Stands}
+use Rattle.table.specs.Packing.{IsComparison, ComparisonCoded, FirstIs, TestIn, TestRow, Stands}
 
 -- ---- the tag of an op, by the range that it is in
 module _ (t : ℕ) where
@@ -99,24 +99,25 @@ module _ (w v a : ℕ) where
         no-partner = f .no-partner;
       }
 
-  pub off-stands : (b c u : ℕ) (q : Comparison) (k : ℤ) → FirstIs 16 v c 0 0 w → comparisonBy c ≡ q → a % 256 ≡ u → constantIn b ≡ k → Stands (Off v u q k) (w ∷ a ∷ b ∷ 0 ∷ [])
+  pub off-stands : (b c u : ℕ) (q : Comparison) (k : ℤ) → FirstIs 16 v c 0 0 w → ComparisonCoded q c → a % 256 ≡ u → constantIn b ≡ k → Stands (Off v u q k) (w ∷ a ∷ b ∷ 0 ∷ [])
   unfolding kindIn kindBy
   off-stands b c u q k f e g h =
       record {
-        kind = ap (λ r. kindBy r (w ∷ a ∷ b ∷ 0 ∷ [])) (ap tagIn (f .op-is)) ∙ (λ z. Off (f .variable-is z) (g z) ((ap comparisonBy (f .comparison-is) ∙ e) z) (h z));
-        test = tt;
+        kind = ap (λ r. kindBy r (w ∷ a ∷ b ∷ 0 ∷ [])) (ap tagIn (f .op-is)) ∙ (λ z. Off (f .variable-is z) (g z) ((ap comparisonBy (f .comparison-is) ∙ e .same) z) (h z));
+        test = subst IsComparison (sym (f .comparison-is)) (e .code);
         no-partner = f .no-partner;
       }
 
   -- a row's test
-  test-in : (c l b n : ℕ) (op d : ℕ) (q : Comparison) (x : Operand) → FirstIs op v c l d w → comparisonBy c ≡ q → operandIn l b ≡ x → TestIn v q x (w ∷ a ∷ b ∷ n ∷ [])
+  test-in : (c l b n : ℕ) (op d : ℕ) (q : Comparison) (x : Operand) → FirstIs op v c l d w → ComparisonCoded q c → operandIn l b ≡ x → TestIn v q x (w ∷ a ∷ b ∷ n ∷ [])
   test-in c l b n op d q x f e h = record {
     variable = f .variable-is;
-    comparison = ap comparisonBy (f .comparison-is) ∙ e;
+    comparison = ap comparisonBy (f .comparison-is) ∙ e .same;
+    code = subst IsComparison (sym (f .comparison-is)) (e .code);
     limit = ap (λ k. operandIn k b) (f .limit-is) ∙ h;
   }
 
-  pub for-stands : (b n k c l m : ℕ) (x : Operand) (q : Comparison) (y : Operand) (d : Change) → FirstIs (8 + k) v c l m w → k < 3 → operandIn k a ≡ x → comparisonBy c ≡ q → operandIn l b ≡ y
+  pub for-stands : (b n k c l m : ℕ) (x : Operand) (q : Comparison) (y : Operand) (d : Change) → FirstIs (8 + k) v c l m w → k < 3 → operandIn k a ≡ x → ComparisonCoded q c → operandIn l b ≡ y
       → changeIn m n ≡ d → Stands (For v x q y d) (w ∷ a ∷ b ∷ n ∷ [])
   unfolding kindIn kindBy
   for-stands b n k c l m x q y d f h e g i j =
@@ -130,7 +131,7 @@ module _ (w v a : ℕ) where
         no-partner = f .no-partner;
       }
 
-pub test-row : (w v b c l op : ℕ) (q : Comparison) (x : Operand) → FirstIs op v c l 0 w → comparisonBy c ≡ q → operandIn l b ≡ x → TestRow op v q x (w ∷ 0 ∷ b ∷ 0 ∷ [])
+pub test-row : (w v b c l op : ℕ) (q : Comparison) (x : Operand) → FirstIs op v c l 0 w → ComparisonCoded q c → operandIn l b ≡ x → TestRow op v q x (w ∷ 0 ∷ b ∷ 0 ∷ [])
 test-row w v b c l op q x f e h = record { op-is = f .op-is; test = test-in w v 0 c l b 0 op 0 q x f e h; no-partner = f .no-partner }
 
 -- a while, a do, a hold

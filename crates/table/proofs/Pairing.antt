@@ -17,9 +17,9 @@ use Rattle.rules_machine.specs.RowMachine.{Opens, Pairs, push, closesRow, pairR
 use Rattle.table.specs.declared.Open.{Open}
 use Rattle.table.specs.declared.Role.{Role}
 use Rattle.table.specs.Code.{number, opIn, partnerIn, kindIn, numbersAt}
-use Rattle.table.specs.Packing.{LoopIn, Stands, Only, RowPut}
+use Rattle.table.specs.Packing.{TestOf, Stands, Only, RowPut}
 use Rattle.table.specs.Paired.{SameTest, Kept, PartnerPut, endOp, EndPut, roleBy, roleOf, headOf, numberOf, pushedOn, poppedOff, openAfter, Room, stackOf, loopsBefore, Waiting, EndRow, PairedBy, PairedTo, Ready, NextPut}
-use Rattle.table.proofs.Same.{loop-in, kind-same, kept-same, test-trans, test-sym, end-small, end-kind}
+use Rattle.table.proofs.Same.{test-of, kind-same, kept-same, test-trans, test-sym, end-small, end-kind}
 
 -- rows before j, and row j
 pub up-to : (P : ℕ → Type 0) (j : ℕ) → ((i : ℕ) → i < j → P i) → P j → (i : ℕ) → i < suc j → P i
@@ -56,6 +56,30 @@ loop-place (k ∷ ks) i (suc j) h e = by (isLoop (viewOf k)) (loopRows (suc i) k
         → (getD (cond b (i ∷ l) l) (length (cond b (i ∷ m) m)) 0 ≡ i + suc j) × (length (cond b (i ∷ m) m) < length (cond b (i ∷ l) l))
     by true l m (p, q) = (omega arith, omega arith)
     by false l m (p, q) = (omega arith, q)
+
+-- the head rows rise: a loop with a higher number begins further down
+heads-from : (ks : List RowKind) (i k : ℕ) → k < length (loopRows i ks) → i ≤ getD (loopRows i ks) k 0
+unfolding loopRows
+heads-from [] i k h = absurd (omega arith)
+heads-from (x ∷ ks) i k h = by (isLoop (viewOf x)) (loopRows (suc i) ks) k h (heads-from ks (suc i))
+  where
+    by : (b : Bool) (l : List ℕ) (k : ℕ) → k < length (cond b (i ∷ l) l) → ((n : ℕ) → n < length l → suc i ≤ getD l n 0) → i ≤ getD (cond b (i ∷ l) l) k 0
+    by true l zero h f = omega arith
+    by true l (suc k) h f = omega (arith, f k (omega arith))
+    by false l k h f = omega (arith, f k h)
+
+pub heads-rise : (ks : List RowKind) (i j k : ℕ) → j < k → k < length (loopRows i ks) → getD (loopRows i ks) j 0 < getD (loopRows i ks) k 0
+unfolding loopRows
+heads-rise [] i j k l h = absurd (omega arith)
+heads-rise (x ∷ ks) i j k l h = by (isLoop (viewOf x)) (loopRows (suc i) ks) j k l h (heads-rise ks (suc i)) (heads-from ks (suc i))
+  where
+    by : (b : Bool) (m : List ℕ) (j k : ℕ) → j < k → k < length (cond b (i ∷ m) m) → ((a n : ℕ) → a < n → n < length m → getD m a 0 < getD m n 0)
+        → ((n : ℕ) → n < length m → suc i ≤ getD m n 0) → getD (cond b (i ∷ m) m) j 0 < getD (cond b (i ∷ m) m) k 0
+    by true m zero zero l h f g = absurd (omega arith)
+    by true m zero (suc k) l h f g = omega (arith, g k (omega arith))
+    by true m (suc j) zero l h f g = absurd (omega arith)
+    by true m (suc j) (suc k) l h f g = f j k (omega arith) (omega arith)
+    by false m j k l h f g = f j k l h
 
 -- ---- a function changed at one place
 put-same : (f : ℕ → ℕ) (h n : ℕ) → put f h n h ≡ n
@@ -124,10 +148,10 @@ module _ (text : List ℕ) (script : List RowKind) (j : ℕ) (p : Pairs) (t : Li
     kinds-kept : (i : ℕ) → i < j → kindOf text (kindIn (numbersAt t′ i)) ≡ getD script i End
     kinds-kept i l = ap (kindOf text) (kind-same (numbersAt t i) (numbersAt t′ i) (c .kept i l)) ∙ b .kinds i l
 
-    tests-kept : (i : ℕ) → i < j → LoopIn (kindIn (numbersAt t′ i)) (numbersAt t′ i)
+    tests-kept : (i : ℕ) → i < j → TestOf (kindIn (numbersAt t′ i)) (numbersAt t′ i)
     tests-kept i l =
         let k = c .kept i l in
-        subst (λ x. LoopIn x (numbersAt t′ i)) (sym (kind-same (numbersAt t i) (numbersAt t′ i) k)) (loop-in (numbersAt t i) (numbersAt t′ i) (k .test) (kindIn (numbersAt t i)) (b .tests i l))
+        subst (λ x. TestOf x (numbersAt t′ i)) (sym (kind-same (numbersAt t i) (numbersAt t′ i) k)) (test-of (numbersAt t i) (numbersAt t′ i) (k .test) (kindIn (numbersAt t i)) (b .tests i l))
 
     end-kept : (h e : ℕ) → e < j → viewAt script e ≡ is-end → EndRow script t h e → EndRow script t′ h e
     end-kept h e l w r =
@@ -189,8 +213,8 @@ module _ (text : List ℕ) (script : List RowKind) (j : ℕ) (p : Pairs) (t : Li
       kinds-next : (i : ℕ) → i < suc j → kindOf text (kindIn (numbersAt t′ i)) ≡ getD script i End
       kinds-next = up-to (λ i. kindOf text (kindIn (numbersAt t′ i)) ≡ getD script i End) j (kinds-kept t′ carried) (ap (kindOf text) (st .kind) ∙ sym kind-is)
 
-      tests-next : (i : ℕ) → i < suc j → LoopIn (kindIn (numbersAt t′ i)) (numbersAt t′ i)
-      tests-next = up-to (λ i. LoopIn (kindIn (numbersAt t′ i)) (numbersAt t′ i)) j (tests-kept t′ carried) (subst (λ x. LoopIn x (numbersAt t′ j)) (sym (st .kind)) (st .test))
+      tests-next : (i : ℕ) → i < suc j → TestOf (kindIn (numbersAt t′ i)) (numbersAt t′ i)
+      tests-next = up-to (λ i. TestOf (kindIn (numbersAt t′ i)) (numbersAt t′ i)) j (tests-kept t′ carried) (subst (λ x. TestOf x (numbersAt t′ j)) (sym (st .kind)) (st .test))
 
       -- a plain row
       pub plain-next : (x : Plain) → viewAt script j ≡ is-plain x → PairedBy text script (suc j) p t′ o
@@ -245,7 +269,7 @@ module _ (text : List ℕ) (script : List RowKind) (j : ℕ) (p : Pairs) (t : Li
       let e : kindIn (numbersAt t′ j) ≡ Kind.End = end-kind (numbersAt t′ j) (subst (λ m. m < 3) (sym (c .op text)) (end-small (viewOf (kindOf text (kindIn (numbersAt t h)))))) in
       record {
         kinds = up-to (λ i. kindOf text (kindIn (numbersAt t′ i)) ≡ getD script i End) j (kinds-kept t′ s) (ap (kindOf text) e ∙ sym k);
-        tests = up-to (λ i. LoopIn (kindIn (numbersAt t′ i)) (numbersAt t′ i)) j (tests-kept t′ s) (subst (λ x. LoopIn x (numbersAt t′ j)) (sym e) tt);
+        tests = up-to (λ i. TestOf (kindIn (numbersAt t′ i)) (numbersAt t′ i)) j (tests-kept t′ s) (subst (λ x. TestOf x (numbersAt t′ j)) (sym e) tt);
         stack = b .stack;
         waits = waits-kept in-script t′ (c .only);
         loops = loops-kept in-script t′ (c .only) (ap isLoop w);

@@ -1,5 +1,5 @@
 -- Rows that are the same but for some fields: the same kind, the same test. Assumes nothing.
-use mathlib.Core.Path.{_≡_, refl, sym, ap, _∙_}
+use mathlib.Core.Path.{_≡_, refl, sym, ap, subst, _∙_}
 use mathlib.Core.List.{List, [], _∷_}
 use Prim.Native.Nat.{ℕ, _+_, _*_, _/_, _%_, _<_}
 use native.Mathlib.Omega.{arith}
@@ -11,7 +11,7 @@ use Rattle.rules.specs.declared.Comparison.{Comparison}
 use Rattle.rules.specs.Blocks.{no-step, step-by, View, is-plain, is-pick, is-else, is-end, is-loop, viewOf, kindOf}
 use Rattle.table.specs.declared.Tag.{Tag}
 use Rattle.table.specs.Code.{constantIn, operandIn, comparisonBy, changeIn, number, opIn, variableIn, comparisonIn, limitKindIn, changeKindIn, partnerIn, startIn, limitIn, stepIn, tagIn, rowTag, kindBy, kindIn, numbersAt}
-use Rattle.table.specs.Packing.{TestIn, LoopIn, NumbersPut}
+use Rattle.table.specs.Packing.{IsComparison, TestIn, TestOf, NumbersPut}
 use Rattle.table.specs.Paired.{columnsIn, SameTest, Kept, PartnerPut, endOp, EndsWith, EndPut}
 use Rattle.table.proofs.Numbers.{tag-end}
 use Rattle.table.proofs.Laws.{first-put, first-others}
@@ -33,8 +33,14 @@ module _ (e e′ : List ℕ) (s : SameTest e e′) where
   same-variable : variableIn e′ ≡ variableIn e
   same-variable = variable-of (number e′ 0) ∙ ap (λ n. n % 256) (s .columns) ∙ sym (variable-of (number e 0))
 
+  same-code : comparisonIn e′ ≡ comparisonIn e
+  same-code = comparison-of (number e′ 0) ∙ ap (λ n. n / 256 % 8) (s .columns) ∙ sym (comparison-of (number e 0))
+
   same-comparison : comparisonBy (comparisonIn e′) ≡ comparisonBy (comparisonIn e)
-  same-comparison = ap comparisonBy (comparison-of (number e′ 0) ∙ ap (λ n. n / 256 % 8) (s .columns) ∙ sym (comparison-of (number e 0)))
+  same-comparison = ap comparisonBy same-code
+
+  code-in : IsComparison (comparisonIn e) → IsComparison (comparisonIn e′)
+  code-in = subst IsComparison (sym same-code)
 
   same-limit : limitIn e′ ≡ limitIn e
   same-limit =
@@ -47,21 +53,21 @@ module _ (e e′ : List ℕ) (s : SameTest e e′) where
       λ z. changeIn (k z) (s .change z)
 
   test-in : (v : ℕ) (c : Comparison) (x : Operand) → TestIn v c x e → TestIn v c x e′
-  test-in v c x t = record { variable = same-variable ∙ t .variable; comparison = same-comparison ∙ t .comparison; limit = same-limit ∙ t .limit }
+  test-in v c x t = record { variable = same-variable ∙ t .variable; comparison = same-comparison ∙ t .comparison; code = code-in (t .code); limit = same-limit ∙ t .limit }
 
   -- it tells the same test
-  pub loop-in : (k : Kind) → LoopIn k e → LoopIn k e′
-  loop-in End t = tt
-  loop-in Else t = tt
-  loop-in Pick t = tt
-  loop-in (Set v x) t = tt
-  loop-in (Move v d) t = tt
-  loop-in (Off v w c k) t = tt
-  loop-in (Cue n) t = tt
-  loop-in (While v c x) t = test-in v c x t
-  loop-in (Do v c x) t = test-in v c x t
-  loop-in (For v s c x d) (t, q) = (test-in v c x t, same-step ∙ q)
-  loop-in (Hold v) t = test-in v _ _ t
+  pub test-of : (k : Kind) → TestOf k e → TestOf k e′
+  test-of End t = tt
+  test-of Else t = tt
+  test-of Pick t = tt
+  test-of (Set v x) t = tt
+  test-of (Move v d) t = tt
+  test-of (Off v w c k) t = code-in t
+  test-of (Cue n) t = tt
+  test-of (While v c x) t = test-in v c x t
+  test-of (Do v c x) t = test-in v c x t
+  test-of (For v s c x d) (t, q) = (test-in v c x t, same-step ∙ q)
+  test-of (Hold v) t = test-in v _ _ t
 
 -- a row that is kept has its kind
 module _ (e e′ : List ℕ) (k : Kept e e′) where

@@ -25,7 +25,7 @@ use Rattle.table.specs.declared.Open.{Open}
 use Rattle.table.specs.Code.{number, partnerIn, kindIn, numbersAt, noRow, kindAt, rowsOf, Packed}
 use Rattle.table.specs.Paired.{roleBy, roleOf, openAfter, Room, stackOf, EndRow, PairedBy, PairedTo, Ready, NextPut, scriptRows, Closing, Packable, LoopEnd, Table}
 use Rattle.table.proofs.Laws.{kind-in, rows-length}
-use Rattle.table.proofs.Same.{loop-in}
+use Rattle.table.proofs.Same.{test-of}
 use Rattle.table.proofs.Pairing.{up-to, loop-place, role-text}
 
 -- ---- the rows from j on nest, with the open blocks of the code
@@ -184,7 +184,7 @@ module _ (text : List ℕ) (script : List RowKind) (t : List ℕ) (o : Open) (n 
       let (a, c) = loop-place script 0 h l e in
       record {
         end-row = r;
-        tells = loop-in (numbersAt t h) (numbersAt t x) (r .test) (kindIn (numbersAt t h)) (b .tests h l);
+        tells = test-of (numbersAt t h) (numbersAt t x) (r .test) (kindIn (numbersAt t h)) (b .tests h l);
         place = ap (λ z. getD (loopRows 0 script) z 0) (r .loop) ∙ a ∙ zero-more h;
         few = subst (λ z. z < length (loopRows 0 script)) (sym (r .loop)) c;
       }
@@ -210,6 +210,7 @@ fill-done rows count t₀ t o long p f text (n, closed) =
     record {
       size = f .size;
       packed = packed-all rows count t (omega (arith, p .few)) (omega (arith, p .few, f .size)) (f .kinds);
+      tests = f .paired text .tests;
       partners = subst (λ m. Partners script (λ i. partnerIn (numbersAt t i)) (pairs script m .head)) e (whole-partners text script t o n closed b);
       ends = λ x l w. f .paired text .ends x l w;
       loops = λ h l q. whole-loops text script t o n closed b h (subst (λ m. h < m) (sym e) l) q;
@@ -228,3 +229,17 @@ packed-kinds text count rows t p = sym (kinds-take text count (rowsOf t)) ∙ ap
 
 pub packed-at : (count : ℕ) (rows : List Row) (t : List ℕ) → Packed count rows t → (i : ℕ) → i < count → kindAt (rowsOf t) i ≡ kindAt rows i
 packed-at count rows t p i h = ap (λ (r : Row). r .kind) (sym (getD-take count (rowsOf t) i noRow h) ∙ ap (λ l. getD l i noRow) p ∙ getD-take count rows i noRow h)
+
+-- a table of rows is one of the rows that it holds
+pub own-table : (text : List ℕ) (rows : List Row) (count : ℕ) (t : List ℕ) → Table text rows count t → Table text (rowsOf t) count t
+own-table text rows count t b =
+    let e : scriptRows text rows count ≡ scriptRows text (rowsOf t) count = sym (packed-kinds text count rows t (b .packed)) in
+    record {
+      size = b .size;
+      packed = refl;
+      tests = b .tests;
+      partners = subst (λ s. Partners s (λ i. partnerIn (numbersAt t i)) (pairs s count .head)) e (b .partners);
+      ends = subst (λ s. (x : ℕ) → x < count → viewAt s x ≡ is-end → EndRow s t (pairs s count .head x) x) e (b .ends);
+      loops = subst (λ s. (h : ℕ) → h < count → isLoop (viewAt s h) ≡ true → LoopEnd s t h (endAt s (suc h))) e (b .loops);
+      few = subst (λ s. length (loopRows 0 s) ≤ 16) e (b .few);
+    }

@@ -1,7 +1,7 @@
 -- A row put into the table: its numbers stand for its kind, and every other row keeps its numbers.
 use mathlib.Core.Path.{_≡_}
 use mathlib.Core.List.{List}
-use Prim.Native.Nat.{ℕ, _/_, _%_, _<_}
+use Prim.Native.Nat.{ℕ, _/_, _%_, _≤_, _<_}
 use lib.IntN.{pos}
 use lib.ListN.{length}
 use Rattle.rules.specs.declared.Kind.{Kind}
@@ -19,10 +19,14 @@ pub record OperandCoded (x : Operand) (r : OperandCode) : Type 0 where
   pub same : operandIn (r .kind) (r .value) ≡ x
   pub small : r .kind < 3
 
--- the code of a comparison
+-- a number that is the code of a comparison
+abbrev pub IsComparison : ℕ → Type 0
+IsComparison n = (1 ≤ n) × (n ≤ 6)
+
+-- the code of this comparison
 pub record ComparisonCoded (c : Comparison) (r : ℕ) : Type 0 where
   pub same : comparisonBy r ≡ c
-  pub small : r < 8
+  pub code : IsComparison r
 
 -- the kind and number of a change
 pub record ChangeCoded (d : Change) (r : OperandCode) : Type 0 where
@@ -42,21 +46,22 @@ pub record FirstIs (op v c limit change w : ℕ) : Type 0 where
 pub record TestIn (v : ℕ) (c : Comparison) (x : Operand) (e : List ℕ) : Type 0 where
   pub variable : variableIn e ≡ v
   pub comparison : comparisonBy (comparisonIn e) ≡ c
+  pub code : IsComparison (comparisonIn e)
   pub limit : limitIn e ≡ x
 
--- numbers that tell the test of a loop, and the step of a for; change 12: a hold is "turning while v0 is not 0"
-abbrev pub LoopIn : Kind → List ℕ → Type 0
-LoopIn End e = Unit {0}
-LoopIn Else e = Unit {0}
-LoopIn Pick e = Unit {0}
-LoopIn (Set v x) e = Unit {0}
-LoopIn (Move v d) e = Unit {0}
-LoopIn (Off v w c k) e = Unit {0}
-LoopIn (Cue n) e = Unit {0}
-LoopIn (While v c x) e = TestIn v c x e
-LoopIn (Do v c x) e = TestIn v c x e
-LoopIn (For v s c x d) e = TestIn v c x e × (stepIn e ≡ d)
-LoopIn (Hold v) e = TestIn v Different (Constant (pos 0)) e
+-- numbers that tell the test of a row that has one, and the step of a for; change 12: a hold is "turning while v0 is not 0"
+abbrev pub TestOf : Kind → List ℕ → Type 0
+TestOf End e = Unit {0}
+TestOf Else e = Unit {0}
+TestOf Pick e = Unit {0}
+TestOf (Set v x) e = Unit {0}
+TestOf (Move v d) e = Unit {0}
+TestOf (Off v w c k) e = IsComparison (comparisonIn e)
+TestOf (Cue n) e = Unit {0}
+TestOf (While v c x) e = TestIn v c x e
+TestOf (Do v c x) e = TestIn v c x e
+TestOf (For v s c x d) e = TestIn v c x e × (stepIn e ≡ d)
+TestOf (Hold v) e = TestIn v Different (Constant (pos 0)) e
 
 -- the numbers of a while, a do or a hold, by its op
 pub record TestRow (op v : ℕ) (c : Comparison) (x : Operand) (e : List ℕ) : Type 0 where
@@ -67,7 +72,7 @@ pub record TestRow (op v : ℕ) (c : Comparison) (x : Operand) (e : List ℕ) : 
 -- numbers that stand for a row, with no partner yet
 pub record Stands (k : Kind) (e : List ℕ) : Type 0 where
   pub kind : kindIn e ≡ k
-  pub test : LoopIn k e
+  pub test : TestOf k e
   pub no-partner : partnerIn e ≡ 0
 
 -- no row but row i has changed

@@ -16,7 +16,7 @@ use Rattle.rules_machine.specs.RowMachine.{Opens, Partners, Pairs, pairs}
 use Rattle.table.specs.declared.Open.{Open}
 use Rattle.table.specs.declared.Role.{Role}
 use Rattle.table.specs.Code.{number, opIn, partnerIn, kindIn, numbersAt, kindAt, Packed}
-use Rattle.table.specs.Packing.{LoopIn, Only}
+use Rattle.table.specs.Packing.{TestOf, Only}
 
 -- the fields between the op and the partner: variable, comparison, the kinds of limit and change
 abbrev pub columnsIn : List ℕ → ℕ
@@ -130,9 +130,9 @@ pub record EndRow (script : List RowKind) (t : List ℕ) (h e : ℕ) : Type 0 wh
 
 -- the first j rows of a script in a table, beside the one-pass pairing of the rules' machine
 pub record PairedBy (text : List ℕ) (script : List RowKind) (j : ℕ) (p : Pairs) (t : List ℕ) (o : Open) : Type 0 where
-  -- each row is in the table, with its test if it is a loop
+  -- each row is in the table, with its test if it has one
   pub kinds : (i : ℕ) → i < j → kindOf text (kindIn (numbersAt t i)) ≡ getD script i End
-  pub tests : (i : ℕ) → i < j → LoopIn (kindIn (numbersAt t i)) (numbersAt t i)
+  pub tests : (i : ℕ) → i < j → TestOf (kindIn (numbersAt t i)) (numbersAt t i)
   -- the open blocks
   pub stack : stackOf (o .heads) (o .depth) ≡ p .stack
   pub waits : (d : ℕ) → d < o .depth → Waiting script j (getD (o .heads) d 0) (getD (o .numbers) d 0)
@@ -181,14 +181,15 @@ pub record Packable (rows : List Row) (count : ℕ) (t : List ℕ) : Type 0 wher
 -- row e is the `end` of the loop at row h: it tells the loop's test and step, and its number is the loop's place among all loops
 pub record LoopEnd (script : List RowKind) (t : List ℕ) (h e : ℕ) : Type 0 where
   pub end-row : EndRow script t h e
-  pub tells : LoopIn (kindIn (numbersAt t h)) (numbersAt t e)
+  pub tells : TestOf (kindIn (numbersAt t h)) (numbersAt t e)
   pub place : getD (loopRows 0 script) (number (numbersAt t e) 1) 0 ≡ h
   pub few : number (numbersAt t e) 1 < length (loopRows 0 script)
 
--- a whole script in a table: its rows, their partners, each `end` and each loop; at most 16 loops
+-- a whole script in a table: its rows, their tests, their partners, each `end` and each loop; at most 16 loops
 pub record Table (text : List ℕ) (rows : List Row) (count : ℕ) (t : List ℕ) : Type 0 where
   pub size : length t ≡ 1_024
   pub packed : Packed count rows t
+  pub tests : (i : ℕ) → i < count → TestOf (kindIn (numbersAt t i)) (numbersAt t i)
   pub partners : Partners (scriptRows text rows count) (λ i. partnerIn (numbersAt t i)) (pairs (scriptRows text rows count) count .head)
   pub ends : (e : ℕ) → e < count → viewAt (scriptRows text rows count) e ≡ is-end → EndRow (scriptRows text rows count) t (pairs (scriptRows text rows count) count .head e) e
   pub loops : (h : ℕ) → h < count → isLoop (viewAt (scriptRows text rows count) h) ≡ true → LoopEnd (scriptRows text rows count) t h (endAt (scriptRows text rows count) (suc h))

@@ -14,12 +14,12 @@ use Rattle.calls_scripts.proofs.enter.Statement.{statement}
 use Rattle.calls_scripts.proofs.enter.Tie as tie
 
 hold-requires : tie.Need-hold-requires
-hold-requires c κs = listable _ _ _ (c .before .load .ensures)
+hold-requires c κs = listable _ _ _ _ (c .before .read .ensures)
 
 ask-script-requires : tie.Need-ask-script-requires
 ask-script-requires c κs =
     let s = c .before .before .before .before .before .before .before .before in
-    (file-given (s .args .prices .now) (s .args .file .now) _ _ (c .before .before .before .before .load .ensures) (c .enum-told .given .1), s .pre)
+    (file-given (s .args .prices .now) (s .args .file .now) _ _ _ (c .before .before .before .before .read .ensures) (c .enum-told .given .1), s .pre)
 
 returns : tie.Need-returns
 returns c =
@@ -27,10 +27,10 @@ returns c =
     let prices = s .args .prices .now in
     let file = s .args .file .now in
     let store = s .args .store .now in
-    let l = c .before .before .before .before .before .load in
+    let l = c .before .before .before .before .before .read in
     let z = c .before .enum-told .given .1 in
-    let g = file-given prices file _ _ (l .ensures) z in
-    let r = file-read prices file _ _ (l .ensures) z in
+    let g = file-given prices file _ _ _ (l .ensures) z in
+    let r = file-read prices file _ _ _ (l .ensures) z in
     record {
       verdict = c .ask-script .ensures ∙ ap (λ j. admitted j store) (sym r);
       held = λ script e.
@@ -43,7 +43,7 @@ returns-2 c =
     let prices = s .args .prices .now in
     let file = s .args .file .now in
     let store = s .args .store .now in
-    let r = file-refused prices file _ _ (c .before .before .before .before .before .load .ensures) (c .before .first .given .1) in
+    let r = file-refused prices file _ _ _ (c .before .before .before .before .before .read .ensures) (c .before .first .given .1) in
     record { verdict = ap (λ j. admitted j store) (sym r); held = λ script e. absurd (let z : _≡_ {A = ℕ} 0 1 = cc (sym r ∙ e) in omega arith) }
 
 pub enter-spec : {M : Type 1} → statement M

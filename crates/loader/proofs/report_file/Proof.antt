@@ -7,13 +7,13 @@ use Rattle.loader.proofs.report_file.Statement.{statement}
 use Rattle.loader.proofs.report_file.Tie as tie
 
 measure-script-requires : tie.Need-measure-script-requires
-measure-script-requires c κs = (file-given (now (c .before .before .before .before .before .before .before .before .before .args .prices)) (now (c .before .before .before .before .before .before .before .before .before .args .file)) _ _ (c .before .before .before .before .load .ensures) (c .before .before .enum-told .given .1), c .before .before .before .before .before .before .before .before .before .pre)
+measure-script-requires c κs = (file-given (now (c .before .before .before .before .before .before .before .before .before .args .prices)) (now (c .before .before .before .before .before .before .before .before .before .args .file)) _ _ _ (c .before .before .before .before .read .ensures) (c .before .before .enum-told .given .1), c .before .before .before .before .before .before .before .before .before .pre)
 
 returns : tie.Need-returns
-returns c = reported-as (file-read (now (c .before .before .before .before .before .before .before .before .before .before .before .before .args .prices)) (now (c .before .before .before .before .before .before .before .before .before .before .before .before .args .file)) _ _ (c .before .before .before .before .before .before .before .load .ensures) (c .before .before .before .before .before .enum-told .given .1)) (c .before .before .measure-script .ensures)
+returns c = reported-as (file-read (now (c .before .before .before .before .before .before .before .before .before .before .before .before .args .prices)) (now (c .before .before .before .before .before .before .before .before .before .before .before .before .args .file)) _ _ _ (c .before .before .before .before .before .before .before .read .ensures) (c .before .before .before .before .before .enum-told .given .1)) (c .before .before .measure-script .ensures)
 
 returns-2 : tie.Need-returns-2
-returns-2 c = reported-no (file-refused (now (c .before .before .before .before .before .before .before .before .args .prices)) (now (c .before .before .before .before .before .before .before .before .args .file)) _ _ (c .before .before .before .load .ensures) (c .before .verdict .given .1))
+returns-2 c = reported-no (file-refused (now (c .before .before .before .before .before .before .before .before .args .prices)) (now (c .before .before .before .before .before .before .before .before .args .file)) _ _ _ (c .before .before .before .read .ensures) (c .before .verdict .given .1))
 
 pub report-file-spec : {M : Type 1} → statement M
 report-file-spec =

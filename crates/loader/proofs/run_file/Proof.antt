@@ -7,13 +7,13 @@ use Rattle.loader.proofs.run_file.Statement.{statement}
 use Rattle.loader.proofs.run_file.Tie as tie
 
 run-script-requires : tie.Need-run-script-requires
-run-script-requires c κs = (file-given (now (c .before .before .before .before .before .before .before .before .before .args .prices)) (now (c .before .before .before .before .before .before .before .before .before .args .file)) _ _ (c .before .before .before .before .load .ensures) (c .before .before .enum-told .given .1), c .before .before .before .before .before .before .before .before .before .pre)
+run-script-requires c κs = (file-given (now (c .before .before .before .before .before .before .before .before .before .args .prices)) (now (c .before .before .before .before .before .before .before .before .before .args .file)) _ _ _ (c .before .before .before .before .read .ensures) (c .before .before .enum-told .given .1), c .before .before .before .before .before .before .before .before .before .pre)
 
 returns : tie.Need-returns
-returns c = ran-same _ _ _ (file-read (now (c .before .before .before .before .before .before .before .before .before .before .before .args .prices)) (now (c .before .before .before .before .before .before .before .before .before .before .before .args .file)) _ _ (c .before .before .before .before .before .before .load .ensures) (c .before .before .before .before .enum-told .given .1)) (c .before .run-script .ensures .0)
+returns c = ran-same _ _ _ (file-read (now (c .before .before .before .before .before .before .before .before .before .before .before .args .prices)) (now (c .before .before .before .before .before .before .before .before .before .before .before .args .file)) _ _ _ (c .before .before .before .before .before .before .read .ensures) (c .before .before .before .before .enum-told .given .1)) (c .before .run-script .ensures .0)
 
 returns-2 : tie.Need-returns-2
-returns-2 c = ran-no _ _ _ (file-refused (now (c .before .before .before .before .before .before .before .before .before .args .prices)) (now (c .before .before .before .before .before .before .before .before .before .args .file)) _ _ (c .before .before .before .before .load .ensures) (c .before .before .verdict .given .1)) (c .refusal .ensures)
+returns-2 c = ran-no _ _ _ (file-refused (now (c .before .before .before .before .before .before .before .before .before .args .prices)) (now (c .before .before .before .before .before .before .before .before .before .args .file)) _ _ _ (c .before .before .before .before .read .ensures) (c .before .before .verdict .given .1)) (c .refusal .ensures)
 
 pub run-file-spec : {M : Type 1} → statement M
 run-file-spec =

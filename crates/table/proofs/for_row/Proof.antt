@@ -8,7 +8,7 @@ returns c =
     let s = c .before .before .before .before .before .operand-code .ensures in
     let n = c .before .before .before .before .operand-code2 .ensures in
     let m = c .before .before .before .change-code .ensures in
-    for-stands _ _ _ _ _ _ _ _ _ _ _ _ _ (c .first .ensures) (s .small) (s .same) (c .before .comparison-code .ensures .same) (n .same) (m .same)
+    for-stands _ _ _ _ _ _ _ _ _ _ _ _ _ (c .first .ensures) (s .small) (s .same) (c .before .comparison-code .ensures) (n .same) (m .same)
 
 pub for-row-spec : {M : Type 1} → statement M
 for-row-spec =

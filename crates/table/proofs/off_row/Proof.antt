@@ -8,7 +8,7 @@ use Rattle.table.proofs.off_row.Tie as tie
 returns : tie.Need-returns
 returns c =
     let s = c .before .before .before in
-    off-stands _ _ _ _ _ _ _ _ (c .before .first .ensures) (c .before .before .comparison-code .ensures .same) (omega (arith, s .fits .w))
+    off-stands _ _ _ _ _ _ _ _ (c .before .first .ensures) (c .before .before .comparison-code .ensures) (omega (arith, s .fits .w))
     (simp (toZ-ofZ (s .fits .k)) at (c .shifted .ensures))
 
 pub off-row-spec : {M : Type 1} → statement M
