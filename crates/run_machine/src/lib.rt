@@ -1,228 +1,218 @@
-// The run of a script as a machine over its rows: one row a step. It is over before any price that does not fit what is left.
-use rules::Comparison;
-use rules::Kind;
-use rules::Operand;
+// One step of the machine: a row of the table, or the test of the loop that ends there.
+use rules::Ending;
 use rules::Prices;
-use rules::Row;
 use run_actions::Machine;
-ghost use mathlib.Core.Path.{_≡_};
-ghost use mathlib.Core.Bool.{true, false};
+use run_actions::going;
+use run_actions::on;
+use run_actions::put;
+use table::codes;
+use table::partner_at;
+use table::variable_at;
+use values::stored;
 ghost use mathlib.Core.List.{List};
-ghost use Prim.Native.Nat.{ℕ, _<_};
-ghost use lib.ListN.{length};
-ghost use Rattle.rules.specs.Scripts.{ExprBelow};
-ghost use Rattle.rules.specs.Blocks.{RowKind, holdTest, viewOf, exprOf, kindOf};
-ghost use Rattle.rules.specs.Written.{WrittenOperand};
-ghost use Rattle.rules_machine.specs.RowMachine.{tallyOf, tests};
-ghost use Rattle.run_actions.specs.States.{endTo, forTo, rowTo, endRest, forRest, rowRest, testIn, hasStep, awaits, isGoing, phaseOf, Acts, ActsIn, StepsIn, Room, Testable, Doable, Fitting};
+ghost use Prim.Native.Nat.{ℕ};
+ghost use Rattle.run_machine.specs.Steps.{scriptIn, AtRow, AtTest, Stepped};
 
-// The test of a hold: is its flag not 0?
-fn flag_row(
+// The value of an operand by its kind, or PAST.
+fn value_of(kind: u32, x: u32, text: &[u8], store: &[i32]) -> i64 {
+    values::value_of(text, table::operand(kind, x), store)
+}
+
+// A set, of an operand of this kind.
+fn set_row(
+    kind: u32,
     m: Machine,
+    rows: &[u32],
     prices: Prices,
-    h: usize,
-    e: usize,
-    v: u8,
     text: &[u8],
-    store: &[i32],
-    counts: &mut [[u64; 3]; 256],
-) -> Machine
-    requires { ⌜ (h < 256) × (e < 256) × (v < length (now store)) × Room (now counts) ⌝ }
-    ensures { λ r. ⌜ Acts m r (now (store .entry)) (now (store .entry)) (tallyOf (now (counts .entry))) (tallyOf (now (counts .exit))) (tests prices h e (holdTest v)) × (length (now (counts .exit)) ≡ 256) ⌝ }
-{
-    let zero = Operand::Constant(0);
-    run_actions::test_row(
+    store: &mut [i32],
+) -> Machine {
+    let i = m.row;
+    let z = value_of(kind, table::start_at(rows, i), text, store);
+    put(
         m,
-        prices,
-        h,
-        e,
-        v,
-        Comparison::Different,
-        zero,
-        text,
+        prices.arithmetic,
+        i,
+        variable_at(rows, i),
+        z,
+        i + 1,
+        false,
         store,
-        counts,
     )
 }
 
-// The `end` of the block that row h begins: a loop's step, if it is a for that has not stepped yet, and its test.
-fn end_row(
-    m: Machine,
-    head: Row,
-    h: usize,
-    prices: Prices,
-    text: &[u8],
-    store: &mut [i32],
-    counts: &mut [[u64; 3]; 256],
-) -> Machine
-    requires { ⌜ Doable (now text) (m .row) h (head .kind) (now store) (now counts) ⌝ }
-    ensures { λ r. ⌜ (((rows : List RowKind) (matching-end matching-head : ℕ → ℕ) → ActsIn m r (now (store .entry)) (now (store .exit)) (tallyOf (now (counts .entry))) (tallyOf (now (counts .exit))) (endTo prices rows matching-end matching-head (viewOf (kindOf (now (text .entry)) (head .kind))) h (m .row) (phaseOf (m .testing))) (endRest prices rows matching-end matching-head (viewOf (kindOf (now (text .entry)) (head .kind))) h (m .row) (phaseOf (m .testing)))) × (length (now (counts .exit)) ≡ 256)) ⌝ }
-{
-    let kind = head.kind;
-    let e = m.row;
-    match kind {
-        Kind::For(v, _, c, x, change) => {
-            if m.testing {
-                run_actions::test_row(m, prices, h, e, v, c, x, text, store, counts)
-            } else {
-                let n = run_actions::move_row(m, prices, h, v, change, e, true, store);
-                if run_actions::waits(n) {
-                    run_actions::test_row(n, prices, h, e, v, c, x, text, store, counts)
-                } else {
-                    n
-                }
-            }
-        }
-        Kind::Do(v, c, x) => run_actions::test_row(m, prices, h, e, v, c, x, text, store, counts),
-        Kind::While(v, c, x) => run_actions::test_row(
-            m,
-            prices,
-            h,
-            e,
-            v,
-            c,
-            x,
-            text,
-            store,
-            counts,
-        ),
-        Kind::Hold(v) => flag_row(m, prices, h, e, v, text, store, counts),
-        _ => run_actions::on(m, m.left, e + 1, false),
-    }
+// An arithmetic row, of a change of this kind.
+fn move_row(kind: u32, m: Machine, rows: &[u32], prices: Prices, store: &mut [i32]) -> Machine {
+    let i = m.row;
+    let v = variable_at(rows, i);
+    let change = table::change(kind, table::number_at(rows, i));
+    let z = values::changed(change, stored(v, store));
+    put(m, prices.arithmetic, i, v, z, i + 1, false, store)
 }
 
-// A for's head: its start, and its first test.
+// A for's step, and on to its test.
+fn step_row(m: Machine, rows: &[u32], prices: Prices, store: &mut [i32]) -> Machine {
+    let i = m.row;
+    let v = variable_at(rows, i);
+    let z = values::changed(table::change_at(rows, i), stored(v, store));
+    put(
+        m,
+        prices.arithmetic,
+        partner_at(rows, i),
+        v,
+        z,
+        i,
+        true,
+        store,
+    )
+}
+
+// What an off's flag holds after it: 0 if the comparison of the watched variable is true.
+fn held(rows: &[u32], i: usize, store: &[i32]) -> i64 {
+    let w = stored(table::watched_at(rows, i), store);
+    let k = table::constant(table::limit_value_at(rows, i));
+    if run_actions::passes(table::comparison_at(rows, i), w as i64, k as i64) {
+        return 0;
+    }
+    stored(variable_at(rows, i), store) as i64
+}
+
+// An off.
+fn off_row(m: Machine, rows: &[u32], prices: Prices, store: &mut [i32]) -> Machine {
+    let i = m.row;
+    let z = held(rows, i, store);
+    put(
+        m,
+        prices.arithmetic,
+        i,
+        variable_at(rows, i),
+        z,
+        i + 1,
+        false,
+        store,
+    )
+}
+
+// A for's start, of an operand of this kind, and on to its test.
 fn for_row(
+    kind: u32,
     m: Machine,
-    e: usize,
-    v: u8,
-    y: Operand,
-    c: Comparison,
-    x: Operand,
+    rows: &[u32],
     prices: Prices,
     text: &[u8],
     store: &mut [i32],
-    counts: &mut [[u64; 3]; 256],
-) -> Machine
-    requires { ⌜ Testable (now text) (m .row) e v x (now store) (now counts) × WrittenOperand (now text) y × ExprBelow (length (now store)) (exprOf (now text) y) ⌝ }
-    ensures { λ r. ⌜ ActsIn m r (now (store .entry)) (now (store .exit)) (tallyOf (now (counts .entry))) (tallyOf (now (counts .exit))) (forTo prices (m .row) e v (exprOf (now (text .entry)) y) c (exprOf (now (text .entry)) x) (m .testing)) (forRest prices (m .row) v (exprOf (now (text .entry)) y) (m .testing)) × (length (now (counts .exit)) ≡ 256) ⌝ }
-{
-    let h = m.row;
-    if m.testing {
-        return run_actions::test_row(m, prices, h, e, v, c, x, text, store, counts);
+    counts: &mut [[u64; 3]; 16],
+) -> Machine {
+    let i = m.row;
+    let e = partner_at(rows, i);
+    let z = value_of(kind, table::start_at(rows, i), text, store);
+    let n = put(
+        m,
+        prices.arithmetic,
+        i,
+        variable_at(rows, i),
+        z,
+        e,
+        true,
+        store,
+    );
+    if going(n) {
+        run_actions::begin(table::loop_at(rows, e), counts);
     }
-    run_actions::begin(h, counts);
-    let n = run_actions::set_row(m, prices, h, v, y, h, true, text, store);
-    if run_actions::waits(n) {
-        run_actions::test_row(n, prices, h, e, v, c, x, text, store, counts)
-    } else {
-        n
-    }
+    n
 }
 
-// One row: `e` closes the block that it begins, or it closes the block that row h, `head`, begins.
-pub fn step(
+// A do, and on to its first row.
+fn do_row(m: Machine, rows: &[u32], counts: &mut [[u64; 3]; 16]) -> Machine {
+    let k = table::loop_at(rows, partner_at(rows, m.row));
+    run_actions::begin(k, counts);
+    run_actions::count_turn(k, counts);
+    on(m, m.left, m.row + 1, false)
+}
+
+// A while or a hold, and on to its test.
+fn while_row(m: Machine, rows: &[u32], counts: &mut [[u64; 3]; 16]) -> Machine {
+    let e = partner_at(rows, m.row);
+    run_actions::begin(table::loop_at(rows, e), counts);
+    on(m, m.left, e, true)
+}
+
+// The row of a machine by its op. A loop's test is left for `test_row`.
+pub fn act(
     m: Machine,
-    row: Row,
-    e: usize,
-    head: Row,
-    h: usize,
+    rows: &[u32],
     prices: Prices,
     text: &[u8],
     store: &mut [i32],
     picks: &[u8],
-    counts: &mut [[u64; 3]; 256],
+    counts: &mut [[u64; 3]; 16],
 ) -> Machine
-    requires { ⌜ Doable (now text) e (m .row) (row .kind) (now store) (now counts) × Doable (now text) (m .row) h (head .kind) (now store) (now counts) ⌝ }
-    ensures { λ r. ⌜ (((rows : List RowKind) (matching-end matching-head : ℕ → ℕ) → Fitting rows matching-end matching-head (m .row) e h (viewOf (kindOf (now (text .entry)) (head .kind))) → StepsIn m r (now (store .entry)) (now (store .exit)) (now (picks .entry)) (tallyOf (now (counts .entry))) (tallyOf (now (counts .exit))) (rowTo prices rows matching-end matching-head (viewOf (kindOf (now (text .entry)) (row .kind))) (m .row) (phaseOf (m .testing))) (rowRest prices rows matching-end matching-head (viewOf (kindOf (now (text .entry)) (row .kind))) (m .row) (phaseOf (m .testing)))) × (length (now (counts .exit)) ≡ 256)) ⌝ }
+    requires { ⌜ (count : ℕ) × AtRow (now text) (now rows) count m (now store) (now counts) ⌝ }
+    ensures { λ r. ⌜ ((count : ℕ) → AtRow (now (text .entry)) (now (rows .entry)) count m (now (store .entry)) (now (counts .entry)) → Stepped prices (scriptIn (now (text .entry)) (now (rows .entry)) count) m r (now (store .entry)) (now (store .exit)) (now (picks .entry)) (now (counts .entry)) (now (counts .exit))) ⌝ }
 {
-    let kind = row.kind;
     let i = m.row;
-    match kind {
-        Kind::End => end_row(m, head, h, prices, text, store, counts),
-        Kind::Else => run_actions::on(m, m.left, e + 1, false),
-        Kind::Pick => run_actions::pick_row(m, prices, e + 1, picks),
-        Kind::Set(v, x) => run_actions::set_row(m, prices, i, v, x, i + 1, false, text, store),
-        Kind::Move(v, change) => run_actions::move_row(
-            m,
-            prices,
-            i,
-            v,
-            change,
-            i + 1,
-            false,
-            store,
-        ),
-        Kind::Cue(_) => run_actions::cue_row(m, prices),
-        Kind::While(v, c, x) => {
-            run_actions::begin(i, counts);
-            run_actions::test_row(m, prices, i, e, v, c, x, text, store, counts)
-        }
-        Kind::Do(_, _, _) => {
-            run_actions::begin(i, counts);
-            run_actions::count_turn(i, counts);
-            run_actions::on(m, m.left, i + 1, false)
-        }
-        Kind::For(v, y, c, x, _) => for_row(m, e, v, y, c, x, prices, text, store, counts),
-        Kind::Off(v, w, c, k) => run_actions::off_row(m, prices, v, w, c, k, store),
-        Kind::Hold(v) => {
-            run_actions::begin(i, counts);
-            flag_row(m, prices, i, e, v, text, store, counts)
-        }
+    match table::op_at(rows, i) {
+        codes::END => on(m, m.left, i + 1, false),
+        codes::END_TEST => on(m, m.left, i, true),
+        codes::END_FOR => step_row(m, rows, prices, store),
+        codes::ELSE => on(m, m.left, partner_at(rows, i) + 1, false),
+        codes::SET_CONSTANT => set_row(codes::CONSTANT, m, rows, prices, text, store),
+        codes::SET_VARIABLE => set_row(codes::VARIABLE, m, rows, prices, text, store),
+        codes::SET_EXPRESSION => set_row(codes::EXPRESSION, m, rows, prices, text, store),
+        codes::PICK => run_actions::pick_row(m, prices, partner_at(rows, i) + 1, picks),
+        codes::FOR_CONSTANT => for_row(codes::CONSTANT, m, rows, prices, text, store, counts),
+        codes::FOR_VARIABLE => for_row(codes::VARIABLE, m, rows, prices, text, store, counts),
+        codes::FOR_EXPRESSION => for_row(codes::EXPRESSION, m, rows, prices, text, store, counts),
+        codes::CUE => run_actions::cue_row(m, prices),
+        codes::MOVE_ADD => move_row(codes::ADD, m, rows, prices, store),
+        codes::MOVE_SUB => move_row(codes::SUB, m, rows, prices, store),
+        codes::MOVE_MUL => move_row(codes::MUL, m, rows, prices, store),
+        codes::MOVE_DIV => move_row(codes::DIV, m, rows, prices, store),
+        codes::OFF => off_row(m, rows, prices, store),
+        codes::DO => do_row(m, rows, counts),
+        _ => while_row(m, rows, counts),
     }
 }
 
-// The test of the for at row h, whose `end` is row e.
-fn for_test(
-    m: Machine,
-    kind: Kind,
-    h: usize,
-    e: usize,
-    prices: Prices,
-    text: &[u8],
-    store: &[i32],
-    counts: &mut [[u64; 3]; 256],
-) -> Machine
-    requires { ⌜ Doable (now text) e h kind (now store) (now counts) × (hasStep (viewOf (kindOf (now text) kind)) ≡ true) ⌝ }
-    ensures { λ r. ⌜ Acts m r (now (store .entry)) (now (store .entry)) (tallyOf (now (counts .entry))) (tallyOf (now (counts .exit))) (tests prices h e (testIn (viewOf (kindOf (now (text .entry)) kind)))) × (length (now (counts .exit)) ≡ 256) × (isGoing (r .status) ≡ true → r .testing ≡ false) ⌝ }
-{
-    match kind {
-        Kind::For(v, _, c, x, _) => run_actions::test_row(
-            m,
-            prices,
-            h,
-            e,
-            v,
-            c,
-            x,
-            text,
-            store,
-            counts,
-        ),
-        _ => m,
+// The limit of the loop that ends at row i, or PAST. An expression is told by one bit.
+fn limit_of(rows: &[u32], i: usize, text: &[u8], store: &[i32]) -> i64 {
+    let x = table::limit_value_at(rows, i);
+    if table::limit_kind_at(rows, i) == codes::CONSTANT {
+        return table::constant(x) as i64;
     }
+    if table::limit_is_expression(rows, i) {
+        return value_of(codes::EXPRESSION, x, text, store);
+    }
+    value_of(codes::VARIABLE, x, text, store)
 }
 
-// One row of a machine that waits for a for's test: that test, at the for's head or at its `end`. The rows are those of `step`.
-pub fn test_again(
+// The test of the loop that ends at the machine's row.
+pub fn test_row(
     m: Machine,
-    row: Row,
-    e: usize,
-    head: Row,
-    h: usize,
+    rows: &[u32],
     prices: Prices,
     text: &[u8],
     store: &[i32],
-    counts: &mut [[u64; 3]; 256],
+    counts: &mut [[u64; 3]; 16],
 ) -> Machine
-    requires { ⌜ Doable (now text) e (m .row) (row .kind) (now store) (now counts) × Doable (now text) (m .row) h (head .kind) (now store) (now counts) × (m .testing ≡ true) × (awaits (viewOf (kindOf (now text) (row .kind))) (viewOf (kindOf (now text) (head .kind))) ≡ true) ⌝ }
-    ensures { λ r. ⌜ (((rows : List RowKind) (matching-end matching-head : ℕ → ℕ) (picks : List ℕ) → Fitting rows matching-end matching-head (m .row) e h (viewOf (kindOf (now (text .entry)) (head .kind))) → StepsIn m r (now (store .entry)) (now (store .entry)) picks (tallyOf (now (counts .entry))) (tallyOf (now (counts .exit))) (rowTo prices rows matching-end matching-head (viewOf (kindOf (now (text .entry)) (row .kind))) (m .row) (phaseOf (m .testing))) (rowRest prices rows matching-end matching-head (viewOf (kindOf (now (text .entry)) (row .kind))) (m .row) (phaseOf (m .testing)))) × (length (now (counts .exit)) ≡ 256) × (isGoing (r .status) ≡ true → r .testing ≡ false)) ⌝ }
+    requires { ⌜ (count : ℕ) × AtTest (now text) (now rows) count m (now store) (now counts) ⌝ }
+    ensures { λ r. ⌜ ((count : ℕ) (picks : List ℕ) → AtTest (now (text .entry)) (now (rows .entry)) count m (now (store .entry)) (now (counts .entry)) → Stepped prices (scriptIn (now (text .entry)) (now (rows .entry)) count) m r (now (store .entry)) (now (store .entry)) picks (now (counts .entry)) (now (counts .exit))) ⌝ }
 {
-    let kind = row.kind;
-    let begins = head.kind;
     let i = m.row;
-    match kind {
-        Kind::End => for_test(m, begins, h, i, prices, text, store, counts),
-        _ => for_test(m, kind, i, e, prices, text, store, counts),
+    let price = prices.test;
+    let left = m.left;
+    if left < price {
+        return run_actions::ended(m, left, Ending::Spent, partner_at(rows, i));
+    }
+    let limit = limit_of(rows, i, text, store);
+    if limit == values::PAST {
+        return run_actions::ended(m, left - price, Ending::Range, partner_at(rows, i));
+    }
+    let x = stored(variable_at(rows, i), store);
+    if run_actions::passes(table::comparison_at(rows, i), x as i64, limit) {
+        run_actions::count_turn(table::loop_at(rows, i), counts);
+        on(m, left - price, partner_at(rows, i) + 1, false)
+    } else {
+        on(m, left - price, i + 1, false)
     }
 }

@@ -37,7 +37,7 @@ pub fn constant(x: u32) -> i32
 }
 
 // An operand by its kind and value.
-fn operand(kind: u32, x: u32) -> Operand
+pub fn operand(kind: u32, x: u32) -> Operand
     ensures { λ r. ⌜ r ≡ operandIn kind x ⌝ }
 {
     if kind == codes::CONSTANT {
@@ -62,7 +62,7 @@ fn comparison(code: u32) -> Comparison
     }
 }
 
-fn change(kind: u32, c: u32) -> Change
+pub fn change(kind: u32, c: u32) -> Change
     ensures { λ r. ⌜ r ≡ changeIn kind c ⌝ }
 {
     match kind {
@@ -187,7 +187,7 @@ pub fn number_at(rows: &[u32], i: usize) -> u32
 }
 
 // The variable that an off watches.
-fn watched_at(rows: &[u32], i: usize) -> u8
+pub fn watched_at(rows: &[u32], i: usize) -> u8
     requires { ⌜ 4 * i + 3 < length (now rows) ⌝ }
     ensures { λ r. ⌜ r ≡ watchedIn (numbersAt (now (rows .entry)) i) ⌝ }
 {
