@@ -86,7 +86,7 @@ module _ (π : Prices) (d : ℕ) where
   -- from the state s and the counts c it goes on or ends, and so it does with d more ticks; or it waits, with less than a price
   data Step (s : State) (c : TurnCounts) : Next → Next → Type 0 where
     on : {m : Place} → m .now .left ≤ s .left → Above 1 c (m .tally) → Step s c (more m) (more (given d m))
-    ends : {e : Ending} {i : ℕ} {t : State} {c′ : TurnCounts} → Unspent e → t .left ≤ s .left → Step s c (over e i t c′) (over e i (plus d t) c′)
+    ends : {e : Ending} {i : ℕ} {t : State} → Unspent e → t .left ≤ s .left → Step s c (over e i t c) (over e i (plus d t) c)
     waits : {i : ℕ} {a : Next} → s .left < dearest π → Step s c (over Spent i s c) a
 
   step-chosen : {s : State} {c : TurnCounts} (t : Bool) {x y u v : Next} → Step s c x u → Step s c y v → Step s c (chosen t x y) (chosen t u v)
@@ -187,6 +187,14 @@ module _ (π : Prices) (rows : List RowKind) (matching-end matching-head : ℕ �
       spent (ends u l) = absurd u
       spent (waits l) = (refl, refl, l)
 
+  -- a run that is over has the counts of its last place
+  pub over-keeps : (m : Place) (e : Ending) (i : ℕ) (s : State) (c : TurnCounts) → next π rows matching-end matching-head m ≡ over e i s c → c ≡ m .tally
+  over-keeps m e i s c q = by (subst (λ x. Step π 0 (m .now) (m .tally) x (next π rows matching-end matching-head (given 0 m))) q (step-next π 0 rows matching-end matching-head m))
+    where
+      by : {e : Ending} {i : ℕ} {s t : State} {b c : TurnCounts} {y : Next} → Step π 0 t b (over e i s c) y → c ≡ b
+      by (ends u l) = refl
+      by (waits l) = refl
+
 -- ---- it runs until it finishes or waits
 module _ (π : Prices) (some-ticks : 1 ≤ π .test) (rows : List RowKind) (matching-end matching-head : ℕ → ℕ) (fit : Partners rows matching-end matching-head) where
   -- what is reached is reached with d more ticks, and d more are left
@@ -198,7 +206,7 @@ module _ (π : Prices) (some-ticks : 1 ≤ π .test) (rows : List RowKind) (matc
       by : {s : State} {c : TurnCounts} {x y : Next} → Step π d s c x y → steps π rows matching-end matching-head n x ≡ more p
           → ((w : Place) → steps π rows matching-end matching-head n (more w) ≡ more p → steps π rows matching-end matching-head n (more (given d w)) ≡ more (given d p)) → steps π rows matching-end matching-head n y ≡ more (given d p)
       by (on {m = w} l z) e ih = ih w e
-      by (ends {e = f} {i = i} {t = t} {c′ = c} u l) e ih = absurd (let z : _≡_ {A = ℕ} 0 1 = cc (steps-over π some-ticks rows matching-end matching-head fit n f i t c) in omega arith)
+      by (ends {e = f} {i = i} {t = t} u l) e ih = absurd (let z : _≡_ {A = ℕ} 0 1 = cc (steps-over π some-ticks rows matching-end matching-head fit n f i t _) in omega arith)
       by (waits {i = i} l) e ih = absurd (let z : _≡_ {A = ℕ} 0 1 = cc (steps-over π some-ticks rows matching-end matching-head fit n Spent i _ _) in omega arith)
 
   -- no step gains ticks

@@ -1,5 +1,3 @@
-pub mod StepGives
+pub mod Tests
 pub mod Loop
 pub mod Start
-pub mod Waiting
-pub mod Awaiting

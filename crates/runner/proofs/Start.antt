@@ -1,117 +1,99 @@
 -- The start of a run and its answer. Assumes nothing.
 use mathlib.Core.Path.{_≡_, refl, sym, _∙_, ap}
-use mathlib.Core.Bool.{Bool, true, false, not}
-use mathlib.Core.List.{List, [], _∷_}
-use Prim.Native.Nat.{ℕ, zero, suc, _+_, _*_, _≤_, _<_}
+use mathlib.Core.Bool.{false}
+use mathlib.Core.List.{List}
+use Prim.Native.Nat.{ℕ, zero, suc, _+_, _*_, _≤_, max}
 use native.Mathlib.Nat.{mul-le-mul}
-use native.Mathlib.Decide.{ℕ-discrete}
 use native.Mathlib.Omega.{arith}
-use lib.Dec.{T, ltb, ltb→lt, nltb→le}
-use lib.ListN.{length, getD, set, take, length-drop, List·getD-eq-default}
-use lib.Seq.{getD-set-same, getD-set-other}
+use lib.ListN.{length, getD, replicate, length-drop}
 use lib.IntN.{ℤ}
-use Rattle.rules.specs.declared.Row.{Row}
-use Rattle.rules.specs.Blocks.{kindsOf}
 use Rattle.rules.specs.declared.Prices.{Prices}
+use Rattle.rules.specs.Blocks.{RowKind}
 use Rattle.rules.specs.Answers.{storeList}
-use Rattle.rules_machine.specs.RowMachine.{TurnCounts, tallyOf, more, over, steps, start, rank}
+use Rattle.rules.specs.Calls.{loopRows}
 use Rattle.rules.specs.Scripts.{Script, Legal, storeOf}
-use Rattle.rules_machine.proofs.RowMachineRuns.{row-answer}
+use Rattle.rules.proofs.Laws.{list-of-store}
 use Rattle.rules.proofs.TreeOf.{tree-of}
-use Rattle.rules.proofs.Laws.{kinds-first, list-of-store}
-use Rattle.run_pairs.specs.declared.Tables.{Tables}
-use Rattle.run_pairs.specs.Tables.{tableOf, TablesOf}
+use Rattle.rules_machine.specs.RowMachine.{more, over, steps, start, rank, pairs}
+use Rattle.rules_machine.proofs.PairsIn.{partners}
+use Rattle.rules_machine.proofs.RowMachineRuns.{row-answer}
 use Rattle.run_actions.specs.declared.Machine.{Machine}
 use Rattle.run_actions.specs.declared.Status.{Status}
 use Rattle.run_actions.specs.declared.Status.the-variants.{Going, Over}
-use Rattle.run_actions.specs.States.{stateOf, placeOf, byStatus, isGoing}
-use Rattle.runner.specs.Runs.{Runnable, roomy-more, MayStep, RanToEnd}
-use Rattle.runner.specs.Answered.{runOf, Cleared, ranBy, MayRun, Answered}
-use Rattle.runner.proofs.Loop.{partners-of}
+use Rattle.run_actions.specs.States.{countIn, tallyOf, stateOf, placeOf, byStatus, isGoing}
+use Rattle.run_actions.proofs.Heads.{none-counted}
+use Rattle.run_machine.specs.Steps.{Runnable, scriptIn}
+use Rattle.runner.specs.Runs.{placeIn, MayGo, WentOn}
+use Rattle.runner.specs.Answered.{runOf, Cleared, ranBy, MayRun, AnsweredBy, Answered}
+use Rattle.runner.proofs.Loop.{size-of}
 
 -- a script that passes the questions 4 to 7 may run
 pub runnable : (script : Script) → Legal script → Runnable (length (script .ranges)) (script .rows)
 runnable script ok = record { limits = ok .numbers .1; below = ok .variables; closed = ok .closed }
 
--- ---- counts set to 0
-abbrev pub zero-row : List ℕ
-zero-row = 0 ∷ (0 ∷ (0 ∷ []))
-
--- the first n rows
-pub record Zeros (counts : List (List ℕ)) (n : ℕ) : Type 0 where
-  pub zero : (k : ℕ) → k < n → getD counts k [] ≡ zero-row
-
-pub zeros-none : (l : List (List ℕ)) → Zeros l 0
-zeros-none l = record { zero = λ k h. absurd (omega arith) }
-
-pub zeros-more : (l : List (List ℕ)) (n : ℕ) → n < length l → Zeros l n → Zeros (set l n zero-row) (n + 1)
-zeros-more l n h z = record { zero = λ k q. by k q (ℕ-discrete k n) }
+-- an array of counts as it is made
+pub cleared : Cleared (replicate 16 (replicate 3 0))
+cleared = record { zero = λ k j. row 16 k j; long = refl }
   where
-    by : (k : ℕ) → k < n + 1 → Dec (k ≡ n) → getD (set l n zero-row) k [] ≡ zero-row
-    by k q (yes e) = rw e (getD-set-same l n _ [] h)
-    by k q (no f) = getD-set-other l n k _ [] f ∙ z .zero k (omega arith)
+    column : (n j : ℕ) → _≡_ {A = ℕ} (getD (replicate n 0) j 0) 0
+    column zero j = refl
+    column (suc n) zero = refl
+    column (suc n) (suc j) = column n j
 
-zero-column : (j : ℕ) → getD zero-row j 0 ≡ 0
-zero-column zero = refl
-zero-column (suc zero) = refl
-zero-column (suc (suc zero)) = refl
-zero-column (suc (suc (suc j))) = refl
+    row : (n k j : ℕ) → _≡_ {A = ℕ} (countIn (replicate n (replicate 3 0)) k j) 0
+    row zero k j = refl
+    row (suc n) zero j = column 3 j
+    row (suc n) (suc k) j = row n k j
 
-pub zeros-all : (l : List (List ℕ)) → length l ≡ 256 → Zeros l 256 → Cleared l
-zeros-all l h z = record { zero = λ i. record { turns = λ p. at p 0 i; sum = λ p. at p 1 i; most = λ p. at p 2 i }; long = h }
-  where
-    at : (p j : ℕ) → getD (getD l p []) j 0 ≡ 0
-    at p j = by (ltb p 256) (ltb→lt p 256) (nltb→le p 256)
-      where
-        by : (b : Bool) → (T b → p < 256) → (T (not b) → 256 ≤ p) → getD (getD l p []) j 0 ≡ 0
-        by true f g = ap (λ r. getD r j 0) (z .zero p (f tt)) ∙ zero-column j
-        by false f g = ap (λ r. getD r j 0) (List·getD-eq-default l [] {n = p} (omega (arith, g tt)))
+-- the tally of such counts
+pub no-turns : (heads : List ℕ) (counts : List (List ℕ)) → Cleared counts → tallyOf heads counts ≡ record { turns = λ _. 0; sum = λ _. 0; most = λ _. 0 }
+no-turns heads counts clear =
+    let z = none-counted heads counts (clear .zero) in
+    λ i. record { turns = λ p. z p 0 i; sum = λ p. z p 1 i + z p 0 i; most = λ p. max (z p 2 i) (z p 0 i) }
 
--- ---- the start
 abbrev pub startOf : ℕ → Machine
 startOf allowance = record { row = 0; testing = false; left = allowance; used = 0; status = Going }
 
-module _ {text : List ℕ} (π : Prices) (rows : List Row) (count : ℕ) (full : length rows ≡ 256) (store : List ℤ) (picks : List ℕ) (allowance : ℕ) (given : MayRun text π rows count store allowance)
-    (t : Tables) (found : TablesOf (take count (kindsOf text rows)) t) (counts : List (List ℕ)) (clear : Cleared counts) where
-  pub ready : MayStep text π rows count t (startOf allowance) store picks counts
+module _ {text : List ℕ} (π : Prices) (t : List ℕ) (count : ℕ) (store : List ℤ) (picks : List ℕ) (allowance : ℕ) (given : MayRun text π t count store allowance) (counts : List (List ℕ)) (clear : Cleared counts) where
+  abbrev rows : List RowKind
+  rows = scriptIn text t count
+
+  abbrev heads : List ℕ
+  heads = loopRows 0 rows
+
+  pub ready : MayGo text π t count (startOf allowance) store picks counts
   unfolding rank
   ready =
-      let n = kinds-first text count rows (omega (arith, given .size)) in
-      let R = length (take count (kindsOf text rows)) in
-      let small : 2 * R + 2 ≤ 514 = omega (arith, given .size) in
-      let most-steps = mul-le-mul (given .ticks) small in
+      let n = size-of (given .script) in
+      let few : 2 * length rows + 2 ≤ 514 = omega (arith, given .script .size) in
+      let most-steps = mul-le-mul (given .ticks) few in
       record {
-        size = given .size;
+        script = given .script;
         price = given .price;
-        written = given .written;
-        runs = given .runs;
-        found = found;
-        long = clear .long;
-        room = roomy-more {m = placeOf (startOf allowance) store picks (tallyOf counts)} λ p. (omega (arith, ap (λ (c : TurnCounts). c .turns p) (clear .zero)), omega (arith, ap (λ (c : TurnCounts). c .sum p) (clear .zero)));
+        going = refl;
+        waits = λ e. absurd (let z : _≡_ {A = ℕ} 0 1 = cc in omega arith);
         used = omega arith;
+        long = clear .long;
+        room = λ p. let z = none-counted heads counts (clear .zero) p in (omega (arith, z 0), omega (arith, z 0, z 1));
       }
 
   -- ---- the answer
-  begins : more (placeOf (startOf allowance) store picks (tallyOf counts)) ≡ more (start (record { store = storeOf store; left = allowance; picks = picks }))
-  begins = ap (λ c. more (placeOf (startOf allowance) store picks c)) (clear .zero)
-
-  module _ (r : Machine) (store′ : List ℤ) (counts′ : List (List ℕ)) (same : length store′ ≡ length store)
-      (done : RanToEnd π (take count (kindsOf text rows)) t (startOf allowance) r store store′ picks (tallyOf counts) (tallyOf counts′)) where
+  module _ (r : Machine) (store′ : List ℤ) (counts′ : List (List ℕ)) (same : length store′ ≡ length store) (done : WentOn π rows (startOf allowance) r store store′ picks counts counts′) where
     abbrev answered : Status → Type 0
-    answered s = Answered (runOf π (take count (kindsOf text rows)) store picks allowance) (ranBy s r allowance) (length store) store′ (tallyOf counts′)
+    answered s = AnsweredBy (runOf π rows store picks allowance) (ranBy s r allowance) (length store) store′ (tallyOf heads counts′)
 
     by-status : (s : Status) → r .status ≡ s → isGoing s ≡ false → answered s
     by-status Going e f = absurd (let z : _≡_ {A = ℕ} 0 1 = cc in omega arith)
     by-status (Over x i) e f =
-        let ks = take count (kindsOf text rows) in
-        let matching-end = tableOf (t .end) in
-        let matching-head = tableOf (t .head) in
-        let (n, closed) = given .runs .closed in
-        let (tree, whole) = tree-of ks n closed in
-        let fit = partners-of ks n closed t found in
-        let over-at : steps π ks matching-end matching-head (done .n) (more (start (record { store = storeOf store; left = allowance; picks = picks }))) ≡ over x i (stateOf r store′ picks) (tallyOf counts′)
-        = ap (steps π ks matching-end matching-head (done .n)) (sym begins) ∙ done .same ∙ ap (λ z. byStatus z r store′ picks (tallyOf counts′)) e in
-        let a = row-answer π (given .price) ks matching-end matching-head fit tree whole (storeOf store) picks allowance (done .n) x i (stateOf r store′ picks) (tallyOf counts′) over-at in
+        let matching-end = pairs rows (length rows) .end in
+        let matching-head = pairs rows (length rows) .head in
+        let (n, closed) = given .script .runs .closed in
+        let (tree, whole) = tree-of rows n closed in
+        let begins : more (placeIn rows (startOf allowance) store picks counts) ≡ more (start (record { store = storeOf store; left = allowance; picks = picks }))
+        = ap (λ c. more (placeOf (startOf allowance) store picks c)) (no-turns heads counts clear) in
+        let over-at : steps π rows matching-end matching-head (done .n) (more (start (record { store = storeOf store; left = allowance; picks = picks }))) ≡ over x i (stateOf r store′ picks) (tallyOf heads counts′)
+        = ap (steps π rows matching-end matching-head (done .n)) (sym begins) ∙ done .same ∙ ap (λ z. byStatus z r store′ picks (tallyOf heads counts′)) e in
+        let a = row-answer π (given .price) rows matching-end matching-head (partners rows tree whole) tree whole (storeOf store) picks allowance (done .n) x i (stateOf r store′ picks) (tallyOf heads counts′) over-at in
         record {
           ending = a .ending;
           row = a .row;
@@ -122,5 +104,5 @@ module _ {text : List ℕ} (π : Prices) (rows : List Row) (count : ℕ) (full :
           mosts = a .mosts;
         }
 
-    pub answers : answered (r .status)
-    answers = by-status (r .status) refl (done .over)
+    pub answers : Answered π rows allowance picks (ranBy (r .status) r allowance) store store′ counts′
+    answers = record { told = by-status (r .status) refl (done .over); room = done .room }

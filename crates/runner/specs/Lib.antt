@@ -1,4 +1,3 @@
 -- The run in code, as `rules` has it.
 pub mod Runs
-pub mod Pauses
 pub mod Answered
