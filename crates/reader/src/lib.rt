@@ -63,7 +63,8 @@ fn if_read(verdict: Verdict, n: usize) -> usize
     }
 }
 
-// A file that was read: all questions have yes, or the first no; the number of variables; and the first `count` rows. A refused file has none.
+// A file that was read: all questions have yes, or the first no; the number of variables; and the first `count` rows. A refused file has
+// none.
 pub struct ReadFile {
     pub verdict: Verdict,
     pub vars: usize,
@@ -85,7 +86,8 @@ const NONE_OPEN: Blocks = Blocks {
     loops: 0,
 };
 
-// A file's script, or its first no. The ranges are the pairs of the lent array. Each file has one array of rows, refused or not: no copy where ways meet.
+// A file's script, or its first no. The ranges are the pairs of the lent array. Each file has one array of rows, refused or not: no copy
+// where ways meet.
 pub fn read(file: &[u8], ranges: &mut [[i32; 2]; 16]) -> ReadFile
     ensures { λ r. ⌜ ReadAs (now (file .entry)) (fileScript (now (file .entry))) (loadedOf r) (r .rows) (now (ranges .exit)) ⌝ }
 {
