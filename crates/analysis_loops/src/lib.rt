@@ -4,7 +4,7 @@ use analysis_intervals::Interval;
 use analysis_intervals::bounds;
 use analysis_intervals::interval_at;
 use analysis_steps::body_moves;
-use analysis_table::kind_at;
+use table::kind_at;
 use analysis_trips::Lead;
 use analysis_trips::Trip;
 use analysis_trips::chase_trip;
@@ -25,7 +25,7 @@ ghost use Rattle.analysis_trips.specs.Found.{tripOf};
 ghost use Rattle.analysis_loops.specs.Loops.{tripFrom, LoopAt};
 ghost use Rattle.analysis_ways.specs.Ways.{SmallWay};
 ghost use lib.ListN.{length};
-ghost use Rattle.analysis_table.specs.Code.{rowsOf};
+ghost use Rattle.table.specs.Code.{rowsOf};
 ghost use Rattle.analysis_steps.specs.Body.{AtLoop};
 
 // The trip by that way, from the ranges at the loop's start and the tested variable's own.
@@ -86,7 +86,7 @@ pub struct Loop {
 // The loop at row i, from the ranges at its start.
 pub fn loop_at(
     text: &[u8],
-    rows: &[[u32; 9]; 256],
+    rows: &[u32],
     count: usize,
     i: usize,
     begun: &[[i32; 2]; 16],

@@ -1,5 +1,5 @@
 // The open blocks along the rows: how deep a row stands, and how often what stands there is passed in all.
-use analysis_table::Tag;
+use table::Tag;
 use min_max::smaller_size;
 ghost use mathlib.Core.Path.{_≡_};
 ghost use Prim.Native.Nat.{_*_, _-_, _≤_, min};

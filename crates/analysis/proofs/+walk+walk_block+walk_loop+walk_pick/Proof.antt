@@ -9,8 +9,9 @@ use mathlib.Core.List.{[]}
 use lib.ListN.{length}
 use Rattle.rules.specs.Steps.{starts}
 use Rattle.rules.specs.Questions.{loopsVerdict}
-use Rattle.analysis_table.specs.Code.{kindAt, rowsOf}
-use Rattle.analysis_table.specs.Shapes.{pastElse}
+use Rattle.table.specs.Code.{kindAt, rowsOf}
+use Rattle.table.specs.Shapes.{pastElse}
+use Rattle.table.proofs.Laws.{row-in}
 use Rattle.analysis_steps.specs.Tree.{blockAt, endAt, headOf, formOf, testOf}
 use Rattle.analysis_steps.specs.Sets.{setOf}
 use Rattle.analysis_steps.proofs.Laws.{PickIs, LoopIs}
@@ -45,8 +46,8 @@ use Rattle.analysis_entries.proofs.leave_loop.Reads as leave-loop-reads
 use Rattle.analysis_tallies.proofs.leave_pick.Reads as leave-pick-reads
 use Rattle.analysis_tallies.proofs.past_row.Reads as past-row-reads
 use Rattle.analysis_tallies.proofs.restarted.Reads as restarted-reads
-use Rattle.analysis_table.proofs.past_else.Reads as past-else-reads
-use Rattle.analysis_table.proofs.shape_at.Reads as shape-at-reads
+use Rattle.table.proofs.past_else.Reads as past-else-reads
+use Rattle.table.proofs.shape_at.Reads as shape-at-reads
 use Rattle.analysis.proofs.+walk+walk_block+walk_loop+walk_pick.{statement}
 use Rattle.analysis.proofs.+walk+walk_block+walk_loop+walk_pick.Tie.{close}
 
@@ -132,7 +133,7 @@ pick-1 : (t : ℕ) (c : pick-lts.Else1 (pick-given t) (pick-at-t t) walk-pick.Po
 pick-1 t c = pick-is t (c .before .before .before .before .before .before .before .before) (c .before .before .walk .ensures .whole (c .if1 .left) .place)
 
 pick-past-else-requires : (t : ℕ) → pick-lts.Need-past-else-requires (pick-given t) (pick-at-t t) walk-pick.Post
-pick-past-else-requires t c κs = let k = pick-1 t c refl refl in let f = c .before .before .before .before .before .before .before .before .pre .1 .walk .ready .few in omega arith
+pick-past-else-requires t c κs = let k = pick-1 t c refl refl in let f = c .before .before .before .before .before .before .before .before .pre .1 .walk .ready .reach in row-in _ _ (omega arith)
 
 pick-walk-requires-2 : (t : ℕ) → pick-lts.Need-walk-requires-2 (pick-given t) (pick-at-t t) walk-pick.Post
 pick-walk-requires-2 t c κs =
@@ -248,7 +249,7 @@ loop-leave-loop-requires t c κs =
     let n = e .ensures .whole l in
     let d = e .ensures .exit .ends in
     let f = w .ready .few in
-    (omega (arith, s .pre .1 .inside), e .ensures .exit .small, omega arith, w .small, c .before .before .before .walk .ensures .whole (c .before .if2 .left) .small, e .ensures .begun l .long, w .prices, w .fine, omega (arith, n .ran .tests, n .fine .few))
+    (row-in _ _ (omega (arith, s .pre .1 .inside, w .ready .reach)), e .ensures .exit .small, omega arith, w .small, c .before .before .before .walk .ensures .whole (c .before .if2 .left) .small, e .ensures .begun l .long, w .prices, w .fine, omega (arith, n .ran .tests, n .fine .few))
 
 loop-returns-3 : (t : ℕ) → loop-lts.Need-returns-3 (loop-given t) (loop-at-t t) walk-loop.Post
 loop-returns-3 t c =
@@ -282,7 +283,7 @@ loop-add-walk t c = let f = c .before .before .before .before .before .before .b
 
 -- ---- a pick or a loop
 block-shape-at-requires : (t : ℕ) → block-lts.Need-shape-at-requires (block-given t) (block-at-t t) walk-block.Post
-block-shape-at-requires t c κs = let a = c .before .pre .1 .0 in let f = a .walk .ready .few in let l = a .inside in omega arith
+block-shape-at-requires t c κs = let a = c .before .pre .1 .0 in let f = a .walk .ready .reach in let l = a .inside in row-in _ _ (omega arith)
 
 block-walk-pick-requires : (t : ℕ) → block-lts.Need-walk-pick-requires (block-given t) (block-at-t t) walk-block.Post
 block-walk-pick-requires t c κs =
@@ -306,10 +307,10 @@ walk-loop-holds : (t : ℕ) → walk-lts.Need-loop-holds (walk-given t) (walk-at
 walk-loop-holds t c = let w = c .before .pre .1 in (search needs, record { walk = begin _ _ _ _ _ (w .ready .within); small = w .small; long = w .long })
 
 walk-step-row-requires : (t : ℕ) → walk-lts.Need-step-row-requires (walk-given t) (walk-at-t t) walk.Post Inv μ
-walk-step-row-requires t c κs = let k = c .before .before .before .before .before .before .before .pre .1 .ready in let l = c .before .before .before .before .loop-test .taken in (search needs, k .fine _ l, sym (c .before .before .before .shape-at .ensures) ∙ c .before .enum-told .given .1, c .before .before .before .before .before .loop .inv .0, k .written _ l)
+walk-step-row-requires t c κs = let k = c .before .before .before .before .before .before .before .pre .1 .ready in let l = c .before .before .before .before .loop-test .taken in (search (needs, row-in), k .fine _ l, sym (c .before .before .before .shape-at .ensures) ∙ c .before .enum-told .given .1, c .before .before .before .before .before .loop .inv .0, k .written _ l)
 
 walk-past-row-requires : (t : ℕ) → walk-lts.Need-past-row-requires (walk-given t) (walk-at-t t) walk.Post Inv μ
-walk-past-row-requires t c κs = let w = c .before .before .before .before .before .before .before .before .pre .1 in (search needs, sym (c .before .before .before .before .shape-at .ensures) ∙ c .before .before .enum-told .given .1, w .prices, w .fine, c .before .before .before .before .before .before .loop .inv .1 .small)
+walk-past-row-requires t c κs = let w = c .before .before .before .before .before .before .before .before .pre .1 in (search (needs, row-in), sym (c .before .before .before .before .shape-at .ensures) ∙ c .before .before .enum-told .given .1, w .prices, w .fine, c .before .before .before .before .before .before .loop .inv .1 .small)
 
 walk-loop-again : (t : ℕ) → walk-lts.Need-loop-again (walk-given t) (walk-at-t t) walk.Post Inv μ
 walk-loop-again t c = (c .before .step-row .ensures .long, go-plain (c .before .before .before .before .before .before .before .loop .inv .1) (c .before .before .before .before .before .before .loop-test .taken) (c .before .before .before .before .before .before .before .before .before .pre .1 .ready .built) (sym (c .before .before .before .before .before .shape-at .ensures) ∙ c .before .before .before .enum-told .given .1) (c .before .step-row .ensures .value) (c .past-row .ensures _ _))
@@ -370,7 +371,7 @@ pub +walk+walk-block+walk-loop+walk-pick-spec : {M : Type 1} → statement M
     Inv
     μ
     (walk-loop-holds t)
-    (λ c κs. search needs) (λ c. search needs)
+    (λ c κs. search (needs, row-in)) (λ c. search needs)
     (walk-step-row-requires t)
     (walk-past-row-requires t)
     (walk-add-i t)

@@ -7,8 +7,8 @@ use Prim.Native.Nat.{_≤_}
 use lib.ListN.{length}
 use denote.Ref.{now}
 use Rattle.rules.specs.Report.{linesOf}
-use Rattle.analysis_table.specs.Code.{rowsOf}
-use Rattle.analysis_table.proofs.Laws.{rows-length}
+use Rattle.table.specs.Code.{rowsOf}
+use Rattle.table.proofs.Laws.{rows-length}
 use Rattle.analysis_ticks.specs.Capped.{overOf}
 use Rattle.analysis.proofs.Legals.{ready, few-in}
 use Rattle.analysis.proofs.Results.{result}

@@ -3,6 +3,7 @@ use borrow.Author.Needs.{needs}
 use native.Mathlib.Omega.{arith}
 use Rattle.ints.proofs.Parts.{ints}
 use mathlib.Core.Path.{refl, sym, subst, _∙_}
+use Rattle.table.proofs.Laws.{row-in}
 use Rattle.analysis_intervals.specs.Env.{envOf}
 use Rattle.analysis.specs.Fold.{IsBlock}
 use Rattle.analysis.proofs.Going.{block-shape}
@@ -11,7 +12,7 @@ use Rattle.analysis.proofs.own_ticks.Statement.{statement}
 use Rattle.analysis.proofs.own_ticks.Tie as tie
 
 shape-at-requires : tie.Need-shape-at-requires
-shape-at-requires c κs = let f = c .before .pre .0 .few in let l = c .before .pre .1 in omega arith
+shape-at-requires c κs = let f = c .before .pre .0 .reach in let l = c .before .pre .1 in row-in _ _ (omega arith)
 
 walk-block-requires : tie.Need-walk-block-requires
 walk-block-requires c κs =

@@ -7,10 +7,10 @@ use Prim.Native.Nat.{ℕ, _-_, _≤_, _<_}
 use lib.ListN.{length}
 use Rattle.rules.specs.Blocks.{Block, done}
 use Rattle.rules.specs.Scripts.{scriptOf}
-use Rattle.analysis_table.specs.declared.Shape.{Shape}
-use Rattle.analysis_table.specs.Code.{kindAt, rowsOf}
-use Rattle.analysis_table.specs.Shapes.{shapeOf}
-use Rattle.analysis_table.proofs.Laws.{rows-length}
+use Rattle.table.specs.declared.Shape.{Shape}
+use Rattle.table.specs.Code.{kindAt, rowsOf}
+use Rattle.table.specs.Shapes.{shapeOf}
+use Rattle.table.proofs.Laws.{rows-length, row-in}
 use Rattle.analysis_steps.specs.Tree.{blockAt, endAt, Ready}
 use Rattle.analysis_steps.proofs.Walking as walking
 use Rattle.analysis_steps.proofs.Walking.{begin, plain-next, plain-row, at-close}
@@ -53,13 +53,13 @@ below : (c : tie.In-loop Inv μ) → c .before .loop .i < c .before .before .bef
 below c = omega (arith, c .loop-test .taken, c .before .before .if1 .left)
 
 shape-at-requires : tie.Need-shape-at-requires Inv μ
-shape-at-requires c κs = omega (arith, below c, c .before .before .before .before .pre .1)
+shape-at-requires c κs = omega (arith, below c, c .before .before .before .before .pre .2)
 
 step-row-requires : tie.Need-step-row-requires Inv μ
 step-row-requires c κs =
     let l = below (c .before .before .before .before) in
     let k = ready-at (c .before .before .before .before .before .before .before .before) l in
-    (omega (arith, l, k .few), k .fine _ l, sym (c .before .before .before .shape-at .ensures) ∙ c .before .enum-told .given .1, c .before .before .before .before .before .loop .inv .0, k .written _ l)
+    (row-in _ _ (omega (arith, l, k .reach)), k .fine _ l, sym (c .before .before .before .shape-at .ensures) ∙ c .before .enum-told .given .1, c .before .before .before .before .before .loop .inv .0, k .written _ l)
 
 add-i : tie.Need-add-i Inv μ
 add-i c = omega (arith, below (c .before .before .before .before .before), c .before .before .before .before .before .before .before .before .before .pre .1)

@@ -6,7 +6,8 @@ use mathlib.Core.Path.{ap, _∙_}
 use Prim.Native.Nat.{_+_, _<_}
 use Rattle.rules.specs.Ranges.{atStart}
 use Rattle.rules.specs.Trips.{inside, outside}
-use Rattle.analysis_table.specs.Code.{kindAt, rowsOf}
+use Rattle.table.specs.Code.{kindAt, rowsOf}
+use Rattle.table.proofs.Laws.{row-in}
 use Rattle.analysis_steps.specs.Tree.{headOf, formOf, testOf, blockAt}
 use Rattle.analysis_steps.specs.Body.{bodyAt}
 use Rattle.analysis_steps.proofs.Laws.{LoopIs}
@@ -21,7 +22,7 @@ inside-count : (s : tie.Start) → s .args .i < s .args .count
 inside-count s = let h = s .pre .before in let k = s .pre .inside in omega arith
 
 kind-at-requires : tie.Need-kind-at-requires
-kind-at-requires c κs = let s = c .before .before in let l = inside-count s in let f = s .pre .ready .few in omega arith
+kind-at-requires c κs = let s = c .before .before in let l = inside-count s in let f = s .pre .ready .reach in row-in _ _ (omega arith)
 
 at-start-requires : tie.Need-at-start-requires
 at-start-requires c κs =

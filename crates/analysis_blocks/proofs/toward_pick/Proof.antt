@@ -7,8 +7,9 @@ use Prim.Native.Nat.{ℕ, _+_, _≤_}
 use Rattle.rules.specs.Blocks.{viewOf, kindOf}
 use Rattle.rules.specs.Ranges.{join}
 use mathlib.Core.List.{[]}
-use Rattle.analysis_table.specs.Code.{kindAt, rowsOf}
-use Rattle.analysis_table.specs.Shapes.{pastElse}
+use Rattle.table.specs.Code.{kindAt, rowsOf}
+use Rattle.table.specs.Shapes.{pastElse}
+use Rattle.table.proofs.Laws.{row-in}
 use Rattle.analysis_steps.specs.Tree.{endAt}
 use Rattle.analysis_steps.proofs.Laws.{PickIs}
 use Rattle.analysis_steps.proofs.Walking.{ready, pick-at}
@@ -40,7 +41,7 @@ returns c =
     record { low = omega arith; high = let h = s .pre .before in omega arith; ends = omega (arith, c .if1 .taken, p); long = s .pre .long; part = part-is (pick-is s p refl refl .block) refl pick-first }
 
 past-else-requires : tie.Need-past-else-requires
-past-else-requires c κs = let s = c .before .before .before .before .before in let f = s .pre .ready .few in let u = pick-is s (c .before .after .ensures .place) refl refl in omega (arith, u .inside)
+past-else-requires c κs = let s = c .before .before .before .before .before in let f = s .pre .ready .reach in let u = pick-is s (c .before .after .ensures .place) refl refl in row-in _ _ (omega (arith, u .inside))
 
 after-requires-2 : tie.Need-after-requires-2
 after-requires-2 c κs = let s = c .before .before .before .before .before .before .before .before in ready (s .pre .ready) (pick-is s (c .before .before .before .before .after .ensures .place) (c .before .before .past-else .ensures) refl .some)

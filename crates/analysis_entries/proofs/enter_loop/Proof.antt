@@ -12,7 +12,8 @@ use Rattle.rules.specs.Steps.{starts}
 use Rattle.rules.specs.Ranges.{atStart}
 use Rattle.rules.specs.Trips.{turnsOf, innerOf, outerOf}
 use Rattle.rules.specs.Questions.{ofTrip}
-use Rattle.analysis_table.specs.Code.{kindAt, rowsOf}
+use Rattle.table.specs.Code.{kindAt, rowsOf}
+use Rattle.table.proofs.Laws.{row-in}
 use Rattle.analysis_steps.specs.Tree.{formOf, testOf}
 use Rattle.analysis_steps.specs.Sets.{setOf}
 use Rattle.analysis_intervals.specs.Env.{envOf}
@@ -139,7 +140,7 @@ pub enter-loop-spec : {M : Type 1} → statement M
 enter-loop-spec =
     tie.close
     (tie.spec
-    (λ c κs. search needs)
+    (λ c κs. search (needs, row-in))
     at-start-requires
     loop-at-requires
     (λ c κs. search needs) (λ c κs. search needs) (λ c. search needs) (λ c κs. search needs)

@@ -7,7 +7,8 @@ use Rattle.rules.specs.Steps.{step}
 use Rattle.rules.specs.Ranges.{bounds, isDo, isHold}
 use Rattle.rules_steps.specs.Ends.{EndsWithin}
 use Rattle.rules.specs.Trips.{Trip, keeps}
-use Rattle.analysis_table.specs.Code.{kindAt, rowsOf}
+use Rattle.table.specs.Code.{kindAt, rowsOf}
+use Rattle.table.proofs.Laws.{row-in}
 use Rattle.analysis_steps.specs.Tree.{formOf, testOf}
 use Rattle.analysis_steps.specs.Body.{bodyAt}
 use Rattle.analysis_intervals.specs.Env.{envOf}
@@ -65,7 +66,7 @@ pub loop-at-spec : {M : Type 1} → statement M
 loop-at-spec =
     tie.close
     (tie.spec
-    (λ c κs. search needs)
+    (λ c κs. search (needs, row-in))
     (λ c κs. rw (c .kind-at .ensures) (c .before .before .pre .0 .ready .fine _ (c .before .before .pre .0 .inside)))
     (λ c κs. (c .before .before .before .pre .0, c .head-of .ensures [] .small))
     (λ c κs. c .before .before .head-of .ensures [] .small)

@@ -5,6 +5,7 @@ use mathlib.Core.Path.{sym, _∙_}
 use mir.Syntax.{w32}
 use mir.Val.{SFits}
 use mir.Facts.{toZ-ofZ}
+use Rattle.table.proofs.Laws.{row-in}
 use Rattle.analysis_only_rows.proofs.Soles.{off-reads, change-is}
 use Rattle.analysis_only_rows.proofs.sole_at.Statement.{statement}
 use Rattle.analysis_only_rows.proofs.sole_at.Tie as tie
@@ -27,4 +28,4 @@ returns-3 c =
     record { value = sym (rw (sym (c .before .kind-at .ensures)) (change-is (s .before .args .v) _ (now (s .before .args .text)) _ (c .match .keys3) _)); small = tt }
 
 pub sole-at-spec : {M : Type 1} → statement M
-sole-at-spec = tie.close (tie.spec (λ c κs. search needs) (λ c. search needs) set-at-requires (λ c. search needs) read-at-requires (λ c. c .set-at .ensures) (λ c. c .read-at .ensures) returns-3)
+sole-at-spec = tie.close (tie.spec (λ c κs. search (needs, row-in)) (λ c. search needs) set-at-requires (λ c. search needs) read-at-requires (λ c. c .set-at .ensures) (λ c. c .read-at .ensures) returns-3)

@@ -5,8 +5,8 @@ use Prim.Native.Nat.{ℕ, _-_, _<_}
 use mathlib.Core.Path.{_≡_, refl, sym, _∙_}
 use lib.ListN.{length}
 use Rattle.rules.specs.Trips as model
-use Rattle.analysis_table.specs.Code.{kindAt, rowsOf}
-use Rattle.analysis_table.specs.Shapes.{pastElse}
+use Rattle.table.specs.Code.{kindAt, rowsOf}
+use Rattle.table.specs.Shapes.{pastElse}
 use Rattle.analysis_steps.specs.Tree.{endAt, headOf}
 use Rattle.analysis_steps.proofs.Laws.{PickIs, LoopIs}
 use Rattle.analysis_steps.proofs.Walking.{Walking, ready, begin, pick-at, loop-at, plain-row, pick-row, loop-row, at-close, at-last}
@@ -19,8 +19,9 @@ use Rattle.analysis_ranges.proofs.+after.Lts-after as lts
 use Rattle.analysis_ranges.proofs.after_loop.Reads as after-loop-reads
 use Rattle.analysis_transfer.proofs.joined.Reads as joined-reads
 use Rattle.analysis_transfer.proofs.step_row.Reads as step-row-reads
-use Rattle.analysis_table.proofs.past_else.Reads as past-else-reads
-use Rattle.analysis_table.proofs.shape_at.Reads as shape-at-reads
+use Rattle.table.proofs.past_else.Reads as past-else-reads
+use Rattle.table.proofs.shape_at.Reads as shape-at-reads
+use Rattle.table.proofs.Laws.{row-in}
 use Rattle.analysis_ranges.proofs.+after.{statement}
 use Rattle.analysis_ranges.proofs.+after.Tie.{close}
 
@@ -58,7 +59,7 @@ loop-holds : (t : ℕ) → lts.Need-loop-holds (given t) (here t) after.Post Inv
 loop-holds t c = (search needs, begin _ _ _ _ _ (c .before .pre .1 .within))
 
 step-row-requires : (t : ℕ) → lts.Need-step-row-requires (given t) (here t) after.Post Inv μ
-step-row-requires t c κs = (search needs, c .before .before .before .before .before .before .before .pre .1 .fine _ (c .before .before .before .before .loop-test .taken), sym (c .before .before .before .shape-at .ensures) ∙ c .before .enum-told .given .1, c .before .before .before .before .before .loop .inv .0, c .before .before .before .before .before .before .before .pre .1 .written _ (c .before .before .before .before .loop-test .taken))
+step-row-requires t c κs = (search (needs, row-in), c .before .before .before .before .before .before .before .pre .1 .fine _ (c .before .before .before .before .loop-test .taken), sym (c .before .before .before .shape-at .ensures) ∙ c .before .enum-told .given .1, c .before .before .before .before .before .loop .inv .0, c .before .before .before .before .before .before .before .pre .1 .written _ (c .before .before .before .before .loop-test .taken))
 
 loop-again : (t : ℕ) → lts.Need-loop-again (given t) (here t) after.Post Inv μ
 unfolding model.after
@@ -68,7 +69,7 @@ after-requires : (t : ℕ) → lts.Need-after-requires (given t) (here t) after.
 after-requires t c κs = (search needs, ready (c .before .before .before .before .before .before .before .pre .1) (search needs))
 
 past-else-requires : (t : ℕ) → lts.Need-past-else-requires (given t) (here t) after.Post Inv μ
-past-else-requires t c κs = let k = pick-1 t (c) in search needs
+past-else-requires t c κs = let k = pick-1 t (c) in search (needs, row-in)
 
 after-requires-2 : (t : ℕ) → lts.Need-after-requires-2 (given t) (here t) after.Post Inv μ
 after-requires-2 t c κs = let k = pick-1 t (c .before .before) in let e = c .before .past-else .ensures in (search needs, ready (c .before .before .before .before .before .before .before .before .before .before .pre .1) (search needs))
@@ -119,7 +120,7 @@ pub +after-spec : {M : Type 1} → statement M
     Inv
     μ
     (loop-holds t)
-    (λ c κs. search needs) (λ c. search needs)
+    (λ c κs. search (needs, row-in)) (λ c. search needs)
     (step-row-requires t)
     (λ c. search needs) (λ c. search needs)
     (loop-again t)

@@ -3,7 +3,8 @@ use denote.Ref.{now}
 use mathlib.Core.Path.{ap, _∙_}
 use Rattle.rules.specs.Ranges.{atStart}
 use Rattle.rules.specs.Trips.{outside}
-use Rattle.analysis_table.specs.Code.{kindAt, rowsOf}
+use Rattle.table.specs.Code.{kindAt, rowsOf}
+use Rattle.table.proofs.Laws.{row-in}
 use Rattle.analysis_steps.specs.Tree.{formOf, testOf}
 use Rattle.analysis_steps.specs.Body.{bodyAt}
 use Rattle.analysis_intervals.specs.Env.{envOf}
@@ -41,4 +42,4 @@ returns c =
     }
 
 pub after-loop-spec : {M : Type 1} → statement M
-after-loop-spec = tie.close (tie.spec (λ c κs. search needs) at-start-requires loop-at-requires outside-requires returns)
+after-loop-spec = tie.close (tie.spec (λ c κs. search (needs, row-in)) at-start-requires loop-at-requires outside-requires returns)

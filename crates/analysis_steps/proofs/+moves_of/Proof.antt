@@ -8,8 +8,9 @@ use Rattle.rules_steps.specs.declared.Step.the-variants.{Unknown}
 use Rattle.rules_steps.specs.Joins.{then}
 use Rattle.rules.specs.Steps.{rowStep}
 use Rattle.analysis_row_steps.proofs.Ends.{ends-only}
-use Rattle.analysis_table.specs.Code.{kindAt, rowsOf}
-use Rattle.analysis_table.specs.Shapes.{pastElse, plainOf}
+use Rattle.table.specs.Code.{kindAt, rowsOf}
+use Rattle.table.specs.Shapes.{pastElse, plainOf}
+use Rattle.table.proofs.Laws.{row-in}
 use Rattle.analysis_steps.specs.Tree.{endAt, headOf}
 use Rattle.analysis_steps.proofs.Laws.{PickIs, LoopIs}
 use Rattle.analysis_steps.proofs.Walking.{ready, pick-at, loop-at}
@@ -27,10 +28,10 @@ use Rattle.analysis_row_steps.proofs.only.Reads as only-reads
 use Rattle.analysis_steps.proofs.add_all.Reads as add-all-reads
 use Rattle.analysis_steps.proofs.add_row.Reads as add-row-reads
 use Rattle.analysis_steps.proofs.has.Reads as has-reads
-use Rattle.analysis_table.proofs.past_else.Reads as past-else-reads
+use Rattle.table.proofs.past_else.Reads as past-else-reads
 use Rattle.analysis_steps.proofs.row_step.Reads as row-step-reads
 use Rattle.analysis_steps.proofs.sets_it.Reads as sets-it-reads
-use Rattle.analysis_table.proofs.shape_at.Reads as shape-at-reads
+use Rattle.table.proofs.shape_at.Reads as shape-at-reads
 use Rattle.analysis_steps.proofs.+moves_of.{statement}
 use Rattle.analysis_steps.proofs.+moves_of.Tie.{close}
 
@@ -69,10 +70,10 @@ loop-holds : (t : ℕ) → lts.Need-loop-holds (given t) (here t) moves-of.Post 
 loop-holds t c = begins _ _ _ _ _ (c .before .pre .1 .0) (c .before .pre .1 .2)
 
 add-row-requires : (t : ℕ) → lts.Need-add-row-requires (given t) (here t) moves-of.Post Inv μ
-add-row-requires t c κs = (search needs, c .before .before .before .before .before .before .before .pre .1 .0 .fine _ (c .before .before .before .before .loop-test .taken), c .before .before .before .before .before .loop .inv .long)
+add-row-requires t c κs = (search (needs, row-in), c .before .before .before .before .before .before .before .pre .1 .0 .fine _ (c .before .before .before .before .loop-test .taken), c .before .before .before .before .before .loop .inv .long)
 
 row-step-requires : (t : ℕ) → lts.Need-row-step-requires (given t) (here t) moves-of.Post Inv μ
-row-step-requires t c κs = (search needs, c .before .before .before .before .before .before .before .before .before .before .pre .1 .0 .fine _ (c .before .before .before .before .before .before .before .loop-test .taken))
+row-step-requires t c κs = (search (needs, row-in), c .before .before .before .before .before .before .before .before .before .before .pre .1 .0 .fine _ (c .before .before .before .before .before .before .before .loop-test .taken))
 
 then-requires : (t : ℕ) → lts.Need-then-requires (given t) (here t) moves-of.Post Inv μ
 then-requires t c κs = (room _ _ _ _ (c .before .before .before .before .before .before .before .before .before .before .before .pre .1 .0) (c .before .before .before .before .before .before .before .before .before .loop .inv .moves), rw (c .row-step .ensures (now (c .before .before .before .before .before .before .before .before .before .before .before .args .text))) (row-room (c .before .before .before .before .before .before .before .before .before .before .before .args .v) (now (c .before .before .before .before .before .before .before .before .before .before .before .args .text)) (kindAt (rowsOf (now (c .before .before .before .before .before .before .before .before .before .before .before .args .rows))) (c .before .before .before .before .before .before .before .before .before .loop .i)) (c .before .before .before .before .before .before .before .before .before .before .before .pre .1 .0 .fine _ (c .before .before .before .before .before .before .before .before .loop-test .taken))))
@@ -90,7 +91,7 @@ moves-of-requires : (t : ℕ) → lts.Need-moves-of-requires (given t) (here t) 
 moves-of-requires t c κs = (search needs, (ready (c .before .before .before .before .before .before .before .pre .1 .0) (search needs), search needs, c .before .before .before .before .before .loop .inv .long))
 
 past-else-requires : (t : ℕ) → lts.Need-past-else-requires (given t) (here t) moves-of.Post Inv μ
-past-else-requires t c κs = let k = pick-1 t (c) in search needs
+past-else-requires t c κs = let k = pick-1 t (c) in search (needs, row-in)
 
 moves-of-requires-2 : (t : ℕ) → lts.Need-moves-of-requires-2 (given t) (here t) moves-of.Post Inv μ
 moves-of-requires-2 t c κs = let k = pick-1 t (c .before .before) in let e = c .before .past-else .ensures in (search needs, (ready (c .before .before .before .before .before .before .before .before .before .before .pre .1 .0) (search needs), search needs, c .before .before .moves-of .ensures .long))
@@ -111,7 +112,7 @@ moves-of-requires-3 : (t : ℕ) → lts.Need-moves-of-requires-3 (given t) (here
 moves-of-requires-3 t c κs = (search needs, (ready (c .before .before .before .before .before .before .before .pre .1 .0) (search needs), search needs, search needs))
 
 add-row-requires-2 : (t : ℕ) → lts.Need-add-row-requires-2 (given t) (here t) moves-of.Post Inv μ
-add-row-requires-2 t c κs = (search needs, c .before .before .before .before .before .before .before .before .before .pre .1 .0 .fine _ (c .before .before .before .before .before .before .loop-test .taken), c .before .moves-of3 .ensures .long)
+add-row-requires-2 t c κs = (search (needs, row-in), c .before .before .before .before .before .before .before .before .before .pre .1 .0 .fine _ (c .before .before .before .before .before .before .loop-test .taken), c .before .moves-of3 .ensures .long)
 
 then-requires-3 : (t : ℕ) → lts.Need-then-requires-3 (given t) (here t) moves-of.Post Inv μ
 then-requires-3 t c κs = (room _ _ _ _ (c .before .before .before .before .before .before .before .before .before .before .before .before .pre .1 .0) (c .before .before .before .before .before .before .before .before .before .before .loop .inv .moves), rw (c .only .ensures) (ends-only 512 (c .before .has .result) Unknown tt))
@@ -142,9 +143,9 @@ pub +moves-of-spec : {M : Type 1} → statement M
     Inv
     μ
     (loop-holds t)
-    (λ c κs. search needs) (λ c. search needs)
+    (λ c κs. search (needs, row-in)) (λ c. search needs)
     (add-row-requires t)
-    (λ c κs. search needs)
+    (λ c κs. search (needs, row-in))
     (row-step-requires t)
     (then-requires t)
     (λ c. search needs) (λ c. search needs)

@@ -2,7 +2,8 @@
 use mathlib.Core.Path.{refl, ap, _∙_}
 use Rattle.rules_steps.specs.Joins.{then}
 use denote.Ref.{now}
-use Rattle.analysis_table.specs.Code.{kindAt, rowsOf}
+use Rattle.table.specs.Code.{kindAt, rowsOf}
+use Rattle.table.proofs.Laws.{row-in}
 use Rattle.analysis_steps.proofs.Walking.{ready}
 use Rattle.analysis_steps.proofs.Sets.{clear, no-set}
 use Rattle.analysis_steps.proofs.Stepping.{row-room}
@@ -24,7 +25,7 @@ body-moves-spec =
     (tie.spec
     (λ c. search needs)
     (λ c κs. (ready (c .before .before .pre .0 .ready) (search needs), search needs, search needs))
-    (λ c κs. (search needs, c .before .before .before .before .pre .0 .ready .fine _ (c .before .before .before .before .pre .0 .inside), c .before .moves-of .ensures .long))
-    (λ c κs. (search needs, c .before .before .before .before .before .pre .0 .ready .fine _ (c .before .before .before .before .before .pre .0 .inside)))
+    (λ c κs. (search (needs, row-in), c .before .before .before .before .pre .0 .ready .fine _ (c .before .before .before .before .pre .0 .inside), c .before .moves-of .ensures .long))
+    (λ c κs. (search (needs, row-in), c .before .before .before .before .before .pre .0 .ready .fine _ (c .before .before .before .before .before .pre .0 .inside)))
     then-requires
     returns)

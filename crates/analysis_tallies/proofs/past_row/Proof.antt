@@ -7,8 +7,8 @@ use mathlib.Core.Bool.{not, _&&_}
 use mathlib.Core.List.{[]}
 use Prim.Native.Nat.{_+_, _*_, _≤_}
 use denote.Ref.{now}
-use Rattle.analysis_table.specs.Code.{kindAt, rowsOf}
-use Rattle.analysis_table.specs.Shapes.{plainOf}
+use Rattle.table.specs.Code.{kindAt, rowsOf}
+use Rattle.table.specs.Shapes.{plainOf}
 use Rattle.analysis_ticks.specs.Capped.{capped}
 use Rattle.analysis_tallies.proofs.Laws.{state-is}
 use Rattle.analysis_tallies.proofs.Laws.{price-small}

@@ -5,18 +5,18 @@ use borrow.Author.Needs.{needs}
 use Rattle.rules.specs.Bounds.{Fine}
 use Rattle.rules.specs.Written.{Written}
 use Rattle.rules.specs.Ranges.{afterRow}
-use Rattle.analysis_table.specs.declared.Shape.{Shape}
-use Rattle.analysis_table.specs.declared.Tag.{Tag}
-use Rattle.analysis_table.specs.Code.{kindAt, kindBy, rowsOf, numbersAt}
-use Rattle.analysis_table.specs.Shapes.{shapeOf, plainOf}
-use Rattle.analysis_table.proofs.Laws.{kind-is}
+use Rattle.table.specs.declared.Shape.{Shape}
+use Rattle.table.specs.declared.Tag.{Tag}
+use Rattle.table.specs.Code.{kindAt, kindBy, rowsOf, numbersAt}
+use Rattle.table.specs.Shapes.{shapeOf, plainOf}
+use Rattle.table.proofs.Laws.{kind-is}
 use Rattle.analysis_intervals.specs.Env.{envOf}
 use Rattle.analysis_transfer.proofs.Envs.{after-set, after-move, after-off, after-other}
 use Rattle.analysis_transfer.proofs.step_row.Statement.{statement}
 use Rattle.analysis_transfer.proofs.step_row.Tie as tie
 
 is-set : (c : tie.After-enum-told) → let s = c .before .before .before .before .args in kindAt (rowsOf (now (s .rows))) (s .i) ≡ kindBy Tag.Set (numbersAt (now (s .rows)) (s .i))
-is-set c = let s = c .before .before .before .before .args in kind-is (now (s .rows)) (s .i) (c .before .before .tag-at .ensures) (c .enum-told .given .1)
+is-set c = let s = c .before .before .before .before in kind-is (now (s .args .rows)) (s .args .i) (s .pre .0) (c .before .before .tag-at .ensures) (c .enum-told .given .1)
 
 fine-set : (c : tie.After-enum-told) → let s = c .before .before .before .before .args in Fine (kindBy Tag.Set (numbersAt (now (s .rows)) (s .i)))
 fine-set c = subst Fine (is-set c) (c .before .before .before .before .pre .1)
@@ -25,13 +25,13 @@ written-set : (c : tie.After-enum-told) → let s = c .before .before .before .b
 written-set c = subst (Written (now (c .before .before .before .before .args .text))) (is-set c) (c .before .before .before .before .pre .4)
 
 is-move : (c : tie.After-enum-told2) → let s = c .before .before .before .before .args in kindAt (rowsOf (now (s .rows))) (s .i) ≡ kindBy Tag.Move (numbersAt (now (s .rows)) (s .i))
-is-move c = let s = c .before .before .before .before .args in kind-is (now (s .rows)) (s .i) (c .before .before .tag-at .ensures) (c .enum-told2 .given .1)
+is-move c = let s = c .before .before .before .before in kind-is (now (s .args .rows)) (s .args .i) (s .pre .0) (c .before .before .tag-at .ensures) (c .enum-told2 .given .1)
 
 fine-move : (c : tie.After-enum-told2) → let s = c .before .before .before .before .args in Fine (kindBy Tag.Move (numbersAt (now (s .rows)) (s .i)))
 fine-move c = subst Fine (is-move c) (c .before .before .before .before .pre .1)
 
 is-off : (c : tie.After-enum-told3) → let s = c .before .before .before .before .args in kindAt (rowsOf (now (s .rows))) (s .i) ≡ kindBy Tag.Off (numbersAt (now (s .rows)) (s .i))
-is-off c = let s = c .before .before .before .before .args in kind-is (now (s .rows)) (s .i) (c .before .before .tag-at .ensures) (c .enum-told3 .given .1)
+is-off c = let s = c .before .before .before .before in kind-is (now (s .args .rows)) (s .args .i) (s .pre .0) (c .before .before .tag-at .ensures) (c .enum-told3 .given .1)
 
 fine-off : (c : tie.After-enum-told3) → let s = c .before .before .before .before .args in Fine (kindBy Tag.Off (numbersAt (now (s .rows)) (s .i)))
 fine-off c = subst Fine (is-off c) (c .before .before .before .before .pre .1)
@@ -53,7 +53,7 @@ returns-4 : tie.Need-returns-4
 returns-4 c =
     let s = c .before .before in
     let ρ = envOf (now (s .before .args .r)) in
-    let e = kind-is (now (s .before .args .rows)) (s .before .args .i) (c .before .tag-at .ensures) refl in
+    let e = kind-is (now (s .before .args .rows)) (s .before .args .i) (s .before .pre .0) (c .before .tag-at .ensures) refl in
     record { long = s .before .pre .3; value = subst (λ k. ρ ≡ afterRow ρ (plainOf (now (s .before .args .text)) k)) (sym e) (after-other (now (s .before .args .text)) ρ (numbersAt (now (s .before .args .rows)) (s .before .args .i)) (c .before .tag-at .result) (c .match .keys4) (subst (λ k. shapeOf k ≡ Shape.Plain) e (s .before .pre .2))) }
 
 pub step-row-spec : {M : Type 1} → statement M

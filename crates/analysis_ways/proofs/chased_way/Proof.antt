@@ -10,7 +10,7 @@ use Rattle.rules_steps.specs.Ends.{EndsWithin}
 use Rattle.rules.specs.Ranges.{ordered, sort}
 use Rattle.rules.specs.Questions.{known}
 use Rattle.analysis_row_steps.proofs.Ends.{difference-ends}
-use Rattle.analysis_table.specs.Code.{kindAt, rowsOf}
+use Rattle.table.specs.Code.{kindAt, rowsOf}
 use Rattle.analysis_steps.specs.Tree.{testOf}
 use Rattle.analysis_steps.specs.Body.{bodyAt}
 use Rattle.analysis_ways.proofs.Ways.{chase-way}

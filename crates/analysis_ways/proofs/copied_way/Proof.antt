@@ -8,7 +8,7 @@ use Rattle.rules.specs.Steps.{step, isAdd, moving}
 use Rattle.rules.specs.Ranges.{sort, ordered}
 use Rattle.rules.specs.Trips.{own, copied}
 use Rattle.analysis_row_steps.proofs.Ends.{ends-more}
-use Rattle.analysis_table.specs.Code.{rowsOf}
+use Rattle.table.specs.Code.{rowsOf}
 use Rattle.analysis_steps.specs.Body.{bodyAt}
 use Rattle.analysis_ways.proofs.copied_way.Statement.{statement}
 use Rattle.analysis_ways.proofs.copied_way.Tie as tie

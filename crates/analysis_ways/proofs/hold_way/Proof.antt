@@ -10,7 +10,8 @@ use Prim.Native.Nat.{_+_}
 use Rattle.rules.specs.Expressions.{variable}
 use Rattle.rules.specs.Steps.{soleOf}
 use Rattle.rules.specs.Trips.{holdWay, wayOf}
-use Rattle.analysis_table.specs.Code.{kindAt, rowsOf}
+use Rattle.table.specs.Code.{kindAt, rowsOf}
+use Rattle.table.proofs.Laws.{row-in}
 use Rattle.analysis_only_rows.specs.declared.Sole.{Sole}
 use Rattle.analysis_steps.specs.Tree.{blockAt, formOf, testOf}
 use Rattle.analysis_steps.specs.Body.{bodyAt}
@@ -61,7 +62,7 @@ pub hold-way-spec : {M : Type 1} → statement M
 hold-way-spec =
     tie.close
     (tie.spec
-    (λ c κs. search needs)
+    (λ c κs. search (needs, row-in))
     (λ c κs. rw (c .kind-at .ensures) (c .before .before .pre .0 .ready .fine _ (c .before .before .pre .0 .inside)))
     (λ c. search needs)
     (λ c κs. (ready (c .before .before .before .pre .0 .ready) (search needs), c .head-of .ensures [] .small))

@@ -10,6 +10,7 @@ use Prim.Native.Nat.{ℕ}
 use Rattle.rules.specs.Steps.{assigns}
 use Rattle.rules.specs.Trips.{keeps}
 use Rattle.rules.specs.Questions.{known}
+use Rattle.table.proofs.Laws.{row-in}
 use Rattle.analysis_ways.proofs.Ways.{constant-way, composed-way}
 use Rattle.analysis_ways.proofs.limit_way.Statement.{statement}
 use Rattle.analysis_ways.proofs.limit_way.Tie as tie
@@ -66,4 +67,4 @@ returns-3 c =
     record { value = composed-way _ _ _ (p .form) (ap known (sym (p .own)) ∙ p .sure) (ap (exprOf text) (sym (c .enum-told2 .given .1)) ∙ h .limit) (w .composed); small = tt; moves = tt }
 
 pub limit-way-spec : {M : Type 1} → statement M
-limit-way-spec = tie.close (tie.spec (λ c κs. search needs) head-of-requires (λ c. search needs) (λ c. search needs) chased-way-requires (λ c. search needs) returns (λ c. c .chased-way .ensures) returns-3)
+limit-way-spec = tie.close (tie.spec (λ c κs. search (needs, row-in)) head-of-requires (λ c. search needs) (λ c. search needs) chased-way-requires (λ c. search needs) returns (λ c. c .chased-way .ensures) returns-3)

@@ -7,7 +7,8 @@ use Prim.Native.Nat.{_+_}
 use Rattle.rules.specs.Steps.{soleOf}
 use Rattle.rules.specs.Expressions.{variable}
 use Rattle.rules.specs.Trips.{soleWay, wayOf}
-use Rattle.analysis_table.specs.Code.{kindAt, rowsOf}
+use Rattle.table.specs.Code.{kindAt, rowsOf}
+use Rattle.table.proofs.Laws.{row-in}
 use Rattle.analysis_steps.specs.Tree.{blockAt, formOf, testOf}
 use Rattle.analysis_steps.specs.Body.{bodyAt}
 use Rattle.analysis_only_rows.specs.declared.Sole.{Sole}
@@ -66,7 +67,7 @@ pub sole-way-spec : {M : Type 1} → statement M
 sole-way-spec =
     tie.close
     (tie.spec
-    (λ c κs. search needs) (λ c κs. search needs)
+    (λ c κs. search (needs, row-in)) (λ c κs. search needs)
     (λ c. record { value = for-way _ _ (c .before .before .before .before .pre .own) _ (sym (for-is (c .before)) ∙ c .if1 .taken); small = tt; moves = tt })
     (λ c κs. rw (c .before .before .kind-at .ensures) (c .before .before .before .before .pre .loop .ready .fine _ (c .before .before .before .before .pre .loop .inside)))
     (λ c. search needs)

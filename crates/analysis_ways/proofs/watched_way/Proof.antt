@@ -10,7 +10,7 @@ use Rattle.rules.specs.Steps.{step}
 use Rattle.rules.specs.Ranges.{sort}
 use Rattle.rules.specs.Trips.{broken, watched, toward}
 use Rattle.analysis_row_steps.proofs.Ends.{ends-more}
-use Rattle.analysis_table.specs.Code.{rowsOf}
+use Rattle.table.specs.Code.{rowsOf}
 use Rattle.analysis_steps.specs.Body.{bodyAt}
 use Rattle.analysis_ways.proofs.watched_way.Statement.{statement}
 use Rattle.analysis_ways.proofs.watched_way.Tie as tie

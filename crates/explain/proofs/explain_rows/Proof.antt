@@ -9,8 +9,8 @@ use Rattle.rules.specs.declared.Prices.{Prices}
 use Rattle.rules.specs.Questions.{loopsVerdict, verdict}
 use Rattle.rules.specs.Scripts.{Script, startEnv, treeOf, Accepted}
 use Rattle.rules.proofs.Accepted.{then-yes}
-use Rattle.analysis_table.specs.Code.{rowsOf}
-use Rattle.analysis_table.proofs.Laws.{rows-length}
+use Rattle.table.specs.Code.{rowsOf}
+use Rattle.table.proofs.Laws.{rows-length}
 use Rattle.analysis.proofs.Results.{accepted}
 use Rattle.analysis_blocks.specs.Figure.{LoopsPass}
 use Rattle.explain.proofs.explain_rows.Statement.{statement}

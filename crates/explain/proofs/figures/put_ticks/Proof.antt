@@ -7,7 +7,7 @@ use borrow.Author.Needs.{needs}
 use native.Mathlib.Numerals.{add-one}
 use native.Mathlib.Omega.{arith}
 use Rattle.rules.specs.Scripts.{scriptOf}
-use Rattle.analysis_table.specs.Code.{rowsOf}
+use Rattle.table.specs.Code.{rowsOf}
 use Rattle.explain_margin.specs.Figures.{ticksBeside}
 use Rattle.explain.specs.Asked.{passTicks, putTicks}
 use Rattle.explain.proofs.figures.put_ticks.Statement.{statement}
