@@ -307,10 +307,10 @@ walk-loop-holds : (t : ℕ) → walk-lts.Need-loop-holds (walk-given t) (walk-at
 walk-loop-holds t c = let w = c .before .pre .1 in (search needs, record { walk = begin _ _ _ _ _ (w .ready .within); small = w .small; long = w .long })
 
 walk-step-row-requires : (t : ℕ) → walk-lts.Need-step-row-requires (walk-given t) (walk-at-t t) walk.Post Inv μ
-walk-step-row-requires t c κs = let k = c .before .before .before .before .before .before .before .pre .1 .ready in let l = c .before .before .before .before .loop-test .taken in (search (needs, row-in), k .fine _ l, sym (c .before .before .before .shape-at .ensures) ∙ c .before .enum-told .given .1, c .before .before .before .before .before .loop .inv .0, k .written _ l)
+walk-step-row-requires t c κs = let k = c .before .before .before .before .before .before .before .pre .1 .ready in let l = c .before .before .before .before .loop-test .taken in (row-in _ _ (search needs), k .fine _ l, sym (c .before .before .before .shape-at .ensures) ∙ c .before .enum-told .given .1, c .before .before .before .before .before .loop .inv .0, k .written _ l)
 
 walk-past-row-requires : (t : ℕ) → walk-lts.Need-past-row-requires (walk-given t) (walk-at-t t) walk.Post Inv μ
-walk-past-row-requires t c κs = let w = c .before .before .before .before .before .before .before .before .pre .1 in (search (needs, row-in), sym (c .before .before .before .before .shape-at .ensures) ∙ c .before .before .enum-told .given .1, w .prices, w .fine, c .before .before .before .before .before .before .loop .inv .1 .small)
+walk-past-row-requires t c κs = let w = c .before .before .before .before .before .before .before .before .pre .1 in (row-in _ _ (search needs), sym (c .before .before .before .before .shape-at .ensures) ∙ c .before .before .enum-told .given .1, w .prices, w .fine, c .before .before .before .before .before .before .loop .inv .1 .small)
 
 walk-loop-again : (t : ℕ) → walk-lts.Need-loop-again (walk-given t) (walk-at-t t) walk.Post Inv μ
 walk-loop-again t c = (c .before .step-row .ensures .long, go-plain (c .before .before .before .before .before .before .before .loop .inv .1) (c .before .before .before .before .before .before .loop-test .taken) (c .before .before .before .before .before .before .before .before .before .pre .1 .ready .built) (sym (c .before .before .before .before .before .shape-at .ensures) ∙ c .before .before .before .enum-told .given .1) (c .before .step-row .ensures .value) (c .past-row .ensures _ _))
@@ -371,7 +371,7 @@ pub +walk+walk-block+walk-loop+walk-pick-spec : {M : Type 1} → statement M
     Inv
     μ
     (walk-loop-holds t)
-    (λ c κs. search (needs, row-in)) (λ c. search needs)
+    (λ c κs. row-in _ _ (search needs)) (λ c. search needs)
     (walk-step-row-requires t)
     (walk-past-row-requires t)
     (walk-add-i t)

@@ -140,7 +140,7 @@ pub enter-loop-spec : {M : Type 1} → statement M
 enter-loop-spec =
     tie.close
     (tie.spec
-    (λ c κs. search (needs, row-in))
+    (λ c κs. row-in _ _ (search needs))
     at-start-requires
     loop-at-requires
     (λ c κs. search needs) (λ c κs. search needs) (λ c. search needs) (λ c κs. search needs)

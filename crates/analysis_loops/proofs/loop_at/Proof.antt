@@ -66,7 +66,7 @@ pub loop-at-spec : {M : Type 1} → statement M
 loop-at-spec =
     tie.close
     (tie.spec
-    (λ c κs. search (needs, row-in))
+    (λ c κs. row-in _ _ (search needs))
     (λ c κs. rw (c .kind-at .ensures) (c .before .before .pre .0 .ready .fine _ (c .before .before .pre .0 .inside)))
     (λ c κs. (c .before .before .before .pre .0, c .head-of .ensures [] .small))
     (λ c κs. c .before .before .head-of .ensures [] .small)

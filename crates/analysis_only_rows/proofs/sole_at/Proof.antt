@@ -28,4 +28,4 @@ returns-3 c =
     record { value = sym (rw (sym (c .before .kind-at .ensures)) (change-is (s .before .args .v) _ (now (s .before .args .text)) _ (c .match .keys3) _)); small = tt }
 
 pub sole-at-spec : {M : Type 1} → statement M
-sole-at-spec = tie.close (tie.spec (λ c κs. search (needs, row-in)) (λ c. search needs) set-at-requires (λ c. search needs) read-at-requires (λ c. c .set-at .ensures) (λ c. c .read-at .ensures) returns-3)
+sole-at-spec = tie.close (tie.spec (λ c κs. row-in _ _ (search needs)) (λ c. search needs) set-at-requires (λ c. search needs) read-at-requires (λ c. c .set-at .ensures) (λ c. c .read-at .ensures) returns-3)

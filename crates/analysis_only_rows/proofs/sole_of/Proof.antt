@@ -52,7 +52,7 @@ returns c =
     }
 
 add-row-requires : tie.Need-add-row-requires Inv-loop μ-loop
-add-row-requires c κs = (search (needs, row-in), c .before .before .before .before .before .before .before .before .before .pre .0 .fine _ (c .before .before .before .before .before .before .loop-test .taken), c .before .before .before .before .before .before .before .loop .inv .0)
+add-row-requires c κs = (row-in _ _ (search needs), c .before .before .before .before .before .before .before .before .before .pre .0 .fine _ (c .before .before .before .before .before .before .loop-test .taken), c .before .before .before .before .before .before .before .loop .inv .0)
 
 loop-again : tie.Need-loop-again Inv-loop μ-loop
 loop-again c = (
@@ -64,7 +64,7 @@ moves-of-requires : tie.Need-moves-of-requires Inv-loop μ-loop
 moves-of-requires c κs = (ready (c .before .before .before .before .before .before .before .pre .0) (search needs), c .before .before .before .before .before .before .before .pre .1, c .before .before .before .before .before .loop .inv .0)
 
 past-else-requires : tie.Need-past-else-requires Inv-loop μ-loop
-past-else-requires c κs = let k = pick-1 c in search (needs, row-in)
+past-else-requires c κs = let k = pick-1 c in row-in _ _ (search needs)
 
 moves-of-requires-2 : tie.Need-moves-of-requires-2 Inv-loop μ-loop
 moves-of-requires-2 c κs = let k = pick-1 (c .before .before) in let e = c .before .past-else .ensures in (ready (c .before .before .before .before .before .before .before .before .before .before .pre .0) (search needs), c .before .before .before .before .before .before .before .before .before .before .pre .1, c .before .before .moves-of .ensures .long)
@@ -85,7 +85,7 @@ moves-of-requires-3 : tie.Need-moves-of-requires-3 Inv-loop μ-loop
 moves-of-requires-3 c κs = (ready (c .before .before .before .before .before .before .before .pre .0) (search needs), c .before .before .before .before .before .before .before .pre .1, c .before .before .before .before .before .loop .inv .0)
 
 add-row-requires-2 : tie.Need-add-row-requires-2 Inv-loop μ-loop
-add-row-requires-2 c κs = (search (needs, row-in), c .before .before .before .before .before .before .before .before .before .pre .0 .fine _ (c .before .before .before .before .before .before .loop-test .taken), c .before .moves-of3 .ensures .long)
+add-row-requires-2 c κs = (row-in _ _ (search needs), c .before .before .before .before .before .before .before .before .before .pre .0 .fine _ (c .before .before .before .before .before .before .loop-test .taken), c .before .moves-of3 .ensures .long)
 
 add-i-3 : tie.Need-add-i-3 Inv-loop μ-loop
 add-i-3 c = let k = loop-1 (c .before .before .before) in let f = c .before .before .before .before .before .before .before .before .before .before .before .pre .0 .few in search needs
@@ -115,7 +115,7 @@ sole-of-spec =
     Inv-loop
     μ-loop
     loop-holds
-    (λ c κs. search (needs, row-in)) (λ c. search needs) (λ c κs. search (needs, row-in))
+    (λ c κs. row-in _ _ (search needs)) (λ c. search needs) (λ c κs. row-in _ _ (search needs))
     sole-at-requires
     returns
     add-row-requires

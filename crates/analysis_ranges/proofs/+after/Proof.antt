@@ -59,7 +59,7 @@ loop-holds : (t : ℕ) → lts.Need-loop-holds (given t) (here t) after.Post Inv
 loop-holds t c = (search needs, begin _ _ _ _ _ (c .before .pre .1 .within))
 
 step-row-requires : (t : ℕ) → lts.Need-step-row-requires (given t) (here t) after.Post Inv μ
-step-row-requires t c κs = (search (needs, row-in), c .before .before .before .before .before .before .before .pre .1 .fine _ (c .before .before .before .before .loop-test .taken), sym (c .before .before .before .shape-at .ensures) ∙ c .before .enum-told .given .1, c .before .before .before .before .before .loop .inv .0, c .before .before .before .before .before .before .before .pre .1 .written _ (c .before .before .before .before .loop-test .taken))
+step-row-requires t c κs = (row-in _ _ (search needs), c .before .before .before .before .before .before .before .pre .1 .fine _ (c .before .before .before .before .loop-test .taken), sym (c .before .before .before .shape-at .ensures) ∙ c .before .enum-told .given .1, c .before .before .before .before .before .loop .inv .0, c .before .before .before .before .before .before .before .pre .1 .written _ (c .before .before .before .before .loop-test .taken))
 
 loop-again : (t : ℕ) → lts.Need-loop-again (given t) (here t) after.Post Inv μ
 unfolding model.after
@@ -69,7 +69,7 @@ after-requires : (t : ℕ) → lts.Need-after-requires (given t) (here t) after.
 after-requires t c κs = (search needs, ready (c .before .before .before .before .before .before .before .pre .1) (search needs))
 
 past-else-requires : (t : ℕ) → lts.Need-past-else-requires (given t) (here t) after.Post Inv μ
-past-else-requires t c κs = let k = pick-1 t (c) in search (needs, row-in)
+past-else-requires t c κs = let k = pick-1 t (c) in row-in _ _ (search needs)
 
 after-requires-2 : (t : ℕ) → lts.Need-after-requires-2 (given t) (here t) after.Post Inv μ
 after-requires-2 t c κs = let k = pick-1 t (c .before .before) in let e = c .before .past-else .ensures in (search needs, ready (c .before .before .before .before .before .before .before .before .before .before .pre .1) (search needs))
@@ -120,7 +120,7 @@ pub +after-spec : {M : Type 1} → statement M
     Inv
     μ
     (loop-holds t)
-    (λ c κs. search (needs, row-in)) (λ c. search needs)
+    (λ c κs. row-in _ _ (search needs)) (λ c. search needs)
     (step-row-requires t)
     (λ c. search needs) (λ c. search needs)
     (loop-again t)

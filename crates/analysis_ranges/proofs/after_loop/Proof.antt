@@ -42,4 +42,4 @@ returns c =
     }
 
 pub after-loop-spec : {M : Type 1} → statement M
-after-loop-spec = tie.close (tie.spec (λ c κs. search (needs, row-in)) at-start-requires loop-at-requires outside-requires returns)
+after-loop-spec = tie.close (tie.spec (λ c κs. row-in _ _ (search needs)) at-start-requires loop-at-requires outside-requires returns)

@@ -62,7 +62,7 @@ pub hold-way-spec : {M : Type 1} → statement M
 hold-way-spec =
     tie.close
     (tie.spec
-    (λ c κs. search (needs, row-in))
+    (λ c κs. row-in _ _ (search needs))
     (λ c κs. rw (c .kind-at .ensures) (c .before .before .pre .0 .ready .fine _ (c .before .before .pre .0 .inside)))
     (λ c. search needs)
     (λ c κs. (ready (c .before .before .before .pre .0 .ready) (search needs), c .head-of .ensures [] .small))

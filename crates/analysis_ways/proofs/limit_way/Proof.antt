@@ -67,4 +67,4 @@ returns-3 c =
     record { value = composed-way _ _ _ (p .form) (ap known (sym (p .own)) ∙ p .sure) (ap (exprOf text) (sym (c .enum-told2 .given .1)) ∙ h .limit) (w .composed); small = tt; moves = tt }
 
 pub limit-way-spec : {M : Type 1} → statement M
-limit-way-spec = tie.close (tie.spec (λ c κs. search (needs, row-in)) head-of-requires (λ c. search needs) (λ c. search needs) chased-way-requires (λ c. search needs) returns (λ c. c .chased-way .ensures) returns-3)
+limit-way-spec = tie.close (tie.spec (λ c κs. row-in _ _ (search needs)) head-of-requires (λ c. search needs) (λ c. search needs) chased-way-requires (λ c. search needs) returns (λ c. c .chased-way .ensures) returns-3)

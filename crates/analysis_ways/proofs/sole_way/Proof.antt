@@ -67,7 +67,7 @@ pub sole-way-spec : {M : Type 1} → statement M
 sole-way-spec =
     tie.close
     (tie.spec
-    (λ c κs. search (needs, row-in)) (λ c κs. search needs)
+    (λ c κs. row-in _ _ (search needs)) (λ c κs. search needs)
     (λ c. record { value = for-way _ _ (c .before .before .before .before .pre .own) _ (sym (for-is (c .before)) ∙ c .if1 .taken); small = tt; moves = tt })
     (λ c κs. rw (c .before .before .kind-at .ensures) (c .before .before .before .before .pre .loop .ready .fine _ (c .before .before .before .before .pre .loop .inside)))
     (λ c. search needs)
