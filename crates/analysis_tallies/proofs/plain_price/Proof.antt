@@ -14,11 +14,11 @@ use Rattle.analysis_tallies.proofs.plain_price.Tie as tie
 
 returns : tie.Need-returns
 unfolding price kindBy viewOf kindOf
-returns c = λ text. let s = c .before .before .before in rw (kind-is (now (s .args .rows)) (s .args .i) (s .pre .0) (c .before .before .tag-at .ensures) (c .enum-told .given .1))
+returns c = λ text. let s = c .before .before .before .before in rw (kind-is (now (s .args .rows)) (s .args .i) (s .pre .0) (c .before .before .tag-at .ensures) (c .enum-told .given .1))
 
 returns-2 : tie.Need-returns-2
 returns-2 c = λ text.
-    let s = c .before .before in
+    let s = c .before .before .before in
     let e = kind-is (now (s .args .rows)) (s .args .i) (s .pre .0) (c .before .tag-at .ensures) refl in
     subst (λ k. s .args .prices .arithmetic ≡ price (s .args .prices) (plainOf text k)) (sym e) (price-other (s .args .prices) text (numbersAt (now (s .args .rows)) (s .args .i)) (c .before .tag-at .result) (c .match .keys2) (subst (λ k. shapeOf k ≡ Shape.Plain) e (s .pre .1)))
 
