@@ -10,7 +10,7 @@ use Rattle.rules.specs.Scripts.{scriptOf}
 use Rattle.table.specs.declared.Shape.{Shape}
 use Rattle.table.specs.Code.{kindAt, rowsOf}
 use Rattle.table.specs.Shapes.{shapeOf}
-use Rattle.table.proofs.Laws.{rows-length, row-in}
+use Rattle.table.proofs.Laws.{rows-length}
 use Rattle.analysis_steps.specs.Tree.{blockAt, endAt, Ready}
 use Rattle.analysis_steps.proofs.Walking as walking
 use Rattle.analysis_steps.proofs.Walking.{begin, plain-next, plain-row, at-close}
@@ -60,7 +60,7 @@ step-row-requires c κs =
     let l = below (c .before .before .before .before) in
     let s = c .before .before .before .before .before .before .before .before .before in
     let k = ready-at s l in
-    (row-in (now (s .args .rows)) _ (omega (arith, l, k .reach)), k .fine _ l, sym (c .before .before .before .shape-at .ensures) ∙ c .before .enum-told .given .1, c .before .before .before .before .before .loop .inv .0, k .written _ l)
+    (omega (arith, l, s .pre .2), k .fine _ l, sym (c .before .before .before .shape-at .ensures) ∙ c .before .enum-told .given .1, c .before .before .before .before .before .loop .inv .0, k .written _ l)
 
 add-i : tie.Need-add-i Inv μ
 add-i c = omega (arith, below (c .before .before .before .before .before), c .before .before .before .before .before .before .before .before .before .before .pre .1)

@@ -9,12 +9,12 @@ pack-rows-requires c κs = let s = c .before .before in packable _ _ _ _ _ (s .p
 
 analyse-requires : tie.Need-analyse-requires
 analyse-requires c κs =
-    let s = c .before .before .before .before .before in
-    let p = c .before .before .pack-rows in
+    let s = c .before .before .before .before .before .before in
+    let p = c .before .before .before .pack-rows in
     analyse-asks (s .args .text .now) (s .args .ranges) (s .args .vars) (s .args .rows) (s .args .count) (s .pre .0) (p .last .0) (p .ensures) (s .pre .1) (search needs)
 
 returns : tie.Need-returns
-returns c = let p = c .before .before .before .pack-rows in (_, analyse-same _ _ _ _ _ (c .before .before .before .before .before .before .pre .0) (p .last .0) (p .ensures) (c .analyse .ensures))
+returns c = let p = c .before .before .before .before .pack-rows in (_, analyse-same _ _ _ _ _ (c .before .before .before .before .before .before .before .pre .0) (p .last .0) (p .ensures) (c .analyse .ensures))
 
 pub figures-of-spec : {M : Type 1} → statement M
-figures-of-spec = tie.close (tie.spec pack-rows-requires analyse-requires returns)
+figures-of-spec = tie.close (tie.spec (λ c. search needs) pack-rows-requires (λ c. search needs) analyse-requires returns)
