@@ -3,13 +3,13 @@ use analysis_steps::add_row;
 use analysis_steps::has;
 use analysis_steps::moves_of;
 use analysis_steps::sets_it;
+use rules::Comparison;
+use rules::Kind;
+use rules::Operand;
 use table::Shape;
 use table::kind_at;
 use table::past_else;
 use table::shape_at;
-use rules::Comparison;
-use rules::Kind;
-use rules::Operand;
 ghost use mathlib.Core.Path.{_≡_};
 ghost use Prim.Native.Nat.{ℕ, _<_};
 ghost use Rattle.rules.specs.declared.Kind.{Kind};
@@ -81,14 +81,7 @@ fn set_at(
 }
 
 // At the row i, which assigns v, behind rows that assign a set.
-fn sole_at(
-    text: &[u8],
-    rows: &[u32],
-    count: usize,
-    i: usize,
-    v: u8,
-    before: [bool; 16],
-) -> Sole
+fn sole_at(text: &[u8], rows: &[u32], count: usize, i: usize, v: u8, before: [bool; 16]) -> Sole
     requires { ⌜ AtRow (now text) (rowsOf (now rows)) count i v ⌝ }
     ensures { λ r. ⌜ ReadAt (now (text .entry)) (rowsOf (now (rows .entry))) count i v before r ⌝ }
 {

@@ -1,6 +1,7 @@
 // How a variable moves in one turn: walks over the rows of a block, nested blocks first.
 use analysis_row_steps::change_step;
 use analysis_row_steps::only;
+use rules_steps::Step;
 use table::Shape;
 use table::Tag;
 use table::assigns;
@@ -9,7 +10,6 @@ use table::past_else;
 use table::shape_at;
 use table::tag_at;
 use table::variable_at;
-use rules_steps::Step;
 ghost use mathlib.Core.Path.{_≡_};
 ghost use mathlib.Core.List.{List};
 ghost use Prim.Native.Nat.{ℕ, _+_, _*_, _<_};

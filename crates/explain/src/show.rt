@@ -1,5 +1,4 @@
 // What is printed of an accepted script: its ticks, and each row behind its margin.
-use table::tag_at;
 use analysis_ticks::cap;
 use analysis_ticks::times;
 use explain_margin::EXACT;
@@ -29,6 +28,7 @@ use min_max::smaller_size;
 use program_parts::print_front;
 use program_parts::print_number;
 use program_parts::print_text;
+use table::tag_at;
 ghost use mathlib.Core.Path.{_≡_};
 ghost use Prim.Native.Nat.{_+_, _*_, _≤_, _<_};
 ghost use lib.ListN.{length};

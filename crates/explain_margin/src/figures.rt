@@ -1,9 +1,9 @@
 // The figures by row: turns, total and exact or most of a loop's head, the ticks of one pass of a block's head; 0 at other rows.
 use analysis_lines::line_at;
-use table::Shape;
-use table::shape_at;
 use min_max::larger;
 use rules::LoopLine;
+use table::Shape;
+use table::shape_at;
 ghost use mathlib.Core.Path.{_≡_};
 ghost use mathlib.Core.List.{[], _∷_};
 ghost use Prim.Native.Nat.{_+_, _*_, _<_, _≤_, max};
