@@ -25,12 +25,12 @@ use Rattle.rules.proofs.Walk.{over-add, over-once, turnsWalk, passes-walk}
 use Rattle.rules.specs.declared.Verdict.{Verdict}
 use Rattle.rules.specs.declared.Verdict.the-variants.{Passed as passed, Refused as refused}
 use Rattle.rules.specs.Questions.{andThen, asked, tickLimit, ofTrip, loopsVerdict, blocksVerdict}
-use Rattle.analysis_table.specs.declared.Shape.{Shape}
-use Rattle.analysis_table.proofs.Shape as shapes
+use Rattle.table.specs.declared.Shape.{Shape}
+use Rattle.table.proofs.Shape as shapes
 use lib.ListN.{length}
 use Rattle.analysis_lines.specs.Coded.{firstLines}
-use Rattle.analysis_table.specs.Code.{kindAt}
-use Rattle.analysis_table.specs.Shapes.{shapeOf, plainOf}
+use Rattle.table.specs.Code.{kindAt}
+use Rattle.table.specs.Shapes.{shapeOf, plainOf}
 use Rattle.analysis_steps.specs.Tree.{blockAt, Whole, Ready, Walked, headOf, formOf, testOf}
 use Rattle.analysis_steps.specs.Body.{bodyAt}
 use Rattle.analysis_steps.proofs.Laws.{PickIs, LoopIs}

@@ -20,8 +20,8 @@ use Rattle.rules.proofs.Laws.{kinds-length}
 use Rattle.rules.proofs.LinesAtHeads.{lines-few}
 use Rattle.rules.proofs.TreeOf.{tree-of}
 use Rattle.rules.proofs.Rows.{block-whole}
-use Rattle.analysis_table.specs.Code.{kindAt}
-use Rattle.analysis_table.proofs.Limits.{row-fine}
+use Rattle.table.specs.Code.{kindAt}
+use Rattle.table.proofs.Limits.{row-fine}
 use Rattle.analysis_steps.specs.Tree.{kinds, blockAt, Whole, Ready}
 use Rattle.analysis_steps.proofs.Laws.{kind-is}
 use Rattle.analysis_intervals.specs.Env.{envOf}
@@ -69,6 +69,7 @@ module _ (text : List ℕ) (ranges : List (List ℤ)) (vars : ℕ) (rows : List 
   unfolding scriptOf
   ready short written = record {
     few = few;
+    reach = all;
     within = omega arith;
     built = whole;
     fine = λ i l.

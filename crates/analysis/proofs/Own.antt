@@ -13,9 +13,9 @@ use Rattle.rules.specs.Passes.{any}
 use Rattle.rules.specs.Figures.{ticks}
 use Rattle.rules.proofs.Walk.{over-once}
 use Rattle.rules.specs.Questions.{andThen, loopsVerdict}
-use Rattle.analysis_table.specs.declared.Shape.{Shape}
-use Rattle.analysis_table.specs.Code.{kindAt}
-use Rattle.analysis_table.specs.Shapes.{shapeOf}
+use Rattle.table.specs.declared.Shape.{Shape}
+use Rattle.table.specs.Code.{kindAt}
+use Rattle.table.specs.Shapes.{shapeOf}
 use Rattle.analysis_steps.specs.Tree.{blockAt, Ready}
 use Rattle.analysis_steps.proofs.Walking.{begin, plain-next, at-close, pick-at, loop-at}
 use Rattle.analysis_ticks.specs.Capped.{capped}

@@ -17,9 +17,9 @@ use Rattle.rules.specs.Passes.{sumOver}
 use Rattle.rules.specs.Figures.{ticks, Line, lines}
 use Rattle.rules.specs.declared.Verdict.the-variants.{Refused as refused}
 use Rattle.rules.specs.Questions.{andThen, loopsVerdict, blocksVerdict}
-use Rattle.analysis_table.specs.declared.Shape.{Shape}
-use Rattle.analysis_table.specs.Code.{kindAt}
-use Rattle.analysis_table.specs.Shapes.{shapeOf}
+use Rattle.table.specs.declared.Shape.{Shape}
+use Rattle.table.specs.Code.{kindAt}
+use Rattle.table.specs.Shapes.{shapeOf}
 use Rattle.analysis_steps.specs.Tree.{blockAt, endAt, Ready}
 use Rattle.analysis_intervals.specs.Env.{envOf}
 use Rattle.analysis_ticks.specs.Capped.{capped}

@@ -4,9 +4,6 @@ use analysis_entries::leave_loop;
 use analysis_passes::Round;
 use analysis_passes::branch;
 use analysis_ranges::after;
-use analysis_table::Shape;
-use analysis_table::past_else;
-use analysis_table::shape_at;
 use analysis_tallies::Tally;
 use analysis_tallies::ended;
 use analysis_tallies::leave_pick;
@@ -16,16 +13,19 @@ use analysis_ticks::LIMIT;
 use analysis_transfer::joined;
 use analysis_transfer::step_row;
 use rules::Prices;
+use table::Shape;
+use table::past_else;
+use table::shape_at;
 ghost use mathlib.Core.Path.{_≡_};
-ghost use Prim.Native.Nat.{ℕ, _+_, _≤_, _<_};
+ghost use Prim.Native.Nat.{ℕ, _+_, _*_, _≤_, _<_};
 ghost use lib.ListN.{length};
 ghost use Rattle.rules.specs.Bounds.{FinePrices};
 ghost use Rattle.rules.specs.Written.{Written};
 ghost use Rattle.rules.specs.Ranges.{join};
 ghost use Rattle.rules.specs.Trips.{after};
 ghost use Rattle.rules.specs.Scripts.{scriptOf, BlankFrom, Legal};
-ghost use Rattle.analysis_table.specs.Code.{kindAt, rowsOf};
-ghost use Rattle.analysis_table.specs.Shapes.{shapeOf};
+ghost use Rattle.table.specs.Code.{kindAt, rowsOf};
+ghost use Rattle.table.specs.Shapes.{shapeOf};
 ghost use Rattle.analysis_steps.specs.Tree.{blockAt, Ready};
 ghost use Rattle.analysis_intervals.specs.Env.{envOf};
 ghost use Rattle.analysis_tallies.specs.Tallies.{withLines};
@@ -36,7 +36,7 @@ ghost use Rattle.analysis.specs.Own.{ownTicks};
 // The ranges after a pick whose parts start at two rows.
 fn after_pick(
     text: &[u8],
-    rows: &[[u32; 9]; 256],
+    rows: &[u32],
     count: usize,
     first: usize,
     second: usize,
@@ -55,7 +55,7 @@ fn after_pick(
 // The pick at row i, from the ranges before it to those after it: its two parts by the walk.
 fn walk_pick(
     text: &[u8],
-    rows: &[[u32; 9]; 256],
+    rows: &[u32],
     count: usize,
     i: usize,
     round: Round,
@@ -87,7 +87,7 @@ fn walk_pick(
 // The loop at row i, from the ranges before it to those after it: its body by the walk.
 fn walk_loop(
     text: &[u8],
-    rows: &[[u32; 9]; 256],
+    rows: &[u32],
     count: usize,
     i: usize,
     round: Round,
@@ -125,7 +125,7 @@ fn walk_loop(
 // The pick or loop at row i, from the ranges before it to those after it.
 fn walk_block(
     text: &[u8],
-    rows: &[[u32; 9]; 256],
+    rows: &[u32],
     count: usize,
     i: usize,
     round: Round,
@@ -146,7 +146,7 @@ fn walk_block(
 // The block that starts at row `at`: its rows from the first, nested blocks by the same walk.
 fn walk(
     text: &[u8],
-    rows: &[[u32; 9]; 256],
+    rows: &[u32],
     count: usize,
     at: usize,
     start: [[i32; 2]; 16],
@@ -249,14 +249,14 @@ pub struct Figures {
 // The first `count` rows and the first `vars` ranges of a script that has passed the questions 4 to 7.
 pub fn analyse(
     text: &[u8],
-    rows: &[[u32; 9]; 256],
+    rows: &[u32],
     count: usize,
     ranges: [[i32; 2]; 16],
     vars: usize,
     prices: Prices,
     lines: &mut [[u64; 7]; 16],
 ) -> Figures
-    requires { ⌜ Legal (scriptOf (now text) ranges vars (rowsOf (now rows)) count) × (count ≤ 256) × (count ≤ length (now rows)) × BlankFrom vars ranges × FinePrices prices × (length (now lines) ≡ 16) × (length (now text) ≤ 16_384) × ((i : ℕ) → i < count → Written (now text) (kindAt (rowsOf (now rows)) i)) ⌝ }
+    requires { ⌜ Legal (scriptOf (now text) ranges vars (rowsOf (now rows)) count) × (count ≤ 256) × (4 * count ≤ length (now rows)) × BlankFrom vars ranges × FinePrices prices × (length (now lines) ≡ 16) × (length (now text) ≤ 16_384) × ((i : ℕ) → i < count → Written (now text) (kindAt (rowsOf (now rows)) i)) ⌝ }
     ensures { λ r. ⌜ AnalysisOf prices (scriptOf (now (text .entry)) ranges vars (rowsOf (now (rows .entry))) count) count r (now (lines .exit)) ⌝ }
 {
     let t = walk(text, rows, count, 0, ranges, ALONE, prices, lines, EMPTY);
@@ -280,7 +280,7 @@ pub fn analyse(
 // The block that row i begins: its own ticks, from the ranges before it; 0 if the row begins none, or a loop of it is refused.
 pub fn own_ticks(
     text: &[u8],
-    rows: &[[u32; 9]; 256],
+    rows: &[u32],
     count: usize,
     i: usize,
     ranges: [[i32; 2]; 16],

@@ -10,7 +10,7 @@ use Rattle.rules.specs.declared.Prices.{Prices}
 use Rattle.rules.specs.Questions.{ofTrip, loopsVerdict}
 use Rattle.rules.specs.FirstOver.{blocks}
 use Rattle.rules.proofs.Accepted.{then-yes}
-use Rattle.analysis_table.specs.Shapes.{pastBy}
+use Rattle.table.specs.Shapes.{pastBy}
 use Rattle.analysis.specs.Fold.{loopCount}
 use Rattle.analysis.proofs.Folding.{same-body}
 use Rattle.analysis_blocks.specs.Toward.{PartOf}

@@ -4,21 +4,21 @@ use analysis_loops::loop_at;
 use analysis_ranges::after;
 use analysis_ranges::inside;
 use analysis_ranges::outside;
-use analysis_table::Shape;
-use analysis_table::kind_at;
-use analysis_table::past_else;
-use analysis_table::shape_at;
 use analysis_transfer::at_start;
 use analysis_transfer::joined;
 use analysis_transfer::step_row;
 use rules::Prices;
+use table::Shape;
+use table::kind_at;
+use table::past_else;
+use table::shape_at;
 ghost use mathlib.Core.Path.{_≡_};
-ghost use Prim.Native.Nat.{ℕ, _≤_, _<_};
+ghost use Prim.Native.Nat.{ℕ, _*_, _≤_, _<_};
 ghost use lib.ListN.{length};
 ghost use Rattle.rules.specs.Bounds.{FinePrices};
 ghost use Rattle.rules.specs.Written.{Written};
 ghost use Rattle.rules.specs.Scripts.{scriptOf, BlankFrom, Legal};
-ghost use Rattle.analysis_table.specs.Code.{kindAt, rowsOf};
+ghost use Rattle.table.specs.Code.{kindAt, rowsOf};
 ghost use Rattle.analysis_intervals.specs.Env.{envOf};
 ghost use Rattle.analysis_ticks.specs.Capped.{capped};
 ghost use Rattle.analysis_blocks.specs.Figure.{blockTicks, LoopsPass};
@@ -27,7 +27,7 @@ ghost use Rattle.analysis_blocks.specs.Toward.{BlockBefore, Toward};
 // From the pick at row i toward row `head`: into the part that has it, or past the pick.
 fn toward_pick(
     text: &[u8],
-    rows: &[[u32; 9]; 256],
+    rows: &[u32],
     count: usize,
     i: usize,
     head: usize,
@@ -55,7 +55,7 @@ fn toward_pick(
 // From the loop at row i toward row `head`: into its body, or past the loop.
 fn toward_loop(
     text: &[u8],
-    rows: &[[u32; 9]; 256],
+    rows: &[u32],
     count: usize,
     i: usize,
     head: usize,
@@ -78,14 +78,14 @@ fn toward_loop(
 // The tick figure of the block that row `head` begins, stopped just past the limit of 13; 0 if it begins none.
 pub fn block_ticks(
     text: &[u8],
-    rows: &[[u32; 9]; 256],
+    rows: &[u32],
     count: usize,
     ranges: [[i32; 2]; 16],
     vars: usize,
     prices: Prices,
     head: usize,
 ) -> u64
-    requires { ⌜ Legal (scriptOf (now text) ranges vars (rowsOf (now rows)) count) × (count ≤ 256) × (count ≤ length (now rows)) × BlankFrom vars ranges × FinePrices prices × (length (now text) ≤ 16_384) × ((i : ℕ) → i < count → Written (now text) (kindAt (rowsOf (now rows)) i)) × LoopsPass (scriptOf (now text) ranges vars (rowsOf (now rows)) count) ⌝ }
+    requires { ⌜ Legal (scriptOf (now text) ranges vars (rowsOf (now rows)) count) × (count ≤ 256) × (4 * count ≤ length (now rows)) × BlankFrom vars ranges × FinePrices prices × (length (now text) ≤ 16_384) × ((i : ℕ) → i < count → Written (now text) (kindAt (rowsOf (now rows)) i)) × LoopsPass (scriptOf (now text) ranges vars (rowsOf (now rows)) count) ⌝ }
     ensures { λ r. ⌜ r ≡ capped (blockTicks prices (scriptOf (now (text .entry)) ranges vars (rowsOf (now (rows .entry))) count) head) ⌝ }
 {
     if head >= count {

@@ -13,7 +13,7 @@ use Rattle.rules.specs.Trips as trips
 use Rattle.rules.specs.Trips.{Trip, turnsOf, outerOf, inside}
 use Rattle.rules.specs.declared.Prices.{Prices}
 use Rattle.rules.specs.Questions.{ofTrip}
-use Rattle.analysis_table.specs.Code.{kindAt}
+use Rattle.table.specs.Code.{kindAt}
 use Rattle.analysis_steps.specs.Tree.{formOf, testOf}
 use Rattle.analysis_steps.specs.Body.{bodyAt, EndsAt}
 use Rattle.analysis_steps.specs.Sets.{setOf}

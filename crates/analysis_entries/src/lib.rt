@@ -9,7 +9,6 @@ use analysis_passes::walked;
 use analysis_ranges::inside;
 use analysis_ranges::outer;
 use analysis_steps::has;
-use analysis_table::kind_at;
 use analysis_tallies::Tally;
 use analysis_tallies::closed;
 use analysis_tallies::last_ticks;
@@ -24,14 +23,15 @@ use analysis_turns::Figure;
 use analysis_turns::ask;
 use rules::Kind;
 use rules::Prices;
+use table::kind_at;
 ghost use mathlib.Core.Path.{_≡_};
 ghost use mathlib.Core.Bool.{not, _&&_};
 ghost use mathlib.Core.List.{List};
-ghost use Prim.Native.Nat.{ℕ, _*_, _≤_, _<_};
+ghost use Prim.Native.Nat.{ℕ, _+_, _*_, _≤_, _<_};
 ghost use lib.ListN.{length};
 ghost use Rattle.rules.specs.Bounds.{FinePrices};
 ghost use Rattle.rules.specs.Steps.{starts};
-ghost use Rattle.analysis_table.specs.Code.{kindAt, rowsOf};
+ghost use Rattle.table.specs.Code.{kindAt, rowsOf};
 ghost use Rattle.analysis_steps.specs.Tree.{formOf, testOf};
 ghost use Rattle.analysis_steps.specs.Body.{AtLoop};
 ghost use Rattle.analysis_intervals.specs.Env.{envOf};
@@ -114,7 +114,7 @@ const NONE: PassCounts = PassCounts {
 // From the ranges before the loop at row i to those at its body's start: its questions 19 and 8 to 12, then its line.
 pub fn enter_loop(
     text: &[u8],
-    rows: &[[u32; 9]; 256],
+    rows: &[u32],
     count: usize,
     i: usize,
     round: Round,
@@ -159,7 +159,7 @@ pub fn enter_loop(
 
 // From the ranges at a loop's body's start to those after it, and what is found after its body.
 pub fn leave_loop(
-    rows: &[[u32; 9]; 256],
+    rows: &[u32],
     i: usize,
     exit: Exit,
     round: Round,
@@ -169,7 +169,7 @@ pub fn leave_loop(
     body: Tally,
     r: &mut [[i32; 2]; 16],
 ) -> Tally
-    requires { ⌜ (i < 256) × (exit .tested < 16) × (exit .next < 256) × (t .spent ≤ 1_000_000_000_001) × (body .spent ≤ 1_000_000_000_001) × (length (now r) ≡ 16) × FinePrices prices × FineRound round × (ran .tests ≤ 4_096) ⌝ }
+    requires { ⌜ (4 * i + 3 < length (now rows)) × (exit .tested < 16) × (exit .next < 256) × (t .spent ≤ 1_000_000_000_001) × (body .spent ≤ 1_000_000_000_001) × (length (now r) ≡ 16) × FinePrices prices × FineRound round × (ran .tests ≤ 4_096) ⌝ }
     ensures { λ x. ⌜ LeftLoop prices (kindAt (rowsOf (now (rows .entry))) i) exit round ran t body (envOf (now (r .entry))) (now (r .exit)) x ⌝ }
 {
     let assigned = exit.set;

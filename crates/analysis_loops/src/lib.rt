@@ -4,7 +4,6 @@ use analysis_intervals::Interval;
 use analysis_intervals::bounds;
 use analysis_intervals::interval_at;
 use analysis_steps::body_moves;
-use analysis_table::kind_at;
 use analysis_trips::Lead;
 use analysis_trips::Trip;
 use analysis_trips::chase_trip;
@@ -19,13 +18,14 @@ use analysis_ways::keeps;
 use analysis_ways::way_of;
 use rules::Comparison;
 use rules_steps::Step;
+use table::kind_at;
 ghost use mathlib.Core.Path.{_≡_};
 ghost use Rattle.analysis_intervals.specs.Env.{envOf, rangeOf};
 ghost use Rattle.analysis_trips.specs.Found.{tripOf};
 ghost use Rattle.analysis_loops.specs.Loops.{tripFrom, LoopAt};
 ghost use Rattle.analysis_ways.specs.Ways.{SmallWay};
 ghost use lib.ListN.{length};
-ghost use Rattle.analysis_table.specs.Code.{rowsOf};
+ghost use Rattle.table.specs.Code.{rowsOf};
 ghost use Rattle.analysis_steps.specs.Body.{AtLoop};
 
 // The trip by that way, from the ranges at the loop's start and the tested variable's own.
@@ -84,13 +84,7 @@ pub struct Loop {
 }
 
 // The loop at row i, from the ranges at its start.
-pub fn loop_at(
-    text: &[u8],
-    rows: &[[u32; 9]; 256],
-    count: usize,
-    i: usize,
-    begun: &[[i32; 2]; 16],
-) -> Loop
+pub fn loop_at(text: &[u8], rows: &[u32], count: usize, i: usize, begun: &[[i32; 2]; 16]) -> Loop
     requires { ⌜ AtLoop (now text) (rowsOf (now rows)) count i × (length (now begun) ≡ 16) ⌝ }
     ensures { λ r. ⌜ LoopAt (now (text .entry)) (rowsOf (now (rows .entry))) count i (envOf (now (begun .entry))) r ⌝ }
 {

@@ -18,8 +18,8 @@ use Rattle.rules.specs.Blocks.{Plain, Source, from, off, assign, viewOf, exprOf
 use Rattle.rules.specs.Steps.{sets, starts, assigns, other, sole, behind, soleAt, soleRow, soleOf}
 use Rattle.rules.proofs.Sole.{behind-none, behind-twice}
 use Rattle.rules.proofs.Kind.{the-type}
-use Rattle.analysis_table.specs.declared.Shape.{Shape}
-use Rattle.analysis_table.specs.Shapes.{shapeOf, plainOf}
+use Rattle.table.specs.declared.Shape.{Shape}
+use Rattle.table.specs.Shapes.{shapeOf, plainOf}
 use Rattle.analysis_steps.specs.declared.StepOver.{StepOver}
 use Rattle.analysis_steps.specs.Tree.{blockAt, headOf, formOf, testOf}
 use Rattle.analysis_steps.specs.Sets.{setOf, none, withRow, assignsFrom}

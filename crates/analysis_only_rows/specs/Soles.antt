@@ -8,8 +8,8 @@ use Rattle.rules.specs.Expressions.{variable}
 use Rattle.rules.specs.Blocks.{Source, from, off, Block}
 use Rattle.rules.specs.Steps as rules
 use Rattle.rules.specs.Steps.{sets, other, sole, behind, soleAt, soleRow, soleOf}
-use Rattle.analysis_table.specs.Code.{kindAt}
-use Rattle.analysis_table.specs.Shapes.{plainOf}
+use Rattle.table.specs.Code.{kindAt}
+use Rattle.table.specs.Shapes.{plainOf}
 use Rattle.analysis_only_rows.specs.declared.Read.{Read}
 use Rattle.analysis_only_rows.specs.declared.Sole.{Sole}
 use Rattle.analysis_steps.specs.Tree.{Ready, blockAt}

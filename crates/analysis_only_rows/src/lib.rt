@@ -3,17 +3,17 @@ use analysis_steps::add_row;
 use analysis_steps::has;
 use analysis_steps::moves_of;
 use analysis_steps::sets_it;
-use analysis_table::Shape;
-use analysis_table::kind_at;
-use analysis_table::past_else;
-use analysis_table::shape_at;
 use rules::Comparison;
 use rules::Kind;
 use rules::Operand;
+use table::Shape;
+use table::kind_at;
+use table::past_else;
+use table::shape_at;
 ghost use mathlib.Core.Path.{_≡_};
 ghost use Prim.Native.Nat.{ℕ, _<_};
 ghost use Rattle.rules.specs.declared.Kind.{Kind};
-ghost use Rattle.analysis_table.specs.Code.{kindAt, rowsOf};
+ghost use Rattle.table.specs.Code.{kindAt, rowsOf};
 ghost use Rattle.analysis_steps.specs.Tree.{Ready};
 ghost use Rattle.analysis_only_rows.specs.Soles.{AtRow, AtRead, ReadAt, SoleAt};
 
@@ -33,7 +33,7 @@ pub enum Sole {
 // At the row i, which assigns v and reads w, behind rows that assign a set.
 fn read_at(
     text: &[u8],
-    rows: &[[u32; 9]; 256],
+    rows: &[u32],
     count: usize,
     i: usize,
     v: u8,
@@ -63,7 +63,7 @@ fn read_at(
 // At the row i, which sets v to x, behind rows that assign a set.
 fn set_at(
     text: &[u8],
-    rows: &[[u32; 9]; 256],
+    rows: &[u32],
     count: usize,
     i: usize,
     v: u8,
@@ -81,14 +81,7 @@ fn set_at(
 }
 
 // At the row i, which assigns v, behind rows that assign a set.
-fn sole_at(
-    text: &[u8],
-    rows: &[[u32; 9]; 256],
-    count: usize,
-    i: usize,
-    v: u8,
-    before: [bool; 16],
-) -> Sole
+fn sole_at(text: &[u8], rows: &[u32], count: usize, i: usize, v: u8, before: [bool; 16]) -> Sole
     requires { ⌜ AtRow (now text) (rowsOf (now rows)) count i v ⌝ }
     ensures { λ r. ⌜ ReadAt (now (text .entry)) (rowsOf (now (rows .entry))) count i v before r ⌝ }
 {
@@ -100,7 +93,7 @@ fn sole_at(
 }
 
 // The only assignment of v in the block that starts at row `at`.
-pub fn sole_of(text: &[u8], rows: &[[u32; 9]; 256], count: usize, at: usize, v: u8) -> Sole
+pub fn sole_of(text: &[u8], rows: &[u32], count: usize, at: usize, v: u8) -> Sole
     requires { ⌜ Ready (now text) (rowsOf (now rows)) count at × (v < 16) ⌝ }
     ensures { λ r. ⌜ SoleAt (now (text .entry)) (rowsOf (now (rows .entry))) count at v r ⌝ }
 {

@@ -9,7 +9,7 @@ use Rattle.rules.specs.Blocks.{Test, Form, Block}
 use Rattle.rules.specs.Steps.{assigns}
 use Rattle.rules.specs.Ranges.{Range, Env, full}
 use Rattle.rules.specs.Trips.{innerOf, outerOf, loopEnv, trip, inside, outside}
-use Rattle.analysis_table.specs.Code.{kindAt}
+use Rattle.table.specs.Code.{kindAt}
 use Rattle.analysis_steps.specs.Tree.{formOf, testOf}
 use Rattle.analysis_steps.specs.Sets.{setOf}
 use Rattle.analysis_steps.specs.Body.{bodyAt}

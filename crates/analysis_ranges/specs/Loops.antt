@@ -6,7 +6,7 @@ use Rattle.rules.specs.declared.Row.{Row}
 use Rattle.rules.specs.Ranges.{Range, Env, atStart}
 use Rattle.rules.specs.Trips.{outside}
 use Rattle.analysis_steps.specs.Body.{bodyAt, EndsAt}
-use Rattle.analysis_table.specs.Code.{kindAt}
+use Rattle.table.specs.Code.{kindAt}
 use Rattle.analysis_steps.specs.Tree.{formOf, testOf}
 use Rattle.analysis_steps.specs.Sets.{setOf}
 use Rattle.analysis_loops.specs.declared.Loop.{Loop}

@@ -5,21 +5,21 @@ use analysis_intervals::inside_interval;
 use analysis_intervals::outside_interval;
 use analysis_loops::Loop;
 use analysis_loops::loop_at;
-use analysis_table::Shape;
-use analysis_table::kind_at;
-use analysis_table::past_else;
-use analysis_table::shape_at;
 use analysis_transfer::at_start;
 use analysis_transfer::joined;
 use analysis_transfer::step_row;
 use analysis_transfer::widen;
 use analysis_trips::Counter;
 use analysis_trips::Trip;
+use table::Shape;
+use table::kind_at;
+use table::past_else;
+use table::shape_at;
 ghost use mathlib.Core.Path.{_≡_};
 ghost use Prim.Native.Nat.{_<_};
 ghost use lib.ListN.{length};
 ghost use Rattle.rules.specs.Trips.{innerOf, outerOf, after};
-ghost use Rattle.analysis_table.specs.Code.{rowsOf};
+ghost use Rattle.table.specs.Code.{rowsOf};
 ghost use Rattle.analysis_steps.specs.Tree.{Ready, Walked};
 ghost use Rattle.analysis_steps.specs.Body.{AtLoop};
 ghost use Rattle.analysis_intervals.specs.Env.{envOf, rangeOf};
@@ -82,13 +82,7 @@ pub fn outside(r: &mut [[i32; 2]; 16], one: Loop)
 }
 
 // From the ranges before the loop at row i to those after it; its end.
-fn after_loop(
-    text: &[u8],
-    rows: &[[u32; 9]; 256],
-    count: usize,
-    i: usize,
-    r: &mut [[i32; 2]; 16],
-) -> usize
+fn after_loop(text: &[u8], rows: &[u32], count: usize, i: usize, r: &mut [[i32; 2]; 16]) -> usize
     requires { ⌜ AtLoop (now text) (rowsOf (now rows)) count i × (length (now r) ≡ 16) ⌝ }
     ensures { λ e. ⌜ AfterLoop (now (text .entry)) (rowsOf (now (rows .entry))) count i (envOf (now (r .entry))) (now (r .exit)) e ⌝ }
 {
@@ -102,7 +96,7 @@ fn after_loop(
 // The ranges after the block that starts at row `at`; `next` gets the row that closes the block.
 pub fn after(
     text: &[u8],
-    rows: &[[u32; 9]; 256],
+    rows: &[u32],
     count: usize,
     at: usize,
     start: [[i32; 2]; 16],

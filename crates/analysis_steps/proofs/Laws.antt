@@ -9,10 +9,10 @@ use Rattle.rules.specs.declared.Row.{Row}
 use Rattle.rules.specs.Blocks.{End, Plain, View, is-plain, is-pick, is-else, is-end, is-loop, viewOf, viewAt, withLast, done, plain, pick, loop, kindOf}
 use Rattle.rules.proofs.Laws.{kind-of}
 use Rattle.rules.proofs.Rows.{LoopAt, PickAt, alone, both, block-last, block-plain, block-loop, block-pick, block-end, block-else}
-use Rattle.analysis_table.specs.declared.Shape.{Shape}
-use Rattle.analysis_table.specs.Code.{kindAt}
-use Rattle.analysis_table.specs.Shapes.{shapeBy, plainBy, pastBy, pastElse}
-use Rattle.analysis_table.proofs.Laws.{past-text}
+use Rattle.table.specs.declared.Shape.{Shape}
+use Rattle.table.specs.Code.{kindAt}
+use Rattle.table.specs.Shapes.{shapeBy, plainBy, pastBy, pastElse}
+use Rattle.table.proofs.Laws.{past-text}
 use Rattle.analysis_steps.specs.Tree.{kinds, blockAt, endAt, Whole, LoopHead, headBy, secondAt}
 
 module _ (text : List ℕ) (rows : List Row) (count : ℕ) where

@@ -12,9 +12,9 @@ use Rattle.rules_steps.specs.Joins.{still, then, either}
 use Rattle.rules.specs.Steps.{rowStep, step}
 use Rattle.rules_steps.specs.Ends.{EndsWithin}
 use Rattle.analysis_row_steps.proofs.Ends.{ends-more, then-ends}
-use Rattle.analysis_table.specs.Code.{kindAt}
-use Rattle.analysis_table.specs.declared.Shape.{Shape}
-use Rattle.analysis_table.specs.Shapes.{shapeOf, plainOf}
+use Rattle.table.specs.Code.{kindAt}
+use Rattle.table.specs.declared.Shape.{Shape}
+use Rattle.table.specs.Shapes.{shapeOf, plainOf}
 use Rattle.analysis_steps.specs.declared.StepOver.{StepOver}
 use Rattle.analysis_steps.specs.Tree.{Ready, Walked, blockAt, headOf}
 use Rattle.analysis_steps.specs.Sets.{setOf, none, withRow, bothOf, assignsFrom, SetIs}

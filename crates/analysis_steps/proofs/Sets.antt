@@ -13,9 +13,9 @@ use Rattle.rules.specs.declared.Kind.the-variants.{Set, Move, Cue, Pick, Else, 
 use Rattle.rules.specs.Blocks.{Plain, Last, no-step, step-by, View, is-plain, is-pick, is-else, is-end, is-loop, viewOf, kindOf, withLast, Block, done, plain, pick, loop, snoc}
 use Rattle.rules.specs.Steps.{sets, starts, assigns}
 use Rattle.rules.proofs.Laws.{no-true, put-set}
-use Rattle.analysis_table.specs.declared.Shape.{Shape}
-use Rattle.analysis_table.specs.Shapes.{shapeBy, shapeOf, lastRow, plainBy, plainOf}
-use Rattle.analysis_table.proofs.Laws.{shape-text}
+use Rattle.table.specs.declared.Shape.{Shape}
+use Rattle.table.specs.Shapes.{shapeBy, shapeOf, lastRow, plainBy, plainOf}
+use Rattle.table.proofs.Laws.{shape-text}
 use Rattle.analysis_steps.specs.Tree.{headBy, headOf, formOf, testOf}
 use Rattle.analysis_steps.specs.Sets.{setOf, none, withOne, withRow, bothOf, assignsFrom}
 

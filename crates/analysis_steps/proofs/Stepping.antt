@@ -18,9 +18,9 @@ use Rattle.rules.specs.Steps.{sets, starts, assigns, sourceStep, changeStep, ro
 use Rattle.rules_steps.specs.Ends.{EndsWithin}
 use Rattle.rules.specs.Bounds.{Fine}
 use Rattle.analysis_row_steps.proofs.Ends.{ends-more, ends-only, still-ends, then-ends, either-ends, change-ends}
-use Rattle.analysis_table.specs.declared.Shape.{Shape}
-use Rattle.analysis_table.specs.Code.{kindAt}
-use Rattle.analysis_table.specs.Shapes.{shapeOf, lastRow, plainOf}
+use Rattle.table.specs.declared.Shape.{Shape}
+use Rattle.table.specs.Code.{kindAt}
+use Rattle.table.specs.Shapes.{shapeOf, lastRow, plainOf}
 use Rattle.analysis_steps.specs.Tree.{Ready, Walked, blockAt, headOf}
 use Rattle.analysis_steps.specs.Body.{bodyAt}
 use Rattle.analysis_steps.proofs.Laws.{PickIs, LoopIs}

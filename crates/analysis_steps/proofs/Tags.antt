@@ -2,18 +2,19 @@
 use mathlib.Core.Path.{_≡_, refl}
 use mathlib.Core.Bool.{true, false, false≢true}
 use mathlib.Core.List.{List, [], _∷_}
-use Prim.Native.Nat.{ℕ, _<_}
+use Prim.Native.Nat.{ℕ, _+_, _*_, _<_}
+use lib.ListN.{length}
 use types.Run.{OneOf, miss}
 use denote.Enum.Declared.{tagOf}
 use Rattle.rules_steps.specs.declared.Step.the-variants.{Unknown}
 use Rattle.rules.specs.Blocks.{viewOf, kindOf}
 use Rattle.rules.specs.Steps.{sets, rowStep, sourceStep, changeStep}
 use Rattle.rules.specs.Bounds.{Fine, FineChange}
-use Rattle.analysis_table.specs.declared.Tag.{Tag}
-use Rattle.analysis_table.specs.Code.{numbersAt, rowTag, kindBy, variableIn, stepIn, kindAt, rowsOf}
-use Rattle.analysis_table.specs.Shapes.{plainOf}
-use Rattle.analysis_table.proofs.Tag.{the-type}
-use Rattle.analysis_table.proofs.Laws.{kind-is}
+use Rattle.table.specs.declared.Tag.{Tag}
+use Rattle.table.specs.Code.{numbersAt, rowTag, kindBy, variableIn, stepIn, kindAt, rowsOf}
+use Rattle.table.specs.Shapes.{plainOf}
+use Rattle.table.proofs.Tag.{the-type}
+use Rattle.table.proofs.Laws.{kind-is}
 
 none : {A B : Type 0} → A → false ≡ true → B
 none f h = absurd (false≢true h)
@@ -62,16 +63,16 @@ module _ (text e : List ℕ) where
   small Tag.Hold = none
 
 -- the same of row i
-module _ (text : List ℕ) (t : List (List ℕ)) (i : ℕ) {g : Tag} (p : g ≡ rowTag (numbersAt t i)) where
+module _ (text t : List ℕ) (i : ℕ) (l : 4 * i + 3 < length t) {g : Tag} (p : g ≡ rowTag (numbersAt t i)) where
   pub step-set : g ≡ Tag.Set → (v : ℕ) → sets v (plainOf text (kindAt (rowsOf t) i)) ≡ true → rowStep v (plainOf text (kindAt (rowsOf t) i)) ≡ Unknown
-  step-set q v = rw (kind-is t i p q) (set-step text (numbersAt t i) v)
+  step-set q v = rw (kind-is t i l p q) (set-step text (numbersAt t i) v)
 
   pub step-off : g ≡ Tag.Off → (v : ℕ) → sets v (plainOf text (kindAt (rowsOf t) i)) ≡ true → rowStep v (plainOf text (kindAt (rowsOf t) i)) ≡ Unknown
-  step-off q v = rw (kind-is t i p q) (off-step text (numbersAt t i) v)
+  step-off q v = rw (kind-is t i l p q) (off-step text (numbersAt t i) v)
 
   pub step-change : OneOf no-set (tagOf the-type g) → (v : ℕ) → Fine (kindAt (rowsOf t) i) → sets v (plainOf text (kindAt (rowsOf t) i)) ≡ true
       → FineChange (stepIn (numbersAt t i)) × (rowStep v (plainOf text (kindAt (rowsOf t) i)) ≡ changeStep (stepIn (numbersAt t i)))
-  step-change o v = rw (kind-is t i p refl) (change-steps text (numbersAt t i) g o v)
+  step-change o v = rw (kind-is t i l p refl) (change-steps text (numbersAt t i) g o v)
 
-pub sets-small : (text : List ℕ) (t : List (List ℕ)) (i : ℕ) → Fine (kindAt (rowsOf t) i) → sets (variableIn (numbersAt t i)) (plainOf text (kindAt (rowsOf t) i)) ≡ true → variableIn (numbersAt t i) < 16
-sets-small text t i = rw (kind-is t i {g = rowTag (numbersAt t i)} refl refl) (small text (numbersAt t i) (rowTag (numbersAt t i)))
+pub sets-small : (text t : List ℕ) (i : ℕ) → 4 * i + 3 < length t → Fine (kindAt (rowsOf t) i) → sets (variableIn (numbersAt t i)) (plainOf text (kindAt (rowsOf t) i)) ≡ true → variableIn (numbersAt t i) < 16
+sets-small text t i l = rw (kind-is t i l {g = rowTag (numbersAt t i)} refl refl) (small text (numbersAt t i) (rowTag (numbersAt t i)))

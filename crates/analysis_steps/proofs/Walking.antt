@@ -5,16 +5,16 @@ use Prim.Native.Nat.{ℕ, _+_, _≤_, _<_}
 use native.Mathlib.Omega.{arith}
 use Rattle.rules.specs.declared.Row.{Row}
 use Rattle.rules.specs.Blocks.{viewOf, kindOf, Block, done, plain, pick, loop}
-use Rattle.analysis_table.specs.declared.Shape.{Shape}
-use Rattle.analysis_table.specs.Code.{kindAt}
-use Rattle.analysis_table.specs.Shapes.{shapeOf, plainOf, pastElse}
-use Rattle.analysis_table.proofs.Laws.{shape-text}
+use Rattle.table.specs.declared.Shape.{Shape}
+use Rattle.table.specs.Code.{kindAt}
+use Rattle.table.specs.Shapes.{shapeOf, plainOf, pastElse}
+use Rattle.table.proofs.Laws.{shape-text}
 use Rattle.analysis_steps.specs.Tree.{Ready, Walked, Whole, blockAt, endAt, headOf, formOf, testOf, withLastOf}
 use Rattle.analysis_steps.proofs.Laws.{RowLaw, PickIs, LoopIs, ClosedAt, row-law, last-law}
 
 -- the rows build from any row on
 pub ready : {text : List ℕ} {rows : List Row} {count i j : ℕ} → Ready text rows count i → j ≤ count → Ready text rows count j
-ready r h = record { few = r .few; within = h; built = r .built; fine = r .fine; written = r .written }
+ready r h = record { few = r .few; reach = r .reach; within = h; built = r .built; fine = r .fine; written = r .written }
 
 -- at row i, x is what the rows from `at` gave, and the block from i is left
 pub record Walking {A B : Type 0} (text : List ℕ) (rows : List Row) (count : ℕ) (f : A → Block → B) (at : ℕ) (x₀ : A) (i : ℕ) (x : A) : Type 0 where

@@ -8,9 +8,9 @@ use Rattle.rules.specs.declared.Row.{Row}
 use Rattle.rules.specs.Blocks.{Block}
 use Rattle.rules.specs.Steps.{assigns, step}
 use Rattle.rules_steps.specs.Ends.{EndsWithin}
-use Rattle.analysis_table.specs.declared.Shape.{Shape}
-use Rattle.analysis_table.specs.Code.{kindAt}
-use Rattle.analysis_table.specs.Shapes.{shapeOf}
+use Rattle.table.specs.declared.Shape.{Shape}
+use Rattle.table.specs.Code.{kindAt}
+use Rattle.table.specs.Shapes.{shapeOf}
 use Rattle.analysis_steps.specs.declared.Moves.{Moves}
 use Rattle.analysis_steps.specs.declared.StepOver.{StepOver}
 use Rattle.analysis_steps.specs.Sets.{setOf, assignsFrom}

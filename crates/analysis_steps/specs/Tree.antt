@@ -12,8 +12,8 @@ use Rattle.rules.specs.Bounds.{Fine}
 use Rattle.rules.specs.Written.{Written}
 use Rattle.rules.specs.Blocks as blocks
 use Rattle.rules.specs.Blocks.{RowKind, Test, test, Form, while, Last, no-step, View, is-plain, is-pick, is-else, is-end, is-loop, viewOf, Block, to-end, parts, build, kindOf, kindsOf}
-use Rattle.analysis_table.specs.Code.{kindAt}
-use Rattle.analysis_table.specs.Shapes.{pastElse}
+use Rattle.table.specs.Code.{kindAt}
+use Rattle.table.specs.Shapes.{pastElse}
 
 -- the kinds of the first `count` rows
 abbrev pub kinds : List ℕ → List Row → ℕ → List RowKind
@@ -33,9 +33,10 @@ pub record Whole (text : List ℕ) (rows : List Row) (count : ℕ) : Type 0 wher
   pub long : length (kinds text rows count) ≡ count
   pub builds : build 0 (kinds text rows count) ≡ parts (to-end (length (kinds text rows count)) tree) []
 
--- what a walk from row `at` asks: the rows are a tree, and each is inside its limits and has its expressions in the text
+-- what a walk from row `at` asks: the rows are in the table and are a tree, and each is inside its limits and has its expressions in the text
 pub record Ready (text : List ℕ) (rows : List Row) (count at : ℕ) : Type 0 where
   pub few : count ≤ 256
+  pub reach : count ≤ length rows
   pub within : at ≤ count
   pub built : Whole text rows count
   pub fine : (i : ℕ) → i < count → Fine (kindAt rows i)

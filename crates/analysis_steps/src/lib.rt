@@ -1,23 +1,23 @@
 // How a variable moves in one turn: walks over the rows of a block, nested blocks first.
 use analysis_row_steps::change_step;
 use analysis_row_steps::only;
-use analysis_table::Shape;
-use analysis_table::Tag;
-use analysis_table::assigns;
-use analysis_table::change_at;
-use analysis_table::past_else;
-use analysis_table::shape_at;
-use analysis_table::tag_at;
-use analysis_table::variable_at;
 use rules_steps::Step;
+use table::Shape;
+use table::Tag;
+use table::assigns;
+use table::change_at;
+use table::past_else;
+use table::shape_at;
+use table::tag_at;
+use table::variable_at;
 ghost use mathlib.Core.Path.{_≡_};
 ghost use mathlib.Core.List.{List};
-ghost use Prim.Native.Nat.{ℕ, _<_};
+ghost use Prim.Native.Nat.{ℕ, _+_, _*_, _<_};
 ghost use lib.ListN.{length};
 ghost use Rattle.rules.specs.Steps.{sets, rowStep};
 ghost use Rattle.rules.specs.Bounds.{Fine};
-ghost use Rattle.analysis_table.specs.Code.{kindAt, rowsOf};
-ghost use Rattle.analysis_table.specs.Shapes.{plainOf};
+ghost use Rattle.table.specs.Code.{kindAt, rowsOf};
+ghost use Rattle.table.specs.Shapes.{plainOf};
 ghost use Rattle.analysis_steps.specs.Tree.{Ready};
 ghost use Rattle.analysis_steps.specs.Sets.{setOf, withOne, withRow, bothOf, SetIs};
 ghost use Rattle.analysis_steps.specs.Body.{AtLoop, MovesOf, BodyMoves};
@@ -32,8 +32,8 @@ fn add(set: &mut [bool; 16], v: u8)
 }
 
 // Adds the variable that a plain row assigns, or a for's step row.
-pub fn add_row(set: &mut [bool; 16], rows: &[[u32; 9]; 256], i: usize)
-    requires { ⌜ (i < 256) × Fine (kindAt (rowsOf (now rows)) i) × (length (now set) ≡ 16) ⌝ }
+pub fn add_row(set: &mut [bool; 16], rows: &[u32], i: usize)
+    requires { ⌜ (4 * i + 3 < length (now rows)) × Fine (kindAt (rowsOf (now rows)) i) × (length (now set) ≡ 16) ⌝ }
     ensures { λ _. ⌜ ((text : List ℕ) → SetIs (now (set .exit)) (withRow (setOf (now (set .entry))) (plainOf text (kindAt (rowsOf (now (rows .entry))) i)))) ⌝ }
 {
     if assigns(rows, i) {
@@ -61,16 +61,16 @@ pub fn has(set: [bool; 16], v: u8) -> bool
 }
 
 // Does a plain row assign v, or a for's step row?
-pub fn sets_it(rows: &[[u32; 9]; 256], i: usize, v: u8) -> bool
-    requires { ⌜ i < 256 ⌝ }
+pub fn sets_it(rows: &[u32], i: usize, v: u8) -> bool
+    requires { ⌜ 4 * i + 3 < length (now rows) ⌝ }
     ensures { λ r. ⌜ ((text : List ℕ) → r ≡ sets v (plainOf text (kindAt (rowsOf (now (rows .entry))) i))) ⌝ }
 {
     assigns(rows, i) && v == variable_at(rows, i)
 }
 
 // The step of a row; of a for, the step of its step row.
-fn row_step(rows: &[[u32; 9]; 256], i: usize, v: u8) -> Step
-    requires { ⌜ (i < 256) × Fine (kindAt (rowsOf (now rows)) i) ⌝ }
+fn row_step(rows: &[u32], i: usize, v: u8) -> Step
+    requires { ⌜ (4 * i + 3 < length (now rows)) × Fine (kindAt (rowsOf (now rows)) i) ⌝ }
     ensures { λ r. ⌜ ((text : List ℕ) → r ≡ rowStep v (plainOf text (kindAt (rowsOf (now (rows .entry))) i))) ⌝ }
 {
     if !sets_it(rows, i, v) {
@@ -92,7 +92,7 @@ pub struct StepOver {
 // What the block that starts at row `at` does: its variables are added to the set; the step of v, and the row that closes the block.
 pub fn moves_of(
     text: &[u8],
-    rows: &[[u32; 9]; 256],
+    rows: &[u32],
     count: usize,
     at: usize,
     v: u8,
@@ -145,7 +145,7 @@ pub struct Moves {
 }
 
 // What the body of the loop at row i does, a for's step row included, with the step of v.
-pub fn body_moves(text: &[u8], rows: &[[u32; 9]; 256], count: usize, i: usize, v: u8) -> Moves
+pub fn body_moves(text: &[u8], rows: &[u32], count: usize, i: usize, v: u8) -> Moves
     requires { ⌜ AtLoop (now text) (rowsOf (now rows)) count i × (v < 16) ⌝ }
     ensures { λ r. ⌜ BodyMoves (now (text .entry)) (rowsOf (now (rows .entry))) count i v r ⌝ }
 {

@@ -8,11 +8,11 @@ use denote.Enum.Declared.{tagOf}
 use Rattle.rules.specs.Blocks.{viewOf, kindOf}
 use Rattle.rules.specs.declared.Prices.{Prices}
 use Rattle.rules.specs.Figures.{price}
-use Rattle.analysis_table.specs.declared.Shape.{Shape}
-use Rattle.analysis_table.specs.declared.Tag.{Tag}
-use Rattle.analysis_table.specs.Code.{kindBy}
-use Rattle.analysis_table.specs.Shapes.{shapeOf, plainOf}
-use Rattle.analysis_table.proofs.Tag.{the-type}
+use Rattle.table.specs.declared.Shape.{Shape}
+use Rattle.table.specs.declared.Tag.{Tag}
+use Rattle.table.specs.Code.{kindBy}
+use Rattle.table.specs.Shapes.{shapeOf, plainOf}
+use Rattle.table.proofs.Tag.{the-type}
 
 -- any row but a cue
 abbrev no-cue : List ℕ

@@ -3,9 +3,6 @@ use analysis_comparisons::both;
 use analysis_lines::put_line;
 use analysis_passes::Round;
 use analysis_steps::sets_it;
-use analysis_table::Shape;
-use analysis_table::Tag;
-use analysis_table::tag_at;
 use analysis_ticks::first_over;
 use analysis_ticks::plus;
 use analysis_ticks::times;
@@ -15,6 +12,9 @@ use min_max::larger;
 use rules::Kind;
 use rules::LoopLine;
 use rules::Prices;
+use table::Shape;
+use table::Tag;
+use table::tag_at;
 ghost use mathlib.Core.Path.{_≡_};
 ghost use mathlib.Core.List.{List};
 ghost use Prim.Native.Nat.{ℕ, _+_, _*_, _≤_, _<_, max};
@@ -22,8 +22,8 @@ ghost use lib.ListN.{length};
 ghost use Rattle.rules_steps.specs.Ends.{EndsWithin};
 ghost use Rattle.rules.specs.Bounds.{FinePrices};
 ghost use Rattle.rules.specs.Figures.{price};
-ghost use Rattle.analysis_table.specs.Code.{kindAt, rowsOf};
-ghost use Rattle.analysis_table.specs.Shapes.{shapeOf, plainOf};
+ghost use Rattle.table.specs.Code.{kindAt, rowsOf};
+ghost use Rattle.table.specs.Shapes.{shapeOf, plainOf};
 ghost use Rattle.analysis_trips.specs.Found.{tripOf};
 ghost use Rattle.analysis_ticks.specs.Capped.{capped};
 ghost use Rattle.analysis_passes.specs.Rounds.{FineRound};
@@ -43,8 +43,8 @@ pub struct Tally {
 }
 
 // The price of the plain row i.
-fn plain_price(rows: &[[u32; 9]; 256], i: usize, prices: Prices) -> u64
-    requires { ⌜ (i < 256) × (shapeOf (kindAt (rowsOf (now rows)) i) ≡ Shape.Plain) ⌝ }
+fn plain_price(rows: &[u32], i: usize, prices: Prices) -> u64
+    requires { ⌜ (4 * i + 3 < length (now rows)) × (shapeOf (kindAt (rowsOf (now rows)) i) ≡ Shape.Plain) ⌝ }
     ensures { λ r. ⌜ ((text : List ℕ) → r ≡ price prices (plainOf text (kindAt (rowsOf (now (rows .entry))) i))) ⌝ }
 {
     match tag_at(rows, i) {
@@ -64,8 +64,8 @@ pub fn last_ticks(kind: Kind, prices: Prices) -> u64
 }
 
 // After the plain row i, in all passes.
-pub fn past_row(rows: &[[u32; 9]; 256], i: usize, prices: Prices, round: Round, t: Tally) -> Tally
-    requires { ⌜ (i < 256) × (shapeOf (kindAt (rowsOf (now rows)) i) ≡ Shape.Plain) × FinePrices prices × FineRound round × (t .spent ≤ 1_000_000_000_001) ⌝ }
+pub fn past_row(rows: &[u32], i: usize, prices: Prices, round: Round, t: Tally) -> Tally
+    requires { ⌜ (4 * i + 3 < length (now rows)) × (shapeOf (kindAt (rowsOf (now rows)) i) ≡ Shape.Plain) × FinePrices prices × FineRound round × (t .spent ≤ 1_000_000_000_001) ⌝ }
     ensures { λ r. ⌜ ((text : List ℕ) (ls : List (List ℕ)) → PastRow prices round (withLines t ls) (plainOf text (kindAt (rowsOf (now (rows .entry))) i)) (withLines r ls)) ⌝ }
 {
     let price = plain_price(rows, i, prices);

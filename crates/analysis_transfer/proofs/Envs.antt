@@ -17,11 +17,11 @@ use Rattle.rules.specs.declared.Operand.{Operand}
 use Rattle.rules.specs.Blocks.{viewOf, exprOf, kindOf}
 use types.Run.{OneOf, miss}
 use denote.Enum.Declared.{tagOf}
-use Rattle.analysis_table.specs.declared.Shape.{Shape}
-use Rattle.analysis_table.specs.declared.Tag.{Tag}
-use Rattle.analysis_table.specs.Code.{kindBy, variableIn, startIn, stepIn}
-use Rattle.analysis_table.specs.Shapes.{shapeOf, plainOf}
-use Rattle.analysis_table.proofs.Tag.{the-type}
+use Rattle.table.specs.declared.Shape.{Shape}
+use Rattle.table.specs.declared.Tag.{Tag}
+use Rattle.table.specs.Code.{kindBy, variableIn, startIn, stepIn}
+use Rattle.table.specs.Shapes.{shapeOf, plainOf}
+use Rattle.table.proofs.Tag.{the-type}
 use Rattle.analysis_intervals.specs.Env.{envOf}
 use Rattle.analysis_transfer.specs.Env.{envUpTo}
 use Rattle.analysis_intervals.specs.Changes.{joinRange, withZero, changedRange}

@@ -7,22 +7,22 @@ use analysis_intervals::interval_at;
 use analysis_intervals::joined_interval;
 use analysis_intervals::with_zero;
 use analysis_steps::has;
-use analysis_table::Shape;
-use analysis_table::Tag;
-use analysis_table::change_at;
-use analysis_table::operand_at;
-use analysis_table::tag_at;
-use analysis_table::variable_at;
 use rules::Kind;
+use table::Shape;
+use table::Tag;
+use table::change_at;
+use table::operand_at;
+use table::tag_at;
+use table::variable_at;
 ghost use mathlib.Core.Path.{_≡_};
-ghost use Prim.Native.Nat.{_<_};
+ghost use Prim.Native.Nat.{_+_, _*_, _<_};
 ghost use lib.ListN.{length};
 ghost use Rattle.rules.specs.Values.{put};
 ghost use Rattle.rules.specs.Ranges.{join, afterRow, atStart};
 ghost use Rattle.rules.specs.Bounds.{Fine};
 ghost use Rattle.rules.specs.Written.{Written};
-ghost use Rattle.analysis_table.specs.Code.{kindAt, rowsOf};
-ghost use Rattle.analysis_table.specs.Shapes.{shapeOf, plainOf};
+ghost use Rattle.table.specs.Code.{kindAt, rowsOf};
+ghost use Rattle.table.specs.Shapes.{shapeOf, plainOf};
 ghost use Rattle.analysis_steps.specs.Tree.{formOf, testOf};
 ghost use Rattle.analysis_steps.specs.Sets.{setOf};
 ghost use Rattle.analysis_intervals.specs.Env.{envOf, rangeOf};
@@ -52,8 +52,8 @@ pub fn joined(a: [[i32; 2]; 16], b: [[i32; 2]; 16]) -> [[i32; 2]; 16]
 }
 
 // The ranges after the plain row i.
-pub fn step_row(text: &[u8], r: &mut [[i32; 2]; 16], rows: &[[u32; 9]; 256], i: usize)
-    requires { ⌜ (i < 256) × Fine (kindAt (rowsOf (now rows)) i) × (shapeOf (kindAt (rowsOf (now rows)) i) ≡ Shape.Plain) × (length (now r) ≡ 16) × Written (now text) (kindAt (rowsOf (now rows)) i) ⌝ }
+pub fn step_row(text: &[u8], r: &mut [[i32; 2]; 16], rows: &[u32], i: usize)
+    requires { ⌜ (4 * i + 3 < length (now rows)) × Fine (kindAt (rowsOf (now rows)) i) × (shapeOf (kindAt (rowsOf (now rows)) i) ≡ Shape.Plain) × (length (now r) ≡ 16) × Written (now text) (kindAt (rowsOf (now rows)) i) ⌝ }
     ensures { λ _. ⌜ EnvIs (now (r .exit)) (afterRow (envOf (now (r .entry))) (plainOf (now (text .entry)) (kindAt (rowsOf (now (rows .entry))) i))) ⌝ }
 {
     match tag_at(rows, i) {

@@ -17,7 +17,7 @@ use Rattle.rules_steps.specs.Ends.{EndsWithin}
 use Rattle.rules.specs.Trips as trips
 use Rattle.rules.specs.Trips.{keeps, own, broken, copied, chase, watched, toward, wayOf}
 use Rattle.rules.specs.Questions.{known}
-use Rattle.analysis_table.specs.Code.{kindAt}
+use Rattle.table.specs.Code.{kindAt}
 use Rattle.analysis_steps.specs.Tree.{formOf, testOf}
 use Rattle.analysis_steps.specs.Body.{AtLoop, bodyAt}
 use Rattle.analysis_ways.specs.declared.LoopTest.{LoopTest}

@@ -9,12 +9,12 @@ use analysis_only_rows::Sole;
 use analysis_only_rows::sole_of;
 use analysis_steps::body_moves;
 use analysis_steps::has;
-use analysis_table::kind_at;
 use expression_names::keeps_in;
 use rules::Comparison;
 use rules::Kind;
 use rules::Operand;
 use rules_steps::Step;
+use table::kind_at;
 ghost use mathlib.Core.Path.{_≡_};
 ghost use mathlib.Core.Bool.{true};
 ghost use mathlib.Core.List.{List};
@@ -27,7 +27,7 @@ ghost use Rattle.rules.specs.Steps.{assigns};
 ghost use Rattle.rules.specs.Ranges.{isDo, isHold};
 ghost use Rattle.rules.specs.Trips as trips;
 ghost use Rattle.rules.specs.Bounds.{Fine, FineOperand};
-ghost use Rattle.analysis_table.specs.Code.{kindAt, rowsOf};
+ghost use Rattle.table.specs.Code.{kindAt, rowsOf};
 ghost use Rattle.analysis_steps.specs.Tree.{formOf};
 ghost use Rattle.analysis_steps.specs.Sets.{setOf};
 ghost use Rattle.analysis_steps.specs.Body.{AtLoop};
@@ -143,7 +143,7 @@ pub enum Way {
 // The tested variable's only row copies w.
 fn copied_way(
     text: &[u8],
-    rows: &[[u32; 9]; 256],
+    rows: &[u32],
     count: usize,
     i: usize,
     comparison: Comparison,
@@ -163,7 +163,7 @@ fn copied_way(
 }
 
 // Which way the while, do or for at row i goes, by the only row of its tested variable, which has no step of its own.
-fn sole_way(text: &[u8], rows: &[[u32; 9]; 256], count: usize, i: usize) -> Way
+fn sole_way(text: &[u8], rows: &[u32], count: usize, i: usize) -> Way
     requires { ⌜ SoleFrom (now text) (rowsOf (now rows)) count i ⌝ }
     ensures { λ r. ⌜ WayAt (now (text .entry)) (rowsOf (now (rows .entry))) count i r ⌝ }
 {
@@ -185,7 +185,7 @@ fn sole_way(text: &[u8], rows: &[[u32; 9]; 256], count: usize, i: usize) -> Way
 // The flag's only row is an off that compares w with k.
 fn watched_way(
     text: &[u8],
-    rows: &[[u32; 9]; 256],
+    rows: &[u32],
     count: usize,
     i: usize,
     w: u8,
@@ -206,7 +206,7 @@ fn watched_way(
 }
 
 // Which way the hold at row i goes, by the only row of its flag.
-fn hold_way(text: &[u8], rows: &[[u32; 9]; 256], count: usize, i: usize) -> Way
+fn hold_way(text: &[u8], rows: &[u32], count: usize, i: usize) -> Way
     requires { ⌜ AtLoop (now text) (rowsOf (now rows)) count i × (isHold (formOf (now text) (kindAt (rowsOf (now rows)) i)) ≡ true) ⌝ }
     ensures { λ r. ⌜ WayAt (now (text .entry)) (rowsOf (now (rows .entry))) count i r ⌝ }
 {
@@ -225,7 +225,7 @@ fn hold_way(text: &[u8], rows: &[[u32; 9]; 256], count: usize, i: usize) -> Way
 // The limit is the variable w, which the body assigns; step: the tested variable's own.
 fn chased_way(
     text: &[u8],
-    rows: &[[u32; 9]; 256],
+    rows: &[u32],
     count: usize,
     i: usize,
     head: LoopTest,
@@ -248,7 +248,7 @@ fn chased_way(
 }
 
 // Which way the loop at row i goes, by its limit, which the body assigns; step: the tested variable's own, which is known.
-fn limit_way(text: &[u8], rows: &[[u32; 9]; 256], count: usize, i: usize, step: Step) -> Way
+fn limit_way(text: &[u8], rows: &[u32], count: usize, i: usize, step: Step) -> Way
     requires { ⌜ LimitAt (now text) (rowsOf (now rows)) count i step ⌝ }
     ensures { λ r. ⌜ WayAt (now (text .entry)) (rowsOf (now (rows .entry))) count i r ⌝ }
 {
@@ -265,7 +265,7 @@ fn limit_way(text: &[u8], rows: &[[u32; 9]; 256], count: usize, i: usize, step: 
 // Which way the loop at row i goes; held: it is a hold; step: its tested variable's own; kept: the answer to question 10.
 pub fn way_of(
     text: &[u8],
-    rows: &[[u32; 9]; 256],
+    rows: &[u32],
     count: usize,
     i: usize,
     held: bool,

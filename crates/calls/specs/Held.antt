@@ -11,7 +11,7 @@ use Rattle.rules.specs.declared.Verdict.the-variants.{Refused}
 use Rattle.rules.specs.Questions.{verdict}
 use Rattle.rules.specs.Scripts.{Script, BlankFrom, scriptOf, startEnv, treeOf, Legal}
 use Rattle.rules.specs.Calls.{Judged, accepted, refuses, judgedBy, pricesOf, storeVerdict}
-use Rattle.analysis_table.specs.Code.{kindAt}
+use Rattle.table.specs.Code.{kindAt}
 use Rattle.analysis.specs.declared.Figures.{Figures}
 use Rattle.analysis.specs.Whole.{AnalysisOf}
 

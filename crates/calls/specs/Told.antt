@@ -11,7 +11,7 @@ use Rattle.rules.specs.declared.LoopCount.{LoopCount}
 use Rattle.rules.specs.declared.Verdict.the-variants.{Passed, Refused}
 use Rattle.rules.specs.Blocks.{kindsOf}
 use Rattle.rules.specs.Written.{Written}
-use Rattle.analysis_table.specs.Code.{kindAt}
+use Rattle.table.specs.Code.{kindAt}
 use Rattle.rules.specs.Answers.{Answer}
 use Rattle.rules.specs.Scripts.{reportTicks}
 use Rattle.rules.specs.Calls.{Judged, accepted, pricesOf, replyOf, bufferOf, RunReply, ran, refuses, loopRows, countsAt, storeAfter}

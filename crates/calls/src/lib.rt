@@ -1,6 +1,5 @@
 // The two calls on a script that has been read: its report, and its run.
 use analysis::Figures;
-use analysis_table::put_rows;
 use calls_prices::prices_of;
 use min_max::smaller;
 use rules::Ending;
@@ -10,6 +9,7 @@ use rules::Reply;
 use rules::Row;
 use rules::Verdict;
 use run_loops::NO_COUNT;
+use table::pack_rows;
 ghost use mathlib.Core.Path.{_≡_};
 ghost use mathlib.Core.Bool.{_&&_};
 ghost use mathlib.Core.List.{List};
@@ -45,9 +45,8 @@ pub fn measure_script(
 {
     let none: [u64; 7] = [0; 7];
     let mut lines = [none; 16];
-    let zero: [u32; 9] = [0; 9];
-    let mut table = [zero; 256];
-    put_rows(&mut table, rows, count);
+    let mut table: [u32; 1024] = [0; 1024];
+    pack_rows(&mut table, rows, count);
     let by_kind = prices_of(prices);
     let figures = analysis::analyse(text, &table, count, ranges, vars, by_kind, &mut lines);
     if figures.number != 0 {
@@ -176,9 +175,8 @@ fn ticks_of(
 {
     let none: [u64; 7] = [0; 7];
     let mut lines = [none; 16];
-    let zero: [u32; 9] = [0; 9];
-    let mut table = [zero; 256];
-    put_rows(&mut table, rows, count);
+    let mut table: [u32; 1024] = [0; 1024];
+    pack_rows(&mut table, rows, count);
     analysis::analyse(text, &table, count, ranges, vars, prices, &mut lines)
 }
 
@@ -197,9 +195,8 @@ fn figures_of(
 {
     let none: [u64; 7] = [0; 7];
     let mut lines = [none; 16];
-    let zero: [u32; 9] = [0; 9];
-    let mut table = [zero; 256];
-    put_rows(&mut table, rows, count);
+    let mut table: [u32; 1024] = [0; 1024];
+    pack_rows(&mut table, rows, count);
     analysis::analyse(text, &table, count, ranges, vars, prices, &mut lines)
 }
 

@@ -16,7 +16,7 @@ use Rattle.rules.specs.Calls.{Judged, accepted, pricesOf, Priced, judgedPriced,
 use Rattle.rules_frames.specs.Frames.{Progress, beginning, ScriptPart, Readiness, ready, joins, enters, readiness}
 use Rattle.rules_frames.specs.InTime.{Accepts}
 use Rattle.rules_frames.proofs.FramesAsAlone.{cast-accepts}
-use Rattle.analysis_table.specs.Code.{kindAt}
+use Rattle.table.specs.Code.{kindAt}
 use Rattle.calls.specs.Held.{admitted}
 use Rattle.calls_scripts.specs.declared.Held.{Held}
 use Rattle.calls_scripts.specs.Held.{HeldRows, HeldAs, noPart, noProgress, Holds}

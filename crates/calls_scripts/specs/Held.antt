@@ -13,7 +13,7 @@ use Rattle.rules.specs.Scripts.{Script}
 use Rattle.rules.specs.File.{fileScript}
 use Rattle.rules.specs.Calls.{accepted, pricesOf, judgedFile, scratchSize}
 use Rattle.rules_frames.specs.Frames.{Progress, beginning, ScriptPart, total, Readiness, ready, readiness}
-use Rattle.analysis_table.specs.Code.{kindAt}
+use Rattle.table.specs.Code.{kindAt}
 use Rattle.run_pairs.specs.Tables.{TablesOf}
 use Rattle.run_loops.specs.Loops.{Headed}
 use Rattle.calls.specs.Held.{admitted}

@@ -5,14 +5,14 @@ use rules::Prices;
 ghost use mathlib.Core.Path.{_≡_};
 ghost use lib.ListN.{length};
 ghost use Rattle.rules.specs.Scripts.{scriptOf};
-ghost use Rattle.analysis_table.specs.Code.{rowsOf};
+ghost use Rattle.table.specs.Code.{rowsOf};
 ghost use Rattle.analysis_blocks.specs.Figure.{LoopsPass};
 ghost use Rattle.explain.specs.Asked.{Asked, passTicks, putTicks};
 
 // The ticks of one pass of the block that each row begins, 0 if it begins none, beside its other figures.
 pub fn put_ticks(
     text: &[u8],
-    rows: &[[u32; 9]; 256],
+    rows: &[u32],
     count: usize,
     ranges: [[i32; 2]; 16],
     vars: usize,

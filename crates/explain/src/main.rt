@@ -5,7 +5,6 @@ mod refusal;
 mod remedies;
 mod show;
 
-use analysis_table::put_rows;
 use calls_prices::ask_prices;
 use calls_prices::prices_of;
 use libc::STDIN_FILENO;
@@ -17,6 +16,7 @@ use rules::Prices;
 use rules::Row;
 use rules::Verdict;
 use show::print_script;
+use table::pack_rows;
 ghost use lib.ListN.{length};
 ghost use Rattle.rules.specs.Calls.{Priced};
 ghost use Rattle.calls.specs.Held.{Given};
@@ -25,7 +25,7 @@ ghost use Rattle.explain.specs.Asked.{Asked};
 // Prints a script that has been read, from its table of rows.
 fn explain_rows(
     file: &[u8],
-    rows: &[[u32; 9]; 256],
+    rows: &[u32],
     count: usize,
     ranges: [[i32; 2]; 16],
     vars: usize,
@@ -58,9 +58,8 @@ fn explain_script(
 )
     requires { ⌜ Given (now file) ranges vars rows count × Priced (now prices) ⌝ }
 {
-    let zero: [u32; 9] = [0; 9];
-    let mut table = [zero; 256];
-    put_rows(&mut table, rows, count);
+    let mut table: [u32; 1024] = [0; 1024];
+    pack_rows(&mut table, rows, count);
     let by_kind = prices_of(prices);
     explain_rows(file, &table, count, ranges, vars, by_kind);
 }

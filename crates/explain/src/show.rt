@@ -1,5 +1,4 @@
 // What is printed of an accepted script: its ticks, and each row behind its margin.
-use analysis_table::tag_at;
 use analysis_ticks::cap;
 use analysis_ticks::times;
 use explain_margin::EXACT;
@@ -29,8 +28,9 @@ use min_max::smaller_size;
 use program_parts::print_front;
 use program_parts::print_number;
 use program_parts::print_text;
+use table::tag_at;
 ghost use mathlib.Core.Path.{_≡_};
-ghost use Prim.Native.Nat.{_≤_, _<_};
+ghost use Prim.Native.Nat.{_+_, _*_, _≤_, _<_};
 ghost use lib.ListN.{length};
 ghost use Rattle.explain_margin.specs.Columns.{Narrow};
 
@@ -155,14 +155,14 @@ pub fn print_line(file: &[u8], k: usize, without: usize, column: usize) {
 fn print_row(
     file: &[u8],
     vars: usize,
-    rows: &[[u32; 9]; 256],
+    rows: &[u32],
     i: usize,
     figures: [u64; 4],
     nest: OpenBlocks,
     w: Widths,
     whole: u64,
 )
-    requires { ⌜ (i < 256) × (vars ≤ 16) × Narrow w ⌝ }
+    requires { ⌜ (4 * i + 3 < length (now rows)) × (vars ≤ 16) × Narrow w ⌝ }
 {
     print_right(i as u64, 3);
     print_text(b" ");
@@ -183,13 +183,13 @@ fn print_row(
 fn print_rows(
     file: &[u8],
     vars: usize,
-    rows: &[[u32; 9]; 256],
+    rows: &[u32],
     count: usize,
     figures: &[[u64; 4]; 256],
     w: Widths,
     whole: u64,
 )
-    requires { ⌜ (count ≤ 256) × (vars ≤ 16) × (length (now figures) ≡ 256) × Narrow w ⌝ }
+    requires { ⌜ (count ≤ 256) × (4 * count ≤ length (now rows)) × (vars ≤ 16) × (length (now figures) ≡ 256) × Narrow w ⌝ }
 {
     let mut nest = OUTSIDE;
     let mut i: usize = 0;
@@ -206,12 +206,12 @@ fn print_rows(
 pub fn print_script(
     file: &[u8],
     vars: usize,
-    rows: &[[u32; 9]; 256],
+    rows: &[u32],
     count: usize,
     figures: &[[u64; 4]; 256],
     whole: u64,
 )
-    requires { ⌜ (count ≤ 256) × (vars ≤ 16) × (length (now figures) ≡ 256) ⌝ }
+    requires { ⌜ (count ≤ 256) × (4 * count ≤ length (now rows)) × (vars ≤ 16) × (length (now figures) ≡ 256) ⌝ }
 {
     let w = Widths {
         turns: column(greatest(figures, TURNS)),

@@ -4,8 +4,8 @@ use mathlib.Core.List.{List, [], _∷_}
 use Prim.Native.Nat.{ℕ, max}
 use lib.ListN.{getD, set}
 use Rattle.rules.specs.declared.LoopLine.{LoopLine}
-use Rattle.analysis_table.specs.declared.Shape.{Shape}
-use Rattle.analysis_table.specs.declared.Shape.the-variants.{Plain, Branch, Loop, Close}
+use Rattle.table.specs.declared.Shape.{Shape}
+use Rattle.table.specs.declared.Shape.the-variants.{Plain, Branch, Loop, Close}
 
 -- 2 stands for exact, 1 for most; 0 at a row that is no loop's head
 abbrev pub exactMark : Bool → ℕ

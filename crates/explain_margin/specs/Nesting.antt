@@ -3,8 +3,8 @@ use mathlib.Core.Bool.{cond}
 use Prim.Native.Nat.{ℕ, _+_, _-_}
 use lib.Dec.{ltb}
 use lib.ListN.{getD, set}
-use Rattle.analysis_table.specs.declared.Tag.{Tag}
-use Rattle.analysis_table.specs.declared.Tag.the-variants.{End, Else, Pick, Set, Move, Cue, While, Do, For, Off, Hold}
+use Rattle.table.specs.declared.Tag.{Tag}
+use Rattle.table.specs.declared.Tag.the-variants.{End, Else, Pick, Set, Move, Cue, While, Do, For, Off, Hold}
 use Rattle.explain_margin.specs.declared.nest.OpenBlocks.{OpenBlocks}
 
 -- how often what stands here is passed

@@ -1,15 +1,15 @@
 // The figures by row: turns, total and exact or most of a loop's head, the ticks of one pass of a block's head; 0 at other rows.
 use analysis_lines::line_at;
-use analysis_table::Shape;
-use analysis_table::shape_at;
 use min_max::larger;
 use rules::LoopLine;
+use table::Shape;
+use table::shape_at;
 ghost use mathlib.Core.Path.{_≡_};
 ghost use mathlib.Core.List.{[], _∷_};
-ghost use Prim.Native.Nat.{_<_, _≤_, max};
+ghost use Prim.Native.Nat.{_+_, _*_, _<_, _≤_, max};
 ghost use lib.ListN.{length, getD, take, set};
-ghost use Rattle.analysis_table.specs.Code.{kindAt, rowsOf};
-ghost use Rattle.analysis_table.specs.Shapes.{shapeOf};
+ghost use Rattle.table.specs.Code.{kindAt, rowsOf};
+ghost use Rattle.table.specs.Shapes.{shapeOf};
 ghost use Rattle.analysis_lines.specs.Coded.{linesIn};
 ghost use Rattle.explain_margin.specs.Figures.{exactMark, lineFigures, putLines, ticksBeside, isHead, mostIn};
 
@@ -60,8 +60,8 @@ pub fn put_lines(lines: &[[u64; 7]; 16], loops: usize, figures: &mut [[u64; 4]; 
 }
 
 // Is row i the head of a block, a loop or a pick?
-pub fn is_head(rows: &[[u32; 9]; 256], i: usize) -> bool
-    requires { ⌜ i < 256 ⌝ }
+pub fn is_head(rows: &[u32], i: usize) -> bool
+    requires { ⌜ 4 * i + 3 < length (now rows) ⌝ }
     ensures { λ r. ⌜ r ≡ isHead (shapeOf (kindAt (rowsOf (now (rows .entry))) i)) ⌝ }
 {
     match shape_at(rows, i) {

@@ -1,6 +1,6 @@
 // The open blocks along the rows: how deep a row stands, and how often what stands there is passed in all.
-use analysis_table::Tag;
 use min_max::smaller_size;
+use table::Tag;
 ghost use mathlib.Core.Path.{_≡_};
 ghost use Prim.Native.Nat.{_*_, _-_, _≤_, min};
 ghost use Rattle.explain_margin.specs.Nesting.{passesOf, writtenAt, openedBy, closedBy, nestAfter};

@@ -23,30 +23,31 @@ four : (i k : ℕ) → 4 * suc i + k ≡ suc (suc (suc (suc (4 * i + k))))
 four i k = omega arith
 
 -- the kind of row i is that of its numbers
-pub kind-in : (t : List ℕ) (i : ℕ) → kindAt (rowsOf t) i ≡ kindIn (numbersAt t i)
-unfolding kindIn kindBy entries
-kind-in [] i = refl
-kind-in (a ∷ []) zero = refl
-kind-in (a ∷ []) (suc i) = rw (four i 0)
-kind-in (a ∷ b ∷ []) zero = refl
-kind-in (a ∷ b ∷ []) (suc i) = rw (four i 0)
-kind-in (a ∷ b ∷ c ∷ []) zero = refl
-kind-in (a ∷ b ∷ c ∷ []) (suc i) = rw (four i 0)
-kind-in (a ∷ b ∷ c ∷ d ∷ t) zero = refl
-kind-in (a ∷ b ∷ c ∷ d ∷ t) (suc i) = rw (four i 0, four i 1, four i 2, four i 3) (kind-in t i)
+pub kind-in : (t : List ℕ) (i : ℕ) → 4 * i + 3 < length t → kindAt (rowsOf t) i ≡ kindIn (numbersAt t i)
+unfolding entries
+kind-in [] i h = absurd (omega arith)
+kind-in (a ∷ []) i h = absurd (omega arith)
+kind-in (a ∷ b ∷ []) i h = absurd (omega arith)
+kind-in (a ∷ b ∷ c ∷ []) i h = absurd (omega arith)
+kind-in (a ∷ b ∷ c ∷ d ∷ t) zero h = refl
+kind-in (a ∷ b ∷ c ∷ d ∷ t) (suc i) h = rw (four i 0, four i 1, four i 2, four i 3) (kind-in t i (omega arith))
 
 -- the kind of a row by its tag
-pub kind-is : (t : List ℕ) (i : ℕ) {g h : Tag} → g ≡ rowTag (numbersAt t i) → g ≡ h → kindAt (rowsOf t) i ≡ kindBy h (numbersAt t i)
+pub kind-is : (t : List ℕ) (i : ℕ) → 4 * i + 3 < length t → {g h : Tag} → g ≡ rowTag (numbersAt t i) → g ≡ h → kindAt (rowsOf t) i ≡ kindBy h (numbersAt t i)
 unfolding kindIn
-kind-is t i p q = kind-in t i ∙ ap (λ x. kindBy x (numbersAt t i)) (sym p ∙ q)
+kind-is t i l p q = kind-in t i l ∙ ap (λ x. kindBy x (numbersAt t i)) (sym p ∙ q)
 
-pub rows-length : (t : List ℕ) → length (rowsOf t) ≡ (length t + 3) / 4
+pub rows-length : (t : List ℕ) → length (rowsOf t) ≡ length t / 4
 unfolding entries
 rows-length [] = refl
 rows-length (a ∷ []) = refl
 rows-length (a ∷ b ∷ []) = refl
 rows-length (a ∷ b ∷ c ∷ []) = refl
 rows-length (a ∷ b ∷ c ∷ d ∷ t) = omega (arith, rows-length t)
+
+-- the numbers of a row are in the table
+pub row-in : (t : List ℕ) (i : ℕ) → i < length (rowsOf t) → 4 * i + 3 < length t
+row-in t i h = omega (arith, rows-length t)
 
 -- a row that is no else
 abbrev no-else : List ℕ

@@ -199,7 +199,7 @@ packed-all rows count t h l f =
     (λ i j. getD-take count (rowsOf t) i noRow (omega arith) ∙ row i (omega arith) ∙ sym (getD-take count rows i noRow (omega arith)))
   where
     row : (i : ℕ) → i < count → getD (rowsOf t) i noRow ≡ getD rows i noRow
-    row i j = let e = kind-in t i ∙ f i j in λ z. record { kind = e z }
+    row i j = let e = kind-in t i (omega arith) ∙ f i j in λ z. record { kind = e z }
 
 pub fill-done : (rows : List Row) (count : ℕ) (t₀ t : List ℕ) (o : Open) → length rows ≡ 256 → (p : Packable rows count t₀) → Filled rows count t o count
     → (text : List ℕ) → Closing (scriptRows text rows count) → Table text rows count t

@@ -121,12 +121,12 @@ kindIn e = kindBy (rowTag e) e
 abbrev pub numbersAt : List ℕ → ℕ → List ℕ
 numbersAt t i = getD t (4 * i + 0) 0 ∷ getD t (4 * i + 1) 0 ∷ getD t (4 * i + 2) 0 ∷ getD t (4 * i + 3) 0 ∷ []
 
--- the numbers of all rows; what the last row lacks of four is 0
+-- the numbers of all rows; fewer than four at the end are no row
 unfoldable pub entries : List ℕ → List (List ℕ)
 entries [] = []
-entries (a ∷ []) = (a ∷ 0 ∷ 0 ∷ 0 ∷ []) ∷ []
-entries (a ∷ b ∷ []) = (a ∷ b ∷ 0 ∷ 0 ∷ []) ∷ []
-entries (a ∷ b ∷ c ∷ []) = (a ∷ b ∷ c ∷ 0 ∷ []) ∷ []
+entries (a ∷ []) = []
+entries (a ∷ b ∷ []) = []
+entries (a ∷ b ∷ c ∷ []) = []
 entries (a ∷ b ∷ c ∷ d ∷ t) = (a ∷ b ∷ c ∷ d ∷ []) ∷ entries t
 
 -- the row that four numbers stand for

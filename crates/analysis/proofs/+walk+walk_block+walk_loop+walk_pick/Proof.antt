@@ -9,8 +9,9 @@ use mathlib.Core.List.{[]}
 use lib.ListN.{length}
 use Rattle.rules.specs.Steps.{starts}
 use Rattle.rules.specs.Questions.{loopsVerdict}
-use Rattle.analysis_table.specs.Code.{kindAt, rowsOf}
-use Rattle.analysis_table.specs.Shapes.{pastElse}
+use Rattle.table.specs.Code.{kindAt, rowsOf}
+use Rattle.table.specs.Shapes.{pastElse}
+use Rattle.table.proofs.Laws.{row-in}
 use Rattle.analysis_steps.specs.Tree.{blockAt, endAt, headOf, formOf, testOf}
 use Rattle.analysis_steps.specs.Sets.{setOf}
 use Rattle.analysis_steps.proofs.Laws.{PickIs, LoopIs}
@@ -45,8 +46,8 @@ use Rattle.analysis_entries.proofs.leave_loop.Reads as leave-loop-reads
 use Rattle.analysis_tallies.proofs.leave_pick.Reads as leave-pick-reads
 use Rattle.analysis_tallies.proofs.past_row.Reads as past-row-reads
 use Rattle.analysis_tallies.proofs.restarted.Reads as restarted-reads
-use Rattle.analysis_table.proofs.past_else.Reads as past-else-reads
-use Rattle.analysis_table.proofs.shape_at.Reads as shape-at-reads
+use Rattle.table.proofs.past_else.Reads as past-else-reads
+use Rattle.table.proofs.shape_at.Reads as shape-at-reads
 use Rattle.analysis.proofs.+walk+walk_block+walk_loop+walk_pick.{statement}
 use Rattle.analysis.proofs.+walk+walk_block+walk_loop+walk_pick.Tie.{close}
 
@@ -113,30 +114,30 @@ pick-from t s = withLines (s .args .t) (now (s .args .lines))
 
 pick-walk-requires : (t : ℕ) → pick-lts.Need-walk-requires (pick-given t) (pick-at-t t) walk-pick.Post
 pick-walk-requires t c κs =
-    let s = c .before .before .before .before .before in
-    let u = pick-is t (c .before .before .before .before .before) refl refl refl in
+    let s = c .before .before .before .before .before .before in
+    let u = pick-is t (c .before .before .before .before .before .before) refl refl refl in
     let h = pick-room (s .args .prices) (s .args .round) (envOf (now (s .args .r))) (pick-from t s) u (s .pre .1 .walk .room) in
     (omega (arith, s .pre .0, s .pre .1 .inside), restart-walkable (ready (s .pre .1 .walk .ready) (omega (arith, s .pre .1 .inside))) (s .pre .1 .walk .prices) (c .before .before .before .branch .ensures .1) (c .before .before .restarted .ensures _) (s .pre .1 .walk .long) (omega arith) (omega arith))
 
 pick-returns : (t : ℕ) → pick-lts.Need-returns (pick-given t) (pick-at-t t) walk-pick.Post
 pick-returns t c =
-    let s = c .before .before .before .before .before .before .before .before in
+    let s = c .before .before .before .before .before .before .before .before .before in
     record {
       stopped = λ h. pick-first (s .args .prices) (s .args .round) (envOf (now (s .args .r))) (pick-from t s) (pick-is t s refl refl refl) _ _ (refused-in (c .before .before .walk .ensures) h);
       whole = λ z. absurd (c .if1 .taken z);
     }
 
 -- the pick, once its first part is walked, and its first part
-pick-1 : (t : ℕ) (c : pick-lts.Else1 (pick-given t) (pick-at-t t) walk-pick.Post) {q e : ℕ} → let a = c .before .before .before .before .before .before .before .before .args in let rows = rowsOf (now (a .rows)) in let m = c .before .before .walk .result .next in q ≡ pastElse (kindAt rows m) m → e ≡ endAt (now (a .text)) rows (a .count) q
+pick-1 : (t : ℕ) (c : pick-lts.Else1 (pick-given t) (pick-at-t t) walk-pick.Post) {q e : ℕ} → let a = c .before .before .before .before .before .before .before .before .before .args in let rows = rowsOf (now (a .rows)) in let m = c .before .before .walk .result .next in q ≡ pastElse (kindAt rows m) m → e ≡ endAt (now (a .text)) rows (a .count) q
     → PickIs (now (a .text)) rows (a .count) (a .i) m q e
-pick-1 t c = pick-is t (c .before .before .before .before .before .before .before .before) (c .before .before .walk .ensures .whole (c .if1 .left) .place)
+pick-1 t c = pick-is t (c .before .before .before .before .before .before .before .before .before) (c .before .before .walk .ensures .whole (c .if1 .left) .place)
 
 pick-past-else-requires : (t : ℕ) → pick-lts.Need-past-else-requires (pick-given t) (pick-at-t t) walk-pick.Post
-pick-past-else-requires t c κs = let k = pick-1 t c refl refl in let f = c .before .before .before .before .before .before .before .before .pre .1 .walk .ready .few in omega arith
+pick-past-else-requires t c κs = let k = pick-1 t c refl refl in let f = c .before .before .before .before .before .before .before .before .before .pre .1 .walk .ready .reach in row-in (now (c .before .before .before .before .before .before .before .before .before .args .rows)) _ (omega arith)
 
 pick-walk-requires-2 : (t : ℕ) → pick-lts.Need-walk-requires-2 (pick-given t) (pick-at-t t) walk-pick.Post
 pick-walk-requires-2 t c κs =
-    let s = c .before .before .before .before .before .before .before .before .before .before .before .before in
+    let s = c .before .before .before .before .before .before .before .before .before .before .before .before .before in
     let u = pick-1 t (c .before .before .before .before) (c .before .before .before .past-else .ensures) refl in
     let h = pick-room (s .args .prices) (s .args .round) (envOf (now (s .args .r))) (pick-from t s) u (s .pre .1 .walk .room) in
     let p = c .before .before .before .before .before .before .walk .ensures .whole (c .before .before .before .before .if1 .left) in
@@ -145,7 +146,7 @@ pick-walk-requires-2 t c κs =
 
 pick-returns-2 : (t : ℕ) → pick-lts.Need-returns-2 (pick-given t) (pick-at-t t) walk-pick.Post
 pick-returns-2 t c =
-    let s = c .before .before .before .before .before .before .before .before .before .before .before .before .before .before .before in
+    let s = c .before .before .before .before .before .before .before .before .before .before .before .before .before .before .before .before in
     let u = pick-1 t (c .before .before .before .before .before .before .before) (c .before .before .before .before .before .before .past-else .ensures) refl in
     let n = part-by (s .args .prices) (s .args .round) (envOf (now (s .args .r))) (pick-from t s) u (c .before .before .before .before .before .before .before .before .before .before .before .before .before .branch .ensures .0) (c .before .before .before .before .before .before .before .before .before .before .before .before .restarted .ensures _) (c .before .before .before .before .before .before .before .before .before .walk .ensures .whole (c .before .before .before .before .before .before .before .if1 .left)) in
     record {
@@ -154,25 +155,25 @@ pick-returns-2 t c =
     }
 
 -- the pick, once both are
-pick-2 : (t : ℕ) (c : pick-lts.Else2 (pick-given t) (pick-at-t t) walk-pick.Post) → let a = c .before .before .before .before .before .before .before .before .before .before .before .before .before .before .before .args in PickIs (now (a .text)) (rowsOf (now (a .rows))) (a .count) (a .i) (c .before .before .before .before .before .before .before .before .before .walk .result .next) (c .before .before .before .before .before .before .past-else .result) (c .before .before .walk2 .result .next)
+pick-2 : (t : ℕ) (c : pick-lts.Else2 (pick-given t) (pick-at-t t) walk-pick.Post) → let a = c .before .before .before .before .before .before .before .before .before .before .before .before .before .before .before .before .args in PickIs (now (a .text)) (rowsOf (now (a .rows))) (a .count) (a .i) (c .before .before .before .before .before .before .before .before .before .walk .result .next) (c .before .before .before .before .before .before .past-else .result) (c .before .before .walk2 .result .next)
 pick-2 t c = pick-1 t (c .before .before .before .before .before .before .before) (c .before .before .before .before .before .before .past-else .ensures) (c .before .before .walk2 .ensures .whole (c .if2 .left) .place)
 
 pick-add-after-pick : (t : ℕ) → pick-lts.Need-add-after-pick (pick-given t) (pick-at-t t) walk-pick.Post
-pick-add-after-pick t c = let u = pick-2 t c in let f = c .before .before .before .before .before .before .before .before .before .before .before .before .before .before .before .pre .1 .walk .ready .few in search needs
+pick-add-after-pick t c = let u = pick-2 t c in let f = c .before .before .before .before .before .before .before .before .before .before .before .before .before .before .before .before .pre .1 .walk .ready .few in search needs
 
 pick-after-pick-requires : (t : ℕ) → pick-lts.Need-after-pick-requires (pick-given t) (pick-at-t t) walk-pick.Post
-pick-after-pick-requires t c κs = let r = c .before .before .before .before .before .before .before .before .before .before .before .before .before .before .before .before .pre .1 .walk .ready in let u = pick-2 t (c .before) in (ready r (omega arith), ready r (u .some))
+pick-after-pick-requires t c κs = let r = c .before .before .before .before .before .before .before .before .before .before .before .before .before .before .before .before .before .pre .1 .walk .ready in let u = pick-2 t (c .before) in (ready r (omega arith), ready r (u .some))
 
 pick-leave-pick-requires : (t : ℕ) → pick-lts.Need-leave-pick-requires (pick-given t) (pick-at-t t) walk-pick.Post
 pick-leave-pick-requires t c κs =
-    let w = c .before .before .before .before .before .before .before .before .before .before .before .before .before .before .before .before .before .pre .1 .walk in
+    let w = c .before .before .before .before .before .before .before .before .before .before .before .before .before .before .before .before .before .before .pre .1 .walk in
     let u = pick-2 t (c .before .before) in
     let f = w .ready .few in
     (w .prices .pick .small, omega arith, w .small, c .before .before .before .before .before .before .before .before .before .before .before .walk .ensures .whole (c .before .before .before .before .before .before .before .before .before .if1 .left) .small, c .before .before .before .before .walk2 .ensures .whole (c .before .before .if2 .left) .small)
 
 pick-returns-3 : (t : ℕ) → pick-lts.Need-returns-3 (pick-given t) (pick-at-t t) walk-pick.Post
 pick-returns-3 t c =
-    let s = c .before .before .before .before .before .before .before .before .before .before .before .before .before .before .before .before .before .before in
+    let s = c .before .before .before .before .before .before .before .before .before .before .before .before .before .before .before .before .before .before .before in
     let u = pick-2 t (c .before .before .before) in
     let π = s .args .prices in
     let ρ = envOf (now (s .args .r)) in
@@ -189,10 +190,10 @@ pick-returns-3 t c =
     }
 
 pick-branch-requires : (t : ℕ) → pick-lts.Need-branch-requires (pick-given t) (pick-at-t t) walk-pick.Post
-pick-branch-requires t c κs = c .before .pre .1 .walk .fine
+pick-branch-requires t c κs = c .before .before .pre .1 .walk .fine
 
 pick-add-walk : (t : ℕ) → pick-lts.Need-add-walk (pick-given t) (pick-at-t t) walk-pick.Post
-pick-add-walk t c = let f = c .before .before .before .pre .1 .walk .ready .few in let l = c .before .before .before .pre .1 .inside in search needs
+pick-add-walk t c = let f = c .before .before .before .before .pre .1 .walk .ready .few in let l = c .before .before .before .before .pre .1 .inside in search needs
 
 -- ---- a loop that ends at row e
 abbrev LoopStart : ℕ → Type 0
@@ -206,13 +207,13 @@ loop-from t s = withLines (s .args .t) (now (s .args .lines))
 
 loop-enter-loop-requires : (t : ℕ) → loop-lts.Need-enter-loop-requires (loop-given t) (loop-at-t t) walk-loop.Post
 loop-enter-loop-requires t c κs =
-    let s = c .before .before .before in
+    let s = c .before .before .before .before in
     let w = s .pre .1 .walk in
     (record { ready = w .ready; inside = s .pre .1 .inside; loops = s .pre .1 .is }, w .fine, w .prices, omega (arith, loop-room (s .args .prices) (s .args .round) (envOf (now (s .args .r))) (loop-from t s) (loop-is t s refl) (w .room)), w .long, s .pre .1 .long)
 
 loop-returns : (t : ℕ) → loop-lts.Need-returns (loop-given t) (loop-at-t t) walk-loop.Post
 loop-returns t c =
-    let s = c .before .before .before .before .before .before .before in
+    let s = c .before .before .before .before .before .before .before .before in
     record {
       stopped = λ h. loop-refused (s .args .prices) (s .args .round) (envOf (now (s .args .r))) (loop-from t s) (loop-is t s refl) _ _ (c .before .before .before .enter-loop .ensures .stopped h);
       whole = λ z. absurd (c .if1 .taken z);
@@ -220,14 +221,14 @@ loop-returns t c =
 
 loop-walk-requires : (t : ℕ) → loop-lts.Need-walk-requires (loop-given t) (loop-at-t t) walk-loop.Post
 loop-walk-requires t c κs =
-    let s = c .before .before .before .before .before .before .before .before .before .before in
+    let s = c .before .before .before .before .before .before .before .before .before .before .before in
     let e = c .before .before .before .before .before .before .enter-loop in
     let w = s .pre .1 .walk in
     (omega (arith, s .pre .0, s .pre .1 .inside), body-walkable (s .args .prices) (s .args .round) (envOf (now (s .args .r))) (loop-from t s) (loop-is t s (e .ensures .exit .ends .place)) (e .result) (e .ensures .whole (c .before .before .before .if1 .left)) (ready (w .ready) (omega (arith, s .pre .1 .inside))) (w .prices) (w .room))
 
 loop-returns-2 : (t : ℕ) → loop-lts.Need-returns-2 (loop-given t) (loop-at-t t) walk-loop.Post
 loop-returns-2 t c =
-    let s = c .before .before .before .before .before .before .before .before .before .before .before .before .before in
+    let s = c .before .before .before .before .before .before .before .before .before .before .before .before .before .before in
     let e = c .before .before .before .before .before .before .before .before .before .enter-loop in
     let l = c .before .before .before .before .before .before .if1 .left in
     let a = s .args in
@@ -241,18 +242,18 @@ loop-returns-2 t c =
 
 loop-leave-loop-requires : (t : ℕ) → loop-lts.Need-leave-loop-requires (loop-given t) (loop-at-t t) walk-loop.Post
 loop-leave-loop-requires t c κs =
-    let s = c .before .before .before .before .before .before .before .before .before .before .before .before .before .before in
+    let s = c .before .before .before .before .before .before .before .before .before .before .before .before .before .before .before in
     let e = c .before .before .before .before .before .before .before .before .before .before .enter-loop in
     let l = c .before .before .before .before .before .before .before .if1 .left in
     let w = s .pre .1 .walk in
     let n = e .ensures .whole l in
     let d = e .ensures .exit .ends in
     let f = w .ready .few in
-    (omega (arith, s .pre .1 .inside), e .ensures .exit .small, omega arith, w .small, c .before .before .before .walk .ensures .whole (c .before .if2 .left) .small, e .ensures .begun l .long, w .prices, w .fine, omega (arith, n .ran .tests, n .fine .few))
+    (row-in (now (s .args .rows)) _ (omega (arith, s .pre .1 .inside, w .ready .reach)), e .ensures .exit .small, omega arith, w .small, c .before .before .before .walk .ensures .whole (c .before .if2 .left) .small, e .ensures .begun l .long, w .prices, w .fine, omega (arith, n .ran .tests, n .fine .few))
 
 loop-returns-3 : (t : ℕ) → loop-lts.Need-returns-3 (loop-given t) (loop-at-t t) walk-loop.Post
 loop-returns-3 t c =
-    let s = c .before .before .before .before .before .before .before .before .before .before .before .before .before .before .before in
+    let s = c .before .before .before .before .before .before .before .before .before .before .before .before .before .before .before .before in
     let e = c .before .before .before .before .before .before .before .before .before .before .before .enter-loop in
     let l = c .before .before .before .before .before .before .before .before .if1 .left in
     let a = s .args in
@@ -278,22 +279,22 @@ loop-returns-3 t c =
     }
 
 loop-add-walk : (t : ℕ) → loop-lts.Need-add-walk (loop-given t) (loop-at-t t) walk-loop.Post
-loop-add-walk t c = let f = c .before .before .before .before .before .before .before .before .pre .1 .walk .ready .few in let l = c .before .before .before .before .before .before .before .before .pre .1 .inside in search needs
+loop-add-walk t c = let f = c .before .before .before .before .before .before .before .before .before .pre .1 .walk .ready .few in let l = c .before .before .before .before .before .before .before .before .before .pre .1 .inside in search needs
 
 -- ---- a pick or a loop
 block-shape-at-requires : (t : ℕ) → block-lts.Need-shape-at-requires (block-given t) (block-at-t t) walk-block.Post
-block-shape-at-requires t c κs = let a = c .before .pre .1 .0 in let f = a .walk .ready .few in let l = a .inside in omega arith
+block-shape-at-requires t c κs = let a = c .before .before .pre .1 .0 in let f = a .walk .ready .reach in let l = a .inside in row-in (now (c .before .before .args .rows)) _ (omega arith)
 
 block-walk-pick-requires : (t : ℕ) → block-lts.Need-walk-pick-requires (block-given t) (block-at-t t) walk-block.Post
 block-walk-pick-requires t c κs =
-    let a = c .before .before .before .before .before .before .pre .1 .0 in
-    (omega (arith, c .before .before .before .before .before .before .pre .0), record { walk = a .walk; inside = a .inside; is = sym (c .before .before .before .before .shape-at .ensures) ∙ c .before .before .enum-told .given .1; long = a .long })
+    let a = c .before .before .before .before .before .before .before .pre .1 .0 in
+    (omega (arith, c .before .before .before .before .before .before .before .pre .0), record { walk = a .walk; inside = a .inside; is = sym (c .before .before .before .before .shape-at .ensures) ∙ c .before .before .enum-told .given .1; long = a .long })
 
 block-walk-loop-requires : (t : ℕ) → block-lts.Need-walk-loop-requires (block-given t) (block-at-t t) walk-block.Post
 block-walk-loop-requires t c κs =
-    let a = c .before .before .before .before .before .pre .1 .0 in
+    let a = c .before .before .before .before .before .before .pre .1 .0 in
     let e = c .before .before .before .shape-at .ensures in
-    (omega (arith, c .before .before .before .before .before .pre .0), record { walk = a .walk; inside = a .inside; is = sym e ∙ loop-shape _ (c .before .before .match .keys2) (subst IsBlock (sym e) (c .before .before .before .before .before .pre .1 .1)); long = a .long })
+    (omega (arith, c .before .before .before .before .before .before .pre .0), record { walk = a .walk; inside = a .inside; is = sym e ∙ loop-shape _ (c .before .before .match .keys2) (subst IsBlock (sym e) (c .before .before .before .before .before .before .pre .1 .1)); long = a .long })
 
 -- ---- the walk
 abbrev Inv : walk-lts.InvT-loop
@@ -303,23 +304,23 @@ abbrev μ : walk-lts.MeasureT-loop
 μ text rows count at round prices lines₀ r₀ t₀ i₀ lines r t i = count - i
 
 walk-loop-holds : (t : ℕ) → walk-lts.Need-loop-holds (walk-given t) (walk-at-t t) walk.Post Inv μ
-walk-loop-holds t c = let w = c .before .pre .1 in (search needs, record { walk = begin _ _ _ _ _ (w .ready .within); small = w .small; long = w .long })
+walk-loop-holds t c = let w = c .before .before .pre .1 in (search needs, record { walk = begin _ _ _ _ _ (w .ready .within); small = w .small; long = w .long })
 
 walk-step-row-requires : (t : ℕ) → walk-lts.Need-step-row-requires (walk-given t) (walk-at-t t) walk.Post Inv μ
-walk-step-row-requires t c κs = let k = c .before .before .before .before .before .before .before .pre .1 .ready in let l = c .before .before .before .before .loop-test .taken in (search needs, k .fine _ l, sym (c .before .before .before .shape-at .ensures) ∙ c .before .enum-told .given .1, c .before .before .before .before .before .loop .inv .0, k .written _ l)
+walk-step-row-requires t c κs = let k = c .before .before .before .before .before .before .before .before .pre .1 .ready in let l = c .before .before .before .before .loop-test .taken in (row-in (now (c .before .before .before .before .before .before .before .before .args .rows)) _ (search needs), k .fine _ l, sym (c .before .before .before .shape-at .ensures) ∙ c .before .enum-told .given .1, c .before .before .before .before .before .loop .inv .0, k .written _ l)
 
 walk-past-row-requires : (t : ℕ) → walk-lts.Need-past-row-requires (walk-given t) (walk-at-t t) walk.Post Inv μ
-walk-past-row-requires t c κs = let w = c .before .before .before .before .before .before .before .before .pre .1 in (search needs, sym (c .before .before .before .before .shape-at .ensures) ∙ c .before .before .enum-told .given .1, w .prices, w .fine, c .before .before .before .before .before .before .loop .inv .1 .small)
+walk-past-row-requires t c κs = let w = c .before .before .before .before .before .before .before .before .before .pre .1 in (row-in (now (c .before .before .before .before .before .before .before .before .before .args .rows)) _ (search needs), sym (c .before .before .before .before .shape-at .ensures) ∙ c .before .before .enum-told .given .1, w .prices, w .fine, c .before .before .before .before .before .before .loop .inv .1 .small)
 
 walk-loop-again : (t : ℕ) → walk-lts.Need-loop-again (walk-given t) (walk-at-t t) walk.Post Inv μ
-walk-loop-again t c = (c .before .step-row .ensures .long, go-plain (c .before .before .before .before .before .before .before .loop .inv .1) (c .before .before .before .before .before .before .loop-test .taken) (c .before .before .before .before .before .before .before .before .before .pre .1 .ready .built) (sym (c .before .before .before .before .before .shape-at .ensures) ∙ c .before .before .before .enum-told .given .1) (c .before .step-row .ensures .value) (c .past-row .ensures _ _))
+walk-loop-again t c = (c .before .step-row .ensures .long, go-plain (c .before .before .before .before .before .before .before .loop .inv .1) (c .before .before .before .before .before .before .loop-test .taken) (c .before .before .before .before .before .before .before .before .before .before .pre .1 .ready .built) (sym (c .before .before .before .before .before .shape-at .ensures) ∙ c .before .before .before .enum-told .given .1) (c .before .step-row .ensures .value) (c .past-row .ensures _ _))
 
 walk-walk-block-requires : (t : ℕ) → walk-lts.Need-walk-block-requires (walk-given t) (walk-at-t t) walk.Post Inv μ
 walk-walk-block-requires t c κs =
-    let w = c .before .before .before .before .before .before .before .pre .1 in
+    let w = c .before .before .before .before .before .before .before .before .pre .1 in
     let k = c .before .before .before .before .before .loop .inv .1 in
     let l = c .before .before .before .before .loop-test .taken in (
-      omega (arith, c .before .before .before .before .before .before .before .pre .0, k .walk .low),
+      omega (arith, c .before .before .before .before .before .before .before .before .pre .0, k .walk .low),
       (
         record { walk = record { ready = ready (w .ready) (k .walk .high); prices = w .prices; small = k .small; fine = w .fine; room = omega (arith, room k, w .room); long = k .long }; inside = l; is = refl; long = c .before .before .before .before .before .loop .inv .0 },
         subst IsBlock (c .before .before .before .shape-at .ensures) (block-shape _ (c .before .before .match .keys3)),
@@ -333,7 +334,7 @@ walk-returns-2 t c = record {
 }
 
 walk-add-i-2 : (t : ℕ) → walk-lts.Need-add-i-2 (walk-given t) (walk-at-t t) walk.Post Inv μ
-walk-add-i-2 t c = let p = c .before .before .before .walk-block .ensures .whole (c .before .if1 .left) in let f = c .before .before .before .before .before .before .before .before .before .before .before .pre .1 .ready .few in search needs
+walk-add-i-2 t c = let p = c .before .before .before .walk-block .ensures .whole (c .before .if1 .left) in let f = c .before .before .before .before .before .before .before .before .before .before .before .before .pre .1 .ready .few in search needs
 
 walk-loop-less-2 : (t : ℕ) → walk-lts.Need-loop-less-2 (walk-given t) (walk-at-t t) walk.Post Inv μ
 walk-loop-less-2 t c = let p = c .before .before .before .walk-block .ensures .whole (c .before .if1 .left) in search needs
@@ -347,7 +348,7 @@ walk-returns t c =
     let e = c .ended .ensures (c .before .before .before .before .before .loop .lines) in
     record {
       stopped = λ h. absurd (h (e .number));
-      whole = λ z. closing (at-close _ _ _ _ _ (fold-none _ _ _ (k .small)) (k .walk) (c .before .before .before .before .loop-test .taken) (c .before .before .before .before .before .before .before .pre .1 .ready .built) (sym (c .before .before .before .shape-at .ensures) ∙ c .before .enum-told2 .given .1)) (k .small) (k .long) e;
+      whole = λ z. closing (at-close _ _ _ _ _ (fold-none _ _ _ (k .small)) (k .walk) (c .before .before .before .before .loop-test .taken) (c .before .before .before .before .before .before .before .before .pre .1 .ready .built) (sym (c .before .before .before .shape-at .ensures) ∙ c .before .enum-told2 .given .1)) (k .small) (k .long) e;
     }
 
 walk-returns-3 : (t : ℕ) → walk-lts.Need-returns-3 (walk-given t) (walk-at-t t) walk.Post Inv μ
@@ -356,7 +357,7 @@ walk-returns-3 t c =
     let e = c .ended2 .ensures (c .before .before .loop .lines) in
     record {
       stopped = λ h. absurd (h (e .number));
-      whole = λ z. closing (at-last _ _ _ _ _ (fold-none _ _ _ (k .small)) (k .walk) (c .before .before .before .before .pre .1 .ready .built) (c .before .loop-test .left)) (k .small) (k .long) e;
+      whole = λ z. closing (at-last _ _ _ _ _ (fold-none _ _ _ (k .small)) (k .walk) (c .before .before .before .before .before .pre .1 .ready .built) (c .before .loop-test .left)) (k .small) (k .long) e;
     }
 
 walk-add-i : (t : ℕ) → walk-lts.Need-add-i (walk-given t) (walk-at-t t) walk.Post Inv μ
@@ -370,7 +371,7 @@ pub +walk+walk-block+walk-loop+walk-pick-spec : {M : Type 1} → statement M
     Inv
     μ
     (walk-loop-holds t)
-    (λ c κs. search needs) (λ c. search needs)
+    (λ c κs. row-in (now (c .before .before .before .before .args .rows)) _ (search needs)) (λ c. search needs)
     (walk-step-row-requires t)
     (walk-past-row-requires t)
     (walk-add-i t)

@@ -6,7 +6,8 @@ use mathlib.Core.Path.{ap, _∙_}
 use Prim.Native.Nat.{_+_, _<_}
 use Rattle.rules.specs.Ranges.{atStart}
 use Rattle.rules.specs.Trips.{inside, outside}
-use Rattle.analysis_table.specs.Code.{kindAt, rowsOf}
+use Rattle.table.specs.Code.{kindAt, rowsOf}
+use Rattle.table.proofs.Laws.{row-in}
 use Rattle.analysis_steps.specs.Tree.{headOf, formOf, testOf, blockAt}
 use Rattle.analysis_steps.specs.Body.{bodyAt}
 use Rattle.analysis_steps.proofs.Laws.{LoopIs}
@@ -21,16 +22,16 @@ inside-count : (s : tie.Start) → s .args .i < s .args .count
 inside-count s = let h = s .pre .before in let k = s .pre .inside in omega arith
 
 kind-at-requires : tie.Need-kind-at-requires
-kind-at-requires c κs = let s = c .before .before in let l = inside-count s in let f = s .pre .ready .few in omega arith
+kind-at-requires c κs = let s = c .before .before .before in let l = inside-count s in let f = s .pre .ready .reach in row-in (now (s .args .rows)) _ (omega arith)
 
 at-start-requires : tie.Need-at-start-requires
 at-start-requires c κs =
-    let s = c .before .before .before in
+    let s = c .before .before .before .before in
     let k = s .pre .ready in
     (rw (c .kind-at .ensures) (k .fine _ (inside-count s)), s .pre .long, rw (c .kind-at .ensures) (k .written _ (inside-count s)))
 
 loop-at-requires : tie.Need-loop-at-requires
-loop-at-requires c κs = let s = c .before .before .before .before .before in (record { ready = s .pre .ready; inside = inside-count s; loops = s .pre .is }, c .before .at-start .ensures .long)
+loop-at-requires c κs = let s = c .before .before .before .before .before .before in (record { ready = s .pre .ready; inside = inside-count s; loops = s .pre .is }, c .before .at-start .ensures .long)
 
 inside-requires : tie.Need-inside-requires
 inside-requires c κs = (c .before .before .loop-at .ensures .small, c .before .before .before .before .at-start .ensures .long)
@@ -39,18 +40,18 @@ outside-requires : tie.Need-outside-requires
 outside-requires c κs = (c .before .before .loop-at .ensures .small, c .before .before .before .before .at-start .ensures .long)
 
 add-result : tie.Need-add-result
-add-result c = let s = c .before .before .before .before .before .before .before .before .before in let l = inside-count s in let f = s .pre .ready .few in search needs
+add-result c = let s = c .before .before .before .before .before .before .before .before .before .before in let l = inside-count s in let f = s .pre .ready .few in search needs
 
 add-result-2 : tie.Need-add-result-2
-add-result-2 c = let s = c .before .before .before .before .before .before .before .before .before in let e = c .before .before .before .loop-at .ensures .ends in let f = s .pre .ready .few in omega (arith, e .high)
+add-result-2 c = let s = c .before .before .before .before .before .before .before .before .before .before in let e = c .before .before .before .loop-at .ensures .ends in let f = s .pre .ready .few in omega (arith, e .high)
 
 -- the loop, and the ranges at its start
-loop-is : (c : tie.After-loop-at) → let a = c .before .before .before .before .before .before .args in let rows = rowsOf (now (a .rows)) in LoopIs (now (a .text)) rows (a .count) (headOf (now (a .text)) (kindAt rows (a .i))) (a .i) (c .loop-at .result .next)
-loop-is c = let s = c .before .before .before .before .before .before in loop-at _ _ _ (inside-count s) (s .pre .ready .built) (s .pre .is) (c .loop-at .ensures .ends .place)
+loop-is : (c : tie.After-loop-at) → let a = c .before .before .before .before .before .before .before .args in let rows = rowsOf (now (a .rows)) in LoopIs (now (a .text)) rows (a .count) (headOf (now (a .text)) (kindAt rows (a .i))) (a .i) (c .loop-at .result .next)
+loop-is c = let s = c .before .before .before .before .before .before .before in loop-at _ _ _ (inside-count s) (s .pre .ready .built) (s .pre .is) (c .loop-at .ensures .ends .place)
 
 returns : tie.Need-returns
 returns c =
-    let s = c .before .before .before .before .before .before .before .before .before in
+    let s = c .before .before .before .before .before .before .before .before .before .before in
     let a = s .args in
     let text = now (a .text) in
     let rows = rowsOf (now (a .rows)) in
@@ -70,7 +71,7 @@ returns c =
 
 returns-2 : tie.Need-returns-2
 returns-2 c =
-    let s = c .before .before .before .before .before .before .before .before .before in
+    let s = c .before .before .before .before .before .before .before .before .before .before in
     let a = s .args in
     let text = now (a .text) in
     let rows = rowsOf (now (a .rows)) in

@@ -7,8 +7,9 @@ use Prim.Native.Nat.{ℕ, _+_, _≤_}
 use Rattle.rules.specs.Blocks.{viewOf, kindOf}
 use Rattle.rules.specs.Ranges.{join}
 use mathlib.Core.List.{[]}
-use Rattle.analysis_table.specs.Code.{kindAt, rowsOf}
-use Rattle.analysis_table.specs.Shapes.{pastElse}
+use Rattle.table.specs.Code.{kindAt, rowsOf}
+use Rattle.table.specs.Shapes.{pastElse}
+use Rattle.table.proofs.Laws.{row-in}
 use Rattle.analysis_steps.specs.Tree.{endAt}
 use Rattle.analysis_steps.proofs.Laws.{PickIs}
 use Rattle.analysis_steps.proofs.Walking.{ready, pick-at}
@@ -25,29 +26,29 @@ near : (s : tie.Start) {m q : ℕ} → let a = s .args in let rows = rowsOf (now
 near s {m} p e = omega (arith, e, past-near (viewOf (kindOf [] (kindAt (rowsOf (now (s .args .rows))) m))) m)
 
 add-after : tie.Need-add-after
-add-after c = let s = c .before in let f = s .pre .ready .few in let h = s .pre .before in let k = s .pre .inside in search needs
+add-after c = let s = c .before .before in let f = s .pre .ready .few in let h = s .pre .before in let k = s .pre .inside in search needs
 
 after-requires : tie.Need-after-requires
-after-requires c κs = let s = c .before .before .before in let h = s .pre .before in let k = s .pre .inside in ready (s .pre .ready) (omega arith)
+after-requires c κs = let s = c .before .before .before .before in let h = s .pre .before in let k = s .pre .inside in ready (s .pre .ready) (omega arith)
 
 add-result : tie.Need-add-result
-add-result c = let s = c .before .before .before .before .before in let f = s .pre .ready .few in let h = s .pre .before in let k = s .pre .inside in search needs
+add-result c = let s = c .before .before .before .before .before .before in let f = s .pre .ready .few in let h = s .pre .before in let k = s .pre .inside in search needs
 
 returns : tie.Need-returns
 returns c =
-    let s = c .before .before .before .before .before in
+    let s = c .before .before .before .before .before .before in
     let p = c .before .after .ensures .place in
     record { low = omega arith; high = let h = s .pre .before in omega arith; ends = omega (arith, c .if1 .taken, p); long = s .pre .long; part = part-is (pick-is s p refl refl .block) refl pick-first }
 
 past-else-requires : tie.Need-past-else-requires
-past-else-requires c κs = let s = c .before .before .before .before .before in let f = s .pre .ready .few in let u = pick-is s (c .before .after .ensures .place) refl refl in omega (arith, u .inside)
+past-else-requires c κs = let s = c .before .before .before .before .before .before in let f = s .pre .ready .reach in let u = pick-is s (c .before .after .ensures .place) refl refl in row-in (now (s .args .rows)) _ (omega (arith, u .inside))
 
 after-requires-2 : tie.Need-after-requires-2
-after-requires-2 c κs = let s = c .before .before .before .before .before .before .before .before in ready (s .pre .ready) (pick-is s (c .before .before .before .before .after .ensures .place) (c .before .before .past-else .ensures) refl .some)
+after-requires-2 c κs = let s = c .before .before .before .before .before .before .before .before .before in ready (s .pre .ready) (pick-is s (c .before .before .before .before .after .ensures .place) (c .before .before .past-else .ensures) refl .some)
 
 returns-2 : tie.Need-returns-2
 returns-2 c =
-    let s = c .before .before .before .before .before .before .before .before .before .before in
+    let s = c .before .before .before .before .before .before .before .before .before .before .before in
     let q = c .before .before .before .before .past-else .ensures in
     let e = c .before .after2 .ensures .place in
     let u = pick-is s (c .before .before .before .before .before .before .after .ensures .place) q e in
@@ -55,14 +56,14 @@ returns-2 c =
 
 add-result-2 : tie.Need-add-result-2
 add-result-2 c =
-    let s = c .before .before .before .before .before .before .before .before .before .before .before in
+    let s = c .before .before .before .before .before .before .before .before .before .before .before .before in
     let u = pick-is s (c .before .before .before .before .before .before .before .after .ensures .place) (c .before .before .before .before .before .past-else .ensures) (c .before .before .after2 .ensures .place) in
     let f = s .pre .ready .few in
     omega (arith, u .below)
 
 returns-3 : tie.Need-returns-3
 returns-3 c =
-    let s = c .before .before .before .before .before .before .before .before .before .before .before in
+    let s = c .before .before .before .before .before .before .before .before .before .before .before .before in
     let u = pick-is s (c .before .before .before .before .before .before .before .after .ensures .place) (c .before .before .before .before .before .past-else .ensures) (c .before .before .after2 .ensures .place) in
     record {
       low = omega (arith, u .first, u .second, u .last);

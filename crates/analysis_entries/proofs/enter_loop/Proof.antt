@@ -12,7 +12,8 @@ use Rattle.rules.specs.Steps.{starts}
 use Rattle.rules.specs.Ranges.{atStart}
 use Rattle.rules.specs.Trips.{turnsOf, innerOf, outerOf}
 use Rattle.rules.specs.Questions.{ofTrip}
-use Rattle.analysis_table.specs.Code.{kindAt, rowsOf}
+use Rattle.table.specs.Code.{kindAt, rowsOf}
+use Rattle.table.proofs.Laws.{row-in}
 use Rattle.analysis_steps.specs.Tree.{formOf, testOf}
 use Rattle.analysis_steps.specs.Sets.{setOf}
 use Rattle.analysis_intervals.specs.Env.{envOf}
@@ -34,20 +35,20 @@ use Rattle.analysis_entries.proofs.enter_loop.Tie as tie
 
 at-start-requires : tie.Need-at-start-requires
 at-start-requires c κs =
-    let p = c .before .before .before .pre in
+    let p = c .before .before .before .before .pre in
     let l = p .0 in
     (rw (c .before .kind-at .ensures) (l .ready .fine _ (l .inside)), p .5, rw (c .before .kind-at .ensures) (l .ready .written _ (l .inside)))
 
 loop-at-requires : tie.Need-loop-at-requires
-loop-at-requires c κs = (c .before .before .before .before .before .pre .0, c .before .at-start .ensures .long)
+loop-at-requires c κs = (c .before .before .before .before .before .before .pre .0, c .before .at-start .ensures .long)
 
-begun : (c : tie.After-at-start) → envOf (c .at-start .last .1 .0) ≡ startAt (now (c .before .before .before .before .args .text)) (rowsOf (now (c .before .before .before .before .args .rows))) (c .before .before .before .before .args .i) (envOf (now (c .before .before .before .before .args .r)))
-begun c = c .at-start .ensures .value ∙ ap (λ k. let text = now (c .before .before .before .before .args .text) in atStart (formOf text k) (testOf text k) (envOf (now (c .before .before .before .before .args .r)))) (c .before .before .kind-at .ensures)
+begun : (c : tie.After-at-start) → envOf (c .at-start .last .1 .0) ≡ startAt (now (c .before .before .before .before .before .args .text)) (rowsOf (now (c .before .before .before .before .before .args .rows))) (c .before .before .before .before .before .args .i) (envOf (now (c .before .before .before .before .before .args .r)))
+begun c = c .at-start .ensures .value ∙ ap (λ k. let text = now (c .before .before .before .before .before .args .text) in atStart (formOf text k) (testOf text k) (envOf (now (c .before .before .before .before .before .args .r)))) (c .before .before .kind-at .ensures)
 
-one-is : (c : tie.After-loop-at) → LoopAt (now (c .before .before .before .before .before .before .args .text)) (rowsOf (now (c .before .before .before .before .before .before .args .rows))) (c .before .before .before .before .before .before .args .count) (c .before .before .before .before .before .before .args .i) (startAt (now (c .before .before .before .before .before .before .args .text)) (rowsOf (now (c .before .before .before .before .before .before .args .rows))) (c .before .before .before .before .before .before .args .i) (envOf (now (c .before .before .before .before .before .before .args .r)))) (c .loop-at .result)
-one-is c = subst (λ ρ. LoopAt (now (c .before .before .before .before .before .before .args .text)) (rowsOf (now (c .before .before .before .before .before .before .args .rows))) (c .before .before .before .before .before .before .args .count) (c .before .before .before .before .before .before .args .i) ρ (c .loop-at .result)) (begun (c .before .before)) (c .loop-at .ensures)
+one-is : (c : tie.After-loop-at) → LoopAt (now (c .before .before .before .before .before .before .before .args .text)) (rowsOf (now (c .before .before .before .before .before .before .before .args .rows))) (c .before .before .before .before .before .before .before .args .count) (c .before .before .before .before .before .before .before .args .i) (startAt (now (c .before .before .before .before .before .before .before .args .text)) (rowsOf (now (c .before .before .before .before .before .before .before .args .rows))) (c .before .before .before .before .before .before .before .args .i) (envOf (now (c .before .before .before .before .before .before .before .args .r)))) (c .loop-at .result)
+one-is c = subst (λ ρ. LoopAt (now (c .before .before .before .before .before .before .before .args .text)) (rowsOf (now (c .before .before .before .before .before .before .before .args .rows))) (c .before .before .before .before .before .before .before .args .count) (c .before .before .before .before .before .before .before .args .i) ρ (c .loop-at .result)) (begun (c .before .before)) (c .loop-at .ensures)
 
-exit-is : (c : tie.After-exit-of) → ExitAt (now (c .before .before .before .before .before .before .before .before .args .text)) (rowsOf (now (c .before .before .before .before .before .before .before .before .args .rows))) (c .before .before .before .before .before .before .before .before .args .count) (c .before .before .before .before .before .before .before .before .args .i) (startAt (now (c .before .before .before .before .before .before .before .before .args .text)) (rowsOf (now (c .before .before .before .before .before .before .before .before .args .rows))) (c .before .before .before .before .before .before .before .before .args .i) (envOf (now (c .before .before .before .before .before .before .before .before .args .r)))) (c .exit-of .result)
+exit-is : (c : tie.After-exit-of) → ExitAt (now (c .before .before .before .before .before .before .before .before .before .args .text)) (rowsOf (now (c .before .before .before .before .before .before .before .before .before .args .rows))) (c .before .before .before .before .before .before .before .before .before .args .count) (c .before .before .before .before .before .before .before .before .before .args .i) (startAt (now (c .before .before .before .before .before .before .before .before .before .args .text)) (rowsOf (now (c .before .before .before .before .before .before .before .before .before .args .rows))) (c .before .before .before .before .before .before .before .before .before .args .i) (envOf (now (c .before .before .before .before .before .before .before .before .before .args .r)))) (c .exit-of .result)
 exit-is c =
     let one = one-is (c .before .before) in
     let x = c .exit-of .ensures in
@@ -64,7 +65,7 @@ inside-requires c κs = (c .before .before .before .before .before .before .befo
 
 returns : tie.Need-returns
 returns c =
-    let i = c .before .before .before .before .before .before .before .before .before .before .before .before .before .args .i in
+    let i = c .before .before .before .before .before .before .before .before .before .before .before .before .before .before .args .i in
     let f = subst (FigureOf (tripOf (c .before .before .before .before .before .before .before .loop-at .result .trip))) (c .before .before .number .given .1) (c .before .before .before .before .ask .ensures) in
     record {
       begun = λ z. absurd (trip-number i (tripOf (c .before .before .before .before .before .before .before .loop-at .result .trip)) _ _ (f i) (sym (c .refused .ensures .0) ∙ z));
@@ -79,34 +80,34 @@ figure c = subst (FigureOf (tripOf (c .before .before .before .before .before .b
 
 walked-requires : tie.Need-walked-requires
 walked-requires c κs =
-    let s = c .before .before .before .before .before .before .before .before .before .before .before .before .before in
+    let s = c .before .before .before .before .before .before .before .before .before .before .before .before .before .before in
     let l = s .pre .0 in
     (c .before .before .before .before .before .before .before .loop-at .ensures .near, figure (c .before) .0, s .pre .1, (now (s .args .text), rw (c .before .before .before .before .before .before .before .before .before .before .before .kind-at .ensures) (l .ready .written _ (l .inside))))
 
 times-requires : tie.Need-times-requires
-times-requires c κs = c .before .before .before .before .before .before .before .before .before .before .before .before .before .before .pre .1 .small
+times-requires c κs = c .before .before .before .before .before .before .before .before .before .before .before .before .before .before .before .pre .1 .small
 
 body-requires : tie.Need-body-requires
-body-requires c κs = (c .before .before .before .before .before .before .before .before .before .loop-at .ensures .near, c .before .before .before .before .before .before .before .before .before .loop-at .ensures .small, omega (arith, c .times .ensures), c .before .before .before .before .before .before .before .before .before .before .before .before .before .before .before .pre .1)
+body-requires c κs = (c .before .before .before .before .before .before .before .before .before .loop-at .ensures .near, c .before .before .before .before .before .before .before .before .before .loop-at .ensures .small, omega (arith, c .times .ensures), c .before .before .before .before .before .before .before .before .before .before .before .before .before .before .before .before .pre .1)
 
 -- the body's last row, in all passes that are walked
 last : (c : tie.After-struct-known) → c .before .before .body .result .count * c .before .last-ticks .result ≤ 4_096 * 1_000
 last c =
-    let s = c .before .before .before .before .before .before .before .before .before .before .before .before .before .before .before .before .before .before in
+    let s = c .before .before .before .before .before .before .before .before .before .before .before .before .before .before .before .before .before .before .before in
     mul-le-mul (c .before .before .body .ensures .1 .few) (let z : c .before .last-ticks .result ≤ 1_000 = omega (arith, c .before .last-ticks .ensures (now (s .args .text)), last-small (s .pre .2) (now (s .args .text)) (c .before .before .before .before .before .before .before .before .before .before .before .before .before .before .before .before .kind-at .result)) in z)
 
 mul-spent : tie.Need-mul-spent
 mul-spent c = let h = last c in omega arith
 
 lined-requires : tie.Need-lined-requires
-lined-requires c κs = let p = c .before .before .before .before .before .before .before .before .before .before .before .before .before .before .before .before .before .before .before .pre in (p .3, p .4, c .before .before .before .before .before .before .before .before .before .before .before .before .before .loop-at .ensures .near)
+lined-requires c κs = let p = c .before .before .before .before .before .before .before .before .before .before .before .before .before .before .before .before .before .before .before .before .pre in (p .3, p .4, c .before .before .before .before .before .before .before .before .before .before .before .before .before .loop-at .ensures .near)
 
 returns-2 : tie.Need-returns-2
 returns-2 c =
-    let a = c .before .before .before .before .before .before .before .before .before .before .before .before .before .before .before .before .before .before .before .before .before .before .before .args in
+    let a = c .before .before .before .before .before .before .before .before .before .before .before .before .before .before .before .before .before .before .before .before .before .before .before .before .args in
     let text = now (a .text) in
     let rows = rowsOf (now (a .rows)) in
-    let p = c .before .before .before .before .before .before .before .before .before .before .before .before .before .before .before .before .before .before .before .before .before .before .before .pre .0 in
+    let p = c .before .before .before .before .before .before .before .before .before .before .before .before .before .before .before .before .before .before .before .before .before .before .before .before .pre .0 in
     let r = a .round in
     let one = one-is (c .before .before .before .before .before .before .before .before .before .before .before .before .before .before .before .before .before) in
     let f = figure (c .before .before .before .before .before .before .before .before .before .before .before) in
@@ -139,7 +140,7 @@ pub enter-loop-spec : {M : Type 1} → statement M
 enter-loop-spec =
     tie.close
     (tie.spec
-    (λ c κs. search needs)
+    (λ c κs. row-in (now (c .before .before .args .rows)) _ (search needs))
     at-start-requires
     loop-at-requires
     (λ c κs. search needs) (λ c κs. search needs) (λ c. search needs) (λ c κs. search needs)

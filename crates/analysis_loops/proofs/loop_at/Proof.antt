@@ -7,7 +7,8 @@ use Rattle.rules.specs.Steps.{step}
 use Rattle.rules.specs.Ranges.{bounds, isDo, isHold}
 use Rattle.rules_steps.specs.Ends.{EndsWithin}
 use Rattle.rules.specs.Trips.{Trip, keeps}
-use Rattle.analysis_table.specs.Code.{kindAt, rowsOf}
+use Rattle.table.specs.Code.{kindAt, rowsOf}
+use Rattle.table.proofs.Laws.{row-in}
 use Rattle.analysis_steps.specs.Tree.{formOf, testOf}
 use Rattle.analysis_steps.specs.Body.{bodyAt}
 use Rattle.analysis_intervals.specs.Env.{envOf}
@@ -17,21 +18,21 @@ use Rattle.analysis_loops.proofs.loop_at.Statement.{statement}
 use Rattle.analysis_loops.proofs.loop_at.Tie as tie
 
 -- the limit's expression stands in the text
-limit-written : (c : tie.After-head-of) → let s = c .before .before .before in WrittenOperand (now (s .args .text)) (c .head-of .result .limit)
+limit-written : (c : tie.After-head-of) → let s = c .before .before .before .before in WrittenOperand (now (s .args .text)) (c .head-of .result .limit)
 limit-written c =
-    let s = c .before .before .before in
+    let s = c .before .before .before .before in
     c .head-of .ensures (now (s .args .text)) .written (rw (c .before .kind-at .ensures) (s .pre .0 .ready .written _ (s .pre .0 .inside)))
 
 way-of-requires : tie.Need-way-of-requires
 way-of-requires c κs =
     let s = c .before .before .before .before .before .before .before .before in
-    let text = now (s .before .args .text) in
-    let rows = rowsOf (now (s .before .args .rows)) in
-    let body = bodyAt text rows (s .before .args .count) (s .before .args .i) in
+    let text = now (s .before .before .args .text) in
+    let rows = rowsOf (now (s .before .before .args .rows)) in
+    let body = bodyAt text rows (s .before .before .args .count) (s .before .before .args .i) in
     let h = rw (c .before .before .before .before .before .before .before .kind-at .ensures) at (c .before .before .before .before .before .before .head-of .ensures text) in
     let b = c .before .before .before .before .before .body-moves .ensures in
     record {
-      loop = s .before .pre .0;
+      loop = s .before .before .pre .0;
       form = c .is-hold .ensures text ∙ ap (λ d. isHold (formOf text d)) (c .before .before .before .before .before .before .before .kind-at .ensures);
       own = b .moves ∙ ap (λ v. step v body) (h .tested);
       near = b .near;
@@ -40,7 +41,7 @@ way-of-requires c κs =
 
 returns : tie.Need-returns
 returns c =
-    let a = c .before .before .before .before .before .before .before .before .before .before .before .before .args in
+    let a = c .before .before .before .before .before .before .before .before .before .before .before .before .before .args in
     let text = now (a .text) in
     let rows = rowsOf (now (a .rows)) in
     let k = kindAt rows (a .i) in
@@ -65,11 +66,11 @@ pub loop-at-spec : {M : Type 1} → statement M
 loop-at-spec =
     tie.close
     (tie.spec
-    (λ c κs. search needs)
-    (λ c κs. rw (c .kind-at .ensures) (c .before .before .pre .0 .ready .fine _ (c .before .before .pre .0 .inside)))
-    (λ c κs. (c .before .before .before .pre .0, c .head-of .ensures [] .small))
+    (λ c κs. row-in (now (c .before .before .args .rows)) _ (search needs))
+    (λ c κs. rw (c .kind-at .ensures) (c .before .before .before .pre .0 .ready .fine _ (c .before .before .before .pre .0 .inside)))
+    (λ c κs. (c .before .before .before .before .pre .0, c .head-of .ensures [] .small))
     (λ c κs. c .before .before .head-of .ensures [] .small)
-    (λ c κs. (c .before .before .before .head-of .ensures [] .fine, limit-written (c .before .before .before), c .before .before .before .before .before .before .pre .1))
+    (λ c κs. (c .before .before .before .head-of .ensures [] .fine, limit-written (c .before .before .before), c .before .before .before .before .before .before .before .pre .1))
     (λ c κs. (c .before .before .before .before .head-of .ensures [] .fine, limit-written (c .before .before .before .before)))
     (λ c κs. search needs)
     way-of-requires

@@ -5,8 +5,9 @@ use mathlib.Core.Path.{_≡_, refl, sym, _∙_}
 use mathlib.Core.List.{[]}
 use Prim.Native.Nat.{_-_}
 use lib.ListN.{length}
-use Rattle.analysis_table.specs.Code.{kindAt, rowsOf}
-use Rattle.analysis_table.specs.Shapes.{pastElse}
+use Rattle.table.specs.Code.{kindAt, rowsOf}
+use Rattle.table.specs.Shapes.{pastElse}
+use Rattle.table.proofs.Laws.{row-in}
 use Rattle.analysis_steps.specs.Tree.{endAt, headOf}
 use Rattle.analysis_steps.specs.Sets.{setOf}
 use Rattle.analysis_only_rows.specs.Soles.{soleFrom}
@@ -23,53 +24,53 @@ Inv-loop text rows count at v set₀ i₀ set i = (length set ≡ 16) × Walking
 abbrev μ-loop : tie.MeasureT-loop
 μ-loop text rows count at v set₀ i₀ set i = count - i
 
-pick-1 : (c : tie.After-moves-of Inv-loop μ-loop) → let s = c .before .before .before .before .before .before .before .before .args in let m = c .moves-of .result .next in
+pick-1 : (c : tie.After-moves-of Inv-loop μ-loop) → let s = c .before .before .before .before .before .before .before .before .before .args in let m = c .moves-of .result .next in
     PickIs (now (s .text)) (rowsOf (now (s .rows))) (s .count) (c .before .before .before .before .before .before .loop .i) m (pastElse (kindAt (rowsOf (now (s .rows))) m) m) (endAt (now (s .text)) (rowsOf (now (s .rows))) (s .count) (pastElse (kindAt (rowsOf (now (s .rows))) m) m))
-pick-1 c = pick-at _ _ _ (c .before .before .before .before .before .loop-test .taken) (c .before .before .before .before .before .before .before .before .pre .0 .built) (sym (c .before .before .before .before .shape-at .ensures) ∙ c .before .before .enum-told2 .given .1) (c .moves-of .ensures .sets .place) refl refl
+pick-1 c = pick-at _ _ _ (c .before .before .before .before .before .loop-test .taken) (c .before .before .before .before .before .before .before .before .before .pre .0 .built) (sym (c .before .before .before .before .shape-at .ensures) ∙ c .before .before .enum-told2 .given .1) (c .moves-of .ensures .sets .place) refl refl
 
-pick-2 : (c : tie.After-moves-of2 Inv-loop μ-loop) → let s = c .before .before .before .before .before .before .before .before .before .before .before .args in
+pick-2 : (c : tie.After-moves-of2 Inv-loop μ-loop) → let s = c .before .before .before .before .before .before .before .before .before .before .before .before .args in
     PickIs (now (s .text)) (rowsOf (now (s .rows))) (s .count) (c .before .before .before .before .before .before .before .before .before .loop .i) (c .before .before .before .moves-of .result .next) (c .before .before .past-else .result) (c .moves-of2 .result .next)
-pick-2 c = pick-at _ _ _ (c .before .before .before .before .before .before .before .before .loop-test .taken) (c .before .before .before .before .before .before .before .before .before .before .before .pre .0 .built) (sym (c .before .before .before .before .before .before .before .shape-at .ensures) ∙ c .before .before .before .before .before .enum-told2 .given .1) (c .before .before .before .moves-of .ensures .sets .place) (c .before .before .past-else .ensures) (c .moves-of2 .ensures .sets .place)
+pick-2 c = pick-at _ _ _ (c .before .before .before .before .before .before .before .before .loop-test .taken) (c .before .before .before .before .before .before .before .before .before .before .before .before .pre .0 .built) (sym (c .before .before .before .before .before .before .before .shape-at .ensures) ∙ c .before .before .before .before .before .enum-told2 .given .1) (c .before .before .before .moves-of .ensures .sets .place) (c .before .before .past-else .ensures) (c .moves-of2 .ensures .sets .place)
 
-loop-1 : (c : tie.After-moves-of3 Inv-loop μ-loop) → let s = c .before .before .before .before .before .before .before .before .args in
+loop-1 : (c : tie.After-moves-of3 Inv-loop μ-loop) → let s = c .before .before .before .before .before .before .before .before .before .args in
     LoopIs (now (s .text)) (rowsOf (now (s .rows))) (s .count) (headOf (now (s .text)) (kindAt (rowsOf (now (s .rows))) (c .before .before .before .before .before .before .loop .i))) (c .before .before .before .before .before .before .loop .i) (c .moves-of3 .result .next)
-loop-1 c = loop-at _ _ _ (c .before .before .before .before .before .loop-test .taken) (c .before .before .before .before .before .before .before .before .pre .0 .built) (sym (c .before .before .before .before .shape-at .ensures) ∙ c .before .before .enum-told3 .given .1) (c .moves-of3 .ensures .sets .place)
+loop-1 c = loop-at _ _ _ (c .before .before .before .before .before .loop-test .taken) (c .before .before .before .before .before .before .before .before .before .pre .0 .built) (sym (c .before .before .before .before .shape-at .ensures) ∙ c .before .before .enum-told3 .given .1) (c .moves-of3 .ensures .sets .place)
 
 loop-holds : tie.Need-loop-holds Inv-loop μ-loop
-loop-holds c = (search needs, begin _ _ _ _ _ (c .before .pre .0 .within))
+loop-holds c = (search needs, begin _ _ _ _ _ (c .before .before .pre .0 .within))
 
 sole-at-requires : tie.Need-sole-at-requires Inv-loop μ-loop
-sole-at-requires c κs = record { ready = ready (c .before .before .before .before .before .before .before .before .pre .0) (search needs); inside = c .before .before .before .before .before .loop-test .taken; own = sym (c .before .sets-it .ensures _) ∙ c .if1 .taken; small = c .before .before .before .before .before .before .before .before .pre .1 }
+sole-at-requires c κs = record { ready = ready (c .before .before .before .before .before .before .before .before .before .pre .0) (search needs); inside = c .before .before .before .before .before .loop-test .taken; own = sym (c .before .sets-it .ensures _) ∙ c .if1 .taken; small = c .before .before .before .before .before .before .before .before .before .pre .1 }
 
 returns : tie.Need-returns Inv-loop μ-loop
 unfolding clear
 returns c =
     let r = c .sole-at .ensures in
     record {
-      value = r .value ∙ sym (plain-next _ _ _ _ _ (c .before .before .before .before .before .before .before .loop .inv .1) (c .before .before .before .before .before .before .loop-test .taken) (c .before .before .before .before .before .before .before .before .before .pre .0 .built) (sym (c .before .before .before .before .before .shape-at .ensures) ∙ c .before .before .before .enum-told .given .1) ∙ sole-here _ _ _ _ (sym (c .before .before .sets-it .ensures _) ∙ c .before .if1 .taken) _) ∙ from-nothing _ (no-set _ refl) _;
+      value = r .value ∙ sym (plain-next _ _ _ _ _ (c .before .before .before .before .before .before .before .loop .inv .1) (c .before .before .before .before .before .before .loop-test .taken) (c .before .before .before .before .before .before .before .before .before .before .pre .0 .built) (sym (c .before .before .before .before .before .shape-at .ensures) ∙ c .before .before .before .enum-told .given .1) ∙ sole-here _ _ _ _ (sym (c .before .before .sets-it .ensures _) ∙ c .before .if1 .taken) _) ∙ from-nothing _ (no-set _ refl) _;
       small = r .small;
     }
 
 add-row-requires : tie.Need-add-row-requires Inv-loop μ-loop
-add-row-requires c κs = (search needs, c .before .before .before .before .before .before .before .before .before .pre .0 .fine _ (c .before .before .before .before .before .before .loop-test .taken), c .before .before .before .before .before .before .before .loop .inv .0)
+add-row-requires c κs = (row-in (now (c .before .before .before .before .before .before .before .before .before .before .args .rows)) _ (search needs), c .before .before .before .before .before .before .before .before .before .before .pre .0 .fine _ (c .before .before .before .before .before .before .loop-test .taken), c .before .before .before .before .before .before .before .loop .inv .0)
 
 loop-again : tie.Need-loop-again Inv-loop μ-loop
 loop-again c = (
   c .add-row .ensures [] .long,
-  rw (c .add-row .ensures (now (c .before .before .before .before .before .before .before .before .before .before .args .text)) .value) (plain-row _ _ _ _ _ (c .before .before .before .before .before .before .before .before .loop .inv .1) (c .before .before .before .before .before .before .before .loop-test .taken) (c .before .before .before .before .before .before .before .before .before .before .pre .0 .built) (sym (c .before .before .before .before .before .before .shape-at .ensures) ∙ c .before .before .before .before .enum-told .given .1) (sole-past _ _ _ _ (sym (c .before .before .before .sets-it .ensures _) ∙ c .before .before .if1 .left))),
+  rw (c .add-row .ensures (now (c .before .before .before .before .before .before .before .before .before .before .before .args .text)) .value) (plain-row _ _ _ _ _ (c .before .before .before .before .before .before .before .before .loop .inv .1) (c .before .before .before .before .before .before .before .loop-test .taken) (c .before .before .before .before .before .before .before .before .before .before .before .pre .0 .built) (sym (c .before .before .before .before .before .before .shape-at .ensures) ∙ c .before .before .before .before .enum-told .given .1) (sole-past _ _ _ _ (sym (c .before .before .before .sets-it .ensures _) ∙ c .before .before .if1 .left))),
 )
 
 moves-of-requires : tie.Need-moves-of-requires Inv-loop μ-loop
-moves-of-requires c κs = (ready (c .before .before .before .before .before .before .before .pre .0) (search needs), c .before .before .before .before .before .before .before .pre .1, c .before .before .before .before .before .loop .inv .0)
+moves-of-requires c κs = (ready (c .before .before .before .before .before .before .before .before .pre .0) (search needs), c .before .before .before .before .before .before .before .before .pre .1, c .before .before .before .before .before .loop .inv .0)
 
 past-else-requires : tie.Need-past-else-requires Inv-loop μ-loop
-past-else-requires c κs = let k = pick-1 c in let f = c .before .before .before .before .before .before .before .before .pre .0 .few in search needs
+past-else-requires c κs = let k = pick-1 c in row-in (now (c .before .before .before .before .before .before .before .before .before .args .rows)) _ (search needs)
 
 moves-of-requires-2 : tie.Need-moves-of-requires-2 Inv-loop μ-loop
-moves-of-requires-2 c κs = let k = pick-1 (c .before .before) in let e = c .before .past-else .ensures in (ready (c .before .before .before .before .before .before .before .before .before .before .pre .0) (search needs), c .before .before .before .before .before .before .before .before .before .before .pre .1, c .before .before .moves-of .ensures .long)
+moves-of-requires-2 c κs = let k = pick-1 (c .before .before) in let e = c .before .past-else .ensures in (ready (c .before .before .before .before .before .before .before .before .before .before .before .pre .0) (search needs), c .before .before .before .before .before .before .before .before .before .before .before .pre .1, c .before .before .moves-of .ensures .long)
 
 add-i-2 : tie.Need-add-i-2 Inv-loop μ-loop
-add-i-2 c = let k = pick-2 (c .before) in let f = c .before .before .before .before .before .before .before .before .before .before .before .before .pre .0 .few in search needs
+add-i-2 c = let k = pick-2 (c .before) in let f = c .before .before .before .before .before .before .before .before .before .before .before .before .before .pre .0 .few in search needs
 
 loop-less-2 : tie.Need-loop-less-2 Inv-loop μ-loop
 loop-less-2 c = let k = pick-2 (c .before) in search needs
@@ -77,17 +78,17 @@ loop-less-2 c = let k = pick-2 (c .before) in search needs
 loop-again-2 : tie.Need-loop-again-2 Inv-loop μ-loop
 loop-again-2 c = (
   c .before .moves-of2 .ensures .long,
-  rw (c .before .moves-of2 .ensures .sets .value, c .before .before .before .before .moves-of .ensures .sets .value) (pick-row _ _ _ _ _ (c .before .before .before .before .before .before .before .before .before .before .loop .inv .1) (c .before .before .before .before .before .before .before .before .before .loop-test .taken) (c .before .before .before .before .before .before .before .before .before .before .before .before .pre .0 .built) (pick-2 (c .before)) (sole-pick _ _ _ _ _ _)),
+  rw (c .before .moves-of2 .ensures .sets .value, c .before .before .before .before .moves-of .ensures .sets .value) (pick-row _ _ _ _ _ (c .before .before .before .before .before .before .before .before .before .before .loop .inv .1) (c .before .before .before .before .before .before .before .before .before .loop-test .taken) (c .before .before .before .before .before .before .before .before .before .before .before .before .before .pre .0 .built) (pick-2 (c .before)) (sole-pick _ _ _ _ _ _)),
 )
 
 moves-of-requires-3 : tie.Need-moves-of-requires-3 Inv-loop μ-loop
-moves-of-requires-3 c κs = (ready (c .before .before .before .before .before .before .before .pre .0) (search needs), c .before .before .before .before .before .before .before .pre .1, c .before .before .before .before .before .loop .inv .0)
+moves-of-requires-3 c κs = (ready (c .before .before .before .before .before .before .before .before .pre .0) (search needs), c .before .before .before .before .before .before .before .before .pre .1, c .before .before .before .before .before .loop .inv .0)
 
 add-row-requires-2 : tie.Need-add-row-requires-2 Inv-loop μ-loop
-add-row-requires-2 c κs = (search needs, c .before .before .before .before .before .before .before .before .before .pre .0 .fine _ (c .before .before .before .before .before .before .loop-test .taken), c .before .moves-of3 .ensures .long)
+add-row-requires-2 c κs = (row-in (now (c .before .before .before .before .before .before .before .before .before .before .args .rows)) _ (search needs), c .before .before .before .before .before .before .before .before .before .before .pre .0 .fine _ (c .before .before .before .before .before .before .loop-test .taken), c .before .moves-of3 .ensures .long)
 
 add-i-3 : tie.Need-add-i-3 Inv-loop μ-loop
-add-i-3 c = let k = loop-1 (c .before .before .before) in let f = c .before .before .before .before .before .before .before .before .before .before .before .pre .0 .few in search needs
+add-i-3 c = let k = loop-1 (c .before .before .before) in let f = c .before .before .before .before .before .before .before .before .before .before .before .before .pre .0 .few in search needs
 
 loop-less-3 : tie.Need-loop-less-3 Inv-loop μ-loop
 loop-less-3 c = let k = loop-1 (c .before .before .before) in search needs
@@ -95,17 +96,17 @@ loop-less-3 c = let k = loop-1 (c .before .before .before) in search needs
 loop-again-3 : tie.Need-loop-again-3 Inv-loop μ-loop
 loop-again-3 c = (
   c .before .add-row2 .ensures [] .long,
-  rw (c .before .add-row2 .ensures (now (c .before .before .before .before .before .before .before .before .before .before .before .args .text)) .value, c .before .before .before .moves-of3 .ensures .sets .value)
-      (loop-row _ _ _ _ _ (c .before .before .before .before .before .before .before .before .before .loop .inv .1) (c .before .before .before .before .before .before .before .before .loop-test .taken) (c .before .before .before .before .before .before .before .before .before .before .before .pre .0 .built) (loop-1 (c .before .before .before)) (sole-loop _ _ _ _ _ (sym (c .before .before .before .before .before .before .before .shape-at .ensures) ∙ c .before .before .before .before .before .enum-told3 .given .1) _ _)),
+  rw (c .before .add-row2 .ensures (now (c .before .before .before .before .before .before .before .before .before .before .before .before .args .text)) .value, c .before .before .before .moves-of3 .ensures .sets .value)
+      (loop-row _ _ _ _ _ (c .before .before .before .before .before .before .before .before .before .loop .inv .1) (c .before .before .before .before .before .before .before .before .loop-test .taken) (c .before .before .before .before .before .before .before .before .before .before .before .before .pre .0 .built) (loop-1 (c .before .before .before)) (sole-loop _ _ _ _ _ (sym (c .before .before .before .before .before .before .before .shape-at .ensures) ∙ c .before .before .before .before .before .enum-told3 .given .1) _ _)),
 )
 
 returns-2 : tie.Need-returns-2 Inv-loop μ-loop
 unfolding clear
-returns-2 c = record { value = at-close _ _ _ _ _ (sole-done _ _) (c .before .before .before .before .loop .inv .1) (c .before .before .before .loop-test .taken) (c .before .before .before .before .before .before .pre .0 .built) (sym (c .before .before .shape-at .ensures) ∙ c .enum-told4 .given .1) .value ∙ from-nothing _ (no-set _ refl) _; small = tt }
+returns-2 c = record { value = at-close _ _ _ _ _ (sole-done _ _) (c .before .before .before .before .loop .inv .1) (c .before .before .before .loop-test .taken) (c .before .before .before .before .before .before .before .pre .0 .built) (sym (c .before .before .shape-at .ensures) ∙ c .enum-told4 .given .1) .value ∙ from-nothing _ (no-set _ refl) _; small = tt }
 
 returns-3 : tie.Need-returns-3 Inv-loop μ-loop
 unfolding clear
-returns-3 c = record { value = at-last _ _ _ _ _ (sole-done _ _) (c .before .loop .inv .1) (c .before .before .before .pre .0 .built) (c .loop-test .left) .value ∙ from-nothing _ (no-set _ refl) _; small = tt }
+returns-3 c = record { value = at-last _ _ _ _ _ (sole-done _ _) (c .before .loop .inv .1) (c .before .before .before .before .pre .0 .built) (c .loop-test .left) .value ∙ from-nothing _ (no-set _ refl) _; small = tt }
 
 pub sole-of-spec : {M : Type 1} → statement M
 sole-of-spec =
@@ -114,7 +115,7 @@ sole-of-spec =
     Inv-loop
     μ-loop
     loop-holds
-    (λ c κs. search needs) (λ c. search needs) (λ c κs. search needs)
+    (λ c κs. row-in (now (c .before .before .before .before .args .rows)) _ (search needs)) (λ c. search needs) (λ c κs. row-in (now (c .before .before .before .before .before .before .before .args .rows)) _ (search needs))
     sole-at-requires
     returns
     add-row-requires

@@ -7,27 +7,27 @@ use mathlib.Core.Bool.{not, _&&_}
 use mathlib.Core.List.{[]}
 use Prim.Native.Nat.{_+_, _*_, _≤_}
 use denote.Ref.{now}
-use Rattle.analysis_table.specs.Code.{kindAt, rowsOf}
-use Rattle.analysis_table.specs.Shapes.{plainOf}
+use Rattle.table.specs.Code.{kindAt, rowsOf}
+use Rattle.table.specs.Shapes.{plainOf}
 use Rattle.analysis_ticks.specs.Capped.{capped}
 use Rattle.analysis_tallies.proofs.Laws.{state-is}
 use Rattle.analysis_tallies.proofs.Laws.{price-small}
 use Rattle.analysis_tallies.proofs.past_row.Statement.{statement}
 use Rattle.analysis_tallies.proofs.past_row.Tie as tie
 
-few : (c : tie.After-struct-known) → c .before .before .args .round .count * c .before .plain-price .result ≤ 4_096 * 1_000
+few : (c : tie.After-struct-known) → c .before .before .before .args .round .count * c .before .plain-price .result ≤ 4_096 * 1_000
 few c =
-    let s = c .before .before in
+    let s = c .before .before .before in
     mul-le-mul (s .pre .3 .few) (let z : c .before .plain-price .result ≤ 1_000 = omega (arith, c .before .plain-price .ensures [], price-small (s .pre .2) (plainOf [] (kindAt (rowsOf (now (s .args .rows))) (s .args .i)))) in z)
 
 mul-plus : tie.Need-mul-plus
 mul-plus c = let h = few c in omega arith
 
 plus-requires : tie.Need-plus-requires
-plus-requires c κs = let h = few c in (c .before .before .pre .4, omega arith)
+plus-requires c κs = let h = few c in (c .before .before .before .pre .4, omega arith)
 
 returns : tie.Need-returns
-returns c = λ text ls. let s = c .before .before .before .before .before .args in record {
+returns c = λ text ls. let s = c .before .before .before .before .before .before .args in record {
   number = refl;
   place = refl;
   next = refl;

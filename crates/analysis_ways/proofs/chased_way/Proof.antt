@@ -10,7 +10,7 @@ use Rattle.rules_steps.specs.Ends.{EndsWithin}
 use Rattle.rules.specs.Ranges.{ordered, sort}
 use Rattle.rules.specs.Questions.{known}
 use Rattle.analysis_row_steps.proofs.Ends.{difference-ends}
-use Rattle.analysis_table.specs.Code.{kindAt, rowsOf}
+use Rattle.table.specs.Code.{kindAt, rowsOf}
 use Rattle.analysis_steps.specs.Tree.{testOf}
 use Rattle.analysis_steps.specs.Body.{bodyAt}
 use Rattle.analysis_ways.proofs.Ways.{chase-way}
@@ -18,30 +18,30 @@ use Rattle.analysis_ways.proofs.chased_way.Statement.{statement}
 use Rattle.analysis_ways.proofs.chased_way.Tie as tie
 
 -- whether both steps and the comparison fit
-fits : (c : tie.After-chases) → let s = c .before .before .before .before in let text = now (s .before .args .text) in let rows = rowsOf (now (s .before .args .rows)) in let k = kindAt rows (s .before .args .i) in let body = bodyAt text rows (s .before .args .count) (s .before .args .i) in
-    c .chases .result ≡ (isAdd (step (s .before .args .w) body) && (isAdd (step (testOf text k .tested) body) && ordered (sort (testOf text k .comparison))))
+fits : (c : tie.After-chases) → let s = c .before .before .before .before in let text = now (s .before .before .args .text) in let rows = rowsOf (now (s .before .before .args .rows)) in let k = kindAt rows (s .before .before .args .i) in let body = bodyAt text rows (s .before .before .args .count) (s .before .before .args .i) in
+    c .chases .result ≡ (isAdd (step (s .before .before .args .w) body) && (isAdd (step (testOf text k .tested) body) && ordered (sort (testOf text k .comparison))))
 fits c =
-    let p = c .before .before .before .before .before .pre in
+    let p = c .before .before .before .before .before .before .pre in
     c .chases .ensures ∙ (λ j. isAdd (c .before .body-moves .ensures .moves j) && (isAdd (p .own j) && ordered (sort (p .head .comparison j))))
 
 body-moves-requires : tie.Need-body-moves-requires
-body-moves-requires c κs = (c .before .before .before .pre .loop, c .before .before .before .pre .small)
+body-moves-requires c κs = (c .before .before .before .before .pre .loop, c .before .before .before .before .pre .small)
 
 difference-requires : tie.Need-difference-requires
-difference-requires c κs = (c .before .before .before .before .before .before .pre .near, c .before .before .body-moves .ensures .near)
+difference-requires c κs = (c .before .before .before .before .before .before .before .pre .near, c .before .before .body-moves .ensures .near)
 
 returns : tie.Need-returns
 returns c =
-    let p = c .before .before .before .pre in
-    record { value = chase-way _ _ _ (p .form) (ap known (sym (p .own)) ∙ p .sure) (p .limit) (p .changed) {p = true} (sym (eq-eqb _ _ (c .if1 .taken)) ∙ ap (eqb (c .before .before .before .args .w)) (p .head .tested)) refl; small = tt; moves = tt }
+    let p = c .before .before .before .before .pre in
+    record { value = chase-way _ _ _ (p .form) (ap known (sym (p .own)) ∙ p .sure) (p .limit) (p .changed) {p = true} (sym (eq-eqb _ _ (c .if1 .taken)) ∙ ap (eqb (c .before .before .before .before .args .w)) (p .head .tested)) refl; small = tt; moves = tt }
 
 returns-2 : tie.Need-returns-2
 returns-2 c =
     let s = c .before .before .before .before .before .before in
-    let p = s .before .pre in
+    let p = s .before .before .pre in
     let body = c .before .before .before .body-moves .ensures in
     record {
-      value = chase-way _ _ _ (p .form) (ap known (sym (p .own)) ∙ p .sure) (p .limit) (p .changed) {p = false} {q = true} (sym (ne-eqb _ _ (c .before .before .before .before .if1 .left)) ∙ ap (eqb (s .before .args .w)) (p .head .tested)) (sym (c .before .if2 .taken) ∙ fits (c .before .before));
+      value = chase-way _ _ _ (p .form) (ap known (sym (p .own)) ∙ p .sure) (p .limit) (p .changed) {p = false} {q = true} (sym (ne-eqb _ _ (c .before .before .before .before .if1 .left)) ∙ ap (eqb (s .before .before .args .w)) (p .head .tested)) (sym (c .before .if2 .taken) ∙ fits (c .before .before));
       small = p .small;
       moves = (c .difference .ensures ∙ (λ j. difference (p .own j) (body .moves j)), subst (EndsWithin 512) (sym (c .difference .ensures)) (difference-ends 256 256 _ _ (p .near) (body .near)));
     }
@@ -49,9 +49,9 @@ returns-2 c =
 returns-3 : tie.Need-returns-3
 returns-3 c =
     let s = c .before .before .before .before .before in
-    let p = s .before .pre in
+    let p = s .before .before .pre in
     record {
-      value = chase-way _ _ _ (p .form) (ap known (sym (p .own)) ∙ p .sure) (p .limit) (p .changed) {p = false} {q = false} (sym (ne-eqb _ _ (c .before .before .before .if1 .left)) ∙ ap (eqb (s .before .args .w)) (p .head .tested)) (sym (c .if2 .left) ∙ fits (c .before));
+      value = chase-way _ _ _ (p .form) (ap known (sym (p .own)) ∙ p .sure) (p .limit) (p .changed) {p = false} {q = false} (sym (ne-eqb _ _ (c .before .before .before .if1 .left)) ∙ ap (eqb (s .before .before .args .w)) (p .head .tested)) (sym (c .if2 .left) ∙ fits (c .before));
       small = tt;
       moves = tt;
     }

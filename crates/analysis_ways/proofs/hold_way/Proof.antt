@@ -10,7 +10,8 @@ use Prim.Native.Nat.{_+_}
 use Rattle.rules.specs.Expressions.{variable}
 use Rattle.rules.specs.Steps.{soleOf}
 use Rattle.rules.specs.Trips.{holdWay, wayOf}
-use Rattle.analysis_table.specs.Code.{kindAt, rowsOf}
+use Rattle.table.specs.Code.{kindAt, rowsOf}
+use Rattle.table.proofs.Laws.{row-in}
 use Rattle.analysis_only_rows.specs.declared.Sole.{Sole}
 use Rattle.analysis_steps.specs.Tree.{blockAt, formOf, testOf}
 use Rattle.analysis_steps.specs.Body.{bodyAt}
@@ -22,10 +23,10 @@ use Rattle.analysis_ways.proofs.hold_way.Statement.{statement}
 use Rattle.analysis_ways.proofs.hold_way.Tie as tie
 
 -- the way by what is found of the hold's body
-way-is : (c : tie.After-sole-of) → let a = c .before .before .before .before .args in let text = now (a .text) in let rows = rowsOf (now (a .rows)) in let body = bodyAt text rows (a .count) (a .i) in
+way-is : (c : tie.After-sole-of) → let a = c .before .before .before .before .before .args in let text = now (a .text) in let rows = rowsOf (now (a .rows)) in let body = bodyAt text rows (a .count) (a .i) in
     holdWay body (soleIs (c .sole-of .result)) ≡ wayOf (formOf text (kindAt rows (a .i))) (testOf text (kindAt rows (a .i))) body
 way-is c =
-    let s = c .before .before .before .before in
+    let s = c .before .before .before .before .before in
     let a = s .args in
     let text = now (a .text) in
     let rows = rowsOf (now (a .rows)) in
@@ -36,7 +37,7 @@ way-is c =
     ap (holdWay (bodyAt text rows (a .count) (a .i))) found ∙ by-off (testOf text k) _ (formOf text k) (s .pre .1)
 
 watched-way-requires : tie.Need-watched-way-requires
-watched-way-requires c κs = (c .before .before .before .before .before .before .before .before .before .before .pre .0, rw (c .before .before .before .before .w .given .1) at (c .before .before .before .before .before .before .sole-of .ensures .small))
+watched-way-requires c κs = (c .before .before .before .before .before .before .before .before .before .before .before .pre .0, rw (c .before .before .before .before .w .given .1) at (c .before .before .before .before .before .before .sole-of .ensures .small))
 
 returns-2 : tie.Need-returns-2
 returns-2 c =
@@ -61,10 +62,10 @@ pub hold-way-spec : {M : Type 1} → statement M
 hold-way-spec =
     tie.close
     (tie.spec
-    (λ c κs. search needs)
-    (λ c κs. rw (c .kind-at .ensures) (c .before .before .pre .0 .ready .fine _ (c .before .before .pre .0 .inside)))
+    (λ c κs. row-in (now (c .before .before .args .rows)) _ (search needs))
+    (λ c κs. rw (c .kind-at .ensures) (c .before .before .before .pre .0 .ready .fine _ (c .before .before .before .pre .0 .inside)))
     (λ c. search needs)
-    (λ c κs. (ready (c .before .before .before .pre .0 .ready) (search needs), c .head-of .ensures [] .small))
+    (λ c κs. (ready (c .before .before .before .before .pre .0 .ready) (search needs), c .head-of .ensures [] .small))
     (λ c. search needs) (λ c. search needs) (λ c. search needs) (λ c. search needs)
     watched-way-requires
     (λ c. record { value = no-off _ ∙ ap (holdWay _) (ap soleIs (sym (c .enum-told .given .1))) ∙ way-is (c .before .before); small = tt; moves = tt })

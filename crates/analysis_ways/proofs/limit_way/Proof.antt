@@ -10,6 +10,7 @@ use Prim.Native.Nat.{ℕ}
 use Rattle.rules.specs.Steps.{assigns}
 use Rattle.rules.specs.Trips.{keeps}
 use Rattle.rules.specs.Questions.{known}
+use Rattle.table.proofs.Laws.{row-in}
 use Rattle.analysis_ways.proofs.Ways.{constant-way, composed-way}
 use Rattle.analysis_ways.proofs.limit_way.Statement.{statement}
 use Rattle.analysis_ways.proofs.limit_way.Tie as tie
@@ -24,14 +25,14 @@ not-kept body {w} e h = by (assigns w body) (rw e at h)
     by false h = sym h
 
 head-of-requires : tie.Need-head-of-requires
-head-of-requires c κs = rw (c .kind-at .ensures) (c .before .before .pre .loop .ready .fine _ (c .before .before .pre .loop .inside))
+head-of-requires c κs = rw (c .kind-at .ensures) (c .before .before .before .pre .loop .ready .fine _ (c .before .before .before .pre .loop .inside))
 
 chased-way-requires : tie.Need-chased-way-requires
 unfolding exprOf
 chased-way-requires c κs =
     let s = c .before .before .before .before .before in
-    let text = now (s .before .args .text) in
-    let p = s .before .pre in
+    let text = now (s .before .before .args .text) in
+    let p = s .before .before .pre in
     let h = rw (c .before .before .before .before .kind-at .ensures) at (c .before .before .before .head-of .ensures text) in
     let e = sym (h .limit) ∙ ap (exprOf text) (c .before .limit .given .1) in
     record {
@@ -50,8 +51,8 @@ returns : tie.Need-returns
 unfolding exprOf
 returns c =
     let s = c .before .before .before .before in
-    let text = now (s .before .args .text) in
-    let p = s .before .pre in
+    let text = now (s .before .before .args .text) in
+    let p = s .before .before .pre in
     let h = rw (c .before .before .before .kind-at .ensures) at (c .before .before .head-of .ensures text) in
     record { value = constant-way _ _ _ (p .form) (ap known (sym (p .own)) ∙ p .sure) (sym (h .limit) ∙ ap (exprOf text) (c .enum-told .given .1)); small = tt; moves = tt }
 
@@ -59,11 +60,11 @@ returns-3 : tie.Need-returns-3
 unfolding exprOf
 returns-3 c =
     let s = c .before .before .before .before in
-    let text = now (s .before .args .text) in
-    let p = s .before .pre in
+    let text = now (s .before .before .args .text) in
+    let p = s .before .before .pre in
     let h = rw (c .before .before .before .kind-at .ensures) at (c .before .before .head-of .ensures text) in
     let w = subst (WrittenOperand text) (c .enum-told2 .given .1) (h .written (p .loop .ready .written _ (p .loop .inside))) in
     record { value = composed-way _ _ _ (p .form) (ap known (sym (p .own)) ∙ p .sure) (ap (exprOf text) (sym (c .enum-told2 .given .1)) ∙ h .limit) (w .composed); small = tt; moves = tt }
 
 pub limit-way-spec : {M : Type 1} → statement M
-limit-way-spec = tie.close (tie.spec (λ c κs. search needs) head-of-requires (λ c. search needs) (λ c. search needs) chased-way-requires (λ c. search needs) returns (λ c. c .chased-way .ensures) returns-3)
+limit-way-spec = tie.close (tie.spec (λ c κs. row-in (now (c .before .before .args .rows)) _ (search needs)) head-of-requires (λ c. search needs) (λ c. search needs) chased-way-requires (λ c. search needs) returns (λ c. c .chased-way .ensures) returns-3)

@@ -10,20 +10,20 @@ use Rattle.rules.specs.Steps.{step}
 use Rattle.rules.specs.Ranges.{sort}
 use Rattle.rules.specs.Trips.{broken, watched, toward}
 use Rattle.analysis_row_steps.proofs.Ends.{ends-more}
-use Rattle.analysis_table.specs.Code.{rowsOf}
+use Rattle.table.specs.Code.{rowsOf}
 use Rattle.analysis_steps.specs.Body.{bodyAt}
 use Rattle.analysis_ways.proofs.watched_way.Statement.{statement}
 use Rattle.analysis_ways.proofs.watched_way.Tie as tie
 
 -- the answer, of the body's step
-answer : (c : tie.After-watches) → let a = c .before .before .before .args in let st = step (a .w) (bodyAt (now (a .text)) (rowsOf (now (a .rows))) (a .count) (a .i)) in
+answer : (c : tie.After-watches) → let a = c .before .before .before .before .args in let st = step (a .w) (bodyAt (now (a .text)) (rowsOf (now (a .rows))) (a .count) (a .i)) in
     cond (c .watches .result) (watched (a .w) (a .comparison) (a .k) (a .before)) broken ≡ cond (not (a .before && a .after) && toward st (sort (opposite (a .comparison)))) (watched (a .w) (a .comparison) (a .k) (a .before)) broken
 answer c =
-    let a = c .before .before .before .args in
+    let a = c .before .before .before .before .args in
     ap (λ t. cond t (watched (a .w) (a .comparison) (a .k) (a .before)) broken) (c .watches .ensures ∙ ap (λ st. not (a .before && a .after) && toward st (sort (opposite (a .comparison)))) (c .before .body-moves .ensures .moves))
 
 returns : tie.Need-returns
-returns c = record { value = simp (toZ-ofZ (c .before .before .before .before .fits .k)) (sym (rw (c .if1 .taken)) ∙ answer (c .before)); small = c .before .before .before .before .pre .1; moves = (c .before .before .body-moves .ensures .moves, ends-more 256 512 (omega arith) (c .before .before .body-moves .result .step) (c .before .before .body-moves .ensures .near)) }
+returns c = record { value = simp (toZ-ofZ (c .before .before .before .before .before .fits .k)) (sym (rw (c .if1 .taken)) ∙ answer (c .before)); small = c .before .before .before .before .before .pre .1; moves = (c .before .before .body-moves .ensures .moves, ends-more 256 512 (omega arith) (c .before .before .body-moves .result .step) (c .before .before .body-moves .ensures .near)) }
 
 returns-2 : tie.Need-returns-2
 returns-2 c = record { value = sym (rw (c .if1 .left)) ∙ answer (c .before); small = tt; moves = tt }

@@ -18,21 +18,21 @@ not-known (Step.Shrink f g) h = absurd (false≢true (sym h))
 not-known Step.Unknown h = refl
 
 hold-way-requires : tie.Need-hold-way-requires
-hold-way-requires c κs = let p = c .before .before .pre in (p .loop, sym (p .form) ∙ c .if1 .taken)
+hold-way-requires c κs = let p = c .before .before .before .pre in (p .loop, sym (p .form) ∙ c .if1 .taken)
 
 sole-way-requires : tie.Need-sole-way-requires
 sole-way-requires c κs =
-    let p = c .before .before .before .before .pre in
+    let p = c .before .before .before .before .before .pre in
     record { loop = p .loop; form = sym (p .form) ∙ c .before .before .if1 .left; own = sym (p .own) ∙ not-known _ (sym (c .before .known .ensures) ∙ not-true _ (c .if2 .taken)) }
 
 returns-3 : tie.Need-returns-3
 returns-3 c =
-    let p = c .before .before .before .before .before .pre in
+    let p = c .before .before .before .before .before .before .pre in
     record { value = kept-way _ _ _ (sym (p .form) ∙ c .before .before .before .if1 .left) (ap known (sym (p .own)) ∙ sym (c .before .before .known .ensures) ∙ not-false _ (c .before .if2 .left)) (sym (p .limit) ∙ c .if3 .taken); small = tt; moves = tt }
 
 limit-way-requires : tie.Need-limit-way-requires
 limit-way-requires c κs =
-    let p = c .before .before .before .before .before .pre in
+    let p = c .before .before .before .before .before .before .pre in
     record { loop = p .loop; form = sym (p .form) ∙ c .before .before .before .if1 .left; own = p .own; near = p .near; sure = sym (c .before .before .known .ensures) ∙ not-false _ (c .before .if2 .left); changed = sym (p .limit) ∙ c .if3 .left }
 
 pub way-of-spec : {M : Type 1} → statement M

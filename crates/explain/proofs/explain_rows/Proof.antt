@@ -9,8 +9,8 @@ use Rattle.rules.specs.declared.Prices.{Prices}
 use Rattle.rules.specs.Questions.{loopsVerdict, verdict}
 use Rattle.rules.specs.Scripts.{Script, startEnv, treeOf, Accepted}
 use Rattle.rules.proofs.Accepted.{then-yes}
-use Rattle.analysis_table.specs.Code.{rowsOf}
-use Rattle.analysis_table.proofs.Laws.{rows-length}
+use Rattle.table.specs.Code.{rowsOf}
+use Rattle.table.proofs.Laws.{rows-length}
 use Rattle.analysis.proofs.Results.{accepted}
 use Rattle.analysis_blocks.specs.Figure.{LoopsPass}
 use Rattle.explain.proofs.explain_rows.Statement.{statement}
@@ -18,7 +18,7 @@ use Rattle.explain.proofs.explain_rows.Tie as tie
 
 analyse-requires : tie.Need-analyse-requires
 analyse-requires c κs =
-    let p = c .before .before .pre in
+    let p = c .before .before .before .pre in
     (p .legal, p .rows, p .held, p .blank, p .prices, search needs, p .short, p .written)
 
 put-lines-requires : tie.Need-put-lines-requires
@@ -34,7 +34,7 @@ passes π script ok = then-yes (loopsVerdict (startEnv (script .ranges)) (treeOf
 
 put-ticks-requires : tie.Need-put-ticks-requires
 put-ticks-requires c κs =
-    let s = c .before .before .before .before .before .before .before .before .before in
+    let s = c .before .before .before .before .before .before .before .before .before .before in
     let a = s .args in
     let p = s .pre in
     let f = c .before .before .before .before .before .before .analyse in

@@ -20,7 +20,7 @@ row c = c .before .before .before .before .before .args .i
 
 -- the kind by the tag
 is : (c : tie.After-tag-at) {h : Tag} {k : Kind} → c .tag-at .result ≡ h → k ≡ kindBy h (numbersAt (table c) (row c)) → k ≡ kindAt (rowsOf (table c)) (row c)
-is c q e = e ∙ sym (kind-is (table c) (row c) (c .tag-at .ensures) q)
+is c q e = e ∙ sym (kind-is (table c) (row c) (c .before .before .before .before .before .pre) (c .tag-at .ensures) q)
 
 compared : (c : tie.After-tag-at) → c .before .comparison .result ≡ comparisonBy (comparisonIn (numbersAt (table c) (row c)))
 compared c = c .before .comparison .ensures ∙ ap comparisonBy (c .before .before .comparison-at .ensures)

@@ -11,10 +11,10 @@ use Rattle.table.proofs.past_else.Tie as tie
 
 returns : tie.Need-returns
 unfolding kindBy viewOf kindOf
-returns c = sym (ap (λ k. pastElse k (c .before .before .before .before .args .at)) (kind-is (now (c .before .before .before .before .args .rows)) (c .before .before .before .before .args .at) (c .before .before .tag-at .ensures) (c .enum-told .given .1)))
+returns c = sym (ap (λ k. pastElse k (c .before .before .before .before .args .at)) (kind-is (now (c .before .before .before .before .args .rows)) (c .before .before .before .before .args .at) (c .before .before .before .before .pre) (c .before .before .tag-at .ensures) (c .enum-told .given .1)))
 
 returns-2 : tie.Need-returns-2
-returns-2 c = rw (kind-is _ _ (c .before .tag-at .ensures) refl) (sym (not-else _ _ (c .match .keys2) _))
+returns-2 c = rw (kind-is _ _ (c .before .before .before .pre) (c .before .tag-at .ensures) refl) (sym (not-else _ _ (c .match .keys2) _))
 
 pub past-else-spec : {M : Type 1} → statement M
 past-else-spec = tie.close (tie.spec (λ c κs. search needs) (λ c. search needs) (λ c. search needs) returns returns-2)

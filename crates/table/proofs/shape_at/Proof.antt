@@ -12,7 +12,7 @@ use Rattle.table.proofs.shape_at.Tie as tie
 
 -- the shape of a row whose tag is known
 is : (s : tie.Start) {g h : Tag} → g ≡ rowTag (numbersAt (now (s .args .rows)) (s .args .i)) → g ≡ h → shapeOf (kindBy h (numbersAt (now (s .args .rows)) (s .args .i))) ≡ shapeOf (kindAt (rowsOf (now (s .args .rows))) (s .args .i))
-is s p q = sym (ap shapeOf (kind-is (now (s .args .rows)) (s .args .i) p q))
+is s p q = sym (ap shapeOf (kind-is (now (s .args .rows)) (s .args .i) (s .pre) p q))
 
 pub shape-at-spec : {M : Type 1} → statement M
 unfolding kindBy viewOf kindOf

@@ -7,7 +7,7 @@ use borrow.Author.Needs.{needs}
 use native.Mathlib.Numerals.{add-one}
 use native.Mathlib.Omega.{arith}
 use Rattle.rules.specs.Scripts.{scriptOf}
-use Rattle.analysis_table.specs.Code.{rowsOf}
+use Rattle.table.specs.Code.{rowsOf}
 use Rattle.explain_margin.specs.Figures.{ticksBeside}
 use Rattle.explain.specs.Asked.{passTicks, putTicks}
 use Rattle.explain.proofs.figures.put_ticks.Statement.{statement}
@@ -29,15 +29,15 @@ unfolding putTicks
 more f i r t u h e = rw (add-one, h, e)
 
 loop-holds : tie.Need-loop-holds Inv-loop μ-loop
-loop-holds c = (omega arith, c .before .pre .2, none _ _)
+loop-holds c = (omega arith, c .before .before .pre .2, none _ _)
 
 block-ticks-requires : tie.Need-block-ticks-requires Inv-loop μ-loop
 block-ticks-requires c κs =
-    let p = c .before .before .before .pre in
+    let p = c .before .before .before .before .pre in
     (p .0 .legal, p .0 .rows, p .0 .held, p .0 .blank, p .0 .prices, p .0 .short, p .0 .written, p .1)
 
 put-own-requires : tie.Need-put-own-requires Inv-loop μ-loop
-put-own-requires c κs = (omega (arith, c .before .before .loop-test .taken, c .before .before .before .before .before .pre .0 .rows), c .before .before .before .loop .inv .1)
+put-own-requires c κs = (omega (arith, c .before .before .loop-test .taken, c .before .before .before .before .before .before .pre .0 .rows), c .before .before .before .loop .inv .1)
 
 loop-again : tie.Need-loop-again Inv-loop μ-loop
 loop-again c =
@@ -46,7 +46,7 @@ loop-again c =
 
 returns : tie.Need-returns Inv-loop μ-loop
 returns c =
-    let s = c .before .before .before .args in
+    let s = c .before .before .before .before .args in
     let l = c .before .loop in
     let e : l .i ≡ s .count = omega (arith, c .loop-test .left, l .inv .0) in
     (l .inv .2 ∙ ap (λ n. putTicks (passTicks (s .prices) (scriptOf (s .text .now) (s .ranges) (s .vars) (rowsOf (s .rows .now)) (s .count))) n (s .figures .now)) e, l .inv .1)

@@ -1,4 +1,0 @@
--- The laws that belong to no one function.
-pub mod Laws
-pub mod Limits
-pub mod Whole
