@@ -4,16 +4,15 @@ use mathlib.Core.List.{List}
 use Prim.Native.Nat.{ℕ, min}
 use lib.IntN.{ℤ}
 use lib.ListN.{length, take}
-use Rattle.rules.specs.declared.Row.{Row}
 use Rattle.rules.specs.declared.Prices.{Prices}
 use Rattle.rules.specs.declared.Verdict.{Verdict}
 use Rattle.rules.specs.declared.Verdict.the-variants.{Passed, Refused}
-use Rattle.rules.specs.Scripts.{Script, scriptOf, Legal}
+use Rattle.rules.specs.Scripts.{Script, Legal}
 use Rattle.rules.specs.Answers.{Answer}
 use Rattle.rules.specs.Calls.{pricesOf, Priced, RunReply, ran, refuses, storeVerdict, loopRows, countsAt, runScript, ranScript, stored, runReply, storeAfter}
 use Rattle.rules.proofs.Demand3File.{Says, fine-prices, store-in}
 use Rattle.rules_machine.proofs.RunCapped.{run-capped}
-use Rattle.runner.specs.Runs.{Runnable}
+use Rattle.run_machine.specs.Steps.{Runnable}
 use Rattle.runner.proofs.Start.{runnable}
 use Rattle.analysis.specs.declared.Figures.{Figures}
 use Rattle.calls.specs.declared.Outcome.{Outcome}
@@ -51,8 +50,8 @@ module _ (prices : List ℕ) (script : Script) (count : ℕ) (s : Figures) (ls :
       passes : storeVerdict 0 (script .ranges) store ≡ Passed
       passes = sym asked ∙ y
 
-      pub may-run : Runnable (length store) (script .rows)
-      may-run = subst (λ k. Runnable k (script .rows)) (sym (store-in script store passes .whole)) (runnable script legal)
+      pub runs-from : Runnable (length store) (script .rows)
+      runs-from = subst (λ k. Runnable k (script .rows)) (sym (store-in script store passes .whole)) (runnable script legal)
 
       -- the run with the smaller of the allowance and the report's ticks is the run
       same-run : Priced prices → runScript (pricesOf prices) script store picks allowance ≡ runScript (pricesOf prices) script store picks (min allowance (s .ticks))
@@ -66,11 +65,11 @@ module _ (prices : List ℕ) (script : Script) (count : ℕ) (s : Figures) (ls :
       replied-run q = replied Passed y ∙ ap (λ (a : Answer). ran a (countsAt (a .entries) (loopRows 0 (script .rows)))) (same-run q)
 
 -- the run of the rows is the answer
-pub ran-all : (prices : List ℕ) → Priced prices → (π : Prices) → π ≡ pricesOf prices → (text : List ℕ) (ranges : List (List ℤ)) (vars : ℕ) (rows : List Row) (count : ℕ) (s : Figures) (ls : List (List ℕ)) → FiguresFound prices (scriptOf text ranges vars rows count) count s ls
-    → (store : List ℤ) (picks : List ℕ) (allowance : ℕ) → s .number ≡ 0 → (v : Verdict) → v ≡ storeVerdict 0 (scriptOf text ranges vars rows count .ranges) store → v ≡ Passed → Legal (scriptOf text ranges vars rows count)
+pub ran-all : (prices : List ℕ) → Priced prices → (π : Prices) → π ≡ pricesOf prices → (script : Script) (count : ℕ) (s : Figures) (ls : List (List ℕ)) → FiguresFound prices script count s ls
+    → (store : List ℤ) (picks : List ℕ) (allowance : ℕ) → s .number ≡ 0 → (v : Verdict) → v ≡ storeVerdict 0 (script .ranges) store → v ≡ Passed → Legal script
     → (least : ℕ) → least ≡ min allowance (s .ticks) → (new : List ℤ) (o : Outcome)
-    → RanAs (ranRows text π rows count store picks least) store new o → RanAs (runReply prices (judgedScript prices (scriptOf text ranges vars rows count)) store picks allowance) store new o
-unfolding ranScript runScript scriptOf
-ran-all prices q π f text ranges vars rows count s ls found store picks allowance z v asked y legal least e new o =
+    → RanAs (ranRows π (script .rows) store picks least) store new o → RanAs (runReply prices (judgedScript prices script) store picks allowance) store new o
+unfolding ranScript runScript
+ran-all prices q π f script count s ls found store picks allowance z v asked y legal least e new o =
     subst (λ r. RanAs r store new o)
-    ((λ j. ranRows text (f j) rows count store picks (e j)) ∙ sym (replied-run prices (scriptOf text ranges vars rows count) count s ls found store picks allowance z v asked y legal q))
+    ((λ j. ranRows (f j) (script .rows) store picks (e j)) ∙ sym (replied-run prices script count s ls found store picks allowance z v asked y legal q))

@@ -1,22 +1,18 @@
 -- What the calls answer, as code holds it.
 use mathlib.Core.Path.{_≡_}
 use mathlib.Core.List.{List}
-use Prim.Native.Nat.{ℕ, _≤_, _<_}
+use Prim.Native.Nat.{ℕ, _≤_}
 use lib.IntN.{ℤ}
 use lib.ListN.{length, take}
-use Rattle.rules.specs.declared.Row.{Row}
 use Rattle.rules.specs.declared.Prices.{Prices}
 use Rattle.rules.specs.declared.Ending.the-variants.{Ended}
 use Rattle.rules.specs.declared.LoopCount.{LoopCount}
 use Rattle.rules.specs.declared.Verdict.the-variants.{Passed, Refused}
-use Rattle.rules.specs.Blocks.{kindsOf}
-use Rattle.rules.specs.Written.{Written}
-use Rattle.table.specs.Code.{kindAt}
+use Rattle.rules.specs.Blocks.{RowKind}
 use Rattle.rules.specs.Answers.{Answer}
 use Rattle.rules.specs.Scripts.{reportTicks}
 use Rattle.rules.specs.Calls.{Judged, accepted, pricesOf, replyOf, bufferOf, RunReply, ran, refuses, loopRows, countsAt, storeAfter}
 use Rattle.run_loops.specs.Loops.{NoneFrom}
-use Rattle.runner.specs.Runs.{Runnable}
 use Rattle.runner.specs.Answered.{runOf}
 use Rattle.calls.specs.declared.Measured.{Measured}
 use Rattle.calls.specs.declared.Outcome.{Outcome}
@@ -64,16 +60,6 @@ pub record RanAs (reply : RunReply) (old new : List ℤ) (o : Outcome) : Type 0 
   pub told : Told o reply
   pub store : new ≡ storeAfter reply old
 
--- the rows of an accepted script, a price for each test, and an allowance that is no more than its ticks
-pub record Runs (text : List ℕ) (π : Prices) (rows : List Row) (count : ℕ) (store : List ℤ) (allowance : ℕ) : Type 0 where
-  pub size : count ≤ 256
-  pub price : 1 ≤ π .test
-  pub runs : Runnable (length store) (take count (kindsOf text rows))
-  pub written : (i : ℕ) → i < count → Written text (kindAt rows i)
-  pub ticks : allowance ≤ 1_000_000_000_000
-
 -- the run of rows, with its counts
-abbrev pub ranRows : List ℕ → Prices → List Row → ℕ → List ℤ → List ℕ → ℕ → RunReply
-ranRows text π rows count store picks allowance =
-    let a : Answer = runOf π (take count (kindsOf text rows)) store picks allowance in
-    ran a (countsAt (a .entries) (loopRows 0 (take count (kindsOf text rows))))
+abbrev pub ranRows : Prices → List RowKind → List ℤ → List ℕ → ℕ → RunReply
+ranRows π rows store picks allowance = let a : Answer = runOf π rows store picks allowance in ran a (countsAt (a .entries) (loopRows 0 rows))

@@ -2,14 +2,13 @@
 use analysis::Figures;
 use calls_prices::prices_of;
 use min_max::smaller;
+use reader::Loaded;
 use rules::Ending;
 use rules::LoopCount;
 use rules::Prices;
 use rules::Reply;
-use rules::Row;
 use rules::Verdict;
 use run_loops::NO_COUNT;
-use table::pack_rows;
 ghost use mathlib.Core.Path.{_≡_};
 ghost use mathlib.Core.Bool.{_&&_};
 ghost use mathlib.Core.List.{List};
@@ -17,12 +16,14 @@ ghost use Prim.Native.Nat.{ℕ, _≤_};
 ghost use lib.Signed.{leZ};
 ghost use lib.ListN.{length, take};
 ghost use Rattle.rules.specs.Bounds.{FinePrices};
-ghost use Rattle.rules.specs.Scripts.{pairRanges, scriptOf};
+ghost use Rattle.rules.specs.Scripts.{pairRanges};
 ghost use Rattle.rules.specs.Calls.{Priced, storeVerdict, runReply};
 ghost use Rattle.rules.specs.Claim.{Demand3Of};
 ghost use Rattle.analysis.specs.Whole.{AnalysisOf};
-ghost use Rattle.calls.specs.Held.{Given, judgedScript, admitted};
-ghost use Rattle.calls.specs.Told.{MeasuredAs, ToldNo, RanAs, Runs, ranRows};
+ghost use Rattle.run_machine.specs.Steps.{scriptIn};
+ghost use Rattle.runner.specs.Answered.{MayRun};
+ghost use Rattle.calls.specs.Held.{readScript, Given, judgedScript, admitted};
+ghost use Rattle.calls.specs.Told.{MeasuredAs, ToldNo, RanAs, ranRows};
 
 // What a report call answers, and the script's ticks: 0 of a refused one.
 pub struct Measured {
@@ -33,22 +34,20 @@ pub struct Measured {
 // The report call: the questions 19 and 8 to 14, the report in the buffer, and its ticks.
 pub fn measure_script(
     text: &[u8],
-    rows: [Row; 256],
-    count: usize,
+    rows: &[u32],
+    script: Loaded,
     ranges: [[i32; 2]; 16],
-    vars: usize,
     prices: &[u32],
     buffer: &mut [u8],
 ) -> Measured
-    requires { ⌜ Given (now text) ranges vars rows count × Priced (now prices) ⌝ }
-    ensures { λ r. ⌜ MeasuredAs (now (prices .entry)) (judgedScript (now (prices .entry)) (scriptOf (now (text .entry)) ranges vars rows count)) (now (buffer .entry)) (now (buffer .exit)) r ⌝ }
+    requires { ⌜ Given (now text) (now rows) script ranges × Priced (now prices) ⌝ }
+    ensures { λ r. ⌜ MeasuredAs (now (prices .entry)) (judgedScript (now (prices .entry)) (readScript (now (text .entry)) (now (rows .entry)) script ranges)) (now (buffer .entry)) (now (buffer .exit)) r ⌝ }
 {
     let none: [u64; 7] = [0; 7];
     let mut lines = [none; 16];
-    let mut table: [u32; 1024] = [0; 1024];
-    pack_rows(&mut table, rows, count);
     let by_kind = prices_of(prices);
-    let figures = analysis::analyse(text, &table, count, ranges, vars, by_kind, &mut lines);
+    let count = script.count;
+    let figures = analysis::analyse(text, rows, count, ranges, script.vars, by_kind, &mut lines);
     if figures.number != 0 {
         let no = Reply::Refused(figures.number, figures.place);
         return Measured {
@@ -121,21 +120,20 @@ pub fn refusal(number: u32, place: usize) -> Outcome
     }
 }
 
-// The run of an accepted script's rows from a store inside its ranges.
+// The run of an accepted script from a store inside its ranges.
 fn run_accepted(
     text: &[u8],
-    rows: [Row; 256],
+    rows: &[u32],
     count: usize,
     prices: Prices,
     store: &mut [i32],
     picks: &[u8],
     allowance: u64,
 ) -> Outcome
-    requires { ⌜ Runs (now text) prices rows count (now store) allowance ⌝ }
-    ensures { λ r. ⌜ RanAs (ranRows (now (text .entry)) prices rows count (now (store .entry)) (now (picks .entry)) allowance) (now (store .entry)) (now (store .exit)) r ⌝ }
+    requires { ⌜ MayRun (now text) prices (now rows) count (now store) allowance ⌝ }
+    ensures { λ r. ⌜ RanAs (ranRows prices (scriptIn (now (text .entry)) (now (rows .entry)) count) (now (store .entry)) (now (picks .entry)) allowance) (now (store .entry)) (now (store .exit)) r ⌝ }
 {
-    let heads = run_loops::heads_of(rows, count);
-    let mut table: [[u64; 3]; 256] = [[0; 3]; 256];
+    let mut turns: [[u64; 3]; 16] = [[0; 3]; 16];
     let ran = runner::run_rows(
         text,
         rows,
@@ -144,9 +142,9 @@ fn run_accepted(
         store,
         picks,
         allowance,
-        &mut table,
+        &mut turns,
     );
-    let loops = run_loops::loops_of(heads, &table);
+    let loops = run_loops::loops_of(rows, count, &turns);
     let counts = loops.counts;
     let ending = ran.ending;
     let verdict = Verdict::Passed;
@@ -161,93 +159,68 @@ fn run_accepted(
     }
 }
 
-// The questions 19 and 8 to 13 of a script, and its ticks. The table of its rows and the report's lines are gone when it is done.
-fn ticks_of(
-    text: &[u8],
-    rows: [Row; 256],
-    count: usize,
-    ranges: [[i32; 2]; 16],
-    vars: usize,
-    prices: Prices,
-) -> Figures
-    requires { ⌜ Given (now text) ranges vars rows count × FinePrices prices ⌝ }
-    ensures { λ r. ⌜ ((lines : List (List ℕ)) × AnalysisOf prices (scriptOf (now (text .entry)) ranges vars rows count) count r lines) ⌝ }
-{
-    let none: [u64; 7] = [0; 7];
-    let mut lines = [none; 16];
-    let mut table: [u32; 1024] = [0; 1024];
-    pack_rows(&mut table, rows, count);
-    analysis::analyse(text, &table, count, ranges, vars, prices, &mut lines)
-}
-
-// The same for a script that is asked and not run. It is a function of its own because the compiler lays one that has one caller into that caller: with both callers a run
-// took 17 KB more stack.
+// The questions 19 and 8 to 13 of a script, and its ticks. The report's lines are gone when it is done.
 fn figures_of(
     text: &[u8],
-    rows: [Row; 256],
-    count: usize,
+    rows: &[u32],
+    script: Loaded,
     ranges: [[i32; 2]; 16],
-    vars: usize,
     prices: Prices,
 ) -> Figures
-    requires { ⌜ Given (now text) ranges vars rows count × FinePrices prices ⌝ }
-    ensures { λ r. ⌜ ((lines : List (List ℕ)) × AnalysisOf prices (scriptOf (now (text .entry)) ranges vars rows count) count r lines) ⌝ }
+    requires { ⌜ Given (now text) (now rows) script ranges × FinePrices prices ⌝ }
+    ensures { λ r. ⌜ ((lines : List (List ℕ)) × AnalysisOf prices (readScript (now (text .entry)) (now (rows .entry)) script ranges) (script .count) r lines) ⌝ }
 {
     let none: [u64; 7] = [0; 7];
     let mut lines = [none; 16];
-    let mut table: [u32; 1024] = [0; 1024];
-    pack_rows(&mut table, rows, count);
-    analysis::analyse(text, &table, count, ranges, vars, prices, &mut lines)
+    analysis::analyse(text, rows, script.count, ranges, script.vars, prices, &mut lines)
 }
 
 // The questions 19, 8 to 13 and 15 of a script, and no run.
 pub fn ask_script(
     text: &[u8],
-    rows: [Row; 256],
-    count: usize,
+    rows: &[u32],
+    script: Loaded,
     ranges: [[i32; 2]; 16],
-    vars: usize,
     prices: &[u32],
     store: &[i32],
 ) -> Verdict
-    requires { ⌜ Given (now text) ranges vars rows count × Priced (now prices) ⌝ }
-    ensures { λ r. ⌜ r ≡ admitted (judgedScript (now (prices .entry)) (scriptOf (now (text .entry)) ranges vars rows count)) (now (store .entry)) ⌝ }
+    requires { ⌜ Given (now text) (now rows) script ranges × Priced (now prices) ⌝ }
+    ensures { λ r. ⌜ r ≡ admitted (judgedScript (now (prices .entry)) (readScript (now (text .entry)) (now (rows .entry)) script ranges)) (now (store .entry)) ⌝ }
 {
     let by_kind = prices_of(prices);
-    let figures = figures_of(text, rows, count, ranges, vars, by_kind);
+    let figures = figures_of(text, rows, script, ranges, by_kind);
     if figures.number != 0 {
         return Verdict::Refused(figures.number, figures.place);
     }
-    ask_store(vars, &ranges, store)
+    ask_store(script.vars, &ranges, store)
 }
 
 // The run call: the questions 19, 8 to 13 and 15, and the run. A refusal leaves the store as it was.
 pub fn run_script(
     text: &[u8],
-    rows: [Row; 256],
-    count: usize,
+    rows: &[u32],
+    script: Loaded,
     ranges: [[i32; 2]; 16],
-    vars: usize,
     prices: &[u32],
     store: &mut [i32],
     picks: &[u8],
     allowance: u64,
 ) -> Outcome
-    requires { ⌜ Given (now text) ranges vars rows count × Priced (now prices) ⌝ }
-    ensures run { λ r. ⌜ RanAs (runReply (now (prices .entry)) (judgedScript (now (prices .entry)) (scriptOf (now (text .entry)) ranges vars rows count)) (now (store .entry)) (now (picks .entry)) allowance) (now (store .entry)) (now (store .exit)) r ⌝ }
-    ensures demand3 { λ r. ⌜ Demand3Of (now (prices .entry)) (judgedScript (now (prices .entry)) (scriptOf (now (text .entry)) ranges vars rows count)) (now (store .entry)) (now (picks .entry)) allowance (r .ending) (r .ticks) (take (r .loops) (r .counts)) ⌝ }
+    requires { ⌜ Given (now text) (now rows) script ranges × Priced (now prices) ⌝ }
+    ensures run { λ r. ⌜ RanAs (runReply (now (prices .entry)) (judgedScript (now (prices .entry)) (readScript (now (text .entry)) (now (rows .entry)) script ranges)) (now (store .entry)) (now (picks .entry)) allowance) (now (store .entry)) (now (store .exit)) r ⌝ }
+    ensures demand3 { λ r. ⌜ Demand3Of (now (prices .entry)) (judgedScript (now (prices .entry)) (readScript (now (text .entry)) (now (rows .entry)) script ranges)) (now (store .entry)) (now (picks .entry)) allowance (r .ending) (r .ticks) (take (r .loops) (r .counts)) ⌝ }
 {
     let by_kind = prices_of(prices);
-    let figures = ticks_of(text, rows, count, ranges, vars, by_kind);
+    let figures = figures_of(text, rows, script, ranges, by_kind);
     if figures.number != 0 {
         return refusal(figures.number, figures.place);
     }
-    let asked = ask_store(vars, &ranges, &store[..]);
+    let asked = ask_store(script.vars, &ranges, &store[..]);
     match asked {
         Verdict::Passed => run_accepted(
             text,
             rows,
-            count,
+            script.count,
             by_kind,
             store,
             picks,
