@@ -171,7 +171,7 @@ pub fn count_turn(k: usize, counts: &mut [[u64; 3]; 16])
     requires { ⌜ RoomAt k (now counts) ⌝ }
     ensures { λ _. ⌜ TurnBegun k (now (counts .entry)) (now (counts .exit)) ⌝ }
 {
-    counts[k][TURNS] = counts[k][TURNS] + 1;
+    counts[k] = [counts[k][TURNS] + 1, counts[k][ALL], counts[k][MOST]];
 }
 
 // Does the comparison of this code hold?

@@ -93,9 +93,10 @@ module _ (w v a : ℕ) where
   pub move-stands : (k : ℕ) (d : Change) → FirstIs (12 + k) v 0 0 k w → k < 4 → changeIn k a ≡ d → Stands (Move v d) (w ∷ 0 ∷ 0 ∷ a ∷ [])
   unfolding kindIn kindBy
   move-stands k d f h e =
+      let m : w % 256 % 4 ≡ k = omega (arith, f .op-is) in
       record {
         kind = ap (λ g. kindBy g (w ∷ 0 ∷ 0 ∷ a ∷ [])) (ap tagIn (f .op-is) ∙ tag-move (12 + k) (omega arith) (omega arith)) ∙ (λ z. Move (f .variable-is z) ((ap (λ n. changeIn n a) (f .change-is) ∙ e) z));
-        test = tt;
+        test = ap (λ n. changeIn n a) m ∙ e;
         no-partner = f .no-partner;
       }
 

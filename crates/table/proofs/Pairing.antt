@@ -1,6 +1,7 @@
 -- A row more: what holds of the table and of the open blocks before row j holds before the next row. Assumes nothing.
 use mathlib.Core.Path.{_≡_, refl, sym, ap, subst, _∙_}
 use mathlib.Core.Bool.{Bool, true, false, cond}
+use mathlib.Core.Logic.{inl}
 use mathlib.Core.List.{List, [], _∷_}
 use Prim.Native.Nat.{ℕ, zero, suc, _+_, _-_, _≤_, _<_}
 use native.Mathlib.Numerals.{add-one}
@@ -151,7 +152,7 @@ module _ (text : List ℕ) (script : List RowKind) (j : ℕ) (p : Pairs) (t : Li
     tests-kept : (i : ℕ) → i < j → TestOf (kindIn (numbersAt t′ i)) (numbersAt t′ i)
     tests-kept i l =
         let k = c .kept i l in
-        subst (λ x. TestOf x (numbersAt t′ i)) (sym (kind-same (numbersAt t i) (numbersAt t′ i) k)) (test-of (numbersAt t i) (numbersAt t′ i) (k .test) (kindIn (numbersAt t i)) (b .tests i l))
+        subst (λ x. TestOf x (numbersAt t′ i)) (sym (kind-same (numbersAt t i) (numbersAt t′ i) k)) (test-of (numbersAt t i) (numbersAt t′ i) (k .test) text (kindIn (numbersAt t i)) (inl (k .op)) (b .tests i l))
 
     end-kept : (h e : ℕ) → e < j → viewAt script e ≡ is-end → EndRow script t h e → EndRow script t′ h e
     end-kept h e l w r =

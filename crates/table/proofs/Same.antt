@@ -1,6 +1,8 @@
 -- Rows that are the same but for some fields: the same kind, the same test. Assumes nothing.
 use mathlib.Core.Path.{_≡_, refl, sym, ap, subst, _∙_}
+use mathlib.Core.Bool.{true}
 use mathlib.Core.List.{List, [], _∷_}
+use mathlib.Core.Logic.{_⊎_, inl, inr}
 use Prim.Native.Nat.{ℕ, _+_, _*_, _/_, _%_, _<_}
 use native.Mathlib.Omega.{arith}
 use lib.ListN.{length, getD, set, length-set}
@@ -9,6 +11,8 @@ use Rattle.rules.specs.declared.Kind.the-variants.{Set, Move, Cue, Pick, Else, 
 use Rattle.rules.specs.declared.Operand.{Operand}
 use Rattle.rules.specs.declared.Comparison.{Comparison}
 use Rattle.rules.specs.Blocks.{no-step, step-by, View, is-plain, is-pick, is-else, is-end, is-loop, viewOf, kindOf}
+use Rattle.rules.specs.Calls.{isLoop}
+use Rattle.rules.proofs.Laws.{no-true}
 use Rattle.table.specs.declared.Tag.{Tag}
 use Rattle.table.specs.Code.{constantIn, operandIn, comparisonBy, changeIn, number, opIn, variableIn, comparisonIn, limitKindIn, changeKindIn, partnerIn, startIn, limitIn, stepIn, tagIn, rowTag, kindBy, kindIn, numbersAt}
 use Rattle.table.specs.Packing.{IsComparison, TestIn, TestOf, NumbersPut}
@@ -55,19 +59,21 @@ module _ (e e′ : List ℕ) (s : SameTest e e′) where
   test-in : (v : ℕ) (c : Comparison) (x : Operand) → TestIn v c x e → TestIn v c x e′
   test-in v c x t = record { variable = same-variable ∙ t .variable; comparison = same-comparison ∙ t .comparison; code = code-in (t .code); limit = same-limit ∙ t .limit }
 
-  -- it tells the same test
-  pub test-of : (k : Kind) → TestOf k e → TestOf k e′
-  test-of End t = tt
-  test-of Else t = tt
-  test-of Pick t = tt
-  test-of (Set v x) t = tt
-  test-of (Move v d) t = tt
-  test-of (Off v w c k) t = code-in t
-  test-of (Cue n) t = tt
-  test-of (While v c x) t = test-in v c x t
-  test-of (Do v c x) t = test-in v c x t
-  test-of (For v s c x d) (t, q) = (test-in v c x t, same-step ∙ q)
-  test-of (Hold v) t = test-in v _ _ t
+  -- it tells the same test, if it has the same op, or a loop's head had it
+  pub test-of : (text : List ℕ) (k : Kind) → (opIn e′ ≡ opIn e) ⊎ (isLoop (viewOf (kindOf text k)) ≡ true) → TestOf k e → TestOf k e′
+  unfolding viewOf kindOf isLoop
+  test-of text End o t = tt
+  test-of text Else o t = tt
+  test-of text Pick o t = tt
+  test-of text (Set v x) o t = tt
+  test-of text (Move v d) (inl o) t = (λ z. changeIn (o z % 4) (s .change z)) ∙ t
+  test-of text (Move v d) (inr l) t = no-true l
+  test-of text (Off v w c k) o t = code-in t
+  test-of text (Cue n) o t = tt
+  test-of text (While v c x) o t = test-in v c x t
+  test-of text (Do v c x) o t = test-in v c x t
+  test-of text (For v s c x d) o (t, q) = (test-in v c x t, same-step ∙ q)
+  test-of text (Hold v) o t = test-in v _ _ t
 
 -- a row that is kept has its kind
 module _ (e e′ : List ℕ) (k : Kept e e′) where

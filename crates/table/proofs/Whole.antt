@@ -1,6 +1,7 @@
 -- All rows of a script, put one by one: its table. Assumes nothing.
 use mathlib.Core.Path.{_≡_, refl, sym, ap, subst, _∙_}
 use mathlib.Core.Bool.{Bool, true, false, cond, _&&_}
+use mathlib.Core.Logic.{inr}
 use mathlib.Core.List.{List, [], _∷_}
 use Prim.Native.Nat.{ℕ, zero, suc, _+_, _-_, _*_, _/_, _≤_, _<_}
 use native.Mathlib.Numerals.{add-one}
@@ -184,7 +185,7 @@ module _ (text : List ℕ) (script : List RowKind) (t : List ℕ) (o : Open) (n 
       let (a, c) = loop-place script 0 h l e in
       record {
         end-row = r;
-        tells = test-of (numbersAt t h) (numbersAt t x) (r .test) (kindIn (numbersAt t h)) (b .tests h l);
+        tells = test-of (numbersAt t h) (numbersAt t x) (r .test) text (kindIn (numbersAt t h)) (inr (ap (λ x. isLoop (viewOf x)) (b .kinds h l) ∙ e)) (b .tests h l);
         place = ap (λ z. getD (loopRows 0 script) z 0) (r .loop) ∙ a ∙ zero-more h;
         few = subst (λ z. z < length (loopRows 0 script)) (sym (r .loop)) c;
       }

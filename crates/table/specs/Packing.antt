@@ -12,7 +12,7 @@ use Rattle.rules.specs.declared.Comparison.{Comparison}
 use Rattle.rules.specs.declared.Comparison.the-variants.{Different}
 use Rattle.rules.specs.declared.Change.{Change}
 use Rattle.table.specs.declared.OperandCode.{OperandCode}
-use Rattle.table.specs.Code.{operandIn, comparisonBy, changeIn, opIn, variableIn, comparisonIn, partnerIn, limitIn, stepIn, kindIn, numbersAt}
+use Rattle.table.specs.Code.{operandIn, comparisonBy, changeIn, number, opIn, variableIn, comparisonIn, partnerIn, limitIn, stepIn, kindIn, numbersAt}
 
 -- the kind and value of an operand
 pub record OperandCoded (x : Operand) (r : OperandCode) : Type 0 where
@@ -49,13 +49,13 @@ pub record TestIn (v : ℕ) (c : Comparison) (x : Operand) (e : List ℕ) : Type
   pub code : IsComparison (comparisonIn e)
   pub limit : limitIn e ≡ x
 
--- numbers that tell the test of a row that has one, and the step of a for; change 12: a hold is "turning while v0 is not 0"
+-- numbers that tell the test of a row that has one, the step of a for, and by its op a change; change 12: a hold is "turning while v0 is not 0"
 abbrev pub TestOf : Kind → List ℕ → Type 0
 TestOf End e = Unit {0}
 TestOf Else e = Unit {0}
 TestOf Pick e = Unit {0}
 TestOf (Set v x) e = Unit {0}
-TestOf (Move v d) e = Unit {0}
+TestOf (Move v d) e = changeIn (opIn e % 4) (number e 3) ≡ d
 TestOf (Off v w c k) e = IsComparison (comparisonIn e)
 TestOf (Cue n) e = Unit {0}
 TestOf (While v c x) e = TestIn v c x e

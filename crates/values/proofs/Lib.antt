@@ -1,3 +1,2 @@
 pub mod Wide
-pub mod Order
 pub mod Results

@@ -1,14 +1,11 @@
-// Arithmetic on one value: operands, arithmetic rows, comparisons, limits.
+// Arithmetic on one value: operands, arithmetic rows, limits.
 use rules::Change;
-use rules::Comparison;
 use rules::Operand;
 ghost use mathlib.Core.Path.{_≡_};
 ghost use Prim.Native.Nat.{_≤_, _<_};
 ghost use lib.ListN.{length, take, drop};
-ghost use lib.IntN.{ℤ};
-ghost use lib.Signed.{ltZ};
-ghost use Rattle.ints.specs.Ints.{eqZ, floorZ};
-ghost use Rattle.rules.specs.Values.{value, quotient, applied, compares};
+ghost use Rattle.ints.specs.Ints.{floorZ};
+ghost use Rattle.rules.specs.Values.{value, quotient, applied};
 ghost use Rattle.rules.specs.Scripts.{storeOf, ExprBelow, ChangeLimits};
 ghost use Rattle.rules.specs.Blocks.{exprOf};
 ghost use Rattle.rules.specs.Parse.{exprIn, parse};
@@ -84,31 +81,4 @@ pub fn changed(change: Change, x: i32) -> i64
         Change::Mul(c) => x as i64 * c as i64,
         Change::Div(c) => quotient_of(x, c),
     }
-}
-
-// Does a comparison hold of values of this order: the first is less, or equal?
-fn by_order(comparison: Comparison, less: bool, equal: bool) -> bool
-    ensures { λ r. ⌜ ((x y : ℤ) → ltZ x y ≡ less → eqZ x y ≡ equal → r ≡ compares comparison x y) ⌝ }
-{
-    match comparison {
-        Comparison::Less => less,
-        Comparison::AtMost => less || equal,
-        Comparison::Greater => !less && !equal,
-        Comparison::AtLeast => !less,
-        Comparison::Equal => equal,
-        Comparison::Different => !equal,
-    }
-}
-
-// Does a comparison hold? Each order has a call of its own, so that it is a table and no jump.
-pub fn holds(comparison: Comparison, x: i64, y: i64) -> bool
-    ensures { λ r. ⌜ r ≡ compares comparison x y ⌝ }
-{
-    if x < y {
-        return by_order(comparison, true, false);
-    }
-    if x == y {
-        return by_order(comparison, false, true);
-    }
-    by_order(comparison, false, false)
 }

@@ -6,10 +6,10 @@ use Rattle.run_actions.proofs.cue_row.Statement.{statement}
 use Rattle.run_actions.proofs.cue_row.Tie as tie
 
 returns : tie.Need-returns
-returns c = λ store d n. rw (c .ended .ensures) (cue-spent (c .before .before .args .prices) _ _ _ _ _ _ false (c .before .if1 .taken))
+returns c = λ store picks d n. rw (c .ended .ensures) (cue-spent (c .before .before .args .prices) _ _ _ _ _ _ _ false (c .before .if1 .taken))
 
 returns-2 : tie.Need-returns-2
-returns-2 c = λ store d n. rw (c .on .ensures) (cue-done (c .before .before .before .args .prices) _ _ _ _ _ _ _ (c .before .before .if1 .left))
+returns-2 c = λ store picks d n. rw (c .on .ensures) (cue-done (c .before .before .before .args .prices) _ _ _ _ _ _ _ _ (c .before .before .if1 .left))
 
 pub cue-row-spec : {M : Type 1} → statement M
 cue-row-spec =

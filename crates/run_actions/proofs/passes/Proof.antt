@@ -1,23 +1,32 @@
 -- `run_actions::passes` meets its contract. Assumes nothing.
-use Rattle.rules.specs.Values.{compares}
-use borrow.Author.Needs.{needs, sfits-of}
-use mir.Val.{SFits}
-use mir.Syntax.{w32, w64}
-use mir.Facts.{toZ-ofZ, sfits-widen}
-use mathlib.Core.Path.{_∙_, ap}
+use mathlib.Core.Path.{_∙_}
+use mir.Facts.{toZ-ofZ}
+use Rattle.ints.proofs.Parts.{eqZ-yes, eqZ-no}
+use Rattle.table.specs.Code.{comparisonBy}
+use Rattle.run_actions.proofs.Order.{bits-of, less-only, by-order}
 use Rattle.run_actions.proofs.passes.Statement.{statement}
 use Rattle.run_actions.proofs.passes.Tie as tie
 
-cast-holds : tie.Need-cast-holds
-cast-holds c = let f : SFits w32 (c .stored .result) = sfits-of (c .stored .ok) in rw (toZ-ofZ f) (sfits-widen tt f)
-
 returns : tie.Need-returns
 returns c =
+    let s = c .before in
+    let f = s .fits in
+    let l = simp (toZ-ofZ (f .x), toZ-ofZ (f .y)) at (c .if1 .taken) in
+    bits-of (s .args .code) (s .pre) .less ∙ by-order (s .args .x) (s .args .y) (comparisonBy (s .args .code)) _ _ l (less-only (s .args .x) (s .args .y) l)
+
+returns-2 : tie.Need-returns-2
+returns-2 c =
     let s = c .before .before in
-    let x = c .before .stored in
-    let f : SFits w32 (x .result) = sfits-of (x .ok) in
-    let g : SFits w64 (x .result) = sfits-widen tt f in
-    (simp (toZ-ofZ f, toZ-ofZ g, toZ-ofZ (s .fits .limit)) at (c .holds .ensures)) ∙ ap (λ y. compares (s .args .comparison) y (s .args .limit)) (x .ensures)
+    let f = s .fits in
+    let l = simp (toZ-ofZ (f .x), toZ-ofZ (f .y)) at (c .before .if1 .left) in
+    bits-of (s .args .code) (s .pre) .equal ∙ by-order (s .args .x) (s .args .y) (comparisonBy (s .args .code)) _ _ l (eqZ-yes _ _ (f .x) (f .y) (c .if2 .taken))
+
+returns-3 : tie.Need-returns-3
+returns-3 c =
+    let s = c .before .before in
+    let f = s .fits in
+    let l = simp (toZ-ofZ (f .x), toZ-ofZ (f .y)) at (c .before .if1 .left) in
+    bits-of (s .args .code) (s .pre) .greater ∙ by-order (s .args .x) (s .args .y) (comparisonBy (s .args .code)) _ _ l (eqZ-no _ _ (f .x) (f .y) (c .if2 .left))
 
 pub passes-spec : {M : Type 1} → statement M
-passes-spec = tie.close (tie.spec (λ c κs. search needs) cast-holds (λ c κs. search needs) returns)
+passes-spec = tie.close (tie.spec returns returns-2 returns-3)

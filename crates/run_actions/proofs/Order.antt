@@ -1,7 +1,9 @@
--- A comparison by the order of two values. Assumes nothing.
+-- A comparison by its code and the order of two values. Assumes nothing.
 use mathlib.Core.Path.{_≡_, refl, sym, ap, subst}
 use mathlib.Core.Bool.{Bool, true, false, not, _&&_, _||_}
-use lib.Dec.{T}
+use Prim.Native.Nat.{ℕ, zero, suc, _/_, _%_}
+use native.Mathlib.Omega.{arith}
+use lib.Dec.{T, eqb}
 use lib.IntN.{ℤ}
 use lib.Signed.{leZ, ltZ}
 use Rattle.ints.specs.Ints.{eqZ}
@@ -10,6 +12,8 @@ use Rattle.ints.proofs.Diffs.{eq-refl}
 use Rattle.rules.specs.declared.Comparison.{Comparison}
 use Rattle.rules.specs.declared.Comparison.the-variants.{Less, AtMost, Greater, AtLeast, Equal, Different}
 use Rattle.rules.specs.Values.{compares}
+use Rattle.table.specs.Code.{comparisonBy}
+use Rattle.table.specs.Packing.{IsComparison}
 
 -- a comparison of values of this order
 abbrev pub ordered : Comparison → Bool → Bool → Bool
@@ -19,6 +23,22 @@ ordered Greater less equal = not less && not equal
 ordered AtLeast less equal = not less
 ordered Equal less equal = equal
 ordered Different less equal = not equal
+
+-- the code's bits: it passes where less, where equal, where greater
+pub record Bits (n : ℕ) : Type 0 where
+  pub less : eqb (n % 2) 1 ≡ ordered (comparisonBy n) true false
+  pub equal : eqb (n / 2 % 2) 1 ≡ ordered (comparisonBy n) false true
+  pub greater : eqb (n / 4) 1 ≡ ordered (comparisonBy n) false false
+
+pub bits-of : (n : ℕ) → IsComparison n → Bits n
+bits-of zero h = absurd (omega arith)
+bits-of (suc zero) h = record { less = refl; equal = refl; greater = refl }
+bits-of (suc (suc zero)) h = record { less = refl; equal = refl; greater = refl }
+bits-of (suc (suc (suc zero))) h = record { less = refl; equal = refl; greater = refl }
+bits-of (suc (suc (suc (suc zero)))) h = record { less = refl; equal = refl; greater = refl }
+bits-of (suc (suc (suc (suc (suc zero))))) h = record { less = refl; equal = refl; greater = refl }
+bits-of (suc (suc (suc (suc (suc (suc zero)))))) h = record { less = refl; equal = refl; greater = refl }
+bits-of (suc (suc (suc (suc (suc (suc (suc n))))))) h = absurd (omega arith)
 
 module _ (x y : ℤ) where
   -- neither less nor equal is above
