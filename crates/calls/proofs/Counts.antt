@@ -21,9 +21,9 @@ module _ (es : List Entry) (c : TurnCounts) (sums : (p : ℕ) → c .sum p ≡ s
   counts-told [] = refl
   counts-told (p ∷ ps) = λ j. record { row = p; all = sums p j; most = mosts p j } ∷ counts-told ps j
 
-  module _ (heads ps : List ℕ) (same : heads ≡ ps) (l : Loops) (counted : HeadCounts heads c l) where
-    pub counts-are : take (l .count) (l .counts) ≡ countsAt es ps
-    counts-are = counted .counts ∙ counts-told heads ∙ ap (countsAt es) same
+  module _ (heads : List ℕ) (l : Loops) (counted : HeadCounts heads c l) where
+    pub counts-are : take (l .count) (l .counts) ≡ countsAt es heads
+    counts-are = counted .counts ∙ counts-told heads
 
-    pub counts-number : l .count ≡ length (countsAt es ps)
-    counts-number = counted .number ∙ ap length same ∙ sym (counts-length es ps)
+    pub counts-number : l .count ≡ length (countsAt es heads)
+    counts-number = counted .number ∙ sym (counts-length es heads)

@@ -172,7 +172,15 @@ fn figures_of(
 {
     let none: [u64; 7] = [0; 7];
     let mut lines = [none; 16];
-    analysis::analyse(text, rows, script.count, ranges, script.vars, prices, &mut lines)
+    analysis::analyse(
+        text,
+        rows,
+        script.count,
+        ranges,
+        script.vars,
+        prices,
+        &mut lines,
+    )
 }
 
 // The questions 19, 8 to 13 and 15 of a script, and no run.

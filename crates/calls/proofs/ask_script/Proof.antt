@@ -3,7 +3,7 @@ use mathlib.Core.Path.{_≡_, sym, _∙_, ap}
 use lib.ListN.{length}
 use native.Mathlib.Omega.{arith}
 use Rattle.rules.specs.Scripts.{Script, scriptOf}
-use Rattle.calls.specs.Held.{admitted, FiguresFound}
+use Rattle.calls.specs.Held.{readScript, admitted, FiguresFound}
 use Rattle.calls.proofs.Tables.{four, fine, found-by}
 use Rattle.calls.proofs.Judging.{judged-no, judged-yes}
 use borrow.Author.Needs.{needs}
@@ -12,10 +12,10 @@ use Rattle.calls.proofs.ask_script.Tie as tie
 
 -- the script that is held
 abbrev script : tie.Start → Script
-script s = scriptOf (s .args .text .now) (s .args .t4) (s .args .vars) (s .args .rows) (s .args .count)
+script s = readScript (s .args .text .now) (s .args .rows .now) (s .args .script) (s .args .ranges)
 
 -- the ranges are a whole array
-full-ranges : (s : tie.Start) → length (s .args .t4) ≡ 16
+full-ranges : (s : tie.Start) → length (s .args .ranges) ≡ 16
 full-ranges s = search needs
 
 prices-of-requires : tie.Need-prices-of-requires
@@ -25,15 +25,15 @@ figures-of-requires : tie.Need-figures-of-requires
 figures-of-requires c κs = let s = c .before .before .before in (s .pre .0, fine (s .args .prices .now) (s .pre .1) (c .prices-of .ensures))
 
 -- what the analysis found of it
-found : (c : tie.After-figures-of) → let s = c .before .before .before .before in FiguresFound (s .args .prices .now) (script s) (s .args .count) (c .figures-of .result) (c .figures-of .ensures .0)
-found c = let s = c .before .before .before .before in found-by _ _ _ _ _ (s .pre .0) (s .args .prices .now) (c .before .prices-of .ensures) (c .figures-of .result) _ (c .figures-of .ensures .1)
+found : (c : tie.After-figures-of) → let s = c .before .before .before .before in FiguresFound (s .args .prices .now) (script s) (s .args .script .count) (c .figures-of .result) (c .figures-of .ensures .0)
+found c = let s = c .before .before .before .before in found-by _ _ _ _ (s .pre .0) (s .args .prices .now) (c .before .prices-of .ensures) (c .figures-of .result) _ (c .figures-of .ensures .1)
 
 returns : tie.Need-returns
 returns c =
     let s = c .before .before .before .before .before .before in
     let f = c .before .before .figures-of in
     let h : f .result .number ≡ 0 → ⊥ = search needs in
-    ap (λ j. admitted j (s .args .store .now)) (sym (judged-no (s .args .prices .now) (script s) (s .args .count) (f .result) _ (found (c .before .before)) h))
+    ap (λ j. admitted j (s .args .store .now)) (sym (judged-no (s .args .prices .now) (script s) (s .args .script .count) (f .result) _ (found (c .before .before)) h))
 
 ask-store-requires : tie.Need-ask-store-requires
 ask-store-requires c κs = let s = c .before .before .before .before .before .before .before in (s .pre .0 .few, full-ranges s)
@@ -44,7 +44,7 @@ returns-2 c =
     let s = c .before .before .before .before .before .before .before .before in
     let f = c .before .before .before .before .figures-of in
     let z : f .result .number ≡ 0 = omega (arith, c .before .before .if1 .left) in
-    c .ask-store .ensures ∙ ap (λ j. admitted j (s .args .store .now)) (sym (judged-yes (s .args .prices .now) (script s) (s .args .count) (f .result) _ (found (c .before .before .before .before)) z))
+    c .ask-store .ensures ∙ ap (λ j. admitted j (s .args .store .now)) (sym (judged-yes (s .args .prices .now) (script s) (s .args .script .count) (f .result) _ (found (c .before .before .before .before)) z))
 
 pub ask-script-spec : {M : Type 1} → statement M
 ask-script-spec = tie.close (tie.spec prices-of-requires figures-of-requires returns ask-store-requires returns-2)

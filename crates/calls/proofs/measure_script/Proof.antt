@@ -1,8 +1,8 @@
 -- `calls::measure_script` meets its contract. Assumes nothing.
 use mathlib.Core.Path.{_≡_}
-use Rattle.rules.specs.Scripts.{Script, scriptOf}
-use Rattle.calls.specs.Held.{FiguresFound}
-use Rattle.calls.proofs.Tables.{four, fine, packable, analyse-asks, analyse-same, found-by}
+use Rattle.rules.specs.Scripts.{Script}
+use Rattle.calls.specs.Held.{readScript, FiguresFound}
+use Rattle.calls.proofs.Tables.{four, fine, analyse-asks, found-by}
 use Rattle.calls.proofs.Judging.{reported, not-reported}
 use borrow.Author.Needs.{needs}
 use Rattle.calls.proofs.measure_script.Statement.{statement}
@@ -10,33 +10,26 @@ use Rattle.calls.proofs.measure_script.Tie as tie
 
 -- the script that is held
 abbrev script : tie.Start → Script
-script s = scriptOf (s .args .text .now) (s .args .ranges) (s .args .vars) (s .args .rows) (s .args .count)
-
-pack-rows-requires : tie.Need-pack-rows-requires
-pack-rows-requires c κs = let s = c .before .before .before .before in packable _ _ _ _ _ (s .pre .0) _ (search needs)
+script s = readScript (s .args .text .now) (s .args .rows .now) (s .args .script) (s .args .ranges)
 
 prices-of-requires : tie.Need-prices-of-requires
 prices-of-requires c κs = four _ (c .before .before .before .before .before .before .pre .1)
 
 analyse-requires : tie.Need-analyse-requires
-analyse-requires c κs =
-    let s = c .before .before .before .before .before .before .before .before .before in
-    let p = c .before .before .before .before .pack-rows in
-    analyse-asks (s .args .text .now) (s .args .ranges) (s .args .vars) (s .args .rows) (s .args .count) (s .pre .0) (p .last .0) (p .ensures) (fine (s .args .prices .now) (s .pre .1) (c .before .before .prices-of .ensures)) (search needs)
+analyse-requires c κs = let s = c .before .before .before .before .before .before in analyse-asks _ _ _ _ (s .pre .0) (fine (s .args .prices .now) (s .pre .1) (c .before .before .prices-of .ensures)) (search needs)
 
 -- what the analysis found of it
-found : (c : tie.After-analyse) → FiguresFound (c .before .before .before .before .before .before .before .before .before .before .args .prices .now) (script (c .before .before .before .before .before .before .before .before .before .before)) (c .before .before .before .before .before .before .before .before .before .before .args .count) (c .analyse .result) (c .analyse .last .1 .1 .1 .1 .1 .1 .0)
+found : (c : tie.After-analyse) → FiguresFound (c .before .before .before .before .before .before .before .before .before .before .args .prices .now) (script (c .before .before .before .before .before .before .before .before .before .before)) (c .before .before .before .before .before .before .before .before .before .before .args .script .count) (c .analyse .result) (c .analyse .last .1 .1 .1 .1 .1 .1 .0)
 found c =
     let s = c .before .before .before .before .before .before .before .before .before .before in
-    let p = c .before .before .before .before .before .pack-rows in
-    found-by _ _ _ _ _ (s .pre .0) (s .args .prices .now) (c .before .before .before .prices-of .ensures) (c .analyse .result) _ (analyse-same _ _ _ _ _ (s .pre .0) (p .last .0) (p .ensures) (c .analyse .ensures))
+    found-by _ _ _ _ (s .pre .0) (s .args .prices .now) (c .before .before .before .prices-of .ensures) (c .analyse .result) _ (c .analyse .ensures)
 
 returns : tie.Need-returns
 returns c =
     let s = c .before .before .before .before .before .before .before .before .before .before .before .before in
     let f = c .before .before .analyse in
     let h : f .result .number ≡ 0 → ⊥ = search needs in
-    not-reported (s .args .prices .now) (script s) (s .args .count) (f .result) _ (found (c .before .before)) h _
+    not-reported (s .args .prices .now) (script s) (s .args .script .count) (f .result) _ (found (c .before .before)) h _
 
 write-report-requires : tie.Need-write-report-requires
 write-report-requires c κs =
@@ -49,7 +42,7 @@ returns-2 c =
     let s = c .before .before .before .before .before .before .before .before .before .before .before .before .before .before .before .before .before in
     let f = c .before .before .before .before .before .before .before .analyse in
     let z : f .result .number ≡ 0 = search needs in
-    reported (s .args .prices .now) (script s) (s .args .count) (f .result) _ (found (c .before .before .before .before .before .before .before)) z _ _ _ (c .before .before .write-report .ensures)
+    reported (s .args .prices .now) (script s) (s .args .script .count) (f .result) _ (found (c .before .before .before .before .before .before .before)) z _ _ _ (c .before .before .write-report .ensures)
 
 pub measure-script-spec : {M : Type 1} → statement M
-measure-script-spec = tie.close (tie.spec (λ c. search needs) pack-rows-requires prices-of-requires (λ c. search needs) analyse-requires returns write-report-requires (λ c. search needs) returns-2)
+measure-script-spec = tie.close (tie.spec prices-of-requires (λ c. search needs) analyse-requires returns write-report-requires (λ c. search needs) returns-2)

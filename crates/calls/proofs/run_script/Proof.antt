@@ -9,32 +9,32 @@ use Rattle.rules.specs.Calls.{runReply}
 use Rattle.rules.specs.Claim.{Demand3Of}
 use Rattle.rules.proofs.Demand3File.{demand3-script}
 use Rattle.calls.specs.declared.Outcome.{Outcome}
-use Rattle.calls.specs.Held.{judgedScript, FiguresFound}
+use Rattle.calls.specs.Held.{readScript, judgedScript, FiguresFound}
 use Rattle.calls.specs.Told.{RanAs}
-use Rattle.calls.proofs.Tables.{four, fine, few-rows, found-by}
+use Rattle.calls.proofs.Tables.{four, fine, found-by, may-run}
 use Rattle.calls.proofs.Judging.{ticks-few}
-use Rattle.calls.proofs.Runs.{told-says, ran-no, ran-out, may-run, ran-all}
+use Rattle.calls.proofs.Runs.{told-says, ran-no, ran-out, runs-from, ran-all}
 use borrow.Author.Needs.{needs}
 use Rattle.calls.proofs.run_script.Statement.{statement}
 use Rattle.calls.proofs.run_script.Tie as tie
 
 -- the script that is held
 abbrev script : tie.Start → Script
-script s = scriptOf (s .args .text .now) (s .args .t4) (s .args .vars) (s .args .rows) (s .args .count)
+script s = readScript (s .args .text .now) (s .args .rows .now) (s .args .script) (s .args .ranges)
 
 -- the ranges are a whole array
-full-ranges : (s : tie.Start) → length (s .args .t4) ≡ 16
+full-ranges : (s : tie.Start) → length (s .args .ranges) ≡ 16
 full-ranges s = search needs
 
 prices-of-requires : tie.Need-prices-of-requires
 prices-of-requires c κs = four _ (c .before .before .before .pre .1)
 
-ticks-of-requires : tie.Need-ticks-of-requires
-ticks-of-requires c κs = let s = c .before .before .before .before in (s .pre .0, fine (s .args .prices .now) (s .pre .1) (c .prices-of .ensures))
+figures-of-requires : tie.Need-figures-of-requires
+figures-of-requires c κs = let s = c .before .before .before .before in (s .pre .0, fine (s .args .prices .now) (s .pre .1) (c .prices-of .ensures))
 
 -- what the analysis found of it
-found : (c : tie.After-ticks-of) → let s = c .before .before .before .before .before in FiguresFound (s .args .prices .now) (script s) (s .args .count) (c .ticks-of .result) (c .ticks-of .ensures .0)
-found c = let s = c .before .before .before .before .before in found-by _ _ _ _ _ (s .pre .0) (s .args .prices .now) (c .before .prices-of .ensures) (c .ticks-of .result) _ (c .ticks-of .ensures .1)
+found : (c : tie.After-figures-of) → let s = c .before .before .before .before .before in FiguresFound (s .args .prices .now) (script s) (s .args .script .count) (c .figures-of .result) (c .figures-of .ensures .0)
+found c = let s = c .before .before .before .before .before in found-by _ _ _ _ (s .pre .0) (s .args .prices .now) (c .before .prices-of .ensures) (c .figures-of .result) _ (c .figures-of .ensures .1)
 
 -- demand 3 of that answer
 with-kept : (s : tie.Start) (o : Outcome) (new : List ℤ)
@@ -47,9 +47,9 @@ with-kept s o new r =
 returns : tie.Need-returns
 returns c =
     let s = c .before .before .before .before .before .before .before .before in
-    let f = c .before .before .before .ticks-of in
+    let f = c .before .before .before .figures-of in
     let h : f .result .number ≡ 0 → ⊥ = search needs in
-    with-kept s _ _ (ran-no (s .args .prices .now) (script s) (s .args .count) (f .result) _ (found (c .before .before .before)) (s .args .store .now) (s .args .picks .now) (s .args .allowance) h _ (c .refusal .ensures))
+    with-kept s _ _ (ran-no (s .args .prices .now) (script s) (s .args .script .count) (f .result) _ (found (c .before .before .before)) (s .args .store .now) (s .args .picks .now) (s .args .allowance) h _ (c .refusal .ensures))
 
 ask-store-requires : tie.Need-ask-store-requires
 ask-store-requires c κs = (c .before .before .before .before .before .before .before .before .before .pre .0 .few, full-ranges (c .before .before .before .before .before .before .before .before .before))
@@ -58,42 +58,39 @@ run-accepted-requires : tie.Need-run-accepted-requires
 unfolding scriptOf
 run-accepted-requires c κs =
     let s = c .before .before .before .before .before .before .before .before .before .before .before .before .before .before in
-    let f = c .before .before .before .before .before .before .before .before .before .ticks-of in
+    let f = c .before .before .before .before .before .before .before .before .before .figures-of in
     let q = c .before .before .before .before .ask-store in
     let z : f .result .number ≡ 0 = search needs in
-    let few = ticks-few (s .args .prices .now) (script s) (s .args .count) (f .result) _ (found (c .before .before .before .before .before .before .before .before .before)) z in
-    record {
-      size = few-rows _ _ _ _ _ (s .pre .0);
-      price = fine (s .args .prices .now) (s .pre .1) (c .before .before .before .before .before .before .before .before .before .before .prices-of .ensures) .test .some;
-      runs = may-run (s .args .prices .now) (script s) (s .args .count) (f .result) _ (found (c .before .before .before .before .before .before .before .before .before)) (s .args .store .now) (s .args .picks .now) (s .args .allowance) z (q .result) (q .ensures) (c .before .before .enum-told .given .1) (s .pre .0 .legal);
-      written = s .pre .0 .written;
-      ticks = omega (arith, c .smaller .ensures);
-    }
+    let few = ticks-few (s .args .prices .now) (script s) (s .args .script .count) (f .result) _ (found (c .before .before .before .before .before .before .before .before .before)) z in
+    may-run _ _ _ _ (s .pre .0)
+    (fine (s .args .prices .now) (s .pre .1) (c .before .before .before .before .before .before .before .before .before .before .prices-of .ensures) .test .some)
+    (runs-from (s .args .prices .now) (script s) (s .args .script .count) (f .result) _ (found (c .before .before .before .before .before .before .before .before .before)) (s .args .store .now) (s .args .picks .now) (s .args .allowance) z (q .result) (q .ensures) (c .before .before .enum-told .given .1) (s .pre .0 .legal))
+    (omega (arith, c .smaller .ensures))
 
 returns-2 : tie.Need-returns-2
 unfolding scriptOf
 returns-2 c =
     let s = c .before .before .before .before .before .before .before .before .before .before .before .before .before .before .before .before in
-    let f = c .before .before .before .before .before .before .before .before .before .before .before .ticks-of in
+    let f = c .before .before .before .before .before .before .before .before .before .before .before .figures-of in
     let q = c .before .before .before .before .before .before .ask-store in
     let z : f .result .number ≡ 0 = omega (arith, c .before .before .before .before .before .before .before .before .before .if1 .left) in
-    with-kept s _ _ (ran-all (s .args .prices .now) (s .pre .1) _ (c .before .before .before .before .before .before .before .before .before .before .before .before .prices-of .ensures) (s .args .text .now) (s .args .t4) (s .args .vars) (s .args .rows) (s .args .count) (f .result) _ (found (c .before .before .before .before .before .before .before .before .before .before .before)) (s .args .store .now) (s .args .picks .now) (s .args .allowance) z (q .result) (q .ensures) (c .before .before .before .before .enum-told .given .1) (s .pre .0 .legal) _ (c .before .before .smaller .ensures) _ _ (c .before .run-accepted .ensures))
+    with-kept s _ _ (ran-all (s .args .prices .now) (s .pre .1) _ (c .before .before .before .before .before .before .before .before .before .before .before .before .prices-of .ensures) (script s) (s .args .script .count) (f .result) _ (found (c .before .before .before .before .before .before .before .before .before .before .before)) (s .args .store .now) (s .args .picks .now) (s .args .allowance) z (q .result) (q .ensures) (c .before .before .before .before .enum-told .given .1) (s .pre .0 .legal) _ (c .before .before .smaller .ensures) _ _ (c .before .run-accepted .ensures))
 
 returns-3 : tie.Need-returns-3
 unfolding scriptOf
 returns-3 c =
     let s = c .before .before .before .before .before .before .before .before .before .before .before .before .before .before in
-    let f = c .before .before .before .before .before .before .before .before .before .ticks-of in
+    let f = c .before .before .before .before .before .before .before .before .before .figures-of in
     let q = c .before .before .before .before .ask-store in
     let z : f .result .number ≡ 0 = omega (arith, c .before .before .before .before .before .before .before .if1 .left) in
-    with-kept s _ _ (ran-out (s .args .prices .now) (script s) (s .args .count) (f .result) _ (found (c .before .before .before .before .before .before .before .before .before)) (s .args .store .now) (s .args .picks .now) (s .args .allowance) z (q .result) (q .ensures) _ _ (c .before .before .asked .given .1) _ (c .refusal2 .ensures))
+    with-kept s _ _ (ran-out (s .args .prices .now) (script s) (s .args .script .count) (f .result) _ (found (c .before .before .before .before .before .before .before .before .before)) (s .args .store .now) (s .args .picks .now) (s .args .allowance) z (q .result) (q .ensures) _ _ (c .before .before .asked .given .1) _ (c .refusal2 .ensures))
 
 pub run-script-spec : {M : Type 1} → statement M
 run-script-spec =
     tie.close
     (tie.spec
     prices-of-requires
-    ticks-of-requires
+    figures-of-requires
     (λ c κs. search needs)
     returns
     ask-store-requires
