@@ -1,71 +1,111 @@
 -- The first scripts have entered. Assumes nothing.
-use mathlib.Core.Path.{_≡_, sym, _∙_, ap, subst}
-use mathlib.Core.List.{List, []}
-use Prim.Native.Nat.{ℕ, _+_, _<_}
+use mathlib.Core.Path.{_≡_, sym, _∙_, ap}
+use mathlib.Core.List.{List, _++_}
+use Prim.Native.Nat.{ℕ, _+_, _-_, _<_}
 use native.Mathlib.Decide.{ℕ-discrete}
 use native.Mathlib.Omega.{arith}
 use lib.IntN.{ℤ}
-use lib.ListN.{length, getD, set, length-set}
+use lib.ListN.{length, getD, set, take, drop, length-set}
 use lib.Seq.{getD-set-same, getD-set-other}
 use Rattle.rules.specs.declared.Verdict.the-variants.{Passed, Refused}
 use Rattle.rules.specs.File.{fileScript}
-use Rattle.rules.specs.Calls.{pricesOf, Priced, judgedFile, scratchSize}
-use Rattle.rules_frames.specs.Frames.{Progress, ScriptPart, Readiness, ready, readiness, cutParts}
+use Rattle.rules.specs.Calls.{pricesOf, Priced, judgedFile, judged, scratchSize}
+use Rattle.rules_frames.specs.Frames.{Progress, Lent, ScriptPart, Readiness, ready, readiness, partsOf}
 use Rattle.rules_frames.proofs.Cut.{partAt, cut-length, cut-at}
+use Rattle.rules_frames.proofs.FramesAsAlone.{cast-accepts}
 use Rattle.calls.specs.Held.{admitted}
 use Rattle.calls_lists.specs.Parts.{partOf}
+use Rattle.calls_lists.proofs.Splices.{wrote-length, wrote-part, wrote-others}
+use Rattle.calls_scripts.specs.declared.Places.{Places}
 use Rattle.calls_scripts.specs.declared.Held.{Held}
 use Rattle.calls_scripts.specs.declared.Entered.{Entered}
-use Rattle.calls_scripts.specs.Held.{HeldAs, EnteredAs, Lengths, noPart, Holds}
-use Rattle.calls_scripts.proofs.Readiness.{answerTo, cast-no, cast-yes, judged-file, holds-all}
+use Rattle.calls_scripts.specs.Held.{tableLengths, Lengths, PlacesOf, EnteredAs, noPart, HeldBy}
+use Rattle.calls_scripts.proofs.Readiness.{answerTo, cast-no, cast-yes, judged-file, plays-at}
+use Rattle.calls_scripts.proofs.Tables.{tables-whole}
 
-module _ (prices : List ℕ) (files fs : List ℕ) (stores : List ℤ) (ss : List ℕ) where
-  -- script j has entered as h
-  abbrev Enters : ℕ → Held → Type 0
-  Enters j h = EnteredAs prices (partOf fs j files) (partOf ss j stores) (record { verdict = Passed; held = h })
+module _ (prices : List ℕ) (l : Lent) where
+  abbrev N : ℕ
+  N = length (l .fileLengths)
 
-  pub record Entering (k : ℕ) (held : List Held) : Type 0 where
-    pub long : length held ≡ 8
-    pub each : (j : ℕ) → j < k → (d : Held) → Enters j (getD held j d)
+  -- script j by its parts of what is lent
+  abbrev Enters : ℕ → List ℕ → Entered → Type 0
+  Enters j t e = EnteredAs prices (partOf (l .fileLengths) j (l .files)) (partOf (l .storeLengths) j (l .stores)) t e
 
-  pub entering-none : (held : List Held) → length held ≡ 8 → Entering 0 held
-  entering-none held l = record { long = l; each = λ j h d. absurd (omega arith) }
+  abbrev Placed : ℕ → Places → Type 0
+  Placed j p = PlacesOf (l .fileLengths) (l .storeLengths) (l .pickLengths) j p
 
-  pub entering-more : (k : ℕ) (held : List Held) → k < 8 → Entering k held → (e : Entered) → EnteredAs prices (partOf fs k files) (partOf ss k stores) e → e .verdict ≡ Passed
-      → Entering (k + 1) (set held k (e .held))
-  entering-more k held few h e entered passes = record { long = length-set held k (e .held) ∙ h .long; each = λ j l d. by j l d (ℕ-discrete j k) }
-    where
-      by : (j : ℕ) → j < k + 1 → (d : Held) → Dec (j ≡ k) → Enters j (getD (set held k (e .held)) j d)
-      by j l d (yes z) = rw (z, getD-set-same held k (e .held) d (omega (arith, h .long))) (record { verdict = sym passes ∙ entered .verdict; held = entered .held })
-      by j l d (no z) = rw (getD-set-other held k j (e .held) d z) (h .each j (omega arith) d)
+  -- the first k, each in its table
+  pub record Entering (k : ℕ) (tables : List ℕ) (each : List Held) : Type 0 where
+    pub long : length each ≡ 8
+    pub whole : length tables ≡ 8_192
+    pub places : (j : ℕ) → j < k → (d : Held) → Placed j (getD each j d .places)
+    pub enters : (j : ℕ) → j < k → (d : Held) → Enters j (partOf tableLengths j tables) (record { verdict = Passed; count = getD each j d .count })
 
-  module _ (priced : Priced prices) (lengths : Lengths files fs stores ss) (picks ps : List ℕ) (same : length ps ≡ length fs) where
+  pub entering-none : (tables : List ℕ) (each : List Held) → length each ≡ 8 → length tables ≡ 8_192 → Entering 0 tables each
+  entering-none tables each e w = record { long = e; whole = w; places = λ j h d. absurd (omega arith); enters = λ j h d. absurd (omega arith) }
+
+  -- one more, which writes its own table
+  module _ (k : ℕ) (tables : List ℕ) (each : List Held) (few : k < 8) (h : Entering k tables each) (p : Places) (at : Placed k p) (e : Entered) (t : List ℕ)
+      (size : length t ≡ p .table .to - p .table .from) (entered : Enters k t e) (passes : e .verdict ≡ Passed) where
+    abbrev now : Held
+    now = record { places = p; count = e .count }
+
+    abbrev tables′ : List ℕ
+    tables′ = take (p .table .from) tables ++ (t ++ drop (p .table .to - p .table .from) (drop (p .table .from) tables))
+
+    pub entering-more : Entering (k + 1) tables′ (set each k now)
+    entering-more = record {
+      long = length-set each k now ∙ h .long;
+      whole = wrote-length tableLengths k (p .table) (at .table) tables t few (tables-whole tables (h .whole)) size ∙ h .whole;
+      places = λ j l d. placed j l d (ℕ-discrete j k);
+      enters = λ j l d. by j l d (ℕ-discrete j k);
+    }
+      where
+        placed : (j : ℕ) → j < k + 1 → (d : Held) → Dec (j ≡ k) → Placed j (getD (set each k now) j d .places)
+        placed j l d (yes z) = rw (z, getD-set-same each k now d (omega (arith, h .long))) at
+        placed j l d (no z) = rw (getD-set-other each k j now d z) (h .places j (omega (arith, z)) d)
+
+        by : (j : ℕ) → j < k + 1 → (d : Held) → Dec (j ≡ k) → Enters j (partOf tableLengths j tables′) (record { verdict = Passed; count = getD (set each k now) j d .count })
+        by j l d (yes z) =
+            rw (z, getD-set-same each k now d (omega (arith, h .long)), wrote-part tableLengths k (p .table) (at .table) tables t few (tables-whole tables (h .whole)) size)
+            (record { verdict = sym passes ∙ entered .verdict; held = entered .held })
+        by j l d (no z) =
+            rw (getD-set-other each k j now d z, wrote-others tableLengths k (p .table) (at .table) tables t few (tables-whole tables (h .whole)) size j (omega arith) z) (h .enters j (omega (arith, z)) d)
+
+  module _ (priced : Priced prices) (lengths : Lengths (l .fileLengths) (l .storeLengths) (l .pickLengths)) where
     abbrev parts : List ScriptPart
-    parts = cutParts fs ss ps files stores picks
+    parts = partsOf l
 
-    part-at : (j : ℕ) → j < length fs → getD parts j noPart ≡ partAt fs ss ps files stores picks j
-    part-at j l = cut-at fs ss ps files stores picks (lengths .same) same j l noPart
+    count : length parts ≡ N
+    count = cut-length (l .fileLengths) (l .storeLengths) (l .pickLengths) (l .files) (l .stores) (l .picks) (lengths .stores) (lengths .picks)
+
+    part-at : (j : ℕ) → j < N → getD parts j noPart ≡ partAt (l .fileLengths) (l .storeLengths) (l .pickLengths) (l .files) (l .stores) (l .picks) j
+    part-at j h = cut-at (l .fileLengths) (l .storeLengths) (l .pickLengths) (l .files) (l .stores) (l .picks) (lengths .stores) (lengths .picks) j h noPart
 
     -- its answer by the whole call's questions
-    answered : (j : ℕ) → j < length fs → answerTo prices (getD parts j noPart) ≡ admitted (judgedFile (pricesOf prices) (fileScript (partOf fs j files))) (partOf ss j stores)
-    answered j l = ap (answerTo prices) (part-at j l) ∙ ap (λ x. admitted x (partOf ss j stores)) (judged-file prices priced (partOf fs j files))
+    answered : (j : ℕ) → j < N → answerTo prices (getD parts j noPart) ≡ admitted (judgedFile (pricesOf prices) (fileScript (partOf (l .fileLengths) j (l .files)))) (partOf (l .storeLengths) j (l .stores))
+    answered j h = ap (answerTo prices) (part-at j h) ∙ ap (λ x. admitted x (partOf (l .storeLengths) j (l .stores))) (judged-file prices priced (partOf (l .fileLengths) j (l .files)))
 
-    pub entering-no : (k : ℕ) (held : List Held) → k < length fs → Entering k held → (e : Entered) → EnteredAs prices (partOf fs k files) (partOf ss k stores) e → (q p : ℕ) → e .verdict ≡ Refused q p
-        → readiness prices scratchSize parts ≡ Readiness.refuses q p
-    entering-no k held l h e entered q p refusal =
-        cast-no prices parts k (omega (arith, cut-length fs ss ps files stores picks (lengths .same) same)) (λ j m. answered j (omega arith) ∙ sym (h .each j m (e .held) .verdict)) q p
-        (answered k l ∙ sym (entered .verdict) ∙ refusal)
+    module _ (k : ℕ) (tables : List ℕ) (each : List Held) (h : Entering k tables each) where
+      nobody : Held
+      nobody = getD each 0 (record {
+        places = record { file = record { from = 0; to = 0 }; table = record { from = 0; to = 0 }; store = record { from = 0; to = 0 }; picks = record { from = 0; to = 0 } };
+        count = 0;
+      })
 
-    pub entering-all : (k : ℕ) (held : List Held) → k ≡ length fs → Entering k held → (qs : List Progress) × (readiness prices scratchSize parts ≡ ready qs) × Holds parts qs held
-    entering-all k held all h =
-        let n = cut-length fs ss ps files stores picks (lengths .same) same in
-        let (qs, e) = cast-yes prices parts (λ j m. answered j (omega arith) ∙ sym (h .each j (omega arith) nobody .verdict)) in (
-          qs,
-          e,
-          holds-all prices priced parts qs held e λ j m d script y.
-              let z : partOf fs j files ≡ getD parts j noPart .file = ap (λ (x : ScriptPart). x .file) (sym (part-at j (omega arith))) in
-              subst (λ f. HeldAs f script (getD held j d)) z (h .each j (omega arith) d .held script (ap (λ f. judgedFile (pricesOf prices) (fileScript f)) z ∙ y)),
-        )
-      where
-        nobody : Held
-        nobody = record { count = 0; rows = []; tables = record { end = []; head = [] }; heads = record { count = 0; rows = [] } }
+      pub entering-no : k < N → (t : List ℕ) (e : Entered) → Enters k t e → (q p : ℕ) → e .verdict ≡ Refused q p → readiness prices scratchSize parts ≡ Readiness.refuses q p
+      entering-no inside t e entered q p refusal =
+          cast-no prices parts k (omega (arith, count)) (λ j m. answered j (omega arith) ∙ sym (h .enters j m nobody .verdict)) q p (answered k inside ∙ sym (entered .verdict) ∙ refusal)
+
+      pub entering-all : k ≡ N → HeldBy Passed prices l tables each
+      entering-all all =
+          let (qs, e) = cast-yes prices parts (λ j m. answered j (omega (arith, count)) ∙ sym (h .enters j (omega (arith, count)) nobody .verdict)) in (
+            qs,
+            e,
+            λ j m d.
+                let a = plays-at (cast-accepts prices scratchSize parts qs e) j (omega (arith, count)) in
+                record {
+                  places = h .places j (omega arith) d;
+                  held = h .enters j (omega arith) d .held _ (sym (judged-file prices priced _) ∙ ap (λ (x : ScriptPart). judged prices scratchSize (x .file)) (sym (part-at j m)) ∙ a .yes-13);
+                },
+          )

@@ -1,4 +1,5 @@
--- Laws of the scripts that are held for the frames.
+-- Laws of the scripts that are to play together.
 pub mod Loaded
 pub mod Readiness
-pub mod Entering
+pub mod Tables
+mod Entering

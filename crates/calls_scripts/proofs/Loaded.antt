@@ -5,29 +5,28 @@ use Prim.Native.Nat.{ℕ}
 use native.Mathlib.Omega.{arith}
 use lib.IntN.{ℤ}
 use lib.ListN.{length}
-use Rattle.rules.specs.declared.Row.{Row}
 use Rattle.rules.specs.declared.Verdict.the-variants.{Passed, Refused}
-use Rattle.rules.specs.Scripts.{Script, scriptOf, Legal}
+use Rattle.rules.specs.Scripts.{Script, Legal}
 use Rattle.rules.specs.File
 use Rattle.rules.specs.File.{Reading, fileScript}
 use Rattle.rules.specs.Calls.{refuses, pricesOf, judgedFile}
 use Rattle.rules.proofs.ReadLegal.{read-legal, read-short}
 use Rattle.reader.specs.declared.Loaded.{Loaded}
-use Rattle.reader.specs.Read.{ReadAnswer, readAnswer, loadedAnswer, ReadAs}
-use Rattle.reader.proofs.Packs.{read-few, read-closes}
-use Rattle.run_loops.specs.Loops.{Listable}
-use Rattle.calls.specs.Held.{Given, judgedScript}
+use Rattle.table.specs.Code.{rowsOf}
+use Rattle.reader.specs.Read.{ReadAnswer, readAnswer, loadedAnswer, LoadedAs}
+use Rattle.reader.proofs.Packs.{read-few}
+use Rattle.calls.specs.Held.{readScript, Given, judgedScript}
 
-module _ (prices : List ℕ) (file : List ℕ) (l : Loaded) (rows : List Row) (ranges : List (List ℤ)) (e : ReadAs file (fileScript file) l rows ranges) where
+module _ (prices file : List ℕ) (l : Loaded) (ranges : List (List ℤ)) (t : List ℕ) (e : LoadedAs file (fileScript file) l ranges t) where
   abbrev script : Script
-  script = scriptOf file ranges (l .vars) rows (l .count)
+  script = readScript file t l ranges
 
   -- the file is refused
   pub file-refused : {q p : ℕ} → l .verdict ≡ Refused q p → judgedFile (pricesOf prices) (fileScript file) ≡ refuses q p
   unfolding judgedFile readAnswer
-  file-refused {q} {p} z = go (fileScript file) (e .answer)
+  file-refused {q} {p} z = go (fileScript file) (e .reads .answer)
     where
-      go : (r : Reading Script) → loadedAnswer file l rows ranges ≡ readAnswer r → judgedFile (pricesOf prices) r ≡ refuses q p
+      go : (r : Reading Script) → loadedAnswer file l (rowsOf t) ranges ≡ readAnswer r → judgedFile (pricesOf prices) r ≡ refuses q p
       go (File.read s rest) a =
           let v : l .verdict ≡ Passed = ap (λ (x : ReadAnswer). x .verdict) a in
           absurd (let y : _≡_ {A = ℕ} 0 1 = cc in omega arith)
@@ -36,15 +35,15 @@ module _ (prices : List ℕ) (file : List ℕ) (l : Loaded) (rows : List Row) (r
           cc
 
   module _ (z : l .verdict ≡ Passed) where
-    loaded : (rest : List (List ℕ)) × (fileScript file ≡ File.read script rest) × (l .vars ≡ length (script .ranges)) × (l .count ≡ length (script .rows))
+    loaded : (rest : List (List ℕ)) × (fileScript file ≡ File.read script rest) × (l .vars ≡ length (script .ranges))
     unfolding readAnswer
-    loaded = go (fileScript file) refl (e .answer)
+    loaded = go (fileScript file) refl (e .reads .answer)
       where
-        go : (r : Reading Script) → fileScript file ≡ r → loadedAnswer file l rows ranges ≡ readAnswer r
-            → (rest : List (List ℕ)) × (fileScript file ≡ File.read script rest) × (l .vars ≡ length (script .ranges)) × (l .count ≡ length (script .rows))
+        go : (r : Reading Script) → fileScript file ≡ r → loadedAnswer file l (rowsOf t) ranges ≡ readAnswer r
+            → (rest : List (List ℕ)) × (fileScript file ≡ File.read script rest) × (l .vars ≡ length (script .ranges))
         go (File.read s rest) f a =
             let g : script ≡ s = ap (λ (x : ReadAnswer). x .script) a in
-            (rest, f ∙ ap (λ x. File.read x rest) (sym g), ap (λ (x : ReadAnswer). x .vars) a ∙ ap (λ (x : Script). length (x .ranges)) (sym g), ap (λ (x : ReadAnswer). x .count) a ∙ ap (λ (x : Script). length (x .rows)) (sym g))
+            (rest, f ∙ ap (λ x. File.read x rest) (sym g), ap (λ (x : ReadAnswer). x .vars) a ∙ ap (λ (x : Script). length (x .ranges)) (sym g))
         go (File.refused n k) f a =
             let v : l .verdict ≡ Refused n k = ap (λ (x : ReadAnswer). x .verdict) a in
             absurd (let y : _≡_ {A = ℕ} 0 1 = cc in omega arith)
@@ -54,11 +53,15 @@ module _ (prices : List ℕ) (file : List ℕ) (l : Loaded) (rows : List Row) (r
     unfolding judgedFile
     file-read = rw (loaded .1)
 
-    pub file-given : Given file ranges (l .vars) rows (l .count)
+    pub file-given : Given file t l ranges
     file-given =
         let legal : Legal script = read-legal file script (loaded .0) (loaded .1) in
-        record { legal = legal; long = sym (loaded .3); few = omega (arith, legal .sizes .0, loaded .2); blank = e .blank z; short = read-short file script (loaded .0) (loaded .1); written = e .written }
-
--- its loops can be listed, also of a refused file, which has no row
-pub listable : (file : List ℕ) (l : Loaded) (rows : List Row) (ranges : List (List ℤ)) → ReadAs file (fileScript file) l rows ranges → Listable rows (l .count)
-listable file l rows ranges e = record { size = read-few file l rows ranges e; text = file; closed = read-closes file l rows ranges e }
+        record {
+          legal = legal;
+          size = read-few file l (rowsOf t) ranges (e .reads);
+          table = e .table;
+          short = read-short file script (loaded .0) (loaded .1);
+          written = e .reads .written;
+          few = omega (arith, legal .sizes .0, loaded .2);
+          blank = e .reads .blank z;
+        }

@@ -4,36 +4,22 @@ use mathlib.Core.List.{List, [], _∷_}
 use Prim.Native.Nat.{ℕ, zero, suc, _≤_, _<_}
 use native.Mathlib.Omega.{arith}
 use lib.IntN.{ℤ}
-use lib.ListN.{length, getD, take}
-use Rattle.rules.specs.declared.Row.{Row}
+use lib.ListN.{length, getD}
 use Rattle.rules.specs.declared.Verdict.{Verdict}
 use Rattle.rules.specs.declared.Verdict.the-variants.{Passed, Refused}
-use Rattle.rules.specs.Blocks.{kindsOf}
-use Rattle.rules.specs.Written.{Written}
 use Rattle.rules.specs.Scripts.{Script, scriptOf}
 use Rattle.rules.specs.File.{fileScript}
 use Rattle.rules.specs.Calls.{Judged, accepted, pricesOf, Priced, judgedPriced, judgedFile, scratchSize, judged, storeVerdict}
 use Rattle.rules_frames.specs.Frames.{Progress, beginning, ScriptPart, Readiness, ready, joins, enters, readiness}
 use Rattle.rules_frames.specs.InTime.{Accepts}
-use Rattle.rules_frames.proofs.FramesAsAlone.{cast-accepts}
-use Rattle.table.specs.Code.{kindAt}
-use Rattle.calls.specs.Held.{admitted}
-use Rattle.calls_scripts.specs.declared.Held.{Held}
-use Rattle.calls_scripts.specs.Held.{HeldRows, HeldAs, noPart, noProgress, Holds}
+use Rattle.reader.specs.declared.Loaded.{Loaded}
+use Rattle.calls.specs.Held.{readScript, Given, admitted}
+use Rattle.calls_scripts.specs.Held.{HeldAs, noPart, noProgress}
 
--- the rows of a script are held
-pub held-as : (file : List ℕ) (ranges : List (List ℤ)) (vars : ℕ) (rows : List Row) (count : ℕ) (h : Held) → HeldRows rows count h → count ≤ 256
-    → ((i : ℕ) → i < count → Written file (kindAt rows i)) → (script : Script) → scriptOf file ranges vars rows count ≡ script → HeldAs file script h
+-- a script that was read is held
+pub held-as : (file t : List ℕ) (l : Loaded) (ranges : List (List ℤ)) → Given file t l ranges → (script : Script) → readScript file t l ranges ≡ script → HeldAs file script (l .count) t
 unfolding scriptOf
-held-as file ranges vars rows count h k size written script e =
-    let (a, b) = k .same in
-    record {
-      size = omega (arith, b);
-      rows = ap (λ (s : Script). s .rows) (sym e) ∙ (λ j. take (sym b j) (kindsOf file (sym a j)));
-      written = λ i l. rw a (written i (omega (arith, b)));
-      found = rw (a, b) (k .found file);
-      heads = rw (a, b) (k .heads file);
-    }
+held-as file t l ranges g script e = record { size = g .size; rows = ap (λ (s : Script). s .rows) (sym e); written = g .written; table = g .table }
 
 -- one script's answer
 module _ (h : ScriptPart) where
@@ -92,11 +78,3 @@ plays-at (Accepts.some a b rest) (suc j) l = plays-at rest j (omega arith)
 pub plays-all : {prices : List ℕ} {scratch : ℕ} {hs : List ScriptPart} {ps : List Progress} → Accepts prices scratch hs ps → length ps ≡ length hs
 plays-all Accepts.none = refl
 plays-all (Accepts.some a b rest) = ap suc (plays-all rest)
-
--- all are held
-pub holds-all : (prices : List ℕ) → Priced prices → (hs : List ScriptPart) (ps : List Progress) (held : List Held) → readiness prices scratchSize hs ≡ ready ps
-    → ((j : ℕ) → j < length hs → (d : Held) (script : Script) → judgedFile (pricesOf prices) (fileScript (getD hs j noPart .file)) ≡ accepted script → HeldAs (getD hs j noPart .file) script (getD held j d))
-    → Holds hs ps held
-holds-all prices priced hs ps held e f j l d =
-    let a = plays-at (cast-accepts prices scratchSize hs ps e) j l in
-    f j l d _ (sym (judged-file prices priced _) ∙ a .yes-13)

@@ -1,51 +1,68 @@
 -- A script as it is held for the frames, and all of them.
 use mathlib.Core.Path.{_≡_}
 use mathlib.Core.List.{List, []}
-use Prim.Native.Nat.{ℕ, _≤_, _<_}
+use Prim.Native.Nat.{ℕ, _≤_, _<_, _^_}
 use lib.IntN.{ℤ}
-use lib.ListN.{length, getD, take}
-use Rattle.rules.specs.declared.Row.{Row}
+use lib.ListN.{length, getD, replicate}
 use Rattle.rules.specs.declared.Verdict.{Verdict}
 use Rattle.rules.specs.declared.Verdict.the-variants.{Passed, Refused}
-use Rattle.rules.specs.Blocks.{kindsOf}
 use Rattle.rules.specs.Written.{Written}
 use Rattle.rules.specs.Scripts.{Script}
 use Rattle.rules.specs.File.{fileScript}
-use Rattle.rules.specs.Calls.{accepted, pricesOf, judgedFile, scratchSize}
-use Rattle.rules_frames.specs.Frames.{Progress, beginning, ScriptPart, total, Readiness, ready, readiness}
-use Rattle.table.specs.Code.{kindAt}
-use Rattle.run_pairs.specs.Tables.{TablesOf}
-use Rattle.run_loops.specs.Loops.{Headed}
+use Rattle.rules.specs.Calls.{accepted, Priced, pricesOf, judgedFile, scratchSize}
+use Rattle.rules_frames.specs.Frames.{Progress, beginning, Lent, ScriptPart, partsOf, total, Readiness, ready, readiness}
+use Rattle.table.specs.Code.{rowsOf, kindAt}
+use Rattle.table.specs.Paired.{Table}
+use Rattle.run_machine.specs.Steps.{scriptIn}
+use Rattle.calls_lists.specs.Parts.{partOf, ExtentOf}
 use Rattle.calls.specs.Held.{admitted}
+use Rattle.calls_scripts.specs.declared.Places.{Places}
 use Rattle.calls_scripts.specs.declared.Held.{Held}
 use Rattle.calls_scripts.specs.declared.Entered.{Entered}
 use Rattle.calls_scripts.specs.declared.HeldScripts as code
 
--- the rows, their partner rows and loops, whatever text stands beside them
-pub record HeldRows (rows : List Row) (count : ℕ) (h : Held) : Type 0 where
-  pub same : (h .rows ≡ rows) × (h .count ≡ count)
-  pub found : (text : List ℕ) → TablesOf (take count (kindsOf text rows)) (h .tables)
-  pub heads : (text : List ℕ) → Headed (take count (kindsOf text rows)) (h .heads)
+-- ---- where a script stands
+-- the tables of eight scripts, end to end
+abbrev pub tableLengths : List ℕ
+tableLengths = replicate 8 1_024
 
--- a script of a file
-pub record HeldAs (file : List ℕ) (script : Script) (h : Held) : Type 0 where
-  pub size : h .count ≤ 256
-  pub rows : script .rows ≡ take (h .count) (kindsOf file (h .rows))
-  pub written : (i : ℕ) → i < h .count → Written file (kindAt (h .rows) i)
-  pub found : TablesOf (take (h .count) (kindsOf file (h .rows))) (h .tables)
-  pub heads : Headed (take (h .count) (kindsOf file (h .rows))) (h .heads)
+-- at most 8 files, each with a store and picks
+pub record Lengths (fs ss ps : List ℕ) : Type 0 where
+  pub few : length fs ≤ 8
+  pub stores : length ss ≡ length fs
+  pub picks : length ps ≡ length fs
+  pub file-sum : total fs < 2 ^ 64
+  pub store-sum : total ss < 2 ^ 64
+  pub pick-sum : total ps < 2 ^ 64
 
--- one script: its own questions, and it is held if they have yes
-pub record EnteredAs (prices file : List ℕ) (store : List ℤ) (e : Entered) : Type 0 where
+-- the places of script k
+pub record PlacesOf (fs ss ps : List ℕ) (k : ℕ) (p : Places) : Type 0 where
+  pub file : ExtentOf fs k (p .file)
+  pub table : ExtentOf tableLengths k (p .table)
+  pub store : ExtentOf ss k (p .store)
+  pub picks : ExtentOf ps k (p .picks)
+
+-- ---- one script
+-- a script of a file, with `count` rows in its table
+pub record HeldAs (file : List ℕ) (script : Script) (count : ℕ) (t : List ℕ) : Type 0 where
+  pub size : count ≤ 256
+  pub rows : script .rows ≡ scriptIn file t count
+  pub written : (i : ℕ) → i < count → Written file (kindAt (rowsOf t) i)
+  pub table : Table file (rowsOf t) count t
+
+-- its own questions, and it is held if they have yes
+pub record EnteredAs (prices file : List ℕ) (store : List ℤ) (t : List ℕ) (e : Entered) : Type 0 where
   pub verdict : e .verdict ≡ admitted (judgedFile (pricesOf prices) (fileScript file)) store
-  pub held : (script : Script) → judgedFile (pricesOf prices) (fileScript file) ≡ accepted script → HeldAs file script (e .held)
+  pub held : (script : Script) → judgedFile (pricesOf prices) (fileScript file) ≡ accepted script → HeldAs file script (e .count) t
 
--- at most 8 files, each with a store, in parts that fit
-pub record Lengths (files fileLengths : List ℕ) (stores : List ℤ) (storeLengths : List ℕ) : Type 0 where
-  pub few : length fileLengths ≤ 8
-  pub same : length storeLengths ≡ length fileLengths
-  pub file-sum : total fileLengths ≡ length files
-  pub store-sum : total storeLengths ≡ length stores
+-- ---- all of them
+-- the files and stores are in parts that fit, and there are eight tables
+pub record MayEnter (prices files fs : List ℕ) (stores : List ℤ) (ss ps tables : List ℕ) : Type 0 where
+  pub priced : Priced prices
+  pub lengths : Lengths fs ss ps
+  pub all-files : total fs ≡ length files
+  pub all-stores : total ss ≡ length stores
+  pub all-tables : length tables ≡ 8_192
 
 -- past the last of a list of parts
 abbrev pub noPart : ScriptPart
@@ -55,15 +72,21 @@ noPart = record { file = []; store = []; picks = [] }
 abbrev pub noProgress : Progress
 noProgress = beginning (record { ranges = []; rows = [] }) [] []
 
+-- script j is held
+pub record HeldAt (l : Lent) (tables : List ℕ) (j : ℕ) (script : Script) (h : Held) : Type 0 where
+  pub places : PlacesOf (l .fileLengths) (l .storeLengths) (l .pickLengths) j (h .places)
+  pub held : HeldAs (partOf (l .fileLengths) j (l .files)) script (h .count) (partOf tableLengths j tables)
+
 -- the scripts in progress are held
-abbrev pub Holds : List ScriptPart → List Progress → List Held → Type 0
-Holds parts ps held = (j : ℕ) → j < length parts → (d : Held) → HeldAs (getD parts j noPart .file) (getD ps j noProgress .script) (getD held j d)
+abbrev pub Holds : Lent → List Progress → List ℕ → List Held → Type 0
+Holds l ps tables each = (j : ℕ) → j < length (l .fileLengths) → (d : Held) → HeldAt l tables j (getD ps j noProgress .script) (getD each j d)
 
 -- all scripts: the readiness of `rules`
-abbrev pub HeldBy : Verdict → List ℕ → List ScriptPart → List Held → Type 0
-HeldBy Passed prices parts held = (ps : List Progress) × (readiness prices scratchSize parts ≡ ready ps) × Holds parts ps held
-HeldBy (Refused q p) prices parts held = readiness prices scratchSize parts ≡ Readiness.refuses q p
+abbrev pub HeldBy : Verdict → List ℕ → Lent → List ℕ → List Held → Type 0
+HeldBy Passed prices l tables each = (ps : List Progress) × (readiness prices scratchSize (partsOf l) ≡ ready ps) × Holds l ps tables each
+HeldBy (Refused q p) prices l tables each = readiness prices scratchSize (partsOf l) ≡ Readiness.refuses q p
 
 -- the same of what code answers
-abbrev pub HeldScriptsAs : List ℕ → List ScriptPart → code.HeldScripts → Type 0
-HeldScriptsAs prices parts c = HeldBy (c .verdict) prices parts (c .held)
+pub record HeldScriptsAs (prices : List ℕ) (l : Lent) (tables : List ℕ) (c : code.HeldScripts) : Type 0 where
+  pub number : c .number ≡ length (l .fileLengths)
+  pub held : HeldBy (c .verdict) prices l tables (c .each)

@@ -1,96 +1,108 @@
-// The scripts that are to play together: each file is read and asked its own questions, 15 of its store included, and its rows are kept. No store is touched.
-use reader::read;
-use rules::BLANK;
-use rules::Row;
+// The scripts that are to play together: each file is read into its own table and asked its own questions, 15 of its store included. No
+// store is touched.
+use calls_lists::Extent;
+use calls_lists::part;
 use rules::Verdict;
-use run_loops::Heads;
-use run_pairs::Tables;
 ghost use mathlib.Core.Path.{_≡_};
 ghost use mathlib.Core.List.{List};
-ghost use Prim.Native.Nat.{ℕ};
+ghost use Prim.Native.Nat.{ℕ, _<_};
 ghost use lib.ListN.{length};
 ghost use Rattle.rules.specs.Calls.{Priced};
-ghost use Rattle.rules_frames.specs.Frames.{cutParts};
-ghost use Rattle.run_loops.specs.Loops.{Listable};
-ghost use Rattle.calls_scripts.specs.Held.{HeldRows, EnteredAs, Lengths, HeldScriptsAs};
+ghost use Rattle.calls_lists.specs.Parts.{lentOf, ExtentOf};
+ghost use Rattle.calls_scripts.specs.Held.{tableLengths, Lengths, PlacesOf, EnteredAs, MayEnter, HeldScriptsAs};
 
-// A script that has been read: its first `count` rows, their partner rows, and the heads of its loops.
+// Where a script's file, table, store and picks stand in what is lent.
+pub struct Places {
+    pub file: Extent,
+    pub table: Extent,
+    pub store: Extent,
+    pub picks: Extent,
+}
+
+// A script that has been read: its places, and the number of its rows in the table.
 pub struct Held {
+    pub places: Places,
     pub count: usize,
-    pub rows: [Row; 256],
-    pub tables: Tables,
-    pub heads: Heads,
 }
 
-// The first `count` rows, with their partner rows and loops.
-fn hold(rows: [Row; 256], count: usize) -> Held
-    requires { ⌜ Listable rows count ⌝ }
-    ensures { λ r. ⌜ HeldRows rows count r ⌝ }
-{
-    let tables = run_pairs::partners(rows, count);
-    let heads = run_loops::heads_of(rows, count);
-    Held {
-        count,
-        rows,
-        tables,
-        heads,
-    }
-}
+const NOWHERE: Extent = Extent { from: 0, to: 0 };
 
 // What stands past the last script.
-fn nobody() -> Held {
-    let rows = [BLANK; 256];
-    let none = [0u8; 256];
-    let tables = Tables {
-        end: none,
-        head: none,
-    };
-    let none = [0u8; 16];
-    let heads = Heads {
-        count: 0,
-        rows: none,
-    };
-    Held {
-        count: 0,
-        rows,
-        tables,
-        heads,
+const NOBODY: Held = Held {
+    places: Places {
+        file: NOWHERE,
+        table: NOWHERE,
+        store: NOWHERE,
+        picks: NOWHERE,
+    },
+    count: 0,
+};
+
+// The table of script k: 1,024 numbers after those of the scripts before it.
+fn table_of(k: usize) -> Extent
+    requires { ⌜ k < 8 ⌝ }
+    ensures { λ r. ⌜ ExtentOf tableLengths k r ⌝ }
+{
+    let from = 1_024 * k;
+    Extent {
+        from,
+        to: from + 1_024,
     }
 }
 
-// A script's own questions, and what is held of it.
-pub struct Entered {
-    pub verdict: Verdict,
-    pub held: Held,
+// The places of script k.
+fn places_of(
+    k: usize,
+    file_lengths: &[usize],
+    store_lengths: &[usize],
+    pick_lengths: &[usize],
+) -> Places
+    requires { ⌜ (k < length (now «file_lengths»)) × Lengths (now «file_lengths») (now «store_lengths») (now «pick_lengths») ⌝ }
+    ensures { λ r. ⌜ PlacesOf (now («file_lengths» .entry)) (now («store_lengths» .entry)) (now («pick_lengths» .entry)) k r ⌝ }
+{
+    let file = part(file_lengths, k);
+    let table = table_of(k);
+    let store = part(store_lengths, k);
+    let picks = part(pick_lengths, k);
+    Places {
+        file,
+        table,
+        store,
+        picks,
+    }
 }
 
-// The questions 2 to 13, 17 and 19 of a file, and 15 of its store.
-fn enter(file: &[u8], prices: &[u32], store: &[i32]) -> Entered
-    requires { ⌜ Priced (now prices) ⌝ }
-    ensures { λ r. ⌜ EnteredAs (now (prices .entry)) (now (file .entry)) (now (store .entry)) r ⌝ }
+// A script's own questions, and the number of its rows.
+pub struct Entered {
+    pub verdict: Verdict,
+    pub count: usize,
+}
+
+// The questions 2 to 13, 17 and 19 of a file, and 15 of its store. Its rows are put into the table.
+fn enter(file: &[u8], prices: &[u32], store: &[i32], table: &mut [u32]) -> Entered
+    requires { ⌜ Priced (now prices) × (length (now table) ≡ 1_024) ⌝ }
+    ensures { λ r. ⌜ EnteredAs (now (prices .entry)) (now (file .entry)) (now (store .entry)) (now (table .exit)) r ⌝ }
 {
-    let none: [i32; 2] = [0; 2];
-    let mut ranges = [none; 16];
-    let l = read(file, &mut ranges);
+    let mut ranges: [[i32; 2]; 16] = [[0; 2]; 16];
+    let l = reader::load(file, &mut ranges, table);
     let first = l.verdict;
-    let rows = l.rows;
-    let held = hold(rows, l.count);
     match first {
-        Verdict::Passed => {
-            let verdict = calls::ask_script(file, rows, l.count, ranges, l.vars, prices, store);
-            Entered { verdict, held }
-        }
-        Verdict::Refused(q, p) => {
-            let verdict = Verdict::Refused(q, p);
-            Entered { verdict, held }
-        }
+        Verdict::Passed => Entered {
+            verdict: calls::ask_script(file, &table[..], l, ranges, prices, store),
+            count: l.count,
+        },
+        Verdict::Refused(q, p) => Entered {
+            verdict: Verdict::Refused(q, p),
+            count: 0,
+        },
     }
 }
 
 // All scripts, each accepted with its store; or the first no, with its number and place.
 pub struct HeldScripts {
     pub verdict: Verdict,
-    pub held: [Held; 8],
+    pub number: usize,
+    pub each: [Held; 8],
 }
 
 // The scripts one after the other, until one is refused.
@@ -99,35 +111,56 @@ pub fn enter_all(
     file_lengths: &[usize],
     stores: &[i32],
     store_lengths: &[usize],
+    pick_lengths: &[usize],
     prices: &[u32],
+    tables: &mut [u32],
 ) -> HeldScripts
-    requires { ⌜ Priced (now prices) × Lengths (now files) (now «file_lengths») (now stores) (now «store_lengths») ⌝ }
-    ensures { λ r. ⌜ ((picks pickLengths : List ℕ) → length pickLengths ≡ length (now («file_lengths» .entry)) → HeldScriptsAs (now (prices .entry)) (cutParts (now («file_lengths» .entry)) (now («store_lengths» .entry)) pickLengths (now (files .entry)) (now (stores .entry)) picks) r) ⌝ }
+    requires { ⌜ MayEnter (now prices) (now files) (now «file_lengths») (now stores) (now «store_lengths») (now «pick_lengths») (now tables) ⌝ }
+    ensures { λ r. ⌜ ((picks : List ℕ) → HeldScriptsAs (now (prices .entry)) (lentOf (now (files .entry)) (now («file_lengths» .entry)) (now (stores .entry)) (now («store_lengths» .entry)) picks (now («pick_lengths» .entry))) (now (tables .exit)) r) ⌝ }
 {
-    let none = nobody();
-    let mut held = [none; 8];
+    let mut each = [NOBODY; 8];
+    let number = file_lengths.len();
     let mut k = 0;
-    while k < file_lengths.len() {
-        let f = calls_lists::part(file_lengths, k);
+    while k < number {
+        let places = places_of(k, file_lengths, store_lengths, pick_lengths);
+        let f = places.file;
         let from = f.from;
         let to = f.to;
-        let s = calls_lists::part(store_lengths, k);
+        let s = places.store;
         let first = s.from;
         let last = s.to;
-        let e = enter(&files[from..to], prices, &stores[first..last]);
+        let t = places.table;
+        let a = t.from;
+        let b = t.to;
+        let e = enter(
+            &files[from..to],
+            prices,
+            &stores[first..last],
+            &mut tables[a..b],
+        );
         let asked = e.verdict;
         match asked {
             Verdict::Passed => {
-                let h = e.held;
-                held[k] = h;
+                each[k] = Held {
+                    places,
+                    count: e.count,
+                };
                 k += 1;
             }
             Verdict::Refused(q, p) => {
                 let verdict = Verdict::Refused(q, p);
-                return HeldScripts { verdict, held };
+                return HeldScripts {
+                    verdict,
+                    number,
+                    each,
+                };
             }
         }
     }
     let verdict = Verdict::Passed;
-    HeldScripts { verdict, held }
+    HeldScripts {
+        verdict,
+        number,
+        each,
+    }
 }
