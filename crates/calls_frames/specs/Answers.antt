@@ -6,14 +6,14 @@ use lib.IntN.{ℤ}
 use lib.ListN.{length, getD, take, replicate}
 use Rattle.rules.specs.declared.Ending.the-variants.{Ended}
 use Rattle.rules.specs.declared.Verdict.the-variants.{Passed, Refused}
-use Rattle.rules_machine.specs.RowMachine.{tallyOf}
 use Rattle.rules_frames.specs.Frames
 use Rattle.rules_frames.specs.Frames.{FramesReply, played, storesAfter}
 use Rattle.runner.specs.Answered.{ranOf}
-use Rattle.run_loops.specs.declared.Heads.{Heads}
-use Rattle.run_loops.specs.Loops.{noCount, NoneFrom, FewHeads, HeadCounts}
+use Rattle.run_loops.specs.Loops.{noCount, NoneFrom, Counted, LoopsOf}
 use Rattle.calls_scripts.specs.declared.Held.{Held}
+use Rattle.calls_scripts.specs.declared.HeldScripts.{HeldScripts}
 use Rattle.calls_turns.specs.declared.Progress.{Progress}
+use Rattle.calls_turns.specs.Progress.{sliceOf, Inside}
 use Rattle.calls_frames.specs.declared.Played.{Played}
 use Rattle.calls_frames.specs.declared.Frames as code
 
@@ -25,27 +25,28 @@ noAnswer = record { frame = 0; outcome = record { verdict = Passed; ending = End
 abbrev pub noFrames : ℕ → ℕ → code.Frames
 noFrames q p = record { verdict = Refused q p; most = 0; scripts = replicate 8 noAnswer }
 
--- a script whose ticks fit
-pub record Answerable (q : ℕ) (p : Progress) (heads : Heads) : Type 0 where
+-- a script whose ticks and counts fit, with `count` rows in its table
+pub record Answerable (q : ℕ) (p : Progress) (t : List ℕ) (count : ℕ) (counts : List (List ℕ)) : Type 0 where
   pub left : p .machine .left ≤ p .frame * q
   pub few : p .frame * q < 2 ^ 63
-  pub placed : FewHeads heads
+  pub counted : (text : List ℕ) × Counted text t count counts
 
 -- its answer is that of its machine
-pub record AnsweredBy (q : ℕ) (p : Progress) (heads : Heads) (counts : List (List ℕ)) (r : Played) : Type 0 where
+pub record AnsweredBy (q : ℕ) (p : Progress) (t : List ℕ) (count : ℕ) (counts : List (List ℕ)) (r : Played) : Type 0 where
   pub frame : r .frame ≡ p .frame
   pub verdict : r .outcome .verdict ≡ Passed
   pub ran : record { ending = r .outcome .ending; row = r .outcome .row; ticks = r .outcome .ticks; used = r .outcome .used } ≡ ranOf (p .machine) (p .frame * q)
-  pub loops : HeadCounts (take (heads .count) (heads .rows)) (tallyOf counts) (record { count = r .outcome .loops; counts = r .outcome .counts })
+  pub loops : LoopsOf t count counts (record { count = r .outcome .loops; counts = r .outcome .counts })
 
--- of the first `scripts`
-abbrev pub AllAnswerable : ℕ → ℕ → List Progress → List Held → Type 0
-AllAnswerable q scripts progress held = (j : ℕ) → j < scripts → (p : Progress) (h : Held) → Answerable q (getD progress j p) (getD held j h .heads)
+-- of each script, in its place
+abbrev pub AllAnswerable : ℕ → HeldScripts → List ℕ → List Progress → List (List (List ℕ)) → Type 0
+AllAnswerable q all tables progress counts =
+    (j : ℕ) → j < all .number → (p : Progress) (h : Held) → let x : Held = getD (all .each) j h in Inside (x .places .table) tables × Answerable q (getD progress j p) (sliceOf (x .places .table) tables) (x .count) (getD counts j [])
 
--- the answers of the first `scripts`; none after them
-pub record AllAnswered (q scripts : ℕ) (progress : List Progress) (held : List Held) (counts : List (List (List ℕ))) (r : List Played) : Type 0 where
-  pub each : (j : ℕ) → j < scripts → (p : Progress) (h : Held) → AnsweredBy q (getD progress j p) (getD held j h .heads) (getD counts j []) (getD r j noAnswer)
-  pub rest : (j : ℕ) → scripts ≤ j → getD r j noAnswer ≡ noAnswer
+-- the answers of all scripts; none after them
+pub record AllAnswered (q : ℕ) (all : HeldScripts) (tables : List ℕ) (progress : List Progress) (counts : List (List (List ℕ))) (r : List Played) : Type 0 where
+  pub each : (j : ℕ) → j < all .number → (p : Progress) (h : Held) → let x : Held = getD (all .each) j h in AnsweredBy q (getD progress j p) (sliceOf (x .places .table) tables) (x .count) (getD counts j []) (getD r j noAnswer)
+  pub rest : (j : ℕ) → all .number ≤ j → getD r j noAnswer ≡ noAnswer
 
 -- a script's answer, of document 02's
 pub record ToldPlayed (x : Played) (a : Frames.Played) : Type 0 where

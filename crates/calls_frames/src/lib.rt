@@ -1,23 +1,24 @@
 // Several scripts in one frame (change 14), after the questions 20, 1 and 16: the scripts, their frames, and the answers.
 use calls::Outcome;
 use calls_prices::prices_of;
-use calls_scripts::Held;
+use calls_scripts::HeldScripts;
 use calls_turns::Progress;
 use calls_turns::START;
 use calls_turns::new_frame;
 use calls_turns::turn;
+use calls_turns::turn_to;
 use calls_turns::waiting;
 use min_max::larger;
 use rules::Ending;
 use rules::Verdict;
-use run_loops::Heads;
 use run_loops::NO_COUNT;
+use runner::with_ticks;
 ghost use mathlib.Core.Path.{_≡_};
-ghost use Prim.Native.Nat.{_≤_, _<_};
+ghost use Prim.Native.Nat.{_≤_};
 ghost use Rattle.rules.specs.Calls.{Priced, pricesOf, scratchSize};
-ghost use Rattle.rules_frames.specs.Frames.{partsOf, readiness, playedBy};
+ghost use Rattle.rules_frames.specs.Frames.{partsOf, ready, readiness, playedBy};
 ghost use Rattle.calls_lists.specs.Parts.{lentOf, Fitted};
-ghost use Rattle.calls_frames.specs.Playing.{MayPlay, Uncounted, PlayedOut};
+ghost use Rattle.calls_frames.specs.Playing.{MayPlay, ForReady, Uncounted, PlayedOut};
 ghost use Rattle.calls_frames.specs.Answers.{noAnswer, noFrames, Answerable, AnsweredBy, AllAnswerable, AllAnswered, Framed};
 
 // The scripts when all are finished, and the most ticks that all together took in one frame.
@@ -29,42 +30,39 @@ pub struct Ended {
 // The frames: in each, every script that is not finished gets q ticks and runs on, one after the other, until all are finished.
 fn play(
     files: &[u8],
-    file_lengths: &[usize],
+    tables: &[u32],
     stores: &mut [i32],
-    store_lengths: &[usize],
     picks: &[u8],
-    pick_lengths: &[usize],
-    held: [Held; 8],
+    all: HeldScripts,
     prices: &[u32],
     q: u64,
-    counts: &mut [[[u64; 3]; 256]; 8],
+    counts: &mut [[[u64; 3]; 16]; 8],
 ) -> Ended
-    requires { ⌜ MayPlay (now prices) (lentOf (now files) (now «file_lengths») (now stores) (now «store_lengths») (now picks) (now «pick_lengths»)) q held × Uncounted (now counts) ⌝ }
-    ensures { λ r. ⌜ PlayedOut (now (prices .entry)) (lentOf (now (files .entry)) (now («file_lengths» .entry)) (now (stores .entry)) (now («store_lengths» .entry)) (now (picks .entry)) (now («pick_lengths» .entry))) q r (now (stores .exit)) (now (counts .exit)) ⌝ }
+    requires { ⌜ MayPlay (now prices) (now files) (now tables) (now stores) (now picks) q all × Uncounted (now counts) ⌝ }
+    ensures { λ r. ⌜ ForReady (now (prices .entry)) (now (files .entry)) (now (tables .entry)) (now (stores .entry)) (now (picks .entry)) q all (λ l roles. PlayedOut (now (prices .entry)) l q roles r (now (stores .exit)) (now (counts .exit))) ⌝ }
 {
     let by_kind = prices_of(prices);
+    let each = all.each;
     let mut progress = [START; 8];
     let mut most: u64 = 0;
     let mut frame = new_frame(0);
     let mut k: usize = 0;
     loop {
-        if k < file_lengths.len() {
-            if waiting(progress[k]) {
-                let t = turn(
-                    k,
+        if k < all.number {
+            let p = progress[k];
+            if waiting(p) {
+                let from = p.machine;
+                let to = turn(
                     files,
-                    file_lengths,
+                    tables,
                     stores,
-                    store_lengths,
                     picks,
-                    pick_lengths,
-                    held[k],
+                    each[k],
                     by_kind,
-                    q,
-                    progress[k],
-                    frame,
+                    with_ticks(from, q),
                     &mut counts[k],
                 );
+                let t = turn_to(from, to, q, frame);
                 let after = t.progress;
                 progress[k] = after;
                 frame = t.frame;
@@ -107,13 +105,13 @@ fn nothing() -> Played
 }
 
 // The answer of a script that is finished: its ticks are q in each frame that it ran in, less what is left.
-fn answer_of(p: Progress, heads: Heads, q: u64, counts: &[[u64; 3]; 256]) -> Played
-    requires { ⌜ Answerable q p heads ⌝ }
-    ensures { λ r. ⌜ AnsweredBy q p heads (now (counts .entry)) r ⌝ }
+fn answer_of(p: Progress, rows: &[u32], count: usize, q: u64, counts: &[[u64; 3]; 16]) -> Played
+    requires { ⌜ Answerable q p (now rows) count (now counts) ⌝ }
+    ensures { λ r. ⌜ AnsweredBy q p (now (rows .entry)) count (now (counts .entry)) r ⌝ }
 {
     let m = p.machine;
     let ran = runner::ran_of(m, p.frame * q);
-    let loops = run_loops::loops_of(heads, counts);
+    let loops = run_loops::loops_of(rows, count, counts);
     let list = loops.counts;
     let ending = ran.ending;
     let verdict = Verdict::Passed;
@@ -135,22 +133,26 @@ fn answer_of(p: Progress, heads: Heads, q: u64, counts: &[[u64; 3]; 256]) -> Pla
 // The answers of all scripts.
 fn answers(
     progress: [Progress; 8],
-    held: [Held; 8],
-    scripts: usize,
+    all: HeldScripts,
+    tables: &[u32],
     q: u64,
-    counts: &[[[u64; 3]; 256]; 8],
+    counts: &[[[u64; 3]; 16]; 8],
 ) -> [Played; 8]
-    requires { ⌜ (scripts ≤ 8) × AllAnswerable q scripts progress held ⌝ }
-    ensures { λ r. ⌜ AllAnswered q scripts progress held (now (counts .entry)) r ⌝ }
+    requires { ⌜ (all .number ≤ 8) × AllAnswerable q all (now tables) progress (now counts) ⌝ }
+    ensures { λ r. ⌜ AllAnswered q all (now (tables .entry)) progress (now (counts .entry)) r ⌝ }
 {
+    let each = all.each;
     let none = nothing();
     let mut list = [none; 8];
     let mut k = 0;
-    while k < scripts {
+    while k < all.number {
+        let h = each[k];
+        let places = h.places;
+        let t = places.table;
+        let from = t.from;
+        let to = t.to;
         let p = progress[k];
-        let h = held[k];
-        let heads = h.heads;
-        let a = answer_of(p, heads, q, &counts[k]);
+        let a = answer_of(p, &tables[from..to], h.count, q, &counts[k]);
         list[k] = a;
         k += 1;
     }
@@ -181,35 +183,20 @@ pub fn refusal(number: u32, place: usize) -> Frames
 // All frames of scripts that are held.
 fn play_held(
     files: &[u8],
-    file_lengths: &[usize],
+    tables: &[u32],
     stores: &mut [i32],
-    store_lengths: &[usize],
     picks: &[u8],
-    pick_lengths: &[usize],
-    held: [Held; 8],
+    all: HeldScripts,
     prices: &[u32],
     q: u64,
 ) -> Frames
-    requires { ⌜ MayPlay (now prices) (lentOf (now files) (now «file_lengths») (now stores) (now «store_lengths») (now picks) (now «pick_lengths»)) q held ⌝ }
-    ensures { λ r. ⌜ Framed (playedBy (pricesOf (now (prices .entry))) q (readiness (now (prices .entry)) scratchSize (partsOf (lentOf (now (files .entry)) (now («file_lengths» .entry)) (now (stores .entry)) (now («store_lengths» .entry)) (now (picks .entry)) (now («pick_lengths» .entry)))))) (now (stores .entry)) (now (stores .exit)) r ⌝ }
+    requires { ⌜ MayPlay (now prices) (now files) (now tables) (now stores) (now picks) q all ⌝ }
+    ensures { λ r. ⌜ ForReady (now (prices .entry)) (now (files .entry)) (now (tables .entry)) (now (stores .entry)) (now (picks .entry)) q all (λ l roles. Framed (playedBy (pricesOf (now (prices .entry))) q (ready roles)) (now (stores .entry)) (now (stores .exit)) r) ⌝ }
 {
-    let none: [u64; 3] = [0; 3];
-    let table = [none; 256];
-    let mut counts = [table; 8];
-    let ended = play(
-        files,
-        file_lengths,
-        stores,
-        store_lengths,
-        picks,
-        pick_lengths,
-        held,
-        prices,
-        q,
-        &mut counts,
-    );
+    let mut counts: [[[u64; 3]; 16]; 8] = [[[0; 3]; 16]; 8];
+    let ended = play(files, tables, stores, picks, all, prices, q, &mut counts);
     let progress = ended.progress;
-    let scripts = answers(progress, held, file_lengths.len(), q, &counts);
+    let scripts = answers(progress, all, tables, q, &counts);
     let verdict = Verdict::Passed;
     Frames {
         verdict,
@@ -232,23 +219,19 @@ pub fn run_frames(
     requires { ⌜ Priced (now prices) × Fitted (lentOf (now files) (now «file_lengths») (now stores) (now «store_lengths») (now picks) (now «pick_lengths»)) q ⌝ }
     ensures { λ r. ⌜ Framed (playedBy (pricesOf (now (prices .entry))) q (readiness (now (prices .entry)) scratchSize (partsOf (lentOf (now (files .entry)) (now («file_lengths» .entry)) (now (stores .entry)) (now («store_lengths» .entry)) (now (picks .entry)) (now («pick_lengths» .entry)))))) (now (stores .entry)) (now (stores .exit)) r ⌝ }
 {
-    let all = calls_scripts::enter_all(files, file_lengths, &stores[..], store_lengths, prices);
+    let mut tables = [0u32; 8_192];
+    let all = calls_scripts::enter_all(
+        files,
+        file_lengths,
+        &stores[..],
+        store_lengths,
+        pick_lengths,
+        prices,
+        &mut tables[..],
+    );
     let verdict = all.verdict;
     match verdict {
-        Verdict::Passed => {
-            let held = all.held;
-            play_held(
-                files,
-                file_lengths,
-                stores,
-                store_lengths,
-                picks,
-                pick_lengths,
-                held,
-                prices,
-                q,
-            )
-        }
+        Verdict::Passed => play_held(files, &tables[..], stores, picks, all, prices, q),
         Verdict::Refused(number, place) => refusal(number, place),
     }
 }

@@ -9,13 +9,14 @@ use native.Mathlib.Numerals.{add-one}
 use native.Mathlib.Omega.{arith}
 use lib.Dec.{leb, leb→le}
 use lib.IntN.{ℤ}
-use lib.ListN.{length, take}
+use lib.ListN.{length}
 use Rattle.rules.specs.declared.Ending.the-variants.{Ended, Spent, NoPick}
 use Rattle.rules.specs.declared.Ending.{Ending}
 use Rattle.rules.specs.declared.Prices.{Prices}
-use Rattle.rules.specs.Blocks.{RowKind, kindsOf}
+use Rattle.rules.specs.Blocks.{RowKind}
 use Rattle.rules.specs.Questions.{tickLimit, verdict}
-use Rattle.rules_machine.specs.RowMachine.{TurnCounts, tallyOf, Place, Next, more, over, pairs, rank}
+use Rattle.rules_machine.specs.RowMachine.{TurnCounts, Place, Next, more, over, pairs, rank}
+use Rattle.rules.specs.Calls.{loopRows}
 use Rattle.rules.specs.Scripts.{Script, Accepted, StoreIn, reportTicks}
 use Rattle.rules_frames.specs.Frames
 use Rattle.rules_frames.specs.Frames.{stopped, runsOn, given, beginning, frameFrom, afterFrames, leftOf, takes, ticksIn, due}
@@ -25,12 +26,10 @@ use Rattle.rules_frames.proofs.FramesAsAlone.{due-less, settled-at, frames-as-a
 use Rattle.run_actions.specs.declared.Machine.{Machine}
 use Rattle.run_actions.specs.declared.Status.{Status}
 use Rattle.run_actions.specs.declared.Status.the-variants.{Going, Over}
-use Rattle.run_actions.specs.States.{phaseOf, placeOf}
-use Rattle.runner.specs.Runs.{Runnable, roomy-more}
-use Rattle.runner.specs.Pauses.{standBy, standOf, withTicks, Waiting, Awaits, Paused, RanOn}
+use Rattle.run_actions.specs.States.{tallyOf, placeOf, isGoing}
+use Rattle.run_machine.specs.Steps.{Runnable, EndsLoop}
+use Rattle.runner.specs.Runs.{placeIn, RoomToEnd, MayGo, standBy, standOf, withTicks, WentOn}
 use Rattle.runner.proofs.Start.{runnable}
-use Rattle.runner.proofs.Awaiting.{waiting-at}
-use Rattle.calls_scripts.specs.declared.Held.{Held}
 use Rattle.calls_scripts.specs.Held.{HeldAs}
 use Rattle.calls_turns.specs.declared.Progress.{Progress}
 use Rattle.calls_turns.specs.Progress.{isWaiting, Stands}
@@ -63,6 +62,14 @@ module _ (m : Machine) (store : List ℤ) (picks : List ℕ) (c : TurnCounts) wh
   left-standing (Over Spent i) = refl
   left-standing (Over Ending.Range i) = refl
   left-standing (Over NoPick i) = refl
+
+-- it waits though its run is over: it is spent
+spent-is : (s : Status) → isGoing s ≡ false → isWaiting s ≡ true → (i : ℕ) × (s ≡ Over Spent i)
+spent-is Going e f = absurd (let z : _≡_ {A = ℕ} 0 1 = cc in omega arith)
+spent-is (Over Ended i) e f = absurd (let z : _≡_ {A = ℕ} 0 1 = cc in omega arith)
+spent-is (Over Spent i) e f = (i, refl)
+spent-is (Over Ending.Range i) e f = absurd (let z : _≡_ {A = ℕ} 0 1 = cc in omega arith)
+spent-is (Over NoPick i) e f = absurd (let z : _≡_ {A = ℕ} 0 1 = cc in omega arith)
 
 -- ---- a frame
 frame-script : (π : Prices) (q n : ℕ) (p : Frames.Progress) (a : Next) → frameFrom π q n p a .script ≡ p .script
@@ -103,10 +110,13 @@ module _ (π : Prices) (q : ℕ) (p : Frames.Progress) (n : ℕ) where
   )
 
   module _ (x : Progress) (store : List ℤ) (picks : List ℕ) (counts : List (List ℕ)) (s : Stands π q p n x store picks counts) where
+    abbrev heads : List ℕ
+    heads = loopRows 0 (p .script .rows)
+
     -- it is finished: the frame takes nothing
     module _ (w : isWaiting (x .machine .status) ≡ false) where
       pub is-done : Done (afterFrames π q p n .stand)
-      is-done = subst Done (sym (s .stand)) (stand-done (x .machine) store picks (tallyOf counts) (x .machine .status) w)
+      is-done = subst Done (sym (s .stand)) (stand-done (x .machine) store picks (tallyOf heads counts) (x .machine .status) w)
 
       pub stands-still : Stands π q p (suc n) x store picks counts
       stands-still =
@@ -118,7 +128,7 @@ module _ (π : Prices) (q : ℕ) (p : Frames.Progress) (n : ℕ) where
             late = omega (arith, s .late);
             left = s .left;
             used = s .used;
-            long = s .long;
+            room = s .room;
           }
 
       pub takes-still : ticksIn π q p n ≡ 0
@@ -126,32 +136,35 @@ module _ (π : Prices) (q : ℕ) (p : Frames.Progress) (n : ℕ) where
 
     -- it waits: it runs on
     module _ (w : isWaiting (x .machine .status) ≡ true) where
-      waits-there : afterFrames π q p n .stand ≡ more (placeOf (x .machine) store picks (tallyOf counts))
-      waits-there = s .stand ∙ stand-waits (x .machine) store picks (tallyOf counts) (x .machine .status) w
+      pub waits-there : afterFrames π q p n .stand ≡ more (placeIn (p .script .rows) (x .machine) store picks counts)
+      waits-there = s .stand ∙ stand-waits (x .machine) store picks (tallyOf heads counts) (x .machine .status) w
 
       pub not-done : Done (afterFrames π q p n .stand) → ⊥
       not-done d = subst Done waits-there d
 
-      module _ (ks : List RowKind) (rows : p .script .rows ≡ ks) (store′ : List ℤ) (counts′ : List (List ℕ)) (y : Progress) (ran : RanOn π ks q (x .machine) (y .machine) store store′ picks (tallyOf counts) counts′) where
-        stands-there : afterFrames π q p (suc n) .stand ≡ standOf (y .machine) store′ picks (tallyOf counts′)
-        stands-there = frame-on _ waits-there .0 ∙ ap (λ z. runFrom π z (given q (placeOf (x .machine) store picks (tallyOf counts)))) rows ∙ sym (ran .stand)
+      module _ (ks : List RowKind) (rows : p .script .rows ≡ ks) (store′ : List ℤ) (counts′ : List (List ℕ)) (y : Progress) (ran : WentOn π ks (withTicks q (x .machine)) (y .machine) store store′ picks counts counts′) where
+        went : WentOn π (p .script .rows) (withTicks q (x .machine)) (y .machine) store store′ picks counts counts′
+        went = subst (λ z. WentOn π z (withTicks q (x .machine)) (y .machine) store store′ picks counts counts′) (sym rows) ran
+
+        stands-there : afterFrames π q p (suc n) .stand ≡ standOf (y .machine) store′ picks (tallyOf heads counts′)
+        stands-there = frame-on _ waits-there .0 ∙ sym (went .stand)
 
         pub stands-on : y .frame ≡ n + 1 → Stands π q p (suc n) y store′ picks counts′
         stands-on e = record {
           stand = stands-there;
-          waits = rw rows (ran .waits);
+          waits = λ a b. let (i, z) = spent-is (y .machine .status) (went .over) a in went .waits i z b;
           frame = frame-on _ waits-there .1 ∙ sym (e ∙ add-one n);
           late = omega arith;
-          left = omega (arith, ran .left, s .left, mul-le-mul-right q (s .late), add-mul n 1 q, ap (λ z. z * q) e);
-          used = ran .used;
-          long = ran .long;
+          left = omega (arith, went .left, s .left, mul-le-mul-right q (s .late), add-mul n 1 q, ap (λ z. z * q) e);
+          used = went .used;
+          room = went .room;
         }
 
         pub takes-on : ticksIn π q p n ≡ x .machine .left + q - y .machine .left
         unfolding takes
         takes-on =
             (λ i. takes q (waits-there i) (stands-there i))
-            ∙ ap (λ z. x .machine .left + q - z) (left-standing (y .machine) store′ picks (tallyOf counts′) (y .machine .status))
+            ∙ ap (λ z. x .machine .left + q - z) (left-standing (y .machine) store′ picks (tallyOf heads counts′) (y .machine .status))
 
 -- ---- a script that has its own questions behind it
 -- question 13
@@ -178,45 +191,44 @@ module _ (π : Prices) (one : 1 ≤ π .test) (p : Frames.Progress) (ok : Accept
       by false e = omega (arith, due-less q T n tick some-frame (leb-false _ _ e), ticks-few π (p .script) ok)
 
   module _ (n : ℕ) (few : n * q ≤ 1_000_000_000_000) (x : Progress) (store : List ℤ) (counts : List (List ℕ)) (s : Stands π q p n x store picks counts)
-      (w : isWaiting (x .machine .status) ≡ true) (size : length store ≡ length store₀) (file : List ℕ) (h : Held) (held : HeldAs file (p .script) h) where
-    abbrev ks : List RowKind
-    ks = take (h .count) (kindsOf file (h .rows))
+      (w : isWaiting (x .machine .status) ≡ true) where
+    abbrev R : ℕ
+    R = length (p .script .rows)
 
     abbrev place : Place
-    place = placeOf (x .machine) store picks (tallyOf counts)
+    place = placeIn (p .script .rows) (x .machine) store picks counts
 
-    carried : Carries π (length ks) (n * q) place
+    carried : Carries π R (n * q) place
     unfolding FramesAsAlone
     carried =
-        let c : CarriesOn π (length (p .script .rows)) (n * q) (afterFrames π q p n .stand)
-        = subst (λ z. CarriesOn π (length (p .script .rows)) (n * q) (afterFrames π q z n .stand)) (sym is) (frames-as-alone π one (p .script) ok store₀ inside picks q n tick .carries) in
-        subst (λ (z : List RowKind). CarriesOn π (length z) (n * q) (more place)) (held .rows) (subst (CarriesOn π (length (p .script .rows)) (n * q)) (waits-there π q p n x store picks counts s w) c)
+        let c : CarriesOn π R (n * q) (afterFrames π q p n .stand)
+        = subst (λ z. CarriesOn π R (n * q) (afterFrames π q z n .stand)) (sym is) (frames-as-alone π one (p .script) ok store₀ inside picks q n tick .carries) in
+        subst (CarriesOn π R (n * q)) (waits-there π q p n x store picks counts s w) c
 
     -- some ticks of allowance are good for so many steps
-    roomy : (turns R t : ℕ) → R ≤ 256 → turns + rank R place ≤ n * q * (2 * R + 2) + (2 * R + 1) → t ≡ rank R (placeOf (withTicks q (x .machine)) store picks (tallyOf counts)) → turns + t < 2 ^ 63
+    roomy : (turns t : ℕ) → turns + rank R place ≤ n * q * (2 * R + 2) + (2 * R + 1) → t ≡ rank R (placeIn (p .script .rows) (withTicks q (x .machine)) store picks counts) → turns + t < 2 ^ 63
     unfolding rank
-    roomy turns R t z c e =
-        let a = mul-le-mul few (let y : 2 * R + 2 ≤ 514 = omega arith in y) in
-        let b = mul-le-mul small (let y : 2 * R + 2 ≤ 514 = omega arith in y) in
+    roomy turns t c e =
+        let few-rows : 2 * R + 2 ≤ 514 = omega (arith, ok .legal .sizes .1) in
+        let a = mul-le-mul few few-rows in
+        let b = mul-le-mul small few-rows in
         omega (arith, add-mul (x .machine .left) q (2 * R + 2))
 
-    pub may-run-on : Paused file π (h .rows) (h .count) (h .tables) q (x .machine) store picks counts
-    may-run-on =
-        let R : ℕ = length ks in
-        let short : R ≤ 256 = omega (arith, ap (λ (z : List RowKind). length z) (held .rows), ok .legal .sizes .1) in
-        record {
-          few = omega (arith, s .left, mul-le-mul-right q (s .late));
-          ready = record {
-            size = held .size;
-            price = one;
-            written = held .written;
-            runs = subst (λ (z : List RowKind). Runnable (length store) z) (held .rows) (subst (λ z. Runnable z (p .script .rows)) (sym (size ∙ inside .whole)) (runnable (p .script) (ok .legal)));
-            found = held .found;
-            long = s .long;
-            room = roomy-more {m = placeOf (withTicks q (x .machine)) store picks (tallyOf counts)} λ z. let (a, b) = carried .counts z in (roomy _ R _ short a refl, roomy _ R _ short b refl);
-            used = s .used;
-          };
-          waits = λ b.
-              let there = waiting-at (subst (Awaits (p .script .rows) (pairs (p .script .rows) (length (p .script .rows)) .head)) (stand-waits (x .machine) store picks (tallyOf counts) (x .machine .status) w) (s .waits)) (ap phaseOf b) in
-              subst (λ g. Waiting ks g (x .machine .row)) (sym (held .found .matching-heads)) (subst (λ (z : List RowKind). Waiting z (pairs z (length z) .head) (x .machine .row)) (held .rows) there);
-        }
+    room : RoomToEnd (p .script .rows) (placeIn (p .script .rows) (withTicks q (x .machine)) store picks counts)
+    room z = let (a, b) = carried .counts z in (roomy _ _ a refl, roomy _ _ b refl)
+
+    pub may-run-on : length store ≡ length store₀ → (file t : List ℕ) (count : ℕ) → HeldAs file (p .script) count t → MayGo file π t count (withTicks q (x .machine)) store picks counts
+    may-run-on size file t count held = record {
+      script = record {
+        size = held .size;
+        table = held .table;
+        written = held .written;
+        runs = subst (λ (z : List RowKind). Runnable (length store) z) (held .rows) (subst (λ z. Runnable z (p .script .rows)) (sym (size ∙ inside .whole)) (runnable (p .script) (ok .legal)));
+      };
+      price = one;
+      going = refl;
+      waits = λ b. subst (λ z. EndsLoop z (x .machine .row)) (held .rows) (s .waits w b);
+      used = s .used;
+      long = s .room .long;
+      room = subst (λ (z : List RowKind). RoomToEnd z (placeIn z (withTicks q (x .machine)) store picks counts)) (held .rows) room;
+    }

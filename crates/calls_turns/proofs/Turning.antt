@@ -1,56 +1,55 @@
--- One script runs on over its own parts. Assumes nothing.
-use mathlib.Core.Path.{_≡_, refl, sym, subst}
-use mathlib.Core.List.{List, _++_}
-use Prim.Native.Nat.{ℕ, _-_, _<_}
+-- One script runs on over its own parts of what is lent. Assumes nothing.
+use mathlib.Core.Path.{_≡_, sym, _∙_, ap}
+use mathlib.Core.List.{List}
+use Prim.Native.Nat.{ℕ, _<_}
 use native.Mathlib.Omega.{arith}
 use lib.IntN.{ℤ}
-use lib.ListN.{length, take, drop, length-drop}
-use lib.Seq.{length-take-le}
+use lib.ListN.{length}
 use Rattle.rules.specs.declared.Prices.{Prices}
-use Rattle.rules.specs.Blocks.{kindsOf}
-use Rattle.rules_machine.specs.RowMachine.{tallyOf}
-use Rattle.rules_frames.specs.Frames.{total}
+use Rattle.rules_frames.specs.Frames.{Lent, total}
 use Rattle.run_actions.specs.declared.Machine.{Machine}
-use Rattle.runner.specs.Pauses.{Paused, RanOn}
-use Rattle.calls_lists.specs.declared.Extent.{Extent}
-use Rattle.calls_lists.specs.Parts.{partOf, ExtentOf}
+use Rattle.run_machine.specs.Steps.{scriptIn}
+use Rattle.runner.specs.Runs.{MayGo, WentOn}
+use Rattle.calls_lists.specs.Parts.{partOf, Fitted}
 use Rattle.calls_lists.proofs.Extents.{extent-part, extent-within}
 use Rattle.calls_lists.proofs.Splices.{wrote-length, wrote-part, wrote-others}
 use Rattle.calls_scripts.specs.declared.Held.{Held}
-use Rattle.calls_turns.specs.declared.Frame.{Frame}
-use Rattle.calls_turns.specs.Progress.{turnTo, Turned}
+use Rattle.calls_scripts.specs.Held.{tableLengths, PlacesOf}
+use Rattle.calls_scripts.proofs.Tables.{tables-whole}
+use Rattle.calls_turns.specs.Progress.{MayTurn, Turned}
 
--- a part as a slice has it
-abbrev sliceOf : {A : Type 0} → Extent → List A → List A
-sliceOf s xs = take (s .to - s .from) (drop (s .from) xs)
+module _ (π : Prices) (l : Lent) (q : ℕ) (fits : Fitted l q) (tables : List ℕ) (eight : length tables ≡ 8_192) (stores : List ℤ) (same : length stores ≡ length (l .stores)) (k : ℕ)
+    (inside : k < length (l .fileLengths)) (h : Held) (at : PlacesOf (l .fileLengths) (l .storeLengths) (l .pickLengths) k (h .places)) (m : Machine) (counts : List (List ℕ)) where
+  in-stores : k < length (l .storeLengths)
+  in-stores = omega (arith, fits .stores)
 
-module _ (π : Prices) (files fs : List ℕ) (stores : List ℤ) (ss picks ps : List ℕ) (h : Held) (q k : ℕ) (m : Machine) (counts : List (List ℕ))
-    (f s p : Extent) (file : ExtentOf fs k f) (store : ExtentOf ss k s) (pick : ExtentOf ps k p) where
-  pub may-turn : Paused (partOf fs k files) π (h .rows) (h .count) (h .tables) q m (partOf ss k stores) (partOf ps k picks) counts
-      → Paused (sliceOf f files) π (h .rows) (h .count) (h .tables) q m (sliceOf s stores) (sliceOf p picks) counts
-  may-turn x =
-      subst (λ a. Paused (sliceOf f files) π (h .rows) (h .count) (h .tables) q m (sliceOf s stores) a counts) (sym (extent-part ps k p pick picks))
-      (subst (λ a. Paused (sliceOf f files) π (h .rows) (h .count) (h .tables) q m a (partOf ps k picks) counts) (sym (extent-part ss k s store stores))
-      (subst (λ a. Paused a π (h .rows) (h .count) (h .tables) q m (partOf ss k stores) (partOf ps k picks) counts) (sym (extent-part fs k f file files)) x))
+  all-stores : total (l .storeLengths) ≡ length stores
+  all-stores = fits .store-sum ∙ sym same
 
-  module _ (inside : k < length ss) (whole : total ss ≡ length stores) (r : Machine) (ys : List ℤ) (kept : length ys ≡ length (sliceOf s stores))
-      (counts′ : List (List ℕ)) where
-    size : length ys ≡ s .to - s .from
-    size =
-        let (a, b) = extent-within ss k s store stores inside whole in
-        omega (arith, kept, length-take-le (s .to - s .from) (drop (s .from) stores) (omega (arith, length-drop (s .from) stores)))
+  pub may-turn : MayGo (partOf (l .fileLengths) k (l .files)) π (partOf tableLengths k tables) (h .count) m (partOf (l .storeLengths) k stores) (partOf (l .pickLengths) k (l .picks)) counts
+      → MayTurn π (l .files) tables stores (l .picks) h m counts
+  may-turn x = record {
+    file = extent-within _ _ _ (at .file) (l .files) inside (fits .file-sum);
+    table = extent-within _ _ _ (at .table) tables (omega (arith, fits .few)) (tables-whole tables eight);
+    store = extent-within _ _ _ (at .store) stores in-stores all-stores;
+    pick = extent-within _ _ _ (at .picks) (l .picks) (omega (arith, fits .picks)) (fits .pick-sum);
+    may = rw (extent-part _ _ _ (at .file) (l .files), extent-part _ _ _ (at .table) tables, extent-part _ _ _ (at .store) stores, extent-part _ _ _ (at .picks) (l .picks)) x;
+  }
 
-    abbrev new : List ℤ
-    new = take (s .from) stores ++ (ys ++ drop (s .to - s .from) (drop (s .from) stores))
+  module _ (stores′ : List ℤ) (r : Machine) (counts′ : List (List ℕ)) (x : Turned π (l .files) tables stores stores′ (l .picks) h m r counts counts′) where
+    pub went-on : WentOn π (scriptIn (partOf (l .fileLengths) k (l .files)) (partOf tableLengths k tables) (h .count)) m r (partOf (l .storeLengths) k stores) (partOf (l .storeLengths) k stores′) (partOf (l .pickLengths) k (l .picks)) counts counts′
+    went-on =
+        rw (
+          ap (partOf (l .storeLengths) k) (x .wrote) ∙ wrote-part _ _ _ (at .store) stores (x .store) in-stores all-stores (x .size),
+          sym (extent-part _ _ _ (at .file) (l .files)),
+          sym (extent-part _ _ _ (at .table) tables),
+          sym (extent-part _ _ _ (at .store) stores),
+          sym (extent-part _ _ _ (at .picks) (l .picks)),
+        )
+        (x .went)
 
-    pub has-turned : (g : Frame) → RanOn π (take (h .count) (kindsOf (sliceOf f files) (h .rows))) q m r (sliceOf s stores) ys (sliceOf p picks) (tallyOf counts) counts′
-        → Turned π (partOf fs k files) h q k m g (turnTo m r q g) ss stores new (partOf ps k picks) counts counts′
-    has-turned g x = record {
-      ran = subst (λ a. RanOn π (take (h .count) (kindsOf (partOf fs k files) (h .rows))) q m r (partOf ss k stores) (partOf ss k new) a (tallyOf counts) counts′) (extent-part ps k p pick picks)
-          (subst (λ a. RanOn π (take (h .count) (kindsOf (partOf fs k files) (h .rows))) q m r (partOf ss k stores) a (sliceOf p picks) (tallyOf counts) counts′) (sym (wrote-part ss k s store stores ys inside whole size))
-          (subst (λ a. RanOn π (take (h .count) (kindsOf (partOf fs k files) (h .rows))) q m r a ys (sliceOf p picks) (tallyOf counts) counts′) (extent-part ss k s store stores)
-          (subst (λ a. RanOn π (take (h .count) (kindsOf a (h .rows))) q m r (sliceOf s stores) ys (sliceOf p picks) (tallyOf counts) counts′) (extent-part fs k f file files) x)));
-      turn = refl;
-      long = wrote-length ss k s store stores ys inside whole size;
-      others = wrote-others ss k s store stores ys inside whole size;
-    }
+    pub stores-long : length stores′ ≡ length stores
+    stores-long = ap (λ (z : List ℤ). length z) (x .wrote) ∙ wrote-length _ _ _ (at .store) stores (x .store) in-stores all-stores (x .size)
+
+    pub others-keep : (j : ℕ) → j < length (l .storeLengths) → (j ≡ k → ⊥) → partOf (l .storeLengths) j stores′ ≡ partOf (l .storeLengths) j stores
+    others-keep j i other = ap (partOf (l .storeLengths) j) (x .wrote) ∙ wrote-others _ _ _ (at .store) stores (x .store) in-stores all-stores (x .size) j i other

@@ -1,22 +1,23 @@
 -- Scripts in their frames, as code holds them.
 use mathlib.Core.Path.{_≡_}
 use mathlib.Core.Bool.{Bool, true, false, _||_}
-use mathlib.Core.List.{List}
+use mathlib.Core.List.{List, _++_}
 use Prim.Native.Nat.{ℕ, _+_, _-_, _*_, _≤_, _<_, _^_}
 use lib.IntN.{ℤ}
-use lib.ListN.{length, take}
+use lib.ListN.{length, take, drop}
 use Rattle.rules.specs.declared.Ending.{Ending}
 use Rattle.rules.specs.declared.Ending.the-variants.{Ended, Spent, NoPick}
 use Rattle.rules.specs.declared.Prices.{Prices}
-use Rattle.rules.specs.Blocks.{kindsOf}
-use Rattle.rules_machine.specs.RowMachine.{tallyOf, pairs}
+use Rattle.rules.specs.Calls.{loopRows}
 use Rattle.rules_frames.specs.Frames
 use Rattle.rules_frames.specs.Frames.{afterFrames}
 use Rattle.run_actions.specs.declared.Machine.{Machine}
 use Rattle.run_actions.specs.declared.Status.{Status}
 use Rattle.run_actions.specs.declared.Status.the-variants.{Going, Over}
-use Rattle.runner.specs.Pauses.{standOf, Awaits, RanOn}
-use Rattle.calls_lists.specs.Parts.{partOf}
+use Rattle.run_actions.specs.States.{tallyOf}
+use Rattle.run_machine.specs.Steps.{scriptIn, Room, EndsLoop}
+use Rattle.runner.specs.Runs.{MayGo, standOf, WentOn}
+use Rattle.calls_lists.specs.declared.Extent.{Extent}
 use Rattle.calls_scripts.specs.declared.Held.{Held}
 use Rattle.calls_turns.specs.declared.Progress.{Progress}
 use Rattle.calls_turns.specs.declared.Frame.{Frame}
@@ -50,19 +51,35 @@ turnTo m r q f = record {
   frame = record { earlier = f .earlier; ticks = f .ticks + (m .left + q - r .left); waits = f .waits || isWaiting (r .status) };
 }
 
--- script k has run on over its own parts, and the others' stores keep
-pub record Turned (π : Prices) (file : List ℕ) (h : Held) (q k : ℕ) (m : Machine) (f : Frame) (r : AfterTurn) (lengths : List ℕ) (old new : List ℤ) (picks : List ℕ) (counts counts′ : List (List ℕ)) : Type 0 where
-  pub ran : RanOn π (take (h .count) (kindsOf file (h .rows))) q m (r .progress .machine) (partOf lengths k old) (partOf lengths k new) picks (tallyOf counts) counts′
-  pub turn : r ≡ turnTo m (r .progress .machine) q f
-  pub long : length new ≡ length old
-  pub others : (j : ℕ) → j < length lengths → (j ≡ k → ⊥) → partOf lengths j new ≡ partOf lengths j old
+-- what stands at a place in what is lent
+abbrev pub sliceOf : {A : Type 0} → Extent → List A → List A
+sliceOf s xs = take (s .to - s .from) (drop (s .from) xs)
+
+-- the place lies in it
+abbrev pub Inside : {A : Type 0} → Extent → List A → Type 0
+Inside s xs = (s .from ≤ s .to) × (s .to ≤ length xs)
+
+-- a script in its places may run on
+pub record MayTurn (π : Prices) (files tables : List ℕ) (stores : List ℤ) (picks : List ℕ) (h : Held) (m : Machine) (counts : List (List ℕ)) : Type 0 where
+  pub file : Inside (h .places .file) files
+  pub table : Inside (h .places .table) tables
+  pub store : Inside (h .places .store) stores
+  pub pick : Inside (h .places .picks) picks
+  pub may : MayGo (sliceOf (h .places .file) files) π (sliceOf (h .places .table) tables) (h .count) m (sliceOf (h .places .store) stores) (sliceOf (h .places .picks) picks) counts
+
+-- it has run on from m to r; of the stores only its own is another
+pub record Turned (π : Prices) (files tables : List ℕ) (stores stores′ : List ℤ) (picks : List ℕ) (h : Held) (m r : Machine) (counts counts′ : List (List ℕ)) : Type 0 where
+  pub store : List ℤ
+  pub size : length store ≡ h .places .store .to - h .places .store .from
+  pub wrote : stores′ ≡ take (h .places .store .from) stores ++ (store ++ drop (h .places .store .to - h .places .store .from) (drop (h .places .store .from) stores))
+  pub went : WentOn π (scriptIn (sliceOf (h .places .file) files) (sliceOf (h .places .table) tables) (h .count)) m r (sliceOf (h .places .store) stores) store (sliceOf (h .places .picks) picks) counts counts′
 
 -- a script after n frames: where it stands, and the last frame that it ran in
 pub record Stands (π : Prices) (q : ℕ) (p : Frames.Progress) (n : ℕ) (x : Progress) (store : List ℤ) (picks : List ℕ) (counts : List (List ℕ)) : Type 0 where
-  pub stand : afterFrames π q p n .stand ≡ standOf (x .machine) store picks (tallyOf counts)
-  pub waits : Awaits (p .script .rows) (pairs (p .script .rows) (length (p .script .rows)) .head) (standOf (x .machine) store picks (tallyOf counts))
+  pub stand : afterFrames π q p n .stand ≡ standOf (x .machine) store picks (tallyOf (loopRows 0 (p .script .rows)) counts)
+  pub waits : isWaiting (x .machine .status) ≡ true → x .machine .testing ≡ true → EndsLoop (p .script .rows) (x .machine .row)
   pub frame : afterFrames π q p n .frame ≡ x .frame
   pub late : x .frame ≤ n
   pub left : x .machine .left ≤ x .frame * q
   pub used : x .machine .used ≤ length picks
-  pub long : length counts ≡ 256
+  pub room : Room (p .script .rows) counts

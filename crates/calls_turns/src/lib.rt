@@ -7,10 +7,7 @@ use run_actions::Status;
 ghost use mathlib.Core.Path.{_≡_};
 ghost use mathlib.Core.Bool.{_||_};
 ghost use Prim.Native.Nat.{_+_, _≤_, _<_, _^_};
-ghost use lib.ListN.{length};
-ghost use Rattle.calls_lists.specs.Parts.{lentOf, partOf, Fitted};
-ghost use Rattle.runner.specs.Pauses.{Paused};
-ghost use Rattle.calls_turns.specs.Progress.{isSpent, isWaiting, FrameFits, newFrame, turnTo, Turned};
+ghost use Rattle.calls_turns.specs.Progress.{isSpent, isWaiting, FrameFits, newFrame, turnTo, MayTurn, Turned};
 
 // A script in its frames: its machine, and the last frame that it ran in.
 pub struct Progress {
@@ -85,7 +82,7 @@ pub struct AfterTurn {
 }
 
 // After the turn from one machine to another, with q ticks.
-fn turn_to(from: Machine, to: Machine, q: u64, frame: Frame) -> AfterTurn
+pub fn turn_to(from: Machine, to: Machine, q: u64, frame: Frame) -> AfterTurn
     requires { ⌜ FrameFits frame × (from .left + q < 2 ^ 63) × (to .left ≤ from .left + q) ⌝ }
     ensures { λ r. ⌜ r ≡ turnTo from to q frame ⌝ }
 {
@@ -103,48 +100,41 @@ fn turn_to(from: Machine, to: Machine, q: u64, frame: Frame) -> AfterTurn
     AfterTurn { progress, frame }
 }
 
-// Script k, which is not finished, gets q ticks and runs on over its parts of what is lent.
+// A script that has got its ticks runs on over its places in what is lent.
 pub fn turn(
-    k: usize,
     files: &[u8],
-    file_lengths: &[usize],
+    tables: &[u32],
     stores: &mut [i32],
-    store_lengths: &[usize],
     picks: &[u8],
-    pick_lengths: &[usize],
-    held: Held,
+    script: Held,
     prices: Prices,
-    q: u64,
-    from: Progress,
-    frame: Frame,
-    counts: &mut [[u64; 3]; 256],
-) -> AfterTurn
-    requires { ⌜ Fitted (lentOf (now files) (now «file_lengths») (now stores) (now «store_lengths») (now picks) (now «pick_lengths»)) q × (k < length (now «file_lengths»)) × FrameFits frame × Paused (partOf (now «file_lengths») k (now files)) prices (held .rows) (held .count) (held .tables) q (from .machine) (partOf (now «store_lengths») k (now stores)) (partOf (now «pick_lengths») k (now picks)) (now counts) ⌝ }
-    ensures { λ r. ⌜ Turned prices (partOf (now («file_lengths» .entry)) k (now (files .entry))) held q k (from .machine) frame r (now («store_lengths» .entry)) (now (stores .entry)) (now (stores .exit)) (partOf (now («pick_lengths» .entry)) k (now (picks .entry))) (now (counts .entry)) (now (counts .exit)) ⌝ }
+    from: Machine,
+    counts: &mut [[u64; 3]; 16],
+) -> Machine
+    requires { ⌜ MayTurn prices (now files) (now tables) (now stores) (now picks) script from (now counts) ⌝ }
+    ensures { λ r. ⌜ Turned prices (now (files .entry)) (now (tables .entry)) (now (stores .entry)) (now (stores .exit)) (now (picks .entry)) script from r (now (counts .entry)) (now (counts .exit)) ⌝ }
 {
-    let f = calls_lists::part(file_lengths, k);
+    let places = script.places;
+    let f = places.file;
     let file_from = f.from;
     let file_to = f.to;
-    let s = calls_lists::part(store_lengths, k);
+    let t = places.table;
+    let table_from = t.from;
+    let table_to = t.to;
+    let s = places.store;
     let store_from = s.from;
     let store_to = s.to;
-    let p = calls_lists::part(pick_lengths, k);
+    let p = places.picks;
     let pick_from = p.from;
     let pick_to = p.to;
-    let rows = held.rows;
-    let tables = held.tables;
-    let m = from.machine;
-    let to = runner::run_on(
+    runner::resume(
         &files[file_from..file_to],
-        rows,
-        held.count,
-        tables,
+        &tables[table_from..table_to],
+        script.count,
         prices,
-        q,
-        m,
+        from,
         &mut stores[store_from..store_to],
         &picks[pick_from..pick_to],
         counts,
-    );
-    turn_to(m, to, q, frame)
+    )
 }
