@@ -12,28 +12,32 @@ use lib.ListN.{length, getD, set, take, length-set, getD-replicate, length-repli
 use lib.Seq.{getD-set-same, getD-set-other, take-all}
 use Rattle.rules.specs.declared.Prices.{Prices}
 use Rattle.rules_machine.specs.RowMachine.{more, fresh}
+use Rattle.rules.specs.Calls.{pricesOf, scratchSize, loopRows}
 use Rattle.rules.specs.Scripts.{storeOf, Accepted, StoreIn}
-use Rattle.rules.specs.Calls.{pricesOf, scratchSize}
 use Rattle.rules_frames.specs.Frames
 use Rattle.rules_frames.specs.Frames.{afterFrames, together, most, ticksIn, Lent, ScriptPart, partsOf}
 use Rattle.rules_frames.specs.InTime.{Done, Accepts}
 use Rattle.rules_frames.proofs.FramesAsAlone.{cast-accepts}
 use Rattle.rules.proofs.Demand3File.{file-accepted, test-priced, store-in}
 use Rattle.rules_frames.proofs.Cut.{partAt, cut-length, cut-at}
-use Rattle.run_actions.specs.declared.Status.the-variants.{Going}
-use Rattle.runner.specs.Pauses.{Paused}
+use Rattle.run_actions.specs.declared.Machine.{Machine}
+use Rattle.run_actions.specs.States.{placeOf}
+use Rattle.run_machine.specs.Steps.{scriptIn}
+use Rattle.runner.specs.Runs.{withTicks, WentOn}
 use Rattle.runner.specs.Answered.{Cleared}
-use Rattle.runner.proofs.Awaiting.{anew}
-use Rattle.calls_lists.specs.Parts.{lentOf, partOf, Fitted}
+use Rattle.runner.proofs.Start.{no-turns}
+use Rattle.calls_lists.specs.Parts.{partOf}
 use Rattle.calls_lists.proofs.Extents.{part-length}
 use Rattle.calls_scripts.specs.declared.Held.{Held}
-use Rattle.calls_scripts.specs.Held.{noPart, noProgress, HeldAs}
+use Rattle.calls_scripts.specs.declared.HeldScripts.{HeldScripts}
+use Rattle.calls_scripts.specs.Held.{noPart, noProgress, nobody, tableLengths, HeldAt}
 use Rattle.calls_scripts.proofs.Readiness.{Plays, plays-at, plays-all}
 use Rattle.calls_turns.specs.declared.Progress.{Progress}
 use Rattle.calls_turns.specs.declared.Frame.{Frame}
 use Rattle.calls_turns.specs.declared.AfterTurn.{AfterTurn}
-use Rattle.calls_turns.specs.Progress.{isWaiting, FrameFits, newFrame, Turned, Stands}
+use Rattle.calls_turns.specs.Progress.{isWaiting, startProgress, FrameFits, newFrame, turnTo, MayTurn, Turned, Stands}
 use Rattle.calls_frames.specs.Playing.{FramesReady, Uncounted, PlayedOut}
+use Rattle.calls_turns.proofs.Turning.{may-turn, went-on, stores-long, others-keep}
 use Rattle.calls_turns.proofs.Standing.{is-done, stands-still, takes-still, not-done, stands-on, takes-on, not-due, may-run-on}
 
 -- one script more
@@ -47,31 +51,7 @@ module _ (π : Prices) (q n : ℕ) where
   together-more : (ps : List Frames.Progress) (k : ℕ) → k < length ps → together π q (take (k + 1) ps) n ≡ together π q (take k ps) n + ticksIn π q (getD ps k noProgress) n
   together-more ps k h = rw add-one (together-suc ps k h)
 
--- within a list no default is read
-pub same-default : {A : Type 0} (xs : List A) (k : ℕ) → k < length xs → (d e : A) → getD xs k d ≡ getD xs k e
-same-default [] k h d e = absurd (omega arith)
-same-default (x ∷ xs) zero h d e = refl
-same-default (x ∷ xs) (suc k) h d e = same-default xs k (omega arith) d e
-
--- stores of the same length fit too
-pub fitted-now : (l : Lent) (q : ℕ) (stores : List ℤ) → Fitted l q → length stores ≡ length (l .stores) → Fitted (lentOf (l .files) (l .fileLengths) stores (l .storeLengths) (l .picks) (l .pickLengths)) q
-fitted-now l q stores f e = record {
-  some = f .some;
-  few = f .few;
-  stores = f .stores;
-  picks = f .picks;
-  file-sum = f .file-sum;
-  store-sum = f .store-sum ∙ sym e;
-  pick-sum = f .pick-sum;
-  tick = f .tick;
-  small = f .small;
-}
-
--- a script before its first frame
-abbrev pub startPlayer : Progress
-startPlayer = record { machine = record { row = 0; testing = false; left = 0; used = 0; status = Going }; frame = 0 }
-
-module _ (prices : List ℕ) (l : Lent) (q : ℕ) (ps : List Frames.Progress) (held : List Held) (on : FramesReady prices l q ps held) where
+module _ (prices : List ℕ) (l : Lent) (q : ℕ) (ps : List Frames.Progress) (tables : List ℕ) (all : HeldScripts) (on : FramesReady prices l q ps tables all) where
   abbrev pub π : Prices
   π = pricesOf prices
 
@@ -101,8 +81,8 @@ module _ (prices : List ℕ) (l : Lent) (q : ℕ) (ps : List Frames.Progress) (h
     pub plays : Plays prices scratchSize part (role j)
     plays = subst (λ z. Plays prices scratchSize z (role j)) is-part (plays-at accepts j (omega (arith, parts-count)))
 
-    pub held-at : (d : Held) → HeldAs (partOf (l .fileLengths) j (l .files)) (role j .script) (getD held j d)
-    held-at d = subst (λ (z : ScriptPart). HeldAs (z .file) (role j .script) (getD held j d)) is-part (on .holds j (omega (arith, parts-count)) d)
+    pub held-at : HeldAt l tables j (role j .script) (getD (all .each) j nobody)
+    held-at = on .holds j h
 
     accepted-at : Accepted π (role j .script)
     accepted-at = file-accepted prices scratchSize (part .file) (role j .script) (plays .yes-13) .script-accepted
@@ -142,7 +122,7 @@ module _ (prices : List ℕ) (l : Lent) (q : ℕ) (ps : List Frames.Progress) (h
 
   -- ---- what the loop keeps: the first k scripts have had frame n + 1, the others not
   abbrev pub Here : List ℤ → List (List (List ℕ)) → List Progress → ℕ → ℕ → Type 0
-  Here stores counts xs j n = Stands π q (role j) n (getD xs j startPlayer) (partOf (l .storeLengths) j stores) (partOf (l .pickLengths) j (l .picks)) (getD counts j [])
+  Here stores counts xs j n = Stands π q (role j) n (getD xs j startProgress) (partOf (l .storeLengths) j stores) (partOf (l .pickLengths) j (l .picks)) (getD counts j [])
 
   pub record Playing (stores : List ℤ) (counts : List (List (List ℕ))) (xs : List Progress) (m : ℕ) (f : Frame) (k : ℕ) : Type 0 where
     pub frames : f .earlier * q ≤ 1_000_000_000_000
@@ -158,28 +138,28 @@ module _ (prices : List ℕ) (l : Lent) (q : ℕ) (ps : List Frames.Progress) (h
   pub playing-late : {stores : List ℤ} {counts : List (List (List ℕ))} {xs : List Progress} {m : ℕ} {f : Frame} {k : ℕ} → Playing stores counts xs m f k → f .earlier ≤ 1_000_000_000_000
   playing-late {f = f} h = omega (arith, h .frames, mul-le-mul-left (f .earlier) (on .fits .tick))
 
-  starts : (counts : List (List ℕ)) → Cleared counts → (j : ℕ) → j < N → Stands π q (role j) 0 startPlayer (partOf (l .storeLengths) j (l .stores)) (partOf (l .pickLengths) j (l .picks)) counts
+  starts : (counts : List (List ℕ)) → Cleared counts → (j : ℕ) → j < N → Stands π q (role j) 0 startProgress (partOf (l .storeLengths) j (l .stores)) (partOf (l .pickLengths) j (l .picks)) counts
   unfolding afterFrames
   starts counts z j h =
       let e = plays j h .is in
       record {
-        stand = ap (λ (p : Frames.Progress). p .stand) e ∙ (λ i. more (record { row = 0; phase = fresh; now = record { store = storeOf (partOf (l .storeLengths) j (l .stores)); left = 0; picks = partOf (l .pickLengths) j (l .picks) }; tally = sym (z .zero) i }));
-        waits = anew;
+        stand = ap (λ (p : Frames.Progress). p .stand) e ∙ ap (λ c. more (placeOf (startProgress .machine) (partOf (l .storeLengths) j (l .stores)) (partOf (l .pickLengths) j (l .picks)) c)) (sym (no-turns (loopRows 0 (role j .script .rows)) counts z));
+        waits = λ a b. absurd (let y : _≡_ {A = ℕ} 0 1 = cc in omega arith);
         frame = ap (λ (p : Frames.Progress). p .frame) e;
         late = omega arith;
         left = omega arith;
         used = omega arith;
-        long = z .long;
+        room = record { long = z .long; turn = λ k i. omega (arith, z .zero k 1, z .zero k 0) };
       }
 
-  pub playing-start : (counts : List (List (List ℕ))) → Uncounted counts → Playing (l .stores) counts (replicate 8 startPlayer) 0 (newFrame 0) 0
+  pub playing-start : (counts : List (List (List ℕ))) → Uncounted counts → Playing (l .stores) counts (replicate 8 startProgress) 0 (newFrame 0) 0
   unfolding most together
   playing-start counts (long, clear) = record {
     frames = omega arith;
     upto = omega arith;
-    sizes = (length-replicate 8 startPlayer, long, refl);
+    sizes = (length-replicate 8 startProgress, long, refl);
     had = λ j h. absurd (omega arith);
-    due = λ j g h. rw (getD-replicate 8 j startPlayer startPlayer (omega (arith, on .fits .few))) (starts (getD counts j []) (clear j (omega (arith, on .fits .few))) j h);
+    due = λ j g h. rw (getD-replicate 8 j startProgress startProgress (omega (arith, on .fits .few))) (starts (getD counts j []) (clear j (omega (arith, on .fits .few))) j h);
     taken = refl;
     few = omega arith;
     most = refl;
@@ -196,10 +176,14 @@ module _ (prices : List ℕ) (l : Lent) (q : ℕ) (ps : List Frames.Progress) (h
     -- ---- script k
     module _ (inside : k < N) where
       abbrev pub x : Progress
-      x = getD xs k startPlayer
+      x = getD xs k startProgress
 
       here : Here stores counts xs k n
       here = h .due k (omega arith) inside
+
+      -- its ticks so far are few
+      pub few-left : x .machine .left ≤ 1_000_000_000_000
+      few-left = omega (arith, here .left, mul-le-mul-right q (here .late), h .frames)
 
       next-taken : (r : ℕ) → ticksIn π q (role k) n ≡ r → f .ticks + r ≡ together π q (take (k + 1) ps) n
       next-taken r e = omega (arith, h .taken, together-more π q n ps k (omega (arith, scripts-count)))
@@ -223,43 +207,56 @@ module _ (prices : List ℕ) (l : Lent) (q : ℕ) (ps : List Frames.Progress) (h
           by j g (no z) = h .had j (omega (arith, z))
 
       -- it waits
-      module _ (s : isWaiting (x .machine .status) ≡ true) (d : Held) where
-        pub may-turn : Paused (partOf (l .fileLengths) k (l .files)) π (getD held k d .rows) (getD held k d .count) (getD held k d .tables) q (x .machine) (partOf (l .storeLengths) k stores) (partOf (l .pickLengths) k (l .picks)) (getD counts k [])
-        may-turn =
-            may-run-on π one (role k) (accepted-at k inside) _ (inside-at k inside) _ (plays k inside .is) q (on .fits .tick) (on .fits .small) n (h .frames) x _ _ here s
-            (part-same k inside stores (h .sizes .2)) _ _ (held-at k inside d)
+      module _ (s : isWaiting (x .machine .status) ≡ true) where
+        abbrev h-k : Held
+        h-k = getD (all .each) k nobody
 
-        -- its ticks so far are few
-        few-left : x .machine .left ≤ 1_000_000_000_000
-        few-left = omega (arith, here .left, mul-le-mul-right q (here .late), h .frames)
+        pub ready-to-turn : MayTurn π (l .files) tables stores (l .picks) h-k (withTicks q (x .machine)) (getD counts k [])
+        ready-to-turn =
+            let at = held-at k inside in
+            may-turn π l q (on .fits) tables (on .eight) stores (h .sizes .2) k inside h-k (at .places) _ _
+            (may-run-on π one (role k) (accepted-at k inside) _ (inside-at k inside) _ (plays k inside .is) q (on .fits .tick) (on .fits .small) n (h .frames) x _ _ here s (part-same k inside stores (h .sizes .2)) _ _ _ (at .held))
 
-        module _ (a : AfterTurn) (stores′ : List ℤ) (table : List (List ℕ))
-            (turned : Turned π (partOf (l .fileLengths) k (l .files)) (getD held k d) q k (x .machine) f a (l .storeLengths) stores stores′ (partOf (l .pickLengths) k (l .picks)) (getD counts k []) table) where
+        module _ (r : Machine) (stores′ : List ℤ) (table : List (List ℕ)) (turned : Turned π (l .files) tables stores stores′ (l .picks) h-k (withTicks q (x .machine)) r (getD counts k []) table)
+            (a : AfterTurn) (turn : a ≡ turnTo (x .machine) r q f) where
           abbrev pub x′ : Progress
-          x′ = a .progress
+          x′ = record { machine = r; frame = n + 1 }
+
+          went : WentOn π (scriptIn (partOf (l .fileLengths) k (l .files)) (partOf tableLengths k tables) (h-k .count)) (withTicks q (x .machine)) r (partOf (l .storeLengths) k stores) (partOf (l .storeLengths) k stores′) (partOf (l .pickLengths) k (l .picks)) (getD counts k []) table
+          went = went-on π l q (on .fits) tables (on .eight) stores (h .sizes .2) k inside h-k (held-at k inside .places) _ _ stores′ r table turned
 
           now-here : Stands π q (role k) (suc n) x′ (partOf (l .storeLengths) k stores′) (partOf (l .pickLengths) k (l .picks)) table
-          now-here = stands-on π q (role k) n x _ _ _ here s _ (held-at k inside d .rows) _ _ x′ (turned .ran) (ap (λ (z : AfterTurn). z .progress .frame) (turned .turn))
+          now-here = stands-on π q (role k) n x _ _ _ here s _ (held-at k inside .held .rows) _ _ x′ went refl
 
           -- the others
           other : (j i : ℕ) → j < N → (j ≡ k → ⊥) → Here stores counts xs j i → Here stores′ (set counts k table) (set xs k x′) j i
           other j i g f z =
-              rw (getD-set-other xs k j x′ startPlayer f, getD-set-other counts k j table [] f, turned .others j (omega (arith, on .fits .stores)) f) z
+              rw
+              (
+                getD-set-other xs k j x′ startProgress f,
+                getD-set-other counts k j table [] f,
+                others-keep π l q (on .fits) tables (on .eight) stores (h .sizes .2) k inside h-k (held-at k inside .places) _ _ stores′ r table turned j (omega (arith, on .fits .stores)) f,
+              )
+              z
 
           this : Here stores′ (set counts k table) (set xs k x′) k (suc n)
-          this = rw (getD-set-same xs k x′ startPlayer (omega (arith, h .sizes .0, on .fits .few)), getD-set-same counts k table [] (omega (arith, h .sizes .1, on .fits .few))) now-here
+          this = rw (getD-set-same xs k x′ startProgress (omega (arith, h .sizes .0, on .fits .few)), getD-set-same counts k table [] (omega (arith, h .sizes .1, on .fits .few))) now-here
 
-          pub playing-on : Playing stores′ (set counts k table) (set xs k x′) m (a .frame) (k + 1)
-          playing-on = rw (ap (λ (z : AfterTurn). z .frame) (turned .turn)) (record {
+          pub playing-on : Playing stores′ (set counts k table) (set xs k (a .progress)) m (a .frame) (k + 1)
+          playing-on = rw turn (record {
             frames = h .frames;
             upto = omega arith;
-            sizes = (length-set xs k x′ ∙ h .sizes .0, length-set counts k table ∙ h .sizes .1, turned .long ∙ h .sizes .2);
+            sizes = (
+              length-set xs k x′ ∙ h .sizes .0,
+              length-set counts k table ∙ h .sizes .1,
+              stores-long π l q (on .fits) tables (on .eight) stores (h .sizes .2) k inside h-k (held-at k inside .places) _ _ stores′ r table turned ∙ h .sizes .2,
+            );
             had = λ j g. by j g (ℕ-discrete j k);
             due = λ j g i. other j n i (λ z. omega arith) (h .due j (omega arith) i);
-            taken = next-taken _ (takes-on π q (role k) n x _ _ _ here s _ (held-at k inside d .rows) _ _ x′ (turned .ran));
+            taken = next-taken _ (takes-on π q (role k) n x _ _ _ here s _ (held-at k inside .held .rows) _ _ x′ went);
             few = omega (arith, h .few, few-left, on .fits .small);
             most = h .most;
-            waits = waits-more n k (h .waits) (isWaiting (x′ .machine .status)) (is-done π q (role k) (suc n) x′ _ _ _ now-here) (not-done π q (role k) (suc n) x′ _ _ _ now-here);
+            waits = waits-more n k (h .waits) (isWaiting (r .status)) (is-done π q (role k) (suc n) x′ _ _ _ now-here) (not-done π q (role k) (suc n) x′ _ _ _ now-here);
           })
             where
               by : (j : ℕ) → j < k + 1 → Dec (j ≡ k) → Here stores′ (set counts k table) (set xs k x′) j (suc n)
@@ -267,7 +264,7 @@ module _ (prices : List ℕ) (l : Lent) (q : ℕ) (ps : List Frames.Progress) (h
               by j g (no z) = other j (suc n) (omega (arith, h .upto, z)) z (h .had j (omega (arith, z)))
 
     -- ---- the end of a frame
-    module _ (all : N ≤ k) where
+    module _ (past : N ≤ k) where
       frame-most : (a : ℕ) → a ≡ max m (f .ticks) → a ≡ most π q ps (suc n)
       unfolding most
       frame-most a e =
@@ -275,16 +272,14 @@ module _ (prices : List ℕ) (l : Lent) (q : ℕ) (ps : List Frames.Progress) (h
           omega (arith, h .most, h .taken)
 
       -- all are finished
-      pub playing-out : f .waits ≡ false → (a : ℕ) → a ≡ max m (f .ticks) → PlayedOut prices l q (record { progress = xs; most = a }) stores counts
+      pub playing-out : f .waits ≡ false → (a : ℕ) → a ≡ max m (f .ticks) → PlayedOut prices l q ps (record { progress = xs; most = a }) stores counts
       playing-out e a g = record {
-        ps = ps;
-        ready = on .ready;
         n = suc n;
         few = omega (arith, h .frames, on .fits .small, suc-mul n q);
         done = none (h .waits) e;
         most = frame-most a g;
         long = h .sizes .2;
-        each = λ j g d. rw (same-default xs j (omega (arith, h .sizes .0, on .fits .few)) d startPlayer) (h .had j (omega arith));
+        each = λ j g. h .had j (omega arith);
       }
         where
           none : {b : Bool} → Waits n k b → b ≡ false → (j : ℕ) → j < N → Done (afterFrames π q (role j) (suc n) .stand)

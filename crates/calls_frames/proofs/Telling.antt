@@ -12,7 +12,7 @@ use Rattle.rules.specs.declared.Ending.{Ending}
 use Rattle.rules.specs.declared.Ending.the-variants.{Ended, Spent, NoPick}
 use Rattle.rules.specs.declared.Prices.{Prices}
 use Rattle.rules.specs.declared.Verdict.the-variants.{Passed}
-use Rattle.rules_machine.specs.RowMachine.{TurnCounts, tallyOf, Place, more, over, countsOf}
+use Rattle.rules_machine.specs.RowMachine.{TurnCounts, Place, more, over, countsOf}
 use Rattle.rules.specs.Answers.{storeList}
 use Rattle.rules.specs.Scripts.{none, some, Script, storeOf}
 use Rattle.rules.specs.Calls.{pricesOf, scratchSize, loopRows}
@@ -25,35 +25,45 @@ use Rattle.rules.proofs.Laws.{list-of-store}
 use Rattle.run_actions.specs.declared.Machine.{Machine}
 use Rattle.run_actions.specs.declared.Status.{Status}
 use Rattle.run_actions.specs.declared.Status.the-variants.{Going, Over}
-use Rattle.run_actions.specs.States.{stateOf}
+use Rattle.run_actions.specs.States.{tallyOf, stateOf}
+use Rattle.run_machine.specs.Steps.{Room}
 use Rattle.runner.specs.declared.Ran.{Ran}
 use Rattle.runner.specs.Answered.{ranBy}
-use Rattle.runner.specs.Pauses.{standBy}
-use Rattle.runner.proofs.Start.{zero-row, zeros-all}
-use Rattle.run_loops.specs.declared.Heads.{Heads}
+use Rattle.runner.specs.Runs.{standBy}
+use Rattle.runner.proofs.Start.{cleared}
+use Rattle.run_loops.specs.Loops.{Counted, HeadCounts}
 use Rattle.calls_lists.specs.Parts.{partOf}
+use Rattle.calls_lists.proofs.Extents.{extent-part, extent-within}
 use Rattle.calls_scripts.specs.declared.Held.{Held}
-use Rattle.calls_scripts.specs.Held.{noPart, noProgress}
+use Rattle.calls_scripts.specs.declared.HeldScripts.{HeldScripts}
+use Rattle.calls_scripts.specs.Held.{noPart, noProgress, nobody, tableLengths, HeldAs}
+use Rattle.calls_scripts.proofs.Tables.{tables-whole}
 use Rattle.calls_turns.specs.declared.Progress.{Progress}
 use Rattle.calls_frames.specs.declared.Played as code
 use Rattle.calls_frames.specs.declared.Ended as ended
-use Rattle.calls_turns.specs.Progress.{Stands}
-use Rattle.calls_frames.specs.Playing.{FramesReady, MayPlay, Uncounted, PlayedOut}
+use Rattle.calls_turns.specs.Progress.{sliceOf, Stands}
+use Rattle.calls_frames.specs.Playing.{FramesReady, Uncounted, PlayedOut}
 use Rattle.calls_frames.specs.Answers.{noAnswer, AnsweredBy, AllAnswerable, AllAnswered, ToldPlayed, noPlayed, ToldFrames, Framed}
 use Rattle.calls_turns.proofs.Standing.{after-script, after-picks}
-use Rattle.calls_frames.proofs.Playing.{startPlayer, scripts-count, held-at, inside-at, part-same, plays}
+use Rattle.calls_frames.proofs.Playing.{scripts-count, held-at, inside-at, part-same, plays}
 
 -- no turn is counted at the start
-pub uncounted : Uncounted (replicate 8 (replicate 256 (replicate 3 0)))
-uncounted = (length-replicate 8 table, λ j h. rw (getD-replicate 8 j table [] h) (zeros-all table (length-replicate 256 zero-row) (record { zero = λ k i. getD-replicate 256 k zero-row [] i })))
+pub uncounted : Uncounted (replicate 8 (replicate 16 (replicate 3 0)))
+uncounted = (length-replicate 8 none-yet, λ j h. rw (getD-replicate 8 j none-yet [] h) cleared)
   where
-    table : List (List ℕ)
-    table = replicate 256 zero-row
+    none-yet : List (List ℕ)
+    none-yet = replicate 16 (replicate 3 0)
 
 counts-length : (c : TurnCounts) (rs : List ℕ) → length (countsOf c rs) ≡ length rs
 unfolding countsOf
 counts-length c [] = refl
 counts-length c (r ∷ rs) = ap suc (counts-length c rs)
+
+-- ---- one script
+module _ (π : Prices) (q : ℕ) (p : Frames.Progress) (n : ℕ) (x : Progress) (store : List ℤ) (picks : List ℕ) (counts : List (List ℕ)) (s : Stands π q p n x store picks counts) where
+  -- its counts fit
+  pub counted-in : (file t : List ℕ) (count : ℕ) → HeldAs file (p .script) count t → Counted file t count counts
+  counted-in file t count held = record { size = held .size; table = held .table; room = subst (λ ks. Room ks counts) (held .rows) (s .room) }
 
 -- ---- one script that is finished
 module _ (π : Prices) (q : ℕ) (p : Frames.Progress) (n : ℕ) (x : Progress) (store : List ℤ) (picks : List ℕ) (counts : List (List ℕ)) (s : Stands π q p n x store picks counts)
@@ -64,9 +74,12 @@ module _ (π : Prices) (q : ℕ) (p : Frames.Progress) (n : ℕ) (x : Progress) 
   abbrev m : Machine
   m = x .machine
 
+  abbrev c : TurnCounts
+  c = tallyOf (loopRows 0 (p .script .rows)) counts
+
   -- it is over, so
-  module _ (e : Ending) (i : ℕ) (at : P .stand ≡ over e i (stateOf m store picks) (tallyOf counts)) where
-    so : playedOf q P ≡ playedAs q P e i (stateOf m store picks) (tallyOf counts)
+  module _ (e : Ending) (i : ℕ) (at : P .stand ≡ over e i (stateOf m store picks) c) where
+    so : playedOf q P ≡ playedAs q P e i (stateOf m store picks) c
     unfolding playedAt
     so = ap (playedAt q P) at
 
@@ -93,9 +106,9 @@ module _ (π : Prices) (q : ℕ) (p : Frames.Progress) (n : ℕ) (x : Progress) 
         ∙ ap (λ (z : List ℕ). length z - length (drop (m .used) picks)) (after-picks π q p n ∙ lent)
         ∙ omega (arith, length-drop (m .used) picks, s .used)
 
-    counts-are : playedOf q P .counts ≡ countsOf (tallyOf counts) (loopRows 0 (p .script .rows))
+    counts-are : playedOf q P .counts ≡ countsOf c (loopRows 0 (p .script .rows))
     unfolding playedAs
-    counts-are = ap (λ (z : Frames.Played). z .counts) so ∙ ap (λ (z : Script). countsOf (tallyOf counts) (loopRows 0 (z .rows))) (after-script π q p n)
+    counts-are = ap (λ (z : Frames.Played). z .counts) so ∙ ap (λ (z : Script). countsOf c (loopRows 0 (z .rows))) (after-script π q p n)
 
     pub store-is : length store ≡ length (p .script .ranges) → playedOf q P .store ≡ store
     unfolding playedAs
@@ -105,8 +118,9 @@ module _ (π : Prices) (q : ℕ) (p : Frames.Progress) (n : ℕ) (x : Progress) 
         ∙ ap (λ k. storeList k (storeOf store)) (sym size)
         ∙ list-of-store store
 
-    told-so : m .status ≡ Over e i → (heads : Heads) (r : code.Played) → take (heads .count) (heads .rows) ≡ loopRows 0 (p .script .rows) → AnsweredBy q x heads counts r → ToldPlayed r (playedOf q P)
-    told-so status heads r listed a =
+    told-so : m .status ≡ Over e i → (file t : List ℕ) (count : ℕ) → HeldAs file (p .script) count t → (r : code.Played) → AnsweredBy q x t count counts r → ToldPlayed r (playedOf q P)
+    told-so status file t count held r a =
+        let l = subst (λ ks. HeadCounts (loopRows 0 ks) (tallyOf (loopRows 0 ks) counts) (record { count = r .outcome .loops; counts = r .outcome .counts })) (sym (held .rows)) (a .loops file (counted-in π q p n x store picks counts s file t count held)) in
         record {
           frame = a .frame ∙ sym frame-is;
           verdict = a .verdict;
@@ -114,29 +128,29 @@ module _ (π : Prices) (q : ℕ) (p : Frames.Progress) (n : ℕ) (x : Progress) 
           row = ap (λ (z : Ran). z .row) (is-ran a) ∙ sym row-is;
           ticks = ap (λ (z : Ran). z .ticks) (is-ran a) ∙ sym ticks-are;
           used = ap (λ (z : Ran). z .used) (is-ran a) ∙ sym used-is;
-          loops = a .loops .number ∙ ap length listed ∙ sym (ap length counts-are ∙ counts-length (tallyOf counts) (loopRows 0 (p .script .rows)));
-          counts = a .loops .counts ∙ ap (countsOf (tallyOf counts)) listed ∙ sym counts-are;
-          rest = a .loops .rest;
+          loops = l .number ∙ sym (ap length counts-are ∙ counts-length c (loopRows 0 (p .script .rows)));
+          counts = l .counts ∙ sym counts-are;
+          rest = l .rest;
         }
       where
-        is-ran : AnsweredBy q x heads counts r → record { ending = r .outcome .ending; row = r .outcome .row; ticks = r .outcome .ticks; used = r .outcome .used } ≡ ranBy (Over e i) m (x .frame * q)
+        is-ran : AnsweredBy q x t count counts r → record { ending = r .outcome .ending; row = r .outcome .row; ticks = r .outcome .ticks; used = r .outcome .used } ≡ ranBy (Over e i) m (x .frame * q)
         is-ran a = a .ran ∙ ap (λ z. ranBy z m (x .frame * q)) status
 
   -- it is over
-  pub told-one : (heads : Heads) (r : code.Played) → take (heads .count) (heads .rows) ≡ loopRows 0 (p .script .rows) → AnsweredBy q x heads counts r → length store ≡ length (p .script .ranges)
+  pub told-one : (file t : List ℕ) (count : ℕ) → HeldAs file (p .script) count t → (r : code.Played) → AnsweredBy q x t count counts r → length store ≡ length (p .script .ranges)
       → ToldPlayed r (playedOf q P) × (playedOf q P .store ≡ store)
   unfolding stopped
-  told-one heads r listed a size = by (m .status) refl (s .stand)
+  told-one file t count held r a size = by (m .status) refl (s .stand)
     where
       no-more-place : {A : Type 0} {z : Place} → P .stand ≡ more z → A
       no-more-place e = absurd (subst Done e done)
 
-      by : (y : Status) → m .status ≡ y → P .stand ≡ standBy y m store picks (tallyOf counts) → ToldPlayed r (playedOf q P) × (playedOf q P .store ≡ store)
+      by : (y : Status) → m .status ≡ y → P .stand ≡ standBy y m store picks c → ToldPlayed r (playedOf q P) × (playedOf q P .store ≡ store)
       by Going e at = no-more-place at
-      by (Over Ended i) e at = (told-so Ended i at e heads r listed a, store-is Ended i at size)
+      by (Over Ended i) e at = (told-so Ended i at e file t count held r a, store-is Ended i at size)
       by (Over Spent i) e at = no-more-place at
-      by (Over Ending.Range i) e at = (told-so Ending.Range i at e heads r listed a, store-is Ending.Range i at size)
-      by (Over NoPick i) e at = (told-so NoPick i at e heads r listed a, store-is NoPick i at size)
+      by (Over Ending.Range i) e at = (told-so Ending.Range i at e file t count held r a, store-is Ending.Range i at size)
+      by (Over NoPick i) e at = (told-so NoPick i at e file t count held r a, store-is NoPick i at size)
 
 -- ---- all scripts
 -- by their indices
@@ -178,40 +192,34 @@ settles prices q tick hs ps e n d = by (leb n last) (leb→le n last) (nleb→lt
         let (a, b) = no-more (pricesOf prices) q ps last n (omega (arith, g tt)) (frames-end prices scratchSize q tick hs ps (cast-accepts prices scratchSize hs ps e) last .0 (omega arith)) in
         (sym a, sym b)
 
--- what the scripts that are held have for it
-pub answerable : (prices : List ℕ) (l : Lent) (q : ℕ) (held : List Held) → MayPlay prices l q held → (e : ended.Ended) (stores : List ℤ) (counts : List (List (List ℕ))) → PlayedOut prices l q e stores counts
-    → AllAnswerable q (length (l .fileLengths)) (e .progress) held
-answerable prices l q held (ps, on) e stores counts out j h p d =
-    let s = out .each j h p in
-    record {
-      left = s .left;
-      few = omega (arith, mul-le-mul-right q (s .late), out .few);
-      placed = held-at prices l q ps held on j h d .heads .placed;
-    }
+module _ (prices : List ℕ) (l : Lent) (q : ℕ) (ps : List Frames.Progress) (tables : List ℕ) (all : HeldScripts) (on : FramesReady prices l q ps tables all) (e : ended.Ended) (stores : List ℤ)
+    (counts : List (List (List ℕ))) (out : PlayedOut prices l q ps e stores counts) where
+  -- the table of script j
+  table-at : (j : ℕ) → j < length (l .fileLengths) → sliceOf (getD (all .each) j nobody .places .table) tables ≡ partOf tableLengths j tables
+  table-at j h = extent-part _ _ _ (held-at prices l q ps tables all on j h .places .table) tables
 
-module _ (prices : List ℕ) (l : Lent) (q : ℕ) (held : List Held) (may : MayPlay prices l q held) (e : ended.Ended) (stores : List ℤ) (counts : List (List (List ℕ)))
-    (out : PlayedOut prices l q e stores counts) (r : List code.Played) (told : AllAnswered q (length (l .fileLengths)) (e .progress) held counts r) where
-  abbrev ps : List Frames.Progress
-  ps = out .ps
+  -- what the scripts that are held have for it
+  pub answerable : AllAnswerable q all tables (e .progress) counts
+  answerable j h =
+      let i : j < length (l .fileLengths) = omega (arith, on .number) in
+      let s = out .each j i in
+      let at = held-at prices l q ps tables all on j i in (
+        extent-within _ _ _ (at .places .table) tables (omega (arith, on .fits .few)) (tables-whole tables (on .eight)),
+        record {
+          left = s .left;
+          few = omega (arith, mul-le-mul-right q (s .late), out .few);
+          counted = (partOf (l .fileLengths) j (l .files), rw (table-at j i) (counted-in _ _ _ _ _ _ _ _ s _ _ _ (at .held)));
+        },
+      )
 
-  on : FramesReady prices l q ps held
-  on =
-      let same : may .0 ≡ ps = ready-once (sym (may .1 .ready) ∙ out .ready) in
-      subst (λ z. FramesReady prices l q z held) same (may .1)
-    where
-      ready-once : {a b : List Frames.Progress} → ready a ≡ ready b → a ≡ b
-      ready-once z = cc
-
-  nobody : Held
-  nobody = record { count = 0; rows = []; tables = record { end = []; head = [] }; heads = record { count = 0; rows = [] } }
-
+module _ (prices : List ℕ) (l : Lent) (q : ℕ) (ps : List Frames.Progress) (tables : List ℕ) (all : HeldScripts) (on : FramesReady prices l q ps tables all) (e : ended.Ended) (stores : List ℤ)
+    (counts : List (List (List ℕ))) (out : PlayedOut prices l q ps e stores counts) (r : List code.Played) (told : AllAnswered q all tables (e .progress) counts r) where
   one : (j : ℕ) → j < length (l .fileLengths) → ToldPlayed (getD r j noAnswer) (playedOf q (afterFrames (pricesOf prices) q (getD ps j noProgress) (out .n)))
       × (playedOf q (afterFrames (pricesOf prices) q (getD ps j noProgress) (out .n)) .store ≡ partOf (l .storeLengths) j stores)
   one j h =
-      let held-j = held-at prices l q ps held on j h nobody in
-      told-one (pricesOf prices) q (getD ps j noProgress) (out .n) _ _ _ _ (out .each j h startPlayer) (out .done j h) (ap (λ (z : Frames.Progress). z .picks) (plays prices l q ps held on j h .is))
-      (getD held j nobody .heads) (getD r j noAnswer) (held-j .heads .heads ∙ ap (loopRows 0) (sym (held-j .rows))) (told .each j h startPlayer nobody)
-      (part-same prices l q ps held on j h stores (out .long) ∙ inside-at prices l q ps held on j h .whole)
+      told-one (pricesOf prices) q (getD ps j noProgress) (out .n) _ _ _ _ (out .each j h) (out .done j h) (ap (λ (z : Frames.Progress). z .picks) (plays prices l q ps tables all on j h .is))
+      _ _ _ (held-at prices l q ps tables all on j h .held) (getD r j noAnswer) (rw (table-at prices l q ps tables all on e stores counts out j h) at (told .each j (omega (arith, on .number))))
+      (part-same prices l q ps tables all on j h stores (out .long) ∙ inside-at prices l q ps tables all on j h .whole)
 
   abbrev π : Prices
   π = pricesOf prices
@@ -220,7 +228,7 @@ module _ (prices : List ℕ) (l : Lent) (q : ℕ) (held : List Held) (may : MayP
   rs = answers π q ps (out .n)
 
   count : length rs ≡ length (l .fileLengths)
-  count = answers-length π q (out .n) ps ∙ scripts-count prices l q ps held on
+  count = answers-length π q (out .n) ps ∙ scripts-count prices l q ps tables all on
 
   told-all : (m : ℕ) → m ≡ e .most → ToldFrames (record { verdict = Passed; most = m; scripts = r }) rs (most π q ps (out .n))
   told-all m z = record {
@@ -228,7 +236,7 @@ module _ (prices : List ℕ) (l : Lent) (q : ℕ) (held : List Held) (may : MayP
     most = z ∙ out .most;
     few = omega (arith, count, on .fits .few);
     each = λ j h. rw (answers-at π q (out .n) ps j (omega (arith, answers-length π q (out .n) ps))) (one j (omega (arith, count)) .0);
-    rest = λ j h. told .rest j (omega (arith, count));
+    rest = λ j h. told .rest j (omega (arith, count, on .number));
   }
 
   stores-are : stores ≡ storesOf rs
@@ -240,9 +248,9 @@ module _ (prices : List ℕ) (l : Lent) (q : ℕ) (held : List Held) (may : MayP
       ap (λ (z : ScriptPart). z .store) (cut-at (l .fileLengths) (l .storeLengths) (l .pickLengths) (l .files) stores (l .picks) (on .fits .stores) (on .fits .picks) j (omega arith) noPart)
       ∙ sym (ap (λ (z : Frames.Played). z .store) (answers-at π q (out .n) ps j (omega (arith, answers-length π q (out .n) ps, count))) ∙ one j (omega arith) .1)
 
-  pub framed : (m : ℕ) → m ≡ e .most → Framed (playedBy π q (readiness prices scratchSize (partsOf l))) (l .stores) stores (record { verdict = Passed; most = m; scripts = r })
+  pub framed : (m : ℕ) → m ≡ e .most → Framed (playedBy π q (ready ps)) (l .stores) stores (record { verdict = Passed; most = m; scripts = r })
   unfolding playedBy storesAfter
   framed m z =
-      let (a, b) = settles prices q (on .fits .tick) (partsOf l) ps (out .ready) (out .n) (done-all π q (out .n) ps (λ j h. out .done j (omega (arith, scripts-count prices l q ps held on)))) in
-      let reply : playedBy π q (readiness prices scratchSize (partsOf l)) ≡ played rs (most π q ps (out .n)) = ap (playedBy π q) (out .ready) ∙ (λ i. played (a i) (b i)) in
+      let (a, b) = settles prices q (on .fits .tick) (partsOf l) ps (on .ready) (out .n) (done-all π q (out .n) ps (λ j h. out .done j (omega (arith, scripts-count prices l q ps tables all on)))) in
+      let reply : playedBy π q (ready ps) ≡ played rs (most π q ps (out .n)) = λ i. played (a i) (b i) in
       rw reply (record { told = told-all m z; stores = stores-are })

@@ -12,8 +12,9 @@ use Rattle.runner.specs.Answered.{ranOf}
 use Rattle.run_loops.specs.Loops.{noCount, NoneFrom, Counted, LoopsOf}
 use Rattle.calls_scripts.specs.declared.Held.{Held}
 use Rattle.calls_scripts.specs.declared.HeldScripts.{HeldScripts}
+use Rattle.calls_scripts.specs.Held.{nobody}
 use Rattle.calls_turns.specs.declared.Progress.{Progress}
-use Rattle.calls_turns.specs.Progress.{sliceOf, Inside}
+use Rattle.calls_turns.specs.Progress.{startProgress, sliceOf, Inside}
 use Rattle.calls_frames.specs.declared.Played.{Played}
 use Rattle.calls_frames.specs.declared.Frames as code
 
@@ -41,11 +42,11 @@ pub record AnsweredBy (q : ℕ) (p : Progress) (t : List ℕ) (count : ℕ) (cou
 -- of each script, in its place
 abbrev pub AllAnswerable : ℕ → HeldScripts → List ℕ → List Progress → List (List (List ℕ)) → Type 0
 AllAnswerable q all tables progress counts =
-    (j : ℕ) → j < all .number → (p : Progress) (h : Held) → let x : Held = getD (all .each) j h in Inside (x .places .table) tables × Answerable q (getD progress j p) (sliceOf (x .places .table) tables) (x .count) (getD counts j [])
+    (j : ℕ) → j < all .number → let h : Held = getD (all .each) j nobody in Inside (h .places .table) tables × Answerable q (getD progress j startProgress) (sliceOf (h .places .table) tables) (h .count) (getD counts j [])
 
 -- the answers of all scripts; none after them
 pub record AllAnswered (q : ℕ) (all : HeldScripts) (tables : List ℕ) (progress : List Progress) (counts : List (List (List ℕ))) (r : List Played) : Type 0 where
-  pub each : (j : ℕ) → j < all .number → (p : Progress) (h : Held) → let x : Held = getD (all .each) j h in AnsweredBy q (getD progress j p) (sliceOf (x .places .table) tables) (x .count) (getD counts j []) (getD r j noAnswer)
+  pub each : (j : ℕ) → j < all .number → let h : Held = getD (all .each) j nobody in AnsweredBy q (getD progress j startProgress) (sliceOf (h .places .table) tables) (h .count) (getD counts j []) (getD r j noAnswer)
   pub rest : (j : ℕ) → all .number ≤ j → getD r j noAnswer ≡ noAnswer
 
 -- a script's answer, of document 02's

@@ -12,8 +12,7 @@ use Rattle.runner.specs.Answered.{Cleared}
 use Rattle.calls_lists.specs.Parts.{lentOf, partOf, Fitted}
 use Rattle.calls_scripts.specs.declared.HeldScripts.{HeldScripts}
 use Rattle.calls_scripts.specs.Held.{noProgress, Holds}
-use Rattle.calls_turns.specs.declared.Progress.{Progress}
-use Rattle.calls_turns.specs.Progress.{Stands}
+use Rattle.calls_turns.specs.Progress.{startProgress, Stands}
 use Rattle.calls_frames.specs.declared.Ended as code
 
 -- the scripts may play: 20, 16 and their own questions have yes, and they are held
@@ -44,5 +43,5 @@ pub record PlayedOut (prices : List ℕ) (l : Lent) (q : ℕ) (ps : List Frames.
   pub done : (j : ℕ) → j < length (l .fileLengths) → Done (afterFrames (pricesOf prices) q (getD ps j noProgress) n .stand)
   pub most : e .most ≡ most (pricesOf prices) q ps n
   pub long : length stores ≡ length (l .stores)
-  pub each : (j : ℕ) → j < length (l .fileLengths) → (d : Progress)
-      → Stands (pricesOf prices) q (getD ps j noProgress) n (getD (e .progress) j d) (partOf (l .storeLengths) j stores) (partOf (l .pickLengths) j (l .picks)) (getD counts j [])
+  pub each : (j : ℕ) → j < length (l .fileLengths)
+      → Stands (pricesOf prices) q (getD ps j noProgress) n (getD (e .progress) j startProgress) (partOf (l .storeLengths) j stores) (partOf (l .pickLengths) j (l .picks)) (getD counts j [])

@@ -19,7 +19,7 @@ use Rattle.calls_lists.proofs.Splices.{wrote-length, wrote-part, wrote-others}
 use Rattle.calls_scripts.specs.declared.Places.{Places}
 use Rattle.calls_scripts.specs.declared.Held.{Held}
 use Rattle.calls_scripts.specs.declared.Entered.{Entered}
-use Rattle.calls_scripts.specs.Held.{tableLengths, Lengths, PlacesOf, EnteredAs, noPart, HeldBy}
+use Rattle.calls_scripts.specs.Held.{tableLengths, Lengths, PlacesOf, EnteredAs, noPart, nobody, HeldBy}
 use Rattle.calls_scripts.proofs.Readiness.{answerTo, cast-no, cast-yes, judged-file, plays-at}
 use Rattle.calls_scripts.proofs.Tables.{tables-whole}
 
@@ -38,11 +38,11 @@ module _ (prices : List ℕ) (l : Lent) where
   pub record Entering (k : ℕ) (tables : List ℕ) (each : List Held) : Type 0 where
     pub long : length each ≡ 8
     pub whole : length tables ≡ 8_192
-    pub places : (j : ℕ) → j < k → (d : Held) → Placed j (getD each j d .places)
-    pub enters : (j : ℕ) → j < k → (d : Held) → Enters j (partOf tableLengths j tables) (record { verdict = Passed; count = getD each j d .count })
+    pub places : (j : ℕ) → j < k → Placed j (getD each j nobody .places)
+    pub enters : (j : ℕ) → j < k → Enters j (partOf tableLengths j tables) (record { verdict = Passed; count = getD each j nobody .count })
 
   pub entering-none : (tables : List ℕ) (each : List Held) → length each ≡ 8 → length tables ≡ 8_192 → Entering 0 tables each
-  entering-none tables each e w = record { long = e; whole = w; places = λ j h d. absurd (omega arith); enters = λ j h d. absurd (omega arith) }
+  entering-none tables each e w = record { long = e; whole = w; places = λ j h. absurd (omega arith); enters = λ j h. absurd (omega arith) }
 
   -- one more, which writes its own table
   module _ (k : ℕ) (tables : List ℕ) (each : List Held) (few : k < 8) (h : Entering k tables each) (p : Places) (at : Placed k p) (e : Entered) (t : List ℕ)
@@ -57,20 +57,20 @@ module _ (prices : List ℕ) (l : Lent) where
     entering-more = record {
       long = length-set each k now ∙ h .long;
       whole = wrote-length tableLengths k (p .table) (at .table) tables t few (tables-whole tables (h .whole)) size ∙ h .whole;
-      places = λ j l d. placed j l d (ℕ-discrete j k);
-      enters = λ j l d. by j l d (ℕ-discrete j k);
+      places = λ j l. placed j l (ℕ-discrete j k);
+      enters = λ j l. by j l (ℕ-discrete j k);
     }
       where
-        placed : (j : ℕ) → j < k + 1 → (d : Held) → Dec (j ≡ k) → Placed j (getD (set each k now) j d .places)
-        placed j l d (yes z) = rw (z, getD-set-same each k now d (omega (arith, h .long))) at
-        placed j l d (no z) = rw (getD-set-other each k j now d z) (h .places j (omega (arith, z)) d)
+        placed : (j : ℕ) → j < k + 1 → Dec (j ≡ k) → Placed j (getD (set each k now) j nobody .places)
+        placed j l (yes z) = rw (z, getD-set-same each k now nobody (omega (arith, h .long))) at
+        placed j l (no z) = rw (getD-set-other each k j now nobody z) (h .places j (omega (arith, z)))
 
-        by : (j : ℕ) → j < k + 1 → (d : Held) → Dec (j ≡ k) → Enters j (partOf tableLengths j tables′) (record { verdict = Passed; count = getD (set each k now) j d .count })
-        by j l d (yes z) =
-            rw (z, getD-set-same each k now d (omega (arith, h .long)), wrote-part tableLengths k (p .table) (at .table) tables t few (tables-whole tables (h .whole)) size)
+        by : (j : ℕ) → j < k + 1 → Dec (j ≡ k) → Enters j (partOf tableLengths j tables′) (record { verdict = Passed; count = getD (set each k now) j nobody .count })
+        by j l (yes z) =
+            rw (z, getD-set-same each k now nobody (omega (arith, h .long)), wrote-part tableLengths k (p .table) (at .table) tables t few (tables-whole tables (h .whole)) size)
             (record { verdict = sym passes ∙ entered .verdict; held = entered .held })
-        by j l d (no z) =
-            rw (getD-set-other each k j now d z, wrote-others tableLengths k (p .table) (at .table) tables t few (tables-whole tables (h .whole)) size j (omega arith) z) (h .enters j (omega (arith, z)) d)
+        by j l (no z) =
+            rw (getD-set-other each k j now nobody z, wrote-others tableLengths k (p .table) (at .table) tables t few (tables-whole tables (h .whole)) size j (omega arith) z) (h .enters j (omega (arith, z)))
 
   module _ (priced : Priced prices) (lengths : Lengths (l .fileLengths) (l .storeLengths) (l .pickLengths)) where
     abbrev parts : List ScriptPart
@@ -87,25 +87,19 @@ module _ (prices : List ℕ) (l : Lent) where
     answered j h = ap (answerTo prices) (part-at j h) ∙ ap (λ x. admitted x (partOf (l .storeLengths) j (l .stores))) (judged-file prices priced (partOf (l .fileLengths) j (l .files)))
 
     module _ (k : ℕ) (tables : List ℕ) (each : List Held) (h : Entering k tables each) where
-      nobody : Held
-      nobody = getD each 0 (record {
-        places = record { file = record { from = 0; to = 0 }; table = record { from = 0; to = 0 }; store = record { from = 0; to = 0 }; picks = record { from = 0; to = 0 } };
-        count = 0;
-      })
-
       pub entering-no : k < N → (t : List ℕ) (e : Entered) → Enters k t e → (q p : ℕ) → e .verdict ≡ Refused q p → readiness prices scratchSize parts ≡ Readiness.refuses q p
       entering-no inside t e entered q p refusal =
-          cast-no prices parts k (omega (arith, count)) (λ j m. answered j (omega arith) ∙ sym (h .enters j m nobody .verdict)) q p (answered k inside ∙ sym (entered .verdict) ∙ refusal)
+          cast-no prices parts k (omega (arith, count)) (λ j m. answered j (omega arith) ∙ sym (h .enters j m .verdict)) q p (answered k inside ∙ sym (entered .verdict) ∙ refusal)
 
       pub entering-all : k ≡ N → HeldBy Passed prices l tables each
       entering-all all =
-          let (qs, e) = cast-yes prices parts (λ j m. answered j (omega (arith, count)) ∙ sym (h .enters j (omega (arith, count)) nobody .verdict)) in (
+          let (qs, e) = cast-yes prices parts (λ j m. answered j (omega (arith, count)) ∙ sym (h .enters j (omega (arith, count)) .verdict)) in (
             qs,
             e,
-            λ j m d.
+            λ j m.
                 let a = plays-at (cast-accepts prices scratchSize parts qs e) j (omega (arith, count)) in
                 record {
-                  places = h .places j (omega arith) d;
-                  held = h .enters j (omega arith) d .held _ (sym (judged-file prices priced _) ∙ ap (λ (x : ScriptPart). judged prices scratchSize (x .file)) (sym (part-at j m)) ∙ a .yes-13);
+                  places = h .places j (omega arith);
+                  held = h .enters j (omega arith) .held _ (sym (judged-file prices priced _) ∙ ap (λ (x : ScriptPart). judged prices scratchSize (x .file)) (sym (part-at j m)) ∙ a .yes-13);
                 },
           )

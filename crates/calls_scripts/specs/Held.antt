@@ -14,6 +14,7 @@ use Rattle.rules_frames.specs.Frames.{Progress, beginning, Lent, ScriptPart, pa
 use Rattle.table.specs.Code.{rowsOf, kindAt}
 use Rattle.table.specs.Paired.{Table}
 use Rattle.run_machine.specs.Steps.{scriptIn}
+use Rattle.calls_lists.specs.declared.Extent.{Extent}
 use Rattle.calls_lists.specs.Parts.{partOf, ExtentOf}
 use Rattle.calls.specs.Held.{admitted}
 use Rattle.calls_scripts.specs.declared.Places.{Places}
@@ -72,6 +73,10 @@ noPart = record { file = []; store = []; picks = [] }
 abbrev pub noProgress : Progress
 noProgress = beginning (record { ranges = []; rows = [] }) [] []
 
+-- past the last script that is held
+abbrev pub nobody : Held
+nobody = let nowhere : Extent = record { from = 0; to = 0 } in record { places = record { file = nowhere; table = nowhere; store = nowhere; picks = nowhere }; count = 0 }
+
 -- script j is held
 pub record HeldAt (l : Lent) (tables : List ℕ) (j : ℕ) (script : Script) (h : Held) : Type 0 where
   pub places : PlacesOf (l .fileLengths) (l .storeLengths) (l .pickLengths) j (h .places)
@@ -79,7 +84,7 @@ pub record HeldAt (l : Lent) (tables : List ℕ) (j : ℕ) (script : Script) (h 
 
 -- the scripts in progress are held
 abbrev pub Holds : Lent → List Progress → List ℕ → List Held → Type 0
-Holds l ps tables each = (j : ℕ) → j < length (l .fileLengths) → (d : Held) → HeldAt l tables j (getD ps j noProgress .script) (getD each j d)
+Holds l ps tables each = (j : ℕ) → j < length (l .fileLengths) → HeldAt l tables j (getD ps j noProgress .script) (getD each j nobody)
 
 -- all scripts: the readiness of `rules`
 abbrev pub HeldBy : Verdict → List ℕ → Lent → List ℕ → List Held → Type 0

@@ -35,6 +35,10 @@ abbrev pub isWaiting : Status → Bool
 isWaiting Going = true
 isWaiting (Over e i) = isSpent e
 
+-- a script before its first frame: at its first row, and no ticks
+abbrev pub startProgress : Progress
+startProgress = record { machine = record { row = 0; testing = false; left = 0; used = 0; status = Going }; frame = 0 }
+
 -- a frame before its first script
 abbrev pub newFrame : ℕ → Frame
 newFrame n = record { earlier = n; ticks = 0; waits = false }

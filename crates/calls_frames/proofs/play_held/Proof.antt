@@ -1,18 +1,27 @@
--- `calls_frames::play_held` meets its contract. Assumes nothing.
-use mathlib.Core.Path.{refl}
-use Rattle.calls_frames.proofs.Telling.{uncounted, answerable, framed}
+use native.Mathlib.Omega.{arith}
 use borrow.Author.Needs.{needs}
 use Rattle.calls_frames.proofs.play_held.Statement.{statement}
 use Rattle.calls_frames.proofs.play_held.Tie as tie
+use Rattle.calls_frames.proofs.play_held.Reads as reads
+use Rattle.calls_frames.proofs.play_held.Lts as lts
+use Rattle.calls_frames.proofs.answers.Reads as answers-reads
+use Rattle.calls_frames.proofs.play.Reads as play-reads
 
+-- src/lib.rt:197:9
 play-requires : tie.Need-play-requires
-play-requires c κs = (c .before .before .before .before .before .before .before .before .pre, uncounted)
+play-requires c κs = search needs
 
+-- src/lib.rt:199:9
 answers-requires : tie.Need-answers-requires
-answers-requires c κs = let s = c .before .before .before .before .before .before .before .before .before .before .before .before in (s .pre .1 .fits .few, answerable _ _ _ _ (s .pre) _ _ _ (c .before .before .before .play .ensures))
+answers-requires c κs = search needs
 
+-- src/lib.rt:184:1
+same-length : tie.Need-same-length
+same-length c = search needs
+
+-- src/lib.rt:184:1
 returns : tie.Need-returns
-returns c = framed _ _ _ _ (c .before .before .before .before .before .before .before .before .before .before .before .before .before .pre) _ _ _ (c .before .before .before .before .play .ensures) _ (c .answers .ensures) _ refl
+returns c = search needs
 
 pub play-held-spec : {M : Type 1} → statement M
-play-held-spec = tie.close (tie.spec play-requires answers-requires (λ c. search needs) returns)
+play-held-spec = tie.close (tie.spec play-requires answers-requires same-length returns)
