@@ -231,8 +231,7 @@ module _ (prices : List ℕ) (l : Lent) (q : ℕ) (ps : List Frames.Progress) (t
           -- the others
           other : (j i : ℕ) → j < N → (j ≡ k → ⊥) → Here stores counts xs j i → Here stores′ (set counts k table) (set xs k x′) j i
           other j i g f z =
-              rw
-              (
+              rw (
                 getD-set-other xs k j x′ startProgress f,
                 getD-set-other counts k j table [] f,
                 others-keep π l q (on .fits) tables (on .eight) stores (h .sizes .2) k inside h-k (held-at k inside .places) _ _ stores′ r table turned j (omega (arith, on .fits .stores)) f,

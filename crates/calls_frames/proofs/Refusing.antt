@@ -1,30 +1,19 @@
 -- What the readiness says of the call. Assumes nothing.
 use mathlib.Core.Path.{_≡_, refl, ap, subst}
 use mathlib.Core.List.{List}
-use Prim.Native.Nat.{ℕ, _<_, _^_}
+use Prim.Native.Nat.{ℕ}
 use lib.ListN.{length}
 use Rattle.rules.specs.declared.Verdict.the-variants.{Passed, Refused}
 use Rattle.rules.specs.Calls.{Priced, pricesOf, scratchSize}
 use Rattle.rules_frames.specs.Frames
-use Rattle.rules_frames.specs.Frames.{Lent, total, partsOf, readiness, playedBy, FramesReply, storesAfter}
+use Rattle.rules_frames.specs.Frames.{Lent, partsOf, readiness, playedBy, FramesReply, storesAfter}
 use Rattle.calls_lists.specs.Parts.{Fitted}
 use Rattle.calls_scripts.specs.declared.HeldScripts as code
-use Rattle.calls_scripts.specs.Held.{MayEnter, HeldBy, HeldScriptsAs}
+use Rattle.calls_scripts.specs.Held.{HeldBy, HeldScriptsAs}
 use Rattle.calls_frames.specs.Playing.{FramesReady}
 use Rattle.calls_frames.specs.Answers.{noFrames, Framed}
 
 module _ (prices : List ℕ) (l : Lent) (q : ℕ) (priced : Priced prices) (fits : Fitted l q) (tables : List ℕ) where
-  -- the scripts may be entered into eight tables
-  pub may-enter : total (l .fileLengths) < 2 ^ 64 → total (l .storeLengths) < 2 ^ 64 → total (l .pickLengths) < 2 ^ 64 → length tables ≡ 8_192
-      → MayEnter prices (l .files) (l .fileLengths) (l .stores) (l .storeLengths) (l .pickLengths) tables
-  may-enter a b c e = record {
-    priced = priced;
-    lengths = record { few = fits .few; stores = fits .stores; picks = fits .picks; file-sum = a; store-sum = b; pick-sum = c };
-    all-files = fits .file-sum;
-    all-stores = fits .store-sum;
-    all-tables = e;
-  }
-
   module _ (c : code.HeldScripts) (h : HeldScriptsAs prices l tables c) where
     -- all may play
     pub may-play : c .verdict ≡ Passed → length tables ≡ 8_192 → (ps : List Frames.Progress) × FramesReady prices l q ps tables c

@@ -73,9 +73,11 @@ went c =
     let e = c .before .waiting .ensures in
     ⊎-elim {C = Went c}
     (λ w.
-    rw (w .11, w .12, w .13, w .14)
-    (ap (λ (z : AfterTurn). z .frame .earlier) (w .8 .ensures), λ fs ss ps roles on.
-    playing-on _ _ _ _ _ _ on _ _ _ _ _ _ (l .inv .1 _ _ _ _ on) (omega (arith, i, on .number)) (sym e ∙ w .0 .taken) (w .6 .result) _ _ (rw (c .before .before .before .before .before .before .before .before .prices-of .ensures, w .4 .ensures) at (w .6 .ensures)) (w .8 .result) (w .8 .ensures)))
+    rw (w .11, w .12, w .13, w .14) (
+      ap (λ (z : AfterTurn). z .frame .earlier) (w .8 .ensures),
+      λ fs ss ps roles on.
+          playing-on _ _ _ _ _ _ on _ _ _ _ _ _ (l .inv .1 _ _ _ _ on) (omega (arith, i, on .number)) (sym e ∙ w .0 .taken) (w .6 .result) _ _ (rw (c .before .before .before .before .before .before .before .before .prices-of .ensures, w .4 .ensures) at (w .6 .ensures)) (w .8 .result) (w .8 .ensures),
+    ))
     (λ w. rw (w .1, w .2, w .3, w .4) (refl, λ fs ss ps roles on. playing-still _ _ _ _ _ _ on _ _ _ _ _ _ (l .inv .1 _ _ _ _ on) (omega (arith, i, on .number)) (sym e ∙ w .0 .left)))
     (c .if2 .came)
 
@@ -97,9 +99,11 @@ loop-less-2 c =
 
 loop-again-2 : tie.Need-loop-again-2 Inv-loop μ-loop
 loop-again-2 c =
-    let l = c .before .before .before .before .before .before .before .loop in
-    (l .inv .0, λ fs ss ps roles on.
-    rw (c .new-frame2 .ensures) (playing-frame _ _ _ _ _ _ on _ _ _ _ _ _ (l .inv .1 _ _ _ _ on) (omega (arith, c .before .before .before .before .before .if1 .left, on .number)) (not-false _ (c .before .before .if3 .left)) _ (c .before .before .before .before .larger .ensures)))
+    let l = c .before .before .before .before .before .before .before .loop in (
+      l .inv .0,
+      λ fs ss ps roles on.
+          rw (c .new-frame2 .ensures) (playing-frame _ _ _ _ _ _ on _ _ _ _ _ _ (l .inv .1 _ _ _ _ on) (omega (arith, c .before .before .before .before .before .if1 .left, on .number)) (not-false _ (c .before .before .if3 .left)) _ (c .before .before .before .before .larger .ensures)),
+    )
 
 pub play-spec : {M : Type 1} → statement M
 play-spec =

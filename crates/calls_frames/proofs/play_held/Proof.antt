@@ -1,27 +1,16 @@
+-- `calls_frames::play_held` meets its contract. Assumes nothing.
+use mathlib.Core.Path.{refl}
 use native.Mathlib.Omega.{arith}
+use Rattle.calls_frames.proofs.Telling.{uncounted, answerable, framed}
 use borrow.Author.Needs.{needs}
 use Rattle.calls_frames.proofs.play_held.Statement.{statement}
 use Rattle.calls_frames.proofs.play_held.Tie as tie
-use Rattle.calls_frames.proofs.play_held.Reads as reads
-use Rattle.calls_frames.proofs.play_held.Lts as lts
-use Rattle.calls_frames.proofs.answers.Reads as answers-reads
-use Rattle.calls_frames.proofs.play.Reads as play-reads
 
--- src/lib.rt:197:9
-play-requires : tie.Need-play-requires
-play-requires c κs = search needs
-
--- src/lib.rt:199:9
 answers-requires : tie.Need-answers-requires
-answers-requires c κs = search needs
+answers-requires c κs = let on = c .before .before .before .before .before .before .before .before .before .before .pre .4 in (omega (arith, on .number, on .fits .few), answerable _ _ _ _ _ _ on _ _ _ (c .before .before .before .play .ensures _ _ _ _ on))
 
--- src/lib.rt:184:1
-same-length : tie.Need-same-length
-same-length c = search needs
-
--- src/lib.rt:184:1
 returns : tie.Need-returns
-returns c = search needs
+returns c fs ss ps roles on = framed _ _ _ _ _ _ on _ _ _ (c .before .before .before .before .play .ensures _ _ _ _ on) _ (c .answers .ensures) _ refl
 
 pub play-held-spec : {M : Type 1} → statement M
-play-held-spec = tie.close (tie.spec play-requires answers-requires same-length returns)
+play-held-spec = tie.close (tie.spec (λ c κs. (c .before .before .before .before .before .before .pre, uncounted)) answers-requires (λ c. search needs) returns)

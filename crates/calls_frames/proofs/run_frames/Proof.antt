@@ -1,69 +1,45 @@
-use native.Mathlib.Omega.{arith}
+-- `calls_frames::run_frames` meets its contract. Assumes nothing.
+use mathlib.Core.List.{List}
+use Rattle.rules_frames.specs.Frames
+use Rattle.calls_lists.specs.Parts.{lentOf}
+use Rattle.calls_frames.specs.Playing.{FramesReady}
+use Rattle.calls_frames.proofs.Refusing.{may-play, no-play}
 use borrow.Author.Needs.{needs}
 use Rattle.calls_frames.proofs.run_frames.Statement.{statement}
 use Rattle.calls_frames.proofs.run_frames.Tie as tie
-use Rattle.calls_frames.proofs.run_frames.Reads as reads
-use Rattle.calls_frames.proofs.run_frames.Lts as lts
-use Rattle.calls_frames.proofs.play_held.Reads as play-held-reads
-use Rattle.calls_frames.proofs.refusal.Reads as refusal-reads
-use Rattle.calls_scripts.proofs.enter_all.Reads as enter-all-reads
 
--- src/lib.rt:230:9
-slice-aggregate-enter-all : tie.Need-slice-aggregate-enter-all
-slice-aggregate-enter-all c = search needs
+-- all scripts may play
+ready : (c : tie.After-tables3)
+    → let a = c .before .before .before .before .before .before .before .before .before .before .before .before .before .args in
+    let e = c .before .before .before .before .enter-all in
+    (roles : List Frames.Progress) × FramesReady (a .prices .now) (lentOf (a .files .now) (a .file-lengths .now) (a .stores .now) (a .store-lengths .now) (a .picks .now) (a .pick-lengths .now)) (a .q) roles (e .last .1 .1 .1 .1 .1 .1 .0) (e .result)
+ready c =
+    let s = c .before .before .before .before .before .before .before .before .before .before .before .before .before in
+    let e = c .before .before .before .before .enter-all in
+    may-play _ _ _ (s .pre .0) (s .pre .1) _ _ (e .ensures (s .args .picks .now)) (c .before .enum-told .given .1) (e .kept .1 .1 .1 .1 .1 .1 .0)
 
--- src/lib.rt:223:9
-enter-all-requires : tie.Need-enter-all-requires
-enter-all-requires c κs = search needs
-
--- src/lib.rt:234:45
-enum-told : tie.Need-enum-told
-enum-told c = search needs
-
--- src/lib.rt:234:45
-slice-aggregate-play-held : tie.Need-slice-aggregate-play-held
-slice-aggregate-play-held c = search needs
-
--- src/lib.rt:234:28
 play-held-requires : tie.Need-play-held-requires
-play-held-requires c κs = search needs
+play-held-requires c κs = let a = c .before .before .before .before .before .before .before .before .before .before .before .before .before .before .args in let (roles, on) = ready (c .before) in (a .file-lengths .now, a .store-lengths .now, a .pick-lengths .now, roles, on)
 
--- src/lib.rt:235:26
-enum-known-verdict : tie.Need-enum-known-verdict
-enum-known-verdict c = search needs
-
--- src/lib.rt:235:44
-refusal-requires : tie.Need-refusal-requires
-refusal-requires c κs = search needs
-
--- src/lib.rt:209:1
-same-length : tie.Need-same-length
-same-length c = search needs
-
--- src/lib.rt:209:1
 returns : tie.Need-returns
-returns c = search needs
+returns c = let (roles, on) = ready (c .before .before .before) in rw (on .ready) (c .before .play-held .ensures _ _ _ roles on)
 
--- src/lib.rt:209:1
-same-length-2 : tie.Need-same-length-2
-same-length-2 c = search needs
-
--- src/lib.rt:209:1
 returns-2 : tie.Need-returns-2
-returns-2 c = search needs
+returns-2 c =
+    let s = c .before .before .before .before .before .before .before .before .before .before .before .before .before .before in
+    rw (c .refusal .ensures) (no-play _ _ _ (s .pre .0) (s .pre .1) _ _ (c .before .before .before .before .before .enter-all .ensures _) _ _ (c .before .before .verdict .given .1))
 
 pub run-frames-spec : {M : Type 1} → statement M
 run-frames-spec =
     tie.close
     (tie.spec
-    slice-aggregate-enter-all
-    enter-all-requires
-    enum-told
-    slice-aggregate-play-held
+    (λ c. search needs)
+    (λ c κs. search needs)
+    (λ c. search needs) (λ c. search needs)
     play-held-requires
-    enum-known-verdict
-    refusal-requires
-    same-length
+    (λ c. search needs)
+    (λ c κs. search needs)
+    (λ c. search needs)
     returns
-    same-length-2
+    (λ c. search needs)
     returns-2)
