@@ -1,8 +1,6 @@
 -- `run_machine::for_row` meets its contract. Assumes nothing.
 use mathlib.Core.Path.{_≡_, refl, sym, _∙_, ap, subst}
 use mathlib.Core.Bool.{true}
-use mathlib.Core.List.{List}
-use Prim.Native.Nat.{ℕ}
 use denote.Ref.{now}
 use mir.Facts.{toZ-ofZ}
 use mir.Val.{SFits}
@@ -13,7 +11,7 @@ use Rattle.rules.specs.Blocks.{from, exprOf}
 use Rattle.rules.specs.Run.{result, exec}
 use Rattle.rules.specs.Scripts.{storeOf}
 use Rattle.rules.specs.Values.{value}
-use Rattle.rules_machine.specs.RowMachine.{TurnCounts, begin, testing, to, outcome}
+use Rattle.rules_machine.specs.RowMachine.{begin}
 use Rattle.values.specs.Results.{resultIn}
 use Rattle.table.specs.Code.{operandIn, number, partnerIn, numbersAt}
 use Rattle.run_actions.specs.States.{tallyOf, RoomAt, stateOf}
@@ -54,8 +52,8 @@ returns c =
       long = b .long;
       acts = λ picks heads r l.
           let o = exec (a .prices) (a .m .row) (setOf (now (a .text)) (a .kind) e) (stateOf (a .m) (now (a .store)) picks) in
-          acts-as refl (λ i. outcome o (tallyOf heads (now (a .counts))) (λ u. to (partnerIn e) testing u (b .same heads r l i)))
-          (for-begins _ _ _ _ _ _ (partnerIn e) o (sym (c .before .before .before .before .going .ensures) ∙ c .before .before .before .if1 .taken) (put-plain (a .prices) (now (a .store)) true refl (c .before .before .before .before .before .before .before .before .variable-at .ensures) (c .before .before .before .before .before .before .before .before .before .before .before .before .partner-at .ensures) (from (exprOf (now (a .text)) x)) (z .result) (resultIn (z .result)) (λ i v. write-in i v (z .result)) y (simp (toZ-ofZ f) at (c .before .before .before .before .before .before .put .ensures picks (tallyOf heads _)))));
+          acts-as (sym (b .same heads r l)) refl
+          (for-begins _ _ _ _ _ _ (partnerIn e) o (sym (c .before .before .before .before .going .ensures) ∙ c .before .before .before .if1 .taken) (put-plain (a .prices) (now (a .store)) true refl (c .before .before .before .before .before .before .before .before .variable-at .ensures) (c .before .before .before .before .before .before .before .before .before .before .before .before .partner-at .ensures) (from (exprOf (now (a .text)) x)) (z .result) (resultIn (z .result)) (λ i v. write-in i v (z .result)) y (simp (toZ-ofZ f) at (c .before .before .before .before .before .before .put .ensures picks (begin (getD heads (loopOf (now (a .rows)) (a .m)) 0) (tallyOf heads (now (a .counts))))))));
     }
 
 returns-2 : tie.Need-returns-2
