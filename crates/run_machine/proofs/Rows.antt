@@ -18,7 +18,7 @@ use Rattle.rules.specs.Blocks.{RowKind, exprOf, kindOf, changed, assign, Test, 
 use Rattle.rules.specs.Blocks
 use Rattle.rules.specs.Calls.{isLoop, loopRows}
 use Rattle.rules.specs.Run.{State, exec}
-use Rattle.rules.specs.Scripts.{RowLimits, ExprBelow, RowBelow}
+use Rattle.rules.specs.Scripts.{ChangeLimits, RowLimits, ExprBelow, RowBelow}
 use Rattle.rules.specs.Written.{Written}
 use Rattle.rules.proofs.Laws.{no-true, kinds-first, kind-of}
 use Rattle.rules.proofs.TreeOf.{tree-of}
@@ -36,7 +36,7 @@ use Rattle.table.proofs.Same.{test-of}
 use Rattle.run_actions.specs.declared.Machine.{Machine}
 use Rattle.run_actions.specs.States.{Rising, RoomAt, phaseOf, stateOf, placeOf}
 use Rattle.run_machine.specs.Steps.{scriptIn, Runs, Room, stepOf, AtRow, AtTest}
-use Rattle.run_machine.specs.Rows.{rowOf, Readable}
+use Rattle.run_machine.specs.Rows.{rowOf, Readable, StepRow}
 
 -- ---- the kind of a row by its op
 module _ (e : List ℕ) (op : ℕ) (q : opIn e ≡ op) where
@@ -203,32 +203,34 @@ record Tested (text : List ℕ) (vars : ℕ) (k : Kind) (n : List ℕ) : Type 0 
   variable : variableIn n < vars
   limit : Readable text vars (limitIn n)
   code : IsComparison (comparisonIn n)
+  step : endOp (viewOf (kindOf text k)) ≡ 2 → ChangeLimits (stepIn n)
   next : (π : Prices) (rows : List RowKind) (f g : ℕ → ℕ) (h e : ℕ) (s : State) (c : TurnCounts) → onEnd π rows f g (viewOf (kindOf text k)) h e testing s c ≡ tests π h e (testIn text n) s c
 
 module _ (text : List ℕ) (vars : ℕ) (n : List ℕ) where
-  test-in : (k : Kind) {v : ℕ} {d : Comparison} {x : Operand} → TestIn v d x n → v < vars → Readable text vars x
+  test-in : (k : Kind) {v : ℕ} {d : Comparison} {x : Operand} → TestIn v d x n → v < vars → Readable text vars x → (endOp (viewOf (kindOf text k)) ≡ 2 → ChangeLimits (stepIn n))
       → ((π : Prices) (rows : List RowKind) (f g : ℕ → ℕ) (h e : ℕ) (s : State) (c : TurnCounts) → onEnd π rows f g (viewOf (kindOf text k)) h e testing s c ≡ tests π h e (test v d (exprOf text x)) s c)
       → Tested text vars k n
-  test-in k t l r q = record {
+  test-in k t l r p q = record {
     variable = omega (arith, t .variable);
     limit = subst (Readable text vars) (sym (t .limit)) r;
     code = t .code;
+    step = p;
     next = λ π rows f g h e s c. q π rows f g h e s c ∙ (λ i. tests π h e (test (sym (t .variable) i) (sym (t .comparison) i) (exprOf text (sym (t .limit) i))) s c);
   }
 
-  tested : (k : Kind) → isLoop (viewOf (kindOf text k)) ≡ true → RowBelow vars (kindOf text k) → Written text k → TestOf k n → Tested text vars k n
+  tested : (k : Kind) → isLoop (viewOf (kindOf text k)) ≡ true → RowLimits (kindOf text k) → RowBelow vars (kindOf text k) → Written text k → TestOf k n → Tested text vars k n
   unfolding viewOf kindOf isLoop onEnd exprOf ExprBelow
-  tested End b l w t = no-true b
-  tested Else b l w t = no-true b
-  tested Pick b l w t = no-true b
-  tested (Set v x) b l w t = no-true b
-  tested (Move v d) b l w t = no-true b
-  tested (Off v y d k) b l w t = no-true b
-  tested (Cue m) b l w t = no-true b
-  tested (While v d x) b (l, o) w t = test-in _ t l (record { written = w; below = o }) (λ π rows f g h e s c. refl)
-  tested (Do v d x) b (l, o) w t = test-in _ t l (record { written = w; below = o }) (λ π rows f g h e s c. refl)
-  tested (For v y d x k) b (l, p, o) (u, w) (t, q) = test-in _ t l (record { written = w; below = o }) (λ π rows f g h e s c. refl)
-  tested (Hold v) b l w t = test-in _ t l (record { written = tt; below = tt }) (λ π rows f g h e s c. refl)
+  tested End b j l w t = no-true b
+  tested Else b j l w t = no-true b
+  tested Pick b j l w t = no-true b
+  tested (Set v x) b j l w t = no-true b
+  tested (Move v d) b j l w t = no-true b
+  tested (Off v y d k) b j l w t = no-true b
+  tested (Cue m) b j l w t = no-true b
+  tested (While v d x) b j (l, o) w t = test-in _ t l (record { written = w; below = o }) (λ e. absurd (omega arith)) (λ π rows f g h e s c. refl)
+  tested (Do v d x) b j (l, o) w t = test-in _ t l (record { written = w; below = o }) (λ e. absurd (omega arith)) (λ π rows f g h e s c. refl)
+  tested (For v y d x k) b (i, z, j) (l, p, o) (u, w) (t, q) = test-in _ t l (record { written = w; below = o }) (λ e. subst ChangeLimits (sym q) j) (λ π rows f g h e s c. refl)
+  tested (Hold v) b j l w t = test-in _ t l (record { written = tt; below = tt }) (λ e. absurd (omega arith)) (λ π rows f g h e s c. refl)
 
 -- the machine stands before it
 pub record Testing (text t : List ℕ) (count : ℕ) (m : Machine) (store : List ℤ) : Type 0 where
@@ -252,7 +254,7 @@ at-test {text} {t} {count} {m} {store} a =
     let below : h < count = omega (arith, r .below, l) in
     let k = kindIn (numbersAt t h) in
     let v = row-is (a .script) h below k refl in
-    let y = tested text (length store) (numbersAt t i) k (ap isLoop (sym (v .view)) ∙ a .ends .loop) (v .below) (v .written) (test-told (a .script) h i below r (a .ends .loop)) in
+    let y = tested text (length store) (numbersAt t i) k (ap isLoop (sym (v .view)) ∙ a .ends .loop) (v .limits) (v .below) (v .written) (test-told (a .script) h i below r (a .ends .loop)) in
     record {
       small = q .small;
       size = q .size;
@@ -269,3 +271,27 @@ at-test {text} {t} {count} {m} {store} a =
           ∙ y .next π rows (ends (a .script)) (heads (a .script)) h i s c
           ∙ ap (λ z. tests π z i (testIn text (numbersAt t i)) s c) (sym (r .partner));
     }
+
+-- a for's step, at its `end` row
+loop-op : (v : View) → endOp v ≡ 2 → isLoop v ≡ true
+unfolding isLoop
+loop-op (is-plain p) e = absurd (omega arith)
+loop-op is-pick e = absurd (omega arith)
+loop-op is-else e = absurd (omega arith)
+loop-op is-end e = absurd (omega arith)
+loop-op (is-loop form x last) e = refl
+
+pub step-row : {text t : List ℕ} {count : ℕ} {m : Machine} {store : List ℤ} {counts : List (List ℕ)} → AtRow text t count m store counts → opIn (rowOf t m) ≡ 2 → StepRow m t (length store)
+unfolding kindBy viewOf kindOf
+step-row {text} {t} {count} {m} {store} a q =
+    let i = m .row in
+    let x = row-is (a .script) i (a .row) End (kind-op (numbersAt t i) 2 q Tag.End refl) in
+    let r = end-of (a .script) i (a .row) (x .view) in
+    let h = heads (a .script) i in
+    let below : h < count = omega (arith, r .below, a .row) in
+    let k = kindIn (numbersAt t h) in
+    let v = row-is (a .script) h below k refl in
+    let o = sym (r .op) ∙ q in
+    let b = loop-op (viewAt (scriptIn text t count) h) o in
+    let y = tested text (length store) (numbersAt t i) k (ap isLoop (sym (v .view)) ∙ b) (v .limits) (v .below) (v .written) (test-told (a .script) h i below r b) in
+    record { row = record { small = x .small; size = x .size; variable = y .variable }; change = y .step (ap endOp (sym (v .view)) ∙ o) }

@@ -102,8 +102,8 @@ pub record ForBegun (π : Prices) (kind : ℕ) (m r : Machine) (text t : List �
   pub long : length counts′ ≡ 16
   pub acts : (picks heads : List ℕ) → Rising heads → loopOf t m < length heads
       → Acts m r store′ picks (tallyOf heads counts′)
-        (outcome (exec π (m .row) (setOf text kind (rowOf t m)) (stateOf m store picks)) (tallyOf heads counts)
-        (λ u. to (partnerIn (rowOf t m)) testing u (begin (getD heads (loopOf t m) 0) (tallyOf heads counts))))
+      (outcome (exec π (m .row) (setOf text kind (rowOf t m)) (stateOf m store picks)) (tallyOf heads counts)
+      (λ u. to (partnerIn (rowOf t m)) testing u (begin (getD heads (loopOf t m) 0) (tallyOf heads counts))))
 
 -- a do: its first turn begins
 pub record DoBegun (m r : Machine) (t : List ℕ) (counts counts′ : List (List ℕ)) : Type 0 where

@@ -32,6 +32,5 @@ do-row-spec =
     (λ c κs. rw (c .partner-at .ensures) (c .before .before .pre .end))
     begin-requires
     (λ c κs. c .before .begin .ensures .room)
-    (λ c. search needs)
-    (λ c κs. search needs)
+    (λ c. search needs) (λ c κs. search needs)
     returns)

@@ -76,8 +76,7 @@ pub for-row-spec : {M : Type 1} → statement M
 for-row-spec =
     tie.close
     (tie.spec
-    (λ c κs. search needs)
-    (λ c κs. search needs)
+    (λ c κs. search needs) (λ c κs. search needs)
     value-of-requires
     (λ c κs. search needs)
     put-requires

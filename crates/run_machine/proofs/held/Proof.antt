@@ -52,9 +52,7 @@ held-spec =
     (tie.spec
     (λ c κs. search needs)
     (λ c κs. rw (c .watched-at .ensures) (c .before .before .pre .watched))
-    (λ c κs. search needs)
-    (λ c κs. search needs)
-    (λ c κs. search needs)
+    (λ c κs. search needs) (λ c κs. search needs) (λ c κs. search needs)
     (λ c. let x = c .before .before .before .stored in let f : SFits w32 (x .result) = sfits-of (x .ok) in rw (toZ-ofZ f) (sfits-widen tt f))
     (λ c. let x = c .before .constant in let f : SFits w32 (x .result) = sfits-of (x .ok) in rw (toZ-ofZ f) (sfits-widen tt f))
     passes-requires

@@ -80,9 +80,7 @@ pub limit-of-spec : {M : Type 1} → statement M
 limit-of-spec =
     tie.close
     (tie.spec
-    (λ c κs. search needs)
-    (λ c κs. search needs)
-    (λ c κs. search needs)
+    (λ c κs. search needs) (λ c κs. search needs) (λ c κs. search needs)
     (λ c. let f : SFits w32 (c .constant .result) = sfits-of (c .constant .ok) in rw (toZ-ofZ f) (sfits-widen tt f))
     returns
     (λ c κs. search needs)

@@ -46,9 +46,7 @@ pub move-row-spec : {M : Type 1} → statement M
 move-row-spec =
     tie.close
     (tie.spec
-    (λ c κs. search needs)
-    (λ c κs. search needs)
-    (λ c κs. search needs)
+    (λ c κs. search needs) (λ c κs. search needs) (λ c κs. search needs)
     stored-requires
     changed-requires
     (λ c. search needs)

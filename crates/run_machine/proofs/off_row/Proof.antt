@@ -28,9 +28,7 @@ pub off-row-spec : {M : Type 1} → statement M
 off-row-spec =
     tie.close
     (tie.spec
-    (λ c κs. search needs)
-    (λ c κs. search needs)
-    (λ c. search needs)
+    (λ c κs. search needs) (λ c κs. search needs) (λ c. search needs)
     put-requires
     (λ c. search needs)
     returns)

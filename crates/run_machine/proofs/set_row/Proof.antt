@@ -43,8 +43,7 @@ set-row-spec =
     (tie.spec
     (λ c κs. search needs)
     value-of-requires
-    (λ c κs. search needs)
-    (λ c. search needs)
+    (λ c κs. search needs) (λ c. search needs)
     put-requires
     (λ c. search needs)
     returns)

@@ -49,8 +49,8 @@ returns : tie.Need-returns
 returns c =
     let a = c .before .before .before .before .before .args in
     λ count picks q.
-        let k = at-test q in
-        record { acts = rw (c .ended .ensures, c .before .partner-at .ensures) (acts-as refl (sym (k .step (a .prices) picks _)) (test-spent (a .prices) _ _ _ _ _ _ _ (c .before .before .if1 .taken))); long = q .room .long }
+    let k = at-test q in
+    record { acts = rw (c .ended .ensures, c .before .partner-at .ensures) (acts-as refl (sym (k .step (a .prices) picks _)) (test-spent (a .prices) _ _ _ _ _ _ _ (c .before .before .if1 .taken))); long = q .room .long }
 
 returns-2 : tie.Need-returns-2
 returns-2 c =
@@ -59,11 +59,11 @@ returns-2 c =
     let f : SFits w64 (z .result) = sfits-of (z .ok) in
     let y : eqZ (z .result) (pos 4_000_000_000) ≡ true = eqZ-yes _ _ f past (c .before .before .if2 .taken) in
     λ count picks q.
-        let k = at-test q in
-        record {
-          acts = rw (c .ended2 .ensures, c .before .partner-at2 .ensures) (acts-as refl (sym (k .step (a .prices) picks _)) (test-beyond (a .prices) _ _ _ _ _ _ _ (c .before .before .before .before .if1 .left) (tried-past _ _ _ _ y (z .ensures))));
-          long = q .room .long;
-        }
+    let k = at-test q in
+    record {
+      acts = rw (c .ended2 .ensures, c .before .partner-at2 .ensures) (acts-as refl (sym (k .step (a .prices) picks _)) (test-beyond (a .prices) _ _ _ _ _ _ _ (c .before .before .before .before .if1 .left) (tried-past _ _ _ _ y (z .ensures))));
+      long = q .room .long;
+    }
 
 count-turn-requires : tie.Need-count-turn-requires
 count-turn-requires c κs =
@@ -79,14 +79,14 @@ returns-3 c =
     let y = sym (c .before .before .before .before .before .if3 .taken) ∙ told (c .before .before .before .before .before .before) in
     let b = rw (c .before .before .before .before .loop-at .ensures) at (c .before .before .count-turn .ensures) in
     λ count picks q.
-        let k = at-test q in
-        let heads = loopRows 0 (scriptIn (now (a .text)) (now (a .rows)) count) in
-        let t = b .same heads (heads-rise (scriptIn (now (a .text)) (now (a .rows)) count) 0) (k .loop .few) ∙ ap (λ h. turn h (tallyOf heads (now (a .counts)))) (k .loop .place) in
-        record {
-          acts = rw (c .on .ensures, c .before .partner-at3 .ensures)
-              (acts-as refl (sym (k .step (a .prices) picks _)) (test-passed (a .prices) _ _ _ _ _ _ _ _ (c .before .before .before .before .before .before .before .before .before .before .before .before .if1 .left) (tried-number _ _ _ _ true (number (c .before .before .before .before .before .before .before .before .before .before)) (z .ensures) y) t));
-          long = b .long;
-        }
+    let k = at-test q in
+    let heads = loopRows 0 (scriptIn (now (a .text)) (now (a .rows)) count) in
+    let t = b .same heads (heads-rise (scriptIn (now (a .text)) (now (a .rows)) count) 0) (k .loop .few) ∙ ap (λ h. turn h (tallyOf heads (now (a .counts)))) (k .loop .place) in
+    record {
+      acts = rw (c .on .ensures, c .before .partner-at3 .ensures)
+          (acts-as refl (sym (k .step (a .prices) picks _)) (test-passed (a .prices) _ _ _ _ _ _ _ _ (c .before .before .before .before .before .before .before .before .before .before .before .before .if1 .left) (tried-number _ _ _ _ true (number (c .before .before .before .before .before .before .before .before .before .before)) (z .ensures) y) t));
+      long = b .long;
+    }
 
 returns-4 : tie.Need-returns-4
 unfolding choose
@@ -95,11 +95,11 @@ returns-4 c =
     let z = c .before .before .before .before .before .before .before .limit-of in
     let y = sym (c .before .if3 .left) ∙ told (c .before .before) in
     λ count picks q.
-        let k = at-test q in
-        record {
-          acts = rw (c .on2 .ensures) (acts-as refl (sym (k .step (a .prices) picks _)) (test-failed (a .prices) _ _ _ _ _ _ _ (c .before .before .before .before .before .before .before .before .if1 .left) (tried-number _ _ _ _ false (number (c .before .before .before .before .before .before)) (z .ensures) y)));
-          long = q .room .long;
-        }
+    let k = at-test q in
+    record {
+      acts = rw (c .on2 .ensures) (acts-as refl (sym (k .step (a .prices) picks _)) (test-failed (a .prices) _ _ _ _ _ _ _ (c .before .before .before .before .before .before .before .before .if1 .left) (tried-number _ _ _ _ false (number (c .before .before .before .before .before .before)) (z .ensures) y)));
+      long = q .room .long;
+    }
 
 pub test-row-spec : {M : Type 1} → statement M
 test-row-spec =
