@@ -90,15 +90,16 @@ module _ {text t : List ℕ} {count vars : ℕ} (s : Runs text t count vars) whe
   pub row-is : (i : ℕ) → i < count → (k : Kind) → kindIn (numbersAt t i) ≡ k → RowIs text t count vars i k
   row-is i h k q =
       let l : i < length script = subst (λ n. i < n) (sym size-is) h in
-      let e = kind-of text count (rowsOf t) i h ∙ ap (kindOf text) (kind-in t i ∙ q) in
+      let small : 4 * i + 3 < length t = omega (arith, s .size, s .table .size) in
+      let e = kind-of text count (rowsOf t) i h ∙ ap (kindOf text) (kind-in t i small ∙ q) in
       record {
         inside = l;
         small = omega (arith, s .size);
-        size = omega (arith, s .size, s .table .size);
+        size = small;
         view = ap viewOf e;
         limits = subst RowLimits e (all-get script (s .runs .limits) i l Blocks.End);
         below = subst (RowBelow vars) e (all-get script (s .runs .below) i l Blocks.End);
-        written = subst (Written text) (kind-in t i ∙ q) (s .written i h);
+        written = subst (Written text) (kind-in t i small ∙ q) (s .written i h);
         test = subst (λ z. TestOf z (numbersAt t i)) q (s .table .tests i h);
       }
 
