@@ -47,13 +47,7 @@ fn explain_rows(
 }
 
 // Prints a script that has been read.
-fn explain_script(
-    file: &[u8],
-    rows: &[u32],
-    script: Loaded,
-    ranges: [[i32; 2]; 16],
-    prices: &[u32],
-)
+fn explain_script(file: &[u8], rows: &[u32], script: Loaded, ranges: [[i32; 2]; 16], prices: &[u32])
     requires { ⌜ Given (now file) (now rows) script ranges × Priced (now prices) ⌝ }
 {
     let by_kind = prices_of(prices);

@@ -117,7 +117,14 @@ pub fn run(
 {
     let lent = ask_lent(prices, scratch.len());
     match lent {
-        Verdict::Passed => run_file(file, prices, &mut scratch[..SCRATCH], store, picks, allowance),
+        Verdict::Passed => run_file(
+            file,
+            prices,
+            &mut scratch[..SCRATCH],
+            store,
+            picks,
+            allowance,
+        ),
         Verdict::Refused(q, p) => calls::refusal(q, p),
     }
 }

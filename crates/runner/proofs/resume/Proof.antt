@@ -1,63 +1,84 @@
-use borrow.Author.Needs.{needs}
+-- `runner::resume` meets its contract. The invariant: the machine's place is reached by steps from the first one. The measure: its rank. Assumes nothing.
+use mathlib.Core.Path.{_≡_, sym, _∙_}
+use mathlib.Core.Logic.{⊎-elim}
+use Prim.Native.Nat.{_<_}
 use native.Mathlib.Omega.{arith}
+use denote.Ref.{now}
+use lib.ListN.{length}
+use borrow.Author.Needs.{needs}
+use borrow.Author.Tests.{not-true, not-false}
+use Rattle.rules_machine.specs.RowMachine.{rank}
+use Rattle.run_machine.specs.Steps.{scriptIn, Stepped}
+use Rattle.runner.specs.Runs.{placeIn, MayGo}
+use Rattle.runner.proofs.Loop.{Reached, reached-start, at-row, at-test, goes-on, is-over, past-end}
 use Rattle.runner.proofs.resume.Statement.{statement}
 use Rattle.runner.proofs.resume.Tie as tie
-use Rattle.runner.proofs.resume.Reads as reads
-use Rattle.runner.proofs.resume.Lts as lts
-use Rattle.run_actions.proofs.ended.Reads as ended-reads
-use Rattle.run_actions.proofs.going.Reads as going-reads
-use Rattle.run_machine.proofs.act.Reads as act-reads
-use Rattle.run_machine.proofs.test_row.Reads as test-row-reads
 
 abbrev Inv-loop : tie.InvT-loop
-Inv-loop text rows count prices store₀ picks counts₀ m₀ store counts m = ?
+Inv-loop text rows count prices store₀ picks counts₀ m₀ store counts m =
+    (ready : MayGo text prices rows count m₀ store₀ picks counts₀) × Reached prices rows count picks m₀ store₀ counts₀ ready m store counts
 
 abbrev μ-loop : tie.MeasureT-loop
-μ-loop text rows count prices store₀ picks counts₀ m₀ store counts m = ?
+μ-loop text rows count prices store₀ picks counts₀ m₀ store counts m = rank (length (scriptIn text rows count)) (placeIn (scriptIn text rows count) m store picks counts)
 
--- src/lib.rt:27:5
 loop-holds : tie.Need-loop-holds Inv-loop μ-loop
-loop-holds c = search needs
+loop-holds c = let p = c .before .before .before .pre in (p, reached-start _ _ _ _ _ _ _ p)
 
--- src/lib.rt:29:13
 test-row-requires : tie.Need-test-row-requires Inv-loop μ-loop
-test-row-requires c κs = search needs
+test-row-requires c κs = let l = c .before .before .before .loop in (_, at-test _ _ _ _ _ _ _ (l .inv .0) (l .m) (l .store) (l .counts) (l .inv .1) (c .before .before .if1 .taken))
 
--- src/lib.rt:32:17
-ended-requires : tie.Need-ended-requires Inv-loop μ-loop
-ended-requires c κs = search needs
-
--- src/lib.rt:32:17
-same-length : tie.Need-same-length Inv-loop μ-loop
-same-length c = search needs
-
--- src/lib.rt:32:17
 returns : tie.Need-returns Inv-loop μ-loop
-returns c = search needs
+returns c =
+    let l = c .before .before .before .before .loop in
+    rw (c .ended .ensures) (past-end _ _ _ _ _ _ _ (l .inv .0) (l .m) (l .store) (l .counts) (l .inv .1) (c .before .if2 .taken))
 
--- src/lib.rt:34:13
 act-requires : tie.Need-act-requires Inv-loop μ-loop
-act-requires c κs = search needs
+act-requires c κs =
+    let l = c .before .before .before .before .before .loop in
+    (_, at-row _ _ _ _ _ _ _ (l .inv .0) (l .m) (l .store) (l .counts) (l .inv .1) (c .before .before .before .before .if1 .left) (omega (arith, c .before .before .if2 .left)))
 
--- src/lib.rt:36:13
-going-requires : tie.Need-going-requires Inv-loop μ-loop
-going-requires c κs = search needs
+-- the test or the row is one step
+abbrev Done : tie.Joined1 Inv-loop μ-loop → Type 0
+Done c =
+    let l = c .before .loop in
+    let a = c .before .before .before .before .before .args in
+    Stepped (a .prices) (scriptIn (now (a .text)) (now (a .rows)) (a .count)) (l .m) (c .if1 .m) (l .store) (c .if1 .store) (now (a .picks)) (l .counts) (c .if1 .counts)
+    × (length (c .if1 .store) ≡ length (l .store))
 
--- src/lib.rt:37:13
-same-length-2 : tie.Need-same-length-2 Inv-loop μ-loop
-same-length-2 c = search needs
+done : (c : tie.Joined1 Inv-loop μ-loop) → Done c
+done c =
+    let l = c .before .loop in
+    ⊎-elim {C = Done c}
+    (λ w. rw (w .4, w .5, w .6) (w .3 .ensures _ _ (at-test _ _ _ _ _ _ _ (l .inv .0) (l .m) (l .store) (l .counts) (l .inv .1) (w .0 .taken)), search needs))
+    (λ w. rw (w .7, w .8, w .9) (w .5 .ensures _ (at-row _ _ _ _ _ _ _ (l .inv .0) (l .m) (l .store) (l .counts) (l .inv .1) (w .0 .left) (omega (arith, w .2 .left))), search needs))
+    (c .if1 .came)
 
--- src/lib.rt:37:13
 returns-2 : tie.Need-returns-2 Inv-loop μ-loop
-returns-2 c = search needs
+returns-2 c =
+    let d = c .before .before in
+    let l = d .before .loop in
+    let (x, y) = done d in
+    is-over _ _ _ _ _ _ _ (l .inv .0) (l .m) (l .store) (l .counts) (l .inv .1) (d .if1 .m) (d .if1 .store) (d .if1 .counts) y x (sym (c .before .going .ensures) ∙ not-true _ (c .if3 .taken))
 
--- src/lib.rt:27:5
+-- it goes on from there, with a lower rank
+again : (c : tie.Else3 Inv-loop μ-loop)
+    → let d = c .before .before in
+    let l = d .before .loop in
+    let a = c .before .before .before .before .before .before .before .args in
+    let rows = scriptIn (now (a .text)) (now (a .rows)) (a .count) in
+    Reached (a .prices) (now (a .rows)) (a .count) (now (a .picks)) (a .from) (now (a .store)) (now (a .counts)) (l .inv .0) (d .if1 .m) (d .if1 .store) (d .if1 .counts)
+    × (rank (length rows) (placeIn rows (d .if1 .m) (d .if1 .store) (now (a .picks)) (d .if1 .counts)) < rank (length rows) (placeIn rows (l .m) (l .store) (now (a .picks)) (l .counts)))
+again c =
+    let d = c .before .before in
+    let l = d .before .loop in
+    let (x, y) = done d in
+    goes-on _ _ _ _ _ _ _ (l .inv .0) (l .m) (l .store) (l .counts) (l .inv .1) (d .if1 .m) (d .if1 .store) (d .if1 .counts) y x (sym (c .before .going .ensures) ∙ not-false _ (c .if3 .left))
+
 loop-less : tie.Need-loop-less Inv-loop μ-loop
-loop-less c = search needs
+loop-less c = again c .1
 
--- src/lib.rt:27:5
 loop-again : tie.Need-loop-again Inv-loop μ-loop
-loop-again c = search needs
+loop-again c = (c .before .before .before .loop .inv .0, again c .0)
 
 pub resume-spec : {M : Type 1} → statement M
 resume-spec =
@@ -67,12 +88,12 @@ resume-spec =
     μ-loop
     loop-holds
     test-row-requires
-    ended-requires
-    same-length
+    (λ c κs. search needs)
+    (λ c. c .before .before .before .before .loop .inv .1 .vars)
     returns
     act-requires
-    going-requires
-    same-length-2
+    (λ c κs. search needs)
+    (λ c. done (c .before .before) .1 ∙ c .before .before .before .loop .inv .1 .vars)
     returns-2
     loop-less
     loop-again)
