@@ -4,8 +4,9 @@
  * beside it says (a length of 0 may come with any non-null pointer), `place` to one number, `answer` to DIFTANEW_ANSWER numbers (of frames, to
  * DIFTANEW_FRAMES_ANSWER), and no two of the lent parts overlap. Nothing else is asked.
  *
- * A call needs a scratch of 1,024 numbers and a stack of 32 KB (a report), 40 KB (a run) or 192 KB (frames), no heap, and nothing else; it keeps no state. The
- * scratch is measured and never touched: every number of it keeps its value, also past the first 1,024, where a patch list may lie. */
+ * A call needs a scratch of 1,024 numbers and a stack of 16 KB (a report or a run) or 60 KB (frames), no heap, and nothing else; it keeps no state. A report
+ * and a run write over the first 1,024 numbers of the scratch, whatever these were; every number past them, where a patch list may lie, keeps its value, and so
+ * do all of them if the scratch is refused as too short. */
 #ifndef DIFTANEW_H
 #define DIFTANEW_H
 
@@ -25,9 +26,9 @@ extern "C" {
 /* No report is longer: a buffer of so many bytes holds every one. */
 #define DIFTANEW_REPORT 2089
 /* The bytes of stack that a report, a run and a call of frames need at most. */
-#define DIFTANEW_REPORT_STACK 32768
-#define DIFTANEW_RUN_STACK 40960
-#define DIFTANEW_FRAMES_STACK 196608
+#define DIFTANEW_REPORT_STACK 16384
+#define DIFTANEW_RUN_STACK 16384
+#define DIFTANEW_FRAMES_STACK 61440
 /* The numbers of a run's answer. */
 #define DIFTANEW_ANSWER 53
 /* The scripts that a call of frames takes at most, and the numbers of its answer. */

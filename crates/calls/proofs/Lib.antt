@@ -1,4 +1,5 @@
 -- The laws that belong to no one function.
+pub mod Loaded
 pub mod Tables
 pub mod Judging
 pub mod Stores

@@ -10,13 +10,12 @@ use calls_prices::prices_of;
 use libc::STDIN_FILENO;
 use program_lists::PricesWord;
 use program_parts::print_text;
-use reader::read;
+use reader::Loaded;
+use reader::load;
 use refusal::print_refused;
 use rules::Prices;
-use rules::Row;
 use rules::Verdict;
 use show::print_script;
-use table::pack_rows;
 ghost use lib.ListN.{length};
 ghost use Rattle.rules.specs.Calls.{Priced};
 ghost use Rattle.calls.specs.Held.{Given};
@@ -47,21 +46,12 @@ fn explain_rows(
     print_script(file, vars, rows, count, &figures, found.ticks);
 }
 
-// Prints a script that has been read, from its rows.
-fn explain_script(
-    file: &[u8],
-    rows: [Row; 256],
-    count: usize,
-    ranges: [[i32; 2]; 16],
-    vars: usize,
-    prices: &[u32],
-)
-    requires { ⌜ Given (now file) ranges vars rows count × Priced (now prices) ⌝ }
+// Prints a script that has been read.
+fn explain_script(file: &[u8], rows: &[u32], script: Loaded, ranges: [[i32; 2]; 16], prices: &[u32])
+    requires { ⌜ Given (now file) (now rows) script ranges × Priced (now prices) ⌝ }
 {
-    let mut table: [u32; 1024] = [0; 1024];
-    pack_rows(&mut table, rows, count);
     let by_kind = prices_of(prices);
-    explain_rows(file, &table, count, ranges, vars, by_kind);
+    explain_rows(file, rows, script.count, ranges, script.vars, by_kind);
 }
 
 // Prints a file's script under prices that 16 has passed, or its refusal.
@@ -70,13 +60,11 @@ fn explain_priced(file: &[u8], prices: &[u32])
 {
     let none: [i32; 2] = [0; 2];
     let mut ranges = [none; 16];
-    let l = read(file, &mut ranges);
+    let mut table: [u32; 1024] = [0; 1024];
+    let l = load(file, &mut ranges, &mut table);
     let verdict = l.verdict;
     match verdict {
-        Verdict::Passed => {
-            let rows = l.rows;
-            explain_script(file, rows, l.count, ranges, l.vars, prices);
-        }
+        Verdict::Passed => explain_script(file, &table, l, ranges, prices),
         Verdict::Refused(number, place) => print_refused(file, 0, 0, number, place),
     }
 }

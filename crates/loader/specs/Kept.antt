@@ -2,10 +2,10 @@
 use mathlib.Core.Path.{_≡_}
 use mathlib.Core.Bool.{cond}
 use mathlib.Core.List.{List}
-use Prim.Native.Nat.{ℕ}
+use Prim.Native.Nat.{ℕ, _<_}
 use lib.Dec.{leb}
 use lib.IntN.{ℤ}
-use lib.ListN.{length, take}
+use lib.ListN.{length, take, drop}
 use Rattle.rules.specs.declared.Reply.{Reply}
 use Rattle.rules.specs.declared.Reply.the-variants.{Accepted}
 use Rattle.rules.specs.declared.Verdict.{Verdict}
@@ -68,3 +68,8 @@ pub record KeptCall (prices : List ℕ) (judgement : Judged) (store new : List �
   pub number : verdictNumber (o .verdict) ≡ runNumber (runReply prices judgement store picks allowance)
   pub first : firstBy (o .verdict) (o .ending) ≡ runFirst (runReply prices judgement store picks allowance)
   pub demand3 : Demand3Of prices judgement store picks allowance (o .ending) (o .ticks) (take (o .loops) (o .counts))
+
+-- the lent scratch: every number past the first 1,024 keeps its value, and all of them where 1 refuses
+pub record ScratchKept (old new : List ℕ) : Type 0 where
+  pub past : drop scratchSize new ≡ drop scratchSize old
+  pub refused : length old < scratchSize → new ≡ old

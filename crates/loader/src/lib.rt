@@ -2,7 +2,7 @@
 use calls::Outcome;
 use calls_frames::Frames;
 use calls_prices::ask_prices;
-use reader::read;
+use reader::load;
 use rules::Reply;
 use rules::Verdict;
 ghost use mathlib.Core.Path.{_≡_};
@@ -12,7 +12,7 @@ ghost use Rattle.rules.specs.Report.{longestReport};
 ghost use Rattle.rules.specs.Calls.{pricesOf, Priced, judgedFile, runReply};
 ghost use Rattle.calls.specs.Told.{RanAs};
 ghost use Rattle.calls_lists.specs.Parts.{lentOf};
-ghost use Rattle.loader.specs.Kept.{lentVerdict, judgement, Reported, KeptCall};
+ghost use Rattle.loader.specs.Kept.{lentVerdict, judgement, Reported, KeptCall, ScratchKept};
 ghost use Rattle.loader.specs.Framing.{FramedCall};
 
 // How many numbers the lent scratch has at least: question 1.
@@ -38,27 +38,18 @@ fn ask_lent(prices: &[u32], scratch: usize) -> Verdict
     ask_prices(prices)
 }
 
-// The report of a file under prices that 16 has passed: the questions 2 to 14, 17 and 19.
-fn report_file(file: &[u8], prices: &[u32], buffer: &mut [u8]) -> Reply
-    requires { ⌜ Priced (now prices) ⌝ }
+// The report of a file under prices that 16 has passed, its rows in the lent table: the questions 2 to 14, 17 and 19.
+fn report_file(file: &[u8], prices: &[u32], table: &mut [u32], buffer: &mut [u8]) -> Reply
+    requires { ⌜ Priced (now prices) × (length (now table) ≡ 1_024) ⌝ }
     ensures { λ r. ⌜ Reported (now (prices .entry)) (judgedFile (pricesOf (now (prices .entry))) (fileScript (now (file .entry)))) (now (buffer .entry)) (now (buffer .exit)) r ⌝ }
 {
     let none: [i32; 2] = [0; 2];
     let mut ranges = [none; 16];
-    let l = read(file, &mut ranges);
+    let l = load(file, &mut ranges, table);
     let verdict = l.verdict;
     match verdict {
         Verdict::Passed => {
-            let rows = l.rows;
-            let measured = calls::measure_script(
-                file,
-                rows,
-                l.count,
-                ranges,
-                l.vars,
-                prices,
-                buffer,
-            );
+            let measured = calls::measure_script(file, &table[..], l, ranges, prices, buffer);
             let reply = measured.reply;
             reply
         }
@@ -66,49 +57,53 @@ fn report_file(file: &[u8], prices: &[u32], buffer: &mut [u8]) -> Reply
     }
 }
 
-// The report of a file under four lent prices: the questions 1, 16, 2 to 14, 17 and 19. Accepted, the report is at the front of the buffer, and the answer
-// is its length. Refused, the buffer is untouched. The scratch is measured, and never touched.
+// The report of a file under four lent prices: the questions 1, 16, 2 to 14, 17 and 19. Accepted, the report is at the front of the buffer, and
+// the answer is its length. Refused, the buffer is untouched. The first 1,024 numbers of the scratch are written over; the others keep their values.
 pub fn report(file: &[u8], prices: &[u32], scratch: &mut [u32], buffer: &mut [u8]) -> Reply
     ensures answer { λ r. ⌜ Reported (now (prices .entry)) (judgement (now (prices .entry)) (now (scratch .entry)) (now (file .entry))) (now (buffer .entry)) (now (buffer .exit)) r ⌝ }
-    ensures scratch { λ _. ⌜ now (scratch .exit) ≡ now (scratch .entry) ⌝ }
+    ensures scratch { λ _. ⌜ ScratchKept (now (scratch .entry)) (now (scratch .exit)) ⌝ }
 {
     let lent = ask_lent(prices, scratch.len());
     match lent {
-        Verdict::Passed => report_file(file, prices, buffer),
+        Verdict::Passed => report_file(file, prices, &mut scratch[..SCRATCH], buffer),
         Verdict::Refused(q, p) => Reply::Refused(q, p),
     }
 }
 
-// The run of a file under prices that 16 has passed: the questions 2 to 13, 15, 17 and 19.
-fn run_file(file: &[u8], prices: &[u32], store: &mut [i32], picks: &[u8], allowance: u64) -> Outcome
-    requires { ⌜ Priced (now prices) ⌝ }
+// The run of a file under prices that 16 has passed, its rows in the lent table: the questions 2 to 13, 15, 17 and 19.
+fn run_file(
+    file: &[u8],
+    prices: &[u32],
+    table: &mut [u32],
+    store: &mut [i32],
+    picks: &[u8],
+    allowance: u64,
+) -> Outcome
+    requires { ⌜ Priced (now prices) × (length (now table) ≡ 1_024) ⌝ }
     ensures { λ r. ⌜ RanAs (runReply (now (prices .entry)) (judgedFile (pricesOf (now (prices .entry))) (fileScript (now (file .entry)))) (now (store .entry)) (now (picks .entry)) allowance) (now (store .entry)) (now (store .exit)) r ⌝ }
 {
     let none: [i32; 2] = [0; 2];
     let mut ranges = [none; 16];
-    let l = read(file, &mut ranges);
+    let l = load(file, &mut ranges, table);
     let verdict = l.verdict;
     match verdict {
-        Verdict::Passed => {
-            let rows = l.rows;
-            calls::run_script(
-                file,
-                rows,
-                l.count,
-                ranges,
-                l.vars,
-                prices,
-                store,
-                picks,
-                allowance,
-            )
-        }
+        Verdict::Passed => calls::run_script(
+            file,
+            &table[..],
+            l,
+            ranges,
+            prices,
+            store,
+            picks,
+            allowance,
+        ),
         Verdict::Refused(q, p) => calls::refusal(q, p),
     }
 }
 
-// The run of a file under four lent prices: the questions 1, 16, 2 to 13, 15, 17 and 19. The store is overwritten with the final one; refused, it is untouched.
-// With the ticks of the file's report under the same prices as allowance, the run keeps within that report: demand 3.
+// The run of a file under four lent prices: the questions 1, 16, 2 to 13, 15, 17 and 19. The store is overwritten with the final one; refused, it
+// is untouched. With the ticks of the file's report under the same prices as allowance, the run keeps within that report: demand 3. The first 1,024
+// numbers of the scratch are written over; the others keep their values.
 pub fn run(
     file: &[u8],
     prices: &[u32],
@@ -118,11 +113,18 @@ pub fn run(
     allowance: u64,
 ) -> Outcome
     ensures answer { λ r. ⌜ KeptCall (now (prices .entry)) (judgement (now (prices .entry)) (now (scratch .entry)) (now (file .entry))) (now (store .entry)) (now (store .exit)) (now (picks .entry)) allowance r ⌝ }
-    ensures scratch { λ _. ⌜ now (scratch .exit) ≡ now (scratch .entry) ⌝ }
+    ensures scratch { λ _. ⌜ ScratchKept (now (scratch .entry)) (now (scratch .exit)) ⌝ }
 {
     let lent = ask_lent(prices, scratch.len());
     match lent {
-        Verdict::Passed => run_file(file, prices, store, picks, allowance),
+        Verdict::Passed => run_file(
+            file,
+            prices,
+            &mut scratch[..SCRATCH],
+            store,
+            picks,
+            allowance,
+        ),
         Verdict::Refused(q, p) => calls::refusal(q, p),
     }
 }

@@ -1,2 +1,3 @@
--- A script in a table that may be run, and one step of the machine over it.
+-- A script in a table that may be run, one step of the machine over it, and its rows by their numbers.
+pub mod Rows
 pub mod Steps

@@ -9,12 +9,24 @@ use table::codes;
 use table::partner_at;
 use table::variable_at;
 use values::stored;
+ghost use mathlib.Core.Path.{_≡_};
 ghost use mathlib.Core.List.{List};
-ghost use Prim.Native.Nat.{ℕ};
+ghost use Prim.Native.Nat.{ℕ, _+_, _*_, _<_};
+ghost use lib.ListN.{length};
+ghost use Rattle.rules.specs.Blocks.{exprOf};
+ghost use Rattle.rules.specs.Scripts.{storeOf};
+ghost use Rattle.rules.specs.Values.{value};
+ghost use Rattle.table.specs.Code.{operandIn, limitIn, numbersAt};
+ghost use Rattle.values.specs.Results.{resultIn};
 ghost use Rattle.run_machine.specs.Steps.{scriptIn, AtRow, AtTest, Stepped};
+ghost use Rattle.run_machine.specs.Rows.{rowOf, setOf, moveOf, offOf, Readable, SetRow, MoveRow, StepRow, OffRow, ForRow, LoopRow};
+ghost use Rattle.run_machine.specs.Rows.{HeldAfter, Does, StepDone, ForBegun, DoBegun, WhileBegun};
 
 // The value of an operand by its kind, or PAST.
-fn value_of(kind: u32, x: u32, text: &[u8], store: &[i32]) -> i64 {
+fn value_of(kind: u32, x: u32, text: &[u8], store: &[i32]) -> i64
+    requires { ⌜ Readable (now text) (length (now store)) (operandIn kind x) ⌝ }
+    ensures { λ r. ⌜ resultIn r ≡ value (exprOf (now (text .entry)) (operandIn kind x)) (storeOf (now (store .entry))) ⌝ }
+{
     values::value_of(text, table::operand(kind, x), store)
 }
 
@@ -26,7 +38,10 @@ fn set_row(
     prices: Prices,
     text: &[u8],
     store: &mut [i32],
-) -> Machine {
+) -> Machine
+    requires { ⌜ SetRow kind m (now text) (now rows) (length (now store)) ⌝ }
+    ensures { λ r. ⌜ Does prices m r (now (store .entry)) (now (store .exit)) (setOf (now (text .entry)) kind (rowOf (now (rows .entry)) m)) ⌝ }
+{
     let i = m.row;
     let z = value_of(kind, table::start_at(rows, i), text, store);
     put(
@@ -42,7 +57,10 @@ fn set_row(
 }
 
 // An arithmetic row, of a change of this kind.
-fn move_row(kind: u32, m: Machine, rows: &[u32], prices: Prices, store: &mut [i32]) -> Machine {
+fn move_row(kind: u32, m: Machine, rows: &[u32], prices: Prices, store: &mut [i32]) -> Machine
+    requires { ⌜ MoveRow kind m (now rows) (length (now store)) ⌝ }
+    ensures { λ r. ⌜ Does prices m r (now (store .entry)) (now (store .exit)) (moveOf kind (rowOf (now (rows .entry)) m)) ⌝ }
+{
     let i = m.row;
     let v = variable_at(rows, i);
     let change = table::change(kind, table::number_at(rows, i));
@@ -51,7 +69,10 @@ fn move_row(kind: u32, m: Machine, rows: &[u32], prices: Prices, store: &mut [i3
 }
 
 // A for's step, and on to its test.
-fn step_row(m: Machine, rows: &[u32], prices: Prices, store: &mut [i32]) -> Machine {
+fn step_row(m: Machine, rows: &[u32], prices: Prices, store: &mut [i32]) -> Machine
+    requires { ⌜ StepRow m (now rows) (length (now store)) ⌝ }
+    ensures { λ r. ⌜ StepDone prices m r (now (store .entry)) (now (store .exit)) (rowOf (now (rows .entry)) m) ⌝ }
+{
     let i = m.row;
     let v = variable_at(rows, i);
     let z = values::changed(table::change_at(rows, i), stored(v, store));
@@ -68,7 +89,10 @@ fn step_row(m: Machine, rows: &[u32], prices: Prices, store: &mut [i32]) -> Mach
 }
 
 // What an off's flag holds after it: 0 if the comparison of the watched variable is true.
-fn held(rows: &[u32], i: usize, store: &[i32]) -> i64 {
+fn held(rows: &[u32], i: usize, store: &[i32]) -> i64
+    requires { ⌜ OffRow i (now rows) (length (now store)) ⌝ }
+    ensures { λ r. ⌜ HeldAfter (now (store .entry)) (numbersAt (now (rows .entry)) i) r ⌝ }
+{
     let w = stored(table::watched_at(rows, i), store);
     let k = table::constant(table::limit_value_at(rows, i));
     if run_actions::passes(table::comparison_at(rows, i), w as i64, k as i64) {
@@ -78,7 +102,10 @@ fn held(rows: &[u32], i: usize, store: &[i32]) -> i64 {
 }
 
 // An off.
-fn off_row(m: Machine, rows: &[u32], prices: Prices, store: &mut [i32]) -> Machine {
+fn off_row(m: Machine, rows: &[u32], prices: Prices, store: &mut [i32]) -> Machine
+    requires { ⌜ OffRow (m .row) (now rows) (length (now store)) ⌝ }
+    ensures { λ r. ⌜ Does prices m r (now (store .entry)) (now (store .exit)) (offOf (rowOf (now (rows .entry)) m)) ⌝ }
+{
     let i = m.row;
     let z = held(rows, i, store);
     put(
@@ -102,7 +129,10 @@ fn for_row(
     text: &[u8],
     store: &mut [i32],
     counts: &mut [[u64; 3]; 16],
-) -> Machine {
+) -> Machine
+    requires { ⌜ ForRow kind m (now text) (now rows) (length (now store)) (now counts) ⌝ }
+    ensures { λ r. ⌜ ForBegun prices kind m r (now (text .entry)) (now (rows .entry)) (now (store .entry)) (now (store .exit)) (now (counts .entry)) (now (counts .exit)) ⌝ }
+{
     let i = m.row;
     let e = partner_at(rows, i);
     let z = value_of(kind, table::start_at(rows, i), text, store);
@@ -123,7 +153,10 @@ fn for_row(
 }
 
 // A do, and on to its first row.
-fn do_row(m: Machine, rows: &[u32], counts: &mut [[u64; 3]; 16]) -> Machine {
+fn do_row(m: Machine, rows: &[u32], counts: &mut [[u64; 3]; 16]) -> Machine
+    requires { ⌜ LoopRow m (now rows) (now counts) ⌝ }
+    ensures { λ r. ⌜ DoBegun m r (now (rows .entry)) (now (counts .entry)) (now (counts .exit)) ⌝ }
+{
     let k = table::loop_at(rows, partner_at(rows, m.row));
     run_actions::begin(k, counts);
     run_actions::count_turn(k, counts);
@@ -131,7 +164,10 @@ fn do_row(m: Machine, rows: &[u32], counts: &mut [[u64; 3]; 16]) -> Machine {
 }
 
 // A while or a hold, and on to its test.
-fn while_row(m: Machine, rows: &[u32], counts: &mut [[u64; 3]; 16]) -> Machine {
+fn while_row(m: Machine, rows: &[u32], counts: &mut [[u64; 3]; 16]) -> Machine
+    requires { ⌜ LoopRow m (now rows) (now counts) ⌝ }
+    ensures { λ r. ⌜ WhileBegun m r (now (rows .entry)) (now (counts .entry)) (now (counts .exit)) ⌝ }
+{
     let e = partner_at(rows, m.row);
     run_actions::begin(table::loop_at(rows, e), counts);
     on(m, m.left, e, true)
@@ -147,7 +183,7 @@ pub fn act(
     picks: &[u8],
     counts: &mut [[u64; 3]; 16],
 ) -> Machine
-    requires { ⌜ (count : ℕ) × AtRow (now text) (now rows) count m (now store) (now counts) ⌝ }
+    requires { ⌜ ((count : ℕ) × AtRow (now text) (now rows) count m (now store) (now counts)) ⌝ }
     ensures { λ r. ⌜ ((count : ℕ) → AtRow (now (text .entry)) (now (rows .entry)) count m (now (store .entry)) (now (counts .entry)) → Stepped prices (scriptIn (now (text .entry)) (now (rows .entry)) count) m r (now (store .entry)) (now (store .exit)) (now (picks .entry)) (now (counts .entry)) (now (counts .exit))) ⌝ }
 {
     let i = m.row;
@@ -175,7 +211,10 @@ pub fn act(
 }
 
 // The limit of the loop that ends at row i, or PAST. An expression is told by one bit.
-fn limit_of(rows: &[u32], i: usize, text: &[u8], store: &[i32]) -> i64 {
+fn limit_of(rows: &[u32], i: usize, text: &[u8], store: &[i32]) -> i64
+    requires { ⌜ (4 * i + 3 < length (now rows)) × Readable (now text) (length (now store)) (limitIn (numbersAt (now rows) i)) ⌝ }
+    ensures { λ r. ⌜ resultIn r ≡ value (exprOf (now (text .entry)) (limitIn (numbersAt (now (rows .entry)) i))) (storeOf (now (store .entry))) ⌝ }
+{
     let x = table::limit_value_at(rows, i);
     if table::limit_kind_at(rows, i) == codes::CONSTANT {
         return table::constant(x) as i64;
@@ -195,7 +234,7 @@ pub fn test_row(
     store: &[i32],
     counts: &mut [[u64; 3]; 16],
 ) -> Machine
-    requires { ⌜ (count : ℕ) × AtTest (now text) (now rows) count m (now store) (now counts) ⌝ }
+    requires { ⌜ ((count : ℕ) × AtTest (now text) (now rows) count m (now store) (now counts)) ⌝ }
     ensures { λ r. ⌜ ((count : ℕ) (picks : List ℕ) → AtTest (now (text .entry)) (now (rows .entry)) count m (now (store .entry)) (now (counts .entry)) → Stepped prices (scriptIn (now (text .entry)) (now (rows .entry)) count) m r (now (store .entry)) (now (store .entry)) picks (now (counts .entry)) (now (counts .exit))) ⌝ }
 {
     let i = m.row;

@@ -1,12 +1,14 @@
 // The cue numbers of a script's rows, in row order.
 use rules::Kind;
-use rules::Row;
+use table::kind_at;
 ghost use mathlib.Core.Path.{_≡_};
 ghost use mathlib.Core.List.{List, _++_};
 ghost use Prim.Native.Nat.{ℕ, _+_, _≤_, _<_};
-ghost use lib.ListN.{length, take};
-ghost use Rattle.rules.specs.Blocks.{viewOf, kindOf, kindsOf};
+ghost use lib.ListN.{length};
+ghost use Rattle.rules.specs.Blocks.{viewOf, kindOf};
 ghost use Rattle.rules_season.specs.Season.{cueOf, cuesOf};
+ghost use Rattle.table.specs.Code.{rowsOf};
+ghost use Rattle.table.specs.Paired.{scriptRows};
 ghost use Rattle.report_pieces.specs.Pieces.{Wrote};
 ghost use Rattle.season_cues.specs.Fired.{firedBy};
 
@@ -50,15 +52,14 @@ fn put_cue(kind: Kind, at: usize, out: &mut [u32]) -> usize
 }
 
 // Puts the cue numbers of the first `count` rows at the front, and answers how many there are.
-pub fn put_cues(rows: [Row; 256], count: usize, out: &mut [u32]) -> usize
-    requires { ⌜ (count ≤ 256) × (count ≤ length (now out)) ⌝ }
-    ensures { λ r. ⌜ ((text : List ℕ) → Wrote (cuesOf (take count (kindsOf text rows))) (now (out .entry)) (now (out .exit)) r) × (r ≤ count) ⌝ }
+pub fn put_cues(rows: &[u32], count: usize, out: &mut [u32]) -> usize
+    requires { ⌜ (count ≤ 256) × (count ≤ length (now out)) × (length (now rows) ≡ 1_024) ⌝ }
+    ensures { λ r. ⌜ ((text : List ℕ) → Wrote (cuesOf (scriptRows text (rowsOf (now (rows .entry))) count)) (now (out .entry)) (now (out .exit)) r) × (r ≤ count) ⌝ }
 {
     let mut at: usize = 0;
     let mut j: usize = 0;
     while j < count {
-        let row = rows[j];
-        let kind = row.kind;
+        let kind = kind_at(rows, j);
         at = put_cue(kind, at, out);
         j += 1;
     }

@@ -10,10 +10,8 @@ use lib.Seq.{take-append-seam, take-at, drop-at}
 use borrow.Author.Tests.{le-leb}
 use borrow.Rule.Slice.PartMut.{midOf, putMid}
 use Rattle.rules.specs.declared.Reply.the-variants.{Accepted, Refused}
-use Rattle.rules.specs.declared.Row.{Row}
 use Rattle.rules.specs.declared.Verdict.{Verdict}
 use Rattle.rules.specs.declared.Verdict.the-variants.{Passed}
-use Rattle.rules.specs.Blocks.{kindsOf}
 use Rattle.rules.specs.Figures.{ones}
 use Rattle.rules.specs.Scripts.{Script, reportTicks, scriptOf}
 use Rattle.rules.specs.File.{fileScript}
@@ -22,13 +20,14 @@ use Rattle.rules.specs.Calls.{Judged, accepted, refuses, fourOnes, Priced, pric
 use Rattle.rules_season.specs.Season.{cuesOf, judgedAll, scriptsOf, refusalsOf, met, sumOfTicks, among, firsts, sheetOf}
 use Rattle.rules.proofs.LongestReport.{longest-report}
 use Rattle.rules_season.proofs.GroupsExact.{length-end, scripts-end, scripts-same}
+use Rattle.table.specs.Code.{rowsOf}
+use Rattle.table.specs.Paired.{scriptRows}
 use Rattle.reader.specs.declared.Loaded.{Loaded}
-use Rattle.reader.specs.Read.{ReadAs}
+use Rattle.reader.specs.Read.{LoadedAs}
 use Rattle.calls.specs.declared.Measured.{Measured}
 use Rattle.calls.specs.Told.{judgedTicks, MeasuredAs}
-use Rattle.calls.specs.Held.{judgedScript}
-use Rattle.calls.proofs.Tables.{few-rows}
-use Rattle.calls_scripts.proofs.Loaded.{file-read, file-given}
+use Rattle.calls.specs.Held.{readScript, judgedScript}
+use Rattle.calls.proofs.Loaded.{file-read, file-given}
 use Rattle.loader.proofs.Laws.{lent-yes}
 use Rattle.report_pieces.specs.Pieces.{Wrote}
 use Rattle.report_pieces.proofs.Laws.{wrote-length}
@@ -296,25 +295,24 @@ unfolding judgedBy
 same-script script s Passed e = cc
 same-script script s (Verdict.Refused q p) e = absurd (let z : _≡_ {A = ℕ} 0 1 = cc in omega arith)
 
-module _ (file : List ℕ) (l : Loaded) (rows : List Row) (ranges : List (List ℤ)) (e : ReadAs file (fileScript file) l rows ranges) (z : l .verdict ≡ Passed) where
+module _ (file : List ℕ) (l : Loaded) (ranges : List (List ℤ)) (t : List ℕ) (e : LoadedAs file (fileScript file) l ranges t) (z : l .verdict ≡ Passed) where
   abbrev held : Script
-  held = scriptOf file ranges (l .vars) rows (l .count)
+  held = readScript file t l ranges
 
   judged-is : judged fourOnes 1_024 file ≡ judgedScript fourOnes held
-  judged-is = lent-yes fourOnes 1_024 ones-priced file ∙ file-read fourOnes file l rows ranges e z
+  judged-is = lent-yes fourOnes 1_024 ones-priced file ∙ file-read fourOnes file l ranges t e z
 
-  pub rows-few : l .count ≤ 256
-  rows-few = few-rows _ _ _ _ _ (file-given fourOnes file l rows ranges e z)
-
-  pub found-read : {old new cues cues' : List ℕ} {m : Measured} {n : ℕ} → MeasuredAs fourOnes (judgedScript fourOnes held) old new m → Wrote (cuesOf (take (l .count) (kindsOf file rows))) cues cues' n → n ≤ l .count → 256 ≤ length cues
+  pub found-read : {old new cues cues' : List ℕ} {m : Measured} {n : ℕ} → MeasuredAs fourOnes (judgedScript fourOnes held) old new m → Wrote (cuesOf (scriptRows file (rowsOf t) (l .count))) cues cues' n → n ≤ l .count → 256 ≤ length cues
       → FoundAs (judged fourOnes 1_024 file) old new cues cues' (record { reply = m .reply; ticks = m .ticks; cues = n })
   unfolding scriptOf
-  found-read {cues = cues} {cues'} {n = n} h w f r = record {
-    measured = measured-same judged-is h;
-    fires = λ s g. subst (λ x. Wrote (cuesOf (x .rows)) cues cues' n) (same-script held s _ (sym judged-is ∙ g)) w;
-    few = omega (arith, rows-few);
-    same = wrote-length _ _ _ _ (omega (arith, w .count, rows-few)) w;
-  }
+  found-read {cues = cues} {cues'} {n = n} h w f r =
+      let few = file-given fourOnes file l ranges t e z .size in
+      record {
+        measured = measured-same judged-is h;
+        fires = λ s g. subst (λ x. Wrote (cuesOf (x .rows)) cues cues' n) (same-script held s _ (sym judged-is ∙ g)) w;
+        few = omega arith;
+        same = wrote-length _ _ _ _ (omega (arith, w .count)) w;
+      }
 
 pub found-no : {j : Judged} {old cues : List ℕ} {q p : ℕ} → j ≡ refuses q p → FoundAs j old old cues cues (record { reply = Refused q p; ticks = 0; cues = 0 })
 found-no e = record {

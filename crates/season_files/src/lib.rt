@@ -1,6 +1,6 @@
 // A season's files, one after the other: each is read, judged under four ones and counted on the sheet.
 use calls::measure_script;
-use reader::read;
+use reader::load;
 use rules::Reply;
 use rules::Verdict;
 use season_cues::put_cues;
@@ -36,14 +36,14 @@ fn measure(file: &[u8], rest: &mut [u8], cues: &mut [u32]) -> FileFigures
 {
     let none: [i32; 2] = [0; 2];
     let mut ranges = [none; 16];
-    let l = read(file, &mut ranges);
+    let mut table: [u32; 1024] = [0; 1024];
+    let l = load(file, &mut ranges, &mut table);
     let verdict = l.verdict;
     match verdict {
         Verdict::Passed => {
-            let rows = l.rows;
             let ones = [1u32; 4];
-            let fired = put_cues(rows, l.count, cues);
-            let measured = measure_script(file, rows, l.count, ranges, l.vars, &ones, rest);
+            let fired = put_cues(&table, l.count, cues);
+            let measured = measure_script(file, &table, l, ranges, &ones, rest);
             let reply = measured.reply;
             FileFigures {
                 reply: reply,

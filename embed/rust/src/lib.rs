@@ -1,8 +1,8 @@
 //! Safe Rust calls over the proved loader of effect scripts.
 //!
-//! A call of the library needs a scratch of 1,024 numbers and a stack of 32 KB (a report), 40 KB (a run) or 192 KB (frames), no heap, and nothing else. The
-//! scratch is measured and never touched: every number of it keeps its value, also past the first 1,024, where a patch list may lie. Only
-//! this crate's [`run`] and [`frames`] take heap, for lists of loops and of what is lent; [`numbers::run`] and [`numbers::frames`] take none.
+//! A call of the library needs a scratch of 1,024 numbers and a stack of 16 KB (a report or a run) or 60 KB (frames), no heap, and nothing else. A report and
+//! a run write over the first 1,024 numbers of the scratch, whatever these were; every number past them, where a patch list may lie, keeps its value, and so
+//! do all of them if the scratch is refused as too short. Only this crate's [`run`] and [`frames`] take heap, for lists of loops and of what is lent; [`numbers::run`] and [`numbers::frames`] take none.
 
 pub mod numbers;
 
@@ -22,13 +22,13 @@ pub const ONES: [u32; 4] = [1; 4];
 pub const REPORT: usize = 2_089;
 
 /// The bytes of stack that a report needs at most.
-pub const REPORT_STACK: usize = 32 * 1_024;
+pub const REPORT_STACK: usize = 16 * 1_024;
 
 /// The bytes of stack that a run needs at most.
-pub const RUN_STACK: usize = 40 * 1_024;
+pub const RUN_STACK: usize = 16 * 1_024;
 
 /// The bytes of stack that a call of frames needs at most.
-pub const FRAMES_STACK: usize = 192 * 1_024;
+pub const FRAMES_STACK: usize = 60 * 1_024;
 
 /// The scripts that a call of frames takes at most.
 pub const SCRIPTS: usize = 8;

@@ -30,13 +30,13 @@ fn measured(scratch_len: usize) -> usize {
     }
 }
 
-/// What a call does to a scratch that it should only measure.
+/// What a call does to numbers of the scratch that it should leave.
 fn scribble(scratch: &mut [u32], run: bool) {
-    // 24: the first number past the 1,024 is changed.  25: a run works in the first ones.
+    // 24: the first number past the 1,024 is changed.  25: a run works in a scratch that is too short.
     if wrong(24) && scratch.len() > 1_024 {
         scratch[1_024] ^= 1;
     }
-    if wrong(25) && run && scratch.len() >= 1_024 {
+    if wrong(25) && run && (1..1_024).contains(&scratch.len()) {
         scratch[0] ^= 1;
     }
 }

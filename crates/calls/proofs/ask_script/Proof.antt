@@ -10,38 +10,38 @@ use borrow.Author.Needs.{needs}
 use Rattle.calls.proofs.ask_script.Statement.{statement}
 use Rattle.calls.proofs.ask_script.Tie as tie
 
--- the script that is held
+-- the script that is read
 abbrev script : tie.Start → Script
-script s = readScript (s .args .text .now) (s .args .rows .now) (s .args .script) (s .args .ranges)
+script s = readScript (s .args .text .now) (s .args .rows .now) (s .args .script) (s .args .t4)
 
 -- the ranges are a whole array
-full-ranges : (s : tie.Start) → length (s .args .ranges) ≡ 16
+full-ranges : (s : tie.Start) → length (s .args .t4) ≡ 16
 full-ranges s = search needs
 
 prices-of-requires : tie.Need-prices-of-requires
-prices-of-requires c κs = four _ (c .before .before .pre .1)
+prices-of-requires c κs = four _ (c .before .before .before .pre .1)
 
 figures-of-requires : tie.Need-figures-of-requires
-figures-of-requires c κs = let s = c .before .before .before in (s .pre .0, fine (s .args .prices .now) (s .pre .1) (c .prices-of .ensures))
+figures-of-requires c κs = let s = c .before .before .before .before in (s .pre .0, fine (s .args .prices .now) (s .pre .1) (c .prices-of .ensures))
 
 -- what the analysis found of it
-found : (c : tie.After-figures-of) → let s = c .before .before .before .before in FiguresFound (s .args .prices .now) (script s) (s .args .script .count) (c .figures-of .result) (c .figures-of .ensures .0)
-found c = let s = c .before .before .before .before in found-by _ _ _ _ (s .pre .0) (s .args .prices .now) (c .before .prices-of .ensures) (c .figures-of .result) _ (c .figures-of .ensures .1)
+found : (c : tie.After-figures-of) → let s = c .before .before .before .before .before in FiguresFound (s .args .prices .now) (script s) (s .args .script .count) (c .figures-of .result) (c .figures-of .ensures .0)
+found c = let s = c .before .before .before .before .before in found-by _ _ _ _ (s .pre .0) (s .args .prices .now) (c .before .prices-of .ensures) (c .figures-of .result) _ (c .figures-of .ensures .1)
 
 returns : tie.Need-returns
 returns c =
-    let s = c .before .before .before .before .before .before in
+    let s = c .before .before .before .before .before .before .before in
     let f = c .before .before .figures-of in
     let h : f .result .number ≡ 0 → ⊥ = search needs in
     ap (λ j. admitted j (s .args .store .now)) (sym (judged-no (s .args .prices .now) (script s) (s .args .script .count) (f .result) _ (found (c .before .before)) h))
 
 ask-store-requires : tie.Need-ask-store-requires
-ask-store-requires c κs = let s = c .before .before .before .before .before .before .before in (s .pre .0 .few, full-ranges s)
+ask-store-requires c κs = let s = c .before .before .before .before .before .before .before .before in (s .pre .0 .few, full-ranges s)
 
 returns-2 : tie.Need-returns-2
 unfolding scriptOf
 returns-2 c =
-    let s = c .before .before .before .before .before .before .before .before in
+    let s = c .before .before .before .before .before .before .before .before .before in
     let f = c .before .before .before .before .figures-of in
     let z : f .result .number ≡ 0 = omega (arith, c .before .before .if1 .left) in
     c .ask-store .ensures ∙ ap (λ j. admitted j (s .args .store .now)) (sym (judged-yes (s .args .prices .now) (script s) (s .args .script .count) (f .result) _ (found (c .before .before .before .before)) z))

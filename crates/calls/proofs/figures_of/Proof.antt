@@ -11,4 +11,4 @@ returns : tie.Need-returns
 returns c = (_, c .analyse .ensures)
 
 pub figures-of-spec : {M : Type 1} → statement M
-figures-of-spec = tie.close (tie.spec (λ c. search needs) analyse-requires returns)
+figures-of-spec = tie.close (tie.spec analyse-requires returns)

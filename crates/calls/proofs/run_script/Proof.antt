@@ -20,10 +20,10 @@ use Rattle.calls.proofs.run_script.Tie as tie
 
 -- the script that is held
 abbrev script : tie.Start → Script
-script s = readScript (s .args .text .now) (s .args .rows .now) (s .args .script) (s .args .ranges)
+script s = readScript (s .args .text .now) (s .args .rows .now) (s .args .script) (s .args .t4)
 
 -- the ranges are a whole array
-full-ranges : (s : tie.Start) → length (s .args .ranges) ≡ 16
+full-ranges : (s : tie.Start) → length (s .args .t4) ≡ 16
 full-ranges s = search needs
 
 prices-of-requires : tie.Need-prices-of-requires

@@ -1,50 +1,89 @@
 -- `run_machine::for_row` meets its contract. Assumes nothing.
-use mathlib.Core.Path.{sym, _∙_, ap}
-use mathlib.Core.Bool.{true, false}
-use Rattle.rules.specs.Blocks.{from, assign, test, exprOf}
-use Rattle.rules_machine.specs.RowMachine.{begin}
-use Rattle.run_actions.specs.States.{phaseOf, plainTo, forTo, forRest}
-use Rattle.run_machine.proofs.Laws.{after, by-flag, in-phase, for-tests, for-stops, tests-later}
+use mathlib.Core.Path.{_≡_, refl, sym, _∙_, ap, subst}
+use mathlib.Core.Bool.{true}
 use denote.Ref.{now}
-use borrow.Author.Needs.{needs}
+use mir.Facts.{toZ-ofZ}
+use mir.Val.{SFits}
+use mir.Syntax.{w64}
+use borrow.Author.Needs.{needs, sfits-of}
+use lib.ListN.{length, getD}
+use Rattle.rules.specs.Blocks.{from, exprOf}
+use Rattle.rules.specs.Run.{result, exec}
+use Rattle.rules.specs.Scripts.{storeOf}
+use Rattle.rules.specs.Values.{value}
+use Rattle.rules_machine.specs.RowMachine.{begin}
+use Rattle.values.specs.Results.{resultIn}
+use Rattle.table.specs.Code.{operandIn, number, partnerIn, numbersAt}
+use Rattle.run_actions.specs.States.{tallyOf, RoomAt, stateOf}
+use Rattle.run_machine.specs.Rows.{rowOf, loopOf, setOf, Readable}
+use Rattle.run_machine.proofs.Laws.{acts-as, write-in, put-plain, for-begins, for-stops}
 use Rattle.run_machine.proofs.for_row.Statement.{statement}
 use Rattle.run_machine.proofs.for_row.Tie as tie
 
-test-row-requires-2 : tie.Need-test-row-requires-2
-test-row-requires-2 c κs = tests-later (search needs) (c .before .before .before .before .before .before .before .begin .ensures .room) (c .before .before .before .before .before .before .before .before .before .before .before .pre .0)
+value-of-requires : tie.Need-value-of-requires
+value-of-requires c κs =
+    let s = c .before .before .before .before .before in
+    subst (λ x. Readable (now (s .args .text)) (length (now (s .args .store))) (operandIn (s .args .kind) x)) (sym (c .before .start-at .ensures)) (s .pre .start .operand)
+
+put-requires : tie.Need-put-requires
+put-requires c κs = let s = c .before .before .before .before .before .before .before .before in rw (c .before .variable-at .ensures) (s .pre .start .row .variable)
+
+loop-at-requires : tie.Need-loop-at-requires
+loop-at-requires c κs = let s = c .before .before .before .before .before .before .before .before .before .before .before .before in rw (c .before .before .before .before .before .before .before .before .before .partner-at .ensures) (s .pre .loop .end)
+
+-- the loop's number
+known : (c : tie.After-loop-at) → let a = c .before .before .before .before .before .before .before .before .before .before .before .before .before .args in c .loop-at .result ≡ loopOf (now (a .rows)) (a .m)
+known c = let a = c .before .before .before .before .before .before .before .before .before .before .before .before .before .args in c .loop-at .ensures ∙ ap (λ e. number (numbersAt (now (a .rows)) e) 1) (c .before .before .before .before .before .before .before .before .before .before .partner-at .ensures)
+
+begin-requires : tie.Need-begin-requires
+begin-requires c κs = let s = c .before .before .before .before .before .before .before .before .before .before .before .before .before .before in subst (λ k. RoomAt k (s .args .counts .now)) (sym (known (c .before))) (s .pre .loop .room)
 
 returns : tie.Need-returns
+unfolding result
 returns c =
-    let a = c .before .before .before .before .before .args in
-    (by-flag (a .m .testing) (forTo (a .prices) (a .m .row) (a .e) (a .v) (exprOf (now (a .text)) (a .y)) (a .c) (exprOf (now (a .text)) (a .x))) (forRest (a .prices) (a .m .row) (a .v) (exprOf (now (a .text)) (a .y))) true (c .before .before .before .if1 .taken) (in-phase (λ u. ap phaseOf (c .before .before .before .if1 .taken)) (c .test-row .ensures .0)), search needs)
+    let a = c .before .before .before .before .before .before .before .before .before .before .before .before .before .before .before .args in
+    let z = c .before .before .before .before .before .before .before .before .before .value-of in
+    let f : SFits w64 (z .result) = sfits-of (z .ok) in
+    let e = rowOf (now (a .rows)) (a .m) in
+    let x = operandIn (a .kind) (number e 1) in
+    let y = z .ensures ∙ ap (λ n. value (exprOf (now (a .text)) (operandIn (a .kind) n)) (storeOf (now (a .store)))) (c .before .before .before .before .before .before .before .before .before .before .before .start-at .ensures) in
+    let b = rw (known (c .before .before)) at (c .begin .ensures) in
+    record {
+      long = b .long;
+      acts = λ picks heads r l.
+          let o = exec (a .prices) (a .m .row) (setOf (now (a .text)) (a .kind) e) (stateOf (a .m) (now (a .store)) picks) in
+          acts-as (sym (b .same heads r l)) refl
+          (for-begins _ _ _ _ _ _ (partnerIn e) o (sym (c .before .before .before .before .going .ensures) ∙ c .before .before .before .if1 .taken) (put-plain (a .prices) (now (a .store)) true refl (c .before .before .before .before .before .before .before .before .variable-at .ensures) (c .before .before .before .before .before .before .before .before .before .before .before .before .partner-at .ensures) (from (exprOf (now (a .text)) x)) (z .result) (resultIn (z .result)) (λ i v. write-in i v (z .result)) y (simp (toZ-ofZ f) at (c .before .before .before .before .before .before .put .ensures picks (begin (getD heads (loopOf (now (a .rows)) (a .m)) 0) (tallyOf heads (now (a .counts))))))));
+    }
 
 returns-2 : tie.Need-returns-2
+unfolding result
 returns-2 c =
-    let a = c .before .before .before .before .before .before .before .before .before .before .before .before .args in (
-      by-flag (a .m .testing) (forTo (a .prices) (a .m .row) (a .e) (a .v) (exprOf (now (a .text)) (a .y)) (a .c) (exprOf (now (a .text)) (a .x))) (forRest (a .prices) (a .m .row) (a .v) (exprOf (now (a .text)) (a .y))) false (c .before .before .before .before .before .before .before .before .before .before .if1 .left)
-          (for-tests (a .prices) (a .m .row) (a .e) (test (a .v) (a .c) (exprOf (now (a .text)) (a .x))) (a .m .row) (assign (a .v) (from (exprOf (now (a .text)) (a .y)))) (begin (a .m .row)) (c .before .before .before .before .before .before .before .before .before .before .if1 .left) (after (plainTo (a .prices) (a .m .row) (assign (a .v) (from (exprOf (now (a .text)) (a .y)))) (a .m .row) true) (begin (a .m .row)) (c .before .before .before .before .before .before .before .before .begin .ensures .same) (c .before .before .before .before .before .before .set-row .ensures _))
-          (sym (c .before .before .before .before .waits .ensures) ∙ c .before .before .before .if2 .taken) (c .test-row2 .ensures .0)),
-      search needs,
-    )
-
-returns-3 : tie.Need-returns-3
-returns-3 c =
-    let a = c .before .before .before .before .before .before .before .before .before .args in (
-      by-flag (a .m .testing) (forTo (a .prices) (a .m .row) (a .e) (a .v) (exprOf (now (a .text)) (a .y)) (a .c) (exprOf (now (a .text)) (a .x))) (forRest (a .prices) (a .m .row) (a .v) (exprOf (now (a .text)) (a .y))) false (c .before .before .before .before .before .before .before .if1 .left)
-          (for-stops (a .prices) (a .m .row) (a .e) (test (a .v) (a .c) (exprOf (now (a .text)) (a .x))) (a .m .row) (assign (a .v) (from (exprOf (now (a .text)) (a .y)))) (begin (a .m .row)) (c .before .before .before .before .before .before .before .if1 .left) (after (plainTo (a .prices) (a .m .row) (assign (a .v) (from (exprOf (now (a .text)) (a .y)))) (a .m .row) true) (begin (a .m .row)) (c .before .before .before .before .before .begin .ensures .same) (c .before .before .before .set-row .ensures _))
-          (sym (c .before .waits .ensures) ∙ c .if2 .left)),
-      search needs,
-    )
+    let a = c .before .before .before .before .before .before .before .before .before .before .before .before .args in
+    let z = c .before .before .before .before .before .before .value-of in
+    let f : SFits w64 (z .result) = sfits-of (z .ok) in
+    let e = rowOf (now (a .rows)) (a .m) in
+    let x = operandIn (a .kind) (number e 1) in
+    let y = z .ensures ∙ ap (λ n. value (exprOf (now (a .text)) (operandIn (a .kind) n)) (storeOf (now (a .store)))) (c .before .before .before .before .before .before .before .before .start-at .ensures) in
+    record {
+      long = c .before .before .before .before .before .before .before .before .before .before .before .before .pre .loop .room .long;
+      acts = λ picks heads r l.
+          let o = exec (a .prices) (a .m .row) (setOf (now (a .text)) (a .kind) e) (stateOf (a .m) (now (a .store)) picks) in
+          for-stops _ _ _ _ _ _ (partnerIn e) o (sym (c .before .going .ensures) ∙ c .if1 .left) (put-plain (a .prices) (now (a .store)) true refl (c .before .before .before .before .before .variable-at .ensures) (c .before .before .before .before .before .before .before .before .before .partner-at .ensures) (from (exprOf (now (a .text)) x)) (z .result) (resultIn (z .result)) (λ i v. write-in i v (z .result)) y (simp (toZ-ofZ f) at (c .before .before .before .put .ensures picks (tallyOf heads (now (a .counts))))));
+    }
 
 pub for-row-spec : {M : Type 1} → statement M
 for-row-spec =
     tie.close
     (tie.spec
-    (λ c κs. search needs) (λ c. search needs)
+    (λ c κs. search needs) (λ c κs. search needs)
+    value-of-requires
+    (λ c κs. search needs)
+    put-requires
+    (λ c κs. search needs)
+    loop-at-requires
+    begin-requires
+    (λ c. search needs)
     returns
-    (λ c κs. search needs) (λ c κs. search needs) (λ c κs. search needs)
-    test-row-requires-2
     (λ c. search needs)
-    returns-2
-    (λ c. search needs)
-    returns-3)
+    returns-2)

@@ -1,118 +1,84 @@
--- `runner::resume` meets its contract. The invariant: the state is reached by steps from the first one. The measure: the weight of the state. Assumes nothing.
-use Rattle.runner.proofs.Loop.{Runs, weight, runs-start, doable, fitting, head-in, runs-step, runs-past, runs-over}
-use Rattle.run_actions.specs.States.{nextOf}
-use Rattle.runner.specs.Runs.{MayStep}
-use Rattle.rules_machine.specs.RowMachine.{tallyOf}
-use Rattle.rules.specs.Blocks.{kindsOf}
-use mir.Val.{Fits}
-use mir.Syntax.{w8}
-use lib.ListN.{length, getD, take}
-use Prim.Native.Nat.{ℕ, _<_}
+-- `runner::resume` meets its contract. The invariant: the machine's place is reached by steps from the first one. The measure: its rank. Assumes nothing.
 use mathlib.Core.Path.{_≡_, sym, _∙_}
-use denote.Ref.{now}
-use borrow.Author.Needs.{needs}
+use mathlib.Core.Logic.{⊎-elim}
+use Prim.Native.Nat.{_<_}
 use native.Mathlib.Omega.{arith}
+use denote.Ref.{now}
+use lib.ListN.{length}
+use borrow.Author.Needs.{needs}
+use borrow.Author.Tests.{not-true, not-false}
+use Rattle.rules_machine.specs.RowMachine.{rank}
+use Rattle.run_machine.specs.Steps.{scriptIn, Stepped}
+use Rattle.runner.specs.Runs.{placeIn, MayGo}
+use Rattle.runner.proofs.Loop.{Reached, reached-start, at-row, at-test, goes-on, is-over, past-end}
 use Rattle.runner.proofs.resume.Statement.{statement}
 use Rattle.runner.proofs.resume.Tie as tie
 
 abbrev Inv-loop : tie.InvT-loop
-Inv-loop text count prices store₀ picks counts₀ rows tables m₀ store counts m = Runs text prices rows count tables picks m₀ store₀ counts₀ m store counts
+Inv-loop text rows count prices store₀ picks counts₀ m₀ store counts m =
+    (ready : MayGo text prices rows count m₀ store₀ picks counts₀) × Reached prices rows count picks m₀ store₀ counts₀ ready m store counts
 
 abbrev μ-loop : tie.MeasureT-loop
-μ-loop text count prices store₀ picks counts₀ rows tables m₀ store counts m = weight (length (take count (kindsOf text rows))) (nextOf m store picks (tallyOf counts))
-
--- the rows and the tables are whole arrays
-full-rows : (s : tie.Start Inv-loop μ-loop) → length (s .args .t2) ≡ 256
-full-rows s = search needs
-
-matching-end-fits : (s : tie.Start Inv-loop μ-loop) (i : ℕ) → Fits w8 (getD (s .args .t4 .end) i 0)
-matching-end-fits s i = search needs
-
-matching-head-fits : (s : tie.Start Inv-loop μ-loop) (i : ℕ) → Fits w8 (getD (s .args .t4 .head) i 0)
-matching-head-fits s i = search needs
-
--- the loop begins at the state that is given
-same-start : (o : tie.After-on Inv-loop μ-loop) → o .on .result ≡ o .before .before .before .args .from
-same-start o = o .on .ensures ∙ o .before .before .before .pre .1
-
-begun : (o : tie.After-on Inv-loop μ-loop)
-    → let a = o .before .before .before .args in
-    MayStep (now (a .text)) (a .prices) (a .t2) (a .count) (a .t4) (o .on .result) (a .store .now) (a .picks .now) (a .counts .now)
-begun o = rw (same-start o) (o .before .before .before .pre .0)
-
--- one turn: a row's step
-turned : (c : tie.After-store Inv-loop μ-loop)
-    → let a = c .before .before .before .before .before .before .before .before .before .before .before .before .before .before .before .args in
-    let o = c .before .before .before .before .before .before .before .before .before .before .before .before in
-    let l = c .before .before .before .before .before .before .before .before .before .before .before .loop in
-    let z = c .before .step in
-    let store = z .last .1 .1 .1 .1 .1 .1 .1 .0 in
-    let counts = z .last .1 .1 .1 .1 .1 .1 .1 .1 .1 .0 in
-    Runs (now (a .text)) (a .prices) (a .t2) (a .count) (a .t4) (a .picks .now) (o .on .result) (a .store .now) (a .counts .now) (z .result) store counts
-    × (weight (length (take (a .count) (kindsOf (now (a .text)) (a .t2)))) (nextOf (z .result) store (a .picks .now) (tallyOf counts)) < weight (length (take (a .count) (kindsOf (now (a .text)) (a .t2)))) (nextOf (l .m) (l .store) (a .picks .now) (tallyOf (l .counts))))
-turned c =
-    let s = c .before .before .before .before .before .before .before .before .before .before .before .before .before .before .before in let o = c .before .before .before .before .before .before .before .before .before .before .before .before in
-    let a = s .args in
-    let l = c .before .before .before .before .before .before .before .before .before .before .before .loop in
-    let z = c .before .step in
-    let go = sym (c .before .before .before .before .before .before .before .before .before .before .going .ensures) ∙ c .before .before .before .before .before .before .before .before .before .if1 .taken in
-    let i = c .before .before .before .before .before .before .before .before .if2 .taken in
-    runs-step (a .prices) (a .t2) (a .count) (a .t4) (a .picks .now) (o .on .result) (a .store .now) (a .counts .now) (full-rows s) (begun o) (l .m) (l .store) (l .counts) (l .inv) go (z .result) _ _ (z .kept .1 .1 .1 .1 .1 .1 .1 .0, z .ensures .1) i (z .ensures .0 _ _ _ (fitting (a .prices) (a .t2) (a .count) (a .t4) (a .picks .now) (o .on .result) (a .store .now) (a .counts .now) (full-rows s) (begun o) (l .m) (l .store) (l .counts) (l .inv) go i))
+μ-loop text rows count prices store₀ picks counts₀ m₀ store counts m = rank (length (scriptIn text rows count)) (placeIn (scriptIn text rows count) m store picks counts)
 
 loop-holds : tie.Need-loop-holds Inv-loop μ-loop
-loop-holds c = let s = c .before .before .before in let a = s .args in runs-start (a .prices) (a .t2) (a .count) (a .t4) (a .picks .now) (c .on .result) (a .store .now) (a .counts .now) (full-rows s) (begun c)
+loop-holds c = let p = c .before .before .before .pre in (p, reached-start _ _ _ _ _ _ _ p)
 
-cast-e : tie.Need-cast-e Inv-loop μ-loop
-cast-e c = omega (arith, matching-end-fits (c .before .before .before .before .before .before .before .before .before) (c .before .before .before .before .before .loop .m .row))
-
-cast-h : tie.Need-cast-h Inv-loop μ-loop
-cast-h c = omega (arith, matching-head-fits (c .before .before .before .before .before .before .before .before .before .before) (c .before .before .before .before .before .before .loop .m .row))
-
-mul-head : tie.Need-mul-head Inv-loop μ-loop
-mul-head c = let f = matching-head-fits (c .before .before .before .before .before .before .before .before .before .before) (c .before .before .before .before .before .before .loop .m .row) in omega arith
-
-array-copy-out-head : tie.Need-array-copy-out-head Inv-loop μ-loop
-array-copy-out-head c = omega (arith, matching-head-fits (c .before .before .before .before .before .before .before .before .before .before) (c .before .before .before .before .before .before .loop .m .row))
-
-step-requires : tie.Need-step-requires Inv-loop μ-loop
-step-requires c κs =
-    let s = c .before .before .before .before .before .before .before .before .before .before .before .before .before in let o = c .before .before .before .before .before .before .before .before .before .before in
-    let a = s .args in
-    let l = c .before .before .before .before .before .before .before .before .before .loop in
-    let f = matching-end-fits s (l .m .row) in
-    let go = sym (c .before .before .before .before .before .before .before .before .going .ensures) ∙ c .before .before .before .before .before .before .before .if1 .taken in
-    let i = c .before .before .before .before .before .before .if2 .taken in
-    (doable (a .prices) (a .t2) (a .count) (a .t4) (a .picks .now) (o .on .result) (a .store .now) (a .counts .now) (full-rows s) (begun o) (l .m) (l .store) (l .counts) (l .inv) go _ _ i (omega arith), doable (a .prices) (a .t2) (a .count) (a .t4) (a .picks .now) (o .on .result) (a .store .now) (a .counts .now) (full-rows s) (begun o) (l .m) (l .store) (l .counts) (l .inv) go _ _ (head-in (a .prices) (a .t2) (a .count) (a .t4) (a .picks .now) (o .on .result) (a .store .now) (a .counts .now) (full-rows s) (begun o) (l .m) (l .store) (l .counts) (l .inv) go i) (omega (arith, s .pre .0 .size)))
-
-loop-less : tie.Need-loop-less Inv-loop μ-loop
-loop-less c = turned c .1
-
-loop-again : tie.Need-loop-again Inv-loop μ-loop
-loop-again c = turned c .0
-
-loop-less-2 : tie.Need-loop-less-2 Inv-loop μ-loop
-loop-less-2 c =
-    let s = c .before .before .before .before .before .before .before .before in let o = c .before .before .before .before .before in
-    let a = s .args in
-    let l = c .before .before .before .before .loop in
-    rw (c .ended .ensures) (runs-past (a .prices) (a .t2) (a .count) (a .t4) (a .picks .now) (o .on .result) (a .store .now) (a .counts .now) (full-rows s) (begun o) (l .m) (l .store) (l .counts) (l .inv) (sym (c .before .before .before .going .ensures) ∙ c .before .before .if1 .taken) (c .before .if2 .left) .1)
-
-loop-again-2 : tie.Need-loop-again-2 Inv-loop μ-loop
-loop-again-2 c =
-    let s = c .before .before .before .before .before .before .before .before in let o = c .before .before .before .before .before in
-    let a = s .args in
-    let l = c .before .before .before .before .loop in
-    rw (c .ended .ensures) (runs-past (a .prices) (a .t2) (a .count) (a .t4) (a .picks .now) (o .on .result) (a .store .now) (a .counts .now) (full-rows s) (begun o) (l .m) (l .store) (l .counts) (l .inv) (sym (c .before .before .before .going .ensures) ∙ c .before .before .if1 .taken) (c .before .if2 .left) .0)
-
-same-length : tie.Need-same-length Inv-loop μ-loop
-same-length c = c .before .before .loop .inv .lengths .0
+test-row-requires : tie.Need-test-row-requires Inv-loop μ-loop
+test-row-requires c κs = let l = c .before .before .before .loop in (_, at-test _ _ _ _ _ _ _ (l .inv .0) (l .m) (l .store) (l .counts) (l .inv .1) (c .before .before .if1 .taken))
 
 returns : tie.Need-returns Inv-loop μ-loop
 returns c =
-    let s = c .before .before .before .before .before .before in let o = c .before .before .before in
-    let a = s .args in
-    let l = c .before .before .loop in
-    (rw (sym (same-start o)) (runs-over (a .prices) (a .t2) (a .count) (a .t4) (a .picks .now) (o .on .result) (a .store .now) (a .counts .now) (full-rows s) (begun o) (l .m) (l .store) (l .counts) (l .inv) (sym (c .before .going .ensures) ∙ c .if1 .left)), l .inv .lengths .1)
+    let l = c .before .before .before .before .loop in
+    rw (c .ended .ensures) (past-end _ _ _ _ _ _ _ (l .inv .0) (l .m) (l .store) (l .counts) (l .inv .1) (c .before .if2 .taken))
+
+act-requires : tie.Need-act-requires Inv-loop μ-loop
+act-requires c κs =
+    let l = c .before .before .before .before .before .loop in
+    (_, at-row _ _ _ _ _ _ _ (l .inv .0) (l .m) (l .store) (l .counts) (l .inv .1) (c .before .before .before .before .if1 .left) (omega (arith, c .before .before .if2 .left)))
+
+-- the test or the row is one step
+abbrev Done : tie.Joined1 Inv-loop μ-loop → Type 0
+Done c =
+    let l = c .before .loop in
+    let a = c .before .before .before .before .before .args in
+    Stepped (a .prices) (scriptIn (now (a .text)) (now (a .rows)) (a .count)) (l .m) (c .if1 .m) (l .store) (c .if1 .store) (now (a .picks)) (l .counts) (c .if1 .counts)
+    × (length (c .if1 .store) ≡ length (l .store))
+
+done : (c : tie.Joined1 Inv-loop μ-loop) → Done c
+done c =
+    let l = c .before .loop in
+    ⊎-elim {C = Done c}
+    (λ w. rw (w .4, w .5, w .6) (w .3 .ensures _ _ (at-test _ _ _ _ _ _ _ (l .inv .0) (l .m) (l .store) (l .counts) (l .inv .1) (w .0 .taken)), search needs))
+    (λ w. rw (w .7, w .8, w .9) (w .5 .ensures _ (at-row _ _ _ _ _ _ _ (l .inv .0) (l .m) (l .store) (l .counts) (l .inv .1) (w .0 .left) (omega (arith, w .2 .left))), search needs))
+    (c .if1 .came)
+
+returns-2 : tie.Need-returns-2 Inv-loop μ-loop
+returns-2 c =
+    let d = c .before .before in
+    let l = d .before .loop in
+    let (x, y) = done d in
+    is-over _ _ _ _ _ _ _ (l .inv .0) (l .m) (l .store) (l .counts) (l .inv .1) (d .if1 .m) (d .if1 .store) (d .if1 .counts) y x (sym (c .before .going .ensures) ∙ not-true _ (c .if3 .taken))
+
+-- it goes on from there, with a lower rank
+again : (c : tie.Else3 Inv-loop μ-loop)
+    → let d = c .before .before in
+    let l = d .before .loop in
+    let a = c .before .before .before .before .before .before .before .args in
+    let rows = scriptIn (now (a .text)) (now (a .rows)) (a .count) in
+    Reached (a .prices) (now (a .rows)) (a .count) (now (a .picks)) (a .from) (now (a .store)) (now (a .counts)) (l .inv .0) (d .if1 .m) (d .if1 .store) (d .if1 .counts)
+    × (rank (length rows) (placeIn rows (d .if1 .m) (d .if1 .store) (now (a .picks)) (d .if1 .counts)) < rank (length rows) (placeIn rows (l .m) (l .store) (now (a .picks)) (l .counts)))
+again c =
+    let d = c .before .before in
+    let l = d .before .loop in
+    let (x, y) = done d in
+    goes-on _ _ _ _ _ _ _ (l .inv .0) (l .m) (l .store) (l .counts) (l .inv .1) (d .if1 .m) (d .if1 .store) (d .if1 .counts) y x (sym (c .before .going .ensures) ∙ not-false _ (c .if3 .left))
+
+loop-less : tie.Need-loop-less Inv-loop μ-loop
+loop-less c = again c .1
+
+loop-again : tie.Need-loop-again Inv-loop μ-loop
+loop-again c = (c .before .before .before .loop .inv .0, again c .0)
 
 pub resume-spec : {M : Type 1} → statement M
 resume-spec =
@@ -120,19 +86,14 @@ resume-spec =
     (tie.spec
     Inv-loop
     μ-loop
-    (λ c κs. search needs)
     loop-holds
-    (λ c κs. search needs) (λ c. search needs) (λ c. search needs) (λ c. search needs)
-    cast-e
-    (λ c. search needs)
-    cast-h
-    mul-head
-    array-copy-out-head
-    step-requires
-    loop-less
-    loop-again
+    test-row-requires
     (λ c κs. search needs)
-    loop-less-2
-    loop-again-2
-    same-length
-    returns)
+    (λ c. c .before .before .before .before .loop .inv .1 .vars)
+    returns
+    act-requires
+    (λ c κs. search needs)
+    (λ c. done (c .before .before) .1 ∙ c .before .before .before .loop .inv .1 .vars)
+    returns-2
+    loop-less
+    loop-again)

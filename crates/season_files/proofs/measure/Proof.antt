@@ -4,29 +4,29 @@ use native.Mathlib.Omega.{arith}
 use denote.Ref.{now}
 use borrow.Author.Needs.{needs}
 use Rattle.rules.specs.Calls.{fourOnes}
-use Rattle.calls_scripts.proofs.Loaded.{file-refused, file-given}
+use Rattle.calls.proofs.Loaded.{file-refused, file-given}
 use Rattle.loader.proofs.Laws.{lent-yes}
-use Rattle.season_files.proofs.Laws.{ones-priced, rows-few, found-read, found-no}
+use Rattle.season_files.proofs.Laws.{ones-priced, found-read, found-no}
 use Rattle.season_files.proofs.measure.Statement.{statement}
 use Rattle.season_files.proofs.measure.Tie as tie
 
 put-cues-requires : tie.Need-put-cues-requires
 put-cues-requires c κs =
-    let few = rows-few (now (c .before .before .before .before .before .before .before .before .before .args .file)) _ _ _ (c .before .before .before .before .read .ensures) (c .before .before .enum-told .given .1) in
+    let few = rows-few (now (c .before .before .before .before .before .before .before .before .before .args .file)) _ _ _ (c .before .before .before .before .load .ensures) (c .before .before .enum-told .given .1) in
     (few, omega (arith, few, c .before .before .before .before .before .before .before .before .before .pre))
 
 measure-script-requires : tie.Need-measure-script-requires
-measure-script-requires c κs = (file-given fourOnes (now (c .before .before .before .before .before .before .before .before .before .before .before .before .before .before .args .file)) _ _ _ (c .before .before .before .before .before .before .before .before .before .read .ensures) (c .before .before .before .before .before .before .before .enum-told .given .1), ones-priced)
+measure-script-requires c κs = (file-given fourOnes (now (c .before .before .before .before .before .before .before .before .before .before .before .before .before .before .args .file)) _ _ _ (c .before .before .before .before .before .before .before .before .before .load .ensures) (c .before .before .before .before .before .before .before .enum-told .given .1), ones-priced)
 
 returns : tie.Need-returns
 returns c =
     let file = now (c .before .before .before .before .before .before .before .before .before .before .before .before .before .before .before .before .before .args .file) in
-    found-read file _ _ _ (c .before .before .before .before .before .before .before .before .before .before .before .before .read .ensures) (c .before .before .before .before .before .before .before .before .before .before .enum-told .given .1) (c .before .before .measure-script .ensures) (c .before .before .before .before .before .before .before .put-cues .ensures .0 file) (c .before .before .before .before .before .before .before .put-cues .ensures .1) (c .before .before .before .before .before .before .before .before .before .before .before .before .before .before .before .before .before .pre)
+    found-read file _ _ _ (c .before .before .before .before .before .before .before .before .before .before .before .before .load .ensures) (c .before .before .before .before .before .before .before .before .before .before .enum-told .given .1) (c .before .before .measure-script .ensures) (c .before .before .before .before .before .before .before .put-cues .ensures .0 file) (c .before .before .before .before .before .before .before .put-cues .ensures .1) (c .before .before .before .before .before .before .before .before .before .before .before .before .before .before .before .before .before .pre)
 
 returns-2 : tie.Need-returns-2
 returns-2 c =
     let file = now (c .before .before .before .before .before .before .before .before .args .file) in
-    found-no (lent-yes fourOnes 1_024 ones-priced file ∙ file-refused fourOnes file _ _ _ (c .before .before .before .read .ensures) (c .before .verdict .given .1))
+    found-no (lent-yes fourOnes 1_024 ones-priced file ∙ file-refused fourOnes file _ _ _ (c .before .before .before .load .ensures) (c .before .verdict .given .1))
 
 pub measure-spec : {M : Type 1} → statement M
 measure-spec = tie.close (tie.spec

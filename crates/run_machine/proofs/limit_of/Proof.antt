@@ -1,0 +1,90 @@
+-- `run_machine::limit_of` meets its contract. Assumes nothing.
+use mathlib.Core.Path.{_≡_, sym, _∙_, ap, subst}
+use mathlib.Core.Bool.{Bool, true, false, cond}
+use Prim.Native.Nat.{ℕ}
+use denote.Ref.{now}
+use mir.Facts.{toZ-ofZ, sfits-widen}
+use mir.Val.{SFits}
+use mir.Syntax.{w32, w64}
+use borrow.Author.Needs.{needs, sfits-of}
+use borrow.Author.Tests.{ne-eqb}
+use lib.Dec.{eqb}
+use lib.ListN.{length}
+use Rattle.rules.specs.Blocks.{exprOf}
+use Rattle.rules.specs.Expressions.{meaning}
+use Rattle.rules.specs.Scripts.{storeOf}
+use Rattle.rules.specs.Values.{value, operated, number}
+use Rattle.values.proofs.Results.{in-number}
+use Rattle.table.specs.Code.{constantIn, operandIn, isExpression, limitKindIn, limitIn, numbersAt}
+use Rattle.table.specs.Code
+use Rattle.run_machine.specs.Rows.{Readable}
+use Rattle.run_machine.proofs.limit_of.Statement.{statement}
+use Rattle.run_machine.proofs.limit_of.Tie as tie
+
+-- an operand that is no constant, by one bit of its kind
+by-bit : (k x : ℕ) (b : Bool) → (k ≡ 0 → ⊥) → b ≡ isExpression (operandIn k x) → operandIn k x ≡ cond b (operandIn 2 x) (operandIn 1 x)
+by-bit k x b n e = let z = ne-eqb k 0 n in rw z (by (eqb k 1) (rw z at e))
+  where
+    by : (d : Bool) → b ≡ isExpression (cond d (operandIn 1 x) (operandIn 2 x)) → cond d (operandIn 1 x) (operandIn 2 x) ≡ cond b (operandIn 2 x) (operandIn 1 x)
+    by true e = rw e
+    by false e = rw e
+
+told : (c : tie.After-limit-is-expression) → let a = c .before .before .before .before .before .before .args in let x = c .before .before .before .limit-value-at .result in
+    limitIn (numbersAt (now (a .rows)) (a .i)) ≡ cond (c .limit-is-expression .result) (operandIn 2 x) (operandIn 1 x)
+told c =
+    let a = c .before .before .before .before .before .before .args in
+    let e = numbersAt (now (a .rows)) (a .i) in
+    let b = c .limit-is-expression .result in
+    by-bit (limitKindIn e) (Code.number e 2) b (λ q. c .before .if1 .left (c .before .before .limit-kind-at .ensures ∙ q)) (c .limit-is-expression .ensures)
+    ∙ ap (λ n. cond b (operandIn 2 n) (operandIn 1 n)) (sym (c .before .before .before .limit-value-at .ensures))
+
+returns : tie.Need-returns
+unfolding value operated exprOf meaning
+returns c =
+    let a = c .before .before .before .before .before .before .args in
+    let e = numbersAt (now (a .rows)) (a .i) in
+    let z = c .constant in
+    let f : SFits w32 (z .result) = sfits-of (z .ok) in
+    let k = sym (c .before .before .limit-kind-at .ensures) ∙ c .before .if1 .taken in
+    rw (toZ-ofZ f, toZ-ofZ (sfits-widen {w′ = w64} tt f))
+    (in-number (z .result) f ∙ ap number (z .ensures ∙ ap constantIn (c .before .before .before .limit-value-at .ensures))
+    ∙ sym (ap (λ n. value (exprOf (now (a .text)) (operandIn n (Code.number e 2))) (storeOf (now (a .store)))) k))
+
+value-of-requires : tie.Need-value-of-requires
+value-of-requires c κs =
+    let s = c .before .before .before .before .before .before .before in
+    let x = c .before .before .before .before .limit-value-at .result in
+    subst (Readable (now (s .args .text)) (length (now (s .args .store)))) (told (c .before) ∙ ap (λ b. cond b (operandIn 2 x) (operandIn 1 x)) (c .if2 .taken)) (s .pre .1)
+
+returns-2 : tie.Need-returns-2
+returns-2 c =
+    let a = c .before .before .before .before .before .before .before .before .args in
+    let x = c .before .before .before .before .before .limit-value-at .result in
+    let f : SFits w64 (c .value-of .result) = sfits-of (c .value-of .ok) in
+    rw (toZ-ofZ f) (c .value-of .ensures ∙ sym (ap (λ o. value (exprOf (now (a .text)) o) (storeOf (now (a .store)))) (told (c .before .before) ∙ ap (λ b. cond b (operandIn 2 x) (operandIn 1 x)) (c .before .if2 .taken))))
+
+value-of-requires-2 : tie.Need-value-of-requires-2
+value-of-requires-2 c κs =
+    let s = c .before .before .before .before .before .before .before in
+    let x = c .before .before .before .before .limit-value-at .result in
+    subst (Readable (now (s .args .text)) (length (now (s .args .store)))) (told (c .before) ∙ ap (λ b. cond b (operandIn 2 x) (operandIn 1 x)) (c .if2 .left)) (s .pre .1)
+
+returns-3 : tie.Need-returns-3
+returns-3 c =
+    let a = c .before .before .before .before .before .before .before .before .args in
+    let x = c .before .before .before .before .before .limit-value-at .result in
+    let f : SFits w64 (c .value-of2 .result) = sfits-of (c .value-of2 .ok) in
+    rw (toZ-ofZ f) (c .value-of2 .ensures ∙ sym (ap (λ o. value (exprOf (now (a .text)) o) (storeOf (now (a .store)))) (told (c .before .before) ∙ ap (λ b. cond b (operandIn 2 x) (operandIn 1 x)) (c .before .if2 .left))))
+
+pub limit-of-spec : {M : Type 1} → statement M
+limit-of-spec =
+    tie.close
+    (tie.spec
+    (λ c κs. search needs) (λ c κs. search needs) (λ c κs. search needs)
+    (λ c. let f : SFits w32 (c .constant .result) = sfits-of (c .constant .ok) in rw (toZ-ofZ f) (sfits-widen tt f))
+    returns
+    (λ c κs. search needs)
+    value-of-requires
+    returns-2
+    value-of-requires-2
+    returns-3)
