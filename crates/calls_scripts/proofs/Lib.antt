@@ -1,5 +1,4 @@
 -- Laws of the scripts that are to play together.
-pub mod Loaded
 pub mod Readiness
 pub mod Tables
 mod Entering

@@ -5,7 +5,7 @@ use native.Mathlib.Omega.{arith}
 use Rattle.rules.specs.Calls.{pricesOf}
 use Rattle.rules.proofs.Demand3File.{judged-accepted}
 use Rattle.calls.specs.Held.{admitted}
-use Rattle.calls_scripts.proofs.Loaded.{file-refused, file-read, file-given}
+use Rattle.calls.proofs.Loaded.{file-refused, file-read, file-given}
 use Rattle.calls_scripts.proofs.Readiness.{held-as}
 use borrow.Author.Needs.{needs}
 use Rattle.calls_scripts.proofs.enter.Statement.{statement}
