@@ -11,9 +11,9 @@ use lib.IntN.{ℤ}
 use lib.ListN.{length, getD, set, take, length-set, getD-replicate, length-replicate, replicate}
 use lib.Seq.{getD-set-same, getD-set-other, take-all}
 use Rattle.rules.specs.declared.Prices.{Prices}
-use Rattle.rules_machine.specs.RowMachine.{more, fresh}
+use Rattle.rules_machine.specs.RowMachine.{more}
 use Rattle.rules.specs.Calls.{pricesOf, scratchSize, loopRows}
-use Rattle.rules.specs.Scripts.{storeOf, Accepted, StoreIn}
+use Rattle.rules.specs.Scripts.{Accepted, StoreIn}
 use Rattle.rules_frames.specs.Frames
 use Rattle.rules_frames.specs.Frames.{afterFrames, together, most, ticksIn, Lent, ScriptPart, partsOf}
 use Rattle.rules_frames.specs.InTime.{Done, Accepts}

@@ -7,7 +7,7 @@ use native.Mathlib.Nat.{mul-le-mul-right}
 use native.Mathlib.Omega.{arith}
 use lib.Dec.{T, leb, leb→le, nleb→lt}
 use lib.IntN.{ℤ}
-use lib.ListN.{length, getD, take, drop, replicate, length-drop, length-replicate, getD-replicate}
+use lib.ListN.{length, getD, drop, replicate, length-drop, length-replicate, getD-replicate}
 use Rattle.rules.specs.declared.Ending.{Ending}
 use Rattle.rules.specs.declared.Ending.the-variants.{Ended, Spent, NoPick}
 use Rattle.rules.specs.declared.Prices.{Prices}
@@ -34,7 +34,6 @@ use Rattle.runner.proofs.Start.{cleared}
 use Rattle.run_loops.specs.Loops.{Counted, HeadCounts}
 use Rattle.calls_lists.specs.Parts.{partOf}
 use Rattle.calls_lists.proofs.Extents.{extent-part, extent-within}
-use Rattle.calls_scripts.specs.declared.Held.{Held}
 use Rattle.calls_scripts.specs.declared.HeldScripts.{HeldScripts}
 use Rattle.calls_scripts.specs.Held.{noPart, noProgress, nobody, tableLengths, HeldAs}
 use Rattle.calls_scripts.proofs.Tables.{tables-whole}

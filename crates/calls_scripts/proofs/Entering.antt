@@ -4,13 +4,12 @@ use mathlib.Core.List.{List, _++_}
 use Prim.Native.Nat.{ℕ, _+_, _-_, _<_}
 use native.Mathlib.Decide.{ℕ-discrete}
 use native.Mathlib.Omega.{arith}
-use lib.IntN.{ℤ}
 use lib.ListN.{length, getD, set, take, drop, length-set}
 use lib.Seq.{getD-set-same, getD-set-other}
 use Rattle.rules.specs.declared.Verdict.the-variants.{Passed, Refused}
 use Rattle.rules.specs.File.{fileScript}
 use Rattle.rules.specs.Calls.{pricesOf, Priced, judgedFile, judged, scratchSize}
-use Rattle.rules_frames.specs.Frames.{Progress, Lent, ScriptPart, Readiness, ready, readiness, partsOf}
+use Rattle.rules_frames.specs.Frames.{Lent, ScriptPart, Readiness, readiness, partsOf}
 use Rattle.rules_frames.proofs.Cut.{partAt, cut-length, cut-at}
 use Rattle.rules_frames.proofs.FramesAsAlone.{cast-accepts}
 use Rattle.calls.specs.Held.{admitted}
