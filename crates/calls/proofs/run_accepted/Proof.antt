@@ -11,23 +11,23 @@ use Rattle.calls.proofs.run_accepted.Statement.{statement}
 use Rattle.calls.proofs.run_accepted.Tie as tie
 
 run-rows-requires : tie.Need-run-rows-requires
-run-rows-requires c κs = (c .before .before .before .pre, cleared)
+run-rows-requires c κs = (c .before .before .before .before .before .pre, cleared)
 
 -- the counts of the run
-counted : (c : tie.After-run-rows) → let s = c .before .before .before .before in Counted (s .args .text .now) (s .args .rows .now) (s .args .count) (c .run-rows .last .1 .1 .1 .1 .1 .1 .0)
-counted c = let g = c .before .before .before .before .pre .script in record { size = g .size; table = g .table; room = c .run-rows .ensures .room }
+counted : (c : tie.After-run-rows) → let s = c .before .before .before .before .before .before in Counted (s .args .text .now) (s .args .rows .now) (s .args .count) (c .run-rows .last .1 .1 .1 .1 .1 .1 .1 .0)
+counted c = let g = c .before .before .before .before .before .before .pre .script in record { size = g .size; table = g .table; room = c .run-rows .ensures .room }
 
 loops-of-requires : tie.Need-loops-of-requires
-loops-of-requires c κs = (_, counted c)
+loops-of-requires c κs = (_, counted (c .before .before))
 
 returns : tie.Need-returns
 unfolding storeAfter
 returns c =
-    let s = c .before .before .before .before .before .before .before .before in
-    let r = c .before .before .before .run-rows in
-    let l = c .loops-of in
+    let s = c .before .before .before .before .before .before .before .before .before .before in
+    let r = c .before .before .before .before .run-rows in
+    let l = c .before .loops-of in
     let t = r .ensures .told in
-    let h = l .ensures (s .args .text .now) (counted (c .before .before .before)) in
+    let h = l .ensures (s .args .text .now) (counted (c .before .before .before .before)) in
     let a = runOf (s .args .prices) (scriptIn (s .args .text .now) (s .args .rows .now) (s .args .count)) (s .args .store .now) (s .args .picks .now) (s .args .allowance) in
     record {
       told = record {

@@ -27,14 +27,14 @@ full-ranges : (s : tie.Start) → length (s .args .t4) ≡ 16
 full-ranges s = search needs
 
 prices-of-requires : tie.Need-prices-of-requires
-prices-of-requires c κs = four _ (c .before .before .before .pre .1)
+prices-of-requires c κs = four _ (c .before .before .before .before .pre .1)
 
 figures-of-requires : tie.Need-figures-of-requires
-figures-of-requires c κs = let s = c .before .before .before .before in (s .pre .0, fine (s .args .prices .now) (s .pre .1) (c .prices-of .ensures))
+figures-of-requires c κs = let s = c .before .before .before .before .before in (s .pre .0, fine (s .args .prices .now) (s .pre .1) (c .prices-of .ensures))
 
 -- what the analysis found of it
-found : (c : tie.After-figures-of) → let s = c .before .before .before .before .before in FiguresFound (s .args .prices .now) (script s) (s .args .script .count) (c .figures-of .result) (c .figures-of .ensures .0)
-found c = let s = c .before .before .before .before .before in found-by _ _ _ _ (s .pre .0) (s .args .prices .now) (c .before .prices-of .ensures) (c .figures-of .result) _ (c .figures-of .ensures .1)
+found : (c : tie.After-figures-of) → let s = c .before .before .before .before .before .before in FiguresFound (s .args .prices .now) (script s) (s .args .script .count) (c .figures-of .result) (c .figures-of .ensures .0)
+found c = let s = c .before .before .before .before .before .before in found-by _ _ _ _ (s .pre .0) (s .args .prices .now) (c .before .prices-of .ensures) (c .figures-of .result) _ (c .figures-of .ensures .1)
 
 -- demand 3 of that answer
 with-kept : (s : tie.Start) (o : Outcome) (new : List ℤ)
@@ -46,21 +46,21 @@ with-kept s o new r =
 
 returns : tie.Need-returns
 returns c =
-    let s = c .before .before .before .before .before .before .before .before in
+    let s = c .before .before .before .before .before .before .before .before .before in
     let f = c .before .before .before .figures-of in
     let h : f .result .number ≡ 0 → ⊥ = search needs in
     with-kept s _ _ (ran-no (s .args .prices .now) (script s) (s .args .script .count) (f .result) _ (found (c .before .before .before)) (s .args .store .now) (s .args .picks .now) (s .args .allowance) h _ (c .refusal .ensures))
 
 ask-store-requires : tie.Need-ask-store-requires
-ask-store-requires c κs = (c .before .before .before .before .before .before .before .before .before .pre .0 .few, full-ranges (c .before .before .before .before .before .before .before .before .before))
+ask-store-requires c κs = (c .before .before .before .before .before .before .before .before .before .before .pre .0 .few, full-ranges (c .before .before .before .before .before .before .before .before .before .before))
 
 run-accepted-requires : tie.Need-run-accepted-requires
 unfolding scriptOf
 run-accepted-requires c κs =
-    let s = c .before .before .before .before .before .before .before .before .before .before .before .before .before .before in
+    let s = c .before .before .before .before .before .before .before .before .before .before .before .before .before .before .before in
     let f = c .before .before .before .before .before .before .before .before .before .figures-of in
     let q = c .before .before .before .before .ask-store in
-    let z : f .result .number ≡ 0 = search needs in
+    let z : f .result .number ≡ 0 = omega (arith, c .before .before .before .before .before .before .before .if1 .left) in
     let few = ticks-few (s .args .prices .now) (script s) (s .args .script .count) (f .result) _ (found (c .before .before .before .before .before .before .before .before .before)) z in
     may-run _ _ _ _ (s .pre .0)
     (fine (s .args .prices .now) (s .pre .1) (c .before .before .before .before .before .before .before .before .before .before .prices-of .ensures) .test .some)
@@ -70,7 +70,7 @@ run-accepted-requires c κs =
 returns-2 : tie.Need-returns-2
 unfolding scriptOf
 returns-2 c =
-    let s = c .before .before .before .before .before .before .before .before .before .before .before .before .before .before .before .before in
+    let s = c .before .before .before .before .before .before .before .before .before .before .before .before .before .before .before .before .before in
     let f = c .before .before .before .before .before .before .before .before .before .before .before .figures-of in
     let q = c .before .before .before .before .before .before .ask-store in
     let z : f .result .number ≡ 0 = omega (arith, c .before .before .before .before .before .before .before .before .before .if1 .left) in
@@ -79,7 +79,7 @@ returns-2 c =
 returns-3 : tie.Need-returns-3
 unfolding scriptOf
 returns-3 c =
-    let s = c .before .before .before .before .before .before .before .before .before .before .before .before .before .before in
+    let s = c .before .before .before .before .before .before .before .before .before .before .before .before .before .before .before in
     let f = c .before .before .before .before .before .before .before .before .before .figures-of in
     let q = c .before .before .before .before .ask-store in
     let z : f .result .number ≡ 0 = omega (arith, c .before .before .before .before .before .before .before .if1 .left) in
