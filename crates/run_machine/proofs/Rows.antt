@@ -1,10 +1,9 @@
 -- The rows of a script in a table that may be run. Assumes nothing.
 use mathlib.Core.Path.{_≡_, refl, sym, _∙_, ap, subst}
-use mathlib.Core.Bool.{true, false, cond}
-use mathlib.Core.List.{List, []}
+use mathlib.Core.Bool.{true, cond}
+use mathlib.Core.List.{List}
 use mathlib.Core.Logic.{inr}
-use Prim.Native.Nat.{ℕ, suc, _+_, _*_, _%_, _≤_, _<_}
-use native.Mathlib.Numerals.{add-one}
+use Prim.Native.Nat.{ℕ, suc, _+_, _*_, _%_, _<_}
 use native.Mathlib.Omega.{arith}
 use lib.Dec.{eqb}
 use lib.IntN.{ℤ}
@@ -26,15 +25,15 @@ use Rattle.rules_machine.specs.RowMachine.{TurnCounts, fresh, testing, Next, to
 use Rattle.rules_machine.proofs.RowMachineRuns.{next-row}
 use Rattle.rules_machine.proofs.PairsIn.{partners}
 use Rattle.table.specs.declared.Tag.{Tag}
-use Rattle.table.specs.Code.{operandIn, changeIn, number, opIn, variableIn, comparisonBy, comparisonIn, partnerIn, limitIn, stepIn, tagIn, kindBy, kindIn, numbersAt, rowsOf}
+use Rattle.table.specs.Code.{operandIn, number, opIn, variableIn, comparisonBy, comparisonIn, partnerIn, limitIn, stepIn, tagIn, kindBy, kindIn, numbersAt, rowsOf}
 use Rattle.table.specs.Packing.{IsComparison, TestIn, TestOf}
-use Rattle.table.specs.Paired.{endOp, EndRow, LoopEnd}
+use Rattle.table.specs.Paired.{endOp, EndRow}
 use Rattle.table.proofs.Laws.{kind-in, rows-length}
 use Rattle.table.proofs.Limits.{all-get}
-use Rattle.table.proofs.Pairing.{heads-rise, loop-place}
+use Rattle.table.proofs.Pairing.{loop-place}
 use Rattle.table.proofs.Same.{test-of}
 use Rattle.run_actions.specs.declared.Machine.{Machine}
-use Rattle.run_actions.specs.States.{Rising, RoomAt, phaseOf, stateOf, placeOf}
+use Rattle.run_actions.specs.States.{RoomAt, phaseOf, stateOf, placeOf}
 use Rattle.run_machine.specs.Steps.{scriptIn, Runs, Room, stepOf, AtRow, AtTest}
 use Rattle.run_machine.specs.Rows.{rowOf, Readable, StepRow}
 
