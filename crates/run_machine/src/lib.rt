@@ -9,23 +9,18 @@ use table::codes;
 use table::partner_at;
 use table::variable_at;
 use values::stored;
-ghost use mathlib.Core.Path.{_≡_};
 ghost use mathlib.Core.List.{List};
 ghost use Prim.Native.Nat.{ℕ, _+_, _*_, _<_};
 ghost use lib.ListN.{length};
-ghost use Rattle.rules.specs.Blocks.{exprOf};
-ghost use Rattle.rules.specs.Scripts.{storeOf};
-ghost use Rattle.rules.specs.Values.{value};
 ghost use Rattle.table.specs.Code.{operandIn, limitIn, numbersAt};
-ghost use Rattle.values.specs.Results.{resultIn};
 ghost use Rattle.run_machine.specs.Steps.{scriptIn, AtRow, AtTest, Stepped};
 ghost use Rattle.run_machine.specs.Rows.{rowOf, setOf, moveOf, offOf, Readable, SetRow, MoveRow, StepRow, OffRow, ForRow, LoopRow};
-ghost use Rattle.run_machine.specs.Rows.{HeldAfter, Does, StepDone, ForBegun, DoBegun, WhileBegun};
+ghost use Rattle.run_machine.specs.Rows.{ReadAs, HeldAfter, Does, StepDone, ForBegun, DoBegun, WhileBegun};
 
 // The value of an operand by its kind, or PAST.
 fn value_of(kind: u32, x: u32, text: &[u8], store: &[i32]) -> i64
     requires { ⌜ Readable (now text) (length (now store)) (operandIn kind x) ⌝ }
-    ensures { λ r. ⌜ resultIn r ≡ value (exprOf (now (text .entry)) (operandIn kind x)) (storeOf (now (store .entry))) ⌝ }
+    ensures { λ r. ⌜ ReadAs (now (text .entry)) (now (store .entry)) (operandIn kind x) r ⌝ }
 {
     values::value_of(text, table::operand(kind, x), store)
 }
@@ -213,7 +208,7 @@ pub fn act(
 // The limit of the loop that ends at row i, or PAST. An expression is told by one bit.
 fn limit_of(rows: &[u32], i: usize, text: &[u8], store: &[i32]) -> i64
     requires { ⌜ (4 * i + 3 < length (now rows)) × Readable (now text) (length (now store)) (limitIn (numbersAt (now rows) i)) ⌝ }
-    ensures { λ r. ⌜ resultIn r ≡ value (exprOf (now (text .entry)) (limitIn (numbersAt (now (rows .entry)) i))) (storeOf (now (store .entry))) ⌝ }
+    ensures { λ r. ⌜ ReadAs (now (text .entry)) (now (store .entry)) (limitIn (numbersAt (now (rows .entry)) i)) r ⌝ }
 {
     let x = table::limit_value_at(rows, i);
     if table::limit_kind_at(rows, i) == codes::CONSTANT {
