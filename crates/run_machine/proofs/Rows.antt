@@ -231,6 +231,14 @@ module _ (text : List ℕ) (vars : ℕ) (n : List ℕ) where
   tested (For v y d x k) b (i, z, j) (l, p, o) (u, w) (t, q) = test-in _ t l (record { written = w; below = o }) (λ e. subst ChangeLimits (sym q) j) (λ π rows f g h e s c. refl)
   tested (Hold v) b j l w t = test-in _ t l (record { written = tt; below = tt }) (λ e. absurd (omega arith)) (λ π rows f g h e s c. refl)
 
+-- the loop that row e ends has it
+end-tested : {text t : List ℕ} {count vars : ℕ} (s : Runs text t count vars) (h e : ℕ) → e < count → EndRow (scriptIn text t count) t h e → isLoop (viewAt (scriptIn text t count) h) ≡ true
+    → Tested text vars (kindIn (numbersAt t h)) (numbersAt t e)
+end-tested {text} {t} {count} {vars} s h e l r b =
+    let below : h < count = omega (arith, r .below, l) in
+    let v = row-is s h below (kindIn (numbersAt t h)) refl in
+    tested text vars (numbersAt t e) (kindIn (numbersAt t h)) (ap isLoop (sym (v .view)) ∙ b) (v .limits) (v .below) (v .written) (test-told s h e below r b)
+
 -- the machine stands before it
 pub record Testing (text t : List ℕ) (count : ℕ) (m : Machine) (store : List ℤ) : Type 0 where
   pub small : m .row < 256
@@ -251,9 +259,8 @@ at-test {text} {t} {count} {m} {store} a =
     let r = end-of (a .script) i l (a .ends .end) in
     let h = heads (a .script) i in
     let below : h < count = omega (arith, r .below, l) in
-    let k = kindIn (numbersAt t h) in
-    let v = row-is (a .script) h below k refl in
-    let y = tested text (length store) (numbersAt t i) k (ap isLoop (sym (v .view)) ∙ a .ends .loop) (v .limits) (v .below) (v .written) (test-told (a .script) h i below r (a .ends .loop)) in
+    let v = row-is (a .script) h below (kindIn (numbersAt t h)) refl in
+    let y = end-tested (a .script) h i l r (a .ends .loop) in
     record {
       small = q .small;
       size = q .size;
@@ -287,10 +294,6 @@ step-row {text} {t} {count} {m} {store} a q =
     let x = row-is (a .script) i (a .row) End (kind-op (numbersAt t i) 2 q Tag.End refl) in
     let r = end-of (a .script) i (a .row) (x .view) in
     let h = heads (a .script) i in
-    let below : h < count = omega (arith, r .below, a .row) in
-    let k = kindIn (numbersAt t h) in
-    let v = row-is (a .script) h below k refl in
     let o = sym (r .op) ∙ q in
-    let b = loop-op (viewAt (scriptIn text t count) h) o in
-    let y = tested text (length store) (numbersAt t i) k (ap isLoop (sym (v .view)) ∙ b) (v .limits) (v .below) (v .written) (test-told (a .script) h i below r b) in
-    record { row = record { small = x .small; size = x .size; variable = y .variable }; change = y .step (ap endOp (sym (v .view)) ∙ o) }
+    let y = end-tested (a .script) h i (a .row) r (loop-op (viewAt (scriptIn text t count) h) o) in
+    record { row = record { small = x .small; size = x .size; variable = y .variable }; change = y .step (ap endOp (sym (row-is (a .script) h (omega (arith, r .below, a .row)) (kindIn (numbersAt t h)) refl .view)) ∙ o) }

@@ -98,6 +98,10 @@ HeldAfter store e z = Values.number z ≡ result (off (watchedIn e) (comparisonB
 abbrev pub Does : Prices → Machine → Machine → List ℤ → List ℤ → Plain → Type 0
 Does π m r store store′ p = (picks : List ℕ) (c : TurnCounts) → Acts m r store′ picks c (plainTo π (m .row) p (m .row + 1) false (stateOf m store picks) c)
 
+-- a set
+abbrev pub SetDone : Prices → ℕ → Machine → Machine → List ℕ → List ℕ → List ℤ → List ℤ → Type 0
+SetDone π kind m r text t store store′ = Does π m r store store′ (setOf text kind (rowOf t m))
+
 -- a for's step, and on to its test
 abbrev pub StepDone : Prices → Machine → Machine → List ℤ → List ℤ → List ℕ → Type 0
 StepDone π m r store store′ e =

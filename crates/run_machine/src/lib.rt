@@ -14,8 +14,8 @@ ghost use Prim.Native.Nat.{ℕ, _+_, _*_, _<_};
 ghost use lib.ListN.{length};
 ghost use Rattle.table.specs.Code.{operandIn, limitIn, numbersAt};
 ghost use Rattle.run_machine.specs.Steps.{scriptIn, AtRow, AtTest, Stepped};
-ghost use Rattle.run_machine.specs.Rows.{rowOf, setOf, moveOf, offOf, Readable, SetRow, MoveRow, StepRow, OffRow, ForRow, LoopRow};
-ghost use Rattle.run_machine.specs.Rows.{ReadAs, HeldAfter, Does, StepDone, ForBegun, DoBegun, WhileBegun};
+ghost use Rattle.run_machine.specs.Rows.{rowOf, moveOf, offOf, Readable, SetRow, MoveRow, StepRow, OffRow, ForRow, LoopRow};
+ghost use Rattle.run_machine.specs.Rows.{ReadAs, HeldAfter, Does, SetDone, StepDone, ForBegun, DoBegun, WhileBegun};
 
 // The value of an operand by its kind, or PAST.
 fn value_of(kind: u32, x: u32, text: &[u8], store: &[i32]) -> i64
@@ -35,7 +35,7 @@ fn set_row(
     store: &mut [i32],
 ) -> Machine
     requires { ⌜ SetRow kind m (now text) (now rows) (length (now store)) ⌝ }
-    ensures { λ r. ⌜ Does prices m r (now (store .entry)) (now (store .exit)) (setOf (now (text .entry)) kind (rowOf (now (rows .entry)) m)) ⌝ }
+    ensures { λ r. ⌜ SetDone prices kind m r (now (text .entry)) (now (rows .entry)) (now (store .entry)) (now (store .exit)) ⌝ }
 {
     let i = m.row;
     let z = value_of(kind, table::start_at(rows, i), text, store);
