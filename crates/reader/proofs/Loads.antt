@@ -23,10 +23,10 @@ use Rattle.rules.specs.File.{Reading, read, refused, thenLines, unless, turnOf,
 use Rattle.reading_nesting.specs.Open.{nestOf}
 use Rattle.reading_nesting.proofs.Laws.{closed-depth, open-depth}
 use Rattle.reading_head.specs.declared.Head.{Head}
-use Rattle.reader.specs.declared.ReadFile.{ReadFile}
+use Rattle.reader.specs.declared.Loaded.{Loaded}
 use Rattle.reading_lines.specs.Lines.{fileLines}
 use Rattle.reading_head.specs.Head.{HeadRead, passing, headRead}
-use Rattle.reader.specs.Read.{rowsVerdict, ifRead, readAnswer, loadedAnswer, WrittenRows, RowsPart, ReadAs, loadedOf}
+use Rattle.reader.specs.Read.{rowsVerdict, ifRead, readAnswer, loadedAnswer, WrittenRows, RowsPart, ReadAs}
 use Rattle.reading_lines.proofs.Lines.{split-some}
 use Rattle.reader.proofs.Fill.{Stop, given, RowsRead}
 
@@ -137,16 +137,16 @@ loaded file Passed vars count rows ranges reading e small long all =
     rw (← e, a, b) refl
 loaded file (Refused q p) vars count rows ranges reading e small long all = rw (← e) refl
 
-pub loads : (file : List ℕ) (reading : Reading Script) (h : Head) (r : ReadFile) (ranges : List (List ℤ)) → HeadRead file reading h ranges → RowsPart file h r → ReadAs file reading (loadedOf r) (r .rows) ranges
-loads file reading h r ranges a b = record {
-  answer = same ∙ loaded file (r .verdict) (h .vars) (h .count) (r .rows) ranges reading (b .script ranges ∙ a .script) (a .within .vars) (λ z. a .pairs (b .passes z) .long) (omega (arith, b .long, a .within .count));
+pub loads : (file : List ℕ) (reading : Reading Script) (h : Head) (r : Loaded) (rows : List Row) (ranges : List (List ℤ)) → HeadRead file reading h ranges → RowsPart file h r rows → ReadAs file reading r rows ranges
+loads file reading h r rows ranges a b = record {
+  answer = same ∙ loaded file (r .verdict) (h .vars) (h .count) rows ranges reading (b .script ranges ∙ a .script) (a .within .vars) (λ z. a .pairs (b .passes z) .long) (omega (arith, b .long, a .within .count));
   blank = λ z. subst (λ n. BlankFrom n ranges) (sym (b .vars ∙ ap (λ v. ifRead v (h .vars)) z)) (a .pairs (b .passes z) .blank);
   written = all (r .verdict) refl;
 }
   where
-    all : (v : Verdict) → r .verdict ≡ v → WrittenRows file (r .rows) (r .count)
+    all : (v : Verdict) → r .verdict ≡ v → WrittenRows file rows (r .count)
     all Passed e i k = b .written e i (let n : r .count ≡ h .count = b .count ∙ ap (λ v. ifRead v (h .count)) e in omega arith)
     all (Refused q p) e i k = absurd (let n : r .count ≡ 0 = b .count ∙ ap (λ v. ifRead v (h .count)) e in omega arith)
 
-    same : loadedAnswer file (loadedOf r) (r .rows) ranges ≡ loadedAnswer file (record { verdict = r .verdict; vars = ifRead (r .verdict) (h .vars); count = ifRead (r .verdict) (h .count) }) (r .rows) ranges
+    same : loadedAnswer file r rows ranges ≡ loadedAnswer file (record { verdict = r .verdict; vars = ifRead (r .verdict) (h .vars); count = ifRead (r .verdict) (h .count) }) rows ranges
     same = rw (b .vars, b .count) refl

@@ -13,7 +13,7 @@ use Rattle.rules.specs.Written.{Written}
 use Rattle.rules.specs.File.{Reading, read, refused, fileScript}
 use Rattle.rules.proofs.ReadLegal.{read-legal, read-short}
 use Rattle.table.specs.Code.{rowsOf}
-use Rattle.table.specs.Paired.{scriptRows, Closing, Packable, PackedRows, Table}
+use Rattle.table.specs.Paired.{scriptRows, Closing, Packable, Table}
 use Rattle.table.proofs.Limits.{legal-fine}
 use Rattle.table.proofs.Whole.{packed-kinds, packed-at, own-table}
 use Rattle.reader.specs.declared.Loaded.{Loaded}
@@ -51,10 +51,9 @@ module _ (file : List ℕ) (l : Loaded) (rows : List Row) (ranges : List (List �
     closing = (file, read-closes);
   }
 
-  pub read-loaded : (t : List ℕ) → PackedRows rows (l .count) t → LoadedAs file (fileScript file) l ranges t
+  pub read-loaded : (t : List ℕ) → Table file rows (l .count) t → LoadedAs file (fileScript file) l ranges t
   unfolding scriptOf
-  read-loaded t p =
-      let b : Table file rows (l .count) t = p file read-closes in
+  read-loaded t b =
       let s : take (l .count) (kindsOf file (rowsOf t)) ≡ take (l .count) (kindsOf file rows) = packed-kinds file (l .count) rows t (b .packed) in
       let same : loadedAnswer file l (rowsOf t) ranges ≡ loadedAnswer file l rows ranges =
       ap {B = ReadAnswer} (λ ks. record { verdict = l .verdict; vars = l .vars; count = l .count; script = record { ranges = take (l .vars) (pairRanges ranges); rows = ks } }) s in

@@ -19,7 +19,6 @@ use Rattle.reading_text.specs.Words.{before}
 use Rattle.reading_rows.specs.declared.RowLine.{RowLine}
 use Rattle.reading_rows.specs.Rows.{Rowed}
 use Rattle.reading_head.specs.declared.Head.{Head}
-use Rattle.reader.specs.declared.ReadFile.{ReadFile}
 use Rattle.reader.specs.declared.Loaded.{Loaded}
 use Rattle.reading_lines.specs.Lines.{fileLines}
 use Rattle.reading_head.specs.Head.{passing, headRead}
@@ -44,13 +43,13 @@ ifRead Passed n = n
 ifRead (Refused q p) n = 0
 
 -- the rows after a head: its file's script, or the first no
-pub record RowsPart (file : List ℕ) (h : Head) (r : ReadFile) : Type 0 where
-  pub script : (ranges : List (List ℤ)) → passing (r .verdict) (read (scriptOf file ranges (h .vars) (r .rows) (h .count)) ([] ∷ [])) ≡ headRead file ranges h
-  pub passes : r .verdict ≡ Passed → h .verdict ≡ Passed
-  pub vars : r .vars ≡ ifRead (r .verdict) (h .vars)
-  pub count : r .count ≡ ifRead (r .verdict) (h .count)
-  pub long : length (r .rows) ≡ 256
-  pub written : r .verdict ≡ Passed → WrittenRows file (r .rows) (h .count)
+pub record RowsPart (file : List ℕ) (h : Head) (l : Loaded) (rows : List Row) : Type 0 where
+  pub script : (ranges : List (List ℤ)) → passing (l .verdict) (read (scriptOf file ranges (h .vars) rows (h .count)) ([] ∷ [])) ≡ headRead file ranges h
+  pub passes : l .verdict ≡ Passed → h .verdict ≡ Passed
+  pub vars : l .vars ≡ ifRead (l .verdict) (h .vars)
+  pub count : l .count ≡ ifRead (l .verdict) (h .count)
+  pub long : length rows ≡ 256
+  pub written : l .verdict ≡ Passed → WrittenRows file rows (h .count)
 
 -- what the reader answers: the verdict, the numbers of variables and rows, and the script; a refused file has none
 pub record ReadAnswer : Type 0 where
@@ -73,10 +72,6 @@ pub record ReadAs (file : List ℕ) (reading : Reading Script) (l : Loaded) (row
   pub answer : loadedAnswer file l rows ranges ≡ readAnswer reading
   pub blank : l .verdict ≡ Passed → BlankFrom (l .vars) ranges
   pub written : WrittenRows file rows (l .count)
-
--- a file that was read, without its rows
-abbrev pub loadedOf : ReadFile → Loaded
-loadedOf r = record { verdict = r .verdict; vars = r .vars; count = r .count }
 
 -- a loaded file is this reading with the rows that the table holds
 pub record LoadedAs (file : List ℕ) (reading : Reading Script) (l : Loaded) (ranges : List (List ℤ)) (t : List ℕ) : Type 0 where

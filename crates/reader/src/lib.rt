@@ -8,13 +8,13 @@ use reading_rows::row_of;
 use rules::BLANK;
 use rules::Row;
 use rules::Verdict;
-use table::pack_rows;
+use table::put_next;
 ghost use mathlib.Core.Path.{_≡_};
 ghost use Prim.Native.Nat.{_+_, _≤_};
 ghost use lib.ListN.{length};
 ghost use Rattle.rules.specs.Questions;
 ghost use Rattle.rules.specs.File.{fileScript};
-ghost use Rattle.reader.specs.Read.{LineRead, rowsVerdict, ifRead, loadedOf, ReadAs, LoadedAs};
+ghost use Rattle.reader.specs.Read.{LineRead, rowsVerdict, ifRead, LoadedAs};
 
 // The next line's row. The rest begins at the file's byte `base`.
 fn row_line(rest: &[u8], base: usize, vars: u32) -> RowLine
@@ -63,16 +63,7 @@ fn if_read(verdict: Verdict, n: usize) -> usize
     }
 }
 
-// A file that was read: all questions have yes, or the first no; the number of variables; and the first `count` rows. A refused file has
-// none.
-pub struct ReadFile {
-    pub verdict: Verdict,
-    pub vars: usize,
-    pub count: usize,
-    pub rows: [Row; 256],
-}
-
-// A loaded file: the same, and its rows are in the table.
+// A loaded file: all questions have yes, or the first no; the number of variables; and how many rows are in the table. A refused file has none.
 pub struct Loaded {
     pub verdict: Verdict,
     pub vars: usize,
@@ -86,10 +77,11 @@ const NONE_OPEN: Blocks = Blocks {
     loops: 0,
 };
 
-// A file's script, or its first no. The ranges are the pairs of the lent array. Each file has one array of rows, refused or not: no copy
-// where ways meet.
-pub fn read(file: &[u8], ranges: &mut [[i32; 2]; 16]) -> ReadFile
-    ensures { λ r. ⌜ ReadAs (now (file .entry)) (fileScript (now (file .entry))) (loadedOf r) (r .rows) (now (ranges .exit)) ⌝ }
+// A file's script, or its first no: the ranges in the pairs of the lent array, the rows in the lent table. Both loops stand here, since an array of
+// rows that is handed on is copied, 8 KB.
+pub fn load(file: &[u8], ranges: &mut [[i32; 2]; 16], table: &mut [u32]) -> Loaded
+    requires { ⌜ length (now table) ≡ 1_024 ⌝ }
+    ensures { λ r. ⌜ LoadedAs (now (file .entry)) (fileScript (now (file .entry))) r (now (ranges .exit)) (now (table .exit)) ⌝ }
 {
     let head = load_head(file, ranges);
     let mut rows = [BLANK; 256];
@@ -123,27 +115,20 @@ pub fn read(file: &[u8], ranges: &mut [[i32; 2]; 16]) -> ReadFile
     let first = head.verdict;
     let later = ask_rows(stopped, line, next < file.len(), blocks.depth, end);
     let verdict = and_then(first, later);
-    ReadFile {
-        verdict,
-        vars: if_read(verdict, head.vars),
-        count: if_read(verdict, head.count),
-        rows,
+    let vars = if_read(verdict, head.vars);
+    let count = if_read(verdict, head.count);
+    let mut open = table::NONE_OPEN;
+    let mut j: usize = 0;
+    while j < count {
+        let row = rows[j];
+        let kind = row.kind;
+        let after = put_next(table, j, kind, open);
+        open = after;
+        j += 1;
     }
-}
-
-// The same with the rows in the lent table. Of a refused file there is no row to put.
-pub fn load(file: &[u8], ranges: &mut [[i32; 2]; 16], table: &mut [u32]) -> Loaded
-    requires { ⌜ length (now table) ≡ 1_024 ⌝ }
-    ensures { λ r. ⌜ LoadedAs (now (file .entry)) (fileScript (now (file .entry))) r (now (ranges .exit)) (now (table .exit)) ⌝ }
-{
-    let l = read(file, ranges);
-    let verdict = l.verdict;
-    let rows = l.rows;
-    let count = l.count;
-    pack_rows(table, rows, count);
     Loaded {
         verdict,
-        vars: l.vars,
+        vars,
         count,
     }
 }
