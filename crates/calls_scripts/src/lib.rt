@@ -26,6 +26,7 @@ pub struct Held {
     pub count: usize,
 }
 
+// No place.
 const NOWHERE: Extent = Extent { from: 0, to: 0 };
 
 // What stands past the last script.
@@ -128,7 +129,7 @@ fn enter_at(
     )
 }
 
-// All scripts, each accepted with its store; or the first no, with its number and place.
+// All scripts and how many they are, each accepted with its store; or the first no, with its number and place.
 pub struct HeldScripts {
     pub verdict: Verdict,
     pub number: usize,
