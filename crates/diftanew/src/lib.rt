@@ -10,7 +10,7 @@ ghost use Prim.Native.Nat.{_+_, _≤_, min};
 ghost use lib.ListN.{length, set};
 ghost use lib.Seq.{paste};
 ghost use Rattle.rules.specs.Calls.{endingNumber};
-ghost use Rattle.loader.specs.Kept.{judgement, verdictNumber};
+ghost use Rattle.loader.specs.Kept.{judgement, verdictNumber, ScratchKept};
 ghost use Rattle.loader.specs.Framing.{mostBy};
 ghost use Rattle.calls_lists.specs.Parts.{lentOf};
 ghost use Rattle.diftanew.specs.Numbers.{Reported-in-numbers, firstNumber, numbersOf, Told-in-numbers, framesNumbers, Framed-in-numbers};
@@ -25,7 +25,7 @@ pub extern "C" fn diftanew_report(
     place: &mut u64,
 ) -> u32
     ensures answer { λ r. ⌜ Reported-in-numbers (now (prices .entry)) (judgement (now (prices .entry)) (now (scratch .entry)) (now (file .entry))) (now (buffer .entry)) (now (buffer .exit)) r (now (place .exit)) ⌝ }
-    ensures scratch { λ _. ⌜ now (scratch .exit) ≡ now (scratch .entry) ⌝ }
+    ensures scratch { λ _. ⌜ ScratchKept (now (scratch .entry)) (now (scratch .exit)) ⌝ }
 {
     let r = loader::report(file, prices, scratch, buffer);
     match r {
@@ -117,7 +117,7 @@ pub extern "C" fn diftanew_run(
     answer: &mut [u64; 53],
 ) -> u32
     ensures answer { λ r. ⌜ Told-in-numbers (now (prices .entry)) (judgement (now (prices .entry)) (now (scratch .entry)) (now (file .entry))) (now (store .entry)) (now (store .exit)) (now (picks .entry)) allowance r (now (answer .exit)) ⌝ }
-    ensures scratch { λ _. ⌜ now (scratch .exit) ≡ now (scratch .entry) ⌝ }
+    ensures scratch { λ _. ⌜ ScratchKept (now (scratch .entry)) (now (scratch .exit)) ⌝ }
 {
     let o = loader::run(file, prices, scratch, store, picks, allowance);
     let n = numbers(o);

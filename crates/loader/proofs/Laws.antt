@@ -1,11 +1,12 @@
 -- From a loaded file to the judgement of the call. Assumes nothing.
 use mathlib.Core.Path.{_≡_, refl, _∙_, ap}
 use mathlib.Core.Bool.{Bool, true, false, cond}
-use mathlib.Core.List.{List}
+use mathlib.Core.List.{List, _++_}
 use Prim.Native.Nat.{ℕ, _≤_}
 use native.Mathlib.Omega.{arith}
 use lib.IntN.{ℤ}
-use lib.ListN.{take}
+use lib.ListN.{length, take, drop}
+use lib.Seq.{drop-at}
 use lib.Dec.{T, leb, leb→le}
 use Rattle.rules.specs.declared.Verdict.the-variants.{Passed, Refused}
 use Rattle.rules.specs.declared.Reply.{Reply}
@@ -16,7 +17,7 @@ use Rattle.calls.specs.Told.{MeasuredAs, Told, RanAs, ToldNo}
 use Rattle.calls.specs.declared.Measured.{Measured}
 use Rattle.calls.specs.declared.Outcome.{Outcome}
 use Rattle.calls.proofs.Runs.{told-says}
-use Rattle.loader.specs.Kept.{replyNumber, replyPlace, verdictNumber, firstBy, runNumber, runFirst, lentVerdict, Reported, KeptCall}
+use Rattle.loader.specs.Kept.{replyNumber, replyPlace, verdictNumber, firstBy, runNumber, runFirst, lentVerdict, Reported, KeptCall, ScratchKept}
 
 -- the questions 1 and 16
 module _ (prices : List ℕ) (scratch : ℕ) where
@@ -52,6 +53,13 @@ module _ (prices : List ℕ) (scratch : ℕ) where
         by : (b : Bool) → cond b (pricesVerdict 4 0 prices) (Refused 1 scratchSize) ≡ Passed → Priced prices
         by true e = e
         by false e = absurd (let z : _≡_ {A = ℕ} 0 1 = cc in omega arith)
+
+-- the scratch with its front written over, and as it was
+pub scratch-kept : (prices front old : List ℕ) → length front ≡ scratchSize → lentVerdict prices (length old) ≡ Passed → ScratchKept old (front ++ drop scratchSize old)
+scratch-kept prices front old long e = record { past = drop-at front (drop scratchSize old) scratchSize long; refused = λ l. absurd (omega (arith, lent-room prices (length old) e)) }
+
+pub scratch-same : {old : List ℕ} → ScratchKept old old
+scratch-same = record { past = refl; refused = λ _. refl }
 
 -- a report that is refused, one that is judged as another is, and one of a file that is judged as its script is
 module _ {prices : List ℕ} {j : Judged} {old : List ℕ} where

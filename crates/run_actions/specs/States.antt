@@ -9,7 +9,7 @@ use lib.IntN.{ℤ}
 use Rattle.rules.specs.declared.Ending.{Ending}
 use Rattle.rules.specs.declared.Ending.the-variants.{Spent}
 use Rattle.rules.specs.declared.Prices.{Prices}
-use Rattle.rules.specs.Blocks.{Plain}
+use Rattle.rules.specs.Blocks.{Plain, cue}
 use Rattle.rules.specs.Run.{State, charge, write, exec}
 use Rattle.rules.specs.Scripts.{storeOf}
 use Rattle.rules.specs.Values.{number}
@@ -120,6 +120,18 @@ pub record Acts (m r : Machine) (store : List ℤ) (picks : List ℕ) (c′ : Tu
   pub left : r .left ≤ m .left
   pub used : m .used ≤ length picks → r .used ≤ length picks
   pub rests : (i : ℕ) → r .status ≡ Over Spent i → (r .row ≡ m .row) × (r .testing ≡ m .testing)
+
+-- v has got z, or z is past ±L
+abbrev pub PutDone : Machine → Machine → List ℤ → List ℤ → ℕ → ℕ → ℕ → ℤ → ℕ → Bool → Type 0
+PutDone m r store store′ p i v z j b = (picks : List ℕ) (c : TurnCounts) → Acts m r store′ picks c (putTo p i v z j b (stateOf m store picks) c)
+
+-- a cue is fired
+abbrev pub CueDone : Prices → Machine → Machine → Type 0
+CueDone π m r = (store : List ℤ) (picks : List ℕ) (c : TurnCounts) (n : ℕ) → Acts m r store picks c (plainTo π (m .row) (cue n) (m .row + 1) false (stateOf m store picks) c)
+
+-- a pick is made: byte 0 to row j
+abbrev pub PickDone : Prices → Machine → Machine → ℕ → List ℕ → Type 0
+PickDone π m r j picks = (store : List ℤ) (c : TurnCounts) → Acts m r store picks c (pickTo π (m .row) j (stateOf m store picks) c)
 
 -- the bytes used after a pick: one more, where there is one
 pub record AfterByte (used : ℕ) (picks : List ℕ) (r : ℕ) : Type 0 where

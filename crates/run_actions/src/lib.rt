@@ -6,18 +6,15 @@ use rules::MOST;
 use rules::Prices;
 use rules::TURNS;
 ghost use mathlib.Core.Path.{_≡_};
-ghost use mathlib.Core.Bool.{false, cond};
-ghost use mathlib.Core.List.{List};
-ghost use Prim.Native.Nat.{ℕ, _+_, _<_};
+ghost use mathlib.Core.Bool.{cond};
+ghost use Prim.Native.Nat.{_<_};
 ghost use lib.Dec.{eqb};
-ghost use lib.IntN.{ℤ};
 ghost use lib.ListN.{length};
-ghost use Rattle.rules.specs.Blocks.{cue};
 ghost use Rattle.rules.specs.Values.{compares};
-ghost use Rattle.rules_machine.specs.RowMachine.{TurnCounts};
 ghost use Rattle.table.specs.Code.{comparisonBy};
 ghost use Rattle.table.specs.Packing.{IsComparison};
-ghost use Rattle.run_actions.specs.States.{stateOf, isGoing, stoppedAt, overAt, onAt, putTo, plainTo, pickTo, AfterByte, Acts, RoomAt, EntryBegun, TurnBegun};
+ghost use Rattle.run_actions.specs.States.{isGoing, stoppedAt, overAt, onAt, PutDone, CueDone, PickDone, AfterByte};
+ghost use Rattle.run_actions.specs.States.{RoomAt, EntryBegun, TurnBegun};
 
 // Going, or over: the ending and its row.
 pub enum Status {
@@ -90,7 +87,7 @@ pub fn put(
     store: &mut [i32],
 ) -> Machine
     requires { ⌜ v < length (now store) ⌝ }
-    ensures { λ r. ⌜ ((picks : List ℕ) (c : TurnCounts) → Acts m r (now (store .exit)) picks c (putTo price at v z row testing (stateOf m (now (store .entry)) picks) c)) ⌝ }
+    ensures { λ r. ⌜ PutDone m r (now (store .entry)) (now (store .exit)) price at v z row testing ⌝ }
 {
     let left = m.left;
     if left < price {
@@ -107,7 +104,7 @@ pub fn put(
 // A cue.
 pub fn cue_row(m: Machine, prices: Prices) -> Machine
     requires { ⌜ m .row < 256 ⌝ }
-    ensures { λ r. ⌜ ((store : List ℤ) (picks : List ℕ) (c : TurnCounts) (n : ℕ) → Acts m r store picks c (plainTo prices (m .row) (cue n) (m .row + 1) false (stateOf m store picks) c)) ⌝ }
+    ensures { λ r. ⌜ CueDone prices m r ⌝ }
 {
     let left = m.left;
     let price = prices.cue;
@@ -134,7 +131,7 @@ fn after_byte(used: usize, picks: &[u8]) -> usize
 // A pick takes its price, and then its byte: 0 to row `other`, any other to the next row.
 pub fn pick_row(m: Machine, prices: Prices, other: usize, picks: &[u8]) -> Machine
     requires { ⌜ m .row < 256 ⌝ }
-    ensures { λ r. ⌜ ((store : List ℤ) (c : TurnCounts) → Acts m r store (now (picks .entry)) c (pickTo prices (m .row) other (stateOf m store (now (picks .entry))) c)) ⌝ }
+    ensures { λ r. ⌜ PickDone prices m r other (now (picks .entry)) ⌝ }
 {
     let left = m.left;
     let price = prices.pick;

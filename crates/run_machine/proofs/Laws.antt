@@ -2,7 +2,7 @@
 use mathlib.Core.Path.{_≡_, refl, sym, _∙_, ap}
 use mathlib.Core.Bool.{Bool, true, false, cond}
 use mathlib.Core.List.{List, []}
-use Prim.Native.Nat.{ℕ, suc, _+_, _-_, _≤_, _<_}
+use Prim.Native.Nat.{ℕ, _+_, _-_, _≤_, _<_}
 use native.Mathlib.Numerals.{add-one}
 use native.Mathlib.Omega.{arith}
 use borrow.Author.Tests.{le-leb, lt-leb}
@@ -12,9 +12,11 @@ use Rattle.ints.proofs.Parts.{eqZ-true}
 use Rattle.rules.specs.declared.Ending.{Ending}
 use Rattle.rules.specs.declared.Ending.the-variants.{Spent}
 use Rattle.rules.specs.declared.Comparison.{Comparison}
+use Rattle.rules.specs.declared.Change.{Change}
 use Rattle.rules.specs.declared.Prices.{Prices}
-use Rattle.rules.specs.Values.{lowest, highest, Result, number, past, compares, tried, passes, fails, beyond, decide}
-use Rattle.rules.specs.Blocks.{Source, assign, Test}
+use Rattle.rules.specs.Values.{lowest, highest, Result, number, past, value, applied, compares, tried, passes, fails, beyond, decide}
+use Rattle.rules.specs.Blocks.{Source, from, changed, assign, Test}
+use Rattle.rules.specs.Expressions.{Expr}
 use Rattle.rules.specs.Run.{State, Out, go, halt, choose, charge, write, result, exec, holds}
 use Rattle.rules.specs.Scripts.{storeOf}
 use Rattle.rules.proofs.Laws.{no-true}
@@ -40,7 +42,7 @@ far : (i v : ℕ) (s : State) → write i v (number (pos 4_000_000_000)) s ≡ w
 unfolding write choose lowest highest
 far i v s = refl
 
-pub write-in : (i v : ℕ) (z : ℤ) (s : State) → write i v (number z) s ≡ write i v (resultIn z) s
+write-in : (i v : ℕ) (z : ℤ) (s : State) → write i v (number z) s ≡ write i v (resultIn z) s
 unfolding resultIn
 write-in i v z s = by (eqZ z (pos 4_000_000_000)) (eqZ-true z (pos 4_000_000_000))
   where
@@ -59,6 +61,16 @@ module _ (π : Prices) {m r : Machine} (store : List ℤ) {store′ : List ℤ} 
       ((λ i. outcome (charge (π .arithmetic) at [] s (λ t. w at v t i)) c (λ u. to j (phaseOf b) u c))
       ∙ (λ i. outcome (charge (π .arithmetic) (q i) [] s (λ t. write (q i) (n i) (e i) t)) c (λ u. to (g i) (phaseOf b) u c)))
       a
+
+  pub put-value : (z : ℤ) (x : Expr) → resultIn z ≡ value x (storeOf store) → Acts m r store′ picks c (putTo (π .arithmetic) at v z j b (stateOf m store picks) c)
+      → Acts m r store′ picks c (plainTo π at′ (assign v′ (from x)) j′ b (stateOf m store picks) c)
+  unfolding result
+  put-value z x e a = put-plain (from x) z (resultIn z) (λ i w. write-in i w z) e a
+
+  pub put-change : (z : ℤ) (d : Change) → z ≡ applied d (storeOf store v′) → Acts m r store′ picks c (putTo (π .arithmetic) at v z j b (stateOf m store picks) c)
+      → Acts m r store′ picks c (plainTo π at′ (assign v′ (changed d)) j′ b (stateOf m store picks) c)
+  unfolding result
+  put-change z d e a = put-plain (changed d) z (number z) (λ i w s. refl) (ap number e) a
 
 -- ---- a for's entry, which begins once its start has succeeded
 module _ (m n : Machine) (store : List ℤ) (picks : List ℕ) (c d : TurnCounts) (j : ℕ) where

@@ -9,15 +9,15 @@ use native.Mathlib.Omega.{arith}
 use borrow.Author.Tests.{ltb-true, ltb-false}
 use lib.Dec.{ltb}
 use lib.IntN.{ℤ}
-use lib.ListN.{length, getD}
+use lib.ListN.{length}
 use Rattle.rules.specs.declared.Kind.{Kind}
-use Rattle.rules.specs.declared.Kind.the-variants.{Set, Move, Cue, Pick, Else, End, While, Do, For, Off, Hold}
+use Rattle.rules.specs.declared.Kind.the-variants.{Set, Move, Cue, Pick, Else, While, Do, For, Off, Hold}
 use Rattle.rules.specs.declared.Prices.{Prices}
-use Rattle.rules.specs.Blocks.{Plain, assign, cue, changed, is-plain, viewOf, viewAt, kindOf, RowKind}
+use Rattle.rules.specs.Blocks.{Plain, assign, cue, changed, is-plain, viewOf, kindOf, RowKind}
 use Rattle.rules.specs.Calls.{isLoop, loopRows}
 use Rattle.rules.specs.Run.{exec}
 use Rattle.rules.specs.Scripts.{ChangeLimits}
-use Rattle.rules_machine.specs.RowMachine.{TurnCounts, begin, turn, fresh, testing, Next, to, outcome, onRow, Opens, pairs}
+use Rattle.rules_machine.specs.RowMachine.{TurnCounts, begin, turn, fresh, testing, to, outcome, onRow, Opens, pairs}
 use Rattle.table.specs.declared.Tag.{Tag}
 use Rattle.table.specs.Code.{changeIn, number, opIn, variableIn, partnerIn, stepIn, tagIn, kindBy, kindIn}
 use Rattle.table.proofs.Numbers.{tag-hold}
@@ -25,7 +25,7 @@ use Rattle.table.proofs.Pairing.{heads-rise}
 use Rattle.run_actions.specs.declared.Machine.{Machine}
 use Rattle.run_actions.specs.States.{phaseOf, tallyOf, stateOf, onAt, plainTo, pickTo, Acts}
 use Rattle.run_machine.specs.Steps.{scriptIn, AtRow, Stepped}
-use Rattle.run_machine.specs.Rows.{rowOf, loopOf, setOf, moveOf, offOf, Readable, InTable, SetRow, MoveRow, OffRow, LoopRow, ForRow, Does, StepDone, ForBegun, DoBegun, WhileBegun}
+use Rattle.run_machine.specs.Rows.{rowOf, setOf, moveOf, offOf, InTable, SetRow, MoveRow, OffRow, LoopRow, ForRow, Does, StepDone, ForBegun, DoBegun, WhileBegun}
 use Rattle.run_machine.proofs.Laws.{acts-as, passed}
 use Rattle.run_machine.proofs.Rows.{kind-op, kind-set, kind-for, RowIs, row-is, Partner, partner-of, LoopIs, loop-of, room-at, stepped, row-step, end-step}
 

@@ -1,10 +1,9 @@
 -- The rows of a script in a table that may be run. Assumes nothing.
 use mathlib.Core.Path.{_≡_, refl, sym, _∙_, ap, subst}
-use mathlib.Core.Bool.{true, false, cond}
-use mathlib.Core.List.{List, []}
+use mathlib.Core.Bool.{true, cond}
+use mathlib.Core.List.{List}
 use mathlib.Core.Logic.{inr}
-use Prim.Native.Nat.{ℕ, suc, _+_, _*_, _%_, _≤_, _<_}
-use native.Mathlib.Numerals.{add-one}
+use Prim.Native.Nat.{ℕ, suc, _+_, _*_, _%_, _<_}
 use native.Mathlib.Omega.{arith}
 use lib.Dec.{eqb}
 use lib.IntN.{ℤ}
@@ -26,15 +25,15 @@ use Rattle.rules_machine.specs.RowMachine.{TurnCounts, fresh, testing, Next, to
 use Rattle.rules_machine.proofs.RowMachineRuns.{next-row}
 use Rattle.rules_machine.proofs.PairsIn.{partners}
 use Rattle.table.specs.declared.Tag.{Tag}
-use Rattle.table.specs.Code.{operandIn, changeIn, number, opIn, variableIn, comparisonBy, comparisonIn, partnerIn, limitIn, stepIn, tagIn, kindBy, kindIn, numbersAt, rowsOf}
+use Rattle.table.specs.Code.{operandIn, number, opIn, variableIn, comparisonBy, comparisonIn, partnerIn, limitIn, stepIn, tagIn, kindBy, kindIn, numbersAt, rowsOf}
 use Rattle.table.specs.Packing.{IsComparison, TestIn, TestOf}
-use Rattle.table.specs.Paired.{endOp, EndRow, LoopEnd}
+use Rattle.table.specs.Paired.{endOp, EndRow}
 use Rattle.table.proofs.Laws.{kind-in, rows-length}
 use Rattle.table.proofs.Limits.{all-get}
-use Rattle.table.proofs.Pairing.{heads-rise, loop-place}
+use Rattle.table.proofs.Pairing.{loop-place}
 use Rattle.table.proofs.Same.{test-of}
 use Rattle.run_actions.specs.declared.Machine.{Machine}
-use Rattle.run_actions.specs.States.{Rising, RoomAt, phaseOf, stateOf, placeOf}
+use Rattle.run_actions.specs.States.{RoomAt, phaseOf, stateOf, placeOf}
 use Rattle.run_machine.specs.Steps.{scriptIn, Runs, Room, stepOf, AtRow, AtTest}
 use Rattle.run_machine.specs.Rows.{rowOf, Readable, StepRow}
 
@@ -233,6 +232,14 @@ module _ (text : List ℕ) (vars : ℕ) (n : List ℕ) where
   tested (For v y d x k) b (i, z, j) (l, p, o) (u, w) (t, q) = test-in _ t l (record { written = w; below = o }) (λ e. subst ChangeLimits (sym q) j) (λ π rows f g h e s c. refl)
   tested (Hold v) b j l w t = test-in _ t l (record { written = tt; below = tt }) (λ e. absurd (omega arith)) (λ π rows f g h e s c. refl)
 
+-- the loop that row e ends has it
+end-tested : {text t : List ℕ} {count vars : ℕ} (s : Runs text t count vars) (h e : ℕ) → e < count → EndRow (scriptIn text t count) t h e → isLoop (viewAt (scriptIn text t count) h) ≡ true
+    → Tested text vars (kindIn (numbersAt t h)) (numbersAt t e)
+end-tested {text} {t} {count} {vars} s h e l r b =
+    let below : h < count = omega (arith, r .below, l) in
+    let v = row-is s h below (kindIn (numbersAt t h)) refl in
+    tested text vars (numbersAt t e) (kindIn (numbersAt t h)) (ap isLoop (sym (v .view)) ∙ b) (v .limits) (v .below) (v .written) (test-told s h e below r b)
+
 -- the machine stands before it
 pub record Testing (text t : List ℕ) (count : ℕ) (m : Machine) (store : List ℤ) : Type 0 where
   pub small : m .row < 256
@@ -253,9 +260,8 @@ at-test {text} {t} {count} {m} {store} a =
     let r = end-of (a .script) i l (a .ends .end) in
     let h = heads (a .script) i in
     let below : h < count = omega (arith, r .below, l) in
-    let k = kindIn (numbersAt t h) in
-    let v = row-is (a .script) h below k refl in
-    let y = tested text (length store) (numbersAt t i) k (ap isLoop (sym (v .view)) ∙ a .ends .loop) (v .limits) (v .below) (v .written) (test-told (a .script) h i below r (a .ends .loop)) in
+    let v = row-is (a .script) h below (kindIn (numbersAt t h)) refl in
+    let y = end-tested (a .script) h i l r (a .ends .loop) in
     record {
       small = q .small;
       size = q .size;
@@ -289,10 +295,6 @@ step-row {text} {t} {count} {m} {store} a q =
     let x = row-is (a .script) i (a .row) End (kind-op (numbersAt t i) 2 q Tag.End refl) in
     let r = end-of (a .script) i (a .row) (x .view) in
     let h = heads (a .script) i in
-    let below : h < count = omega (arith, r .below, a .row) in
-    let k = kindIn (numbersAt t h) in
-    let v = row-is (a .script) h below k refl in
     let o = sym (r .op) ∙ q in
-    let b = loop-op (viewAt (scriptIn text t count) h) o in
-    let y = tested text (length store) (numbersAt t i) k (ap isLoop (sym (v .view)) ∙ b) (v .limits) (v .below) (v .written) (test-told (a .script) h i below r b) in
-    record { row = record { small = x .small; size = x .size; variable = y .variable }; change = y .step (ap endOp (sym (v .view)) ∙ o) }
+    let y = end-tested (a .script) h i (a .row) r (loop-op (viewAt (scriptIn text t count) h) o) in
+    record { row = record { small = x .small; size = x .size; variable = y .variable }; change = y .step (ap endOp (sym (row-is (a .script) h (omega (arith, r .below, a .row)) (kindIn (numbersAt t h)) refl .view)) ∙ o) }

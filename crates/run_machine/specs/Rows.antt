@@ -10,11 +10,13 @@ use Rattle.rules.specs.declared.Prices.{Prices}
 use Rattle.rules.specs.Blocks.{from, changed, off, Plain, assign, exprOf}
 use Rattle.rules.specs.Run.{exec, result}
 use Rattle.rules.specs.Scripts.{storeOf, ExprBelow, ChangeLimits}
+use Rattle.rules.specs.Values.{value}
 use Rattle.rules.specs.Values
 use Rattle.rules.specs.Written.{WrittenOperand}
 use Rattle.rules_machine.specs.RowMachine.{TurnCounts, begin, turn, testing, to, outcome}
 use Rattle.table.specs.Code.{operandIn, changeIn, number, variableIn, comparisonBy, comparisonIn, partnerIn, stepIn, watchedIn, againstIn, numbersAt}
 use Rattle.table.specs.Packing.{IsComparison}
+use Rattle.values.specs.Results.{resultIn}
 use Rattle.run_actions.specs.declared.Machine.{Machine}
 use Rattle.run_actions.specs.States.{tallyOf, Rising, RoomAt, EntryBegun, stateOf, onAt, plainTo, Acts}
 
@@ -84,6 +86,10 @@ pub record ForRow (kind : ℕ) (m : Machine) (text t : List ℕ) (vars : ℕ) (c
   pub loop : LoopRow m t counts
 
 -- ---- what they do
+-- r is what an operand comes to, as one number
+abbrev pub ReadAs : List ℕ → List ℤ → Operand → ℤ → Type 0
+ReadAs text store x r = resultIn r ≡ value (exprOf text x) (storeOf store)
+
 -- what an off's flag holds after it
 abbrev pub HeldAfter : List ℤ → List ℕ → ℤ → Type 0
 HeldAfter store e z = Values.number z ≡ result (off (watchedIn e) (comparisonBy (comparisonIn e)) (againstIn e)) (storeOf store (variableIn e)) (storeOf store)
@@ -91,6 +97,10 @@ HeldAfter store e z = Values.number z ≡ result (off (watchedIn e) (comparisonB
 -- a plain row, and on to the next
 abbrev pub Does : Prices → Machine → Machine → List ℤ → List ℤ → Plain → Type 0
 Does π m r store store′ p = (picks : List ℕ) (c : TurnCounts) → Acts m r store′ picks c (plainTo π (m .row) p (m .row + 1) false (stateOf m store picks) c)
+
+-- a set
+abbrev pub SetDone : Prices → ℕ → Machine → Machine → List ℕ → List ℕ → List ℤ → List ℤ → Type 0
+SetDone π kind m r text t store store′ = Does π m r store store′ (setOf text kind (rowOf t m))
 
 -- a for's step, and on to its test
 abbrev pub StepDone : Prices → Machine → Machine → List ℤ → List ℤ → List ℕ → Type 0

@@ -9,23 +9,18 @@ use table::codes;
 use table::partner_at;
 use table::variable_at;
 use values::stored;
-ghost use mathlib.Core.Path.{_≡_};
 ghost use mathlib.Core.List.{List};
 ghost use Prim.Native.Nat.{ℕ, _+_, _*_, _<_};
 ghost use lib.ListN.{length};
-ghost use Rattle.rules.specs.Blocks.{exprOf};
-ghost use Rattle.rules.specs.Scripts.{storeOf};
-ghost use Rattle.rules.specs.Values.{value};
 ghost use Rattle.table.specs.Code.{operandIn, limitIn, numbersAt};
-ghost use Rattle.values.specs.Results.{resultIn};
 ghost use Rattle.run_machine.specs.Steps.{scriptIn, AtRow, AtTest, Stepped};
-ghost use Rattle.run_machine.specs.Rows.{rowOf, setOf, moveOf, offOf, Readable, SetRow, MoveRow, StepRow, OffRow, ForRow, LoopRow};
-ghost use Rattle.run_machine.specs.Rows.{HeldAfter, Does, StepDone, ForBegun, DoBegun, WhileBegun};
+ghost use Rattle.run_machine.specs.Rows.{rowOf, moveOf, offOf, Readable, SetRow, MoveRow, StepRow, OffRow, ForRow, LoopRow};
+ghost use Rattle.run_machine.specs.Rows.{ReadAs, HeldAfter, Does, SetDone, StepDone, ForBegun, DoBegun, WhileBegun};
 
 // The value of an operand by its kind, or PAST.
 fn value_of(kind: u32, x: u32, text: &[u8], store: &[i32]) -> i64
     requires { ⌜ Readable (now text) (length (now store)) (operandIn kind x) ⌝ }
-    ensures { λ r. ⌜ resultIn r ≡ value (exprOf (now (text .entry)) (operandIn kind x)) (storeOf (now (store .entry))) ⌝ }
+    ensures { λ r. ⌜ ReadAs (now (text .entry)) (now (store .entry)) (operandIn kind x) r ⌝ }
 {
     values::value_of(text, table::operand(kind, x), store)
 }
@@ -40,7 +35,7 @@ fn set_row(
     store: &mut [i32],
 ) -> Machine
     requires { ⌜ SetRow kind m (now text) (now rows) (length (now store)) ⌝ }
-    ensures { λ r. ⌜ Does prices m r (now (store .entry)) (now (store .exit)) (setOf (now (text .entry)) kind (rowOf (now (rows .entry)) m)) ⌝ }
+    ensures { λ r. ⌜ SetDone prices kind m r (now (text .entry)) (now (rows .entry)) (now (store .entry)) (now (store .exit)) ⌝ }
 {
     let i = m.row;
     let z = value_of(kind, table::start_at(rows, i), text, store);
@@ -213,7 +208,7 @@ pub fn act(
 // The limit of the loop that ends at row i, or PAST. An expression is told by one bit.
 fn limit_of(rows: &[u32], i: usize, text: &[u8], store: &[i32]) -> i64
     requires { ⌜ (4 * i + 3 < length (now rows)) × Readable (now text) (length (now store)) (limitIn (numbersAt (now rows) i)) ⌝ }
-    ensures { λ r. ⌜ resultIn r ≡ value (exprOf (now (text .entry)) (limitIn (numbersAt (now (rows .entry)) i))) (storeOf (now (store .entry))) ⌝ }
+    ensures { λ r. ⌜ ReadAs (now (text .entry)) (now (store .entry)) (limitIn (numbersAt (now (rows .entry)) i)) r ⌝ }
 {
     let x = table::limit_value_at(rows, i);
     if table::limit_kind_at(rows, i) == codes::CONSTANT {
@@ -240,17 +235,18 @@ pub fn test_row(
     let i = m.row;
     let price = prices.test;
     let left = m.left;
+    let head = partner_at(rows, i);
     if left < price {
-        return run_actions::ended(m, left, Ending::Spent, partner_at(rows, i));
+        return run_actions::ended(m, left, Ending::Spent, head);
     }
     let limit = limit_of(rows, i, text, store);
     if limit == values::PAST {
-        return run_actions::ended(m, left - price, Ending::Range, partner_at(rows, i));
+        return run_actions::ended(m, left - price, Ending::Range, head);
     }
     let x = stored(variable_at(rows, i), store);
     if run_actions::passes(table::comparison_at(rows, i), x as i64, limit) {
         run_actions::count_turn(table::loop_at(rows, i), counts);
-        on(m, left - price, partner_at(rows, i) + 1, false)
+        on(m, left - price, head + 1, false)
     } else {
         on(m, left - price, i + 1, false)
     }

@@ -7,16 +7,15 @@ use mir.Val.{SFits}
 use mir.Syntax.{w64}
 use borrow.Author.Needs.{needs, sfits-of}
 use lib.ListN.{length, getD}
-use Rattle.rules.specs.Blocks.{from, exprOf}
-use Rattle.rules.specs.Run.{result, exec}
+use Rattle.rules.specs.Blocks.{exprOf}
+use Rattle.rules.specs.Run.{exec}
 use Rattle.rules.specs.Scripts.{storeOf}
 use Rattle.rules.specs.Values.{value}
 use Rattle.rules_machine.specs.RowMachine.{begin}
-use Rattle.values.specs.Results.{resultIn}
 use Rattle.table.specs.Code.{operandIn, number, partnerIn, numbersAt}
 use Rattle.run_actions.specs.States.{tallyOf, RoomAt, stateOf}
 use Rattle.run_machine.specs.Rows.{rowOf, loopOf, setOf, Readable}
-use Rattle.run_machine.proofs.Laws.{acts-as, write-in, put-plain, for-begins, for-stops}
+use Rattle.run_machine.proofs.Laws.{acts-as, put-value, for-begins, for-stops}
 use Rattle.run_machine.proofs.for_row.Statement.{statement}
 use Rattle.run_machine.proofs.for_row.Tie as tie
 
@@ -39,7 +38,6 @@ begin-requires : tie.Need-begin-requires
 begin-requires c κs = let s = c .before .before .before .before .before .before .before .before .before .before .before .before .before .before in subst (λ k. RoomAt k (s .args .counts .now)) (sym (known (c .before))) (s .pre .loop .room)
 
 returns : tie.Need-returns
-unfolding result
 returns c =
     let a = c .before .before .before .before .before .before .before .before .before .before .before .before .before .before .before .args in
     let z = c .before .before .before .before .before .before .before .before .before .value-of in
@@ -53,11 +51,10 @@ returns c =
       acts = λ picks heads r l.
           let o = exec (a .prices) (a .m .row) (setOf (now (a .text)) (a .kind) e) (stateOf (a .m) (now (a .store)) picks) in
           acts-as (sym (b .same heads r l)) refl
-          (for-begins _ _ _ _ _ _ (partnerIn e) o (sym (c .before .before .before .before .going .ensures) ∙ c .before .before .before .if1 .taken) (put-plain (a .prices) (now (a .store)) true refl (c .before .before .before .before .before .before .before .before .variable-at .ensures) (c .before .before .before .before .before .before .before .before .before .before .before .before .partner-at .ensures) (from (exprOf (now (a .text)) x)) (z .result) (resultIn (z .result)) (λ i v. write-in i v (z .result)) y (simp (toZ-ofZ f) at (c .before .before .before .before .before .before .put .ensures picks (begin (getD heads (loopOf (now (a .rows)) (a .m)) 0) (tallyOf heads (now (a .counts))))))));
+          (for-begins _ _ _ _ _ _ (partnerIn e) o (sym (c .before .before .before .before .going .ensures) ∙ c .before .before .before .if1 .taken) (put-value (a .prices) (now (a .store)) true refl (c .before .before .before .before .before .before .before .before .variable-at .ensures) (c .before .before .before .before .before .before .before .before .before .before .before .before .partner-at .ensures) (z .result) (exprOf (now (a .text)) x) y (simp (toZ-ofZ f) at (c .before .before .before .before .before .before .put .ensures picks (begin (getD heads (loopOf (now (a .rows)) (a .m)) 0) (tallyOf heads (now (a .counts))))))));
     }
 
 returns-2 : tie.Need-returns-2
-unfolding result
 returns-2 c =
     let a = c .before .before .before .before .before .before .before .before .before .before .before .before .args in
     let z = c .before .before .before .before .before .before .value-of in
@@ -69,7 +66,7 @@ returns-2 c =
       long = c .before .before .before .before .before .before .before .before .before .before .before .before .pre .loop .room .long;
       acts = λ picks heads r l.
           let o = exec (a .prices) (a .m .row) (setOf (now (a .text)) (a .kind) e) (stateOf (a .m) (now (a .store)) picks) in
-          for-stops _ _ _ _ _ _ (partnerIn e) o (sym (c .before .going .ensures) ∙ c .if1 .left) (put-plain (a .prices) (now (a .store)) true refl (c .before .before .before .before .before .variable-at .ensures) (c .before .before .before .before .before .before .before .before .before .partner-at .ensures) (from (exprOf (now (a .text)) x)) (z .result) (resultIn (z .result)) (λ i v. write-in i v (z .result)) y (simp (toZ-ofZ f) at (c .before .before .before .put .ensures picks (tallyOf heads (now (a .counts))))));
+          for-stops _ _ _ _ _ _ (partnerIn e) o (sym (c .before .going .ensures) ∙ c .if1 .left) (put-value (a .prices) (now (a .store)) true refl (c .before .before .before .before .before .variable-at .ensures) (c .before .before .before .before .before .before .before .before .before .partner-at .ensures) (z .result) (exprOf (now (a .text)) x) y (simp (toZ-ofZ f) at (c .before .before .before .put .ensures picks (tallyOf heads (now (a .counts))))));
     }
 
 pub for-row-spec : {M : Type 1} → statement M

@@ -17,26 +17,29 @@ use Rattle.rules.specs.Values.{value, operated, number}
 use Rattle.values.proofs.Results.{in-number}
 use Rattle.table.specs.Code.{constantIn, operandIn, isExpression, limitKindIn, limitIn, numbersAt}
 use Rattle.table.specs.Code
-use Rattle.run_machine.specs.Rows.{Readable}
+use Rattle.run_machine.specs.Rows.{Readable, ReadAs}
 use Rattle.run_machine.proofs.limit_of.Statement.{statement}
 use Rattle.run_machine.proofs.limit_of.Tie as tie
 
 -- an operand that is no constant, by one bit of its kind
-by-bit : (k x : ℕ) (b : Bool) → (k ≡ 0 → ⊥) → b ≡ isExpression (operandIn k x) → operandIn k x ≡ cond b (operandIn 2 x) (operandIn 1 x)
+by-bit : (k x : ℕ) (b : Bool) → (k ≡ 0 → ⊥) → b ≡ isExpression (operandIn k x) → operandIn k x ≡ operandIn (cond b 2 1) x
 by-bit k x b n e = let z = ne-eqb k 0 n in rw z (by (eqb k 1) (rw z at e))
   where
-    by : (d : Bool) → b ≡ isExpression (cond d (operandIn 1 x) (operandIn 2 x)) → cond d (operandIn 1 x) (operandIn 2 x) ≡ cond b (operandIn 2 x) (operandIn 1 x)
+    by : (d : Bool) → b ≡ isExpression (cond d (operandIn 1 x) (operandIn 2 x)) → cond d (operandIn 1 x) (operandIn 2 x) ≡ operandIn (cond b 2 1) x
     by true e = rw e
     by false e = rw e
 
-told : (c : tie.After-limit-is-expression) → let a = c .before .before .before .before .before .before .args in let x = c .before .before .before .limit-value-at .result in
-    limitIn (numbersAt (now (a .rows)) (a .i)) ≡ cond (c .limit-is-expression .result) (operandIn 2 x) (operandIn 1 x)
-told c =
+told : (c : tie.After-limit-is-expression) (b : Bool) → c .limit-is-expression .result ≡ b → let a = c .before .before .before .before .before .before .args in
+    operandIn (cond b 2 1) (c .before .before .before .limit-value-at .result) ≡ limitIn (numbersAt (now (a .rows)) (a .i))
+told c b q =
     let a = c .before .before .before .before .before .before .args in
     let e = numbersAt (now (a .rows)) (a .i) in
-    let b = c .limit-is-expression .result in
-    by-bit (limitKindIn e) (Code.number e 2) b (λ q. c .before .if1 .left (c .before .before .limit-kind-at .ensures ∙ q)) (c .limit-is-expression .ensures)
-    ∙ ap (λ n. cond b (operandIn 2 n) (operandIn 1 n)) (sym (c .before .before .before .limit-value-at .ensures))
+    ap (operandIn (cond b 2 1)) (c .before .before .before .limit-value-at .ensures)
+    ∙ sym (by-bit (limitKindIn e) (Code.number e 2) b (λ z. c .before .if1 .left (c .before .before .limit-kind-at .ensures ∙ z)) (sym q ∙ c .limit-is-expression .ensures))
+
+readable : (c : tie.After-limit-is-expression) (b : Bool) → c .limit-is-expression .result ≡ b → let a = c .before .before .before .before .before .before .args in
+    Readable (now (a .text)) (length (now (a .store))) (operandIn (cond b 2 1) (c .before .before .before .limit-value-at .result))
+readable c b q = let s = c .before .before .before .before .before .before in subst (Readable (now (s .args .text)) (length (now (s .args .store)))) (sym (told c b q)) (s .pre .1)
 
 returns : tie.Need-returns
 unfolding value operated exprOf meaning
@@ -50,31 +53,17 @@ returns c =
     (in-number (z .result) f ∙ ap number (z .ensures ∙ ap constantIn (c .before .before .before .limit-value-at .ensures))
     ∙ sym (ap (λ n. value (exprOf (now (a .text)) (operandIn n (Code.number e 2))) (storeOf (now (a .store)))) k))
 
-value-of-requires : tie.Need-value-of-requires
-value-of-requires c κs =
-    let s = c .before .before .before .before .before .before .before in
-    let x = c .before .before .before .before .limit-value-at .result in
-    subst (Readable (now (s .args .text)) (length (now (s .args .store)))) (told (c .before) ∙ ap (λ b. cond b (operandIn 2 x) (operandIn 1 x)) (c .if2 .taken)) (s .pre .1)
-
 returns-2 : tie.Need-returns-2
 returns-2 c =
     let a = c .before .before .before .before .before .before .before .before .args in
-    let x = c .before .before .before .before .before .limit-value-at .result in
     let f : SFits w64 (c .value-of .result) = sfits-of (c .value-of .ok) in
-    rw (toZ-ofZ f) (c .value-of .ensures ∙ sym (ap (λ o. value (exprOf (now (a .text)) o) (storeOf (now (a .store)))) (told (c .before .before) ∙ ap (λ b. cond b (operandIn 2 x) (operandIn 1 x)) (c .before .if2 .taken))))
-
-value-of-requires-2 : tie.Need-value-of-requires-2
-value-of-requires-2 c κs =
-    let s = c .before .before .before .before .before .before .before in
-    let x = c .before .before .before .before .limit-value-at .result in
-    subst (Readable (now (s .args .text)) (length (now (s .args .store)))) (told (c .before) ∙ ap (λ b. cond b (operandIn 2 x) (operandIn 1 x)) (c .if2 .left)) (s .pre .1)
+    rw (toZ-ofZ f) (subst (λ x. ReadAs (now (a .text)) (now (a .store)) x (c .value-of .result)) (told (c .before .before) true (c .before .if2 .taken)) (c .value-of .ensures))
 
 returns-3 : tie.Need-returns-3
 returns-3 c =
     let a = c .before .before .before .before .before .before .before .before .args in
-    let x = c .before .before .before .before .before .limit-value-at .result in
     let f : SFits w64 (c .value-of2 .result) = sfits-of (c .value-of2 .ok) in
-    rw (toZ-ofZ f) (c .value-of2 .ensures ∙ sym (ap (λ o. value (exprOf (now (a .text)) o) (storeOf (now (a .store)))) (told (c .before .before) ∙ ap (λ b. cond b (operandIn 2 x) (operandIn 1 x)) (c .before .if2 .left))))
+    rw (toZ-ofZ f) (subst (λ x. ReadAs (now (a .text)) (now (a .store)) x (c .value-of2 .result)) (told (c .before .before) false (c .before .if2 .left)) (c .value-of2 .ensures))
 
 pub limit-of-spec : {M : Type 1} → statement M
 limit-of-spec =
@@ -84,7 +73,7 @@ limit-of-spec =
     (λ c. let f : SFits w32 (c .constant .result) = sfits-of (c .constant .ok) in rw (toZ-ofZ f) (sfits-widen tt f))
     returns
     (λ c κs. search needs)
-    value-of-requires
+    (λ c κs. readable (c .before) true (c .if2 .taken))
     returns-2
-    value-of-requires-2
+    (λ c κs. readable (c .before) false (c .if2 .left))
     returns-3)

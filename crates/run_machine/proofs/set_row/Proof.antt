@@ -7,14 +7,12 @@ use mir.Val.{SFits}
 use mir.Syntax.{w64}
 use borrow.Author.Needs.{needs, sfits-of}
 use lib.ListN.{length}
-use Rattle.rules.specs.Blocks.{from, exprOf}
-use Rattle.rules.specs.Run.{result}
+use Rattle.rules.specs.Blocks.{exprOf}
 use Rattle.rules.specs.Scripts.{storeOf}
 use Rattle.rules.specs.Values.{value}
-use Rattle.values.specs.Results.{resultIn}
 use Rattle.table.specs.Code.{operandIn, number}
 use Rattle.run_machine.specs.Rows.{rowOf, Readable}
-use Rattle.run_machine.proofs.Laws.{write-in, put-plain}
+use Rattle.run_machine.proofs.Laws.{put-value}
 use Rattle.run_machine.proofs.set_row.Statement.{statement}
 use Rattle.run_machine.proofs.set_row.Tie as tie
 
@@ -27,7 +25,6 @@ put-requires : tie.Need-put-requires
 put-requires c κs = let s = c .before .before .before .before .before .before .before in rw (c .before .variable-at .ensures) (s .pre .row .variable)
 
 returns : tie.Need-returns
-unfolding result
 returns c =
     let s = c .before .before .before .before .before .before .before .before .before in
     let a = s .args in
@@ -35,7 +32,7 @@ returns c =
     let f : SFits w64 (z .result) = sfits-of (z .ok) in
     let x = operandIn (a .kind) (number (rowOf (now (a .rows)) (a .m)) 1) in
     let y = z .ensures ∙ ap (λ n. value (exprOf (now (a .text)) (operandIn (a .kind) n)) (storeOf (now (a .store)))) (c .before .before .before .before .before .before .start-at .ensures) in
-    λ picks d. put-plain (a .prices) (now (a .store)) false refl (c .before .before .before .variable-at .ensures) refl (from (exprOf (now (a .text)) x)) (z .result) (resultIn (z .result)) (λ i v. write-in i v (z .result)) y (simp (toZ-ofZ f) at (c .before .put .ensures picks d))
+    λ picks d. put-value (a .prices) (now (a .store)) false refl (c .before .before .before .variable-at .ensures) refl (z .result) (exprOf (now (a .text)) x) y (simp (toZ-ofZ f) at (c .before .put .ensures picks d))
 
 pub set-row-spec : {M : Type 1} → statement M
 set-row-spec =

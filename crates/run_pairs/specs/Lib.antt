@@ -1,2 +1,0 @@
--- What the tables of partner rows mean.
-pub mod Tables
