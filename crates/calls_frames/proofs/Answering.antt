@@ -8,9 +8,9 @@ use lib.ListN.{length, getD, set, replicate, length-set, length-replicate}
 use lib.Seq.{getD-set-same, getD-set-other}
 use Rattle.calls_scripts.specs.declared.Held.{Held}
 use Rattle.calls_scripts.specs.declared.HeldScripts.{HeldScripts}
-use Rattle.calls_scripts.specs.Held.{nobody}
+use Rattle.calls_scripts.specs.Held.{sliceOf, nobody}
 use Rattle.calls_turns.specs.declared.Progress.{Progress}
-use Rattle.calls_turns.specs.Progress.{startProgress, sliceOf}
+use Rattle.calls_turns.specs.Progress.{startProgress}
 use Rattle.calls_frames.specs.declared.Played.{Played}
 use Rattle.calls_frames.specs.Answers.{noAnswer, AnsweredBy, AllAnswered}
 

@@ -35,12 +35,12 @@ use Rattle.run_loops.specs.Loops.{Counted, HeadCounts}
 use Rattle.calls_lists.specs.Parts.{partOf}
 use Rattle.calls_lists.proofs.Extents.{extent-part, extent-within}
 use Rattle.calls_scripts.specs.declared.HeldScripts.{HeldScripts}
-use Rattle.calls_scripts.specs.Held.{noPart, noProgress, nobody, tableLengths, HeldAs}
+use Rattle.calls_scripts.specs.Held.{noPart, noProgress, nobody, tableLengths, sliceOf, HeldAs}
 use Rattle.calls_scripts.proofs.Tables.{tables-whole}
 use Rattle.calls_turns.specs.declared.Progress.{Progress}
 use Rattle.calls_frames.specs.declared.Played as code
 use Rattle.calls_frames.specs.declared.Ended as ended
-use Rattle.calls_turns.specs.Progress.{sliceOf, Stands}
+use Rattle.calls_turns.specs.Progress.{Stands}
 use Rattle.calls_frames.specs.Playing.{FramesReady, Uncounted, PlayedOut}
 use Rattle.calls_frames.specs.Answers.{noAnswer, AnsweredBy, AllAnswerable, AllAnswered, ToldPlayed, noPlayed, ToldFrames, Framed}
 use Rattle.calls_turns.proofs.Standing.{after-script, after-picks}

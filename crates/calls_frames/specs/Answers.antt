@@ -12,9 +12,9 @@ use Rattle.runner.specs.Answered.{ranOf}
 use Rattle.run_loops.specs.Loops.{noCount, NoneFrom, Counted, LoopsOf}
 use Rattle.calls_scripts.specs.declared.Held.{Held}
 use Rattle.calls_scripts.specs.declared.HeldScripts.{HeldScripts}
-use Rattle.calls_scripts.specs.Held.{nobody}
+use Rattle.calls_scripts.specs.Held.{sliceOf, Inside, nobody}
 use Rattle.calls_turns.specs.declared.Progress.{Progress}
-use Rattle.calls_turns.specs.Progress.{startProgress, sliceOf, Inside}
+use Rattle.calls_turns.specs.Progress.{startProgress}
 use Rattle.calls_frames.specs.declared.Played.{Played}
 use Rattle.calls_frames.specs.declared.Frames as code
 

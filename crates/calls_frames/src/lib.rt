@@ -39,7 +39,9 @@ fn play(
     counts: &mut [[[u64; 3]; 16]; 8],
 ) -> Ended
     requires { ⌜ MayPlay (now prices) (now files) (now tables) (now stores) (now picks) q all × Uncounted (now counts) ⌝ }
-    ensures { λ r. ⌜ ForReady (now (prices .entry)) (now (files .entry)) (now (tables .entry)) (now (stores .entry)) (now (picks .entry)) q all (λ l roles. PlayedOut (now (prices .entry)) l q roles r (now (stores .exit)) (now (counts .exit))) ⌝ }
+    ensures { λ r. ⌜ ForReady (now (prices .entry)) (now (files .entry)) (now (tables .entry)) (now (stores .entry))
+        (now (picks .entry)) q all
+        (λ l roles. PlayedOut (now (prices .entry)) l q roles r (now (stores .exit)) (now (counts .exit))) ⌝ }
 {
     let by_kind = prices_of(prices);
     let each = all.each;
@@ -191,7 +193,9 @@ fn play_held(
     q: u64,
 ) -> Frames
     requires { ⌜ MayPlay (now prices) (now files) (now tables) (now stores) (now picks) q all ⌝ }
-    ensures { λ r. ⌜ ForReady (now (prices .entry)) (now (files .entry)) (now (tables .entry)) (now (stores .entry)) (now (picks .entry)) q all (λ l roles. Framed (playedBy (pricesOf (now (prices .entry))) q (ready roles)) (now (stores .entry)) (now (stores .exit)) r) ⌝ }
+    ensures { λ r. ⌜ ForReady (now (prices .entry)) (now (files .entry)) (now (tables .entry)) (now (stores .entry))
+        (now (picks .entry)) q all
+        (λ l roles. Framed (playedBy (pricesOf (now (prices .entry))) q (ready roles)) (l .stores) (now (stores .exit)) r) ⌝ }
 {
     let mut counts: [[[u64; 3]; 16]; 8] = [[[0; 3]; 16]; 8];
     let ended = play(files, tables, stores, picks, all, prices, q, &mut counts);
@@ -216,8 +220,12 @@ pub fn run_frames(
     prices: &[u32],
     q: u64,
 ) -> Frames
-    requires { ⌜ Priced (now prices) × Fitted (lentOf (now files) (now «file_lengths») (now stores) (now «store_lengths») (now picks) (now «pick_lengths»)) q ⌝ }
-    ensures { λ r. ⌜ Framed (playedBy (pricesOf (now (prices .entry))) q (readiness (now (prices .entry)) scratchSize (partsOf (lentOf (now (files .entry)) (now («file_lengths» .entry)) (now (stores .entry)) (now («store_lengths» .entry)) (now (picks .entry)) (now («pick_lengths» .entry)))))) (now (stores .entry)) (now (stores .exit)) r ⌝ }
+    requires { ⌜ Priced (now prices) × Fitted (lentOf (now files) (now «file_lengths») (now stores) (now «store_lengths»)
+        (now picks) (now «pick_lengths»)) q ⌝ }
+    ensures { λ r. ⌜ Framed (playedBy (pricesOf (now (prices .entry))) q (readiness (now (prices .entry)) scratchSize
+        (partsOf (lentOf (now (files .entry)) (now («file_lengths» .entry)) (now (stores .entry))
+        (now («store_lengths» .entry)) (now (picks .entry)) (now («pick_lengths» .entry))))))
+        (now (stores .entry)) (now (stores .exit)) r ⌝ }
 {
     let mut tables = [0u32; 8_192];
     let all = calls_scripts::enter_all(

@@ -1,10 +1,10 @@
 -- The first scripts have entered. Assumes nothing.
 use mathlib.Core.Path.{_≡_, sym, _∙_, ap}
-use mathlib.Core.List.{List, _++_}
-use Prim.Native.Nat.{ℕ, _+_, _-_, _<_}
+use mathlib.Core.List.{List}
+use Prim.Native.Nat.{ℕ, _+_, _<_}
 use native.Mathlib.Decide.{ℕ-discrete}
 use native.Mathlib.Omega.{arith}
-use lib.ListN.{length, getD, set, take, drop, length-set}
+use lib.ListN.{length, getD, set, length-set}
 use lib.Seq.{getD-set-same, getD-set-other}
 use Rattle.rules.specs.declared.Verdict.the-variants.{Passed, Refused}
 use Rattle.rules.specs.File.{fileScript}
@@ -14,13 +14,12 @@ use Rattle.rules_frames.proofs.Cut.{partAt, cut-length, cut-at}
 use Rattle.rules_frames.proofs.FramesAsAlone.{cast-accepts}
 use Rattle.calls.specs.Held.{admitted}
 use Rattle.calls_lists.specs.Parts.{partOf}
-use Rattle.calls_lists.proofs.Splices.{wrote-length, wrote-part, wrote-others}
 use Rattle.calls_scripts.specs.declared.Places.{Places}
 use Rattle.calls_scripts.specs.declared.Held.{Held}
 use Rattle.calls_scripts.specs.declared.Entered.{Entered}
-use Rattle.calls_scripts.specs.Held.{tableLengths, Lengths, PlacesOf, EnteredAs, noPart, nobody, HeldBy}
+use Rattle.calls_scripts.specs.Held.{tableLengths, Lengths, PlacesOf, PutAt, EnteredAs, noPart, nobody, HeldBy}
 use Rattle.calls_scripts.proofs.Readiness.{answerTo, cast-no, cast-yes, judged-file, plays-at}
-use Rattle.calls_scripts.proofs.Tables.{tables-whole}
+use Rattle.calls_scripts.proofs.Tables.{tables-whole, put-length, put-part, put-others}
 
 module _ (prices : List ℕ) (l : Lent) where
   abbrev N : ℕ
@@ -44,18 +43,15 @@ module _ (prices : List ℕ) (l : Lent) where
   entering-none tables each e w = record { long = e; whole = w; places = λ j h. absurd (omega arith); enters = λ j h. absurd (omega arith) }
 
   -- one more, which writes its own table
-  module _ (k : ℕ) (tables : List ℕ) (each : List Held) (few : k < 8) (h : Entering k tables each) (p : Places) (at : Placed k p) (e : Entered) (t : List ℕ)
-      (size : length t ≡ p .table .to - p .table .from) (entered : Enters k t e) (passes : e .verdict ≡ Passed) where
+  module _ (k : ℕ) (tables tables′ : List ℕ) (each : List Held) (few : k < 8) (h : Entering k tables each) (p : Places) (at : Placed k p) (e : Entered) (t : List ℕ) (put : PutAt (p .table) t tables tables′)
+      (entered : Enters k t e) (passes : e .verdict ≡ Passed) where
     abbrev now : Held
     now = record { places = p; count = e .count }
-
-    abbrev tables′ : List ℕ
-    tables′ = take (p .table .from) tables ++ (t ++ drop (p .table .to - p .table .from) (drop (p .table .from) tables))
 
     pub entering-more : Entering (k + 1) tables′ (set each k now)
     entering-more = record {
       long = length-set each k now ∙ h .long;
-      whole = wrote-length tableLengths k (p .table) (at .table) tables t few (tables-whole tables (h .whole)) size ∙ h .whole;
+      whole = put-length tableLengths k (p .table) (at .table) tables tables′ t few (tables-whole tables (h .whole)) put ∙ h .whole;
       places = λ j l. placed j l (ℕ-discrete j k);
       enters = λ j l. by j l (ℕ-discrete j k);
     }
@@ -66,10 +62,10 @@ module _ (prices : List ℕ) (l : Lent) where
 
         by : (j : ℕ) → j < k + 1 → Dec (j ≡ k) → Enters j (partOf tableLengths j tables′) (record { verdict = Passed; count = getD (set each k now) j nobody .count })
         by j l (yes z) =
-            rw (z, getD-set-same each k now nobody (omega (arith, h .long)), wrote-part tableLengths k (p .table) (at .table) tables t few (tables-whole tables (h .whole)) size)
+            rw (z, getD-set-same each k now nobody (omega (arith, h .long)), put-part tableLengths k (p .table) (at .table) tables tables′ t few (tables-whole tables (h .whole)) put)
             (record { verdict = sym passes ∙ entered .verdict; held = entered .held })
         by j l (no z) =
-            rw (getD-set-other each k j now nobody z, wrote-others tableLengths k (p .table) (at .table) tables t few (tables-whole tables (h .whole)) size j (omega arith) z) (h .enters j (omega (arith, z)))
+            rw (getD-set-other each k j now nobody z, put-others tableLengths k (p .table) (at .table) tables tables′ t few (tables-whole tables (h .whole)) put j (omega arith) z) (h .enters j (omega (arith, z)))
 
   module _ (priced : Priced prices) (lengths : Lengths (l .fileLengths) (l .storeLengths) (l .pickLengths)) where
     abbrev parts : List ScriptPart

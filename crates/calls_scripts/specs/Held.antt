@@ -1,9 +1,9 @@
 -- A script as it is held for the frames, and all of them.
 use mathlib.Core.Path.{_≡_}
-use mathlib.Core.List.{List, []}
-use Prim.Native.Nat.{ℕ, _≤_, _<_, _^_}
+use mathlib.Core.List.{List, [], _++_}
+use Prim.Native.Nat.{ℕ, _-_, _≤_, _<_, _^_}
 use lib.IntN.{ℤ}
-use lib.ListN.{length, getD, replicate}
+use lib.ListN.{length, getD, take, drop, replicate}
 use Rattle.rules.specs.declared.Verdict.{Verdict}
 use Rattle.rules.specs.declared.Verdict.the-variants.{Passed, Refused}
 use Rattle.rules.specs.Written.{Written}
@@ -43,6 +43,19 @@ pub record PlacesOf (fs ss ps : List ℕ) (k : ℕ) (p : Places) : Type 0 where
   pub store : ExtentOf ss k (p .store)
   pub picks : ExtentOf ps k (p .picks)
 
+-- what stands at a place in what is lent
+abbrev pub sliceOf : {A : Type 0} → Extent → List A → List A
+sliceOf s xs = take (s .to - s .from) (drop (s .from) xs)
+
+-- the place lies in it
+abbrev pub Inside : {A : Type 0} → Extent → List A → Type 0
+Inside s xs = (s .from ≤ s .to) × (s .to ≤ length xs)
+
+-- it is ys at the place, and else what it was
+pub record PutAt {A : Type 0} (s : Extent) (ys xs xs′ : List A) : Type 0 where
+  pub size : length ys ≡ s .to - s .from
+  pub all : xs′ ≡ take (s .from) xs ++ (ys ++ drop (s .to - s .from) (drop (s .from) xs))
+
 -- ---- one script
 -- a script of a file, with `count` rows in its table
 pub record HeldAs (file : List ℕ) (script : Script) (count : ℕ) (t : List ℕ) : Type 0 where
@@ -55,6 +68,20 @@ pub record HeldAs (file : List ℕ) (script : Script) (count : ℕ) (t : List �
 pub record EnteredAs (prices file : List ℕ) (store : List ℤ) (t : List ℕ) (e : Entered) : Type 0 where
   pub verdict : e .verdict ≡ admitted (judgedFile (pricesOf prices) (fileScript file)) store
   pub held : (script : Script) → judgedFile (pricesOf prices) (fileScript file) ≡ accepted script → HeldAs file script (e .count) t
+
+-- it may be read at its places
+pub record MayEnterAt (prices files : List ℕ) (stores : List ℤ) (tables : List ℕ) (p : Places) : Type 0 where
+  pub priced : Priced prices
+  pub file : Inside (p .file) files
+  pub store : Inside (p .store) stores
+  pub table : Inside (p .table) tables
+  pub whole : p .table .to - p .table .from ≡ 1_024
+
+-- it has been; of the tables only its own is another
+pub record EnteredAt (prices files : List ℕ) (stores : List ℤ) (tables tables′ : List ℕ) (p : Places) (e : Entered) : Type 0 where
+  pub table : List ℕ
+  pub wrote : PutAt (p .table) table tables tables′
+  pub entered : EnteredAs prices (sliceOf (p .file) files) (sliceOf (p .store) stores) table e
 
 -- ---- all of them
 -- the files and stores are in parts that fit, and there are eight tables

@@ -9,7 +9,8 @@ ghost use Prim.Native.Nat.{ℕ, _<_};
 ghost use lib.ListN.{length};
 ghost use Rattle.rules.specs.Calls.{Priced};
 ghost use Rattle.calls_lists.specs.Parts.{lentOf, ExtentOf};
-ghost use Rattle.calls_scripts.specs.Held.{tableLengths, Lengths, PlacesOf, EnteredAs, MayEnter, HeldScriptsAs};
+ghost use Rattle.calls_scripts.specs.Held.{tableLengths, Lengths, PlacesOf, MayEnterAt, MayEnter};
+ghost use Rattle.calls_scripts.specs.Held.{EnteredAs, EnteredAt, HeldScriptsAs};
 
 // Where a script's file, table, store and picks stand in what is lent.
 pub struct Places {
@@ -25,6 +26,7 @@ pub struct Held {
     pub count: usize,
 }
 
+// No place.
 const NOWHERE: Extent = Extent { from: 0, to: 0 };
 
 // What stands past the last script.
@@ -98,7 +100,36 @@ fn enter(file: &[u8], prices: &[u32], store: &[i32], table: &mut [u32]) -> Enter
     }
 }
 
-// All scripts, each accepted with its store; or the first no, with its number and place.
+// The same by a script's places in what is lent.
+fn enter_at(
+    files: &[u8],
+    stores: &[i32],
+    tables: &mut [u32],
+    places: Places,
+    prices: &[u32],
+) -> Entered
+    requires { ⌜ MayEnterAt (now prices) (now files) (now stores) (now tables) places ⌝ }
+    ensures { λ r. ⌜ EnteredAt (now (prices .entry)) (now (files .entry)) (now (stores .entry)) (now (tables .entry))
+        (now (tables .exit)) places r ⌝ }
+{
+    let f = places.file;
+    let file_from = f.from;
+    let file_to = f.to;
+    let s = places.store;
+    let store_from = s.from;
+    let store_to = s.to;
+    let t = places.table;
+    let table_from = t.from;
+    let table_to = t.to;
+    enter(
+        &files[file_from..file_to],
+        prices,
+        &stores[store_from..store_to],
+        &mut tables[table_from..table_to],
+    )
+}
+
+// All scripts and how many they are, each accepted with its store; or the first no, with its number and place.
 pub struct HeldScripts {
     pub verdict: Verdict,
     pub number: usize,
@@ -115,29 +146,18 @@ pub fn enter_all(
     prices: &[u32],
     tables: &mut [u32],
 ) -> HeldScripts
-    requires { ⌜ MayEnter (now prices) (now files) (now «file_lengths») (now stores) (now «store_lengths») (now «pick_lengths») (now tables) ⌝ }
-    ensures { λ r. ⌜ ((picks : List ℕ) → HeldScriptsAs (now (prices .entry)) (lentOf (now (files .entry)) (now («file_lengths» .entry)) (now (stores .entry)) (now («store_lengths» .entry)) picks (now («pick_lengths» .entry))) (now (tables .exit)) r) ⌝ }
+    requires { ⌜ MayEnter (now prices) (now files) (now «file_lengths») (now stores) (now «store_lengths»)
+        (now «pick_lengths») (now tables) ⌝ }
+    ensures { λ r. ⌜ ((picks : List ℕ) → HeldScriptsAs (now (prices .entry)) (lentOf (now (files .entry))
+        (now («file_lengths» .entry)) (now (stores .entry)) (now («store_lengths» .entry)) picks
+        (now («pick_lengths» .entry))) (now (tables .exit)) r) ⌝ }
 {
     let mut each = [NOBODY; 8];
     let number = file_lengths.len();
     let mut k = 0;
     while k < number {
         let places = places_of(k, file_lengths, store_lengths, pick_lengths);
-        let f = places.file;
-        let from = f.from;
-        let to = f.to;
-        let s = places.store;
-        let first = s.from;
-        let last = s.to;
-        let t = places.table;
-        let a = t.from;
-        let b = t.to;
-        let e = enter(
-            &files[from..to],
-            prices,
-            &stores[first..last],
-            &mut tables[a..b],
-        );
+        let e = enter_at(files, stores, tables, places, prices);
         let asked = e.verdict;
         match asked {
             Verdict::Passed => {
@@ -148,18 +168,16 @@ pub fn enter_all(
                 k += 1;
             }
             Verdict::Refused(q, p) => {
-                let verdict = Verdict::Refused(q, p);
                 return HeldScripts {
-                    verdict,
+                    verdict: Verdict::Refused(q, p),
                     number,
                     each,
                 };
             }
         }
     }
-    let verdict = Verdict::Passed;
     HeldScripts {
-        verdict,
+        verdict: Verdict::Passed,
         number,
         each,
     }

@@ -1,5 +1,5 @@
 -- One script runs on over its own parts of what is lent. Assumes nothing.
-use mathlib.Core.Path.{_≡_, sym, _∙_, ap}
+use mathlib.Core.Path.{_≡_, sym, _∙_}
 use mathlib.Core.List.{List}
 use Prim.Native.Nat.{ℕ, _<_}
 use native.Mathlib.Omega.{arith}
@@ -12,10 +12,9 @@ use Rattle.run_machine.specs.Steps.{scriptIn}
 use Rattle.runner.specs.Runs.{MayGo, WentOn}
 use Rattle.calls_lists.specs.Parts.{partOf, Fitted}
 use Rattle.calls_lists.proofs.Extents.{extent-part, extent-within}
-use Rattle.calls_lists.proofs.Splices.{wrote-length, wrote-part, wrote-others}
 use Rattle.calls_scripts.specs.declared.Held.{Held}
 use Rattle.calls_scripts.specs.Held.{tableLengths, PlacesOf}
-use Rattle.calls_scripts.proofs.Tables.{tables-whole}
+use Rattle.calls_scripts.proofs.Tables.{tables-whole, put-length, put-part, put-others}
 use Rattle.calls_turns.specs.Progress.{MayTurn, Turned}
 
 module _ (π : Prices) (l : Lent) (q : ℕ) (fits : Fitted l q) (tables : List ℕ) (eight : length tables ≡ 8_192) (stores : List ℤ) (same : length stores ≡ length (l .stores)) (k : ℕ)
@@ -40,7 +39,7 @@ module _ (π : Prices) (l : Lent) (q : ℕ) (fits : Fitted l q) (tables : List �
     pub went-on : WentOn π (scriptIn (partOf (l .fileLengths) k (l .files)) (partOf tableLengths k tables) (h .count)) m r (partOf (l .storeLengths) k stores) (partOf (l .storeLengths) k stores′) (partOf (l .pickLengths) k (l .picks)) counts counts′
     went-on =
         rw (
-          ap (partOf (l .storeLengths) k) (x .wrote) ∙ wrote-part _ _ _ (at .store) stores (x .store) in-stores all-stores (x .size),
+          put-part _ _ _ (at .store) stores stores′ (x .store) in-stores all-stores (x .wrote),
           sym (extent-part _ _ _ (at .file) (l .files)),
           sym (extent-part _ _ _ (at .table) tables),
           sym (extent-part _ _ _ (at .store) stores),
@@ -49,7 +48,7 @@ module _ (π : Prices) (l : Lent) (q : ℕ) (fits : Fitted l q) (tables : List �
         (x .went)
 
     pub stores-long : length stores′ ≡ length stores
-    stores-long = ap (λ (z : List ℤ). length z) (x .wrote) ∙ wrote-length _ _ _ (at .store) stores (x .store) in-stores all-stores (x .size)
+    stores-long = put-length _ _ _ (at .store) stores stores′ (x .store) in-stores all-stores (x .wrote)
 
     pub others-keep : (j : ℕ) → j < length (l .storeLengths) → (j ≡ k → ⊥) → partOf (l .storeLengths) j stores′ ≡ partOf (l .storeLengths) j stores
-    others-keep j i other = ap (partOf (l .storeLengths) j) (x .wrote) ∙ wrote-others _ _ _ (at .store) stores (x .store) in-stores all-stores (x .size) j i other
+    others-keep = put-others _ _ _ (at .store) stores stores′ (x .store) in-stores all-stores (x .wrote)

@@ -1,10 +1,10 @@
 -- Scripts in their frames, as code holds them.
 use mathlib.Core.Path.{_≡_}
 use mathlib.Core.Bool.{Bool, true, false, _||_}
-use mathlib.Core.List.{List, _++_}
+use mathlib.Core.List.{List}
 use Prim.Native.Nat.{ℕ, _+_, _-_, _*_, _≤_, _<_, _^_}
 use lib.IntN.{ℤ}
-use lib.ListN.{length, take, drop}
+use lib.ListN.{length}
 use Rattle.rules.specs.declared.Ending.{Ending}
 use Rattle.rules.specs.declared.Ending.the-variants.{Ended, Spent, NoPick}
 use Rattle.rules.specs.declared.Prices.{Prices}
@@ -17,8 +17,8 @@ use Rattle.run_actions.specs.declared.Status.the-variants.{Going, Over}
 use Rattle.run_actions.specs.States.{tallyOf}
 use Rattle.run_machine.specs.Steps.{scriptIn, Room, EndsLoop}
 use Rattle.runner.specs.Runs.{MayGo, standOf, WentOn}
-use Rattle.calls_lists.specs.declared.Extent.{Extent}
 use Rattle.calls_scripts.specs.declared.Held.{Held}
+use Rattle.calls_scripts.specs.Held.{sliceOf, Inside, PutAt}
 use Rattle.calls_turns.specs.declared.Progress.{Progress}
 use Rattle.calls_turns.specs.declared.Frame.{Frame}
 use Rattle.calls_turns.specs.declared.AfterTurn.{AfterTurn}
@@ -55,14 +55,6 @@ turnTo m r q f = record {
   frame = record { earlier = f .earlier; ticks = f .ticks + (m .left + q - r .left); waits = f .waits || isWaiting (r .status) };
 }
 
--- what stands at a place in what is lent
-abbrev pub sliceOf : {A : Type 0} → Extent → List A → List A
-sliceOf s xs = take (s .to - s .from) (drop (s .from) xs)
-
--- the place lies in it
-abbrev pub Inside : {A : Type 0} → Extent → List A → Type 0
-Inside s xs = (s .from ≤ s .to) × (s .to ≤ length xs)
-
 -- a script in its places may run on
 pub record MayTurn (π : Prices) (files tables : List ℕ) (stores : List ℤ) (picks : List ℕ) (h : Held) (m : Machine) (counts : List (List ℕ)) : Type 0 where
   pub file : Inside (h .places .file) files
@@ -74,8 +66,7 @@ pub record MayTurn (π : Prices) (files tables : List ℕ) (stores : List ℤ) (
 -- it has run on from m to r; of the stores only its own is another
 pub record Turned (π : Prices) (files tables : List ℕ) (stores stores′ : List ℤ) (picks : List ℕ) (h : Held) (m r : Machine) (counts counts′ : List (List ℕ)) : Type 0 where
   pub store : List ℤ
-  pub size : length store ≡ h .places .store .to - h .places .store .from
-  pub wrote : stores′ ≡ take (h .places .store .from) stores ++ (store ++ drop (h .places .store .to - h .places .store .from) (drop (h .places .store .from) stores))
+  pub wrote : PutAt (h .places .store) store stores stores′
   pub went : WentOn π (scriptIn (sliceOf (h .places .file) files) (sliceOf (h .places .table) tables) (h .count)) m r (sliceOf (h .places .store) stores) store (sliceOf (h .places .picks) picks) counts counts′
 
 -- a script after n frames: where it stands, and the last frame that it ran in

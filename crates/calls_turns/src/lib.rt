@@ -112,7 +112,8 @@ pub fn turn(
     counts: &mut [[u64; 3]; 16],
 ) -> Machine
     requires { ⌜ MayTurn prices (now files) (now tables) (now stores) (now picks) script from (now counts) ⌝ }
-    ensures { λ r. ⌜ Turned prices (now (files .entry)) (now (tables .entry)) (now (stores .entry)) (now (stores .exit)) (now (picks .entry)) script from r (now (counts .entry)) (now (counts .exit)) ⌝ }
+    ensures { λ r. ⌜ Turned prices (now (files .entry)) (now (tables .entry)) (now (stores .entry)) (now (stores .exit))
+        (now (picks .entry)) script from r (now (counts .entry)) (now (counts .exit)) ⌝ }
 {
     let places = script.places;
     let f = places.file;

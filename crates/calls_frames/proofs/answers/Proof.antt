@@ -3,8 +3,8 @@ use mathlib.Core.List.{[]}
 use Prim.Native.Nat.{_-_, _≤_, _<_}
 use native.Mathlib.Omega.{arith}
 use lib.ListN.{getD}
-use Rattle.calls_scripts.specs.Held.{nobody}
-use Rattle.calls_turns.specs.Progress.{startProgress, sliceOf, Inside}
+use Rattle.calls_scripts.specs.Held.{sliceOf, Inside, nobody}
+use Rattle.calls_turns.specs.Progress.{startProgress}
 use Rattle.calls_frames.specs.Answers.{Answerable}
 use Rattle.calls_frames.proofs.Answering.{Answering, answering-none, answering-more, answering-all}
 use borrow.Author.Needs.{needs}

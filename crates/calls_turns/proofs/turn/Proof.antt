@@ -11,8 +11,7 @@ returns c =
     let e = c .before .resume in
     record {
       store = e .last .1 .1 .1 .1 .1 .0;
-      size = e .kept .1 .1 .1 .1 .1 .0 ∙ slice-length (s .args .stores .now) (s .args .script .places .store) (s .pre .store .0) (s .pre .store .1);
-      wrote = refl;
+      wrote = record { size = e .kept .1 .1 .1 .1 .1 .0 ∙ slice-length (s .args .stores .now) (s .args .script .places .store) (s .pre .store); all = refl };
       went = e .ensures;
     }
 
