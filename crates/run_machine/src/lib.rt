@@ -235,18 +235,17 @@ pub fn test_row(
     let i = m.row;
     let price = prices.test;
     let left = m.left;
-    let head = partner_at(rows, i);
     if left < price {
-        return run_actions::ended(m, left, Ending::Spent, head);
+        return run_actions::ended(m, left, Ending::Spent, partner_at(rows, i));
     }
     let limit = limit_of(rows, i, text, store);
     if limit == values::PAST {
-        return run_actions::ended(m, left - price, Ending::Range, head);
+        return run_actions::ended(m, left - price, Ending::Range, partner_at(rows, i));
     }
     let x = stored(variable_at(rows, i), store);
     if run_actions::passes(table::comparison_at(rows, i), x as i64, limit) {
         run_actions::count_turn(table::loop_at(rows, i), counts);
-        on(m, left - price, head + 1, false)
+        on(m, left - price, partner_at(rows, i) + 1, false)
     } else {
         on(m, left - price, i + 1, false)
     }

@@ -194,7 +194,3 @@ pub record Table (text : List ℕ) (rows : List Row) (count : ℕ) (t : List ℕ
   pub ends : (e : ℕ) → e < count → viewAt (scriptRows text rows count) e ≡ is-end → EndRow (scriptRows text rows count) t (pairs (scriptRows text rows count) count .head e) e
   pub loops : (h : ℕ) → h < count → isLoop (viewAt (scriptRows text rows count) h) ≡ true → LoopEnd (scriptRows text rows count) t h (endAt (scriptRows text rows count) (suc h))
   pub few : length (loopRows 0 (scriptRows text rows count)) ≤ 16
-
--- the same beside every text beside which the blocks close
-abbrev pub PackedRows : List Row → ℕ → List ℕ → Type 0
-PackedRows rows count t = (text : List ℕ) → Closing (scriptRows text rows count) → Table text rows count t

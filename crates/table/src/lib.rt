@@ -6,7 +6,6 @@ use rules::Change;
 use rules::Comparison;
 use rules::Kind;
 use rules::Operand;
-use rules::Row;
 ghost use mathlib.Core.Path.{_≡_};
 ghost use mathlib.Core.List.{List};
 ghost use Prim.Native.Nat.{ℕ, _+_, _-_, _*_, _≤_, _<_};
@@ -20,7 +19,7 @@ ghost use Rattle.table.specs.Code.{tagIn, rowTag, numbersAt, kindAt, row
 ghost use Rattle.table.specs.Shapes.{shapeOf, pastElse, Assigns};
 ghost use Rattle.table.specs.Packing.{OperandCoded, ComparisonCoded, ChangeCoded, FirstIs, TestRow, Stands, NumbersPut, RowPut};
 ghost use Rattle.table.specs.Paired.{columnsIn, PartnerPut, EndsWith, EndPut, roleOf, headOf, numberOf, pushedOn, poppedOff};
-ghost use Rattle.table.specs.Paired.{Ready, NextPut, Packable, PackedRows};
+ghost use Rattle.table.specs.Paired.{Ready, NextPut};
 
 // A number as an index.
 fn wide(x: u32) -> usize
@@ -670,21 +669,5 @@ pub fn put_next(rows: &mut [u32], i: usize, kind: Kind, blocks: Open) -> Open
             put_row(rows, i, kind);
             pushed(blocks, i, loops + 1)
         }
-    }
-}
-
-// The first `count` rows of the array become those of the table.
-pub fn pack_rows(table: &mut [u32], rows: [Row; 256], count: usize)
-    requires { ⌜ Packable rows count (now table) ⌝ }
-    ensures { λ _. ⌜ PackedRows rows count (now (table .exit)) ⌝ }
-{
-    let mut blocks = NONE_OPEN;
-    let mut i: usize = 0;
-    while i < count {
-        let row = rows[i];
-        let kind = row.kind;
-        let next = put_next(table, i, kind, blocks);
-        blocks = next;
-        i += 1;
     }
 }

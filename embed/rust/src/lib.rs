@@ -22,13 +22,13 @@ pub const ONES: [u32; 4] = [1; 4];
 pub const REPORT: usize = 2_089;
 
 /// The bytes of stack that a report needs at most.
-pub const REPORT_STACK: usize = 48 * 1_024;
+pub const REPORT_STACK: usize = 16 * 1_024;
 
 /// The bytes of stack that a run needs at most.
-pub const RUN_STACK: usize = 48 * 1_024;
+pub const RUN_STACK: usize = 16 * 1_024;
 
 /// The bytes of stack that a call of frames needs at most.
-pub const FRAMES_STACK: usize = 160 * 1_024;
+pub const FRAMES_STACK: usize = 60 * 1_024;
 
 /// The scripts that a call of frames takes at most.
 pub const SCRIPTS: usize = 8;

@@ -35,10 +35,10 @@ number : (c : tie.Else2) → eqZ (c .before .limit-of .result) (pos 4_000_000_00
 number c = let f : SFits w64 (c .before .limit-of .result) = sfits-of (c .before .limit-of .ok) in eqZ-no (c .before .limit-of .result) (pos 4_000_000_000) f past (c .if2 .left)
 
 -- whether the comparison is true
-told : (c : tie.After-passes) → let a = c .before .before .before .before .before .before .before .before .before .before .args in let n = rowOf (now (a .rows)) (a .m) in
+told : (c : tie.After-passes) → let a = c .before .before .before .before .before .before .before .before .before .args in let n = rowOf (now (a .rows)) (a .m) in
     c .passes .result ≡ compares (comparisonBy (comparisonIn n)) (storeOf (now (a .store)) (variableIn n)) (c .before .before .before .before .before .limit-of .result)
 told c =
-    let a = c .before .before .before .before .before .before .before .before .before .before .args in
+    let a = c .before .before .before .before .before .before .before .before .before .args in
     let x = c .before .before .stored in
     let z = c .before .before .before .before .before .limit-of in
     let f : SFits w32 (x .result) = sfits-of (x .ok) in
@@ -50,24 +50,24 @@ returns : tie.Need-returns
 returns c =
     let a = c .before .before .before .before .before .args in
     λ count picks q. let k = at-test q in record {
-      acts = rw (c .ended .ensures ∙ ap (overAt (a .m) (a .m .left) Spent) (c .before .before .partner-at .ensures)) (acts-as refl (sym (k .step (a .prices) picks _)) (test-spent (a .prices) _ _ _ _ _ _ _ (c .before .if1 .taken)));
+      acts = rw (c .ended .ensures ∙ ap (overAt (a .m) (a .m .left) Spent) (c .before .partner-at .ensures)) (acts-as refl (sym (k .step (a .prices) picks _)) (test-spent (a .prices) _ _ _ _ _ _ _ (c .before .before .if1 .taken)));
       long = q .room .long;
     }
 
 returns-2 : tie.Need-returns-2
 returns-2 c =
     let a = c .before .before .before .before .before .before .before .args in
-    let z = c .before .before .limit-of in
+    let z = c .before .before .before .limit-of in
     let f : SFits w64 (z .result) = sfits-of (z .ok) in
-    let y : eqZ (z .result) (pos 4_000_000_000) ≡ true = eqZ-yes _ _ f past (c .before .if2 .taken) in
+    let y : eqZ (z .result) (pos 4_000_000_000) ≡ true = eqZ-yes _ _ f past (c .before .before .if2 .taken) in
     λ count picks q. let k = at-test q in record {
-      acts = rw (c .ended2 .ensures, c .before .before .before .before .partner-at .ensures) (acts-as refl (sym (k .step (a .prices) picks _)) (test-beyond (a .prices) _ _ _ _ _ _ _ (c .before .before .before .if1 .left) (tried-past _ _ _ _ y (z .ensures))));
+      acts = rw (c .ended2 .ensures, c .before .partner-at2 .ensures) (acts-as refl (sym (k .step (a .prices) picks _)) (test-beyond (a .prices) _ _ _ _ _ _ _ (c .before .before .before .before .if1 .left) (tried-past _ _ _ _ y (z .ensures))));
       long = q .room .long;
     }
 
 count-turn-requires : tie.Need-count-turn-requires
 count-turn-requires c κs =
-    let s = c .before .before .before .before .before .before .before .before .before .before .before .before .before in
+    let s = c .before .before .before .before .before .before .before .before .before .before .before .before in
     let q = s .pre .1 in
     subst (λ k. RoomAt k (s .args .counts .now)) (sym (c .before .loop-at .ensures)) (room-at (q .script) (q .room) (at-test q .loop .few))
 
@@ -75,22 +75,22 @@ returns-3 : tie.Need-returns-3
 unfolding choose
 returns-3 c =
     let a = c .before .before .before .before .before .before .before .before .before .before .before .before .before .before .before .args in
-    let y = sym (c .before .before .before .before .if3 .taken) ∙ told (c .before .before .before .before .before) in
-    let b = rw (c .before .before .before .loop-at .ensures) at (c .before .count-turn .ensures) in
+    let y = sym (c .before .before .before .before .before .if3 .taken) ∙ told (c .before .before .before .before .before .before) in
+    let b = rw (c .before .before .before .before .loop-at .ensures) at (c .before .before .count-turn .ensures) in
     λ count picks q.
     let k = at-test q in
     let script = scriptIn (now (a .text)) (now (a .rows)) count in
     let t = b .same (loopRows 0 script) (heads-rise script 0) (k .loop .few) ∙ ap (λ h. turn h (tallyOf (loopRows 0 script) (now (a .counts)))) (k .loop .place) in
     record {
-      acts = rw (c .on .ensures, c .before .before .before .before .before .before .before .before .before .before .before .before .partner-at .ensures)
-          (acts-as refl (sym (k .step (a .prices) picks _)) (test-passed (a .prices) _ _ _ _ _ _ _ _ (c .before .before .before .before .before .before .before .before .before .before .before .if1 .left) (tried-number _ _ _ _ true (number (c .before .before .before .before .before .before .before .before .before)) (c .before .before .before .before .before .before .before .before .before .before .limit-of .ensures) y) t));
+      acts = rw (c .on .ensures, c .before .partner-at3 .ensures)
+          (acts-as refl (sym (k .step (a .prices) picks _)) (test-passed (a .prices) _ _ _ _ _ _ _ _ (c .before .before .before .before .before .before .before .before .before .before .before .before .if1 .left) (tried-number _ _ _ _ true (number (c .before .before .before .before .before .before .before .before .before .before)) (c .before .before .before .before .before .before .before .before .before .before .before .limit-of .ensures) y) t));
       long = b .long;
     }
 
 returns-4 : tie.Need-returns-4
 unfolding choose
 returns-4 c =
-    let a = c .before .before .before .before .before .before .before .before .before .before .before .before .args in
+    let a = c .before .before .before .before .before .before .before .before .before .before .before .args in
     let y = sym (c .before .if3 .left) ∙ told (c .before .before) in
     λ count picks q. let k = at-test q in record {
       acts = rw (c .on2 .ensures) (acts-as refl (sym (k .step (a .prices) picks _)) (test-failed (a .prices) _ _ _ _ _ _ _ (c .before .before .before .before .before .before .before .before .if1 .left) (tried-number _ _ _ _ false (number (c .before .before .before .before .before .before)) (c .before .before .before .before .before .before .before .limit-of .ensures) y)));
@@ -101,21 +101,23 @@ pub test-row-spec : {M : Type 1} → statement M
 test-row-spec =
     tie.close
     (tie.spec
-    (λ c κs. at-test (c .before .before .pre .1) .size) (λ c κs. search needs)
+    (λ c κs. at-test (c .before .before .before .pre .1) .size) (λ c κs. search needs)
     returns
-    (λ c κs. let k = at-test (c .before .before .before .before .pre .1) in (k .size, k .limit))
+    (λ c κs. let k = at-test (c .before .before .before .pre .1) in (k .size, k .limit))
+    (λ c κs. at-test (c .before .before .before .before .before .pre .1) .size)
     (λ c κs. search needs)
     returns-2
-    (λ c κs. at-test (c .before .before .before .before .before .before .pre .1) .size)
-    (λ c κs. rw (c .variable-at .ensures) (at-test (c .before .before .before .before .before .before .before .pre .1) .variable))
-    (λ c κs. at-test (c .before .before .before .before .before .before .before .before .pre .1) .size)
+    (λ c κs. at-test (c .before .before .before .before .before .pre .1) .size)
+    (λ c κs. rw (c .variable-at .ensures) (at-test (c .before .before .before .before .before .before .pre .1) .variable))
+    (λ c κs. at-test (c .before .before .before .before .before .before .before .pre .1) .size)
     (λ c. let x = c .before .stored in let f : SFits w32 (x .result) = sfits-of (x .ok) in rw (toZ-ofZ f) (sfits-widen tt f))
-    (λ c κs. subst IsComparison (sym (c .comparison-at .ensures)) (at-test (c .before .before .before .before .before .before .before .before .before .pre .1) .code))
-    (λ c κs. at-test (c .before .before .before .before .before .before .before .before .before .before .before .pre .1) .size)
+    (λ c κs. subst IsComparison (sym (c .comparison-at .ensures)) (at-test (c .before .before .before .before .before .before .before .before .pre .1) .code))
+    (λ c κs. at-test (c .before .before .before .before .before .before .before .before .before .before .pre .1) .size)
     count-turn-requires
-    (λ c. let k = at-test (c .before .before .before .before .before .before .before .before .before .before .before .before .before .before .pre .1) in omega (arith, c .before .before .before .before .before .before .before .before .before .before .before .partner-at .ensures, k .partner))
+    (λ c κs. at-test (c .before .before .before .before .before .before .before .before .before .before .before .before .before .pre .1) .size)
+    (λ c. let k = at-test (c .before .before .before .before .before .before .before .before .before .before .before .before .before .before .pre .1) in omega (arith, c .partner-at3 .ensures, k .partner))
     (λ c κs. search needs)
-    (λ c. let k = at-test (c .before .before .before .before .before .before .before .before .before .before .before .pre .1) in omega (arith, k .small))
+    (λ c. let k = at-test (c .before .before .before .before .before .before .before .before .before .before .pre .1) in omega (arith, k .small))
     (λ c κs. search needs)
     returns-3
     returns-4)
