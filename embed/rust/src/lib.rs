@@ -2,11 +2,26 @@
 //!
 //! A call of the library needs a scratch of 1,024 numbers and a stack of 16 KB (a report or a run) or 60 KB (frames), no heap, and nothing else. A report and
 //! a run write over the first 1,024 numbers of the scratch, whatever these were; every number past them, where a patch list may lie, keeps its value, and so
-//! do all of them if the scratch is refused as too short. Only this crate's [`run`] and [`frames`] take heap, for lists of loops and of what is lent; [`numbers::run`] and [`numbers::frames`] take none.
+//! do all of them if the scratch is refused as too short.
+//!
+//! The crate is `no_std`. [`report`] and the calls in [`numbers`] take no heap; [`run`] and [`frames`] take some for lists of loops and of what is lent, and
+//! stand under the feature `alloc`, which is on by default. Calls on several threads at once are safe where scratch, store, buffer and answer are each
+//! thread's own, as Rust's borrows see to; file, prices and picks may be shared.
+#![no_std]
+
+#[cfg(feature = "alloc")]
+extern crate alloc;
 
 pub mod numbers;
 
+#[cfg(feature = "alloc")]
+use alloc::vec::Vec;
+
+#[cfg(feature = "alloc")]
 use numbers::{ANSWER, FRAMES_ANSWER};
+
+/// The library's version, as in `diftanew.h`: a change of its first number may break a caller, one of the second adds calls.
+pub const VERSION: [u32; 3] = [1, 1, 0];
 
 /// The 32-bit numbers of scratch that a call wants.
 pub const SCRATCH: usize = 1_024;
@@ -110,6 +125,37 @@ impl Question {
     pub fn of(number: u32) -> Option<Question> {
         Question::ALL.into_iter().find(|question| question.number() == number)
     }
+
+    /// What is wrong, in words, and what its place counts.
+    fn words(self) -> (&'static str, &'static str) {
+        match self {
+            Question::Scratch => ("the scratch is too short", "numbers wanted"),
+            Question::File => ("the file is too long", "bytes allowed"),
+            Question::Shape => ("a line has the wrong shape, or is missing", "line"),
+            Question::Number => ("a number is outside its limits", "line"),
+            Question::Variable => ("a variable is not declared", "line"),
+            Question::Block => ("an else or end closes no fitting block, or a block is left open", "line"),
+            Question::Depth => ("blocks too deep, or too many loops", "line"),
+            Question::StepUnknown => ("the tested variable's step is not known", "row"),
+            Question::StepStands => ("the tested variable may stand still", "row"),
+            Question::LimitChanges => ("the loop's body assigns its limit", "row"),
+            Question::Comparison => ("the comparison does not fit the step", "row"),
+            Question::NoFigure => ("the loop has no figure", "row"),
+            Question::Ticks => ("too many ticks", "row"),
+            Question::Buffer => ("the report's buffer is too short", "bytes wanted"),
+            Question::Store => ("the store does not fit the ranges", "index"),
+            Question::Price => ("a price is wrong, missing or extra", "index"),
+            Question::Expression => ("more than 8 parentheses open together or more than 15 operators in one expression", "line"),
+            Question::Hold => ("the hold's body breaks its terms", "row"),
+            Question::Frames => ("no script or more than 8, lengths that do not fit what is lent, or ticks of a frame that are not 1 to 1,000,000", "place"),
+        }
+    }
+}
+
+impl core::fmt::Display for Question {
+    fn fmt(&self, out: &mut core::fmt::Formatter) -> core::fmt::Result {
+        out.write_str(self.words().0)
+    }
 }
 
 /// A refusal: the first question that has no for an answer, and its place.
@@ -125,6 +171,16 @@ impl Refused {
         Refused { question: Question::of(number).expect("a question's number"), place }
     }
 }
+
+/// As in `refused=4 12: a number is outside its limits (line 12)`.
+impl core::fmt::Display for Refused {
+    fn fmt(&self, out: &mut core::fmt::Formatter) -> core::fmt::Result {
+        let (wrong, place) = self.question.words();
+        write!(out, "refused={} {}: {wrong} ({place} {})", self.question.number(), self.place, self.place)
+    }
+}
+
+impl core::error::Error for Refused {}
 
 /// How a run ends.
 #[derive(Clone, Copy, Debug, PartialEq, Eq)]
@@ -144,6 +200,7 @@ pub struct LoopCount {
 }
 
 /// The answer of a run.
+#[cfg(feature = "alloc")]
 #[derive(Clone, Debug, PartialEq, Eq)]
 pub struct Run {
     pub ending: Ending,
@@ -153,6 +210,7 @@ pub struct Run {
     pub loops: Vec<LoopCount>,
 }
 
+#[cfg(feature = "alloc")]
 impl Run {
     /// A run's answer from its numbers.
     pub fn of(answer: &[u64; ANSWER]) -> Run {
@@ -172,6 +230,7 @@ pub fn report(file: &[u8], prices: &[u32], scratch: &mut [u32], buffer: &mut [u8
 }
 
 /// Runs `file` with these prices on `store`. Refused, the store is untouched.
+#[cfg(feature = "alloc")]
 pub fn run(file: &[u8], prices: &[u32], scratch: &mut [u32], store: &mut [i32], picks: &[u8], allowance: u64) -> Result<Run, Refused> {
     let mut answer = [0; ANSWER];
     match numbers::run(file, prices, scratch, store, picks, allowance, &mut answer) {
@@ -181,6 +240,7 @@ pub fn run(file: &[u8], prices: &[u32], scratch: &mut [u32], store: &mut [i32], 
 }
 
 /// One of several scripts: its file, its store, its picks.
+#[cfg(feature = "alloc")]
 pub struct Script<'a> {
     pub file: &'a [u8],
     pub store: &'a mut [i32],
@@ -189,6 +249,7 @@ pub struct Script<'a> {
 
 /// The answer of several scripts in one frame: the most ticks that all together took in one, and of each script the frame that it finished in,
 /// from 1, and its run.
+#[cfg(feature = "alloc")]
 #[derive(Clone, Debug, PartialEq, Eq)]
 pub struct Frames {
     pub most: u64,
@@ -196,6 +257,7 @@ pub struct Frames {
 }
 
 /// Runs the scripts together with these prices, `q` ticks a frame for each that is not finished. Refused, every store is untouched.
+#[cfg(feature = "alloc")]
 pub fn frames(scripts: &mut [Script], prices: &[u32], q: u64, scratch: &mut [u32]) -> Result<Frames, Refused> {
     let files: Vec<u8> = scripts.iter().flat_map(|s| s.file).copied().collect();
     let mut stores: Vec<i32> = scripts.iter().flat_map(|s| s.store.iter()).copied().collect();
