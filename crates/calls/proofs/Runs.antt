@@ -51,7 +51,7 @@ module _ (prices : List ℕ) (script : Script) (count : ℕ) (s : Figures) (ls :
       passes = sym asked ∙ y
 
       pub runs-from : Runnable (length store) (script .rows)
-      runs-from = subst (λ k. Runnable k (script .rows)) (sym (store-in script store passes .whole)) (runnable script legal)
+      runs-from = subst (λ k. Runnable k (script .rows)) (sym (store-in script store passes .whole)) (runnable script (is-accepted prices script count s ls found z legal))
 
       -- the run with the smaller of the allowance and the report's ticks is the run
       same-run : Priced prices → runScript (pricesOf prices) script store picks allowance ≡ runScript (pricesOf prices) script store picks (min allowance (s .ticks))

@@ -223,7 +223,7 @@ module _ (π : Prices) (one : 1 ≤ π .test) (p : Frames.Progress) (ok : Accept
         size = held .size;
         table = held .table;
         written = held .written;
-        runs = subst (λ (z : List RowKind). Runnable (length store) z) (held .rows) (subst (λ z. Runnable z (p .script .rows)) (sym (size ∙ inside .whole)) (runnable (p .script) (ok .legal)));
+        runs = subst (λ (z : List RowKind). Runnable (length store) z) (held .rows) (subst (λ z. Runnable z (p .script .rows)) (sym (size ∙ inside .whole)) (runnable (p .script) ok));
       };
       price = one;
       going = refl;

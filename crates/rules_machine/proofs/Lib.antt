@@ -5,3 +5,6 @@ pub mod RowMachineRuns
 pub mod PairsIn
 pub mod RunCapped
 pub mod Examples
+pub mod Nested
+pub mod StaysIn
+pub mod LimitsKept

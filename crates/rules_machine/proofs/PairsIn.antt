@@ -14,26 +14,26 @@ use Rattle.rules_machine.specs.RowMachine.{Opens, Partners, Pairs, push,
 use Rattle.rules.proofs.Rows.{LoopAt, PickAt, alone, both, block-last, block-plain, block-pick, block-else, block-end, block-loop}
 
 -- the open rows, innermost first, if the innermost part closes at row e: by an `end`, or by an `else` with its `end`
-data Chain (rows : List RowKind) : List ℕ → ℕ → Type 0 where
+pub data Chain (rows : List RowKind) : List ℕ → ℕ → Type 0 where
   bottom : {e : ℕ} → e ≡ length rows → Chain rows [] e
   by-end : {i : ℕ} {is : List ℕ} {e : ℕ} → i < e → e < length rows → endAt rows (suc i) ≡ e → viewAt rows e ≡ is-end → Chain rows is (endAt rows (suc e)) → Chain rows (i ∷ is) e
   by-else : {i : ℕ} {is : List ℕ} {e : ℕ} → i < e → endAt rows (suc i) ≡ e → viewAt rows e ≡ is-else
       → e < endAt rows (suc e) → endAt rows (suc e) < length rows → viewAt rows (endAt rows (suc e)) ≡ is-end → Chain rows is (endAt rows (suc (endAt rows (suc e)))) → Chain rows (i ∷ is) e
 
 -- an open row waits on the stack
-data Waits (i : ℕ) : List ℕ → Type 0 where
+pub data Waits (i : ℕ) : List ℕ → Type 0 where
   top : {is : List ℕ} → Waits i (i ∷ is)
   under : {j : ℕ} {is : List ℕ} → Waits i is → Waits i (j ∷ is)
 
 -- or it is entered in the tables, by a row before j
-data Known (rows : List RowKind) (j : ℕ) (p : Pairs) (i : ℕ) : Type 0 where
+pub data Known (rows : List RowKind) (j : ℕ) (p : Pairs) (i : ℕ) : Type 0 where
   waits : Waits i (p .stack) → Known rows j p i
   closed : p .end i ≡ endAt rows (suc i) → p .head (endAt rows (suc i)) ≡ i → i < p .end i → p .end i < j → Known rows j p i
 
 -- what holds before row j
 pub record Paired (rows : List RowKind) (j : ℕ) (p : Pairs) : Type 0 where
-  chain : Chain rows (p .stack) (endAt rows j)
-  known : (i : ℕ) → i < j → Opens (viewAt rows i) → Known rows j p i
+  pub chain : Chain rows (p .stack) (endAt rows j)
+  pub known : (i : ℕ) → i < j → Opens (viewAt rows i) → Known rows j p i
 
 at-same : (h n m : ℕ) → cond (eqb h h) n m ≡ n
 at-same h n m = by (eqb h h) (eqb-refl h)

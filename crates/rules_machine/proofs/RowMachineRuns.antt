@@ -488,6 +488,15 @@ unfolding chosen
 lower-chosen true f g = f tt
 lower-chosen false f g = g tt
 
+-- a loop's head is a row
+pub head-in : (rows : List RowKind) (h : ℕ) (form : Form) (t : Test) (last : Last) → viewAt rows h ≡ is-loop form t last → h < length rows
+unfolding viewOf
+head-in rows h form t last e = by (ltb h (length rows)) (ltb→lt h (length rows)) (nltb→le h (length rows))
+  where
+    by : (b : Bool) → (T b → h < length rows) → (T (not b) → length rows ≤ h) → h < length rows
+    by true g k = g tt
+    by false g k = absurd (let q : is-end ≡ is-loop form t last = sym (ap viewOf (List·getD-eq-default rows End {n = h} (k tt))) ∙ e in let z : _≡_ {A = ℕ} 0 1 = cc in omega arith)
+
 module _ (π : Prices) (some-ticks : 1 ≤ π .test) (rows : List RowKind) (matching-end matching-head : ℕ → ℕ) (fit : Partners rows matching-end matching-head) where
   abbrev R : ℕ
   R = length rows
@@ -532,22 +541,13 @@ module _ (π : Prices) (some-ticks : 1 ≤ π .test) (rows : List RowKind) (matc
   lower-picked i j [] ph s u c h k m f = lower-over
   lower-picked i j (x ∷ xs) ph s u c h k m f = lower-chosen (eqb x 0) (λ _. lower-to i j ph s _ c k m f) (λ _. lower-to i (suc i) ph s _ c (omega arith) h f)
 
-  -- a loop's head is below R
-  head-in : (h : ℕ) (form : Form) (t : Test) (last : Last) → viewAt rows h ≡ is-loop form t last → h < R
-  unfolding viewOf
-  head-in h form t last e = by (ltb h R) (ltb→lt h R) (nltb→le h R)
-    where
-      by : (b : Bool) → (T b → h < R) → (T (not b) → R ≤ h) → h < R
-      by true g k = g tt
-      by false g k = absurd (let q : is-end ≡ is-loop form t last = sym (ap viewOf (List·getD-eq-default rows End {n = h} (k tt))) ∙ e in let z : _≡_ {A = ℕ} 0 1 = cc in omega arith)
-
   lower-end : (w : View) (h e : ℕ) (ph : Phase) (s : State) (c : TurnCounts) → viewAt rows h ≡ w → e < R → Lower R (size e ph s) (onEnd π rows matching-end matching-head w h e ph s c)
   unfolding onEnd
   lower-end (is-plain p) h e ph s c q l = lower-to e (suc e) ph s s c (omega arith) l (omega arith)
   lower-end is-pick h e ph s c q l = lower-to e (suc e) ph s s c (omega arith) l (omega arith)
   lower-end is-else h e ph s c q l = lower-to e (suc e) ph s s c (omega arith) l (omega arith)
   lower-end is-end h e ph s c q l = lower-to e (suc e) ph s s c (omega arith) l (omega arith)
-  lower-end (is-loop form t last) h e testing s c q l = lower-tests e h e t testing s c (head-in h form t last q) (omega arith) l
+  lower-end (is-loop form t last) h e testing s c q l = lower-tests e h e t testing s c (head-in rows h form t last q) (omega arith) l
   lower-end (is-loop form t no-step) h e fresh s c q l = lower-test e e fresh s c (omega arith) (omega arith)
   lower-end (is-loop form t (step-by p)) h e fresh s c q l = lower-exec e h p fresh s c c e testing (omega arith) (omega arith)
 

@@ -4,7 +4,7 @@ use mathlib.Core.List.{List, [], _∷_}
 use mathlib.Core.Path.{_≡_}
 use Prim.Native.Nat.{ℕ, zero, suc, _+_, _-_, _*_, _<_, max}
 use lib.Dec.{leb, ltb, eqb}
-use lib.ListN.{length, getD}
+use lib.ListN.{length}
 use Rattle.rules.specs.declared.Ending.{Ending}
 use Rattle.rules.specs.declared.Ending.the-variants.{Ended, Spent, NoPick}
 use Rattle.rules.specs.Values.{put}
@@ -20,10 +20,6 @@ pub record TurnCounts : Type 0 where
   pub turns : ℕ → ℕ
   pub sum : ℕ → ℕ
   pub most : ℕ → ℕ
-
--- the counts as code holds them: three columns by row
-abbrev pub tallyOf : List (List ℕ) → TurnCounts
-tallyOf counts = record { turns = λ p. getD (getD counts p []) 0 0; sum = λ p. getD (getD counts p []) 1 0; most = λ p. getD (getD counts p []) 2 0 }
 
 -- the two counts of the loops at these rows
 unfoldable pub countsOf : TurnCounts → List ℕ → List LoopCount

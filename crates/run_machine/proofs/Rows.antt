@@ -13,7 +13,7 @@ use Rattle.rules.specs.declared.Kind.the-variants.{Set, Move, Cue, Pick, Else, 
 use Rattle.rules.specs.declared.Comparison.{Comparison}
 use Rattle.rules.specs.declared.Operand.{Operand}
 use Rattle.rules.specs.declared.Prices.{Prices}
-use Rattle.rules.specs.Blocks.{RowKind, exprOf, kindOf, changed, assign, Test, test, View, is-plain, is-pick, is-else, is-end, is-loop, viewOf, viewAt}
+use Rattle.rules.specs.Blocks.{RowKind, exprOf, kindOf, changed, assign, Test, test, Form, while, do-while, hold, for, Last, no-step, step-by, View, is-plain, is-pick, is-else, is-end, is-loop, viewOf, viewAt}
 use Rattle.rules.specs.Blocks
 use Rattle.rules.specs.Calls.{isLoop, loopRows}
 use Rattle.rules.specs.Run.{State, exec}
@@ -204,22 +204,25 @@ record Tested (text : List ℕ) (vars : ℕ) (k : Kind) (n : List ℕ) : Type 0 
   limit : Readable text vars (limitIn n)
   code : IsComparison (comparisonIn n)
   step : endOp (viewOf (kindOf text k)) ≡ 2 → ChangeLimits (stepIn n)
-  next : (π : Prices) (rows : List RowKind) (f g : ℕ → ℕ) (h e : ℕ) (s : State) (c : TurnCounts) → onEnd π rows f g (viewOf (kindOf text k)) h e testing s c ≡ tests π h e (testIn text n) s c
+  form : Form
+  last : Last
+  loop : viewOf (kindOf text k) ≡ is-loop form (testIn text n) last
 
 module _ (text : List ℕ) (vars : ℕ) (n : List ℕ) where
-  test-in : (k : Kind) {v : ℕ} {d : Comparison} {x : Operand} → TestIn v d x n → v < vars → Readable text vars x → (endOp (viewOf (kindOf text k)) ≡ 2 → ChangeLimits (stepIn n))
-      → ((π : Prices) (rows : List RowKind) (f g : ℕ → ℕ) (h e : ℕ) (s : State) (c : TurnCounts) → onEnd π rows f g (viewOf (kindOf text k)) h e testing s c ≡ tests π h e (test v d (exprOf text x)) s c)
-      → Tested text vars k n
-  test-in k t l r p q = record {
+  test-in : (k : Kind) {v : ℕ} {d : Comparison} {x : Operand} (f : Form) (l : Last) → viewOf (kindOf text k) ≡ is-loop f (test v d (exprOf text x)) l → TestIn v d x n → v < vars → Readable text vars x
+      → (endOp (viewOf (kindOf text k)) ≡ 2 → ChangeLimits (stepIn n)) → Tested text vars k n
+  test-in k f l q t b r p = record {
     variable = omega (arith, t .variable);
     limit = subst (Readable text vars) (sym (t .limit)) r;
     code = t .code;
     step = p;
-    next = λ π rows f g h e s c. q π rows f g h e s c ∙ (λ i. tests π h e (test (sym (t .variable) i) (sym (t .comparison) i) (exprOf text (sym (t .limit) i))) s c);
+    form = f;
+    last = l;
+    loop = q ∙ (λ i. is-loop f (test (sym (t .variable) i) (sym (t .comparison) i) (exprOf text (sym (t .limit) i))) l);
   }
 
   tested : (k : Kind) → isLoop (viewOf (kindOf text k)) ≡ true → RowLimits (kindOf text k) → RowBelow vars (kindOf text k) → Written text k → TestOf k n → Tested text vars k n
-  unfolding viewOf kindOf isLoop onEnd exprOf ExprBelow
+  unfolding viewOf kindOf isLoop exprOf ExprBelow
   tested End b j l w t = no-true b
   tested Else b j l w t = no-true b
   tested Pick b j l w t = no-true b
@@ -227,10 +230,10 @@ module _ (text : List ℕ) (vars : ℕ) (n : List ℕ) where
   tested (Move v d) b j l w t = no-true b
   tested (Off v y d k) b j l w t = no-true b
   tested (Cue m) b j l w t = no-true b
-  tested (While v d x) b j (l, o) w t = test-in _ t l (record { written = w; below = o }) (λ e. absurd (omega arith)) (λ π rows f g h e s c. refl)
-  tested (Do v d x) b j (l, o) w t = test-in _ t l (record { written = w; below = o }) (λ e. absurd (omega arith)) (λ π rows f g h e s c. refl)
-  tested (For v y d x k) b (i, z, j) (l, p, o) (u, w) (t, q) = test-in _ t l (record { written = w; below = o }) (λ e. subst ChangeLimits (sym q) j) (λ π rows f g h e s c. refl)
-  tested (Hold v) b j l w t = test-in _ t l (record { written = tt; below = tt }) (λ e. absurd (omega arith)) (λ π rows f g h e s c. refl)
+  tested (While v d x) b j (l, o) w t = test-in _ while no-step refl t l (record { written = w; below = o }) (λ e. absurd (omega arith))
+  tested (Do v d x) b j (l, o) w t = test-in _ do-while no-step refl t l (record { written = w; below = o }) (λ e. absurd (omega arith))
+  tested (For v y d x k) b (i, z, j) (l, p, o) (u, w) (t, q) = test-in _ _ _ refl t l (record { written = w; below = o }) (λ e. subst ChangeLimits (sym q) j)
+  tested (Hold v) b j l w t = test-in _ hold no-step refl t l (record { written = tt; below = tt }) (λ e. absurd (omega arith))
 
 -- the loop that row e ends has it
 end-tested : {text t : List ℕ} {count vars : ℕ} (s : Runs text t count vars) (h e : ℕ) → e < count → EndRow (scriptIn text t count) t h e → isLoop (viewAt (scriptIn text t count) h) ≡ true
@@ -248,11 +251,15 @@ pub record Testing (text t : List ℕ) (count : ℕ) (m : Machine) (store : List
   pub limit : Readable text (length store) (limitIn (rowOf t m))
   pub code : IsComparison (comparisonIn (rowOf t m))
   pub partner : partnerIn (rowOf t m) < 256
+  pub head : partnerIn (rowOf t m) ≡ pairs (scriptIn text t count) (length (scriptIn text t count)) .head (m .row)
   pub loop : LoopIs text t count (partnerIn (rowOf t m)) (m .row)
+  pub form : Form
+  pub last : Last
+  pub view : viewAt (scriptIn text t count) (partnerIn (rowOf t m)) ≡ is-loop form (testIn text (rowOf t m)) last
   pub step : (π : Prices) (picks : List ℕ) (c : TurnCounts) → stepOf π (scriptIn text t count) (placeOf m store picks c) ≡ tests π (partnerIn (rowOf t m)) (m .row) (testIn text (rowOf t m)) (stateOf m store picks) c
 
 pub at-test : {text t : List ℕ} {count : ℕ} {m : Machine} {store : List ℤ} {counts : List (List ℕ)} → AtTest text t count m store counts → Testing text t count m store
-unfolding onRow
+unfolding onRow onEnd
 at-test {text} {t} {count} {m} {store} a =
     let i = m .row in
     let l : i < count = subst (λ n. i < n) (size-is (a .script)) (a .ends .row) in
@@ -269,13 +276,16 @@ at-test {text} {t} {count} {m} {store} a =
       limit = y .limit;
       code = y .code;
       partner = omega (arith, r .partner, r .below, q .small);
+      head = r .partner;
       loop = subst (λ z. LoopIs text t count z i) (sym (r .partner)) (loop-ended (a .script) h i below r (a .ends .loop));
+      form = y .form;
+      last = y .last;
+      view = ap (viewAt (scriptIn text t count)) (r .partner) ∙ v .view ∙ y .loop;
       step = λ π picks c.
           let rows = scriptIn text t count in
           let s = stateOf m store picks in
           next-row π rows (ends (a .script)) (heads (a .script)) i is-end (phaseOf (m .testing)) s c (a .ends .row) (a .ends .end)
-          ∙ (λ z. onEnd π rows (ends (a .script)) (heads (a .script)) (v .view z) h i (phaseOf (a .testing z)) s c)
-          ∙ y .next π rows (ends (a .script)) (heads (a .script)) h i s c
+          ∙ (λ z. onEnd π rows (ends (a .script)) (heads (a .script)) ((v .view ∙ y .loop) z) h i (phaseOf (a .testing z)) s c)
           ∙ ap (λ z. tests π z i (testIn text (numbersAt t i)) s c) (sym (r .partner));
     }
 

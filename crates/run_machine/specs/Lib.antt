@@ -1,3 +1,4 @@
--- A script in a table that may be run, one step of the machine over it, and its rows by their numbers.
+-- A script in a table that may be run, one step of the machine over it, its rows by their numbers, and the limits that it keeps.
 pub mod Rows
 pub mod Steps
+pub mod Limits

@@ -16,12 +16,14 @@ use Rattle.table.specs.Code.{rowsOf, kindAt}
 use Rattle.table.specs.Paired.{scriptRows, Table}
 use Rattle.run_actions.specs.declared.Machine.{Machine}
 use Rattle.run_actions.specs.States.{countIn, tallyOf, placeOf, Acts}
+use Rattle.run_machine.specs.Limits.{LimitsUnchanged}
 
--- the questions 4 to 7 of rows over so many variables
+-- the questions 4 to 7 of rows over so many variables, and 10 as far as a run counts on it
 pub record Runnable (vars : ℕ) (rows : List RowKind) : Type 0 where
   pub limits : All RowLimits rows
   pub below : All (RowBelow vars) rows
   pub closed : (n : ℕ) × (nestRows rows (record { open-blocks = []; loops = 0 }) ≡ nest [] n)
+  pub unchanged : LimitsUnchanged rows
 
 -- the rows of a script in a table, beside its text
 abbrev pub scriptIn : List ℕ → List ℕ → ℕ → List RowKind

@@ -9,11 +9,13 @@ use table::codes;
 use table::partner_at;
 use table::variable_at;
 use values::stored;
+ghost use mathlib.Core.Path.{_≡_};
 ghost use mathlib.Core.List.{List};
 ghost use Prim.Native.Nat.{ℕ, _+_, _*_, _<_};
 ghost use lib.ListN.{length};
 ghost use Rattle.table.specs.Code.{operandIn, limitIn, numbersAt};
 ghost use Rattle.run_machine.specs.Steps.{scriptIn, AtRow, AtTest, Stepped};
+ghost use Rattle.run_machine.specs.Limits.{keptOf, KeptExpression, ExpressionRead, LimitAt, LimitRead, KeptAt, TestKept};
 ghost use Rattle.run_machine.specs.Rows.{rowOf, moveOf, offOf, Readable, SetRow, MoveRow, StepRow, OffRow, ForRow, LoopRow};
 ghost use Rattle.run_machine.specs.Rows.{ReadAs, HeldAfter, Does, SetDone, StepDone, ForBegun, DoBegun, WhileBegun};
 
@@ -205,22 +207,47 @@ pub fn act(
     }
 }
 
+// Stands in the place of a limit that is not kept.
+pub const NOT_KEPT: i64 = 5_000_000_000;
+
+// What is kept for loop k.
+fn kept_of(limits: &[i64; 16], k: usize) -> i64
+    requires { ⌜ k < 16 ⌝ }
+    ensures { λ r. ⌜ r ≡ keptOf (now (limits .entry)) k ⌝ }
+{
+    limits[k]
+}
+
+// The limit of loop k by an expression, or PAST: worked out once an entry, since the loop's body assigns none of its variables.
+fn kept_value(k: usize, x: u32, text: &[u8], store: &[i32], limits: &mut [i64; 16]) -> i64
+    requires { ⌜ KeptExpression k x (now text) (now store) (now limits) ⌝ }
+    ensures { λ r. ⌜ ExpressionRead k x (now (text .entry)) (now (store .entry)) (now (limits .entry)) (now (limits .exit)) r ⌝ }
+{
+    let kept = kept_of(limits, k);
+    if kept != NOT_KEPT {
+        return kept;
+    }
+    let z = value_of(codes::EXPRESSION, x, text, store);
+    limits[k] = z;
+    z
+}
+
 // The limit of the loop that ends at row i, or PAST. An expression is told by one bit.
-fn limit_of(rows: &[u32], i: usize, text: &[u8], store: &[i32]) -> i64
-    requires { ⌜ (4 * i + 3 < length (now rows)) × Readable (now text) (length (now store)) (limitIn (numbersAt (now rows) i)) ⌝ }
-    ensures { λ r. ⌜ ReadAs (now (text .entry)) (now (store .entry)) (limitIn (numbersAt (now (rows .entry)) i)) r ⌝ }
+fn limit_of(rows: &[u32], i: usize, text: &[u8], store: &[i32], limits: &mut [i64; 16]) -> i64
+    requires { ⌜ LimitAt (now text) (now rows) i (now store) (now limits) ⌝ }
+    ensures { λ r. ⌜ LimitRead (now (text .entry)) (now (rows .entry)) i (now (store .entry)) (now (limits .entry)) (now (limits .exit)) r ⌝ }
 {
     let x = table::limit_value_at(rows, i);
     if table::limit_kind_at(rows, i) == codes::CONSTANT {
         return table::constant(x) as i64;
     }
     if table::limit_is_expression(rows, i) {
-        return value_of(codes::EXPRESSION, x, text, store);
+        return kept_value(table::loop_at(rows, i), x, text, store, limits);
     }
     value_of(codes::VARIABLE, x, text, store)
 }
 
-// The test of the loop that ends at the machine's row.
+// The test of the loop that ends at the machine's row. When it fails, the loop's limit is no longer kept.
 pub fn test_row(
     m: Machine,
     rows: &[u32],
@@ -228,9 +255,11 @@ pub fn test_row(
     text: &[u8],
     store: &[i32],
     counts: &mut [[u64; 3]; 16],
+    limits: &mut [i64; 16],
 ) -> Machine
-    requires { ⌜ ((count : ℕ) × AtTest (now text) (now rows) count m (now store) (now counts)) ⌝ }
-    ensures { λ r. ⌜ ((count : ℕ) (picks : List ℕ) → AtTest (now (text .entry)) (now (rows .entry)) count m (now (store .entry)) (now (counts .entry)) → Stepped prices (scriptIn (now (text .entry)) (now (rows .entry)) count) m r (now (store .entry)) (now (store .entry)) picks (now (counts .entry)) (now (counts .exit))) ⌝ }
+    requires { ⌜ ((count : ℕ) × AtTest (now text) (now rows) count m (now store) (now counts) × KeptAt (now text) (now rows) m (now store) (now limits)) ⌝ }
+    ensures step { λ r. ⌜ ((count : ℕ) (picks : List ℕ) → AtTest (now (text .entry)) (now (rows .entry)) count m (now (store .entry)) (now (counts .entry)) → Stepped prices (scriptIn (now (text .entry)) (now (rows .entry)) count) m r (now (store .entry)) (now (store .entry)) picks (now (counts .entry)) (now (counts .exit))) ⌝ }
+    ensures limits { λ r. ⌜ TestKept (now (text .entry)) (now (rows .entry)) m r (now (store .entry)) (now (limits .entry)) (now (limits .exit)) ⌝ }
 {
     let i = m.row;
     let price = prices.test;
@@ -238,7 +267,7 @@ pub fn test_row(
     if left < price {
         return run_actions::ended(m, left, Ending::Spent, partner_at(rows, i));
     }
-    let limit = limit_of(rows, i, text, store);
+    let limit = limit_of(rows, i, text, store, limits);
     if limit == values::PAST {
         return run_actions::ended(m, left - price, Ending::Range, partner_at(rows, i));
     }
@@ -247,6 +276,7 @@ pub fn test_row(
         run_actions::count_turn(table::loop_at(rows, i), counts);
         on(m, left - price, partner_at(rows, i) + 1, false)
     } else {
+        limits[table::loop_at(rows, i)] = NOT_KEPT;
         on(m, left - price, i + 1, false)
     }
 }

@@ -1,3 +1,4 @@
 pub mod Tests
 pub mod Loop
 pub mod Start
+pub mod Limits

@@ -9,16 +9,17 @@ use lib.IntN.{ℤ}
 use Rattle.rules.specs.declared.Ending.{Ending}
 use Rattle.rules.specs.declared.Ending.the-variants.{Ended, Spent, NoPick}
 use Rattle.rules.specs.declared.Prices.{Prices}
-use Rattle.rules.specs.Blocks.{RowKind}
+use Rattle.rules.specs.Blocks.{RowKind, exprOf, viewAt}
 use Rattle.rules.specs.Calls.{loopRows}
 use Rattle.rules.proofs.Laws.{kinds-first}
 use Rattle.rules.proofs.TreeOf.{tree-of}
 use Rattle.rules_machine.specs.RowMachine.{TurnCounts, testing, Place, Next, more, over, steps, Partners, pairs, rank}
 use Rattle.rules_machine.proofs.PairsIn.{partners}
-use Rattle.rules_machine.proofs.RowMachineRuns.{falls-more, next-past}
+use Rattle.rules.proofs.Rows.{block-loop}
+use Rattle.rules_machine.proofs.RowMachineRuns.{falls-more, next-past, head-in}
 use Rattle.rules_frames.specs.Frames.{stopped, runsOn}
 use Rattle.rules_frames.proofs.Resumed.{Above, above, above-same, steps-room, step-more, over-keeps, runs-on-is}
-use Rattle.table.specs.Code.{rowsOf}
+use Rattle.table.specs.Code.{rowsOf, partnerIn, limitIn}
 use Rattle.table.proofs.Laws.{rows-length}
 use Rattle.table.proofs.Pairing.{heads-rise}
 use Rattle.run_actions.specs.declared.Machine.{Machine}
@@ -27,6 +28,10 @@ use Rattle.run_actions.specs.declared.Status.the-variants.{Going, Over}
 use Rattle.run_actions.specs.States.{countIn, loopCounts, tallyOf, phaseOf, stateOf, placeOf, byStatus, nextOf, isGoing, overAt, Acts}
 use Rattle.run_actions.proofs.Heads.{counts-at}
 use Rattle.run_machine.specs.Steps.{Runnable, scriptIn, Runs, Room, stepOf, EndsLoop, AtRow, AtTest, Stepped}
+use Rattle.run_machine.specs.Rows.{rowOf}
+use Rattle.run_machine.specs.Limits.{KeptAt, TestKept}
+use Rattle.run_machine.proofs.Rows.{at-test as tested}
+use Rattle.runner.proofs.Limits.{LimitsKept, in-keeps, limitOf, after-row, after-test}
 use Rattle.runner.specs.Runs.{placeIn, RoomToEnd, MayGo, standBy, WentOn}
 use Rattle.runner.proofs.Tests.{tests-at}
 
@@ -159,6 +164,33 @@ module _ {text : List ℕ} (π : Prices) (t : List ℕ) (count : ℕ) (picks : L
         used = done .acts .used (now .used);
         room = still-room (r .status) refl off;
       }
+
+    -- what is kept before a test
+    module _ (limits : List ℤ) (long : length limits ≡ 16) (kept : LimitsKept rows (m .row) store limits) where
+      pub kept-at : m .testing ≡ true → KeptAt text t m store limits
+      kept-at e =
+          let k = tested (at-test e) in
+          record { long = long; kept = in-keeps (kept _ (k .loop .few) (k .form) _ (k .last) (ap (viewAt rows) (k .loop .place) ∙ k .view)) }
+
+      -- and after it, or after a row
+      pub test-limits : (r : Machine) (counts′ : List (List ℕ)) (limits′ : List ℤ) → m .testing ≡ true → Stepped π rows m r store store picks counts counts′
+          → TestKept text t m r store limits limits′ → isGoing (r .status) ≡ true → LimitsKept rows (r .row) store limits′
+      test-limits r counts′ limits′ e done told on =
+          let (n, closed) = ready .script .runs .closed in
+          let (tree, whole) = tree-of rows n closed in
+          let k = tested (at-test e) in
+          after-test π rows tree whole (ready .script .runs .unchanged) _ (partnerIn (rowOf t m)) (k .loop .few) (k .loop .place) (exprOf text (limitIn (rowOf t m)))
+          here (placeIn rows r store picks counts′) store limits limits′ (step-is r store counts′ refl done Going (going-is (r .status) on)) refl refl (sym (k .head))
+          (block-loop rows tree whole _ (head-in rows _ (k .form) _ (k .last) (k .view)) (k .form) _ (k .last) (k .view) .past)
+          (λ f x l v. ap limitOf (sym v ∙ k .view)) (told .others) (told .own on) kept
+
+      pub row-limits : (r : Machine) (store′ : List ℤ) (counts′ : List (List ℕ)) → length store′ ≡ length store → m .testing ≡ false → Stepped π rows m r store store′ picks counts counts′
+          → isGoing (r .status) ≡ true → LimitsKept rows (r .row) store′ limits
+      row-limits r store′ counts′ same e done on =
+          let (n, closed) = ready .script .runs .closed in
+          let (tree, whole) = tree-of rows n closed in
+          after-row π rows tree whole (ready .script .runs .unchanged) here (placeIn rows r store′ picks counts′) store store′ limits
+          (step-is r store′ counts′ same done Going (going-is (r .status) on)) (ap phaseOf e) refl refl kept
 
     -- past the last row
     pub past-end : count ≤ m .row → WentOn π rows m₀ (overAt m (m .left) Ended count) store₀ store picks counts₀ counts

@@ -11,10 +11,11 @@ use Rattle.rules.specs.declared.Prices.{Prices}
 use Rattle.rules.specs.Blocks.{RowKind}
 use Rattle.rules.specs.Answers.{storeList}
 use Rattle.rules.specs.Calls.{loopRows}
-use Rattle.rules.specs.Scripts.{Script, Legal, storeOf}
+use Rattle.rules.specs.Scripts.{Script, Accepted, storeOf}
 use Rattle.rules.proofs.Laws.{list-of-store}
 use Rattle.rules.proofs.TreeOf.{tree-of}
 use Rattle.rules_machine.specs.RowMachine.{more, over, steps, start, rank, pairs}
+use Rattle.rules_machine.proofs.LimitsKept.{limit-keeps}
 use Rattle.rules_machine.proofs.PairsIn.{partners}
 use Rattle.rules_machine.proofs.RowMachineRuns.{row-answer}
 use Rattle.run_actions.specs.declared.Machine.{Machine}
@@ -27,9 +28,12 @@ use Rattle.runner.specs.Runs.{placeIn, MayGo, WentOn}
 use Rattle.runner.specs.Answered.{runOf, Cleared, ranBy, MayRun, AnsweredBy, Answered}
 use Rattle.runner.proofs.Loop.{size-of}
 
--- a script that passes the questions 4 to 7 may run
-pub runnable : (script : Script) → Legal script → Runnable (length (script .ranges)) (script .rows)
-runnable script ok = record { limits = ok .numbers .1; below = ok .variables; closed = ok .closed }
+-- an accepted script may run
+pub runnable : {π : Prices} (script : Script) → Accepted π script → Runnable (length (script .ranges)) (script .rows)
+runnable script ok =
+    let (n, closed) = ok .legal .closed in
+    let (tree, whole) = tree-of (script .rows) n closed in
+    record { limits = ok .legal .numbers .1; below = ok .legal .variables; closed = ok .legal .closed; unchanged = limit-keeps script ok tree whole }
 
 -- an array of counts as it is made
 pub cleared : Cleared (replicate 16 (replicate 3 0))

@@ -24,9 +24,10 @@ pub fn resume(
     ensures { λ r. ⌜ WentOn prices (scriptIn (now (text .entry)) (now (rows .entry)) count) from r (now (store .entry)) (now (store .exit)) (now (picks .entry)) (now (counts .entry)) (now (counts .exit)) ⌝ }
 {
     let mut m = from;
+    let mut limits = [run_machine::NOT_KEPT; 16];
     loop {
         if m.testing {
-            m = run_machine::test_row(m, rows, prices, text, &store[..], counts);
+            m = run_machine::test_row(m, rows, prices, text, &store[..], counts, &mut limits);
         } else {
             if count <= m.row {
                 return run_actions::ended(m, m.left, Ending::Ended, count);
