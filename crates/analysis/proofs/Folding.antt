@@ -3,6 +3,7 @@ use mathlib.Core.Path.{_≡_, refl, sym, ap, ap₂, _∙_}
 use mathlib.Core.Bool.{Bool, true, false, not, cond, _&&_, _||_}
 use mathlib.Core.List.{List, [], _∷_, _++_}
 use Prim.Native.Nat.{ℕ, _+_, _*_, _≤_, max}
+use lib.ListN.{set}
 use native.Mathlib.Omega.{arith}
 use lib.Dec.{leb}
 use lib.IntN.{ℤ, pos}
@@ -24,6 +25,7 @@ use Rattle.analysis_ticks.proofs.Caps.{cap-mul}
 use Rattle.analysis_passes.specs.declared.Round.{Round}
 use Rattle.analysis_passes.specs.Rounds.{roundOf, passIn}
 use Rattle.analysis_tallies.specs.Tallies.{FoldState, lastPrice}
+use Rattle.analysis.specs.Own.{putOwn}
 use Rattle.analysis.specs.Fold.{loopCount, frontOf, restOf, cappedLine, cappedLines, folded}
 use Rattle.analysis_tallies.proofs.Laws.{state-is}
 
@@ -141,16 +143,16 @@ module _ (π : Prices) (r : Round) (x : FoldState) where
   K = passIn r (x .kept)
 
   pub fold-none : x .spent ≤ 1_000_000_000_001 → folded π r x done ≡ x
-  unfolding folded after loopsVerdict ticks blocksVerdict lines cappedLines loopCount assigns
+  unfolding folded after loopsVerdict ticks blocksVerdict lines cappedLines loopCount assigns putOwn
   fold-none h =
-      state-is refl (kept-none (x .kept)) (then-passed (x .verdict)) (omega (arith, over-same K (r .by) (r .count) 0)) (then-passed (x .over)) (append-none (x .lines)) (omega arith)
+      state-is refl (kept-none (x .kept)) (then-passed (x .verdict)) (omega (arith, over-same K (r .by) (r .count) 0)) (then-passed (x .over)) (append-none (x .lines)) (omega arith) refl
 
   -- past a plain row
   abbrev pub pastPlain : Plain → FoldState
-  pastPlain p = record { env = afterRow (x .env) p; kept = x .kept && not (sets (r .v) p); verdict = x .verdict; spent = capped (x .spent + r .count * price π p); over = x .over; lines = x .lines; loops = x .loops }
+  pastPlain p = record { env = afterRow (x .env) p; kept = x .kept && not (sets (r .v) p); verdict = x .verdict; spent = capped (x .spent + r .count * price π p); over = x .over; lines = x .lines; loops = x .loops; own = x .own }
 
   pub fold-plain : (i : ℕ) (p : Plain) (rest : Block) → folded π r x (plain i p rest) ≡ folded π r (pastPlain p) rest
-  unfolding folded after loopsVerdict ticks blocksVerdict lines loopCount assigns
+  unfolding folded after loopsVerdict ticks blocksVerdict lines loopCount assigns putOwn
   fold-plain i p rest =
       let ρ = afterRow (x .env) p in
       let s : ℕ → Bool = λ w. sets w p in
@@ -162,14 +164,14 @@ module _ (π : Prices) (r : Round) (x : FoldState) where
         over-same K (r .by) (r .count) (price π p),
         ap (λ k. sumOver k (r .by) (r .count) (λ j. ticks π j ρ rest)) e,
       ))
-      refl (ap (λ k. x .lines ++ cappedLines (lines (roundOf r) k ρ rest)) e) refl
+      refl (ap (λ k. x .lines ++ cappedLines (lines (roundOf r) k ρ rest)) e) refl refl
 
   -- past a pick
   abbrev pub pickTicks : Block → Block → ℕ
   pickTicks a b = π .pick + max (ticks π any (x .env) a) (ticks π any (x .env) b)
 
-  abbrev pub pastPick : ℕ → Block → Block → FoldState
-  pastPick e a b = record {
+  abbrev pub pastPick : ℕ → ℕ → Block → Block → FoldState
+  pastPick i e a b = record {
     env = join (after (x .env) a) (after (x .env) b);
     kept = (x .kept && not (assigns (r .v) a)) && not (assigns (r .v) b);
     verdict = andThen (andThen (x .verdict) (loopsVerdict (x .env) a)) (loopsVerdict (x .env) b);
@@ -177,10 +179,11 @@ module _ (π : Prices) (r : Round) (x : FoldState) where
     over = andThen (andThen (andThen (x .over) (blocksVerdict π (x .env) a)) (blocksVerdict π (x .env) b)) (asked 13 e (leb (pickTicks a b) tickLimit) passed);
     lines = (x .lines ++ cappedLines (lines (alike (often (roundOf r))) any (x .env) a)) ++ cappedLines (lines (alike (often (roundOf r))) any (x .env) b);
     loops = x .loops + loopCount a + loopCount b;
+    own = set (putOwn π (x .env) b (putOwn π (x .env) a (x .own))) i (capped (pickTicks a b));
   }
 
-  pub fold-pick : (i e : ℕ) (a b rest : Block) → folded π r x (pick i e a b rest) ≡ folded π r (pastPick e a b) rest
-  unfolding folded after loopsVerdict ticks blocksVerdict lines loopCount assigns
+  pub fold-pick : (i e : ℕ) (a b rest : Block) → folded π r x (pick i e a b rest) ≡ folded π r (pastPick i e a b) rest
+  unfolding folded after later loopsVerdict ticks blocksVerdict lines loopCount assigns putOwn
   fold-pick i e a b rest =
       let ρ = x .env in
       let σ = join (after ρ a) (after ρ b) in
@@ -202,6 +205,7 @@ module _ (π : Prices) (r : Round) (x : FoldState) where
       (lines-pick (x .lines) (lines R any ρ a) (lines R any ρ b) (lines (roundOf r) (later s K) σ rest)
       ∙ ap (λ k. ((x .lines ++ cappedLines (lines R any ρ a)) ++ cappedLines (lines R any ρ b)) ++ cappedLines (lines (roundOf r) k σ rest)) l)
       (omega arith)
+      (ap (λ n. putOwn π σ rest (set (putOwn π ρ b (putOwn π ρ a (x .own))) i (capped n))) (let z : F + 0 ≡ F = omega arith in z))
 
   -- past a loop
   module _ (i e : ℕ) (form : Form) (test : Test) (body : Block) where
@@ -231,10 +235,11 @@ module _ (π : Prices) (r : Round) (x : FoldState) where
       over = andThen (andThen (x .over) (blocksVerdict π β body)) (asked 13 e (leb ownTicks tickLimit) passed);
       lines = (x .lines ++ (cappedLine (line (roundOf r) (startPass form test K) i form σ test body) ∷ [])) ++ cappedLines (lines (inBody (roundOf r) (startPass form test K) form σ test body) (firstPass form σ test body) β body);
       loops = x .loops + 1 + loopCount body;
+      own = set (putOwn π β body (x .own)) i (capped ownTicks);
     }
 
     pub fold-loop : (rest : Block) → folded π r x (loop i e form test body rest) ≡ folded π r pastLoop rest
-    unfolding folded after loopsVerdict ticks blocksVerdict lines cappedLines loopCount assigns
+    unfolding folded after later loopsVerdict ticks blocksVerdict lines cappedLines loopCount assigns putOwn
     fold-loop rest =
         let F = ownTicks in
         let q = asked 13 e (leb F tickLimit) passed in
@@ -254,14 +259,15 @@ module _ (π : Prices) (r : Round) (x : FoldState) where
         ∙ sym (then-assoc (x .over) _ _) ∙ sym (then-assoc _ q _))
         (lines-loop (x .lines) one inner (lines (roundOf r) (later s K) α rest) ∙ ap (λ k. ((x .lines ++ (cappedLine one ∷ [])) ++ cappedLines inner) ++ cappedLines (lines (roundOf r) k α rest)) l)
         (omega arith)
+        (ap (λ n. putOwn π α rest (set (putOwn π β body (x .own)) i (capped n))) (let z : F + 0 ≡ F = omega arith in z))
 
 -- ---- the first row or block alone, then the rest
 module _ (π : Prices) (r : Round) (x : FoldState) where
   first-plain : (i : ℕ) (p : Plain) → folded π r x (plain i p done) ≡ pastPlain π r x p
   first-plain i p = fold-plain π r x i p done ∙ fold-none π r (pastPlain π r x p) (omega arith)
 
-  pub first-pick : (i e : ℕ) (a b : Block) → folded π r x (pick i e a b done) ≡ pastPick π r x e a b
-  first-pick i e a b = fold-pick π r x i e a b done ∙ fold-none π r (pastPick π r x e a b) (omega arith)
+  pub first-pick : (i e : ℕ) (a b : Block) → folded π r x (pick i e a b done) ≡ pastPick π r x i e a b
+  first-pick i e a b = fold-pick π r x i e a b done ∙ fold-none π r (pastPick π r x i e a b) (omega arith)
 
   pub first-loop : (i e : ℕ) (form : Form) (test : Test) (body : Block) → folded π r x (loop i e form test body done) ≡ pastLoop π r x i e form test body
   first-loop i e form test body = fold-loop π r x i e form test body done ∙ fold-none π r (pastLoop π r x i e form test body) (omega arith)
@@ -279,6 +285,7 @@ pub record SameBody (π : Prices) (l : Last) (b c : Block) : Type 0 where
   pub over : (β : Env) → blocksVerdict π β c ≡ blocksVerdict π β b
   pub lined : (r : figures.Round) (k : Pass) (β : Env) → lines r k β c ≡ lines r k β b
   pub count : loopCount c ≡ loopCount b
+  pub own : (β : Env) (o : List ℕ) → putOwn π β c o ≡ putOwn π β b o
   pub ticked : (k : Pass) (β : Env) → ticks π k β c ≡ lastPrice π l + ticks π k β b
 
 module _ (i : ℕ) (p : Plain) where
@@ -317,6 +324,13 @@ module _ (i : ℕ) (p : Plain) where
   count-snoc (pick j e a b rest) = omega (arith, count-snoc rest)
   count-snoc (loop j e form test body rest) = omega (arith, count-snoc rest)
 
+  own-snoc : (π : Prices) (b : Block) (β : Env) (o : List ℕ) → putOwn π β (snoc b i p) o ≡ putOwn π β b o
+  unfolding putOwn snoc
+  own-snoc π done β o = refl
+  own-snoc π (plain j q rest) β o = own-snoc π rest (afterRow β q) o
+  own-snoc π (pick j e a b rest) β o = own-snoc π rest (join (after β a) (after β b)) _
+  own-snoc π (loop j e form test body rest) β o = own-snoc π rest (outside form (atStart form test β) test body) _
+
   ticks-snoc : (π : Prices) (b : Block) (k : Pass) (β : Env) → ticks π k β (snoc b i p) ≡ price π p + ticks π k β b
   unfolding ticks snoc
   ticks-snoc π done k β = omega arith
@@ -326,5 +340,5 @@ module _ (i : ℕ) (p : Plain) where
 
 pub same-body : (π : Prices) (l : Last) (i : ℕ) (b : Block) → SameBody π l b (withLast l i b)
 unfolding withLast
-same-body π no-step i b = record { loops = λ β. refl; over = λ β. refl; lined = λ r k β. refl; count = refl; ticked = λ k β. omega arith }
-same-body π (step-by p) i b = record { loops = loops-snoc i p b; over = over-snoc i p π b; lined = lines-snoc i p b; count = count-snoc i p b; ticked = ticks-snoc i p π b }
+same-body π no-step i b = record { loops = λ β. refl; over = λ β. refl; lined = λ r k β. refl; count = refl; own = λ β o. refl; ticked = λ k β. omega arith }
+same-body π (step-by p) i b = record { loops = loops-snoc i p b; over = over-snoc i p π b; lined = lines-snoc i p b; count = count-snoc i p b; own = own-snoc i p π b; ticked = ticks-snoc i p π b }

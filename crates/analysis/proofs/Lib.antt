@@ -8,4 +8,3 @@ pub mod Verdicts
 pub mod Counts
 pub mod Legals
 pub mod Results
-pub mod Own

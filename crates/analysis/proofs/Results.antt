@@ -16,23 +16,23 @@ use Rattle.rules.specs.Figures.{ticks, alike, lines}
 use Rattle.rules.proofs.Walk.{over-once}
 use Rattle.analysis_passes.specs.declared.Round.{Round}
 use Rattle.rules.specs.declared.Verdict.the-variants.{Passed as passed}
-use Rattle.rules.specs.Questions.{andThen, verdict}
+use Rattle.rules.specs.Questions.{andThen, loopsVerdict, verdict}
 use Rattle.rules.specs.Scripts as scripts
-use Rattle.rules.specs.Scripts.{pairRanges, BlankFrom, scriptOf, treeOf, Legal, Accepted}
+use Rattle.rules.specs.Scripts.{pairRanges, BlankFrom, scriptOf, treeOf, Legal}
 use Rattle.analysis_steps.specs.Tree.{kinds, blockAt}
 use Rattle.analysis_intervals.specs.Env.{envOf}
 use Rattle.analysis_turns.specs.Verdicts.{verdictOf}
 use Rattle.analysis_tallies.specs.declared.Tally.{Tally}
 use Rattle.analysis.specs.declared.Refusal.{Refusal}
-use Rattle.analysis.specs.declared.Figures.{Figures}
-use Rattle.analysis_tallies.specs.Tallies.{TallyLines, withLines, tallied}
+use Rattle.analysis_tallies.specs.Tallies.{LentTally, withLent, tallied}
 use Rattle.analysis.specs.Fold.{Analysed}
+use Rattle.analysis.specs.Own.{putOwn, OwnPut}
 use Rattle.analysis_lines.specs.Coded.{firstLines}
 use Rattle.analysis.specs.Whole.{FirstNo, of-loop, of-block, of-file, none, AnalysisOf}
 use Rattle.analysis.proofs.Going.{from-parts, part-of, refused-in}
 use Rattle.analysis.proofs.Totals.{lines-true}
 use Rattle.analysis.proofs.Verdicts.{verdict-loop, verdict-block, verdict-file, verdict-passed}
-use Rattle.analysis.proofs.Legals.{env-is, long, file-is, few-in}
+use Rattle.analysis.proofs.Legals.{env-is, file-is, few-in}
 
 -- the one pass of a file's rows
 abbrev pub alone : Round
@@ -52,7 +52,7 @@ module _ (π : Prices) (fine : FinePrices π) (text : List ℕ) (ranges : List (
   moved : {A : Type 0} (f : Env → Block → A) → f (scripts.startEnv (take vars (pairRanges ranges))) (treeOf (kinds text rows count)) ≡ f ρ b
   moved f = λ j. f (env-is ranges vars blank j) (sym (file-is text ranges vars rows count legal few all) j)
 
-  pub result : (t₀ : TallyLines) (t : Tally) (ls : List (List ℕ)) → tallied t₀ ρ ≡ from-parts ρ false 0 passed [] 0 → Analysed text π rows count 0 ρ alone t₀ (withLines t ls) → (f : Refusal) → FirstNo t count f
+  pub result : {last : List (List ℤ)} {os : List ℕ} (t₀ : LentTally) (t : Tally) (ls : List (List ℕ)) → tallied t₀ ρ ≡ from-parts ρ false 0 passed [] 0 (t₀ .own) → Analysed text π rows count 0 ρ alone t₀ last (withLent t ls os) → (f : Refusal) → FirstNo t count f
       → (n : ℕ) → (f .number ≡ 0 → n ≡ t .spent) → (k : ℕ) → (f .number ≡ 0 → k ≡ t .loops) → ((f .number ≡ 0 → ⊥) → (n ≡ 0) × (k ≡ 0))
       → AnalysisOf π (scriptOf text ranges vars rows count) count (record { number = f .number; place = f .place; ticks = n; loops = k }) ls
   unfolding scriptOf andThen
@@ -66,7 +66,7 @@ module _ (π : Prices) (fine : FinePrices π) (text : List ℕ) (ranges : List (
     none = free;
   }
   result t₀ t ls e s f (of-block z l p q) m u k v free =
-      let part = part-of false 0 passed [] 0 e (s .whole z) in
+      let part = part-of false 0 passed [] 0 (t₀ .own) e (s .whole z) in
       record {
         verdict = moved (verdict π count) ∙ verdict-block π count ρ b (part .verdict) (t .over) (part .over) l ∙ (λ j. verdictOf (sym p j) (sym q j));
         place = λ w. no-number p w;
@@ -77,7 +77,7 @@ module _ (π : Prices) (fine : FinePrices π) (text : List ℕ) (ranges : List (
         none = free;
       }
   result t₀ t ls e s f (of-file z l o p q) m u k v free =
-      let part = part-of false 0 passed [] 0 e (s .whole z) in
+      let part = part-of false 0 passed [] 0 (t₀ .own) e (s .whole z) in
       record {
         verdict = moved (verdict π count) ∙ verdict-file π count ρ b (part .verdict) (t .over) (part .over) l (omega (arith, part .spent, over-once (pos 0) (λ j. ticks π j ρ b))) ∙ (λ j. verdictOf (sym p j) (sym q j));
         place = λ w. no-number p w;
@@ -88,7 +88,7 @@ module _ (π : Prices) (fine : FinePrices π) (text : List ℕ) (ranges : List (
         none = free;
       }
   result t₀ t ls e s f (none z l o p q) j u k v free =
-      let part = part-of false 0 passed [] 0 e (s .whole z) in
+      let part = part-of false 0 passed [] 0 (t₀ .own) e (s .whole z) in
       let m : ticks π any ρ b ≤ 1_000_000_000_000 = omega (arith, part .spent, over-once (pos 0) (λ j. ticks π j ρ b)) in
       let n : t .spent ≡ ticks π any ρ b = omega (arith, part .spent, over-once (pos 0) (λ j. ticks π j ρ b)) in
       record {
@@ -101,10 +101,15 @@ module _ (π : Prices) (fine : FinePrices π) (text : List ℕ) (ranges : List (
         none = free;
       }
 
-  -- a file that passes here is accepted
-  pub accepted : (s : Figures) (ls : List (List ℕ)) → AnalysisOf π (scriptOf text ranges vars rows count) count s ls → s .number ≡ 0 → Accepted π (scriptOf text ranges vars rows count)
-  unfolding scriptOf verdictOf
-  accepted s ls h z = record {
-    legal = legal;
-    loops = ap (λ n. verdict π n (scripts.startEnv (take vars (pairRanges ranges))) (treeOf (kinds text rows count))) (long text ranges vars rows count legal few all) ∙ h .verdict ∙ ap (λ n. verdictOf n (s .place)) z;
-  }
+  -- the blocks' own ticks, where no loop is refused
+  module _ {last : List (List ℤ)} {os : List ℕ} (t₀ : LentTally) (t : Tally) (ls : List (List ℕ)) (e : tallied t₀ ρ ≡ from-parts ρ false 0 passed [] 0 (t₀ .own)) (s : Analysed text π rows count 0 ρ alone t₀ last (withLent t ls os)) where
+    own-whole : t .number ≡ 0 → OwnPut π (scriptOf text ranges vars rows count) (t₀ .own) os
+    unfolding scriptOf
+    own-whole z g = part-of false 0 passed [] 0 (t₀ .own) e (s .whole z) .own ∙ sym (moved (λ ρ b. putOwn π ρ b (t₀ .own)))
+
+    pub own-put : (f : Refusal) → FirstNo t count f → OwnPut π (scriptOf text ranges vars rows count) (t₀ .own) os
+    unfolding scriptOf
+    own-put f (of-loop h p q) g = absurd (let n = sym (refused-in s h) ∙ sym (moved loopsVerdict) ∙ g in let z : _≡_ {A = ℕ} 0 1 = cc in omega arith)
+    own-put f (of-block z l p q) g = own-whole z g
+    own-put f (of-file z l o p q) g = own-whole z g
+    own-put f (none z l o p q) g = own-whole z g

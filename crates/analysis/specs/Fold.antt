@@ -1,4 +1,4 @@
--- The analysis as one fold over a block: ranges, verdicts, ticks, lines, in all passes of one entry of the loop round it. Ticks and totals stop just past the limit.
+-- The analysis as one fold over a block: ranges, verdicts, ticks, lines, the blocks' own ticks, in all passes of one entry of the loop round it. Ticks and totals stop just past the limit.
 use mathlib.Core.Path.{_≡_}
 use mathlib.Core.Logic.{_⊎_}
 use mathlib.Core.Bool.{not, _&&_}
@@ -25,7 +25,8 @@ use Rattle.analysis_intervals.specs.Env.{envOf}
 use Rattle.analysis_ticks.specs.Capped.{capped}
 use Rattle.analysis_passes.specs.declared.Round.{Round}
 use Rattle.analysis_passes.specs.Rounds.{roundOf, passIn, FineRound}
-use Rattle.analysis_tallies.specs.Tallies.{FoldState, TallyLines, tallied}
+use Rattle.analysis_tallies.specs.Tallies.{FoldState, LentTally, tallied}
+use Rattle.analysis.specs.Own.{putOwn}
 
 -- how many loops a block has
 unfoldable pub loopCount : Block → ℕ
@@ -67,54 +68,57 @@ folded π r x b = record {
   over = andThen (x .over) (blocksVerdict π (x .env) b);
   lines = x .lines ++ cappedLines (lines (roundOf r) (passIn r (x .kept)) (x .env) b);
   loops = x .loops + loopCount b;
+  own = putOwn π (x .env) b (x .own);
 }
 
 -- what the walk asks
-pub record Walkable (text : List ℕ) (π : Prices) (rows : List Row) (count at : ℕ) (round : Round) (t : TallyLines) : Type 0 where
+pub record Walkable (text : List ℕ) (π : Prices) (rows : List Row) (count at : ℕ) (round : Round) (t : LentTally) : Type 0 where
   pub ready : Ready text rows count at
   pub prices : FinePrices π
+  pub number : t .number ≡ 0
   pub small : t .spent ≤ 1_000_000_000_001
   pub fine : FineRound round
   pub room : t .loops + loopCount (blockAt text rows count at) ≤ 16
   pub long : length (t .lines) ≡ 16
 
--- what it gives: no loop refused
-pub record PassedPart (text : List ℕ) (π : Prices) (rows : List Row) (count at : ℕ) (ρ : Env) (round : Round) (t r : TallyLines) : Type 0 where
-  pub value : tallied r (after ρ (blockAt text rows count at)) ≡ folded π round (tallied t ρ) (blockAt text rows count at)
+-- what it gives: no loop refused; ranges: those after the block
+pub record PassedPart (text : List ℕ) (π : Prices) (rows : List Row) (count at : ℕ) (ρ : Env) (round : Round) (t : LentTally) (ranges : List (List ℤ)) (r : LentTally) : Type 0 where
+  pub value : tallied r (envOf ranges) ≡ folded π round (tallied t ρ) (blockAt text rows count at)
   pub place : r .next ≡ endAt text rows count at
   pub low : at ≤ r .next
   pub high : r .next ≤ count
   pub small : r .spent ≤ 1_000_000_000_001
   pub long : length (r .lines) ≡ 16
+  pub env-long : length ranges ≡ 16
 
 -- or the first loop refused
-pub record Analysed (text : List ℕ) (π : Prices) (rows : List Row) (count at : ℕ) (ρ : Env) (round : Round) (t r : TallyLines) : Type 0 where
+pub record Analysed (text : List ℕ) (π : Prices) (rows : List Row) (count at : ℕ) (ρ : Env) (round : Round) (t : LentTally) (ranges : List (List ℤ)) (r : LentTally) : Type 0 where
   pub stopped : (r .number ≡ 0 → ⊥) → folded π round (tallied t ρ) (blockAt text rows count at) .verdict ≡ refused (r .number) (r .place)
-  pub whole : r .number ≡ 0 → PassedPart text π rows count at ρ round t r
+  pub whole : r .number ≡ 0 → PassedPart text π rows count at ρ round t ranges r
 
 -- a row that begins a block
 abbrev pub IsBlock : Shape → Type 0
 IsBlock s = (s ≡ Shape.Branch) ⊎ (s ≡ Shape.Loop)
 
 -- a block of this shape stands at row i; ranges: those before it
-pub record AtBlock (text : List ℕ) (π : Prices) (rows : List Row) (count i : ℕ) (shape : Shape) (round : Round) (t : TallyLines) (ranges : List (List ℤ)) : Type 0 where
+pub record AtBlock (text : List ℕ) (π : Prices) (rows : List Row) (count i : ℕ) (shape : Shape) (round : Round) (t : LentTally) (ranges : List (List ℤ)) : Type 0 where
   pub walk : Walkable text π rows count i round t
   pub inside : i < count
   pub is : shapeOf (kindAt rows i) ≡ shape
   pub long : length ranges ≡ 16
 
--- the block at row i has been walked, to its end at r .next: no loop refused; ranges: those after it
-pub record PassedBlock (text : List ℕ) (π : Prices) (rows : List Row) (count i : ℕ) (ρ : Env) (round : Round) (t : TallyLines) (ranges : List (List ℤ)) (r : TallyLines) : Type 0 where
+-- the block at row i has been walked, and r .next comes after it: no loop refused; ranges: those after it
+pub record PassedBlock (text : List ℕ) (π : Prices) (rows : List Row) (count i : ℕ) (ρ : Env) (round : Round) (t : LentTally) (ranges : List (List ℤ)) (r : LentTally) : Type 0 where
   pub value : tallied r (envOf ranges) ≡ folded π round (tallied t ρ) (frontOf (blockAt text rows count i))
-  pub rest : restOf (blockAt text rows count i) ≡ blockAt text rows count (r .next + 1)
-  pub place : endAt text rows count i ≡ endAt text rows count (r .next + 1)
+  pub rest : restOf (blockAt text rows count i) ≡ blockAt text rows count (r .next)
+  pub place : endAt text rows count i ≡ endAt text rows count (r .next)
   pub low : i < r .next
-  pub high : r .next < count
+  pub high : r .next ≤ count
   pub small : r .spent ≤ 1_000_000_000_001
   pub long : length (r .lines) ≡ 16
   pub env-long : length ranges ≡ 16
 
 -- or the first loop refused
-pub record PastBlock (text : List ℕ) (π : Prices) (rows : List Row) (count i : ℕ) (ρ : Env) (round : Round) (t : TallyLines) (ranges : List (List ℤ)) (r : TallyLines) : Type 0 where
+pub record PastBlock (text : List ℕ) (π : Prices) (rows : List Row) (count i : ℕ) (ρ : Env) (round : Round) (t : LentTally) (ranges : List (List ℤ)) (r : LentTally) : Type 0 where
   pub stopped : (r .number ≡ 0 → ⊥) → folded π round (tallied t ρ) (frontOf (blockAt text rows count i)) .verdict ≡ refused (r .number) (r .place)
   pub whole : r .number ≡ 0 → PassedBlock text π rows count i ρ round t ranges r

@@ -1,28 +1,32 @@
--- A block's own tick figure.
+-- Each block's own tick figure, at its head row.
+use mathlib.Core.Path.{_≡_}
+use mathlib.Core.List.{List}
 use Prim.Native.Nat.{ℕ}
+use lib.ListN.{set}
 use Rattle.rules.specs.Blocks.{Block, done, plain, pick, loop}
-use Rattle.rules.specs.Ranges.{Env}
+use Rattle.rules.specs.Ranges.{Env, afterRow, join, atStart}
+use Rattle.rules.specs.Trips.{inside, outside, after}
 use Rattle.rules.specs.declared.Prices.{Prices}
-use Rattle.rules.specs.declared.Verdict.{Verdict}
-use Rattle.rules.specs.declared.Verdict.the-variants.{Passed as passed, Refused as refused}
+use Rattle.rules.specs.declared.Verdict.the-variants.{Passed as passed}
 use Rattle.rules.specs.Passes.{any}
 use Rattle.rules.specs.Figures.{ticks}
 use Rattle.rules.specs.Questions.{loopsVerdict}
+use Rattle.rules.specs.Scripts.{Script, startEnv, treeOf}
 use Rattle.analysis_ticks.specs.Capped.{capped}
-use Rattle.analysis.specs.Fold.{frontOf}
 
--- of the block that stands first in b, ρ the ranges before it; 0 if a row or nothing does
-unfoldable pub ownFigure : Prices → Env → Block → ℕ
-ownFigure π ρ done = 0
-ownFigure π ρ (plain i p rest) = 0
-ownFigure π ρ (pick i e a b rest) = ticks π any ρ (pick i e a b done)
-ownFigure π ρ (loop i e form test body rest) = ticks π any ρ (loop i e form test body done)
+-- own with the ticks of each block of b, alone, at its head row, stopped just past the limit; ρ the ranges before b. A row past the end of own is left out
+unfoldable pub putOwn : Prices → Env → Block → List ℕ → List ℕ
+putOwn π ρ done own = own
+putOwn π ρ (plain i p rest) own = putOwn π (afterRow ρ p) rest own
+putOwn π ρ (pick i e a b rest) own = putOwn π (join (after ρ a) (after ρ b)) rest (set (putOwn π ρ b (putOwn π ρ a own)) i (capped (ticks π any ρ (pick i e a b done))))
+putOwn π ρ (loop i e form test body rest) own =
+    putOwn π (outside form (atStart form test ρ) test body) rest
+    (set (putOwn π (inside form (atStart form test ρ) test body) body own) i (capped (ticks π any ρ (loop i e form test body done))))
 
--- 0 if a loop is refused
-abbrev pub ifPassed : Verdict → ℕ → ℕ
-ifPassed passed n = n
-ifPassed (refused q p) n = 0
+-- the questions 19 and 8 to 12 of a script have yes
+abbrev pub LoopsPass : Script → Type 0
+LoopsPass script = loopsVerdict (startEnv (script .ranges)) (treeOf (script .rows)) ≡ passed
 
--- that figure, where no loop of the block is refused; it stops just past the limit
-abbrev pub ownTicks : Prices → Env → Block → ℕ
-ownTicks π ρ b = ifPassed (loopsVerdict ρ (frontOf b)) (capped (ownFigure π ρ b))
+-- of such a script: those of all its blocks
+abbrev pub OwnPut : Prices → Script → List ℕ → List ℕ → Type 0
+OwnPut π script own own′ = LoopsPass script → own′ ≡ putOwn π (startEnv (script .ranges)) (treeOf (script .rows)) own

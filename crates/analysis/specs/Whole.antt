@@ -2,13 +2,16 @@
 use mathlib.Core.Path.{_≡_}
 use mathlib.Core.List.{List}
 use Prim.Native.Nat.{ℕ, _≤_, _<_}
+use lib.IntN.{ℤ}
 use lib.ListN.{length}
+use Rattle.rules.specs.declared.Row.{Row}
 use Rattle.rules.specs.declared.Prices.{Prices}
 use Rattle.rules.specs.Questions.{verdict}
-use Rattle.rules.specs.Scripts.{Script, startEnv, treeOf, reportTicks, reportLines}
+use Rattle.rules.specs.Scripts.{Script, startEnv, treeOf, scriptOf, BlankFrom, Legal, reportTicks, reportLines}
 use Rattle.analysis_lines.specs.Coded.{firstLines}
 use Rattle.analysis_turns.specs.Verdicts.{verdictOf}
 use Rattle.analysis_tallies.specs.declared.Tally.{Tally}
+use Rattle.analysis.specs.Own.{OwnPut}
 use Rattle.analysis.specs.declared.Refusal.{Refusal}
 use Rattle.analysis.specs.declared.Figures.{Figures}
 
@@ -28,3 +31,13 @@ pub record AnalysisOf (π : Prices) (script : Script) (rows : ℕ) (s : Figures)
   pub long : s .number ≡ 0 → length table ≡ 16
   pub lines : s .number ≡ 0 → firstLines table (s .loops) ≡ reportLines script
   pub none : (s .number ≡ 0 → ⊥) → (s .ticks ≡ 0) × (s .loops ≡ 0)
+
+-- the first `count` rows and the first `vars` ranges are a script that has passed the questions 4 to 7
+abbrev pub LegalRows : List ℕ → List (List ℤ) → List Row → ℕ → ℕ → Type 0
+LegalRows text ranges rows count vars = Legal (scriptOf text ranges vars rows count) × BlankFrom vars ranges
+
+-- what is found of it: the answer, the table of lines, and the blocks' own ticks
+abbrev pub FoundOf : Prices → List ℕ → List (List ℤ) → List Row → ℕ → Figures → List (List ℕ) → List ℕ → List ℕ → Type 0
+FoundOf π text ranges rows count s table own own′ =
+    (vars : ℕ) → LegalRows text ranges rows count vars
+    → AnalysisOf π (scriptOf text ranges vars rows count) count s table × OwnPut π (scriptOf text ranges vars rows count) own own′

@@ -3,9 +3,7 @@ use analysis_entries::enter_loop;
 use analysis_entries::leave_loop;
 use analysis_passes::Round;
 use analysis_passes::branch;
-use analysis_ranges::after;
 use analysis_tallies::Tally;
-use analysis_tallies::ended;
 use analysis_tallies::leave_pick;
 use analysis_tallies::past_row;
 use analysis_tallies::restarted;
@@ -21,166 +19,146 @@ ghost use Prim.Native.Nat.{ℕ, _+_, _*_, _≤_, _<_};
 ghost use lib.ListN.{length};
 ghost use Rattle.rules.specs.Bounds.{FinePrices};
 ghost use Rattle.rules.specs.Written.{Written};
-ghost use Rattle.rules.specs.Ranges.{join};
-ghost use Rattle.rules.specs.Trips.{after};
-ghost use Rattle.rules.specs.Scripts.{scriptOf, BlankFrom, Legal};
 ghost use Rattle.table.specs.Code.{kindAt, rowsOf};
 ghost use Rattle.table.specs.Shapes.{shapeOf};
-ghost use Rattle.analysis_steps.specs.Tree.{blockAt, Ready};
 ghost use Rattle.analysis_intervals.specs.Env.{envOf};
-ghost use Rattle.analysis_tallies.specs.Tallies.{withLines};
-ghost use Rattle.analysis.specs.Fold.{loopCount, Walkable, Analysed, IsBlock, AtBlock, PastBlock};
-ghost use Rattle.analysis.specs.Whole.{FirstNo, AnalysisOf};
-ghost use Rattle.analysis.specs.Own.{ownTicks};
+ghost use Rattle.analysis_tallies.specs.Tallies.{withLent};
+ghost use Rattle.analysis.specs.Fold.{Walkable, Analysed, IsBlock, AtBlock, PastBlock};
+ghost use Rattle.analysis.specs.Whole.{FirstNo, LegalRows, FoundOf};
 
-// The ranges after a pick whose parts start at two rows.
-fn after_pick(
-    text: &[u8],
-    rows: &[u32],
+// How many rows a script has, and what each kind of row takes.
+struct PricedRows {
     count: usize,
-    first: usize,
-    second: usize,
-    r: [[i32; 2]; 16],
-) -> [[i32; 2]; 16]
-    requires { ⌜ Ready (now text) (rowsOf (now rows)) count first × Ready (now text) (rowsOf (now rows)) count second ⌝ }
-    ensures { λ x. ⌜ envOf x ≡ join (after (envOf r) (blockAt (now (text .entry)) (rowsOf (now (rows .entry))) count first)) (after (envOf r) (blockAt (now (text .entry)) (rowsOf (now (rows .entry))) count second)) ⌝ }
-{
-    let mut m: usize = 0;
-    let a = after(text, rows, count, first, r, &mut m);
-    let mut e: usize = 0;
-    let b = after(text, rows, count, second, r, &mut e);
-    joined(a, b)
+    prices: Prices,
 }
 
-// The pick at row i, from the ranges before it to those after it: its two parts by the walk.
+// The pick at row t.next, from the ranges before it to those after it: its two parts by the walk.
 fn walk_pick(
     text: &[u8],
     rows: &[u32],
-    count: usize,
-    i: usize,
+    script: PricedRows,
     round: Round,
-    prices: Prices,
     lines: &mut [[u64; 7]; 16],
+    own: &mut [u64],
     t: Tally,
     r: &mut [[i32; 2]; 16],
 ) -> Tally
-    requires { ⌜ AtBlock (now text) prices (rowsOf (now rows)) count i Shape.Branch round (withLines t (now lines)) (now r) ⌝ }
-    ensures { λ x. ⌜ PastBlock (now (text .entry)) prices (rowsOf (now (rows .entry))) count i (envOf (now (r .entry))) round (withLines t (now (lines .entry))) (now (r .exit)) (withLines x (now (lines .exit))) ⌝ }
+    requires { ⌜ AtBlock (now text) (script .prices) (rowsOf (now rows)) (script .count) (t .next) Shape.Branch round
+        (withLent t (now lines) (now own)) (now r) ⌝ }
+    ensures { λ x. ⌜ PastBlock (now (text .entry)) (script .prices) (rowsOf (now (rows .entry))) (script .count) (t .next)
+        (envOf (now (r .entry))) round (withLent t (now (lines .entry)) (now (own .entry)))
+        (now (r .exit)) (withLent x (now (lines .exit)) (now (own .exit))) ⌝ }
 {
+    let mut first = *r;
+    let mut second = *r;
     let part = branch(round);
-    let begun = restarted(t, 0);
-    let a = walk(text, rows, count, i + 1, *r, part, prices, lines, begun);
+    let begun = restarted(t, t.next + 1);
+    let a = walk(text, rows, script, part, lines, own, begun, &mut first);
     if a.number != 0 {
         return a;
     }
-    let second = past_else(rows, a.next);
-    let again = restarted(a, 0);
-    let b = walk(text, rows, count, second, *r, part, prices, lines, again);
+    let again = restarted(a, past_else(rows, a.next));
+    let b = walk(text, rows, script, part, lines, own, again, &mut second);
     if b.number != 0 {
         return b;
     }
-    let x = after_pick(text, rows, count, i + 1, second, *r);
+    let x = joined(first, second);
     *r = x;
-    leave_pick(prices.pick, round.count, t, a, b)
+    let prices = script.prices;
+    leave_pick(prices.pick, round.count, own, t, a, b)
 }
 
-// The loop at row i, from the ranges before it to those after it: its body by the walk.
+// The loop at row t.next, from the ranges before it to those after it: its body by the walk.
 fn walk_loop(
     text: &[u8],
     rows: &[u32],
-    count: usize,
-    i: usize,
+    script: PricedRows,
     round: Round,
-    prices: Prices,
     lines: &mut [[u64; 7]; 16],
+    own: &mut [u64],
     t: Tally,
     r: &mut [[i32; 2]; 16],
 ) -> Tally
-    requires { ⌜ AtBlock (now text) prices (rowsOf (now rows)) count i Shape.Loop round (withLines t (now lines)) (now r) ⌝ }
-    ensures { λ x. ⌜ PastBlock (now (text .entry)) prices (rowsOf (now (rows .entry))) count i (envOf (now (r .entry))) round (withLines t (now (lines .entry))) (now (r .exit)) (withLines x (now (lines .exit))) ⌝ }
+    requires { ⌜ AtBlock (now text) (script .prices) (rowsOf (now rows)) (script .count) (t .next) Shape.Loop round
+        (withLent t (now lines) (now own)) (now r) ⌝ }
+    ensures { λ x. ⌜ PastBlock (now (text .entry)) (script .prices) (rowsOf (now (rows .entry))) (script .count) (t .next)
+        (envOf (now (r .entry))) round (withLent t (now (lines .entry)) (now (own .entry)))
+        (now (r .exit)) (withLent x (now (lines .exit)) (now (own .exit))) ⌝ }
 {
-    let entered = enter_loop(text, rows, count, i, round, prices, lines, t, r);
+    let entered = enter_loop(text, rows, script.count, round, script.prices, lines, t, r);
     let first = entered.first;
     if first.number != 0 {
         return first;
     }
     let inner = entered.round;
-    let body = walk(text, rows, count, i + 1, *r, inner, prices, lines, first);
+    let mut inside = *r;
+    let body = walk(text, rows, script, inner, lines, own, first, &mut inside);
     if body.number != 0 {
         return body;
     }
-    leave_loop(
-        rows,
-        i,
-        entered.exit,
-        round,
-        entered.ran,
-        prices,
-        t,
-        body,
-        r,
-    )
+    leave_loop(rows, entered.exit, round, script.prices, own, t, body, r)
 }
 
-// The pick or loop at row i, from the ranges before it to those after it.
+// The pick or loop at row t.next, from the ranges before it to those after it.
 fn walk_block(
     text: &[u8],
     rows: &[u32],
-    count: usize,
-    i: usize,
+    script: PricedRows,
     round: Round,
-    prices: Prices,
     lines: &mut [[u64; 7]; 16],
+    own: &mut [u64],
     t: Tally,
     r: &mut [[i32; 2]; 16],
 ) -> Tally
-    requires { ⌜ AtBlock (now text) prices (rowsOf (now rows)) count i (shapeOf (kindAt (rowsOf (now rows)) i)) round (withLines t (now lines)) (now r) × IsBlock (shapeOf (kindAt (rowsOf (now rows)) i)) ⌝ }
-    ensures { λ x. ⌜ PastBlock (now (text .entry)) prices (rowsOf (now (rows .entry))) count i (envOf (now (r .entry))) round (withLines t (now (lines .entry))) (now (r .exit)) (withLines x (now (lines .exit))) ⌝ }
+    requires { ⌜ AtBlock (now text) (script .prices) (rowsOf (now rows)) (script .count) (t .next) (shapeOf (kindAt (rowsOf (now rows)) (t .next))) round
+        (withLent t (now lines) (now own)) (now r) × IsBlock (shapeOf (kindAt (rowsOf (now rows)) (t .next))) ⌝ }
+    ensures { λ x. ⌜ PastBlock (now (text .entry)) (script .prices) (rowsOf (now (rows .entry))) (script .count) (t .next)
+        (envOf (now (r .entry))) round (withLent t (now (lines .entry)) (now (own .entry)))
+        (now (r .exit)) (withLent x (now (lines .exit)) (now (own .exit))) ⌝ }
 {
-    match shape_at(rows, i) {
-        Shape::Branch => walk_pick(text, rows, count, i, round, prices, lines, t, r),
-        _ => walk_loop(text, rows, count, i, round, prices, lines, t, r),
+    match shape_at(rows, t.next) {
+        Shape::Branch => walk_pick(text, rows, script, round, lines, own, t, r),
+        _ => walk_loop(text, rows, script, round, lines, own, t, r),
     }
 }
 
-// The block that starts at row `at`: its rows from the first, nested blocks by the same walk.
+// The block that starts at row from.next, from the ranges before it to those after it: its rows from the first, nested blocks by the same
+// walk.
 fn walk(
     text: &[u8],
     rows: &[u32],
-    count: usize,
-    at: usize,
-    start: [[i32; 2]; 16],
+    script: PricedRows,
     round: Round,
-    prices: Prices,
     lines: &mut [[u64; 7]; 16],
+    own: &mut [u64],
     from: Tally,
+    r: &mut [[i32; 2]; 16],
 ) -> Tally
-    requires { ⌜ Walkable (now text) prices (rowsOf (now rows)) count at round (withLines from (now lines)) ⌝ }
-    ensures { λ r. ⌜ Analysed (now (text .entry)) prices (rowsOf (now (rows .entry))) count at (envOf start) round (withLines from (now (lines .entry))) (withLines r (now (lines .exit))) ⌝ }
+    requires { ⌜ Walkable (now text) (script .prices) (rowsOf (now rows)) (script .count) (from .next) round
+        (withLent from (now lines) (now own)) × (length (now r) ≡ 16) ⌝ }
+    ensures { λ x. ⌜ Analysed (now (text .entry)) (script .prices) (rowsOf (now (rows .entry))) (script .count) (from .next)
+        (envOf (now (r .entry))) round (withLent from (now (lines .entry)) (now (own .entry)))
+        (now (r .exit)) (withLent x (now (lines .exit)) (now (own .exit))) ⌝ }
 {
-    let mut r = start;
     let mut t = from;
-    let mut i = at;
-    while i < count {
-        match shape_at(rows, i) {
+    while t.next < script.count {
+        match shape_at(rows, t.next) {
             Shape::Plain => {
-                step_row(text, &mut r, rows, i);
-                t = past_row(rows, i, prices, round, t);
-                i = i + 1;
+                step_row(text, r, rows, t.next);
+                t = past_row(rows, script.prices, round, t);
             }
             Shape::Close => {
-                return ended(t, i);
+                return t;
             }
             _ => {
-                t = walk_block(text, rows, count, i, round, prices, lines, t, &mut r);
+                t = walk_block(text, rows, script, round, lines, own, t, r);
                 if t.number != 0 {
                     return t;
                 }
-                i = t.next + 1;
             }
         }
     }
-    ended(t, i)
+    t
 }
 
 // The first question that has no, 0 for none, and its place.
@@ -246,20 +224,29 @@ pub struct Figures {
     pub loops: usize,
 }
 
-// The first `count` rows and the first `vars` ranges of a script that has passed the questions 4 to 7.
+// The first `count` rows and the ranges of a script that has passed the questions 4 to 7. `own` gets the own ticks of each block at its head
+// row, as far as it goes.
 pub fn analyse(
     text: &[u8],
     rows: &[u32],
     count: usize,
     ranges: [[i32; 2]; 16],
-    vars: usize,
     prices: Prices,
     lines: &mut [[u64; 7]; 16],
+    own: &mut [u64],
 ) -> Figures
-    requires { ⌜ Legal (scriptOf (now text) ranges vars (rowsOf (now rows)) count) × (count ≤ 256) × (4 * count ≤ length (now rows)) × BlankFrom vars ranges × FinePrices prices × (length (now lines) ≡ 16) × (length (now text) ≤ 16_384) × ((i : ℕ) → i < count → Written (now text) (kindAt (rowsOf (now rows)) i)) ⌝ }
-    ensures { λ r. ⌜ AnalysisOf prices (scriptOf (now (text .entry)) ranges vars (rowsOf (now (rows .entry))) count) count r (now (lines .exit)) ⌝ }
+    requires { ⌜ ((vars : ℕ) × LegalRows (now text) ranges (rowsOf (now rows)) count vars) × (count ≤ 256)
+        × (4 * count ≤ length (now rows)) × FinePrices prices × (length (now lines) ≡ 16) × (length (now text) ≤ 16_384)
+        × ((i : ℕ) → i < count → Written (now text) (kindAt (rowsOf (now rows)) i)) ⌝ }
+    ensures { λ r. ⌜ FoundOf prices (now (text .entry)) ranges (rowsOf (now (rows .entry))) count
+        r (now (lines .exit)) (now (own .entry)) (now (own .exit)) ⌝ }
 {
-    let t = walk(text, rows, count, 0, ranges, ALONE, prices, lines, EMPTY);
+    let script = PricedRows {
+        count: count,
+        prices: prices,
+    };
+    let mut r = ranges;
+    let t = walk(text, rows, script, ALONE, lines, own, EMPTY, &mut r);
     let no = first_no(t, count);
     if no.number != 0 {
         return Figures {
@@ -274,43 +261,5 @@ pub fn analyse(
         place: no.place,
         ticks: t.spent,
         loops: t.loops,
-    }
-}
-
-// The block that row i begins: its own ticks, from the ranges before it; 0 if the row begins none, or a loop of it is refused.
-pub fn own_ticks(
-    text: &[u8],
-    rows: &[u32],
-    count: usize,
-    i: usize,
-    ranges: [[i32; 2]; 16],
-    prices: Prices,
-) -> u64
-    requires { ⌜ Ready (now text) (rowsOf (now rows)) count i × (i < count) × FinePrices prices × (loopCount (blockAt (now text) (rowsOf (now rows)) count i) ≤ 16) ⌝ }
-    ensures { λ r. ⌜ r ≡ ownTicks prices (envOf ranges) (blockAt (now (text .entry)) (rowsOf (now (rows .entry))) count i) ⌝ }
-{
-    match shape_at(rows, i) {
-        Shape::Plain => 0,
-        Shape::Close => 0,
-        _ => {
-            let none: [u64; 7] = [0; 7];
-            let mut lines = [none; 16];
-            let mut r = ranges;
-            let t = walk_block(
-                text,
-                rows,
-                count,
-                i,
-                ALONE,
-                prices,
-                &mut lines,
-                EMPTY,
-                &mut r,
-            );
-            if t.number != 0 {
-                return 0;
-            }
-            t.spent
-        }
     }
 }

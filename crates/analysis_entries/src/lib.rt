@@ -36,7 +36,7 @@ ghost use Rattle.analysis_steps.specs.Tree.{formOf, testOf};
 ghost use Rattle.analysis_steps.specs.Body.{AtLoop};
 ghost use Rattle.analysis_intervals.specs.Env.{envOf};
 ghost use Rattle.analysis_passes.specs.Rounds.{FineRound};
-ghost use Rattle.analysis_tallies.specs.Tallies.{withLines};
+ghost use Rattle.analysis_tallies.specs.Tallies.{withLent};
 ghost use Rattle.analysis_entries.specs.Enter.{ExitOf, PassCountsOf, EnteredAt, LeftLoop};
 
 // How often a loop's passes are taken as they are walked: in its longest entry, and in all passes of the loop round it; and how many
@@ -75,16 +75,17 @@ fn kept_at(kind: Kind, v: u8, kept: bool) -> bool
     }
 }
 
-// What leaves a loop: its tested variable and the range of that one after the loop, the variables that its body assigns, and its end.
+// What leaves a loop: its tested variable and the range of that one after the loop, the variables that its body assigns, and how often its
+// passes are taken.
 pub struct Exit {
     pub tested: u8,
     pub mine: Interval,
     pub set: [bool; 16],
-    pub next: usize,
+    pub ran: PassCounts,
 }
 
-fn exit_of(one: Loop) -> Exit
-    ensures { λ x. ⌜ ExitOf one x ⌝ }
+fn exit_of(one: Loop, ran: PassCounts) -> Exit
+    ensures { λ x. ⌜ ExitOf one ran x ⌝ }
 {
     let trip = one.trip;
     let set = one.set;
@@ -92,15 +93,13 @@ fn exit_of(one: Loop) -> Exit
         tested: one.tested,
         mine: outer(trip),
         set: set,
-        next: one.next,
+        ran: ran,
     }
 }
 
-// A loop that has been entered: what leaves it, how often its passes are taken, the passes of its body, and what has been found: its line,
-// or its refusal.
+// A loop that has been entered: what leaves it, the passes of its body, and what has been found: its line, or its refusal.
 pub struct LoopEntry {
     pub exit: Exit,
-    pub ran: PassCounts,
     pub round: Round,
     pub first: Tally,
 }
@@ -111,32 +110,32 @@ const NONE: PassCounts = PassCounts {
     tests: 0,
 };
 
-// From the ranges before the loop at row i to those at its body's start: its questions 19 and 8 to 12, then its line.
+// From the ranges before the loop at row t.next to those at its body's start: its questions 19 and 8 to 12, then its line.
 pub fn enter_loop(
     text: &[u8],
     rows: &[u32],
     count: usize,
-    i: usize,
     round: Round,
     prices: Prices,
     lines: &mut [[u64; 7]; 16],
     t: Tally,
     r: &mut [[i32; 2]; 16],
 ) -> LoopEntry
-    requires { ⌜ AtLoop (now text) (rowsOf (now rows)) count i × FineRound round × FinePrices prices × (t .loops < 16) × (length (now lines) ≡ 16) × (length (now r) ≡ 16) ⌝ }
-    ensures { λ e. ⌜ EnteredAt (now (text .entry)) prices (rowsOf (now (rows .entry))) count i round (envOf (now (r .entry))) (withLines t (now (lines .entry))) (now (r .exit)) e (withLines (e .first) (now (lines .exit))) ⌝ }
+    requires { ⌜ AtLoop (now text) (rowsOf (now rows)) count (t .next) × FineRound round × FinePrices prices × (t .loops < 16)
+        × (length (now lines) ≡ 16) × (length (now r) ≡ 16) ⌝ }
+    ensures { λ e. ⌜ ((os : List ℕ) → EnteredAt (now (text .entry)) prices (rowsOf (now (rows .entry))) count (t .next) round
+        (envOf (now (r .entry))) (withLent t (now (lines .entry)) os) (now (r .exit)) e (withLent (e .first) (now (lines .exit)) os)) ⌝ }
 {
+    let i = t.next;
     let kind = kind_at(rows, i);
     at_start(text, r, kind);
     let one = loop_at(text, rows, count, i, r);
     let trip = one.trip;
-    let exit = exit_of(one);
     match ask(trip) {
         Figure::Refused(number) => LoopEntry {
-            exit: exit,
-            ran: NONE,
+            exit: exit_of(one, NONE),
             round: round,
-            first: refused(t, number, i),
+            first: refused(t, number),
         },
         Figure::Turns(turns) => {
             let kept = kept_at(kind, round.v, t.kept);
@@ -144,12 +143,11 @@ pub fn enter_loop(
             let total = times(all, round.times);
             let inner = body(trip, one.tested, turns, total, round);
             let spent = inner.count * last_ticks(kind, prices);
-            let first = lined(lines, t, i, trip, turns, total, spent, inner.known);
-            let ran = pass_counts(inner, turns, all, round.count);
+            let first = lined(lines, t, trip, turns, total, spent, inner.known);
+            let exit = exit_of(one, pass_counts(inner, turns, all, round.count));
             inside(r, one);
             LoopEntry {
                 exit: exit,
-                ran: ran,
                 round: inner,
                 first: first,
             }
@@ -157,30 +155,33 @@ pub fn enter_loop(
     }
 }
 
-// From the ranges at a loop's body's start to those after it, and what is found after its body.
+// From the ranges at the start of the body of the loop at row t.next to those after it, and what is found after its body, which ends at
+// row body.next.
 pub fn leave_loop(
     rows: &[u32],
-    i: usize,
     exit: Exit,
     round: Round,
-    ran: PassCounts,
     prices: Prices,
+    own: &mut [u64],
     t: Tally,
     body: Tally,
     r: &mut [[i32; 2]; 16],
 ) -> Tally
-    requires { ⌜ (4 * i + 3 < length (now rows)) × (exit .tested < 16) × (exit .next < 256) × (t .spent ≤ 1_000_000_000_001) × (body .spent ≤ 1_000_000_000_001) × (length (now r) ≡ 16) × FinePrices prices × FineRound round × (ran .tests ≤ 4_096) ⌝ }
-    ensures { λ x. ⌜ LeftLoop prices (kindAt (rowsOf (now (rows .entry))) i) exit round ran t body (envOf (now (r .entry))) (now (r .exit)) x ⌝ }
+    requires { ⌜ (4 * t .next + 3 < length (now rows)) × (exit .tested < 16) × (body .next < 256)
+        × (t .spent ≤ 1_000_000_000_001) × (body .spent ≤ 1_000_000_000_001) × (length (now r) ≡ 16)
+        × FinePrices prices × FineRound round × (exit .ran .tests ≤ 4_096) ⌝ }
+    ensures { λ x. ⌜ LeftLoop prices (kindAt (rowsOf (now (rows .entry))) (t .next)) exit round t body (now (own .entry))
+        (envOf (now (r .entry))) (now (r .exit)) x (now (own .exit)) ⌝ }
 {
     let assigned = exit.set;
     widen(r, assigned, exit.mine, exit.tested);
-    let kind = kind_at(rows, i);
-    let e = exit.next;
+    let kind = kind_at(rows, t.next);
+    let ran = exit.ran;
     let inner = plus(body.spent, ran.tests * prices.test);
-    let own = loop_ticks(kind, prices, 1, ran.own, inner);
+    let ticks = loop_ticks(kind, prices, 1, ran.own, inner);
     let all = loop_ticks(kind, prices, round.count, ran.all, inner);
     let begun = kept_at(kind, round.v, t.kept);
     let set = has(assigned, round.v);
     let kept = both(begun, !set);
-    closed(t, body, e, own, all, kept)
+    closed(own, t, body, body.next, ticks, all, kept)
 }

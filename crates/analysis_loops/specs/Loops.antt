@@ -16,7 +16,7 @@ use Rattle.rules_steps.specs.Ends.{EndsWithin}
 use Rattle.table.specs.Code.{kindAt}
 use Rattle.analysis_steps.specs.Tree.{formOf, testOf}
 use Rattle.analysis_steps.specs.Sets.{setOf}
-use Rattle.analysis_steps.specs.Body.{bodyAt, EndsAt}
+use Rattle.analysis_steps.specs.Body.{bodyAt}
 use Rattle.analysis_loops.specs.declared.Loop.{Loop}
 use Rattle.analysis_trips.specs.Found.{tripOf, ownFrom, readFrom, chaseFrom}
 
@@ -35,4 +35,3 @@ pub record LoopAt (text : List ℕ) (rows : List Row) (count i : ℕ) (ρ : Env)
   pub small : r .tested < 16
   pub sets : (w : ℕ) → setOf (r .set) w ≡ assigns w (bodyAt text rows count i)
   pub near : EndsWithin 512 (r .trip .step)
-  pub ends : EndsAt text rows count i (r .next)

@@ -75,12 +75,11 @@ fn trip_by(
     }
 }
 
-// A loop: its trip, its tested variable, the variables that its body assigns, and its end.
+// A loop: its trip, its tested variable, and the variables that its body assigns.
 pub struct Loop {
     pub trip: Trip,
     pub tested: u8,
     pub set: [bool; 16],
-    pub next: usize,
 }
 
 // The loop at row i, from the ranges at its start.
@@ -95,7 +94,6 @@ pub fn loop_at(text: &[u8], rows: &[u32], count: usize, i: usize, begun: &[[i32;
     let limit = head.limit;
     let body = body_moves(text, rows, count, i, v);
     let set = body.set;
-    let next = body.next;
     let step = body.step;
     let s = interval_at(begun, v);
     let n = bounds(text, begun, limit);
@@ -106,6 +104,5 @@ pub fn loop_at(text: &[u8], rows: &[u32], count: usize, i: usize, begun: &[[i32;
         trip: trip,
         tested: v,
         set: set,
-        next: next,
     }
 }

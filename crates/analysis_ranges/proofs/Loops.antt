@@ -25,13 +25,10 @@ wide-is : (one : Loop) (mine : Range) (test : Test) (ρ : Env) (body : Block) �
 unfolding widenedEnv loopEnv
 wide-is one mine test ρ body q h = λ d w. cond (eqb w (q d)) mine (cond (h w d) full (ρ w))
 
--- the ranges at the body's start and after the loop at row i
+-- the ranges at the body's start of the loop at row i
 module _ {text : List ℕ} {rows : List Row} {count i : ℕ} {ρ : Env} {one : Loop} (l : LoopAt text rows count i ρ one) where
   pub inside-is : widened one (innerOf (tripOf (one .trip))) ρ ≡ inside (formOf text (kindAt rows i)) ρ (testOf text (kindAt rows i)) (bodyAt text rows count i)
   inside-is = ap (λ τ. widened one (innerOf τ) ρ) (l .trip) ∙ wide-is one _ (testOf text (kindAt rows i)) ρ (bodyAt text rows count i) (l .tested) (l .sets)
-
-  pub outside-is : widened one (outerOf (tripOf (one .trip))) ρ ≡ outside (formOf text (kindAt rows i)) ρ (testOf text (kindAt rows i)) (bodyAt text rows count i)
-  outside-is = ap (λ τ. widened one (outerOf τ) ρ) (l .trip) ∙ wide-is one _ (testOf text (kindAt rows i)) ρ (bodyAt text rows count i) (l .tested) (l .sets)
 
 -- the ranges after a loop, from those at its body's start
 again : (a b : Bool) (x y : Range) (z : Range) → cond a x (cond b full (cond a y (cond b full z))) ≡ cond a x (cond b full z)

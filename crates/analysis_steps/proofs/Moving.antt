@@ -80,7 +80,7 @@ module _ {text : List ℕ} {rows : List Row} {count i v : ℕ} {a b : List Bool}
 
 -- a loop's body: its rows, and a for's step row
 pub body-of : {text : List ℕ} {rows : List Row} {count i v : ℕ} → AtLoop text rows count i → {m : StepOver} {z n : List Bool} → setOf z ≡ none → MovesOf text rows count (i + 1) v z n m
-    → {o : List Bool} → SetIs o (withRow (setOf n) (plainOf text (kindAt rows i))) → {t : Step} → t ≡ then (m .step) (rowStep v (plainOf text (kindAt rows i))) → BodyMoves text rows count i v (record { set = o; step = t; next = m .next })
+    → {o : List Bool} → SetIs o (withRow (setOf n) (plainOf text (kindAt rows i))) → {t : Step} → t ≡ then (m .step) (rowStep v (plainOf text (kindAt rows i))) → BodyMoves text rows count i v (record { set = o; step = t })
 body-of {text} {rows} {count} {i} {v} s {m} {z} {n} e k {o} a {t} b =
     let w = k .sets in
     let l = loop-at _ _ _ (s .inside) (s .ready .built) (s .loops) (w .place) in
@@ -91,5 +91,4 @@ body-of {text} {rows} {count} {i} {v} s {m} {z} {n} e k {o} a {t} b =
       sets = λ u. ap (λ f. f u) own ∙ body-set u text (kindAt rows i) (s .loops) i (blockAt text rows count (i + 1));
       moves = rw (b, k .moves .value) (body-is v text (kindAt rows i) (s .loops) i (blockAt text rows count (i + 1)));
       near = rw b (ends-more (c + 1) 256 (omega (arith, s .ready .few)) (then (m .step) y) (then-ends c 1 (m .step) y (k .near) (row-ends v text (kindAt rows i) (s .ready .fine i (s .inside)))));
-      ends = record { place = w .place; low = w .low; high = l .below };
     }

@@ -2,7 +2,7 @@
 use mathlib.Core.Path.{_≡_}
 use mathlib.Core.Bool.{Bool}
 use mathlib.Core.List.{List}
-use Prim.Native.Nat.{ℕ, _+_, _-_, _≤_, _<_}
+use Prim.Native.Nat.{ℕ, _+_, _-_, _<_}
 use lib.ListN.{length}
 use Rattle.rules.specs.declared.Row.{Row}
 use Rattle.rules.specs.Blocks.{Block}
@@ -14,7 +14,7 @@ use Rattle.table.specs.Shapes.{shapeOf}
 use Rattle.analysis_steps.specs.declared.Moves.{Moves}
 use Rattle.analysis_steps.specs.declared.StepOver.{StepOver}
 use Rattle.analysis_steps.specs.Sets.{setOf, assignsFrom}
-use Rattle.analysis_steps.specs.Tree.{Ready, Walked, blockAt, endAt, withLastOf}
+use Rattle.analysis_steps.specs.Tree.{Ready, Walked, blockAt, withLastOf}
 
 -- the body of the loop at row i
 abbrev pub bodyAt : List ℕ → List Row → ℕ → ℕ → Block
@@ -25,12 +25,6 @@ pub record AtLoop (text : List ℕ) (rows : List Row) (count i : ℕ) : Type 0 w
   pub ready : Ready text rows count i
   pub inside : i < count
   pub loops : shapeOf (kindAt rows i) ≡ Shape.Loop
-
--- where the loop at row i ends
-pub record EndsAt (text : List ℕ) (rows : List Row) (count i next : ℕ) : Type 0 where
-  pub place : next ≡ endAt text rows count (i + 1)
-  pub low : i + 1 ≤ next
-  pub high : next < count
 
 -- what the block from row `at` does: the variables that it assigns beside those before, the step of v, the row that closes it
 pub record MovesOf (text : List ℕ) (rows : List Row) (count at v : ℕ) (before after : List Bool) (r : StepOver) : Type 0 where
@@ -44,4 +38,3 @@ pub record BodyMoves (text : List ℕ) (rows : List Row) (count i v : ℕ) (r : 
   pub sets : (w : ℕ) → setOf (r .set) w ≡ assigns w (bodyAt text rows count i)
   pub moves : r .step ≡ step v (bodyAt text rows count i)
   pub near : EndsWithin 256 (r .step)
-  pub ends : EndsAt text rows count i (r .next)

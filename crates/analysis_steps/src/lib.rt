@@ -137,11 +137,10 @@ pub fn moves_of(
     StepOver { step, next: i }
 }
 
-// What a loop's body does: the variables that it assigns, the step of one variable, and the loop's end.
+// What a loop's body does: the variables that it assigns, and the step of one variable.
 pub struct Moves {
     pub set: [bool; 16],
     pub step: Step,
-    pub next: usize,
 }
 
 // What the body of the loop at row i does, a for's step row included, with the step of v.
@@ -153,10 +152,8 @@ pub fn body_moves(text: &[u8], rows: &[u32], count: usize, i: usize, v: u8) -> M
     let body = moves_of(text, rows, count, i + 1, v, &mut set);
     add_row(&mut set, rows, i);
     let step = body.step;
-    let next = body.next;
     Moves {
         set: set,
         step: step.then(row_step(rows, i, v)),
-        next: next,
     }
 }

@@ -15,11 +15,11 @@ use Rattle.rules.specs.Bounds.{FinePrices}
 use Rattle.rules.specs.declared.Prices.{Prices}
 use Rattle.rules.specs.Figures.{price, lines}
 use Rattle.analysis_steps.specs.Tree.{headOf}
-use Rattle.analysis_tallies.specs.Tallies.{FoldState, TallyLines, lastPrice, lastTicks, LineAdded, BlockClosed}
+use Rattle.analysis_tallies.specs.Tallies.{FoldState, LentTally, lastPrice, lastTicks, LineAdded, BlockClosed}
 
 -- a state, part by part
-pub state-is : {x y : FoldState} → x .env ≡ y .env → x .kept ≡ y .kept → x .verdict ≡ y .verdict → x .spent ≡ y .spent → x .over ≡ y .over → x .lines ≡ y .lines → x .loops ≡ y .loops → x ≡ y
-state-is a k b c d e f = λ j. record { env = a j; kept = k j; verdict = b j; spent = c j; over = d j; lines = e j; loops = f j }
+pub state-is : {x y : FoldState} → x .env ≡ y .env → x .kept ≡ y .kept → x .verdict ≡ y .verdict → x .spent ≡ y .spent → x .over ≡ y .over → x .lines ≡ y .lines → x .loops ≡ y .loops → x .own ≡ y .own → x ≡ y
+state-is a k b c d e f g = λ j. record { env = a j; kept = k j; verdict = b j; spent = c j; over = d j; lines = e j; loops = f j; own = g j }
 
 -- what a row and a body's last row take is small
 module _ {π : Prices} (fine : FinePrices π) where
@@ -54,10 +54,10 @@ no-last text π (Off v w c k) o = refl
 no-last text π (Hold v) o = refl
 
 -- a line of the same trip
-pub lined-is : {t r : TallyLines} {i n o m l a b : ℕ} {k : Bool} {τ υ : Trip} → τ ≡ υ → n ≡ o → m ≡ l → a ≡ b → LineAdded t i τ n m a k r → LineAdded t i υ o l b k r
+pub lined-is : {t r : LentTally} {i n o m l a b : ℕ} {k : Bool} {τ υ : Trip} → τ ≡ υ → n ≡ o → m ≡ l → a ≡ b → LineAdded t i τ n m a k r → LineAdded t i υ o l b k r
 lined-is {t} {r} {i} {n} {o} {m} {l} {a} {b} {k} {τ} {υ} p e f q h =
     subst (λ z. LineAdded t i υ o l z k r) q (subst (λ z. LineAdded t i υ o z a k r) f (subst (λ z. LineAdded t i υ z m a k r) e (subst (λ z. LineAdded t i z n m a k r) p h)))
 
 -- a block's figures, by others
-pub closed-is : {t u r : TallyLines} {e own own′ all all′ : ℕ} {keep keep′ : Bool} → own ≡ own′ → all ≡ all′ → keep ≡ keep′ → BlockClosed t u e own all keep r → BlockClosed t u e own′ all′ keep′ r
-closed-is {t} {u} {r} {e} {own} {own′} {all} {all′} {keep} {keep′} p q k h = subst (λ z. BlockClosed t u e own′ all′ z r) k (subst (λ z. BlockClosed t u e own′ z keep r) q (subst (λ z. BlockClosed t u e z all keep r) p h))
+pub closed-is : {t u r : LentTally} {i e own own′ all all′ : ℕ} {keep keep′ : Bool} → own ≡ own′ → all ≡ all′ → keep ≡ keep′ → BlockClosed t u i e own all keep r → BlockClosed t u i e own′ all′ keep′ r
+closed-is {t} {u} {r} {i} {e} {own} {own′} {all} {all′} {keep} {keep′} p q k h = subst (λ z. BlockClosed t u i e own′ all′ z r) k (subst (λ z. BlockClosed t u i e own′ z keep r) q (subst (λ z. BlockClosed t u i e z all keep r) p h))

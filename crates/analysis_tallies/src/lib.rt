@@ -17,21 +17,20 @@ use table::Tag;
 use table::tag_at;
 ghost use mathlib.Core.Path.{_≡_};
 ghost use mathlib.Core.List.{List};
-ghost use Prim.Native.Nat.{ℕ, _+_, _*_, _≤_, _<_, max};
-ghost use lib.ListN.{length};
+ghost use Prim.Native.Nat.{ℕ, _+_, _*_, _≤_, _<_};
+ghost use lib.ListN.{length, set};
 ghost use Rattle.rules_steps.specs.Ends.{EndsWithin};
 ghost use Rattle.rules.specs.Bounds.{FinePrices};
 ghost use Rattle.rules.specs.Figures.{price};
 ghost use Rattle.table.specs.Code.{kindAt, rowsOf};
 ghost use Rattle.table.specs.Shapes.{shapeOf, plainOf};
 ghost use Rattle.analysis_trips.specs.Found.{tripOf};
-ghost use Rattle.analysis_ticks.specs.Capped.{capped};
 ghost use Rattle.analysis_passes.specs.Rounds.{FineRound};
-ghost use Rattle.analysis_tallies.specs.Tallies.{withLines, lastTicks, PastRow, Restarted, LineAdded, BlockClosed, EndedAt};
+ghost use Rattle.analysis_tallies.specs.Tallies.{withLent, lastTicks, PlainNext, PastPlain, Restarted, LinePut, ClosedBy, PickClosed, refusedBy};
 
 // What a walk has found: a refusal of 19 or 8 to 12 (number 0: none), whether the variable of the loop round the block is known and not
 // assigned so far, the first block over the limit (256: none), the ticks of all passes of one entry of that loop, how many lines there
-// are so far, and the row that closes the block.
+// are so far, and the row that it looks at next.
 pub struct Tally {
     pub number: u32,
     pub kept: bool,
@@ -63,11 +62,12 @@ pub fn last_ticks(kind: Kind, prices: Prices) -> u64
     }
 }
 
-// After the plain row i, in all passes.
-pub fn past_row(rows: &[u32], i: usize, prices: Prices, round: Round, t: Tally) -> Tally
-    requires { ⌜ (4 * i + 3 < length (now rows)) × (shapeOf (kindAt (rowsOf (now rows)) i) ≡ Shape.Plain) × FinePrices prices × FineRound round × (t .spent ≤ 1_000_000_000_001) ⌝ }
-    ensures { λ r. ⌜ ((text : List ℕ) (ls : List (List ℕ)) → PastRow prices round (withLines t ls) (plainOf text (kindAt (rowsOf (now (rows .entry))) i)) (withLines r ls)) ⌝ }
+// After the plain row t.next, in all passes.
+pub fn past_row(rows: &[u32], prices: Prices, round: Round, t: Tally) -> Tally
+    requires { ⌜ PlainNext (now rows) t × FinePrices prices × FineRound round × (t .spent ≤ 1_000_000_000_001) ⌝ }
+    ensures { λ r. ⌜ PastPlain prices round (rowsOf (now (rows .entry))) t r ⌝ }
 {
+    let i = t.next;
     let price = plain_price(rows, i, prices);
     let spent = plus(t.spent, round.count * price);
     let set = sets_it(rows, i, round.v);
@@ -78,39 +78,39 @@ pub fn past_row(rows: &[u32], i: usize, prices: Prices, round: Round, t: Tally) 
         over: t.over,
         spent: spent,
         loops: t.loops,
-        next: 0,
+        next: i + 1,
     }
 }
 
-// As many lines, with a block's ticks from the start.
-pub fn restarted(t: Tally, spent: u64) -> Tally
-    ensures { λ r. ⌜ ((ls : List (List ℕ)) → Restarted (withLines t ls) (t .kept) spent (withLines r ls)) ⌝ }
+// As many lines, with the ticks of the block that starts at row `at` from the start.
+pub fn restarted(t: Tally, at: usize) -> Tally
+    ensures { λ r. ⌜ ((ls : List (List ℕ)) (os : List ℕ) → Restarted (withLent t ls os) (t .kept) 0 at (withLent r ls os)) ⌝ }
 {
     Tally {
         number: 0,
         kept: t.kept,
         place: 0,
         over: t.over,
-        spent: spent,
+        spent: 0,
         loops: t.loops,
-        next: 0,
+        next: at,
     }
 }
 
-// A loop's line put in the table, and its body's ticks from the start.
+// The line of the loop at row t.next put in the table, and its body's ticks from the start.
 pub fn lined(
     lines: &mut [[u64; 7]; 16],
     t: Tally,
-    i: usize,
     trip: Trip,
     turns: u64,
     total: u64,
     spent: u64,
     kept: bool,
 ) -> Tally
-    requires { ⌜ (t .loops < 16) × (length (now lines) ≡ 16) × EndsWithin 512 (trip .step) ⌝ }
-    ensures { λ r. ⌜ LineAdded (withLines t (now (lines .entry))) i (tripOf trip) turns total spent kept (withLines r (now (lines .exit))) ⌝ }
+    requires { ⌜ (t .loops < 16) × (t .next < 256) × (length (now lines) ≡ 16) × EndsWithin 512 (trip .step) ⌝ }
+    ensures { λ r. ⌜ LinePut t (now (lines .entry)) (tripOf trip) turns total spent kept r (now (lines .exit)) ⌝ }
 {
+    let i = t.next;
     let k = t.loops;
     let step = trip.step;
     let line = LoopLine {
@@ -128,62 +128,66 @@ pub fn lined(
         over: t.over,
         spent: spent,
         loops: k + 1,
-        next: 0,
+        next: i + 1,
     }
 }
 
-// After a block that ends at row e: its own ticks, and those in all passes.
-pub fn closed(t: Tally, inner: Tally, e: usize, own: u64, all: u64, kept: bool) -> Tally
-    requires { ⌜ (e < 256) × (t .spent ≤ 1_000_000_000_001) × (own ≤ 1_000_000_000_001) × (all ≤ 1_000_000_000_001) ⌝ }
-    ensures { λ r. ⌜ ((ks ls : List (List ℕ)) → BlockClosed (withLines t ks) (withLines inner ls) e own all kept (withLines r ls)) ⌝ }
+// A block's own ticks at its head row i, if what is lent for them has that row.
+fn put_own(own: &mut [u64], i: usize, ticks: u64)
+    ensures { λ _. ⌜ now (own .exit) ≡ set (now (own .entry)) i ticks ⌝ }
 {
+    if i < own.len() {
+        own[i] = ticks;
+    }
+}
+
+// After the block from row t.next to row e: its own ticks, and those in all passes.
+pub fn closed(
+    own: &mut [u64],
+    t: Tally,
+    inner: Tally,
+    e: usize,
+    ticks: u64,
+    all: u64,
+    kept: bool,
+) -> Tally
+    requires { ⌜ (e < 256) × (t .spent ≤ 1_000_000_000_001) × (ticks ≤ 1_000_000_000_001) × (all ≤ 1_000_000_000_001) ⌝ }
+    ensures { λ r. ⌜ ClosedBy t inner (now (own .entry)) e ticks all kept r (now (own .exit)) ⌝ }
+{
+    put_own(own, t.next, ticks);
     Tally {
         number: 0,
         kept: kept,
         place: 0,
-        over: first_over(inner.over, e, own),
+        over: first_over(inner.over, e, ticks),
         spent: plus(t.spent, all),
         loops: inner.loops,
-        next: e,
+        next: e + 1,
     }
 }
 
-// A refusal at row i.
-pub fn refused(t: Tally, number: u32, i: usize) -> Tally
-    ensures { λ r. ⌜ (r .number ≡ number) × (r .place ≡ i) × (r .kept ≡ t .kept) × (r .over ≡ t .over) × (r .spent ≡ t .spent) × (r .loops ≡ t .loops) × (r .next ≡ 0) ⌝ }
+// A refusal of the loop at row t.next.
+pub fn refused(t: Tally, number: u32) -> Tally
+    ensures { λ r. ⌜ r ≡ refusedBy t number ⌝ }
 {
     Tally {
         number: number,
         kept: t.kept,
-        place: i,
+        place: t.next,
         over: t.over,
         spent: t.spent,
         loops: t.loops,
-        next: 0,
-    }
-}
-
-// The walk ends at row i.
-pub fn ended(t: Tally, i: usize) -> Tally
-    ensures { λ r. ⌜ ((ls : List (List ℕ)) → EndedAt (withLines t ls) i (withLines r ls)) ⌝ }
-{
-    Tally {
-        number: 0,
-        kept: t.kept,
-        place: 0,
-        over: t.over,
-        spent: t.spent,
-        loops: t.loops,
-        next: i,
+        next: t.next,
     }
 }
 
 // What is found after a pick whose parts found a and b, in `count` passes.
-pub fn leave_pick(price: u64, count: u64, t: Tally, a: Tally, b: Tally) -> Tally
-    requires { ⌜ (price ≤ 1_000) × (b .next < 256) × (t .spent ≤ 1_000_000_000_001) × (a .spent ≤ 1_000_000_000_001) × (b .spent ≤ 1_000_000_000_001) ⌝ }
-    ensures { λ r. ⌜ ((ks ls : List (List ℕ)) → BlockClosed (withLines t ks) (withLines b ls) (b .next) (capped (price + max (a .spent) (b .spent))) (capped (count * capped (price + max (a .spent) (b .spent)))) (b .kept) (withLines r ls)) ⌝ }
+pub fn leave_pick(price: u64, count: u64, own: &mut [u64], t: Tally, a: Tally, b: Tally) -> Tally
+    requires { ⌜ (price ≤ 1_000) × (b .next < 256)
+        × (t .spent ≤ 1_000_000_000_001) × (a .spent ≤ 1_000_000_000_001) × (b .spent ≤ 1_000_000_000_001) ⌝ }
+    ensures { λ r. ⌜ PickClosed price count t a b (now (own .entry)) r (now (own .exit)) ⌝ }
 {
     let e = b.next;
-    let own = plus(price, larger(a.spent, b.spent));
-    closed(t, b, e, own, times(count, own), b.kept)
+    let ticks = plus(price, larger(a.spent, b.spent));
+    closed(own, t, b, e, ticks, times(count, ticks), b.kept)
 }

@@ -16,7 +16,7 @@ use Rattle.table.specs.Code.{rowsOf, kindAt}
 use Rattle.table.proofs.Laws.{rows-length}
 use Rattle.reader.specs.declared.Loaded.{Loaded}
 use Rattle.analysis.specs.declared.Figures.{Figures}
-use Rattle.analysis.specs.Whole.{AnalysisOf}
+use Rattle.analysis.specs.Whole.{AnalysisOf, LegalRows}
 use Rattle.run_machine.specs.Steps.{Runnable}
 use Rattle.runner.specs.Answered.{MayRun}
 use Rattle.calls.specs.Held.{readScript, Given, FiguresFound}
@@ -35,8 +35,8 @@ module _ (text t : List ℕ) (l : Loaded) (ranges : List (List ℤ)) (g : Given 
   long-rows = kinds-first text (l .count) (rowsOf t) (omega (arith, g .size, g .table .size, rows-length t))
 
   pub analyse-asks : {π : Prices} {L : Type 0} → FinePrices π → L
-      → Legal (readScript text t l ranges) × (l .count ≤ 256) × (4 * l .count ≤ length t) × BlankFrom (l .vars) ranges × FinePrices π × L × (length text ≤ 16_384) × ((i : ℕ) → i < l .count → Written text (kindAt (rowsOf t) i))
-  analyse-asks f n = (g .legal, g .size, omega (arith, g .size, g .table .size), g .blank, f, n, g .short, g .written)
+      → ((vars : ℕ) × LegalRows text ranges (rowsOf t) (l .count) vars) × (l .count ≤ 256) × (4 * l .count ≤ length t) × FinePrices π × L × (length text ≤ 16_384) × ((i : ℕ) → i < l .count → Written text (kindAt (rowsOf t) i))
+  analyse-asks f n = ((l .vars, (g .legal, g .blank)), g .size, omega (arith, g .size, g .table .size), f, n, g .short, g .written)
 
   -- what the analysis found, under the lent prices
   pub found-by : (prices : List ℕ) {π : Prices} → π ≡ pricesOf prices → (s : Figures) (lines : List (List ℕ)) → AnalysisOf π (readScript text t l ranges) (l .count) s lines → FiguresFound prices (readScript text t l ranges) (l .count) s lines

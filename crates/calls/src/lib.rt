@@ -45,9 +45,10 @@ pub fn measure_script(
 {
     let none: [u64; 7] = [0; 7];
     let mut lines = [none; 16];
+    let mut own = [0u64; 0];
     let by_kind = prices_of(prices);
     let count = script.count;
-    let figures = analysis::analyse(text, rows, count, ranges, script.vars, by_kind, &mut lines);
+    let figures = analysis::analyse(text, rows, count, ranges, by_kind, &mut lines, &mut own);
     if figures.number != 0 {
         let no = Reply::Refused(figures.number, figures.place);
         return Measured {
@@ -159,7 +160,7 @@ fn run_accepted(
     }
 }
 
-// The questions 19 and 8 to 13 of a script, and its ticks. The report's lines are gone when it is done.
+// The questions 19 and 8 to 13 of a script, and its ticks. The report's lines are gone when it is done; nothing is lent for own ticks.
 fn figures_of(
     text: &[u8],
     rows: &[u32],
@@ -172,14 +173,15 @@ fn figures_of(
 {
     let none: [u64; 7] = [0; 7];
     let mut lines = [none; 16];
+    let mut own = [0u64; 0];
     analysis::analyse(
         text,
         rows,
         script.count,
         ranges,
-        script.vars,
         prices,
         &mut lines,
+        &mut own,
     )
 }
 

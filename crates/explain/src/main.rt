@@ -1,6 +1,5 @@
 // explain [prices=A,C,P,T] [FILE ..]: prints each script, or the one on standard input, row by row with its figures in a margin; of a refused file the row or line, the
 // cause and the remedy. The prices are four ones if they are not given.
-mod figures;
 mod refusal;
 mod remedies;
 mod show;
@@ -34,7 +33,8 @@ fn explain_rows(
 {
     let none: [u64; 7] = [0; 7];
     let mut lines = [none; 16];
-    let found = analysis::analyse(file, rows, count, ranges, vars, prices, &mut lines);
+    let mut own = [0u64; 256];
+    let found = analysis::analyse(file, rows, count, ranges, prices, &mut lines, &mut own);
     if found.number != 0 {
         print_refused(file, vars, count, found.number, found.place);
         return;
@@ -42,7 +42,7 @@ fn explain_rows(
     let zero: [u64; 4] = [0; 4];
     let mut figures = [zero; 256];
     explain_margin::put_lines(&lines, found.loops, &mut figures);
-    figures::put_ticks(file, rows, count, ranges, vars, prices, &mut figures);
+    explain_margin::put_ticks(&own, &mut figures);
     print_script(file, vars, rows, count, &figures, found.ticks);
 }
 

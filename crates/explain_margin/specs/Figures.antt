@@ -1,7 +1,7 @@
 -- The figures of the margin by row, four to a row: turns, total, exact or most, ticks of one pass.
 use mathlib.Core.Bool.{Bool, true, false}
 use mathlib.Core.List.{List, [], _∷_}
-use Prim.Native.Nat.{ℕ, max}
+use Prim.Native.Nat.{ℕ, zero, suc, max}
 use lib.ListN.{getD, set}
 use Rattle.rules.specs.declared.LoopLine.{LoopLine}
 use Rattle.table.specs.declared.Shape.{Shape}
@@ -24,6 +24,11 @@ putLines (l ∷ ls) t = putLines ls (set t (l .row) (lineFigures l))
 -- the ticks beside the other figures
 abbrev pub ticksBeside : List ℕ → ℕ → List ℕ
 ticksBeside f ticks = getD f 0 0 ∷ getD f 1 0 ∷ getD f 2 0 ∷ ticks ∷ []
+
+-- the first n rows have their ticks beside their other figures
+unfoldable pub putTicks : List ℕ → ℕ → List (List ℕ) → List (List ℕ)
+putTicks own zero t = t
+putTicks own (suc n) t = let u = putTicks own n t in set u n (ticksBeside (getD u n []) (getD own n 0))
 
 -- a loop or a pick begins
 abbrev pub isHead : Shape → Bool

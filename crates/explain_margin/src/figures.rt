@@ -11,7 +11,7 @@ ghost use lib.ListN.{length, getD, take, set};
 ghost use Rattle.table.specs.Code.{kindAt, rowsOf};
 ghost use Rattle.table.specs.Shapes.{shapeOf};
 ghost use Rattle.analysis_lines.specs.Coded.{linesIn};
-ghost use Rattle.explain_margin.specs.Figures.{exactMark, lineFigures, putLines, ticksBeside, isHead, mostIn};
+ghost use Rattle.explain_margin.specs.Figures.{exactMark, lineFigures, putLines, ticksBeside, putTicks, isHead, mostIn};
 
 // The columns of the figures.
 pub const TURNS: usize = 0;
@@ -73,7 +73,7 @@ pub fn is_head(rows: &[u32], i: usize) -> bool
 }
 
 // The ticks of one pass of row i's block, beside its other figures.
-pub fn put_own(figures: &mut [[u64; 4]; 256], i: usize, ticks: u64)
+fn put_own(figures: &mut [[u64; 4]; 256], i: usize, ticks: u64)
     requires { ⌜ (i < 256) × (length (now figures) ≡ 256) ⌝ }
     ensures { λ _. ⌜ (now (figures .exit) ≡ set (now (figures .entry)) i (ticksBeside (getD (now (figures .entry)) i []) ticks)) × (length (now (figures .exit)) ≡ 256) ⌝ }
 {
@@ -81,6 +81,18 @@ pub fn put_own(figures: &mut [[u64; 4]; 256], i: usize, ticks: u64)
     let total = figures[i][TOTAL];
     let exact = figures[i][EXACT];
     figures[i] = [turns, total, exact, ticks];
+}
+
+// The ticks of one pass of the block that each row begins, 0 if it begins none, beside the row's other figures.
+pub fn put_ticks(own: &[u64; 256], figures: &mut [[u64; 4]; 256])
+    requires { ⌜ (length (now own) ≡ 256) × (length (now figures) ≡ 256) ⌝ }
+    ensures { λ _. ⌜ (now (figures .exit) ≡ putTicks (now (own .entry)) 256 (now (figures .entry))) × (length (now (figures .exit)) ≡ 256) ⌝ }
+{
+    let mut i: usize = 0;
+    while i < 256 {
+        put_own(figures, i, own[i]);
+        i += 1;
+    }
 }
 
 // The greatest figure of a column.

@@ -20,7 +20,7 @@ pub use figures::TURNS;
 pub use figures::greatest;
 pub use figures::is_head;
 pub use figures::put_lines;
-pub use figures::put_own;
+pub use figures::put_ticks;
 pub use nest::OUTSIDE;
 pub use nest::OpenBlocks;
 pub use nest::after_row;

@@ -32,7 +32,7 @@ use Rattle.rules_machine.proofs.RunMore.{run-more}
 use Rattle.rules_frames.proofs.Resumed.{Above, above, above-same, steps-room, Pauses, finished, waiting, step-more, runs-on, pauses-less, resumes}
 
 -- ceil(T/q) frames have T ticks
-due-enough : (q t : ℕ) → 1 ≤ q → (1 ≤ due q t) × (t ≤ due q t * q)
+pub due-enough : (q t : ℕ) → 1 ≤ q → (1 ≤ due q t) × (t ≤ due q t * q)
 unfolding due
 due-enough q t h =
     let x : ℕ = t + (q - 1) in
@@ -68,7 +68,7 @@ pub settled-at : (π : Prices) (q : ℕ) (p : Progress) (n m : ℕ) → n ≤ m 
 settled-at π q p n m l h = let e : m ≡ (m - n) + n = omega arith in ap (afterFrames π q p) e ∙ settled π q p n (m - n) h
 
 -- the counts of a tally that has counted the entries
-counts-same : (c : TurnCounts) (es : List Entry) (ps : List ℕ) → ((p : ℕ) → c .sum p ≡ sumAt p es) → ((p : ℕ) → c .most p ≡ mostAt p es) → countsOf c ps ≡ countsAt es ps
+pub counts-same : (c : TurnCounts) (es : List Entry) (ps : List ℕ) → ((p : ℕ) → c .sum p ≡ sumAt p es) → ((p : ℕ) → c .most p ≡ mostAt p es) → countsOf c ps ≡ countsAt es ps
 unfolding countsOf countsAt
 counts-same c es [] f g = refl
 counts-same c es (p ∷ ps) f g = λ k. record { row = p; all = f p k; most = g p k } ∷ counts-same c es ps f g k
@@ -96,7 +96,7 @@ module _ (π : Prices) (one : 1 ≤ π .test) (script : Script) (ok : Accepted �
   abbrev whole : build 0 rows ≡ parts (to-end (length rows) tree) []
   whole = tree-of rows _ (ok .legal .closed .1) .1
 
-  fit : Partners rows matching-end matching-head
+  pub fit : Partners rows matching-end matching-head
   fit = partners rows tree whole
 
   -- its start with n ticks, and its run alone
@@ -107,11 +107,11 @@ module _ (π : Prices) (one : 1 ≤ π .test) (script : Script) (ok : Accepted �
   runs n = runScript π script store picks n
 
   -- where it has ended, it is with the answer of its run alone
-  answered : (n k : ℕ) (e : Ending) (i : ℕ) (s : State) (c : TurnCounts) → steps π rows matching-end matching-head k (begins n) ≡ over e i s c → Replies (runs n) n picks e i s c
+  pub answered : (n k : ℕ) (e : Ending) (i : ℕ) (s : State) (c : TurnCounts) → steps π rows matching-end matching-head k (begins n) ≡ over e i s c → Replies (runs n) n picks e i s c
   unfolding runScript
   answered n k e i s c q = row-answer π one rows matching-end matching-head fit tree whole (storeOf store) picks n k e i s c q
 
-  ticks-most : (n : ℕ) → runs n .ticks ≤ n
+  pub ticks-most : (n : ℕ) → runs n .ticks ≤ n
   unfolding runScript runTree answer
   ticks-most n = by (run π (treeOf rows) (record { store = storeOf store; left = n; picks = picks }))
     where
@@ -120,7 +120,7 @@ module _ (π : Prices) (one : 1 ≤ π .test) (script : Script) (ok : Accepted �
       by (halt e i s es) = omega arith
 
   -- T ticks are enough
-  enough : (n : ℕ) → reportTicks π script ≤ n → Unspent (runs n .ending)
+  pub enough : (n : ℕ) → reportTicks π script ≤ n → Unspent (runs n .ending)
   unfolding runScript Demand3
   enough n h = demand3 π one script ok store inside picks n h .unspent
 
@@ -129,7 +129,7 @@ module _ (π : Prices) (one : 1 ≤ π .test) (script : Script) (ok : Accepted �
   unfolding runScript
   grown n m l h = run-more π (length rows) (treeOf rows) (storeOf store) picks n m l h
 
-  agree : (n m : ℕ) → Unspent (runs n .ending) → Unspent (runs m .ending) → runs n ≡ runs m
+  pub agree : (n m : ℕ) → Unspent (runs n .ending) → Unspent (runs m .ending) → runs n ≡ runs m
   agree n m h k = by (leb n m) (leb→le n m) (nleb→lt n m)
     where
       by : (b : Bool) → (T b → n ≤ m) → (T (not b) → m < n) → runs n ≡ runs m

@@ -24,16 +24,16 @@ use Rattle.rules_machine.proofs.RowMachineRuns.{falls-more, steps-over}
 
 -- ---- one step, and the same step with d more ticks
 -- what is written, or a result past ±L
-wrote : ℕ → ℕ → Result → TurnCounts → (State → Next) → State → Next
+unfoldable pub wrote : ℕ → ℕ → Result → TurnCounts → (State → Next) → State → Next
 wrote i v (number y) c k t = chosen (inLimits y) (k (record { store = put (t .store) v y; left = t .left; picks = t .picks })) (over Ending.Range i t c)
 wrote i v past c k t = over Ending.Range i t c
 
 -- what a plain row, a for's start or step does once it is paid
-acted : ℕ → Plain → TurnCounts → (State → Next) → State → Next
+unfoldable pub acted : ℕ → Plain → TurnCounts → (State → Next) → State → Next
 acted i (assign v x) c k t = wrote i v (result x (t .store v) (t .store)) c k t
 acted i (cue n) c k t = k t
 
-exec-paid : (π : Prices) (i : ℕ) (p : Plain) (s : State) (c : TurnCounts) (k : State → Next) → outcome (exec π i p s) c k ≡ paid (price π p) i s c (acted i p c k)
+pub exec-paid : (π : Prices) (i : ℕ) (p : Plain) (s : State) (c : TurnCounts) (k : State → Next) → outcome (exec π i p s) c k ≡ paid (price π p) i s c (acted i p c k)
 unfolding outcome exec charge write choose paid acted wrote price
 exec-paid π i (assign v x) s c k = by (leb (π .arithmetic) (s .left)) (result x (s .store v) (s .store)) _
   where
@@ -132,7 +132,7 @@ module _ (π : Prices) (d : ℕ) where
     step-acted i (assign v y) s t j ph h = step-wrote i v _ s t j ph h
     step-acted i (cue n) s t j ph h = on h z
 
-  price-most : (p : Plain) → price π p ≤ dearest π
+  pub price-most : (p : Plain) → price π p ≤ dearest π
   unfolding price
   price-most (assign v x) = omega arith
   price-most (cue n) = omega arith
@@ -210,7 +210,7 @@ module _ (π : Prices) (some-ticks : 1 ≤ π .test) (rows : List RowKind) (matc
       by (waits {i = i} l) e ih = absurd (let z : _≡_ {A = ℕ} 0 1 = cc (steps-over π some-ticks rows matching-end matching-head fit n Spent i _ _) in omega arith)
 
   -- no step gains ticks
-  steps-less : (n : ℕ) (a : Next) → leftOf (steps π rows matching-end matching-head n a) ≤ leftOf a
+  pub steps-less : (n : ℕ) (a : Next) → leftOf (steps π rows matching-end matching-head n a) ≤ leftOf a
   unfolding steps leftOf
   steps-less zero a = omega arith
   steps-less (suc n) (more m) = omega (arith, steps-less n (next π rows matching-end matching-head m), by (step-next π 0 rows matching-end matching-head m))

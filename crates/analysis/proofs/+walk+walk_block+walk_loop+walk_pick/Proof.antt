@@ -19,10 +19,10 @@ use Rattle.analysis_steps.proofs.Walking.{ready, begin, pick-at, loop-at, at-cl
 use Rattle.analysis_intervals.specs.Env.{envOf, rangeOf}
 use Rattle.analysis_transfer.specs.Env.{widenedEnv}
 use Rattle.analysis_ranges.proofs.Loops.{outside-after}
-use Rattle.analysis_tallies.specs.Tallies.{TallyLines, withLines, tallied}
-use Rattle.analysis.specs.Fold.{IsBlock}
+use Rattle.analysis_tallies.specs.Tallies.{LentTally, withLent, tallied}
+use Rattle.analysis.specs.Fold.{PassedPart, IsBlock}
 use Rattle.analysis.proofs.Folding.{fold-none}
-use Rattle.analysis.proofs.Going.{block-shape, loop-shape, refused-in, closing, restart-walkable, Going, room, go-plain, go-block, block-stops, pick-room, pick-first, pick-second, part-by, past-pick, loop-room, loop-refused, body-refused, body-walkable, body-by, past-loop}
+use Rattle.analysis.proofs.Going.{block-shape, loop-shape, refused-in, closing, restart-walkable, walked-from, Going, room, go-plain, go-block, block-stops, pick-room, pick-first, pick-second, part-by, past-pick, loop-room, loop-refused, body-refused, body-walkable, body-by, past-loop}
 use borrow.Fn.Kinds.{In}
 use borrow.Fn.PlainCycle.{Measures, is, falls, and}
 use Rattle.analysis.proofs.walk_loop.Reads as walk-loop
@@ -39,8 +39,7 @@ use Rattle.analysis.proofs.walk.Kinds as walk-kinds
 use Rattle.analysis.proofs.+walk+walk_block+walk_loop+walk_pick.Lts-walk as walk-lts
 use Rattle.analysis_passes.proofs.branch.Reads as branch-reads
 use Rattle.analysis_transfer.proofs.step_row.Reads as step-row-reads
-use Rattle.analysis.proofs.after_pick.Reads as after-pick-reads
-use Rattle.analysis_tallies.proofs.ended.Reads as ended-reads
+use Rattle.analysis_transfer.proofs.joined.Reads as joined-reads
 use Rattle.analysis_entries.proofs.enter_loop.Reads as enter-loop-reads
 use Rattle.analysis_entries.proofs.leave_loop.Reads as leave-loop-reads
 use Rattle.analysis_tallies.proofs.leave_pick.Reads as leave-pick-reads
@@ -52,316 +51,317 @@ use Rattle.analysis.proofs.+walk+walk_block+walk_loop+walk_pick.{statem
 use Rattle.analysis.proofs.+walk+walk_block+walk_loop+walk_pick.Tie.{close}
 
 -- the rows left; at the same row a walk calls a block's function, and that one the pick's or the loop's
-abbrev μ-walk-loop : Measures 4 walk-loop-kinds.ps ℕ
-μ-walk-loop κs a = 3 * (a .1 .1 .0 - a .1 .1 .1 .0)
+abbrev μ-walk-loop : Measures 5 walk-loop-kinds.ps ℕ
+μ-walk-loop κs a = 3 * (a .1 .1 .0 .count - a .1 .1 .1 .1 .1 .1 .0 .next)
 
-abbrev μ-walk-pick : Measures 4 walk-pick-kinds.ps ℕ
-μ-walk-pick κs a = 3 * (a .1 .1 .0 - a .1 .1 .1 .0)
+abbrev μ-walk-pick : Measures 5 walk-pick-kinds.ps ℕ
+μ-walk-pick κs a = 3 * (a .1 .1 .0 .count - a .1 .1 .1 .1 .1 .1 .0 .next)
 
-abbrev μ-walk-block : Measures 4 walk-block-kinds.ps ℕ
-μ-walk-block κs a = 3 * (a .1 .1 .0 - a .1 .1 .1 .0) + 1
+abbrev μ-walk-block : Measures 5 walk-block-kinds.ps ℕ
+μ-walk-block κs a = 3 * (a .1 .1 .0 .count - a .1 .1 .1 .1 .1 .1 .0 .next) + 1
 
-abbrev μ-walk : Measures 3 walk-kinds.ps ℕ
-μ-walk κs a = 3 * (a .1 .1 .0 - a .1 .1 .1 .0) + 2
+abbrev μ-walk : Measures 5 walk-kinds.ps ℕ
+μ-walk κs a = 3 * (a .1 .1 .0 .count - a .1 .1 .1 .1 .1 .1 .0 .next) + 2
 
-abbrev loop-at-t : ℕ → In 4 walk-loop-kinds.ps
-loop-at-t t = and 4 walk-loop-kinds.ps (is 4 walk-loop-kinds.ps μ-walk-loop t) walk-loop.Pre
+abbrev loop-at-t : ℕ → In 5 walk-loop-kinds.ps
+loop-at-t t = and 5 walk-loop-kinds.ps (is 5 walk-loop-kinds.ps μ-walk-loop t) walk-loop.Pre
 
-abbrev loop-below : ℕ → In 4 walk-loop-kinds.ps
-loop-below t = and 4 walk-loop-kinds.ps (falls 4 walk-loop-kinds.ps _<_ μ-walk-loop t) walk-loop.Pre
+abbrev loop-below : ℕ → In 5 walk-loop-kinds.ps
+loop-below t = and 5 walk-loop-kinds.ps (falls 5 walk-loop-kinds.ps _<_ μ-walk-loop t) walk-loop.Pre
 
-abbrev pick-at-t : ℕ → In 4 walk-pick-kinds.ps
-pick-at-t t = and 4 walk-pick-kinds.ps (is 4 walk-pick-kinds.ps μ-walk-pick t) walk-pick.Pre
+abbrev pick-at-t : ℕ → In 5 walk-pick-kinds.ps
+pick-at-t t = and 5 walk-pick-kinds.ps (is 5 walk-pick-kinds.ps μ-walk-pick t) walk-pick.Pre
 
-abbrev pick-below : ℕ → In 4 walk-pick-kinds.ps
-pick-below t = and 4 walk-pick-kinds.ps (falls 4 walk-pick-kinds.ps _<_ μ-walk-pick t) walk-pick.Pre
+abbrev pick-below : ℕ → In 5 walk-pick-kinds.ps
+pick-below t = and 5 walk-pick-kinds.ps (falls 5 walk-pick-kinds.ps _<_ μ-walk-pick t) walk-pick.Pre
 
-abbrev block-at-t : ℕ → In 4 walk-block-kinds.ps
-block-at-t t = and 4 walk-block-kinds.ps (is 4 walk-block-kinds.ps μ-walk-block t) walk-block.Pre
+abbrev block-at-t : ℕ → In 5 walk-block-kinds.ps
+block-at-t t = and 5 walk-block-kinds.ps (is 5 walk-block-kinds.ps μ-walk-block t) walk-block.Pre
 
-abbrev block-below : ℕ → In 4 walk-block-kinds.ps
-block-below t = and 4 walk-block-kinds.ps (falls 4 walk-block-kinds.ps _<_ μ-walk-block t) walk-block.Pre
+abbrev block-below : ℕ → In 5 walk-block-kinds.ps
+block-below t = and 5 walk-block-kinds.ps (falls 5 walk-block-kinds.ps _<_ μ-walk-block t) walk-block.Pre
 
-abbrev walk-at-t : ℕ → In 3 walk-kinds.ps
-walk-at-t t = and 3 walk-kinds.ps (is 3 walk-kinds.ps μ-walk t) walk.Pre
+abbrev walk-at-t : ℕ → In 5 walk-kinds.ps
+walk-at-t t = and 5 walk-kinds.ps (is 5 walk-kinds.ps μ-walk t) walk.Pre
 
-abbrev walk-below : ℕ → In 3 walk-kinds.ps
-walk-below t = and 3 walk-kinds.ps (falls 3 walk-kinds.ps _<_ μ-walk t) walk.Pre
+abbrev walk-below : ℕ → In 5 walk-kinds.ps
+walk-below t = and 5 walk-kinds.ps (falls 5 walk-kinds.ps _<_ μ-walk t) walk.Pre
 
 abbrev loop-given : ℕ → loop-lts.Claims
 loop-given t = (enter-loop-reads.Asked, enter-loop-reads.Learnt, walk-below t, walk.Post, leave-loop-reads.Asked, leave-loop-reads.Learnt)
 
 abbrev pick-given : ℕ → pick-lts.Claims
-pick-given t = (branch-reads.Asked, branch-reads.Learnt, restarted-reads.Asked, restarted-reads.Learnt, walk-below t, walk.Post, past-else-reads.Asked, past-else-reads.Learnt, after-pick-reads.Asked, after-pick-reads.Learnt, leave-pick-reads.Asked, leave-pick-reads.Learnt)
+pick-given t = (branch-reads.Asked, branch-reads.Learnt, restarted-reads.Asked, restarted-reads.Learnt, walk-below t, walk.Post, past-else-reads.Asked, past-else-reads.Learnt, joined-reads.Asked, joined-reads.Learnt, leave-pick-reads.Asked, leave-pick-reads.Learnt)
 
 abbrev block-given : ℕ → block-lts.Claims
 block-given t = (shape-at-reads.Asked, shape-at-reads.Learnt, pick-below t, walk-pick.Post, loop-below t, walk-loop.Post)
 
 abbrev walk-given : ℕ → walk-lts.Claims
-walk-given t = (shape-at-reads.Asked, shape-at-reads.Learnt, step-row-reads.Asked, step-row-reads.Learnt, past-row-reads.Asked, past-row-reads.Learnt, ended-reads.Asked, ended-reads.Learnt, block-below t, walk-block.Post)
+walk-given t = (shape-at-reads.Asked, shape-at-reads.Learnt, step-row-reads.Asked, step-row-reads.Learnt, past-row-reads.Asked, past-row-reads.Learnt, block-below t, walk-block.Post)
 
 -- ---- a pick: its first part is closed at m, its second one starts at q and ends at e
 abbrev PickStart : ℕ → Type 0
 PickStart t = pick-lts.Start (pick-given t) (pick-at-t t) walk-pick.Post
 
-pick-is : (t : ℕ) (s : PickStart t) {m q e : ℕ} → let a = s .args in let rows = rowsOf (now (a .rows)) in m ≡ endAt (now (a .text)) rows (a .count) (a .i + 1) → q ≡ pastElse (kindAt rows m) m → e ≡ endAt (now (a .text)) rows (a .count) q
-    → PickIs (now (a .text)) rows (a .count) (a .i) m q e
+pick-is : (t : ℕ) (s : PickStart t) {m q e : ℕ} → let a = s .args in let rows = rowsOf (now (a .rows)) in m ≡ endAt (now (a .text)) rows (a .script .count) (a .t .next + 1) → q ≡ pastElse (kindAt rows m) m → e ≡ endAt (now (a .text)) rows (a .script .count) q
+    → PickIs (now (a .text)) rows (a .script .count) (a .t .next) m q e
 pick-is t s = pick-at _ _ _ (s .pre .1 .inside) (s .pre .1 .walk .ready .built) (s .pre .1 .is)
 
 -- its tally, with the lines
-abbrev pick-from : (t : ℕ) → PickStart t → TallyLines
-pick-from t s = withLines (s .args .t) (now (s .args .lines))
+abbrev pick-from : (t : ℕ) → PickStart t → LentTally
+pick-from t s = withLent (s .args .t) (now (s .args .lines)) (now (s .args .own))
 
 pick-walk-requires : (t : ℕ) → pick-lts.Need-walk-requires (pick-given t) (pick-at-t t) walk-pick.Post
 pick-walk-requires t c κs =
-    let s = c .before .before .before .before .before .before in
-    let u = pick-is t (c .before .before .before .before .before .before) refl refl refl in
-    let h = pick-room (s .args .prices) (s .args .round) (envOf (now (s .args .r))) (pick-from t s) u (s .pre .1 .walk .room) in
-    (omega (arith, s .pre .0, s .pre .1 .inside), restart-walkable (ready (s .pre .1 .walk .ready) (omega (arith, s .pre .1 .inside))) (s .pre .1 .walk .prices) (c .before .before .before .branch .ensures .1) (c .before .before .restarted .ensures _) (s .pre .1 .walk .long) (omega arith) (omega arith))
+    let s = c .before .before .before .before .before .before .before .before .before .before .before in
+    let u = pick-is t (c .before .before .before .before .before .before .before .before .before .before .before) refl refl refl in
+    let h = pick-room (s .args .script .prices) (s .args .round) (envOf (now (s .args .r))) (pick-from t s) u (s .pre .1 .walk .room) in
+    (omega (arith, s .pre .0, s .pre .1 .inside, c .before .before .before .restarted .ensures [] [] .next), (restart-walkable (ready (s .pre .1 .walk .ready) (omega (arith, s .pre .1 .inside))) (s .pre .1 .walk .prices) (c .before .before .before .before .before .branch .ensures .1) (c .before .before .before .restarted .ensures _ _) (s .pre .1 .walk .long) (omega arith) (omega arith), s .pre .1 .long))
 
 pick-returns : (t : ℕ) → pick-lts.Need-returns (pick-given t) (pick-at-t t) walk-pick.Post
 pick-returns t c =
-    let s = c .before .before .before .before .before .before .before .before .before in
+    let s = c .before .before .before .before .before .before .before .before .before .before .before .before .before .before .before .before in
     record {
-      stopped = λ h. pick-first (s .args .prices) (s .args .round) (envOf (now (s .args .r))) (pick-from t s) (pick-is t s refl refl refl) _ _ (refused-in (c .before .before .walk .ensures) h);
+      stopped = λ h. pick-first (s .args .script .prices) (s .args .round) (envOf (now (s .args .r))) (pick-from t s) (pick-is t s refl refl refl) _ _ (refused-in (walked-from (c .before .before .before .before .before .before .before .before .restarted .ensures [] [] .next) (c .before .before .before .before .walk .ensures)) h);
       whole = λ z. absurd (c .if1 .taken z);
     }
 
 -- the pick, once its first part is walked, and its first part
-pick-1 : (t : ℕ) (c : pick-lts.Else1 (pick-given t) (pick-at-t t) walk-pick.Post) {q e : ℕ} → let a = c .before .before .before .before .before .before .before .before .before .args in let rows = rowsOf (now (a .rows)) in let m = c .before .before .walk .result .next in q ≡ pastElse (kindAt rows m) m → e ≡ endAt (now (a .text)) rows (a .count) q
-    → PickIs (now (a .text)) rows (a .count) (a .i) m q e
-pick-1 t c = pick-is t (c .before .before .before .before .before .before .before .before .before) (c .before .before .walk .ensures .whole (c .if1 .left) .place)
+pick-1 : (t : ℕ) (c : pick-lts.Else1 (pick-given t) (pick-at-t t) walk-pick.Post) {q e : ℕ} → let a = c .before .before .before .before .before .before .before .before .before .before .before .before .before .before .before .before .args in let rows = rowsOf (now (a .rows)) in let m = c .before .before .before .before .walk .result .next in q ≡ pastElse (kindAt rows m) m → e ≡ endAt (now (a .text)) rows (a .script .count) q
+    → PickIs (now (a .text)) rows (a .script .count) (a .t .next) m q e
+pick-1 t c = pick-is t (c .before .before .before .before .before .before .before .before .before .before .before .before .before .before .before .before) (walked-from (c .before .before .before .before .before .before .before .before .restarted .ensures [] [] .next) (c .before .before .before .before .walk .ensures) .whole (c .if1 .left) .place)
 
 pick-past-else-requires : (t : ℕ) → pick-lts.Need-past-else-requires (pick-given t) (pick-at-t t) walk-pick.Post
-pick-past-else-requires t c κs = let k = pick-1 t c refl refl in let f = c .before .before .before .before .before .before .before .before .before .pre .1 .walk .ready .reach in row-in (now (c .before .before .before .before .before .before .before .before .before .args .rows)) _ (omega arith)
+pick-past-else-requires t c κs = let k = pick-1 t c refl refl in let f = c .before .before .before .before .before .before .before .before .before .before .before .before .before .before .before .before .pre .1 .walk .ready .reach in row-in (now (c .before .before .before .before .before .before .before .before .before .before .before .before .before .before .before .before .args .rows)) _ (omega arith)
 
 pick-walk-requires-2 : (t : ℕ) → pick-lts.Need-walk-requires-2 (pick-given t) (pick-at-t t) walk-pick.Post
 pick-walk-requires-2 t c κs =
-    let s = c .before .before .before .before .before .before .before .before .before .before .before .before .before in
-    let u = pick-1 t (c .before .before .before .before) (c .before .before .before .past-else .ensures) refl in
-    let h = pick-room (s .args .prices) (s .args .round) (envOf (now (s .args .r))) (pick-from t s) u (s .pre .1 .walk .room) in
-    let p = c .before .before .before .before .before .before .walk .ensures .whole (c .before .before .before .before .if1 .left) in
-    let n = part-by (s .args .prices) (s .args .round) (envOf (now (s .args .r))) (pick-from t s) u (c .before .before .before .before .before .before .before .before .before .before .branch .ensures .0) (c .before .before .before .before .before .before .before .before .before .restarted .ensures _) p .count in
-    (omega (arith, s .pre .0, s .pre .1 .inside, u .first, u .second, u .last), restart-walkable (ready (s .pre .1 .walk .ready) (u .some)) (s .pre .1 .walk .prices) (c .before .before .before .before .before .before .before .before .before .before .branch .ensures .1) (c .before .before .restarted2 .ensures _) (p .long) (omega arith) (omega arith))
+    let s = c .before .before .before .before .before .before .before .before .before .before .before .before .before .before .before .before .before .before .before .before .before in
+    let u = pick-1 t (c .before .before .before .before .before) (c .before .before .before .before .past-else .ensures) refl in
+    let h = pick-room (s .args .script .prices) (s .args .round) (envOf (now (s .args .r))) (pick-from t s) u (s .pre .1 .walk .room) in
+    let p = walked-from (c .before .before .before .before .before .before .before .before .before .before .before .before .before .restarted .ensures [] [] .next) (c .before .before .before .before .before .before .before .before .before .walk .ensures) .whole (c .before .before .before .before .before .if1 .left) in
+    let n = part-by (s .args .script .prices) (s .args .round) (envOf (now (s .args .r))) (pick-from t s) u (c .before .before .before .before .before .before .before .before .before .before .before .before .before .before .before .branch .ensures .0) (c .before .before .before .before .before .before .before .before .before .before .before .before .before .restarted .ensures _ _) p .count in
+    (omega (arith, s .pre .0, s .pre .1 .inside, u .first, u .second, u .last, c .before .before .before .restarted2 .ensures [] [] .next), (restart-walkable (ready (s .pre .1 .walk .ready) (u .some)) (s .pre .1 .walk .prices) (c .before .before .before .before .before .before .before .before .before .before .before .before .before .before .before .branch .ensures .1) (c .before .before .before .restarted2 .ensures _ _) (p .long) (omega arith) (omega arith), s .pre .1 .long))
 
 pick-returns-2 : (t : ℕ) → pick-lts.Need-returns-2 (pick-given t) (pick-at-t t) walk-pick.Post
 pick-returns-2 t c =
-    let s = c .before .before .before .before .before .before .before .before .before .before .before .before .before .before .before .before in
-    let u = pick-1 t (c .before .before .before .before .before .before .before) (c .before .before .before .before .before .before .past-else .ensures) refl in
-    let n = part-by (s .args .prices) (s .args .round) (envOf (now (s .args .r))) (pick-from t s) u (c .before .before .before .before .before .before .before .before .before .before .before .before .before .branch .ensures .0) (c .before .before .before .before .before .before .before .before .before .before .before .before .restarted .ensures _) (c .before .before .before .before .before .before .before .before .before .walk .ensures .whole (c .before .before .before .before .before .before .before .if1 .left)) in
+    let s = c .before .before .before .before .before .before .before .before .before .before .before .before .before .before .before .before .before .before .before .before .before .before .before .before .before .before in
+    let u = pick-1 t (c .before .before .before .before .before .before .before .before .before .before) (c .before .before .before .before .before .before .before .before .before .past-else .ensures) refl in
+    let n = part-by (s .args .script .prices) (s .args .round) (envOf (now (s .args .r))) (pick-from t s) u (c .before .before .before .before .before .before .before .before .before .before .before .before .before .before .before .before .before .before .before .before .branch .ensures .0) (c .before .before .before .before .before .before .before .before .before .before .before .before .before .before .before .before .before .before .restarted .ensures _ _) (walked-from (c .before .before .before .before .before .before .before .before .before .before .before .before .before .before .before .before .before .before .restarted .ensures [] [] .next) (c .before .before .before .before .before .before .before .before .before .before .before .before .before .before .walk .ensures) .whole (c .before .before .before .before .before .before .before .before .before .before .if1 .left)) in
     record {
-      stopped = λ h. pick-second (s .args .prices) (s .args .round) (envOf (now (s .args .r))) (pick-from t s) u _ _ (n .verdict) (refused-in (c .before .before .walk2 .ensures) h);
+      stopped = λ h. pick-second (s .args .script .prices) (s .args .round) (envOf (now (s .args .r))) (pick-from t s) u _ _ (n .verdict) (refused-in (walked-from (c .before .before .before .before .before .before .before .before .restarted2 .ensures [] [] .next) (c .before .before .before .before .walk2 .ensures)) h);
       whole = λ z. absurd (c .if2 .taken z);
     }
 
 -- the pick, once both are
-pick-2 : (t : ℕ) (c : pick-lts.Else2 (pick-given t) (pick-at-t t) walk-pick.Post) → let a = c .before .before .before .before .before .before .before .before .before .before .before .before .before .before .before .before .args in PickIs (now (a .text)) (rowsOf (now (a .rows))) (a .count) (a .i) (c .before .before .before .before .before .before .before .before .before .walk .result .next) (c .before .before .before .before .before .before .past-else .result) (c .before .before .walk2 .result .next)
-pick-2 t c = pick-1 t (c .before .before .before .before .before .before .before) (c .before .before .before .before .before .before .past-else .ensures) (c .before .before .walk2 .ensures .whole (c .if2 .left) .place)
-
-pick-add-after-pick : (t : ℕ) → pick-lts.Need-add-after-pick (pick-given t) (pick-at-t t) walk-pick.Post
-pick-add-after-pick t c = let u = pick-2 t c in let f = c .before .before .before .before .before .before .before .before .before .before .before .before .before .before .before .before .pre .1 .walk .ready .few in search needs
-
-pick-after-pick-requires : (t : ℕ) → pick-lts.Need-after-pick-requires (pick-given t) (pick-at-t t) walk-pick.Post
-pick-after-pick-requires t c κs = let r = c .before .before .before .before .before .before .before .before .before .before .before .before .before .before .before .before .before .pre .1 .walk .ready in let u = pick-2 t (c .before) in (ready r (omega arith), ready r (u .some))
+pick-2 : (t : ℕ) (c : pick-lts.Else2 (pick-given t) (pick-at-t t) walk-pick.Post) → let a = c .before .before .before .before .before .before .before .before .before .before .before .before .before .before .before .before .before .before .before .before .before .before .before .before .before .before .args in PickIs (now (a .text)) (rowsOf (now (a .rows))) (a .script .count) (a .t .next) (c .before .before .before .before .before .before .before .before .before .before .before .before .before .before .walk .result .next) (c .before .before .before .before .before .before .before .before .before .past-else .result) (c .before .before .before .before .walk2 .result .next)
+pick-2 t c = pick-1 t (c .before .before .before .before .before .before .before .before .before .before) (c .before .before .before .before .before .before .before .before .before .past-else .ensures) (walked-from (c .before .before .before .before .before .before .before .before .restarted2 .ensures [] [] .next) (c .before .before .before .before .walk2 .ensures) .whole (c .if2 .left) .place)
 
 pick-leave-pick-requires : (t : ℕ) → pick-lts.Need-leave-pick-requires (pick-given t) (pick-at-t t) walk-pick.Post
 pick-leave-pick-requires t c κs =
-    let w = c .before .before .before .before .before .before .before .before .before .before .before .before .before .before .before .before .before .before .pre .1 .walk in
-    let u = pick-2 t (c .before .before) in
+    let w = c .before .before .before .before .before .before .before .before .before .before .before .before .before .before .before .before .before .before .before .before .before .before .before .before .before .before .before .before .before .pre .1 .walk in
+    let u = pick-2 t (c .before .before .before) in
     let f = w .ready .few in
-    (w .prices .pick .small, omega arith, w .small, c .before .before .before .before .before .before .before .before .before .before .before .walk .ensures .whole (c .before .before .before .before .before .before .before .before .before .if1 .left) .small, c .before .before .before .before .walk2 .ensures .whole (c .before .before .if2 .left) .small)
+    (w .prices .pick .small, omega arith, w .small, c .before .before .before .before .before .before .before .before .before .before .before .before .before .before .before .before .before .walk .ensures .whole (c .before .before .before .before .before .before .before .before .before .before .before .before .before .if1 .left) .small, c .before .before .before .before .before .before .before .walk2 .ensures .whole (c .before .before .before .if2 .left) .small)
 
 pick-returns-3 : (t : ℕ) → pick-lts.Need-returns-3 (pick-given t) (pick-at-t t) walk-pick.Post
 pick-returns-3 t c =
-    let s = c .before .before .before .before .before .before .before .before .before .before .before .before .before .before .before .before .before .before .before in
-    let u = pick-2 t (c .before .before .before) in
-    let π = s .args .prices in
+    let s = c .before .before .before .before .before .before .before .before .before .before .before .before .before .before .before .before .before .before .before .before .before .before .before .before .before .before .before .before .before .before .before .before in
+    let u = pick-2 t (c .before .before .before .before .before .before) in
+    let π = s .args .script .prices in
     let ρ = envOf (now (s .args .r)) in
     let x = pick-from t s in
-    let q = c .before .before .before .before .before .before .before .before .before .before .before .before .before .before .before .before .branch .ensures .0 in
+    let q = c .before .before .before .before .before .before .before .before .before .before .before .before .before .before .before .before .before .before .before .before .before .before .before .before .before .before .branch .ensures .0 in
     record {
-      stopped = λ h. absurd (h (c .leave-pick .ensures [] [] .number));
+      stopped = λ h. absurd (h (c .before .before .leave-pick .ensures [] [] [] .number));
       whole = λ z.
           past-pick π (s .args .round) ρ x u
-          (part-by π (s .args .round) ρ x u q (c .before .before .before .before .before .before .before .before .before .before .before .before .before .before .before .restarted .ensures _) (c .before .before .before .before .before .before .before .before .before .before .before .before .walk .ensures .whole (c .before .before .before .before .before .before .before .before .before .before .if1 .left)))
-          (part-by π (s .args .round) ρ x u q (c .before .before .before .before .before .before .before .before .restarted2 .ensures _) (c .before .before .before .before .before .walk2 .ensures .whole (c .before .before .before .if2 .left)))
-          (c .leave-pick .ensures _ _)
-          (record { long = search needs; value = c .before .after-pick .ensures });
+          (part-by π (s .args .round) ρ x u q (c .before .before .before .before .before .before .before .before .before .before .before .before .before .before .before .before .before .before .before .before .before .before .before .before .restarted .ensures _ _) (walked-from (c .before .before .before .before .before .before .before .before .before .before .before .before .before .before .before .before .before .before .before .before .before .before .before .before .restarted .ensures [] [] .next) (c .before .before .before .before .before .before .before .before .before .before .before .before .before .before .before .before .before .before .before .before .walk .ensures) .whole (c .before .before .before .before .before .before .before .before .before .before .before .before .before .before .before .before .if1 .left)))
+          (part-by π (s .args .round) ρ x u q (c .before .before .before .before .before .before .before .before .before .before .before .before .before .before .restarted2 .ensures _ _) (walked-from (c .before .before .before .before .before .before .before .before .before .before .before .before .before .before .restarted2 .ensures [] [] .next) (c .before .before .before .before .before .before .before .before .before .before .walk2 .ensures) .whole (c .before .before .before .before .before .before .if2 .left)))
+          (c .before .before .leave-pick .ensures _ _ _)
+          (record { long = search needs; value = c .before .before .before .before .before .joined .ensures });
     }
 
-pick-branch-requires : (t : ℕ) → pick-lts.Need-branch-requires (pick-given t) (pick-at-t t) walk-pick.Post
-pick-branch-requires t c κs = c .before .before .pre .1 .walk .fine
+pick-same-length-3 : (t : ℕ) → pick-lts.Need-same-length-3 (pick-given t) (pick-at-t t) walk-pick.Post
+pick-same-length-3 t c = let a = c .before .before .before .before .before .before .before .before .before .before .before .before .before .before .before .before .before .before .before .own in search needs
 
-pick-add-walk : (t : ℕ) → pick-lts.Need-add-walk (pick-given t) (pick-at-t t) walk-pick.Post
-pick-add-walk t c = let f = c .before .before .before .before .pre .1 .walk .ready .few in let l = c .before .before .before .before .pre .1 .inside in search needs
+pick-branch-requires : (t : ℕ) → pick-lts.Need-branch-requires (pick-given t) (pick-at-t t) walk-pick.Post
+pick-branch-requires t c κs = c .before .before .before .before .before .pre .1 .walk .fine
+
+pick-add-restarted : (t : ℕ) → pick-lts.Need-add-restarted (pick-given t) (pick-at-t t) walk-pick.Post
+pick-add-restarted t c = let f = c .before .before .before .before .before .before .before .pre .1 .walk .ready .few in let l = c .before .before .before .before .before .before .before .pre .1 .inside in search needs
 
 -- ---- a loop that ends at row e
 abbrev LoopStart : ℕ → Type 0
 LoopStart t = loop-lts.Start (loop-given t) (loop-at-t t) walk-loop.Post
 
-loop-is : (t : ℕ) (s : LoopStart t) {e : ℕ} → let a = s .args in let rows = rowsOf (now (a .rows)) in e ≡ endAt (now (a .text)) rows (a .count) (a .i + 1) → LoopIs (now (a .text)) rows (a .count) (headOf (now (a .text)) (kindAt rows (a .i))) (a .i) e
+loop-is : (t : ℕ) (s : LoopStart t) {e : ℕ} → let a = s .args in let rows = rowsOf (now (a .rows)) in e ≡ endAt (now (a .text)) rows (a .script .count) (a .t .next + 1) → LoopIs (now (a .text)) rows (a .script .count) (headOf (now (a .text)) (kindAt rows (a .t .next))) (a .t .next) e
 loop-is t s = loop-at _ _ _ (s .pre .1 .inside) (s .pre .1 .walk .ready .built) (s .pre .1 .is)
 
-abbrev loop-from : (t : ℕ) → LoopStart t → TallyLines
-loop-from t s = withLines (s .args .t) (now (s .args .lines))
+abbrev loop-from : (t : ℕ) → LoopStart t → LentTally
+loop-from t s = withLent (s .args .t) (now (s .args .lines)) (now (s .args .own))
 
 loop-enter-loop-requires : (t : ℕ) → loop-lts.Need-enter-loop-requires (loop-given t) (loop-at-t t) walk-loop.Post
 loop-enter-loop-requires t c κs =
-    let s = c .before .before .before .before in
+    let s = c .before .before .before .before .before in
     let w = s .pre .1 .walk in
-    (record { ready = w .ready; inside = s .pre .1 .inside; loops = s .pre .1 .is }, w .fine, w .prices, omega (arith, loop-room (s .args .prices) (s .args .round) (envOf (now (s .args .r))) (loop-from t s) (loop-is t s refl) (w .room)), w .long, s .pre .1 .long)
+    (record { ready = w .ready; inside = s .pre .1 .inside; loops = s .pre .1 .is }, w .fine, w .prices, omega (arith, loop-room (s .args .script .prices) (s .args .round) (envOf (now (s .args .r))) (loop-from t s) (loop-is t s refl) (w .room)), w .long, s .pre .1 .long)
 
 loop-returns : (t : ℕ) → loop-lts.Need-returns (loop-given t) (loop-at-t t) walk-loop.Post
 loop-returns t c =
-    let s = c .before .before .before .before .before .before .before .before in
+    let s = c .before .before .before .before .before .before .before .before .before in
     record {
-      stopped = λ h. loop-refused (s .args .prices) (s .args .round) (envOf (now (s .args .r))) (loop-from t s) (loop-is t s refl) _ _ (c .before .before .before .enter-loop .ensures .stopped h);
+      stopped = λ h. loop-refused (s .args .script .prices) (s .args .round) (envOf (now (s .args .r))) (loop-from t s) (loop-is t s refl) _ _ (c .before .before .before .enter-loop .ensures (now (s .args .own)) .stopped h);
       whole = λ z. absurd (c .if1 .taken z);
     }
 
 loop-walk-requires : (t : ℕ) → loop-lts.Need-walk-requires (loop-given t) (loop-at-t t) walk-loop.Post
 loop-walk-requires t c κs =
-    let s = c .before .before .before .before .before .before .before .before .before .before .before in
-    let e = c .before .before .before .before .before .before .enter-loop in
+    let s = c .before .before .before .before .before .before .before .before .before .before .before .before .before .before in
+    let e = c .before .before .before .before .before .before .before .before .enter-loop in
+    let n = e .ensures (now (s .args .own)) .whole (c .before .before .before .before .before .if1 .left) in
     let w = s .pre .1 .walk in
-    (omega (arith, s .pre .0, s .pre .1 .inside), body-walkable (s .args .prices) (s .args .round) (envOf (now (s .args .r))) (loop-from t s) (loop-is t s (e .ensures .exit .ends .place)) (e .result) (e .ensures .whole (c .before .before .before .if1 .left)) (ready (w .ready) (omega (arith, s .pre .1 .inside))) (w .prices) (w .room))
+    (omega (arith, s .pre .0, s .pre .1 .inside, n .lined .next), (body-walkable (s .args .script .prices) (s .args .round) (envOf (now (s .args .r))) (loop-from t s) (loop-is t s refl) (e .result) n (ready (w .ready) (omega (arith, s .pre .1 .inside))) (w .prices) (w .room), e .ensures [] .begun (c .before .before .before .before .before .if1 .left) .long))
 
 loop-returns-2 : (t : ℕ) → loop-lts.Need-returns-2 (loop-given t) (loop-at-t t) walk-loop.Post
 loop-returns-2 t c =
-    let s = c .before .before .before .before .before .before .before .before .before .before .before .before .before .before in
-    let e = c .before .before .before .before .before .before .before .before .before .enter-loop in
-    let l = c .before .before .before .before .before .before .if1 .left in
+    let s = c .before .before .before .before .before .before .before .before .before .before .before .before .before .before .before .before .before .before .before in
+    let e = c .before .before .before .before .before .before .before .before .before .before .before .before .before .enter-loop .ensures (now (s .args .own)) in
+    let l = c .before .before .before .before .before .before .before .before .before .before .if1 .left in
     let a = s .args in
     let rows = rowsOf (now (a .rows)) in
     record {
       stopped = λ h.
-          body-refused (a .prices) (a .round) (envOf (now (a .r))) (loop-from t s) (loop-is t s (e .ensures .exit .ends .place)) _ _ (e .ensures .whole l .verdict)
-          (sym (ap (λ ρ. loopsVerdict ρ (blockAt (now (a .text)) rows (a .count) (a .i + 1))) (e .ensures .begun l .value)) ∙ refused-in (c .before .before .walk .ensures) h);
+          body-refused (a .script .prices) (a .round) (envOf (now (a .r))) (loop-from t s) (loop-is t s refl) _ _ (e .whole l .verdict)
+          (sym (ap (λ ρ. loopsVerdict ρ (blockAt (now (a .text)) rows (a .script .count) (a .t .next + 1))) (e .begun l .value)) ∙ refused-in (walked-from (e .whole l .lined .next) (c .before .before .before .before .walk .ensures)) h);
       whole = λ z. absurd (c .if2 .taken z);
     }
 
+-- its body, once it is walked
+loop-body : (t : ℕ) (c : loop-lts.Else2 (loop-given t) (loop-at-t t) walk-loop.Post) → let a = c .before .before .before .before .before .before .before .before .before .before .before .before .before .before .before .before .before .before .before .args in let e = c .before .before .before .before .before .before .before .before .before .before .before .before .before .enter-loop in
+    PassedPart (now (a .text)) (a .script .prices) (rowsOf (now (a .rows))) (a .script .count) (a .t .next + 1) (envOf (e .last .1 .1 .1 .1 .1 .1 .1 .0)) (e .result .round) (withLent (e .result .first) (e .last .1 .1 .1 .1 .1 .0) (now (a .own))) (c .before .before .before .before .walk .last .1 .1 .1 .1 .1 .1 .1 .0) (withLent (c .before .before .before .before .walk .result) (c .before .before .before .before .walk .last .1 .1 .1 .1 .0) (c .before .before .before .before .walk .last .1 .1 .1 .1 .1 .0))
+loop-body t c = walked-from (c .before .before .before .before .before .before .before .before .before .before .before .before .before .enter-loop .ensures (now (c .before .before .before .before .before .before .before .before .before .before .before .before .before .before .before .before .before .before .before .args .own)) .whole (c .before .before .before .before .before .before .before .before .before .before .if1 .left) .lined .next) (c .before .before .before .before .walk .ensures) .whole (c .if2 .left)
+
 loop-leave-loop-requires : (t : ℕ) → loop-lts.Need-leave-loop-requires (loop-given t) (loop-at-t t) walk-loop.Post
 loop-leave-loop-requires t c κs =
-    let s = c .before .before .before .before .before .before .before .before .before .before .before .before .before .before .before in
-    let e = c .before .before .before .before .before .before .before .before .before .before .enter-loop in
-    let l = c .before .before .before .before .before .before .before .if1 .left in
+    let s = c .before .before .before .before .before .before .before .before .before .before .before .before .before .before .before .before .before .before .before .before .before in
+    let e = c .before .before .before .before .before .before .before .before .before .before .before .before .before .before .before .enter-loop .ensures [] in
+    let l = c .before .before .before .before .before .before .before .before .before .before .before .before .if1 .left in
     let w = s .pre .1 .walk in
-    let n = e .ensures .whole l in
-    let d = e .ensures .exit .ends in
+    let n = e .whole l in
+    let p = loop-body t (c .before .before) in
+    let u = loop-is t s (p .place) in
     let f = w .ready .few in
-    (row-in (now (s .args .rows)) _ (omega (arith, s .pre .1 .inside, w .ready .reach)), e .ensures .exit .small, omega arith, w .small, c .before .before .before .walk .ensures .whole (c .before .if2 .left) .small, e .ensures .begun l .long, w .prices, w .fine, omega (arith, n .ran .tests, n .fine .few))
+    (row-in (now (s .args .rows)) _ (omega (arith, s .pre .1 .inside, w .ready .reach)), e .exit .small, omega arith, w .small, p .small, e .begun l .long, w .prices, w .fine, omega (arith, n .ran .tests, n .fine .few))
 
 loop-returns-3 : (t : ℕ) → loop-lts.Need-returns-3 (loop-given t) (loop-at-t t) walk-loop.Post
 loop-returns-3 t c =
-    let s = c .before .before .before .before .before .before .before .before .before .before .before .before .before .before .before .before in
-    let e = c .before .before .before .before .before .before .before .before .before .before .before .enter-loop in
-    let l = c .before .before .before .before .before .before .before .before .if1 .left in
+    let s = c .before .before .before .before .before .before .before .before .before .before .before .before .before .before .before .before .before .before .before .before .before .before .before .before in
+    let e = c .before .before .before .before .before .before .before .before .before .before .before .before .before .before .before .before .before .before .enter-loop .ensures (now (s .args .own)) in
+    let one = c .before .before .before .before .before .before .before .before .before .before .before .before .before .before .before .before .before .before .enter-loop .result in
+    let l = c .before .before .before .before .before .before .before .before .before .before .before .before .before .before .before .if1 .left in
     let a = s .args in
-    let x = e .ensures .exit in
-    let k = kindAt (rowsOf (now (a .rows))) (a .i) in
+    let x = e .exit in
+    let k = kindAt (rowsOf (now (a .rows))) (a .t .next) in
     let text = now (a .text) in
     let v = a .round .v in
-    let left = c .leave-loop .ensures in
-    let p = c .before .before .before .before .walk .ensures .whole (c .before .before .if2 .left) in
+    let left = c .before .before .leave-loop .ensures in
+    let p = loop-body t (c .before .before .before .before .before) in
     record {
-      stopped = λ h. absurd (h (left .closed text (c .before .before .before .before .walk .result .spent) (omega (arith, p .small)) [] [] .number));
+      stopped = λ h. absurd (h (left .closed text (c .before .before .before .before .before .before .before .before .before .walk .result .spent) (omega (arith, p .small)) [] [] [] .number));
       whole = λ z.
-          let u = loop-is t s (x .ends .place) in
-          let n = e .ensures .whole l in
-          past-loop (a .prices) (a .round) (envOf (now (a .r))) (loop-from t s) u (e .result) n
-          (body-by (a .prices) (a .round) (envOf (now (a .r))) (loop-from t s) u (e .result) n (e .ensures .begun l .value) p)
-          (λ G h. left .closed text G h _ _)
+          let u = loop-is t s (p .place) in
+          let n = e .whole l in
+          past-loop (a .script .prices) (a .round) (envOf (now (a .r))) (loop-from t s) u one n
+          (body-by (a .script .prices) (a .round) (envOf (now (a .r))) (loop-from t s) u one n (e .begun l .value) p)
+          (λ G h. left .closed text G h _ _ _)
           (ap (λ b. (a .t .kept && not (starts v (formOf text k) (testOf text k))) && not b) (x .sets v))
           (record {
             long = left .env .long;
-            value = left .env .value ∙ ap (widenedEnv (setOf (e .result .exit .set)) (rangeOf (e .result .exit .mine)) (e .result .exit .tested)) (e .ensures .begun l .value) ∙ outside-after (formOf text k) _ (testOf text k) _ (x .sets) (x .mine) (x .tested);
+            value = left .env .value ∙ ap (widenedEnv (setOf (one .exit .set)) (rangeOf (one .exit .mine)) (one .exit .tested)) (e .begun l .value) ∙ outside-after (formOf text k) _ (testOf text k) _ (x .sets) (x .mine) (x .tested);
           });
     }
 
-loop-add-walk : (t : ℕ) → loop-lts.Need-add-walk (loop-given t) (loop-at-t t) walk-loop.Post
-loop-add-walk t c = let f = c .before .before .before .before .before .before .before .before .before .pre .1 .walk .ready .few in let l = c .before .before .before .before .before .before .before .before .before .pre .1 .inside in search needs
-
 -- ---- a pick or a loop
 block-shape-at-requires : (t : ℕ) → block-lts.Need-shape-at-requires (block-given t) (block-at-t t) walk-block.Post
-block-shape-at-requires t c κs = let a = c .before .before .pre .1 .0 in let f = a .walk .ready .reach in let l = a .inside in row-in (now (c .before .before .args .rows)) _ (omega arith)
+block-shape-at-requires t c κs = let a = c .before .before .before .pre .1 .0 in let f = a .walk .ready .reach in let l = a .inside in row-in (now (c .before .before .before .args .rows)) _ (omega arith)
 
 block-walk-pick-requires : (t : ℕ) → block-lts.Need-walk-pick-requires (block-given t) (block-at-t t) walk-block.Post
 block-walk-pick-requires t c κs =
-    let a = c .before .before .before .before .before .before .before .pre .1 .0 in
-    (omega (arith, c .before .before .before .before .before .before .before .pre .0), record { walk = a .walk; inside = a .inside; is = sym (c .before .before .before .before .shape-at .ensures) ∙ c .before .before .enum-told .given .1; long = a .long })
+    let a = c .before .before .before .before .before .before .before .before .before .pre .1 .0 in
+    (omega (arith, c .before .before .before .before .before .before .before .before .before .pre .0), record { walk = a .walk; inside = a .inside; is = sym (c .before .before .before .before .before .shape-at .ensures) ∙ c .before .before .before .enum-told .given .1; long = a .long })
 
 block-walk-loop-requires : (t : ℕ) → block-lts.Need-walk-loop-requires (block-given t) (block-at-t t) walk-block.Post
 block-walk-loop-requires t c κs =
-    let a = c .before .before .before .before .before .before .pre .1 .0 in
-    let e = c .before .before .before .shape-at .ensures in
-    (omega (arith, c .before .before .before .before .before .before .pre .0), record { walk = a .walk; inside = a .inside; is = sym e ∙ loop-shape _ (c .before .before .match .keys2) (subst IsBlock (sym e) (c .before .before .before .before .before .before .pre .1 .1)); long = a .long })
+    let a = c .before .before .before .before .before .before .before .before .pre .1 .0 in
+    let e = c .before .before .before .before .shape-at .ensures in
+    (omega (arith, c .before .before .before .before .before .before .before .before .pre .0), record { walk = a .walk; inside = a .inside; is = sym e ∙ loop-shape _ (c .before .before .before .match .keys2) (subst IsBlock (sym e) (c .before .before .before .before .before .before .before .before .pre .1 .1)); long = a .long })
 
 -- ---- the walk
 abbrev Inv : walk-lts.InvT-loop
-Inv text rows count at round prices lines₀ r₀ t₀ i₀ lines r t i = (length r ≡ 16) × Going text prices (rowsOf rows) count round at (tallied (withLines t₀ lines₀) (envOf r₀)) i (envOf r) (withLines t lines)
+Inv text rows script round lines₀ own₀ r₀ t₀ lines own r t =
+    (length r ≡ 16) × (length own ≡ length own₀) × Going text (script .prices) (rowsOf rows) (script .count) round (t₀ .next) (tallied (withLent t₀ lines₀ own₀) (envOf r₀)) (envOf r) (withLent t lines own)
 
 abbrev μ : walk-lts.MeasureT-loop
-μ text rows count at round prices lines₀ r₀ t₀ i₀ lines r t i = count - i
+μ text rows script round lines₀ own₀ r₀ t₀ lines own r t = script .count - t .next
 
 walk-loop-holds : (t : ℕ) → walk-lts.Need-loop-holds (walk-given t) (walk-at-t t) walk.Post Inv μ
-walk-loop-holds t c = let w = c .before .before .pre .1 in (search needs, record { walk = begin _ _ _ _ _ (w .ready .within); small = w .small; long = w .long })
+walk-loop-holds t c = let w = c .before .before .before .pre .1 .0 in (search needs, refl, record { walk = begin _ _ _ _ _ (w .ready .within); number = w .number; small = w .small; long = w .long })
 
 walk-step-row-requires : (t : ℕ) → walk-lts.Need-step-row-requires (walk-given t) (walk-at-t t) walk.Post Inv μ
-walk-step-row-requires t c κs = let k = c .before .before .before .before .before .before .before .before .pre .1 .ready in let l = c .before .before .before .before .loop-test .taken in (row-in (now (c .before .before .before .before .before .before .before .before .args .rows)) _ (search needs), k .fine _ l, sym (c .before .before .before .shape-at .ensures) ∙ c .before .enum-told .given .1, c .before .before .before .before .before .loop .inv .0, k .written _ l)
+walk-step-row-requires t c κs = let k = c .before .before .before .before .before .before .before .before .before .before .before .pre .1 .0 .ready in let l = c .before .before .before .before .if1 .taken in (row-in (now (c .before .before .before .before .before .before .before .before .before .before .before .args .rows)) _ (search needs), k .fine _ l, sym (c .before .before .before .shape-at .ensures) ∙ c .before .enum-told .given .1, c .before .before .before .before .before .before .before .loop .inv .0, k .written _ l)
 
 walk-past-row-requires : (t : ℕ) → walk-lts.Need-past-row-requires (walk-given t) (walk-at-t t) walk.Post Inv μ
-walk-past-row-requires t c κs = let w = c .before .before .before .before .before .before .before .before .before .pre .1 in (row-in (now (c .before .before .before .before .before .before .before .before .before .args .rows)) _ (search needs), sym (c .before .before .before .before .shape-at .ensures) ∙ c .before .before .enum-told .given .1, w .prices, w .fine, c .before .before .before .before .before .before .loop .inv .1 .small)
+walk-past-row-requires t c κs = let w = c .before .before .before .before .before .before .before .before .before .before .before .before .pre .1 .0 in ((row-in (now (c .before .before .before .before .before .before .before .before .before .before .before .before .args .rows)) _ (search needs), sym (c .before .before .before .before .shape-at .ensures) ∙ c .before .before .enum-told .given .1), w .prices, w .fine, c .before .before .before .before .before .before .before .before .loop .inv .2 .small)
+
+walk-loop-less : (t : ℕ) → walk-lts.Need-loop-less (walk-given t) (walk-at-t t) walk.Post Inv μ
+walk-loop-less t c = let e = c .past-row .ensures [] [] [] .next in let l = c .before .before .before .before .before .before .if1 .taken in search needs
 
 walk-loop-again : (t : ℕ) → walk-lts.Need-loop-again (walk-given t) (walk-at-t t) walk.Post Inv μ
-walk-loop-again t c = (c .before .step-row .ensures .long, go-plain (c .before .before .before .before .before .before .before .loop .inv .1) (c .before .before .before .before .before .before .loop-test .taken) (c .before .before .before .before .before .before .before .before .before .before .pre .1 .ready .built) (sym (c .before .before .before .before .before .shape-at .ensures) ∙ c .before .before .before .enum-told .given .1) (c .before .step-row .ensures .value) (c .past-row .ensures _ _))
+walk-loop-again t c = (c .before .step-row .ensures .long, c .before .before .before .before .before .before .before .before .before .loop .inv .1, go-plain (c .before .before .before .before .before .before .before .before .before .loop .inv .2) (c .before .before .before .before .before .before .if1 .taken) (c .before .before .before .before .before .before .before .before .before .before .before .before .before .pre .1 .0 .ready .built) (sym (c .before .before .before .before .before .shape-at .ensures) ∙ c .before .before .before .enum-told .given .1) (c .before .step-row .ensures .value) (c .past-row .ensures _ _ _))
 
 walk-walk-block-requires : (t : ℕ) → walk-lts.Need-walk-block-requires (walk-given t) (walk-at-t t) walk.Post Inv μ
 walk-walk-block-requires t c κs =
-    let w = c .before .before .before .before .before .before .before .before .pre .1 in
-    let k = c .before .before .before .before .before .loop .inv .1 in
-    let l = c .before .before .before .before .loop-test .taken in (
-      omega (arith, c .before .before .before .before .before .before .before .before .pre .0, k .walk .low),
+    let w = c .before .before .before .before .before .before .before .before .before .before .before .before .pre .1 .0 in
+    let k = c .before .before .before .before .before .before .before .before .loop .inv .2 in
+    let l = c .before .before .before .before .before .if1 .taken in (
+      omega (arith, c .before .before .before .before .before .before .before .before .before .before .before .before .pre .0, k .walk .low),
       (
-        record { walk = record { ready = ready (w .ready) (k .walk .high); prices = w .prices; small = k .small; fine = w .fine; room = omega (arith, room k, w .room); long = k .long }; inside = l; is = refl; long = c .before .before .before .before .before .loop .inv .0 },
-        subst IsBlock (c .before .before .before .shape-at .ensures) (block-shape _ (c .before .before .match .keys3)),
+        record { walk = record { ready = ready (w .ready) (k .walk .high); prices = w .prices; number = k .number; small = k .small; fine = w .fine; room = omega (arith, room k, w .room); long = k .long }; inside = l; is = refl; long = c .before .before .before .before .before .before .before .before .loop .inv .0 },
+        subst IsBlock (c .before .before .before .before .shape-at .ensures) (block-shape _ (c .before .before .before .match .keys3)),
       ),
     )
 
 walk-returns-2 : (t : ℕ) → walk-lts.Need-returns-2 (walk-given t) (walk-at-t t) walk.Post Inv μ
 walk-returns-2 t c = record {
-  stopped = λ h. block-stops (c .before .before .before .before .before .before .before .before .loop .inv .1) _ _ (c .before .before .walk-block .ensures .stopped h);
-  whole = λ z. absurd (c .if1 .taken z);
+  stopped = λ h. block-stops (c .before .before .before .before .before .before .before .before .before .before .before .before .before .loop .inv .2) _ _ (c .before .before .before .before .walk-block .ensures .stopped h);
+  whole = λ z. absurd (c .if2 .taken z);
 }
 
-walk-add-i-2 : (t : ℕ) → walk-lts.Need-add-i-2 (walk-given t) (walk-at-t t) walk.Post Inv μ
-walk-add-i-2 t c = let p = c .before .before .before .walk-block .ensures .whole (c .before .if1 .left) in let f = c .before .before .before .before .before .before .before .before .before .before .before .before .pre .1 .ready .few in search needs
-
 walk-loop-less-2 : (t : ℕ) → walk-lts.Need-loop-less-2 (walk-given t) (walk-at-t t) walk.Post Inv μ
-walk-loop-less-2 t c = let p = c .before .before .before .walk-block .ensures .whole (c .before .if1 .left) in search needs
+walk-loop-less-2 t c = let p = c .before .before .before .before .walk-block .ensures .whole (c .if2 .left) in let l = c .before .before .before .before .before .before .before .before .before .before .if1 .taken in search needs
 
 walk-loop-again-2 : (t : ℕ) → walk-lts.Need-loop-again-2 (walk-given t) (walk-at-t t) walk.Post Inv μ
-walk-loop-again-2 t c = let p = c .before .before .before .walk-block .ensures .whole (c .before .if1 .left) in (p .env-long, go-block (c .before .before .before .before .before .before .before .before .before .loop .inv .1) p)
+walk-loop-again-2 t c = let p = c .before .before .before .before .walk-block .ensures .whole (c .if2 .left) in (p .env-long, search needs, go-block (c .before .before .before .before .before .before .before .before .before .before .before .before .before .loop .inv .2) (c .if2 .left) p)
 
 walk-returns : (t : ℕ) → walk-lts.Need-returns (walk-given t) (walk-at-t t) walk.Post Inv μ
 walk-returns t c =
-    let k = c .before .before .before .before .before .loop .inv .1 in
-    let e = c .ended .ensures (c .before .before .before .before .before .loop .lines) in
+    let k = c .before .before .before .before .before .before .loop .inv .2 in
     record {
-      stopped = λ h. absurd (h (e .number));
-      whole = λ z. closing (at-close _ _ _ _ _ (fold-none _ _ _ (k .small)) (k .walk) (c .before .before .before .before .loop-test .taken) (c .before .before .before .before .before .before .before .before .pre .1 .ready .built) (sym (c .before .before .before .shape-at .ensures) ∙ c .before .enum-told2 .given .1)) (k .small) (k .long) e;
+      stopped = λ h. absurd (h (k .number));
+      whole = λ z. closing (at-close _ _ _ _ _ (fold-none _ _ _ (k .small)) (k .walk) (c .before .before .before .if1 .taken) (c .before .before .before .before .before .before .before .before .before .before .pre .1 .0 .ready .built) (sym (c .before .before .shape-at .ensures) ∙ c .enum-told2 .given .1)) (k .small) (k .long) (c .before .before .before .before .before .before .loop .inv .0);
     }
 
 walk-returns-3 : (t : ℕ) → walk-lts.Need-returns-3 (walk-given t) (walk-at-t t) walk.Post Inv μ
 walk-returns-3 t c =
-    let k = c .before .before .loop .inv .1 in
-    let e = c .ended2 .ensures (c .before .before .loop .lines) in
+    let k = c .before .before .before .loop .inv .2 in
     record {
-      stopped = λ h. absurd (h (e .number));
-      whole = λ z. closing (at-last _ _ _ _ _ (fold-none _ _ _ (k .small)) (k .walk) (c .before .before .before .before .before .pre .1 .ready .built) (c .before .loop-test .left)) (k .small) (k .long) e;
+      stopped = λ h. absurd (h (k .number));
+      whole = λ z. closing (at-last _ _ _ _ _ (fold-none _ _ _ (k .small)) (k .walk) (c .before .before .before .before .before .before .before .pre .1 .0 .ready .built) (c .if1 .left)) (k .small) (k .long) (c .before .before .before .loop .inv .0);
     }
 
-walk-add-i : (t : ℕ) → walk-lts.Need-add-i (walk-given t) (walk-at-t t) walk.Post Inv μ
-walk-add-i t c = search needs
+walk-shape-at-requires : (t : ℕ) → walk-lts.Need-shape-at-requires (walk-given t) (walk-at-t t) walk.Post Inv μ
+walk-shape-at-requires t c κs = let l = c .if1 .taken in row-in (now (c .before .before .before .before .before .before .before .args .rows)) _ (search needs)
 
 pub +walk+walk-block+walk-loop+walk-pick-spec : {M : Type 1} → statement M
 +walk+walk-block+walk-loop+walk-pick-spec = close μ-walk μ-walk-block μ-walk-loop μ-walk-pick
@@ -371,20 +371,20 @@ pub +walk+walk-block+walk-loop+walk-pick-spec : {M : Type 1} → statement M
     Inv
     μ
     (walk-loop-holds t)
-    (λ c κs. row-in (now (c .before .before .before .before .args .rows)) _ (search needs)) (λ c. search needs)
+    (walk-shape-at-requires t)
+    (λ c. search needs)
     (walk-step-row-requires t)
     (walk-past-row-requires t)
-    (walk-add-i t)
-    (λ c. search needs)
+    (walk-loop-less t)
     (walk-loop-again t)
-    (λ c. search needs) (λ c κs. search needs)
+    (λ c. search needs) (λ c. search needs)
     (walk-returns t)
     (walk-walk-block-requires t)
+    (λ c. search needs)
     (walk-returns-2 t)
-    (walk-add-i-2 t)
     (walk-loop-less-2 t)
     (walk-loop-again-2 t)
-    (λ c κs. search needs)
+    (λ c. search needs)
     (walk-returns-3 t))
     (λ t. block-lts.spec (block-given t)
     (block-at-t t)
@@ -393,31 +393,36 @@ pub +walk+walk-block+walk-loop+walk-pick-spec : {M : Type 1} → statement M
     (λ c. search needs)
     (block-walk-pick-requires t)
     (block-walk-loop-requires t)
-    (λ c. c .walk-pick .ensures)
-    (λ c. c .walk-loop .ensures))
+    (λ c. search needs)
+    (λ c. c .before .before .walk-pick .ensures)
+    (λ c. search needs)
+    (λ c. c .before .before .walk-loop .ensures))
     (λ t. loop-lts.spec (loop-given t)
     (loop-at-t t)
     walk-loop.Post
     (loop-enter-loop-requires t)
     (loop-returns t)
-    (loop-add-walk t)
     (loop-walk-requires t)
+    (λ c. search needs)
     (loop-returns-2 t)
     (loop-leave-loop-requires t)
+    (λ c. search needs)
     (loop-returns-3 t))
     λ t. pick-lts.spec (pick-given t)
     (pick-at-t t)
     walk-pick.Post
     (pick-branch-requires t)
+    (pick-add-restarted t)
     (λ c κs. search needs)
-    (pick-add-walk t)
     (pick-walk-requires t)
+    (λ c. search needs)
     (pick-returns t)
     (pick-past-else-requires t)
     (λ c κs. search needs)
     (pick-walk-requires-2 t)
+    (λ c. search needs)
     (pick-returns-2 t)
-    (pick-add-after-pick t)
-    (pick-after-pick-requires t)
+    (λ c κs. search needs)
     (pick-leave-pick-requires t)
+    (pick-same-length-3 t)
     (pick-returns-3 t)

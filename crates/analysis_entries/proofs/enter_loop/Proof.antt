@@ -27,7 +27,10 @@ use Rattle.analysis_ticks.specs.Capped.{capped}
 use Rattle.analysis_ticks.proofs.Caps.{cap-times}
 use Rattle.analysis_passes.specs.Rounds.{roundOf, passIn, walkedBy, bodyOf}
 use Rattle.analysis_tallies.specs.Tallies.{lastTicks}
-use Rattle.analysis_entries.specs.Enter.{startAt, tripAt, walkedAt, ExitAt}
+use Rattle.analysis_tallies.specs.declared.Tally.{Tally}
+use Rattle.analysis_entries.specs.declared.Exit.{Exit}
+use Rattle.analysis_entries.specs.declared.PassCounts.{PassCounts}
+use Rattle.analysis_entries.specs.Enter.{startAt, tripAt, walkedAt, ExitOf, ExitAt}
 use Rattle.analysis_tallies.proofs.Laws.{lined-is, last-small}
 use Rattle.analysis_entries.proofs.Numbers.{trip-number}
 use Rattle.analysis_entries.proofs.enter_loop.Statement.{statement}
@@ -42,22 +45,21 @@ at-start-requires c κs =
 loop-at-requires : tie.Need-loop-at-requires
 loop-at-requires c κs = (c .before .before .before .before .before .before .pre .0, c .before .at-start .ensures .long)
 
-begun : (c : tie.After-at-start) → envOf (c .at-start .last .1 .0) ≡ startAt (now (c .before .before .before .before .before .args .text)) (rowsOf (now (c .before .before .before .before .before .args .rows))) (c .before .before .before .before .before .args .i) (envOf (now (c .before .before .before .before .before .args .r)))
+begun : (c : tie.After-at-start) → envOf (c .at-start .last .1 .0) ≡ startAt (now (c .before .before .before .before .before .args .text)) (rowsOf (now (c .before .before .before .before .before .args .rows))) (c .before .before .before .before .before .args .t .next) (envOf (now (c .before .before .before .before .before .args .r)))
 begun c = c .at-start .ensures .value ∙ ap (λ k. let text = now (c .before .before .before .before .before .args .text) in atStart (formOf text k) (testOf text k) (envOf (now (c .before .before .before .before .before .args .r)))) (c .before .before .kind-at .ensures)
 
-one-is : (c : tie.After-loop-at) → LoopAt (now (c .before .before .before .before .before .before .before .args .text)) (rowsOf (now (c .before .before .before .before .before .before .before .args .rows))) (c .before .before .before .before .before .before .before .args .count) (c .before .before .before .before .before .before .before .args .i) (startAt (now (c .before .before .before .before .before .before .before .args .text)) (rowsOf (now (c .before .before .before .before .before .before .before .args .rows))) (c .before .before .before .before .before .before .before .args .i) (envOf (now (c .before .before .before .before .before .before .before .args .r)))) (c .loop-at .result)
-one-is c = subst (λ ρ. LoopAt (now (c .before .before .before .before .before .before .before .args .text)) (rowsOf (now (c .before .before .before .before .before .before .before .args .rows))) (c .before .before .before .before .before .before .before .args .count) (c .before .before .before .before .before .before .before .args .i) ρ (c .loop-at .result)) (begun (c .before .before)) (c .loop-at .ensures)
+one-is : (c : tie.After-loop-at) → LoopAt (now (c .before .before .before .before .before .before .before .args .text)) (rowsOf (now (c .before .before .before .before .before .before .before .args .rows))) (c .before .before .before .before .before .before .before .args .count) (c .before .before .before .before .before .before .before .args .t .next) (startAt (now (c .before .before .before .before .before .before .before .args .text)) (rowsOf (now (c .before .before .before .before .before .before .before .args .rows))) (c .before .before .before .before .before .before .before .args .t .next) (envOf (now (c .before .before .before .before .before .before .before .args .r)))) (c .loop-at .result)
+one-is c = subst (λ ρ. LoopAt (now (c .before .before .before .before .before .before .before .args .text)) (rowsOf (now (c .before .before .before .before .before .before .before .args .rows))) (c .before .before .before .before .before .before .before .args .count) (c .before .before .before .before .before .before .before .args .t .next) ρ (c .loop-at .result)) (begun (c .before .before)) (c .loop-at .ensures)
 
-exit-is : (c : tie.After-exit-of) → ExitAt (now (c .before .before .before .before .before .before .before .before .before .args .text)) (rowsOf (now (c .before .before .before .before .before .before .before .before .before .args .rows))) (c .before .before .before .before .before .before .before .before .before .args .count) (c .before .before .before .before .before .before .before .before .before .args .i) (startAt (now (c .before .before .before .before .before .before .before .before .before .args .text)) (rowsOf (now (c .before .before .before .before .before .before .before .before .before .args .rows))) (c .before .before .before .before .before .before .before .before .before .args .i) (envOf (now (c .before .before .before .before .before .before .before .before .before .args .r)))) (c .exit-of .result)
-exit-is c =
-    let one = one-is (c .before .before) in
-    let x = c .exit-of .ensures in
+exit-is : {counts : PassCounts} {x : Exit} (c : tie.After-loop-at) → ExitOf (c .loop-at .result) counts x → let a = c .before .before .before .before .before .before .before .args in
+    ExitAt (now (a .text)) (rowsOf (now (a .rows))) (a .count) (a .t .next) (startAt (now (a .text)) (rowsOf (now (a .rows))) (a .t .next) (envOf (now (a .r)))) x
+exit-is c x =
+    let one = one-is (c) in
     record {
       tested = x .tested ∙ one .tested;
       small = rw (x .tested) (one .small);
       mine = x .mine ∙ ap outerOf (one .trip);
       sets = λ w. ap (λ l. setOf l w) (x .sets) ∙ one .sets w;
-      ends = rw (x .next) (one .ends);
     }
 
 inside-requires : tie.Need-inside-requires
@@ -65,74 +67,74 @@ inside-requires c κs = (c .before .before .before .before .before .before .befo
 
 returns : tie.Need-returns
 returns c =
-    let i = c .before .before .before .before .before .before .before .before .before .before .before .before .before .before .args .i in
-    let f = subst (FigureOf (tripOf (c .before .before .before .before .before .before .before .loop-at .result .trip))) (c .before .before .number .given .1) (c .before .before .before .before .ask .ensures) in
-    record {
-      begun = λ z. absurd (trip-number i (tripOf (c .before .before .before .before .before .before .before .loop-at .result .trip)) _ _ (f i) (sym (c .refused .ensures .0) ∙ z));
-      exit = exit-is (c .before .before .before .before .before);
-      stopped = λ h. ap (ofTrip i) (sym (one-is (c .before .before .before .before .before .before .before) .trip)) ∙ f i ∙ (λ j. refused (sym (c .refused .ensures .0) j) (sym (c .refused .ensures .1) j));
-      whole = λ z. absurd (trip-number i (tripOf (c .before .before .before .before .before .before .before .loop-at .result .trip)) _ _ (f i) (sym (c .refused .ensures .0) ∙ z));
+    let i = c .before .before .before .before .before .before .before .before .before .before .before .before .before .before .args .t .next in
+    let f = subst (FigureOf (tripOf (c .before .before .before .before .before .before .before .loop-at .result .trip))) (c .before .before .before .number .given .1) (c .before .before .before .before .before .ask .ensures) in
+    λ os. record {
+      begun = λ z. absurd (trip-number i (tripOf (c .before .before .before .before .before .before .before .loop-at .result .trip)) _ _ (f i) (sym (ap (λ (x : Tally). x .number) (c .refused .ensures)) ∙ z));
+      exit = exit-is (c .before .before .before .before .before .before .before) (c .before .exit-of .ensures);
+      stopped = λ h. ap (ofTrip i) (sym (one-is (c .before .before .before .before .before .before .before) .trip)) ∙ f i ∙ (λ j. refused (sym (c .refused .ensures) j .number) (sym (c .refused .ensures) j .place));
+      whole = λ z. absurd (trip-number i (tripOf (c .before .before .before .before .before .before .before .loop-at .result .trip)) _ _ (f i) (sym (ap (λ (x : Tally). x .number) (c .refused .ensures)) ∙ z));
     }
 
 -- its figure: it has passed, and its turns
-figure : (c : tie.After-known-told2) → FigureOf (tripOf (c .before .before .before .before .before .before .loop-at .result .trip)) (Figure.Turns (c .before .turns .given .0 .0))
-figure c = subst (FigureOf (tripOf (c .before .before .before .before .before .before .loop-at .result .trip))) (c .before .turns .given .1) (c .before .before .before .ask .ensures)
+figure : (c : tie.After-known-told2) → FigureOf (tripOf (c .before .before .before .before .before .loop-at .result .trip)) (Figure.Turns (c .before .turns .given .0 .0))
+figure c = subst (FigureOf (tripOf (c .before .before .before .before .before .loop-at .result .trip))) (c .before .turns .given .1) (c .before .before .before .ask .ensures)
 
 walked-requires : tie.Need-walked-requires
 walked-requires c κs =
-    let s = c .before .before .before .before .before .before .before .before .before .before .before .before .before .before in
+    let s = c .before .before .before .before .before .before .before .before .before .before .before .before .before in
     let l = s .pre .0 in
-    (c .before .before .before .before .before .before .before .loop-at .ensures .near, figure (c .before) .0, s .pre .1, (now (s .args .text), rw (c .before .before .before .before .before .before .before .before .before .before .before .kind-at .ensures) (l .ready .written _ (l .inside))))
+    (c .before .before .before .before .before .before .loop-at .ensures .near, figure (c .before) .0, s .pre .1, (now (s .args .text), rw (c .before .before .before .before .before .before .before .before .before .before .kind-at .ensures) (l .ready .written _ (l .inside))))
 
 times-requires : tie.Need-times-requires
-times-requires c κs = c .before .before .before .before .before .before .before .before .before .before .before .before .before .before .before .pre .1 .small
+times-requires c κs = c .before .before .before .before .before .before .before .before .before .before .before .before .before .before .pre .1 .small
 
 body-requires : tie.Need-body-requires
-body-requires c κs = (c .before .before .before .before .before .before .before .before .before .loop-at .ensures .near, c .before .before .before .before .before .before .before .before .before .loop-at .ensures .small, omega (arith, c .times .ensures), c .before .before .before .before .before .before .before .before .before .before .before .before .before .before .before .before .pre .1)
+body-requires c κs = (c .before .before .before .before .before .before .before .before .loop-at .ensures .near, c .before .before .before .before .before .before .before .before .loop-at .ensures .small, omega (arith, c .times .ensures), c .before .before .before .before .before .before .before .before .before .before .before .before .before .before .before .pre .1)
 
 -- the body's last row, in all passes that are walked
 last : (c : tie.After-struct-known) → c .before .before .body .result .count * c .before .last-ticks .result ≤ 4_096 * 1_000
 last c =
-    let s = c .before .before .before .before .before .before .before .before .before .before .before .before .before .before .before .before .before .before .before in
-    mul-le-mul (c .before .before .body .ensures .1 .few) (let z : c .before .last-ticks .result ≤ 1_000 = omega (arith, c .before .last-ticks .ensures (now (s .args .text)), last-small (s .pre .2) (now (s .args .text)) (c .before .before .before .before .before .before .before .before .before .before .before .before .before .before .before .before .kind-at .result)) in z)
+    let s = c .before .before .before .before .before .before .before .before .before .before .before .before .before .before .before .before .before .before in
+    mul-le-mul (c .before .before .body .ensures .1 .few) (let z : c .before .last-ticks .result ≤ 1_000 = omega (arith, c .before .last-ticks .ensures (now (s .args .text)), last-small (s .pre .2) (now (s .args .text)) (c .before .before .before .before .before .before .before .before .before .before .before .before .before .before .before .kind-at .result)) in z)
 
 mul-spent : tie.Need-mul-spent
 mul-spent c = let h = last c in omega arith
 
 lined-requires : tie.Need-lined-requires
-lined-requires c κs = let p = c .before .before .before .before .before .before .before .before .before .before .before .before .before .before .before .before .before .before .before .before .pre in (p .3, p .4, c .before .before .before .before .before .before .before .before .before .before .before .before .before .loop-at .ensures .near)
+lined-requires c κs = let p = c .before .before .before .before .before .before .before .before .before .before .before .before .before .before .before .before .before .before .before .pre in (p .3, omega (arith, p .0 .inside, p .0 .ready .few), p .4, c .before .before .before .before .before .before .before .before .before .before .before .before .loop-at .ensures .near)
 
 returns-2 : tie.Need-returns-2
-returns-2 c =
+returns-2 c = λ os.
     let a = c .before .before .before .before .before .before .before .before .before .before .before .before .before .before .before .before .before .before .before .before .before .before .before .before .args in
     let text = now (a .text) in
     let rows = rowsOf (now (a .rows)) in
     let p = c .before .before .before .before .before .before .before .before .before .before .before .before .before .before .before .before .before .before .before .before .before .before .before .before .pre .0 in
     let r = a .round in
     let one = one-is (c .before .before .before .before .before .before .before .before .before .before .before .before .before .before .before .before .before) in
-    let f = figure (c .before .before .before .before .before .before .before .before .before .before .before) in
+    let f = figure (c .before .before .before .before .before .before .before .before .before .before .before .before) in
     let kd = c .before .before .before .before .before .before .before .before .before .before .before .before .before .before .before .before .before .before .before .before .before .kind-at .ensures in
     let tr = one .trip in
     let tu = f .1 ∙ ap turnsOf tr in
-    let ke = c .before .before .before .before .before .before .before .before .before .before .kept-at .ensures text ∙ ap (λ (k : Kind). a .t .kept && not (starts (r .v) (formOf text k) (testOf text k))) kd in
-    let W = walkedAt text r (a .t .kept) (kindAt rows (a .i)) (tripAt text rows (a .count) (a .i) (envOf (now (a .r)))) in
-    let al : c .before .before .before .before .before .before .before .before .before .walked .result ≡ capped W = c .before .before .before .before .before .before .before .before .before .walked .ensures text (rw kd (p .ready .written _ (p .inside)))
+    let ke = c .before .before .before .before .before .before .before .before .before .before .before .kept-at .ensures text ∙ ap (λ (k : Kind). a .t .kept && not (starts (r .v) (formOf text k) (testOf text k))) kd in
+    let W = walkedAt text r (a .t .kept) (kindAt rows (a .t .next)) (tripAt text rows (a .count) (a .t .next) (envOf (now (a .r)))) in
+    let al : c .before .before .before .before .before .before .before .before .before .before .walked .result ≡ capped W = c .before .before .before .before .before .before .before .before .before .before .walked .ensures text (rw kd (p .ready .written _ (p .inside)))
     ∙ (λ j. capped (walkedBy (roundOf r) (passIn r (ke j)) (formOf text (kd j)) (testOf text (kd j) .limit) (tr j) (tu j))) in
-    let to : c .before .before .before .before .before .before .before .before .times .result ≡ capped (W * r .times) = c .before .before .before .before .before .before .before .before .times .ensures ∙ ap (λ z. capped (z * r .times)) al ∙ omega (arith, cap-times W (r .times) 0) in
-    let b = c .before .before .before .before .before .before .before .body .ensures in
-    let l = c .before .before .before .lined .ensures in
-    let n = c .before .before .before .before .before .before .before .body .result .count in
-    let k = c .before .before .pass-counts .ensures in
+    let to : c .before .before .before .before .before .before .before .before .before .times .result ≡ capped (W * r .times) = c .before .before .before .before .before .before .before .before .before .times .ensures ∙ ap (λ z. capped (z * r .times)) al ∙ omega (arith, cap-times W (r .times) 0) in
+    let b = c .before .before .before .before .before .before .before .before .body .ensures in
+    let l = c .before .before .before .before .lined .ensures os in
+    let n = c .before .before .before .before .before .before .before .before .body .result .count in
+    let k = c .before .before .before .pass-counts .ensures in
     record {
       begun = λ z. record { long = c .inside .ensures .long; value = c .inside .ensures .value ∙ ap (widened (c .before .before .before .before .before .before .before .before .before .before .before .before .before .before .before .before .before .loop-at .result) (innerOf (tripOf (c .before .before .before .before .before .before .before .before .before .before .before .before .before .before .before .before .before .loop-at .result .trip)))) (begun (c .before .before .before .before .before .before .before .before .before .before .before .before .before .before .before .before .before .before .before)) ∙ inside-is one };
-      exit = exit-is (c .before .before .before .before .before .before .before .before .before .before .before .before .before .before .before);
+      exit = exit-is (c .before .before .before .before .before .before .before .before .before .before .before .before .before .before .before .before .before) (c .before .before .exit-of2 .ensures);
       stopped = λ h. absurd (h (l .number));
       whole = λ z. record {
-        verdict = ap (ofTrip (a .i)) (sym tr) ∙ f .0 (a .i);
+        verdict = ap (ofTrip (a .t .next)) (sym tr) ∙ f .0 (a .t .next);
         round = b .0 ∙ (λ j. bodyOf (tr j) (one .tested j) (tu j) (to j) r);
         fine = b .1;
-        ran = record { own = k .own ∙ ap (cond (c .before .before .before .before .before .before .before .body .result .known) 1) tu; all = k .all ∙ ap (cond (c .before .before .before .before .before .before .before .body .result .known) (r .count)) al; tests = k .tests };
-        lined = lined-is tr tu to (ap (λ m. n * m) (c .before .before .before .before .before .before .last-ticks .ensures text ∙ ap (lastTicks text (a .prices)) kd)) l;
+        ran = rw (c .before .before .exit-of2 .ensures .ran) (record { own = k .own ∙ ap (cond (c .before .before .before .before .before .before .before .before .body .result .known) 1) tu; all = k .all ∙ ap (cond (c .before .before .before .before .before .before .before .before .body .result .known) (r .count)) al; tests = k .tests });
+        lined = lined-is tr tu to (ap (λ m. n * m) (c .before .before .before .before .before .before .before .last-ticks .ensures text ∙ ap (lastTicks text (a .prices)) kd)) l;
       };
     }
 
@@ -143,7 +145,7 @@ enter-loop-spec =
     (λ c κs. row-in (now (c .before .before .args .rows)) _ (search needs))
     at-start-requires
     loop-at-requires
-    (λ c κs. search needs) (λ c κs. search needs) (λ c. search needs) (λ c κs. search needs)
+    (λ c κs. search needs) (λ c. search needs) (λ c κs. search needs) (λ c κs. search needs)
     (λ c. search needs) (λ c κs. search needs)
     walked-requires
     times-requires
@@ -151,7 +153,7 @@ enter-loop-spec =
     (λ c κs. search needs)
     mul-spent
     lined-requires
-    (λ c κs. search needs)
+    (λ c κs. search needs) (λ c κs. search needs)
     inside-requires
     returns
     returns-2)

@@ -5,7 +5,7 @@ use Rattle.analysis_entries.proofs.exit_of.Statement.{statement}
 use Rattle.analysis_entries.proofs.exit_of.Tie as tie
 
 returns : tie.Need-returns
-returns c = record { tested = refl; mine = c .outer .ensures; sets = refl; next = refl }
+returns c = record { tested = refl; mine = c .outer .ensures; sets = refl; ran = refl }
 
 pub exit-of-spec : {M : Type 1} → statement M
 exit-of-spec = tie.close (tie.spec (λ c κs. search needs) returns)

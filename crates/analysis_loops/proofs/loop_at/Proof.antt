@@ -59,7 +59,6 @@ returns c =
       small = h .small;
       sets = b .sets;
       near = subst (EndsWithin 512) (sym (ap (λ (τ : Trip). τ .step) r)) (near-is (c .before .before .way-of .result) (testOf text k .tested) body ρ _ _ _ _ _ _ (way .moves) (b .near));
-      ends = b .ends;
     }
 
 pub loop-at-spec : {M : Type 1} → statement M

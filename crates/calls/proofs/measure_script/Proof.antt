@@ -16,31 +16,33 @@ prices-of-requires : tie.Need-prices-of-requires
 prices-of-requires c κs = four _ (c .before .before .before .before .pre .1)
 
 analyse-requires : tie.Need-analyse-requires
-analyse-requires c κs = let s = c .before .before .before .before .before .before in analyse-asks _ _ _ _ (s .pre .0) (fine (s .args .prices .now) (s .pre .1) (c .before .prices-of .ensures)) (search needs)
+analyse-requires c κs = let s = c .before .before .before .before .before .before .before in analyse-asks _ _ _ _ (s .pre .0) (fine (s .args .prices .now) (s .pre .1) (c .before .before .prices-of .ensures)) (search needs)
 
 -- what the analysis found of it
-found : (c : tie.After-analyse) → let s = c .before .before .before .before .before .before .before in FiguresFound (s .args .prices .now) (script s) (s .args .script .count) (c .analyse .result) (c .analyse .last .1 .1 .1 .1 .1 .1 .0)
-found c = let s = c .before .before .before .before .before .before .before in found-by _ _ _ _ (s .pre .0) (s .args .prices .now) (c .before .before .prices-of .ensures) (c .analyse .result) _ (c .analyse .ensures)
+found : (c : tie.After-analyse) → let s = c .before .before .before .before .before .before .before .before in FiguresFound (s .args .prices .now) (script s) (s .args .script .count) (c .analyse .result) (c .analyse .last .1 .1 .1 .1 .1 .1 .0)
+found c = let s = c .before .before .before .before .before .before .before .before in found-by _ _ _ _ (s .pre .0) (s .args .prices .now) (c .before .before .before .prices-of .ensures) (c .analyse .result) _ (c .analyse .ensures (s .args .script .vars) (s .pre .0 .legal, s .pre .0 .blank) .0)
 
 returns : tie.Need-returns
 returns c =
-    let s = c .before .before .before .before .before .before .before .before .before in
-    let f = c .before .before .analyse in
+    let s = c .before .before .before .before .before .before .before .before .before .before .before in
+    let f = c .before .before .before .analyse in
     let h : f .result .number ≡ 0 → ⊥ = search needs in
-    not-reported (s .args .prices .now) (script s) (s .args .script .count) (f .result) _ (found (c .before .before)) h _
+    not-reported (s .args .prices .now) (script s) (s .args .script .count) (f .result) _ (found (c .before .before .before)) h _
 
 write-report-requires : tie.Need-write-report-requires
 write-report-requires c κs =
-    let f = c .before .before .before .before .analyse in
+    let s = c .before in
+    let f = c .before .before .before .before .before .analyse in
     let z : f .result .number ≡ 0 = search needs in
-    record { few = f .ensures .loops z; long = f .ensures .long z }
+    let k = f .ensures (s .args .script .vars) (s .pre .0 .legal, s .pre .0 .blank) .0 in
+    record { few = k .loops z; long = k .long z }
 
 returns-2 : tie.Need-returns-2
 returns-2 c =
-    let s = c .before .before .before .before .before .before .before .before .before .before .before .before .before .before in
-    let f = c .before .before .before .before .before .before .before .analyse in
+    let s = c .before .before .before .before .before .before .before .before .before .before .before .before .before .before .before .before in
+    let f = c .before .before .before .before .before .before .before .before .analyse in
     let z : f .result .number ≡ 0 = search needs in
-    reported (s .args .prices .now) (script s) (s .args .script .count) (f .result) _ (found (c .before .before .before .before .before .before .before)) z _ _ _ (c .before .before .write-report .ensures)
+    reported (s .args .prices .now) (script s) (s .args .script .count) (f .result) _ (found (c .before .before .before .before .before .before .before .before)) z _ _ _ (c .before .before .write-report .ensures)
 
 pub measure-script-spec : {M : Type 1} → statement M
-measure-script-spec = tie.close (tie.spec prices-of-requires analyse-requires returns write-report-requires (λ c. search needs) returns-2)
+measure-script-spec = tie.close (tie.spec prices-of-requires (λ c. search needs) analyse-requires returns write-report-requires (λ c. search needs) returns-2)

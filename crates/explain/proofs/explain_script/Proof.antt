@@ -11,7 +11,7 @@ explain-rows-requires : tie.Need-explain-rows-requires
 explain-rows-requires c κs =
     let s = c .before .before .before .before in
     let a = analyse-asks _ _ _ _ (s .pre .0) (fine (s .args .prices .now) (s .pre .1) (c .prices-of .ensures)) (s .pre .1) in
-    record { legal = a .0; rows = a .1; held = a .2; few = s .pre .0 .few; blank = a .3; prices = a .4; short = a .6; written = a .7 }
+    record { legal = s .pre .0 .legal; rows = a .1; held = a .2; few = s .pre .0 .few; blank = s .pre .0 .blank; prices = a .3; short = a .5; written = a .6 }
 
 pub explain-script-spec : {M : Type 1} → statement M
 explain-script-spec = tie.close (tie.spec prices-of-requires explain-rows-requires (λ c. search needs))
