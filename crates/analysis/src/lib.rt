@@ -110,7 +110,8 @@ fn walk_block(
     t: Tally,
     r: &mut [[i32; 2]; 16],
 ) -> Tally
-    requires { ⌜ AtBlock (now text) (script .prices) (rowsOf (now rows)) (script .count) (t .next) (shapeOf (kindAt (rowsOf (now rows)) (t .next))) round
+    requires { ⌜ AtBlock (now text) (script .prices) (rowsOf (now rows)) (script .count) (t .next)
+        (shapeOf (kindAt (rowsOf (now rows)) (t .next))) round
         (withLent t (now lines) (now own)) (now r) × IsBlock (shapeOf (kindAt (rowsOf (now rows)) (t .next))) ⌝ }
     ensures { λ x. ⌜ PastBlock (now (text .entry)) (script .prices) (rowsOf (now (rows .entry))) (script .count) (t .next)
         (envOf (now (r .entry))) round (withLent t (now (lines .entry)) (now (own .entry)))
@@ -224,7 +225,7 @@ pub struct Figures {
     pub loops: usize,
 }
 
-// The first `count` rows and the ranges of a script that has passed the questions 4 to 7. `own` gets the own ticks of each block at its head
+// The first `count` rows and the ranges of a script that has passed the questions 4 to 7. `own` gets each block's own ticks at its head
 // row, as far as it goes.
 pub fn analyse(
     text: &[u8],

@@ -26,7 +26,8 @@ ghost use Rattle.table.specs.Code.{kindAt, rowsOf};
 ghost use Rattle.table.specs.Shapes.{shapeOf, plainOf};
 ghost use Rattle.analysis_trips.specs.Found.{tripOf};
 ghost use Rattle.analysis_passes.specs.Rounds.{FineRound};
-ghost use Rattle.analysis_tallies.specs.Tallies.{withLent, lastTicks, PlainNext, PastPlain, Restarted, LinePut, ClosedBy, PickClosed, refusedBy};
+ghost use Rattle.analysis_tallies.specs.Tallies.{withLent, lastTicks, PlainNext, PastPlain};
+ghost use Rattle.analysis_tallies.specs.Tallies.{Restarted, LinePut, ClosedBy, PickClosed, refusedBy};
 
 // What a walk has found: a refusal of 19 or 8 to 12 (number 0: none), whether the variable of the loop round the block is known and not
 // assigned so far, the first block over the limit (256: none), the ticks of all passes of one entry of that loop, how many lines there

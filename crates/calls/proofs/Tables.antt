@@ -9,7 +9,7 @@ use Rattle.rules.specs.declared.Prices.{Prices}
 use Rattle.rules.specs.Written.{Written}
 use Rattle.rules.specs.Bounds.{FinePrices}
 use Rattle.rules.specs.Calls.{pricesOf, Priced}
-use Rattle.rules.specs.Scripts.{BlankFrom, scriptOf, Legal}
+use Rattle.rules.specs.Scripts.{scriptOf}
 use Rattle.rules.proofs.Laws.{kinds-first}
 use Rattle.rules.proofs.Demand3File.{prices-pass, fine-prices}
 use Rattle.table.specs.Code.{rowsOf, kindAt}

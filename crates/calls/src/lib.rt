@@ -41,7 +41,9 @@ pub fn measure_script(
     buffer: &mut [u8],
 ) -> Measured
     requires { ⌜ Given (now text) (now rows) script ranges × Priced (now prices) ⌝ }
-    ensures { λ r. ⌜ MeasuredAs (now (prices .entry)) (judgedScript (now (prices .entry)) (readScript (now (text .entry)) (now (rows .entry)) script ranges)) (now (buffer .entry)) (now (buffer .exit)) r ⌝ }
+    ensures { λ r. ⌜ MeasuredAs (now (prices .entry))
+        (judgedScript (now (prices .entry)) (readScript (now (text .entry)) (now (rows .entry)) script ranges)) (now (buffer .entry))
+        (now (buffer .exit)) r ⌝ }
 {
     let none: [u64; 7] = [0; 7];
     let mut lines = [none; 16];
@@ -132,7 +134,8 @@ fn run_accepted(
     allowance: u64,
 ) -> Outcome
     requires { ⌜ MayRun (now text) prices (now rows) count (now store) allowance ⌝ }
-    ensures { λ r. ⌜ RanAs (ranRows prices (scriptIn (now (text .entry)) (now (rows .entry)) count) (now (store .entry)) (now (picks .entry)) allowance) (now (store .entry)) (now (store .exit)) r ⌝ }
+    ensures { λ r. ⌜ RanAs (ranRows prices (scriptIn (now (text .entry)) (now (rows .entry)) count) (now (store .entry))
+        (now (picks .entry)) allowance) (now (store .entry)) (now (store .exit)) r ⌝ }
 {
     let mut turns: [[u64; 3]; 16] = [[0; 3]; 16];
     let ran = runner::run_rows(
@@ -169,7 +172,8 @@ fn figures_of(
     prices: Prices,
 ) -> Figures
     requires { ⌜ Given (now text) (now rows) script ranges × FinePrices prices ⌝ }
-    ensures { λ r. ⌜ ((lines : List (List ℕ)) × AnalysisOf prices (readScript (now (text .entry)) (now (rows .entry)) script ranges) (script .count) r lines) ⌝ }
+    ensures { λ r. ⌜ ((lines : List (List ℕ)) × AnalysisOf prices (readScript (now (text .entry)) (now (rows .entry)) script ranges)
+        (script .count) r lines) ⌝ }
 {
     let none: [u64; 7] = [0; 7];
     let mut lines = [none; 16];
@@ -195,7 +199,8 @@ pub fn ask_script(
     store: &[i32],
 ) -> Verdict
     requires { ⌜ Given (now text) (now rows) script ranges × Priced (now prices) ⌝ }
-    ensures { λ r. ⌜ r ≡ admitted (judgedScript (now (prices .entry)) (readScript (now (text .entry)) (now (rows .entry)) script ranges)) (now (store .entry)) ⌝ }
+    ensures { λ r. ⌜ r ≡ admitted (judgedScript (now (prices .entry))
+        (readScript (now (text .entry)) (now (rows .entry)) script ranges)) (now (store .entry)) ⌝ }
 {
     let by_kind = prices_of(prices);
     let figures = figures_of(text, rows, script, ranges, by_kind);
@@ -217,8 +222,12 @@ pub fn run_script(
     allowance: u64,
 ) -> Outcome
     requires { ⌜ Given (now text) (now rows) script ranges × Priced (now prices) ⌝ }
-    ensures run { λ r. ⌜ RanAs (runReply (now (prices .entry)) (judgedScript (now (prices .entry)) (readScript (now (text .entry)) (now (rows .entry)) script ranges)) (now (store .entry)) (now (picks .entry)) allowance) (now (store .entry)) (now (store .exit)) r ⌝ }
-    ensures demand3 { λ r. ⌜ Demand3Of (now (prices .entry)) (judgedScript (now (prices .entry)) (readScript (now (text .entry)) (now (rows .entry)) script ranges)) (now (store .entry)) (now (picks .entry)) allowance (r .ending) (r .ticks) (take (r .loops) (r .counts)) ⌝ }
+    ensures run { λ r. ⌜ RanAs (runReply (now (prices .entry))
+        (judgedScript (now (prices .entry)) (readScript (now (text .entry)) (now (rows .entry)) script ranges)) (now (store .entry))
+        (now (picks .entry)) allowance) (now (store .entry)) (now (store .exit)) r ⌝ }
+    ensures demand3 { λ r. ⌜ Demand3Of (now (prices .entry))
+        (judgedScript (now (prices .entry)) (readScript (now (text .entry)) (now (rows .entry)) script ranges)) (now (store .entry))
+        (now (picks .entry)) allowance (r .ending) (r .ticks) (take (r .loops) (r .counts)) ⌝ }
 {
     let by_kind = prices_of(prices);
     let figures = figures_of(text, rows, script, ranges, by_kind);

@@ -1,5 +1,5 @@
-// explain [prices=A,C,P,T] [FILE ..]: prints each script, or the one on standard input, row by row with its figures in a margin; of a refused file the row or line, the
-// cause and the remedy. The prices are four ones if they are not given.
+// explain [prices=A,C,P,T] [FILE ..]: prints each script, or the one on standard input, row by row with its figures in a margin; of a
+// refused file the row or line, the cause and the remedy. The prices are four ones if they are not given.
 mod refusal;
 mod remedies;
 mod show;

@@ -38,7 +38,8 @@ fn exact_or_most(exact: bool) -> u64
 // A report line's figures, at its loop's head.
 fn put_line(figures: &mut [[u64; 4]; 256], line: LoopLine)
     requires { ⌜ length (now figures) ≡ 256 ⌝ }
-    ensures { λ _. ⌜ (now (figures .exit) ≡ set (now (figures .entry)) (line .row) (lineFigures line)) × (length (now (figures .exit)) ≡ 256) ⌝ }
+    ensures { λ _. ⌜ (now (figures .exit) ≡ set (now (figures .entry)) (line .row) (lineFigures line))
+        × (length (now (figures .exit)) ≡ 256) ⌝ }
 {
     let row = line.row;
     if row < 256 {
@@ -49,7 +50,8 @@ fn put_line(figures: &mut [[u64; 4]; 256], line: LoopLine)
 // Those of all report lines.
 pub fn put_lines(lines: &[[u64; 7]; 16], loops: usize, figures: &mut [[u64; 4]; 256])
     requires { ⌜ (loops ≤ 16) × (length (now lines) ≡ 16) × (length (now figures) ≡ 256) ⌝ }
-    ensures { λ _. ⌜ (now (figures .exit) ≡ putLines (take loops (linesIn (now (lines .entry)))) (now (figures .entry))) × (length (now (figures .exit)) ≡ 256) ⌝ }
+    ensures { λ _. ⌜ (now (figures .exit) ≡ putLines (take loops (linesIn (now (lines .entry)))) (now (figures .entry)))
+        × (length (now (figures .exit)) ≡ 256) ⌝ }
 {
     let mut k: usize = 0;
     while k < loops {
@@ -75,7 +77,8 @@ pub fn is_head(rows: &[u32], i: usize) -> bool
 // The ticks of one pass of row i's block, beside its other figures.
 fn put_own(figures: &mut [[u64; 4]; 256], i: usize, ticks: u64)
     requires { ⌜ (i < 256) × (length (now figures) ≡ 256) ⌝ }
-    ensures { λ _. ⌜ (now (figures .exit) ≡ set (now (figures .entry)) i (ticksBeside (getD (now (figures .entry)) i []) ticks)) × (length (now (figures .exit)) ≡ 256) ⌝ }
+    ensures { λ _. ⌜ (now (figures .exit) ≡ set (now (figures .entry)) i (ticksBeside (getD (now (figures .entry)) i []) ticks))
+        × (length (now (figures .exit)) ≡ 256) ⌝ }
 {
     let turns = figures[i][TURNS];
     let total = figures[i][TOTAL];
@@ -86,7 +89,8 @@ fn put_own(figures: &mut [[u64; 4]; 256], i: usize, ticks: u64)
 // The ticks of one pass of the block that each row begins, 0 if it begins none, beside the row's other figures.
 pub fn put_ticks(own: &[u64; 256], figures: &mut [[u64; 4]; 256])
     requires { ⌜ (length (now own) ≡ 256) × (length (now figures) ≡ 256) ⌝ }
-    ensures { λ _. ⌜ (now (figures .exit) ≡ putTicks (now (own .entry)) 256 (now (figures .entry))) × (length (now (figures .exit)) ≡ 256) ⌝ }
+    ensures { λ _. ⌜ (now (figures .exit) ≡ putTicks (now (own .entry)) 256 (now (figures .entry)))
+        × (length (now (figures .exit)) ≡ 256) ⌝ }
 {
     let mut i: usize = 0;
     while i < 256 {

@@ -178,7 +178,7 @@ module _ (π : Prices) (rows : List RowKind) (matching-end matching-head : ℕ �
     pub stop : next π rows matching-end matching-head m ≡ over Spent i (m .now) (m .tally)
     pub carried : m .now .left < dearest π
 
-  waits-next : (m : Place) (i : ℕ) (s : State) (c : TurnCounts) → next π rows matching-end matching-head m ≡ over Spent i s c → (s ≡ m .now) × (c ≡ m .tally) × Waits m i
+  pub waits-next : (m : Place) (i : ℕ) (s : State) (c : TurnCounts) → next π rows matching-end matching-head m ≡ over Spent i s c → (s ≡ m .now) × (c ≡ m .tally) × Waits m i
   waits-next m i s c e =
       let (p, q, l) = spent (subst (λ x. Step π 0 (m .now) (m .tally) x (next π rows matching-end matching-head (given 0 m))) e (step-next π 0 rows matching-end matching-head m)) in
       (p, q, record { stop = e ∙ (λ k. over Spent i (p k) (q k)); carried = l })

@@ -6,6 +6,7 @@ use rules::Change;
 use rules::Comparison;
 use rules::Kind;
 use rules::Operand;
+use rules::Prices;
 ghost use mathlib.Core.Path.{_≡_};
 ghost use mathlib.Core.List.{List};
 ghost use Prim.Native.Nat.{ℕ, _+_, _-_, _*_, _≤_, _<_};
@@ -20,6 +21,12 @@ ghost use Rattle.table.specs.Shapes.{shapeOf, pastElse, Assigns};
 ghost use Rattle.table.specs.Packing.{OperandCoded, ComparisonCoded, ChangeCoded, FirstIs, TestRow, Stands, NumbersPut, RowPut};
 ghost use Rattle.table.specs.Paired.{columnsIn, PartnerPut, EndsWith, EndPut, roleOf, headOf, numberOf, pushedOn, poppedOff};
 ghost use Rattle.table.specs.Paired.{Ready, NextPut};
+
+// How many rows a script in a table has, and what each kind of row takes.
+pub struct PricedRows {
+    pub count: usize,
+    pub prices: Prices,
+}
 
 // A number as an index.
 fn wide(x: u32) -> usize

@@ -9,9 +9,9 @@ analyse-requires c κs = let s = c .before .before .before .before in analyse-as
 
 returns : tie.Need-returns
 returns c =
-    let s = c .before in
+    let s = c .before .before .before .before .before .before in
     let g = s .pre .0 in
-    (_, c .analyse .ensures (s .args .script .vars) (g .legal, g .blank) .0)
+    (_, c .before .analyse .ensures (s .args .script .vars) (g .legal, g .blank) .0)
 
 pub figures-of-spec : {M : Type 1} → statement M
 figures-of-spec = tie.close (tie.spec (λ c. search needs) analyse-requires returns)

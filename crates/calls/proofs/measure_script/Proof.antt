@@ -19,7 +19,7 @@ analyse-requires : tie.Need-analyse-requires
 analyse-requires c κs = let s = c .before .before .before .before .before .before .before in analyse-asks _ _ _ _ (s .pre .0) (fine (s .args .prices .now) (s .pre .1) (c .before .before .prices-of .ensures)) (search needs)
 
 -- what the analysis found of it
-found : (c : tie.After-analyse) → let s = c .before .before .before .before .before .before .before .before in FiguresFound (s .args .prices .now) (script s) (s .args .script .count) (c .analyse .result) (c .analyse .last .1 .1 .1 .1 .1 .1 .0)
+found : (c : tie.After-analyse) → let s = c .before .before .before .before .before .before .before .before in FiguresFound (s .args .prices .now) (script s) (s .args .script .count) (c .analyse .result) (c .analyse .last .1 .1 .1 .1 .1 .0)
 found c = let s = c .before .before .before .before .before .before .before .before in found-by _ _ _ _ (s .pre .0) (s .args .prices .now) (c .before .before .before .prices-of .ensures) (c .analyse .result) _ (c .analyse .ensures (s .args .script .vars) (s .pre .0 .legal, s .pre .0 .blank) .0)
 
 returns : tie.Need-returns
@@ -31,7 +31,7 @@ returns c =
 
 write-report-requires : tie.Need-write-report-requires
 write-report-requires c κs =
-    let s = c .before in
+    let s = c .before .before .before .before .before .before .before .before .before .before .before .before .before in
     let f = c .before .before .before .before .before .analyse in
     let z : f .result .number ≡ 0 = search needs in
     let k = f .ensures (s .args .script .vars) (s .pre .0 .legal, s .pre .0 .blank) .0 in

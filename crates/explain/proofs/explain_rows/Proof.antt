@@ -11,7 +11,7 @@ analyse-requires c κs =
 
 put-lines-requires : tie.Need-put-lines-requires
 put-lines-requires c κs =
-    let s = c .before in
+    let s = c .before .before .before .before .before .before .before .before .before .before in
     let f = c .before .before .before .before .before .analyse in
     let z : f .result .number ≡ 0 = search needs in
     let k = f .ensures (s .args .vars) (s .pre .legal, s .pre .blank) .0 in

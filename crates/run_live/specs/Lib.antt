@@ -1,0 +1,2 @@
+-- One step of a live run in code.
+pub mod Goes
