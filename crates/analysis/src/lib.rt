@@ -11,6 +11,7 @@ use analysis_ticks::LIMIT;
 use analysis_transfer::joined;
 use analysis_transfer::step_row;
 use rules::Prices;
+use table::PricedRows;
 use table::Shape;
 use table::past_else;
 use table::shape_at;
@@ -25,12 +26,6 @@ ghost use Rattle.analysis_intervals.specs.Env.{envOf};
 ghost use Rattle.analysis_tallies.specs.Tallies.{withLent};
 ghost use Rattle.analysis.specs.Fold.{Walkable, Analysed, IsBlock, AtBlock, PastBlock};
 ghost use Rattle.analysis.specs.Whole.{FirstNo, LegalRows, FoundOf};
-
-// How many rows a script has, and what each kind of row takes.
-struct PricedRows {
-    count: usize,
-    prices: Prices,
-}
 
 // The pick at row t.next, from the ranges before it to those after it: its two parts by the walk.
 fn walk_pick(

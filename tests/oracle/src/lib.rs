@@ -1,12 +1,13 @@
 //! A second implementation of document 01 in plain Rust, written from its text alone, to compare the
 //! proved one with and to time it against. A refusal is the question's number and its place.
-//! In force are the change requests of document 02 that the code names.
+//! In force are the change requests of documents 02 and 03 that the code names.
 
 pub mod analyse;
 pub mod desk;
 pub mod explain;
 pub mod expression;
 pub mod frames;
+pub mod live;
 pub mod prices;
 pub mod reach;
 pub mod read;

@@ -41,6 +41,9 @@ pub trait Listener {
     /// A price is taken; all ticks so far.
     #[inline]
     fn tick(&mut self, _: u64) {}
+    /// A cue is fired, its price taken.
+    #[inline]
+    fn cue(&mut self, _: u32) {}
 }
 
 /// Nobody.
@@ -192,8 +195,9 @@ pub fn run<E: Listener, P: Picks>(
                 change!(*v, by, r);
                 r += 1;
             }
-            Row::Cue { .. } => {
+            Row::Cue { n } => {
                 tick!(cue, r);
+                listener.cue(*n as u32);
                 r += 1;
             }
             Row::Off { v, w, compare, c } => {
