@@ -6,31 +6,30 @@ use lib.IntN.{ℤ}
 use lib.ListN.{length}
 use Rattle.rules.specs.declared.Row.{Row}
 use Rattle.rules.specs.declared.Prices.{Prices}
+use Rattle.rules.specs.declared.Verdict.{Verdict}
+use Rattle.rules.specs.declared.Verdict.the-variants.{Passed as passed, Refused as refused}
 use Rattle.rules.specs.Questions.{verdict}
 use Rattle.rules.specs.Scripts.{Script, startEnv, treeOf, scriptOf, BlankFrom, Legal, reportTicks, reportLines}
 use Rattle.analysis_lines.specs.Coded.{firstLines}
-use Rattle.analysis_turns.specs.Verdicts.{verdictOf}
 use Rattle.analysis_tallies.specs.declared.Tally.{Tally}
 use Rattle.analysis.specs.Own.{OwnPut}
-use Rattle.analysis.specs.declared.Refusal.{Refusal}
 use Rattle.analysis.specs.declared.Figures.{Figures}
 
 -- the first question that has no, from what the walk found
-pub data FirstNo (t : Tally) (count : ℕ) (r : Refusal) : Type 0 where
-  of-loop : (t .number ≡ 0 → ⊥) → r .number ≡ t .number → r .place ≡ t .place → FirstNo t count r
-  of-block : t .number ≡ 0 → t .over < 256 → r .number ≡ 13 → r .place ≡ t .over → FirstNo t count r
-  of-file : t .number ≡ 0 → 256 ≤ t .over → 1_000_000_000_000 < t .spent → r .number ≡ 13 → r .place ≡ count → FirstNo t count r
-  none : t .number ≡ 0 → 256 ≤ t .over → t .spent ≤ 1_000_000_000_000 → r .number ≡ 0 → r .place ≡ 0 → FirstNo t count r
+pub data FirstNo (t : Tally) (count : ℕ) (r : Verdict) : Type 0 where
+  of-loop : (t .number ≡ 0 → ⊥) → r ≡ refused (t .number) (t .place) → FirstNo t count r
+  of-block : t .number ≡ 0 → t .over < 256 → r ≡ refused 13 (t .over) → FirstNo t count r
+  of-file : t .number ≡ 0 → 256 ≤ t .over → 1_000_000_000_000 < t .spent → r ≡ refused 13 count → FirstNo t count r
+  none : t .number ≡ 0 → 256 ≤ t .over → t .spent ≤ 1_000_000_000_000 → r ≡ passed → FirstNo t count r
 
--- number and place are the verdict; of an accepted file, the place is 0, and the ticks and the lines are the report's; of a refused one there are none
+-- of an accepted file, the ticks and the lines are the report's; of a refused one there are none
 pub record AnalysisOf (π : Prices) (script : Script) (rows : ℕ) (s : Figures) (table : List (List ℕ)) : Type 0 where
-  pub verdict : verdict π rows (startEnv (script .ranges)) (treeOf (script .rows)) ≡ verdictOf (s .number) (s .place)
-  pub place : s .number ≡ 0 → s .place ≡ 0
-  pub ticks : s .number ≡ 0 → s .ticks ≡ reportTicks π script
-  pub loops : s .number ≡ 0 → s .loops ≤ 16
-  pub long : s .number ≡ 0 → length table ≡ 16
-  pub lines : s .number ≡ 0 → firstLines table (s .loops) ≡ reportLines script
-  pub none : (s .number ≡ 0 → ⊥) → (s .ticks ≡ 0) × (s .loops ≡ 0)
+  pub verdict : verdict π rows (startEnv (script .ranges)) (treeOf (script .rows)) ≡ s .verdict
+  pub ticks : s .verdict ≡ passed → s .ticks ≡ reportTicks π script
+  pub loops : s .verdict ≡ passed → s .loops ≤ 16
+  pub long : s .verdict ≡ passed → length table ≡ 16
+  pub lines : s .verdict ≡ passed → firstLines table (s .loops) ≡ reportLines script
+  pub none : (s .verdict ≡ passed → ⊥) → (s .ticks ≡ 0) × (s .loops ≡ 0)
 
 -- the first `count` rows and the first `vars` ranges are a script that has passed the questions 4 to 7
 abbrev pub LegalRows : List ℕ → List (List ℤ) → List Row → ℕ → ℕ → Type 0

@@ -11,6 +11,7 @@ use analysis_ticks::LIMIT;
 use analysis_transfer::joined;
 use analysis_transfer::step_row;
 use rules::Prices;
+use rules::Verdict;
 use table::PricedRows;
 use table::Shape;
 use table::past_else;
@@ -157,38 +158,20 @@ fn walk(
     t
 }
 
-// The first question that has no, 0 for none, and its place.
-struct Refusal {
-    number: u32,
-    place: usize,
-}
-
 // 19 and 8 to 12 before 13; of 13 the first block before the file.
-fn first_no(t: Tally, count: usize) -> Refusal
+fn first_no(t: Tally, count: usize) -> Verdict
     ensures { λ r. ⌜ FirstNo t count r ⌝ }
 {
     if t.number != 0 {
-        return Refusal {
-            number: t.number,
-            place: t.place,
-        };
+        return Verdict::Refused(t.number, t.place);
     }
     if t.over < 256 {
-        return Refusal {
-            number: 13,
-            place: t.over,
-        };
+        return Verdict::Refused(13, t.over);
     }
     if t.spent <= LIMIT {
-        return Refusal {
-            number: 0,
-            place: 0,
-        };
+        return Verdict::Passed;
     }
-    Refusal {
-        number: 13,
-        place: count,
-    }
+    Verdict::Refused(13, count)
 }
 
 // The one pass of a file's rows.
@@ -212,10 +195,9 @@ const EMPTY: Tally = Tally {
     next: 0,
 };
 
-// The questions 19 and 8 to 13 of a file (number 0: all have yes), and the report's figures; all 0 for a refused file.
+// The questions 19 and 8 to 13 of a file, and the report's figures, 0 for a refused file.
 pub struct Figures {
-    pub number: u32,
-    pub place: usize,
+    pub verdict: Verdict,
     pub ticks: u64,
     pub loops: usize,
 }
@@ -243,19 +225,17 @@ pub fn analyse(
     };
     let mut r = ranges;
     let t = walk(text, rows, script, ALONE, lines, own, EMPTY, &mut r);
-    let no = first_no(t, count);
-    if no.number != 0 {
-        return Figures {
-            number: no.number,
-            place: no.place,
+    let verdict = first_no(t, count);
+    match verdict {
+        Verdict::Passed => Figures {
+            verdict: verdict,
+            ticks: t.spent,
+            loops: t.loops,
+        },
+        Verdict::Refused(_, _) => Figures {
+            verdict: verdict,
             ticks: 0,
             loops: 0,
-        };
-    }
-    Figures {
-        number: no.number,
-        place: no.place,
-        ticks: t.spent,
-        loops: t.loops,
+        },
     }
 }

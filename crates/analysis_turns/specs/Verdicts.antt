@@ -1,16 +1,10 @@
--- A question's verdict, and what one loop's figure says.
+-- What one loop's figure says.
 use mathlib.Core.Path.{_≡_}
-use Prim.Native.Nat.{ℕ, zero, suc}
+use Prim.Native.Nat.{ℕ}
 use Rattle.rules.specs.Trips.{Trip, turnsOf}
-use Rattle.rules.specs.declared.Verdict.{Verdict}
 use Rattle.rules.specs.declared.Verdict.the-variants.{Passed as passed, Refused as refused}
 use Rattle.rules.specs.Questions.{ofTrip}
 use Rattle.analysis_turns.specs.declared.Figure.{Figure}
-
--- the verdict of a question's number, 0 for none, at row i
-unfoldable pub verdictOf : ℕ → ℕ → Verdict
-verdictOf zero i = passed
-verdictOf (suc n) i = refused (suc n) i
 
 -- a trip's figure: its turns if it passed, else the number of its refusal
 abbrev pub FigureOf : Trip → Figure → Type 0

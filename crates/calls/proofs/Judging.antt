@@ -1,12 +1,13 @@
 -- What the analysis' figures say of the two calls. Assumes nothing.
-use mathlib.Core.Path.{_≡_, refl, sym, _∙_, ap}
+use mathlib.Core.Path.{_≡_, sym, _∙_, ap}
 use mathlib.Core.List.{List}
-use Prim.Native.Nat.{ℕ, zero, suc, _≤_}
+use Prim.Native.Nat.{ℕ, _≤_}
 use native.Mathlib.Omega.{arith}
 use lib.Dec.{leb, leb→le}
 use lib.ListN.{length}
 use Rattle.rules.specs.declared.Reply.{Reply}
 use Rattle.rules.specs.declared.Reply.the-variants.{Refused}
+use Rattle.rules.specs.declared.Verdict.{Verdict}
 use Rattle.rules.specs.declared.Verdict.the-variants.{Passed as passed}
 use Rattle.rules.specs.Questions.{tickLimit, verdict}
 use Rattle.rules.specs.Scripts.{Script, startEnv, treeOf, reportTicks, Legal, Accepted}
@@ -14,27 +15,21 @@ use Rattle.rules.specs.Report.{reportText, scriptReport}
 use Rattle.analysis_lines.specs.Coded.{firstLines}
 use Rattle.rules.specs.Calls.{accepted, refuses, judgedBy, pricesOf, bufferReply, written, replyOf, bufferOf}
 use Rattle.rules.proofs.Accepted.{then-yes, asked-yes}
-use Rattle.analysis_turns.specs.Verdicts.{verdictOf}
 use Rattle.analysis.specs.declared.Figures.{Figures}
 use Rattle.calls.specs.Held.{judgedScript, FiguresFound}
 use Rattle.calls.specs.Told.{judgedTicks, MeasuredAs}
 
-by-number : (script : Script) (n p : ℕ) → (n ≡ 0 → ⊥) → judgedBy script (verdictOf n p) ≡ refuses n p
-unfolding verdictOf judgedBy
-by-number script zero p h = absurd (h refl)
-by-number script (suc n) p h = refl
-
 module _ (prices : List ℕ) (script : Script) (count : ℕ) (s : Figures) (ls : List (List ℕ)) (found : FiguresFound prices script count s ls) where
-  asked : verdict (pricesOf prices) (length (script .rows)) (startEnv (script .ranges)) (treeOf (script .rows)) ≡ verdictOf (s .number) (s .place)
+  asked : verdict (pricesOf prices) (length (script .rows)) (startEnv (script .ranges)) (treeOf (script .rows)) ≡ s .verdict
   asked = ap (λ n. verdict (pricesOf prices) n (startEnv (script .ranges)) (treeOf (script .rows))) (found .long) ∙ found .figures .verdict
 
-  pub judged-no : (s .number ≡ 0 → ⊥) → judgedScript prices script ≡ refuses (s .number) (s .place)
-  judged-no h = ap (judgedBy script) asked ∙ by-number script (s .number) (s .place) h
+  pub judged-no : {n p : ℕ} → s .verdict ≡ Verdict.Refused n p → judgedScript prices script ≡ refuses n p
+  unfolding judgedBy
+  judged-no h = ap (judgedBy script) (asked ∙ h)
 
-  module _ (z : s .number ≡ 0) where
+  module _ (z : s .verdict ≡ passed) where
     passes : verdict (pricesOf prices) (length (script .rows)) (startEnv (script .ranges)) (treeOf (script .rows)) ≡ passed
-    unfolding verdictOf
-    passes = asked ∙ ap (λ n. verdictOf n (s .place)) z
+    passes = asked ∙ z
 
     pub judged-yes : judgedScript prices script ≡ accepted script
     unfolding judgedBy
@@ -69,7 +64,7 @@ module _ (prices : List ℕ) (script : Script) (count : ℕ) (s : Figures) (ls :
     }
 
   -- a refusal leaves the buffer
-  pub not-reported : (s .number ≡ 0 → ⊥) → (old : List ℕ) → MeasuredAs prices (judgedScript prices script) old old (record { reply = Refused (s .number) (s .place); ticks = 0 })
+  pub not-reported : {n p : ℕ} → s .verdict ≡ Verdict.Refused n p → (old : List ℕ) → MeasuredAs prices (judgedScript prices script) old old (record { reply = Refused n p; ticks = 0 })
   unfolding replyOf bufferOf
   not-reported h old = record {
     reply = ap (λ j. replyOf prices j (length old)) (sym (judged-no h));

@@ -32,11 +32,11 @@ refused-as {reply} {q} {p} {store} {o} e t = subst (λ r. RanAs r store store o)
 
 module _ (prices : List ℕ) (script : Script) (count : ℕ) (s : Figures) (ls : List (List ℕ)) (found : FiguresFound prices script count s ls) (store : List ℤ) (picks : List ℕ) (allowance : ℕ) where
   -- refused by 8 to 13
-  pub ran-no : (s .number ≡ 0 → ⊥) → (o : Outcome) → ToldNo o (s .number) (s .place) → RanAs (runReply prices (judgedScript prices script) store picks allowance) store store o
+  pub ran-no : {n p : ℕ} → s .verdict ≡ Refused n p → (o : Outcome) → ToldNo o n p → RanAs (runReply prices (judgedScript prices script) store picks allowance) store store o
   unfolding runReply
   ran-no h o t = refused-as (ap (λ j. runReply prices j store picks allowance) (judged-no prices script count s ls found h)) t
 
-  module _ (z : s .number ≡ 0) (v : Verdict) (asked : v ≡ storeVerdict 0 (script .ranges) store) where
+  module _ (z : s .verdict ≡ Passed) (v : Verdict) (asked : v ≡ storeVerdict 0 (script .ranges) store) where
     replied : (w : Verdict) → v ≡ w → runReply prices (judgedScript prices script) store picks allowance ≡ stored (pricesOf prices) script w store picks allowance
     unfolding runReply
     replied w e = ap (λ j. runReply prices j store picks allowance) (judged-yes prices script count s ls found z) ∙ ap (λ x. stored (pricesOf prices) script x store picks allowance) (sym asked ∙ e)
@@ -66,7 +66,7 @@ module _ (prices : List ℕ) (script : Script) (count : ℕ) (s : Figures) (ls :
 
 -- the run of the rows is the answer
 pub ran-all : (prices : List ℕ) → Priced prices → (π : Prices) → π ≡ pricesOf prices → (script : Script) (count : ℕ) (s : Figures) (ls : List (List ℕ)) → FiguresFound prices script count s ls
-    → (store : List ℤ) (picks : List ℕ) (allowance : ℕ) → s .number ≡ 0 → (v : Verdict) → v ≡ storeVerdict 0 (script .ranges) store → v ≡ Passed → Legal script
+    → (store : List ℤ) (picks : List ℕ) (allowance : ℕ) → s .verdict ≡ Passed → (v : Verdict) → v ≡ storeVerdict 0 (script .ranges) store → v ≡ Passed → Legal script
     → (least : ℕ) → least ≡ min allowance (s .ticks) → (new : List ℤ) (o : Outcome)
     → RanAs (ranRows π (script .rows) store picks least) store new o → RanAs (runReply prices (judgedScript prices script) store picks allowance) store new o
 unfolding ranScript runScript

@@ -51,8 +51,9 @@ pub fn measure_script(
     let by_kind = prices_of(prices);
     let count = script.count;
     let figures = analysis::analyse(text, rows, count, ranges, by_kind, &mut lines, &mut own);
-    if figures.number != 0 {
-        let no = Reply::Refused(figures.number, figures.place);
+    let verdict = figures.verdict;
+    if let Verdict::Refused(number, place) = verdict {
+        let no = Reply::Refused(number, place);
         return Measured {
             reply: no,
             ticks: 0,
@@ -204,10 +205,11 @@ pub fn ask_script(
 {
     let by_kind = prices_of(prices);
     let figures = figures_of(text, rows, script, ranges, by_kind);
-    if figures.number != 0 {
-        return Verdict::Refused(figures.number, figures.place);
+    let verdict = figures.verdict;
+    match verdict {
+        Verdict::Passed => ask_store(script.vars, &ranges, store),
+        Verdict::Refused(_, _) => verdict,
     }
-    ask_store(script.vars, &ranges, store)
 }
 
 // The run call: the questions 19, 8 to 13 and 15, and the run. A refusal leaves the store as it was.
@@ -231,8 +233,9 @@ pub fn run_script(
 {
     let by_kind = prices_of(prices);
     let figures = figures_of(text, rows, script, ranges, by_kind);
-    if figures.number != 0 {
-        return refusal(figures.number, figures.place);
+    let verdict = figures.verdict;
+    if let Verdict::Refused(number, place) = verdict {
+        return refusal(number, place);
     }
     let asked = ask_store(script.vars, &ranges, &store[..]);
     match asked {

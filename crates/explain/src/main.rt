@@ -35,8 +35,9 @@ fn explain_rows(
     let mut lines = [none; 16];
     let mut own = [0u64; 256];
     let found = analysis::analyse(file, rows, count, ranges, prices, &mut lines, &mut own);
-    if found.number != 0 {
-        print_refused(file, vars, count, found.number, found.place);
+    let verdict = found.verdict;
+    if let Verdict::Refused(number, place) = verdict {
+        print_refused(file, vars, count, number, place);
         return;
     }
     let zero: [u64; 4] = [0; 4];

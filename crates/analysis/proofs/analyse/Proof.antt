@@ -6,13 +6,14 @@ use mathlib.Core.Path.{_≡_, refl}
 use Prim.Native.Nat.{ℕ, _≤_}
 use lib.ListN.{length}
 use denote.Ref.{now}
+use Rattle.rules.specs.declared.Verdict.the-variants.{Passed as passed}
 use Rattle.rules.specs.Report.{linesOf}
 use Rattle.table.specs.Code.{rowsOf}
 use Rattle.table.proofs.Laws.{rows-length}
 use Rattle.analysis_ticks.specs.Capped.{overOf}
 use Rattle.analysis.proofs.Legals.{ready, few-in}
 use Rattle.analysis.specs.Whole.{FoundOf}
-use Rattle.analysis.proofs.Results.{result, own-put}
+use Rattle.analysis.proofs.Results.{not-both, result, own-put}
 use Rattle.analysis.proofs.analyse.Statement.{statement}
 use Rattle.analysis.proofs.analyse.Tie as tie
 
@@ -40,8 +41,8 @@ walk-requires c κs =
 
 -- the answer, from its ticks and its number of lines
 answer : (c : tie.After-first-no) → let a = c .before .before .before .before .before .before .before .before .before .before .args in let f = c .first-no .result in let t = c .before .before .before .walk .result in
-    (n : ℕ) → (f .number ≡ 0 → n ≡ t .spent) → (k : ℕ) → (f .number ≡ 0 → k ≡ t .loops) → ((f .number ≡ 0 → ⊥) → (n ≡ 0) × (k ≡ 0))
-    → FoundOf (a .prices) (now (a .text)) (a .ranges) (rowsOf (now (a .rows))) (a .count) (record { number = f .number; place = f .place; ticks = n; loops = k }) (c .before .before .before .walk .last .1 .1 .1 .1 .0) (now (a .own)) (c .before .before .before .walk .last .1 .1 .1 .1 .1 .0)
+    (n : ℕ) → (f ≡ passed → n ≡ t .spent) → (k : ℕ) → (f ≡ passed → k ≡ t .loops) → ((f ≡ passed → ⊥) → (n ≡ 0) × (k ≡ 0))
+    → FoundOf (a .prices) (now (a .text)) (a .ranges) (rowsOf (now (a .rows))) (a .count) (record { verdict = f; ticks = n; loops = k }) (c .before .before .before .walk .last .1 .1 .1 .1 .0) (now (a .own)) (c .before .before .before .walk .last .1 .1 .1 .1 .1 .0)
 unfolding linesOf overOf
 answer c n u k v free vars l =
     let s = c .before .before .before .before .before .before .before .before .before .before in
@@ -57,7 +58,7 @@ analyse-spec =
     tie.close
     (tie.spec
     walk-requires
-    (λ c κs. search needs) (λ c. search needs)
-    (λ c. answer (c .before .before) _ (λ z. absurd (c .if1 .taken z)) _ (λ z. absurd (c .if1 .taken z)) (λ _. (refl, refl)))
+    (λ c κs. search needs) (λ c. search needs) (λ c. search needs) (λ c. search needs)
+    (λ c. answer (c .before .before) _ (λ _. refl) _ (λ _. refl) (λ h. absurd (h (c .enum-told .given .1))))
     (λ c. search needs)
-    (λ c. answer (c .before .before) _ (λ _. refl) _ (λ _. refl) (λ h. absurd (h (c .if1 .left)))))
+    (λ c. answer (c .before .before) _ (not-both (c .enum-told2 .given .1)) _ (not-both (c .enum-told2 .given .1)) (λ _. (refl, refl))))

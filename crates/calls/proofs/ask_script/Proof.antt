@@ -28,23 +28,20 @@ figures-of-requires c κs = let s = c .before .before .before .before in (s .pre
 found : (c : tie.After-figures-of) → let s = c .before .before .before .before .before in FiguresFound (s .args .prices .now) (script s) (s .args .script .count) (c .figures-of .result) (c .figures-of .ensures .0)
 found c = let s = c .before .before .before .before .before in found-by _ _ _ _ (s .pre .0) (s .args .prices .now) (c .before .prices-of .ensures) (c .figures-of .result) _ (c .figures-of .ensures .1)
 
-returns : tie.Need-returns
-returns c =
-    let s = c .before .before .before .before .before .before .before in
-    let f = c .before .before .figures-of in
-    let h : f .result .number ≡ 0 → ⊥ = search needs in
-    ap (λ j. admitted j (s .args .store .now)) (sym (judged-no (s .args .prices .now) (script s) (s .args .script .count) (f .result) _ (found (c .before .before)) h))
-
 ask-store-requires : tie.Need-ask-store-requires
 ask-store-requires c κs = let s = c .before .before .before .before .before .before .before .before in (s .pre .0 .few, full-ranges s)
 
-returns-2 : tie.Need-returns-2
+returns : tie.Need-returns
 unfolding scriptOf
-returns-2 c =
+returns c =
     let s = c .before .before .before .before .before .before .before .before .before in
-    let f = c .before .before .before .before .figures-of in
-    let z : f .result .number ≡ 0 = omega (arith, c .before .before .if1 .left) in
-    c .ask-store .ensures ∙ ap (λ j. admitted j (s .args .store .now)) (sym (judged-yes (s .args .prices .now) (script s) (s .args .script .count) (f .result) _ (found (c .before .before .before .before)) z))
+    c .ask-store .ensures ∙ ap (λ j. admitted j (s .args .store .now)) (sym (judged-yes (s .args .prices .now) (script s) (s .args .script .count) (c .before .before .before .before .figures-of .result) _ (found (c .before .before .before .before)) (c .before .before .enum-told .given .1)))
+
+returns-2 : tie.Need-returns-2
+returns-2 c =
+    let s = c .before .before .before .before .before .before .before in
+    let e = c .enum-told2 .given .1 in
+    e ∙ ap (λ j. admitted j (s .args .store .now)) (sym (judged-no (s .args .prices .now) (script s) (s .args .script .count) (c .before .before .figures-of .result) _ (found (c .before .before)) e))
 
 pub ask-script-spec : {M : Type 1} → statement M
-ask-script-spec = tie.close (tie.spec prices-of-requires figures-of-requires returns ask-store-requires returns-2)
+ask-script-spec = tie.close (tie.spec prices-of-requires figures-of-requires (λ c. search needs) ask-store-requires (λ c. search needs) returns returns-2)

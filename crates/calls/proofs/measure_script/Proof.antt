@@ -24,25 +24,31 @@ found c = let s = c .before .before .before .before .before .before .before .bef
 
 returns : tie.Need-returns
 returns c =
-    let s = c .before .before .before .before .before .before .before .before .before .before .before in
-    let f = c .before .before .before .analyse in
-    let h : f .result .number ≡ 0 → ⊥ = search needs in
-    not-reported (s .args .prices .now) (script s) (s .args .script .count) (f .result) _ (found (c .before .before .before)) h _
+    let s = c .before .before .before .before .before .before .before .before .before .before .before .before in
+    not-reported (s .args .prices .now) (script s) (s .args .script .count) (c .before .before .before .before .analyse .result) _ (found (c .before .before .before .before)) (c .before .verdict .given .1) _
 
 write-report-requires : tie.Need-write-report-requires
 write-report-requires c κs =
     let s = c .before .before .before .before .before .before .before .before .before .before .before .before .before in
-    let f = c .before .before .before .before .before .analyse in
-    let z : f .result .number ≡ 0 = search needs in
-    let k = f .ensures (s .args .script .vars) (s .pre .0 .legal, s .pre .0 .blank) .0 in
+    let z = c .before .before .enum-told .given .1 in
+    let k = c .before .before .before .before .before .analyse .ensures (s .args .script .vars) (s .pre .0 .legal, s .pre .0 .blank) .0 in
     record { few = k .loops z; long = k .long z }
 
 returns-2 : tie.Need-returns-2
 returns-2 c =
     let s = c .before .before .before .before .before .before .before .before .before .before .before .before .before .before .before .before in
-    let f = c .before .before .before .before .before .before .before .before .analyse in
-    let z : f .result .number ≡ 0 = search needs in
-    reported (s .args .prices .now) (script s) (s .args .script .count) (f .result) _ (found (c .before .before .before .before .before .before .before .before)) z _ _ _ (c .before .before .write-report .ensures)
+    reported (s .args .prices .now) (script s) (s .args .script .count) (c .before .before .before .before .before .before .before .before .analyse .result) _ (found (c .before .before .before .before .before .before .before .before)) (c .before .before .before .before .before .enum-told .given .1) _ _ _ (c .before .before .write-report .ensures)
 
 pub measure-script-spec : {M : Type 1} → statement M
-measure-script-spec = tie.close (tie.spec prices-of-requires (λ c. search needs) analyse-requires returns write-report-requires (λ c. search needs) returns-2)
+measure-script-spec =
+    tie.close
+    (tie.spec
+    prices-of-requires
+    (λ c. search needs)
+    analyse-requires
+    (λ c. search needs)
+    returns
+    (λ c. search needs)
+    write-report-requires
+    (λ c. search needs)
+    returns-2)

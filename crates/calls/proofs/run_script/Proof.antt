@@ -46,10 +46,10 @@ with-kept s o new r =
 
 returns : tie.Need-returns
 returns c =
-    let s = c .before .before .before .before .before .before .before .before .before in
-    let f = c .before .before .before .figures-of in
-    let h : f .result .number ≡ 0 → ⊥ = search needs in
-    with-kept s _ _ (ran-no (s .args .prices .now) (script s) (s .args .script .count) (f .result) _ (found (c .before .before .before)) (s .args .store .now) (s .args .picks .now) (s .args .allowance) h _ (c .refusal .ensures))
+    let s = c .before .before .before .before .before .before .before .before .before .before in
+    let f = c .before .before .before .before .figures-of in
+    let h = c .before .before .verdict .given .1 in
+    with-kept s _ _ (ran-no (s .args .prices .now) (script s) (s .args .script .count) (f .result) _ (found (c .before .before .before .before)) (s .args .store .now) (s .args .picks .now) (s .args .allowance) h _ (c .refusal .ensures))
 
 ask-store-requires : tie.Need-ask-store-requires
 ask-store-requires c κs = (c .before .before .before .before .before .before .before .before .before .before .pre .0 .few, full-ranges (c .before .before .before .before .before .before .before .before .before .before))
@@ -60,11 +60,11 @@ run-accepted-requires c κs =
     let s = c .before .before .before .before .before .before .before .before .before .before .before .before .before .before .before in
     let f = c .before .before .before .before .before .before .before .before .before .figures-of in
     let q = c .before .before .before .before .ask-store in
-    let z : f .result .number ≡ 0 = omega (arith, c .before .before .before .before .before .before .before .if1 .left) in
+    let z = c .before .before .before .before .before .before .before .enum-told .given .1 in
     let few = ticks-few (s .args .prices .now) (script s) (s .args .script .count) (f .result) _ (found (c .before .before .before .before .before .before .before .before .before)) z in
     may-run _ _ _ _ (s .pre .0)
     (fine (s .args .prices .now) (s .pre .1) (c .before .before .before .before .before .before .before .before .before .before .prices-of .ensures) .test .some)
-    (runs-from (s .args .prices .now) (script s) (s .args .script .count) (f .result) _ (found (c .before .before .before .before .before .before .before .before .before)) (s .args .store .now) (s .args .picks .now) (s .args .allowance) z (q .result) (q .ensures) (c .before .before .enum-told .given .1) (s .pre .0 .legal))
+    (runs-from (s .args .prices .now) (script s) (s .args .script .count) (f .result) _ (found (c .before .before .before .before .before .before .before .before .before)) (s .args .store .now) (s .args .picks .now) (s .args .allowance) z (q .result) (q .ensures) (c .before .before .enum-told2 .given .1) (s .pre .0 .legal))
     (omega (arith, c .smaller .ensures))
 
 returns-2 : tie.Need-returns-2
@@ -73,8 +73,8 @@ returns-2 c =
     let s = c .before .before .before .before .before .before .before .before .before .before .before .before .before .before .before .before .before in
     let f = c .before .before .before .before .before .before .before .before .before .before .before .figures-of in
     let q = c .before .before .before .before .before .before .ask-store in
-    let z : f .result .number ≡ 0 = omega (arith, c .before .before .before .before .before .before .before .before .before .if1 .left) in
-    with-kept s _ _ (ran-all (s .args .prices .now) (s .pre .1) _ (c .before .before .before .before .before .before .before .before .before .before .before .before .prices-of .ensures) (script s) (s .args .script .count) (f .result) _ (found (c .before .before .before .before .before .before .before .before .before .before .before)) (s .args .store .now) (s .args .picks .now) (s .args .allowance) z (q .result) (q .ensures) (c .before .before .before .before .enum-told .given .1) (s .pre .0 .legal) _ (c .before .before .smaller .ensures) _ _ (c .before .run-accepted .ensures))
+    let z = c .before .before .before .before .before .before .before .before .before .enum-told .given .1 in
+    with-kept s _ _ (ran-all (s .args .prices .now) (s .pre .1) _ (c .before .before .before .before .before .before .before .before .before .before .before .before .prices-of .ensures) (script s) (s .args .script .count) (f .result) _ (found (c .before .before .before .before .before .before .before .before .before .before .before)) (s .args .store .now) (s .args .picks .now) (s .args .allowance) z (q .result) (q .ensures) (c .before .before .before .before .enum-told2 .given .1) (s .pre .0 .legal) _ (c .before .before .smaller .ensures) _ _ (c .before .run-accepted .ensures))
 
 returns-3 : tie.Need-returns-3
 unfolding scriptOf
@@ -82,7 +82,7 @@ returns-3 c =
     let s = c .before .before .before .before .before .before .before .before .before .before .before .before .before .before .before in
     let f = c .before .before .before .before .before .before .before .before .before .figures-of in
     let q = c .before .before .before .before .ask-store in
-    let z : f .result .number ≡ 0 = omega (arith, c .before .before .before .before .before .before .before .if1 .left) in
+    let z = c .before .before .before .before .before .before .before .enum-told .given .1 in
     with-kept s _ _ (ran-out (s .args .prices .now) (script s) (s .args .script .count) (f .result) _ (found (c .before .before .before .before .before .before .before .before .before)) (s .args .store .now) (s .args .picks .now) (s .args .allowance) z (q .result) (q .ensures) _ _ (c .before .before .asked .given .1) _ (c .refusal2 .ensures))
 
 pub run-script-spec : {M : Type 1} → statement M
@@ -91,8 +91,9 @@ run-script-spec =
     (tie.spec
     prices-of-requires
     figures-of-requires
-    (λ c κs. search needs)
+    (λ c. search needs) (λ c κs. search needs)
     returns
+    (λ c. search needs)
     ask-store-requires
     (λ c. search needs) (λ c κs. search needs)
     run-accepted-requires

@@ -1,5 +1,4 @@
 -- `explain::explain_rows` is safe: what the analysis found of an accepted script can be put. Assumes nothing.
-use mathlib.Core.Path.{_≡_}
 use borrow.Author.Needs.{needs}
 use Rattle.explain.proofs.explain_rows.Statement.{statement}
 use Rattle.explain.proofs.explain_rows.Tie as tie
@@ -12,10 +11,16 @@ analyse-requires c κs =
 put-lines-requires : tie.Need-put-lines-requires
 put-lines-requires c κs =
     let s = c .before .before .before .before .before .before .before .before .before .before in
-    let f = c .before .before .before .before .before .analyse in
-    let z : f .result .number ≡ 0 = search needs in
-    let k = f .ensures (s .args .vars) (s .pre .legal, s .pre .blank) .0 in
+    let z = c .before .before .enum-told .given .1 in
+    let k = c .before .before .before .before .before .analyse .ensures (s .args .vars) (s .pre .legal, s .pre .blank) .0 in
     (k .loops z, k .long z, search needs)
 
 pub explain-rows-spec : {M : Type 1} → statement M
-explain-rows-spec = tie.close (tie.spec (λ c. search needs) analyse-requires (λ c κs. search needs) (λ c. search needs) put-lines-requires (λ c κs. search needs) (λ c κs. search needs) (λ c. search needs))
+explain-rows-spec =
+    tie.close
+    (tie.spec
+    (λ c. search needs)
+    analyse-requires
+    (λ c. search needs) (λ c κs. search needs) (λ c. search needs) (λ c. search needs)
+    put-lines-requires
+    (λ c κs. search needs) (λ c κs. search needs) (λ c. search needs))
