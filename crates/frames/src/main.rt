@@ -1,11 +1,12 @@
-// frames [prices=A,C,P,T] Q [FILE PICKS VALUES] ..: runs up to 8 script files together, Q ticks a frame, and prints of each the frame that it finished in and its run as
-// `rehearse` does, and the most ticks that all together took in one frame. The prices are four ones if they are not given. PICKS is a word of 0 and 1 or `-`, and VALUES
-// the store, numbers with commas between them, or `-`.
+// frames [prices=A,C,P,T] Q [FILE PICKS VALUES] ..: runs up to 8 script files together, Q ticks a frame, and prints of each the frame that
+// it finished in and its run as `rehearse` does, and the most ticks that all together took in one frame. The prices are four ones if they
+// are not given. PICKS is a word of 0 and 1 or `-`, and VALUES the store, numbers with commas between them, or `-`.
 use calls_frames::Frames;
 use calls_frames::Played;
 use loader::SCRATCH;
-use program_lists::PricesWord;
+use program_lists::Lent;
 use program_lists::Values;
+use program_parts::WORD;
 use program_parts::print_text;
 use program_words::Number;
 use rules::Verdict;
@@ -21,6 +22,7 @@ pub enum Words {
     Right,
     NoFile,
     NoPicks,
+    ManyPicks,
     NoValue(usize),
 }
 
@@ -47,7 +49,7 @@ fn wrong(words: Words) -> Share
 fn read_last(i: usize, file: usize, picks: usize, store: &mut [i32]) -> Share
     ensures { λ r. ⌜ (r .file ≤ file) × (r .picks ≤ picks) × (r .values ≤ length (now (store .entry))) ⌝ }
 {
-    let mut word = io::buffer();
+    let mut word = [0u8; WORD];
     let n = os::arg(i, &mut word);
     let values = program_lists::read_word_values(&word[..n], store);
     match values {
@@ -66,11 +68,14 @@ fn read_picks(i: usize, file: usize, picks: &mut [u8], store: &mut [i32]) -> Sha
     requires { ⌜ i ≤ 100 ⌝ }
     ensures { λ r. ⌜ (r .file ≤ file) × (r .picks ≤ length (now (picks .entry))) × (r .values ≤ length (now (store .entry))) ⌝ }
 {
-    let mut word = [0u8; 131072];
+    let mut word = [0u8; WORD];
     let n = os::arg(i, &mut word);
     let count = program_words::pick_count(&word[..n], &picks[..]);
     if program_words::put_picks(&word[..n], &mut picks[0..count]) {
         return read_last(i + 1, file, count, store);
+    }
+    if n > picks.len() {
+        return wrong(Words::ManyPicks);
     }
     wrong(Words::NoPicks)
 }
@@ -78,9 +83,10 @@ fn read_picks(i: usize, file: usize, picks: &mut [u8], store: &mut [i32]) -> Sha
 // Reads the file that argument i names, the picks and the values after it.
 fn read_script(i: usize, file: &mut [u8], picks: &mut [u8], store: &mut [i32]) -> Share
     requires { ⌜ i ≤ 99 ⌝ }
-    ensures { λ r. ⌜ (r .file ≤ length (now (file .entry))) × (r .picks ≤ length (now (picks .entry))) × (r .values ≤ length (now (store .entry))) ⌝ }
+    ensures { λ r. do
+      ⌜ (r .file ≤ length (now (file .entry))) × (r .picks ≤ length (now (picks .entry))) × (r .values ≤ length (now (store .entry))) ⌝ }
 {
-    let mut path = io::buffer();
+    let mut path = [0u8; WORD];
     let n = os::arg(i, &mut path);
     let input = program_parts::read_file(&path[..n], file);
     if input.failed {
@@ -94,11 +100,43 @@ fn is_right(words: Words) -> bool {
         Words::Right => true,
         Words::NoFile => false,
         Words::NoPicks => false,
+        Words::ManyPicks => false,
         Words::NoValue(_) => false,
     }
 }
 
-// Reads the words of all scripts, from argument `first` on, one after the other into what is lent; what they take in all, or the first wrong word.
+// Prints which script it is.
+fn print_which(k: usize) {
+    print_text(b"script=");
+    program_parts::print_number(k as u64);
+    print_text(b"\n");
+}
+
+// Says of a script's words, from argument i on, which is wrong.
+fn print_wrong_words(i: usize, words: Words)
+    requires { ⌜ i ≤ 99 ⌝ }
+{
+    let mut word = [0u8; WORD];
+    match words {
+        Words::Right => {}
+        Words::NoFile => {
+            let n = os::arg(i, &mut word);
+            program_parts::print_unread(&word[..n]);
+        }
+        Words::NoPicks => {
+            let n = os::arg(i + 1, &mut word);
+            program_parts::print_wrong_picks(&word[..n]);
+        }
+        Words::ManyPicks => print_text(b"error=too many picks: 131072 are taken in all\n"),
+        Words::NoValue(at) => {
+            let n = os::arg(i + 2, &mut word);
+            program_parts::print_wrong_listed(at, &word[..n], b',');
+        }
+    }
+}
+
+// Reads the words of all scripts, from argument `first` on, one after the other into what is lent; what they take in all, or the first
+// wrong word, of which it says so.
 fn read_scripts(
     first: usize,
     scripts: usize,
@@ -109,7 +147,8 @@ fn read_scripts(
     stores: &mut [i32],
     store_lengths: &mut [usize],
 ) -> Share
-    requires { ⌜ (first ≤ 3) × (scripts ≤ 8) × (length (now files) ≡ 131_080) × (length (now picks) ≡ 131_072) × (length (now stores) ≡ 136) ⌝ }
+    requires { do
+      ⌜ (first ≤ 3) × (scripts ≤ 8) × (length (now files) ≡ 131_080) × (length (now picks) ≡ 131_072) × (length (now stores) ≡ 136) ⌝ }
     requires { ⌜ (length (now «file_lengths») ≡ 8) × (length (now «pick_lengths») ≡ 8) × (length (now «store_lengths») ≡ 8) ⌝ }
     ensures { λ r. ⌜ (r .file ≤ 131_080) × (r .picks ≤ 131_072) × (r .values ≤ 136) ⌝ }
 {
@@ -129,6 +168,8 @@ fn read_scripts(
         );
         let words = part.words;
         if !is_right(words) {
+            print_which(k);
+            print_wrong_words(first + 3 * k, words);
             return wrong(words);
         }
         file_lengths[k] = part.file;
@@ -150,9 +191,8 @@ fn read_scripts(
 // Prints script k's answer: its number, its frame, and its run.
 fn print_script(k: usize, p: Played, store: &[i32]) {
     let o = p.outcome;
-    print_text(b"script=");
-    program_parts::print_number(k as u64);
-    print_text(b"\nframe=");
+    print_which(k);
+    print_text(b"frame=");
     program_parts::print_number(p.frame);
     print_text(b"\n");
     program_parts::print_outcome(o, store);
@@ -176,13 +216,50 @@ fn print_scripts(f: Frames, stores: &[i32], lengths: &[usize]) {
     print_text(b"\n");
 }
 
-// Prints what a call of frames answers.
-fn print_frames(f: Frames, stores: &[i32], lengths: &[usize]) {
-    let verdict = f.verdict;
+// Whether a script alone is refused; its run takes no tick.
+fn is_refused(file: &[u8], prices: &[u32], store: &mut [i32]) -> bool {
+    let none = [0u8; 1];
+    let mut scratch = [0u32; SCRATCH];
+    let o = loader::run(file, prices, &mut scratch, store, &none, 0);
+    let verdict = o.verdict;
     match verdict {
-        Verdict::Passed => print_scripts(f, stores, lengths),
-        Verdict::Refused(number, place) => program_parts::print_refusal(number, place),
+        Verdict::Passed => false,
+        Verdict::Refused(_, _) => true,
     }
+}
+
+// Which script of a refused call is refused: the first that is refused alone.
+fn refused_script(
+    files: &[u8],
+    file_lengths: &[usize],
+    stores: &mut [i32],
+    store_lengths: &[usize],
+    prices: &[u32],
+) -> usize {
+    let mut file: usize = 0;
+    let mut value: usize = 0;
+    let mut k: usize = 0;
+    while k < file_lengths.len() && k < store_lengths.len() {
+        let file_to = file + min_max::smaller_size(file_lengths[k], files.len() - file);
+        let value_to = value + min_max::smaller_size(store_lengths[k], stores.len() - value);
+        if is_refused(&files[file..file_to], prices, &mut stores[value..value_to]) {
+            return k;
+        }
+        file = file_to;
+        value = value_to;
+        k += 1;
+    }
+    k
+}
+
+// Prints a refusal. 20 and 16 are of the call; any other is of a script, and which it is stands before it.
+fn print_refused(number: u32, place: usize, script: usize) {
+    if number != 20 {
+        if number != 16 {
+            print_which(script);
+        }
+    }
+    program_parts::print_refusal(number, place);
 }
 
 // The call, and what it prints.
@@ -208,7 +285,14 @@ fn play(
         q,
         &mut scratch,
     );
-    print_frames(f, stores, store_lengths);
+    let verdict = f.verdict;
+    match verdict {
+        Verdict::Passed => print_scripts(f, stores, store_lengths),
+        Verdict::Refused(number, place) => {
+            let script = refused_script(files, file_lengths, stores, store_lengths, prices);
+            print_refused(number, place, script);
+        }
+    }
 }
 
 // Reads the words of so many scripts from argument `first` on into what is lent, and plays them.
@@ -224,7 +308,8 @@ fn read_and_play(
     prices: &[u32],
     q: u64,
 )
-    requires { ⌜ (first ≤ 3) × (scripts ≤ 8) × (length (now files) ≡ 131_080) × (length (now picks) ≡ 131_072) × (length (now stores) ≡ 136) ⌝ }
+    requires { do
+      ⌜ (first ≤ 3) × (scripts ≤ 8) × (length (now files) ≡ 131_080) × (length (now picks) ≡ 131_072) × (length (now stores) ≡ 136) ⌝ }
     requires { ⌜ (length (now «file_lengths») ≡ 8) × (length (now «pick_lengths») ≡ 8) × (length (now «store_lengths») ≡ 8) ⌝ }
 {
     let all = read_scripts(
@@ -252,9 +337,10 @@ fn read_and_play(
             prices,
             q,
         ),
-        Words::NoFile => program_parts::cannot_read(),
-        Words::NoPicks => program_parts::print_wrong_picks(),
-        Words::NoValue(at) => program_parts::print_wrong_value(at),
+        Words::NoFile => {}
+        Words::NoPicks => {}
+        Words::ManyPicks => {}
+        Words::NoValue(_) => {}
     }
 }
 
@@ -282,8 +368,26 @@ fn with_room(first: usize, scripts: usize, prices: &[u32], q: u64)
     );
 }
 
+fn form() {
+    print_text(b"frames [prices=A,C,P,T] Q [FILE PICKS VALUES] ..\n");
+}
+
 fn usage() {
-    print_text(b"error=usage: frames [prices=A,C,P,T] Q [FILE PICKS VALUES] ..\n");
+    print_text(b"error=usage: ");
+    form();
+}
+
+fn help() {
+    form();
+    print_text(
+        b"runs up to 8 scripts together, Q ticks a frame, 1 to 1000000, and prints of each its frame and its run\n",
+    );
+    print_text(
+        b"PICKS: a word of 0 and 1, or - for none; VALUES: the store, numbers with commas between them, or -\n",
+    );
+    print_text(
+        b"example: frames 20 examples/listing.eff - 0,1 examples/lantern.eff 1111111111 1,100\n",
+    );
 }
 
 // Plays the scripts whose words are the arguments from `first` on, three a script; more than a call can be lent are refused, as it would.
@@ -306,11 +410,11 @@ fn start(first: usize, arguments: usize, prices: &[u32], q: u64)
     with_room(first, scripts, prices, q);
 }
 
-// Reads Q, argument `at`. A Q of more than 20 bytes is no number, and is read as empty.
+// Reads Q, argument `at`.
 fn read_q(at: usize, arguments: usize, prices: &[u32])
     requires { ⌜ at ≤ 2 ⌝ }
 {
-    let mut word = [0u8; 20];
+    let mut word = [0u8; WORD];
     let n = os::arg(at, &mut word);
     if arguments <= at {
         usage();
@@ -319,19 +423,29 @@ fn read_q(at: usize, arguments: usize, prices: &[u32])
     let q = program_words::read_number(&word[..n]);
     match q {
         Number::Is(ticks) => start(at + 1, arguments, prices, ticks),
-        Number::Malformed => print_text(b"error=Q is not a number\n"),
+        Number::Malformed => program_parts::print_wrong_ticks(&word[..n]),
+    }
+}
+
+// Reads the prices, if the first argument has them.
+fn read_prices(arguments: usize) {
+    let mut word = [0u8; WORD];
+    let n = os::arg(1, &mut word);
+    let ones = [1u32; 4];
+    let mut prices = [1u32; 5];
+    let lent = program_lists::lend_prices(&word[..n], &mut prices);
+    match lent {
+        Lent::Nothing => read_q(1, arguments, &ones),
+        Lent::Count(k) => read_q(2, arguments, &prices[..k]),
+        Lent::Wrong(at) => program_parts::print_wrong_price(at, &word[..n]),
     }
 }
 
 fn main() {
     let arguments = os::arg_count();
-    let mut word = io::buffer();
-    let n = os::arg(1, &mut word);
-    let mut prices = [1u32; 4];
-    let lent = program_lists::read_prices(&word[..n], &mut prices);
-    match lent {
-        PricesWord::Nothing => read_q(1, arguments, &prices),
-        PricesWord::Four => read_q(2, arguments, &prices),
-        PricesWord::Malformed => program_parts::print_wrong_prices(),
+    if program_parts::asks_help() {
+        help();
+        return;
     }
+    read_prices(arguments);
 }

@@ -3,3 +3,4 @@ pub mod Pieces
 pub mod Lists
 pub mod Words
 pub mod Examples
+pub mod Prices

@@ -1,8 +1,12 @@
-// What the programs share: files by name, lists of lines, and what is printed.
+// What the programs share: files by name, lists of lines, arguments, and what is printed.
+mod arguments;
 mod lines;
 mod print;
 mod script;
+mod wrong;
 
+pub use arguments::WORD;
+pub use arguments::asks_help;
 pub use lines::LineKind;
 pub use lines::answer_input;
 pub use print::print_front;
@@ -10,13 +14,19 @@ pub use print::print_number;
 pub use print::print_outcome;
 pub use print::print_refusal;
 pub use print::print_text;
-pub use print::print_wrong_picks;
 pub use print::print_wrong_prices;
-pub use print::print_wrong_value;
 pub use script::Input;
 pub use script::cannot_read;
 pub use script::read_all;
 pub use script::read_file;
 pub use script::read_some;
 pub use script::rehearse_file;
+pub use script::report_file;
 pub use script::report_input;
+pub use wrong::print_unread;
+pub use wrong::print_wrong;
+pub use wrong::print_wrong_listed;
+pub use wrong::print_wrong_picks;
+pub use wrong::print_wrong_price;
+pub use wrong::print_wrong_ticks;
+pub use wrong::print_wrong_value;

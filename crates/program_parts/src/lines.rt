@@ -1,15 +1,16 @@
 // Lists on standard input, one file or one run a line.
 use crate::print::print_text;
-use crate::print::print_wrong_prices;
 use crate::script::rehearse_file;
 use crate::script::report_file;
+use crate::wrong::next;
+use crate::wrong::print_wrong_listed;
+use crate::wrong::print_wrong_price;
 use bytes::scan::find;
 use libc::STDIN_FILENO;
-use program_lists::PricesWord;
+use program_lists::Lent;
+use program_lists::Values;
+use program_lists::lend_prices;
 use program_lists::read_line_values;
-use program_lists::read_prices;
-ghost use Prim.Native.Nat.{_≤_};
-ghost use lib.ListN.{length};
 
 // What a line is: the name of a file to report, or a run, `[prices=A,C,P,T] NAME ALLOWANCE PICKS VALUE ..`.
 pub enum LineKind {
@@ -17,19 +18,14 @@ pub enum LineKind {
     Run,
 }
 
-// The place of the next word: past the space at `end`, or the line's end.
-fn next(line: &[u8], end: usize) -> usize
-    requires { ⌜ end ≤ length (now line) ⌝ }
-    ensures { λ r. ⌜ (end ≤ r) × (r ≤ length (now (line .entry))) ⌝ }
-{
-    if end < line.len() { end + 1 } else { end }
-}
-
 // Makes the run of a line under prices, from its name, allowance, picks and values.
 fn run_words(name: &[u8], prices: &[u32], allowance: &[u8], picks: &[u8], words: &[u8]) {
     let mut store = [0i32; 17];
     let values = read_line_values(words, &mut store);
-    rehearse_file(name, prices, allowance, picks, values, &mut store);
+    match values {
+        Values::Count(count) => rehearse_file(name, prices, allowance, picks, count, &mut store),
+        Values::Wrong(at) => print_wrong_listed(at, words, b' '),
+    }
 }
 
 // Takes a run's line, from the name on, apart at its first three spaces.
@@ -46,14 +42,15 @@ fn run_line(line: &[u8], prices: &[u32]) {
 
 // Reads the prices that may stand before a run's name.
 fn priced_line(line: &[u8]) {
-    let mut prices = [1u32; 4];
+    let ones = [1u32; 4];
+    let mut prices = [1u32; 5];
     let a = find(line, 0, line.len(), b' ');
     let b = next(line, a);
-    let lent = read_prices(&line[0..a], &mut prices);
+    let lent = lend_prices(&line[0..a], &mut prices);
     match lent {
-        PricesWord::Nothing => run_line(line, &prices),
-        PricesWord::Four => run_line(&line[b..], &prices),
-        PricesWord::Malformed => print_wrong_prices(),
+        Lent::Nothing => run_line(line, &ones),
+        Lent::Count(n) => run_line(&line[b..], &prices[..n]),
+        Lent::Wrong(at) => print_wrong_price(at, &line[0..a]),
     }
 }
 

@@ -1,17 +1,46 @@
-// What the programs print, on standard output.
+// What the programs print, on standard output: results, refusals and lines `error=..`.
 use calls::Outcome;
+use libc::SEEK_CUR;
+use libc::STDERR_FILENO;
 use libc::STDOUT_FILENO;
 use program_words::within;
 use rules::Ending;
 use rules::LoopCount;
 use rules::Verdict;
 
-pub fn print_text(text: &[u8]) {
-    io::write_all(STDOUT_FILENO, text);
+// Writes a text on standard output; false if it is not written whole. A file that took a part only has no room for the rest: it is not
+// tried again, since a write past a limit of its size would end the program.
+fn write_out(text: &[u8]) -> bool {
+    let got = libc::write(STDOUT_FILENO, text);
+    let done = io::count(got, text);
+    if done == text.len() {
+        return true;
+    }
+    if libc::lseek(STDOUT_FILENO, 0, SEEK_CUR) >= 0 {
+        return false;
+    }
+    io::write_all(STDOUT_FILENO, &text[done..])
 }
 
+// Says on standard error that output is lost, and closes both outputs: nothing follows the gap, and it is said once.
+fn cannot_write() {
+    io::write_all(STDERR_FILENO, b"error=cannot write\n");
+    libc::close(STDERR_FILENO);
+    libc::close(STDOUT_FILENO);
+}
+
+// Prints a text, or says that it cannot.
+pub fn print_text(text: &[u8]) {
+    if !write_out(text) {
+        cannot_write();
+    }
+}
+
+// Prints a number in decimal.
 pub fn print_number(n: u64) {
-    io::print_decimal(STDOUT_FILENO, n);
+    let mut text = [0u8; 20];
+    let k = io::decimal(n, &mut text);
+    print_text(&text[..k]);
 }
 
 fn print_value(v: i32) {
@@ -27,16 +56,6 @@ pub fn print_refusal(number: u32, place: usize) {
     print_text(b" ");
     print_number(place as u64);
     print_text(b"\n");
-}
-
-pub fn print_wrong_value(at: usize) {
-    print_text(b"error=value ");
-    print_number(at as u64);
-    print_text(b" is not a number\n");
-}
-
-pub fn print_wrong_picks() {
-    print_text(b"error=picks are not 0 and 1\n");
 }
 
 pub fn print_wrong_prices() {

@@ -1,20 +1,21 @@
 // A script file: read by its name, reported and run. A byte more than a file may have is read, so that a longer file is told.
-use crate::print::print_front;
 use crate::print::print_outcome;
-use crate::print::print_refusal;
 use crate::print::print_text;
-use crate::print::print_wrong_picks;
-use crate::print::print_wrong_value;
+use crate::wrong::print_unread;
+use crate::wrong::print_wrong_allowance;
+use crate::wrong::print_wrong_picks;
 use libc::STDIN_FILENO;
-use loader::REPORT;
 use loader::SCRATCH;
 use min_max::smaller_size;
-use program_lists::Values;
 use program_words::Number;
 use program_words::allowance;
 use program_words::pick_count;
 use program_words::put_picks;
-use rules::Reply;
+use report_text::TEXT;
+use report_text::put_report;
+ghost use mathlib.Core.Path.{_≡_};
+ghost use Rattle.rules.specs.Calls.{fourOnes};
+ghost use Rattle.report_text.specs.Printed.{printed};
 ghost use Rattle.io.specs.Counts.{Counts};
 
 // How many bytes were read, and whether a read failed.
@@ -69,20 +70,24 @@ pub fn read_file(path: &[u8], buffer: &mut [u8]) -> Input
     input
 }
 
+// Says that standard input, or a file whose name is printed already, cannot be read.
 pub fn cannot_read() {
     print_text(b"error=cannot read the file\n");
+}
+
+// Writes what is printed of a file.
+fn write_report(file: &[u8], text: &[u8])
+    requires { ⌜ now text ≡ printed fourOnes (now file) ⌝ }
+{
+    print_text(text);
 }
 
 // Prints the report of a file's bytes under four ones, or its refusal.
 fn print_report(file: &[u8]) {
     let ones = [1u32; 4];
-    let mut scratch = [0u32; SCRATCH];
-    let mut buffer = [0u8; REPORT];
-    let reply = loader::report(file, &ones, &mut scratch, &mut buffer);
-    match reply {
-        Reply::Accepted(length) => print_front(&buffer, length),
-        Reply::Refused(number, place) => print_refusal(number, place),
-    }
+    let mut text = [0u8; TEXT];
+    let n = put_report(file, &ones, &mut text);
+    write_report(file, &text[..n]);
 }
 
 // Prints the report of the file on standard input.
@@ -103,7 +108,7 @@ pub fn report_file(path: &[u8]) {
     let input = read_file(path, &mut file);
     let length = input.length;
     if input.failed {
-        cannot_read();
+        print_unread(path);
         return;
     }
     print_report(&file[..length]);
@@ -122,7 +127,7 @@ fn run_file(path: &[u8], prices: &[u32], allowed: u64, picks: &[u8], store: &mut
     let input = read_file(path, &mut file);
     let length = input.length;
     if input.failed {
-        cannot_read();
+        print_unread(path);
         return;
     }
     print_run(&file[..length], prices, allowed, picks, store);
@@ -140,7 +145,7 @@ fn run_word(
     if put_picks(word, picks) {
         run_file(path, prices, allowed, picks, store);
     } else {
-        print_wrong_picks();
+        print_wrong_picks(word);
     }
 }
 
@@ -156,25 +161,21 @@ fn run_allowed(path: &[u8], prices: &[u32], allowed: &[u8], word: &[u8], store: 
     let n = allowance(allowed);
     match n {
         Number::Is(ticks) => run_picks(path, prices, ticks, word, store),
-        Number::Malformed => print_text(b"error=allowance is not a number or plan\n"),
+        Number::Malformed => print_wrong_allowance(allowed),
     }
 }
 
-// Runs the file of that name under prices, by a word of allowance, a word of picks and the values in a store, and prints the outcome or what is wrong.
-// The store's 17 places do: a script has at most 16 variables, and a store of 17 is refused at the place where a longer one would be.
+// Runs the file of that name under prices, by a word of allowance, a word of picks and the first values in a store, and prints the outcome
+// or what is wrong. The store's 17 places do: a script has at most 16 variables, and a store of 17 is refused at the place where a longer
+// one would be.
 pub fn rehearse_file(
     path: &[u8],
     prices: &[u32],
     allowed: &[u8],
     word: &[u8],
-    values: Values,
+    values: usize,
     store: &mut [i32],
 ) {
-    match values {
-        Values::Count(count) => {
-            let kept = smaller_size(count, store.len());
-            run_allowed(path, prices, allowed, word, &mut store[..kept]);
-        }
-        Values::Wrong(at) => print_wrong_value(at),
-    }
+    let kept = smaller_size(values, store.len());
+    run_allowed(path, prices, allowed, word, &mut store[..kept]);
 }

@@ -40,6 +40,21 @@ reads b = by (leb 48 b) (leb b 57) refl refl
     by true false e f = other (rw (e, f)) (rw (e, f))
     by false q e f = other (rw e) (rw e)
 
+-- by the test of the code
+pub digit-not : (b d : ℕ) → d ≡ digitOf b → 9 < d → isDigit b ≡ false
+digit-not b d e h = by (reads b)
+  where
+    by : Read b → isDigit b ≡ false
+    by (digit p q l) = absurd (omega arith)
+    by (other p q) = p
+
+pub digit-is : (b d : ℕ) → d ≡ digitOf b → d ≤ 9 → isDigit b ≡ true
+digit-is b d e h = by (reads b)
+  where
+    by : Read b → isDigit b ≡ true
+    by (digit p q l) = p
+    by (other p q) = absurd (omega arith)
+
 -- ---- the number up to a byte
 pub record Spelling (w : List ℕ) (n i : ℕ) : Type 0 where
   pub digits : allDigits w ≡ allDigits (drop i w)

@@ -1,6 +1,6 @@
 -- Words as numbers and values. Assumes nothing.
-use mathlib.Core.Path.{_≡_, refl, ap}
-use mathlib.Core.Bool.{Bool, true, false, cond}
+use mathlib.Core.Path.{_≡_, refl, sym, ap, _∙_}
+use mathlib.Core.Bool.{Bool, true, false, not, cond, _&&_}
 use mathlib.Core.List.{List, [], _∷_}
 use Prim.Native.Nat.{ℕ, zero, suc, _-_, _≤_, _<_}
 use lib.IntN.{ℤ}
@@ -10,7 +10,7 @@ use lib.Dec.{eqb}
 use lib.ListN.{length, getD, take, drop, length-drop, set}
 use lib.Seq.{take-all}
 use Rattle.rules.specs.Text.{startsWith, equals, isDigit, allDigits, isNatural}
-use Rattle.program_words.specs.Words.{spelledIn, numberIn, upwardOf, downwardOf, valueIn}
+use Rattle.program_words.specs.Words.{spelledIn, numberIn, isNumber, upwardOf, downwardOf, valueIn}
 use Rattle.program_words.specs.declared.Number as numbers
 use Rattle.program_words.specs.declared.StoreValue as values
 
@@ -60,6 +60,50 @@ unfolding numberIn spelledIn isNatural
 many-digits [] l h = absurd (omega arith)
 many-digits (b ∷ []) l h = absurd (omega arith)
 many-digits (b ∷ (c ∷ w)) l h = rw (ne-eqb b 48 h)
+
+-- ---- whether a word is a number
+pub none-natural : (w : List ℕ) → length w ≡ 0 → false ≡ isNatural w
+unfolding isNatural
+none-natural [] e = refl
+none-natural (b ∷ w) e = absurd (omega arith)
+
+one-alone : (t : Bool) → cond t true false ≡ t
+one-alone true = refl
+one-alone false = refl
+
+pub one-natural : (w : List ℕ) → length w ≡ 1 → allDigits w ≡ isNatural w
+unfolding isNatural allDigits
+one-natural [] e = absurd (omega arith)
+one-natural (b ∷ []) e = one-alone (isDigit b)
+one-natural (b ∷ (c ∷ w)) e = absurd (omega arith)
+
+pub zero-natural : (w : List ℕ) → 1 < length w → getD w 0 0 ≡ 48 → false ≡ isNatural w
+unfolding isNatural
+zero-natural [] l h = absurd (omega arith)
+zero-natural (b ∷ []) l h = absurd (omega arith)
+zero-natural (b ∷ (c ∷ w)) l h = rw (eq-eqb b 48 h)
+
+pub many-natural : (w : List ℕ) → 1 < length w → (getD w 0 0 ≡ 48 → ⊥) → allDigits w ≡ isNatural w
+unfolding isNatural
+many-natural [] l h = absurd (omega arith)
+many-natural (b ∷ []) l h = absurd (omega arith)
+many-natural (b ∷ (c ∷ w)) l h = rw (ne-eqb b 48 h)
+
+pub not-any : (w : List ℕ) → length w ≡ 0 → false ≡ isNumber w
+unfolding isNumber
+not-any [] e = refl
+not-any (b ∷ w) e = absurd (omega arith)
+
+pub number-from-zero : (w : List ℕ) → (length w ≡ 0 → ⊥) → (getD w 0 0 ≡ 45 → ⊥) → isNatural w ≡ isNumber w
+unfolding isNumber
+number-from-zero [] l h = absurd (l refl)
+number-from-zero (b ∷ w) l h = rw (ne-eqb b 45 h)
+
+-- after `-`; `drop 1` as code reads it
+pub number-below : (w : List ℕ) → (length w ≡ 0 → ⊥) → getD w 0 0 ≡ 45 → isNumber w ≡ (not (equals (48 ∷ []) (drop 1 w)) && isNatural (drop 1 w))
+unfolding isNumber
+number-below [] l h = absurd (l refl)
+number-below (b ∷ w) l h = rw (eq-eqb b 45 h)
 
 -- the rest of a word
 pub part-rest : (s : List ℕ) (a : ℕ) → take (length s - a) (drop a s) ≡ drop a s

@@ -26,6 +26,11 @@ spelledIn w = cond (allDigits w) (sized (valueFrom 0 w)) numbers.the-variants.Ma
 unfoldable pub numberIn : List ℕ → numbers.Number
 numberIn w = cond (isNatural w) (sized (valueFrom 0 w)) numbers.the-variants.Malformed
 
+-- a number of any size: `-` stands only before a non-zero one
+unfoldable pub isNumber : List ℕ → Bool
+isNumber [] = false
+isNumber (b ∷ w) = cond (eqb b minus) (not (equals (48 ∷ []) w) && isNatural w) (isNatural (b ∷ w))
+
 -- a number as a value of 32 bits
 abbrev pub upwardOf : numbers.Number → values.StoreValue
 upwardOf (numbers.the-variants.Is n) = cond (ltb n 2_147_483_648) (values.the-variants.Is (pos n)) values.the-variants.Malformed

@@ -5,8 +5,9 @@ ghost use mathlib.Core.Path.{_≡_};
 ghost use mathlib.Core.Bool.{true, cond};
 ghost use Prim.Native.Nat.{_≤_, _<_, min};
 ghost use lib.ListN.{length};
-ghost use Rattle.rules.specs.Text.{equals};
-ghost use Rattle.program_words.specs.Words.{digitOf, spelledIn, numberIn, upwardOf, downwardOf, valueIn, keptIn, isValue, isPrice, pricedIn, allowanceIn, isNone, allBits, bitsOf, PutPicks};
+ghost use Rattle.rules.specs.Text.{equals, allDigits, isNatural};
+ghost use Rattle.program_words.specs.Words.{digitOf, spelledIn, numberIn, isNumber, upwardOf, downwardOf, valueIn, keptIn};
+ghost use Rattle.program_words.specs.Words.{isValue, isPrice, pricedIn, allowanceIn, isNone, allBits, bitsOf, PutPicks};
 
 // A word that is a number, or is none.
 pub enum Number {
@@ -69,6 +70,53 @@ pub fn read_number(word: &[u8]) -> Number
     spelled(word)
 }
 
+// Whether a word has digits only.
+fn all_digits(word: &[u8]) -> bool
+    ensures { λ r. ⌜ r ≡ allDigits (now (word .entry)) ⌝ }
+{
+    let mut i = 0;
+    while i < word.len() {
+        let d = digit(word[i]);
+        if d > 9 {
+            return false;
+        }
+        i += 1;
+    }
+    true
+}
+
+// Whether a word is a number from 0 on, of any size.
+fn is_natural(word: &[u8]) -> bool
+    ensures { λ r. ⌜ r ≡ isNatural (now (word .entry)) ⌝ }
+{
+    if word.len() == 0 {
+        return false;
+    }
+    if word.len() == 1 {
+        return all_digits(word);
+    }
+    if word[0] == b'0' {
+        return false;
+    }
+    all_digits(word)
+}
+
+// Whether a word is a number, of any size.
+pub fn is_number(word: &[u8]) -> bool
+    ensures { λ r. ⌜ r ≡ isNumber (now (word .entry)) ⌝ }
+{
+    if word.len() == 0 {
+        return false;
+    }
+    if word[0] != b'-' {
+        return is_natural(word);
+    }
+    if is_word(&word[1..], b"0") {
+        return false;
+    }
+    is_natural(&word[1..])
+}
+
 // A value from 0 on.
 fn upward(n: Number) -> StoreValue
     ensures { λ r. ⌜ r ≡ upwardOf n ⌝ }
@@ -117,7 +165,8 @@ fn read_value(word: &[u8]) -> StoreValue
 
 // Keeps the value that the word is, if the store has the place; false if the word is no value.
 pub fn keep_value(word: &[u8], store: &mut [i32], at: usize) -> bool
-    ensures { λ r. ⌜ (r ≡ isValue (valueIn (now (word .entry)))) × (now (store .exit) ≡ keptIn (valueIn (now (word .entry))) (now (store .entry)) at) ⌝ }
+    ensures { λ r. ⌜ r ≡ isValue (valueIn (now (word .entry))) ⌝ }
+    ensures { λ _. ⌜ now (store .exit) ≡ keptIn (valueIn (now (word .entry))) (now (store .entry)) at ⌝ }
 {
     let v = read_value(word);
     match v {
@@ -134,7 +183,8 @@ pub fn keep_value(word: &[u8], store: &mut [i32], at: usize) -> bool
 // Keeps the price that the word is at its place; false if the word is no number of 32 bits.
 pub fn keep_price(word: &[u8], prices: &mut [u32], at: usize) -> bool
     requires { ⌜ at < length (now prices) ⌝ }
-    ensures { λ r. ⌜ (r ≡ isPrice (numberIn (now (word .entry)))) × (now (prices .exit) ≡ pricedIn (numberIn (now (word .entry))) (now (prices .entry)) at) ⌝ }
+    ensures { λ r. ⌜ r ≡ isPrice (numberIn (now (word .entry))) ⌝ }
+    ensures { λ _. ⌜ now (prices .exit) ≡ pricedIn (numberIn (now (word .entry))) (now (prices .entry)) at ⌝ }
 {
     let n = read_number(word);
     match n {
@@ -186,7 +236,8 @@ pub fn within(n: usize, room: &[u8]) -> usize
 
 // How many picks a word has, as far as there is room.
 pub fn pick_count(word: &[u8], room: &[u8]) -> usize
-    ensures { λ r. ⌜ (r ≡ cond (isNone (now (word .entry))) 0 (min (length (now (word .entry))) (length (now (room .entry))))) × (r ≤ length (now (room .entry))) ⌝ }
+    ensures { λ r. ⌜ r ≡ cond (isNone (now (word .entry))) 0 (min (length (now (word .entry))) (length (now (room .entry)))) ⌝ }
+    ensures { λ r. ⌜ r ≤ length (now (room .entry)) ⌝ }
 {
     if is_none(word) {
         return 0;

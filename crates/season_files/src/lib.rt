@@ -30,7 +30,7 @@ pub struct FileFigures {
 }
 
 // The report of a file under four ones and its cue numbers, each at the front of what is lent, and its ticks.
-fn measure(file: &[u8], rest: &mut [u8], cues: &mut [u32]) -> FileFigures
+pub fn measure(file: &[u8], rest: &mut [u8], cues: &mut [u32]) -> FileFigures
     requires { ⌜ 256 ≤ length (now cues) ⌝ }
     ensures { λ r. ⌜ FoundAs (judged fourOnes 1_024 (now (file .entry))) (now (rest .entry)) (now (rest .exit)) (now (cues .entry)) (now (cues .exit)) r ⌝ }
 {

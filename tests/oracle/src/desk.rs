@@ -12,10 +12,10 @@ fn number<N: std::str::FromStr + ToString>(word: &str) -> Option<N> {
     word.parse::<N>().ok().filter(|n| n.to_string() == word)
 }
 
-/// Four prices, of which question 16 is asked later.
+/// Prices, of which question 16 is asked later: it refuses one below 0, lent as 0, and a list of other than four.
 fn priced(list: &str) -> Result<Vec<u32>, String> {
-    let prices = list.split(',').map(number::<u32>).collect::<Option<Vec<_>>>();
-    prices.filter(|prices| prices.len() == 4).ok_or("prices are not four numbers".into())
+    let prices = list.split(',').map(|word| number::<i32>(word).map(|price| price.max(0) as u32));
+    prices.collect::<Option<Vec<_>>>().ok_or("a price is no 32-bit number".into())
 }
 
 /// The prices, if the first word has them, and the other words.

@@ -1,0 +1,2 @@
+-- What is printed of a script file.
+pub mod Printed
