@@ -132,7 +132,8 @@ fn flag(b: bool) -> u64
 // The line becomes line k.
 pub fn put_line(table: &mut [[u64; 7]; 16], k: usize, line: LoopLine)
     requires { ⌜ (k < 16) × (length (now table) ≡ 16) × EndsWithin 512 (line .step) ⌝ }
-    ensures { λ _. ⌜ (linesIn (now (table .exit)) ≡ set (linesIn (now (table .entry))) k line) × (length (now (table .exit)) ≡ 16) ⌝ }
+    ensures { λ _. do
+      ⌜ (linesIn (now (table .exit)) ≡ set (linesIn (now (table .entry))) k line) × (length (now (table .exit)) ≡ 16) ⌝ }
 {
     let step = line.step;
     let row = line.row as u64;

@@ -40,7 +40,8 @@ fn trip_by(
     keeps: bool,
 ) -> Trip
     requires { ⌜ SmallWay way ⌝ }
-    ensures { λ r. ⌜ tripOf r ≡ tripFrom way (envOf (now (begun .entry))) untested step comparison (rangeOf start) (rangeOf limit) keeps ⌝ }
+    ensures { λ r. do
+      ⌜ tripOf r ≡ tripFrom way (envOf (now (begun .entry))) untested step comparison (rangeOf start) (rangeOf limit) keeps ⌝ }
 {
     match way {
         Way::Own => own_trip(untested, step, comparison, start, limit, keeps, true),

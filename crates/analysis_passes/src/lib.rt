@@ -34,7 +34,8 @@ ghost use Rattle.rules.specs.Questions.{ofTrip};
 ghost use Rattle.analysis_steps.specs.Tree.{formOf, testOf};
 ghost use Rattle.analysis_trips.specs.Found.{freeOf, tripOf};
 ghost use Rattle.analysis_ticks.specs.Capped.{capped};
-ghost use Rattle.analysis_passes.specs.Rounds.{roundOf, passIn, FineRound, sumsBy, triangleBy, climbTo, Rises, walkedBy, branchOf, bodyOf};
+ghost use Rattle.analysis_passes.specs.Rounds.{roundOf, passIn, FineRound, sumsBy, triangleBy, climbTo, Rises, walkedBy, branchOf};
+ghost use Rattle.analysis_passes.specs.Rounds.{bodyOf};
 
 // The passes of a block: `count` of one entry of the loop round it, its variable moved by `by` in each, `times` over; if known, its
 // variable v holds x in the first.
@@ -107,7 +108,8 @@ fn upward(comparison: Comparison) -> bool
 
 // The inner loop: a for from a constant, by Add, under < or <=, to v alone.
 fn triangle(kind: Kind, trip: Trip, v: u8) -> bool
-    ensures { λ r. ⌜ ((text : List ℕ) → Written text kind → r ≡ triangleBy (formOf text kind) (testOf text kind .limit) (tripOf trip) v) ⌝ }
+    ensures { λ r. do
+      ⌜ ((text : List ℕ) → Written text kind → r ≡ triangleBy (formOf text kind) (testOf text kind .limit) (tripOf trip) v) ⌝ }
 {
     let step = trip.step;
     let comparison = trip.comparison;
@@ -170,8 +172,12 @@ fn summed(trip: Trip, round: Round) -> u64
 // The turns of a loop in all passes of one entry of the loop round it: only a triangle asks for a sum. Kept: the variable round it is not
 // assigned before it.
 pub fn walked(kind: Kind, trip: Trip, turns: u64, round: Round, kept: bool) -> u64
-    requires { ⌜ EndsWithin 512 (trip .step) × ((i : ℕ) → ofTrip i (tripOf trip) ≡ passed) × FineRound round × ((text : List ℕ) × Written text kind) ⌝ }
-    ensures { λ r. ⌜ ((text : List ℕ) → Written text kind → r ≡ capped (walkedBy (roundOf round) (passIn round kept) (formOf text kind) (testOf text kind .limit) (tripOf trip) turns)) ⌝ }
+    requires { do
+      ⌜ EndsWithin 512 (trip .step) × ((i : ℕ) → ofTrip i (tripOf trip) ≡ passed) × FineRound round
+          × ((text : List ℕ) × Written text kind) ⌝ }
+    ensures { λ r. do
+      ⌜ ((text : List ℕ) → Written text kind → r ≡ capped
+          (walkedBy (roundOf round) (passIn round kept) (formOf text kind) (testOf text kind .limit) (tripOf trip) turns)) ⌝ }
 {
     let valued = both(round.known, kept);
     if !valued {

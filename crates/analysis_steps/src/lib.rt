@@ -34,7 +34,9 @@ fn add(set: &mut [bool; 16], v: u8)
 // Adds the variable that a plain row assigns, or a for's step row.
 pub fn add_row(set: &mut [bool; 16], rows: &[u32], i: usize)
     requires { ⌜ (4 * i + 3 < length (now rows)) × Fine (kindAt (rowsOf (now rows)) i) × (length (now set) ≡ 16) ⌝ }
-    ensures { λ _. ⌜ ((text : List ℕ) → SetIs (now (set .exit)) (withRow (setOf (now (set .entry))) (plainOf text (kindAt (rowsOf (now (rows .entry))) i)))) ⌝ }
+    ensures { λ _. do
+      ⌜ ((text : List ℕ) → SetIs (now (set .exit))
+          (withRow (setOf (now (set .entry))) (plainOf text (kindAt (rowsOf (now (rows .entry))) i)))) ⌝ }
 {
     if assigns(rows, i) {
         add(set, variable_at(rows, i));

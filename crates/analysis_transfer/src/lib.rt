@@ -53,8 +53,13 @@ pub fn joined(a: [[i32; 2]; 16], b: [[i32; 2]; 16]) -> [[i32; 2]; 16]
 
 // The ranges after the plain row i.
 pub fn step_row(text: &[u8], r: &mut [[i32; 2]; 16], rows: &[u32], i: usize)
-    requires { ⌜ (4 * i + 3 < length (now rows)) × Fine (kindAt (rowsOf (now rows)) i) × (shapeOf (kindAt (rowsOf (now rows)) i) ≡ Shape.Plain) × (length (now r) ≡ 16) × Written (now text) (kindAt (rowsOf (now rows)) i) ⌝ }
-    ensures { λ _. ⌜ EnvIs (now (r .exit)) (afterRow (envOf (now (r .entry))) (plainOf (now (text .entry)) (kindAt (rowsOf (now (rows .entry))) i))) ⌝ }
+    requires { do
+      ⌜ (4 * i + 3 < length (now rows)) × Fine (kindAt (rowsOf (now rows)) i)
+          × (shapeOf (kindAt (rowsOf (now rows)) i) ≡ Shape.Plain) × (length (now r) ≡ 16) × Written (now text)
+          (kindAt (rowsOf (now rows)) i) ⌝ }
+    ensures { λ _. do
+      ⌜ EnvIs (now (r .exit))
+          (afterRow (envOf (now (r .entry))) (plainOf (now (text .entry)) (kindAt (rowsOf (now (rows .entry))) i))) ⌝ }
 {
     match tag_at(rows, i) {
         Tag::Set => {
@@ -78,7 +83,8 @@ pub fn step_row(text: &[u8], r: &mut [[i32; 2]; 16], rows: &[u32], i: usize)
 // From the ranges before a loop to those at its start: a for's start assignment.
 pub fn at_start(text: &[u8], r: &mut [[i32; 2]; 16], kind: Kind)
     requires { ⌜ Fine kind × (length (now r) ≡ 16) × Written (now text) kind ⌝ }
-    ensures { λ _. ⌜ EnvIs (now (r .exit)) (atStart (formOf (now (text .entry)) kind) (testOf (now (text .entry)) kind) (envOf (now (r .entry)))) ⌝ }
+    ensures { λ _. do
+      ⌜ EnvIs (now (r .exit)) (atStart (formOf (now (text .entry)) kind) (testOf (now (text .entry)) kind) (envOf (now (r .entry)))) ⌝ }
 {
     match kind {
         Kind::For(v, x, _, _, _) => {

@@ -89,7 +89,8 @@ pub fn read_trip(
     ahead: bool,
     tested: Interval,
 ) -> Trip
-    ensures { λ r. ⌜ tripOf r ≡ readFrom (leadOf lead) step comparison (rangeOf start) (rangeOf limit) keeps ahead (rangeOf tested) ⌝ }
+    ensures { λ r. do
+      ⌜ tripOf r ≡ readFrom (leadOf lead) step comparison (rangeOf start) (rangeOf limit) keeps ahead (rangeOf tested) ⌝ }
 {
     let sure = both(single(tested), both(single(start), single(limit)));
     Trip {

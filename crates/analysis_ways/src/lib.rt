@@ -90,7 +90,9 @@ pub fn is_do(kind: Kind) -> bool
 // 10: is no variable of an expression assigned in the body?
 fn word_keeps(text: &[u8], at: u16, n: u16, set: [bool; 16]) -> bool
     requires { ⌜ InText (now text) at n ⌝ }
-    ensures { λ r. ⌜ ((body : Block) → ((w : ℕ) → setOf set w ≡ assigns w body) → r ≡ trips.keeps (exprIn (parse (take n (drop at (now (text .entry)))))) body) ⌝ }
+    ensures { λ r. do
+      ⌜ ((body : Block) → ((w : ℕ) → setOf set w ≡ assigns w body) → r ≡ trips.keeps
+          (exprIn (parse (take n (drop at (now (text .entry)))))) body) ⌝ }
 {
     let from = at as usize;
     let to = from + n as usize;
@@ -100,7 +102,9 @@ fn word_keeps(text: &[u8], at: u16, n: u16, set: [bool; 16]) -> bool
 // 10: is no variable of the limit assigned in the body?
 pub fn keeps(text: &[u8], limit: Operand, set: [bool; 16]) -> bool
     requires { ⌜ FineOperand limit × WrittenOperand (now text) limit ⌝ }
-    ensures { λ r. ⌜ ((body : Block) → ((w : ℕ) → setOf set w ≡ assigns w body) → r ≡ trips.keeps (exprOf (now (text .entry)) limit) body) ⌝ }
+    ensures { λ r. do
+      ⌜ ((body : Block) → ((w : ℕ) → setOf set w ≡ assigns w body) → r ≡ trips.keeps (exprOf (now (text .entry)) limit)
+          body) ⌝ }
 {
     match limit {
         Operand::Constant(_) => true,
@@ -207,7 +211,8 @@ fn watched_way(
 
 // Which way the hold at row i goes, by the only row of its flag.
 fn hold_way(text: &[u8], rows: &[u32], count: usize, i: usize) -> Way
-    requires { ⌜ AtLoop (now text) (rowsOf (now rows)) count i × (isHold (formOf (now text) (kindAt (rowsOf (now rows)) i)) ≡ true) ⌝ }
+    requires { do
+      ⌜ AtLoop (now text) (rowsOf (now rows)) count i × (isHold (formOf (now text) (kindAt (rowsOf (now rows)) i)) ≡ true) ⌝ }
     ensures { λ r. ⌜ WayAt (now (text .entry)) (rowsOf (now (rows .entry))) count i r ⌝ }
 {
     let kind = kind_at(rows, i);

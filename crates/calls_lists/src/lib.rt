@@ -57,7 +57,11 @@ pub fn fitting(
     pick_lengths: &[usize],
     q: u64,
 ) -> bool
-    ensures { λ r. ⌜ r ≡ fitting (lentOf (now (files .entry)) (now («file_lengths» .entry)) (now (stores .entry)) (now («store_lengths» .entry)) (now (picks .entry)) (now («pick_lengths» .entry))) q ⌝ }
+    ensures { λ r. do
+      ⌜ r ≡ fitting
+          (lentOf (now (files .entry)) (now («file_lengths» .entry)) (now (stores .entry)) (now («store_lengths» .entry))
+          (now (picks .entry)) (now («pick_lengths» .entry)))
+          q ⌝ }
 {
     if !counted(file_lengths.len(), store_lengths.len(), pick_lengths.len()) {
         return false;

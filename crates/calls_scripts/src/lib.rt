@@ -59,7 +59,8 @@ fn places_of(
     store_lengths: &[usize],
     pick_lengths: &[usize],
 ) -> Places
-    requires { ⌜ (k < length (now «file_lengths»)) × Lengths (now «file_lengths») (now «store_lengths») (now «pick_lengths») ⌝ }
+    requires { do
+      ⌜ (k < length (now «file_lengths»)) × Lengths (now «file_lengths») (now «store_lengths») (now «pick_lengths») ⌝ }
     ensures { λ r. ⌜ PlacesOf (now («file_lengths» .entry)) (now («store_lengths» .entry)) (now («pick_lengths» .entry)) k r ⌝ }
 {
     let file = part(file_lengths, k);

@@ -13,9 +13,11 @@ ghost use Rattle.rules.specs.Calls.{endingNumber};
 ghost use Rattle.loader.specs.Kept.{judgement, verdictNumber, ScratchKept};
 ghost use Rattle.loader.specs.Framing.{mostBy};
 ghost use Rattle.calls_lists.specs.Parts.{lentOf};
-ghost use Rattle.diftanew.specs.Numbers.{Reported-in-numbers, firstNumber, numbersOf, Told-in-numbers, framesNumbers, Framed-in-numbers};
+ghost use Rattle.diftanew.specs.Numbers.{Reported-in-numbers, firstNumber, numbersOf, Told-in-numbers, framesNumbers};
+ghost use Rattle.diftanew.specs.Numbers.{Framed-in-numbers};
 
-// The report of a file under four lent prices. Answers 0 for an accepted file, with the report's length in place, or the refusal's number with its place.
+// The report of a file under four lent prices. Answers 0 for an accepted file, with the report's length in place, or the refusal's number
+// with its place.
 #[no_mangle]
 pub extern "C" fn diftanew_report(
     file: &[u8],
@@ -24,7 +26,9 @@ pub extern "C" fn diftanew_report(
     buffer: &mut [u8],
     place: &mut u64,
 ) -> u32
-    ensures answer { λ r. ⌜ Reported-in-numbers (now (prices .entry)) (judgement (now (prices .entry)) (now (scratch .entry)) (now (file .entry))) (now (buffer .entry)) (now (buffer .exit)) r (now (place .exit)) ⌝ }
+    ensures answer { λ r. do
+      ⌜ Reported-in-numbers (now (prices .entry)) (judgement (now (prices .entry)) (now (scratch .entry)) (now (file .entry)))
+          (now (buffer .entry)) (now (buffer .exit)) r (now (place .exit)) ⌝ }
     ensures scratch { λ _. ⌜ ScratchKept (now (scratch .entry)) (now (scratch .exit)) ⌝ }
 {
     let r = loader::report(file, prices, scratch, buffer);
@@ -105,7 +109,8 @@ fn numbers(o: Outcome) -> [u64; 53]
     a
 }
 
-// The run of a file under four lent prices. Answers 0, with the answer's numbers as the header lays them out, or the refusal's number, with its place first.
+// The run of a file under four lent prices. Answers 0, with the answer's numbers as the header lays them out, or the refusal's number, with
+// its place first.
 #[no_mangle]
 pub extern "C" fn diftanew_run(
     file: &[u8],
@@ -116,7 +121,9 @@ pub extern "C" fn diftanew_run(
     allowance: u64,
     answer: &mut [u64; 53],
 ) -> u32
-    ensures answer { λ r. ⌜ Told-in-numbers (now (prices .entry)) (judgement (now (prices .entry)) (now (scratch .entry)) (now (file .entry))) (now (store .entry)) (now (store .exit)) (now (picks .entry)) allowance r (now (answer .exit)) ⌝ }
+    ensures answer { λ r. do
+      ⌜ Told-in-numbers (now (prices .entry)) (judgement (now (prices .entry)) (now (scratch .entry)) (now (file .entry)))
+          (now (store .entry)) (now (store .exit)) (now (picks .entry)) allowance r (now (answer .exit)) ⌝ }
     ensures scratch { λ _. ⌜ ScratchKept (now (scratch .entry)) (now (scratch .exit)) ⌝ }
 {
     let o = loader::run(file, prices, scratch, store, picks, allowance);
@@ -168,7 +175,8 @@ fn frames_numbers(f: Frames) -> [u64; 433]
     a
 }
 
-// The frames of up to 8 scripts under four lent prices. Answers 0, with the answer's numbers as the header lays them out, or the refusal's number, with its place first.
+// The frames of up to 8 scripts under four lent prices. Answers 0, with the answer's numbers as the header lays them out, or the refusal's
+// number, with its place first.
 #[no_mangle]
 pub extern "C" fn diftanew_frames(
     files: &[u8],
@@ -182,7 +190,11 @@ pub extern "C" fn diftanew_frames(
     scratch: &mut [u32],
     answer: &mut [u64; 433],
 ) -> u32
-    ensures answer { λ r. ⌜ Framed-in-numbers (now (prices .entry)) (length (now (scratch .entry))) (lentOf (now (files .entry)) (now («file_lengths» .entry)) (now (stores .entry)) (now («store_lengths» .entry)) (now (picks .entry)) (now («pick_lengths» .entry))) q (now (stores .exit)) r (now (answer .exit)) ⌝ }
+    ensures answer { λ r. do
+      ⌜ Framed-in-numbers (now (prices .entry)) (length (now (scratch .entry)))
+          (lentOf (now (files .entry)) (now («file_lengths» .entry)) (now (stores .entry)) (now («store_lengths» .entry))
+          (now (picks .entry)) (now («pick_lengths» .entry)))
+          q (now (stores .exit)) r (now (answer .exit)) ⌝ }
     ensures scratch { λ _. ⌜ now (scratch .exit) ≡ now (scratch .entry) ⌝ }
 {
     let f = loader::frames(

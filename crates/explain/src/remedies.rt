@@ -1,4 +1,5 @@
-// What each question's refusal says: its cause and its remedy, at most 98 columns a line behind two spaces. Questions that this program never meets have none: it lends the scratch and
+// What each question's refusal says: its cause and its remedy, at most 98 columns a line behind two spaces. Questions that this program
+// never meets have none: it lends the scratch and
 // the buffer itself (1, 14), and no store, frames or names (15, 20, 18).
 use program_parts::print_text;
 

@@ -26,7 +26,8 @@ fn member(set: [bool; 16], w: u32) -> bool
 // Does a variable of the set stand at i: a `v` and its number?
 fn names(word: &[u8], i: usize, set: [bool; 16]) -> bool
     requires { ⌜ i < length (now word) ⌝ }
-    ensures { λ r. ⌜ r ≡ eqb (getD (now (word .entry)) i 0) 118 && getD set (digitValue 0 (drop (i + 1) (now (word .entry)))) false ⌝ }
+    ensures { λ r. do
+      ⌜ r ≡ eqb (getD (now (word .entry)) i 0) 118 && getD set (digitValue 0 (drop (i + 1) (now (word .entry)))) false ⌝ }
 {
     if word[i] == b'v' {
         return member(set, digits_at(word, i + 1).value);
@@ -37,7 +38,9 @@ fn names(word: &[u8], i: usize, set: [bool; 16]) -> bool
 // 10: is no variable of such an expression in the set that a body assigns?
 pub fn keeps_in(word: &[u8], set: [bool; 16]) -> bool
     requires { ⌜ PassedWord (now word) ⌝ }
-    ensures { λ r. ⌜ ((body : Block) → ((w : ℕ) → getD set w false ≡ assigns w body) → r ≡ keeps (exprIn (parse (now (word .entry)))) body) ⌝ }
+    ensures { λ r. do
+      ⌜ ((body : Block) → ((w : ℕ) → getD set w false ≡ assigns w body) → r ≡ keeps (exprIn (parse (now (word .entry))))
+          body) ⌝ }
 {
     let mut i: usize = 0;
     while i < word.len() {

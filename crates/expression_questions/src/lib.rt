@@ -12,9 +12,11 @@ ghost use Prim.Native.Nat.{_≤_};
 ghost use lib.IntN.{pos, natAbs};
 ghost use Rattle.rules.specs.Parse.{parse};
 ghost use Rattle.rules.specs.File.{asksExpr};
-ghost use Rattle.expression_questions.specs.Asking.{due, shut as afterFactor, sizesOf, endQuestion, MayScan, ScanStep, askedOf, operates};
+ghost use Rattle.expression_questions.specs.Asking.{due, shut as afterFactor, sizesOf, endQuestion, MayScan, ScanStep, askedOf};
+ghost use Rattle.expression_questions.specs.Asking.{operates};
 
-// A walk over a word: whether its shape is good so far, whether a factor is due, the open parentheses, the most of them at a leaf, the operators, the
+// A walk over a word: whether its shape is good so far, whether a factor is due, the open parentheses, the most of them at a leaf, the
+// operators, the
 // leaves' first no, and the next byte.
 struct Scan {
     good: bool,

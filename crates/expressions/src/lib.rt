@@ -66,7 +66,8 @@ fn shut(next: usize, end: usize) -> usize
 
 // The value of the factor at `at`: "A factor may hold a whole expression in parentheses".
 fn factor(text: &[u8], at: usize, los: &[i32], his: &[i32]) -> PartRange
-    ensures { λ r. ⌜ GivesRange (now (los .entry)) (now (his .entry)) (now (text .entry)) (readFactor (drop at (now (text .entry)))) at r ⌝ }
+    ensures { λ r. do
+      ⌜ GivesRange (now (los .entry)) (now (his .entry)) (now (text .entry)) (readFactor (drop at (now (text .entry)))) at r ⌝ }
 {
     if at < text.len() {
         if text[at] == b'(' {
@@ -84,7 +85,8 @@ fn factor(text: &[u8], at: usize, los: &[i32], his: &[i32]) -> PartRange
 
 // The value of the term at `at`: factors, from the left. One call of `factor`, so that it is inlined.
 fn term(text: &[u8], at: usize, los: &[i32], his: &[i32]) -> PartRange
-    ensures { λ r. ⌜ GivesRange (now (los .entry)) (now (his .entry)) (now (text .entry)) (readTerm (λ x. x) (drop at (now (text .entry)))) at r ⌝ }
+    ensures { λ r. do
+      ⌜ GivesRange (now (los .entry)) (now (his .entry)) (now (text .entry)) (readTerm (λ x. x) (drop at (now (text .entry)))) at r ⌝ }
 {
     let mut got = PartRange {
         lo: 0,
@@ -111,7 +113,9 @@ fn term(text: &[u8], at: usize, los: &[i32], his: &[i32]) -> PartRange
 
 // The value of the expression at `at`: terms, from the left.
 fn expression(text: &[u8], at: usize, los: &[i32], his: &[i32]) -> PartRange
-    ensures { λ r. ⌜ GivesRange (now (los .entry)) (now (his .entry)) (now (text .entry)) (readExpression (λ x. x) (drop at (now (text .entry)))) at r ⌝ }
+    ensures { λ r. do
+      ⌜ GivesRange (now (los .entry)) (now (his .entry)) (now (text .entry)) (readExpression (λ x. x) (drop at (now (text .entry))))
+          at r ⌝ }
 {
     let mut got = PartRange {
         lo: 0,
@@ -243,7 +247,8 @@ fn term_run(text: &[u8], at: usize, store: &[i32]) -> PartValue
 
 // The number of the expression at `at`.
 fn expression_run(text: &[u8], at: usize, store: &[i32]) -> PartValue
-    ensures { λ r. ⌜ GivesRun (now (store .entry)) (now (text .entry)) (readExpression (λ x. x) (drop at (now (text .entry)))) at r ⌝ }
+    ensures { λ r. do
+      ⌜ GivesRun (now (store .entry)) (now (text .entry)) (readExpression (λ x. x) (drop at (now (text .entry)))) at r ⌝ }
 {
     let mut got = PartValue {
         number: 0,

@@ -66,7 +66,8 @@ fn read_last(i: usize, file: usize, picks: usize, store: &mut [i32]) -> Share
 // Reads the picks of argument i, as far as there is room, and the values after them.
 fn read_picks(i: usize, file: usize, picks: &mut [u8], store: &mut [i32]) -> Share
     requires { ⌜ i ≤ 100 ⌝ }
-    ensures { λ r. ⌜ (r .file ≤ file) × (r .picks ≤ length (now (picks .entry))) × (r .values ≤ length (now (store .entry))) ⌝ }
+    ensures { λ r. do
+      ⌜ (r .file ≤ file) × (r .picks ≤ length (now (picks .entry))) × (r .values ≤ length (now (store .entry))) ⌝ }
 {
     let mut word = [0u8; WORD];
     let n = os::arg(i, &mut word);
@@ -149,7 +150,8 @@ fn read_scripts(
 ) -> Share
     requires { do
       ⌜ (first ≤ 3) × (scripts ≤ 8) × (length (now files) ≡ 131_080) × (length (now picks) ≡ 131_072) × (length (now stores) ≡ 136) ⌝ }
-    requires { ⌜ (length (now «file_lengths») ≡ 8) × (length (now «pick_lengths») ≡ 8) × (length (now «store_lengths») ≡ 8) ⌝ }
+    requires { do
+      ⌜ (length (now «file_lengths») ≡ 8) × (length (now «pick_lengths») ≡ 8) × (length (now «store_lengths») ≡ 8) ⌝ }
     ensures { λ r. ⌜ (r .file ≤ 131_080) × (r .picks ≤ 131_072) × (r .values ≤ 136) ⌝ }
 {
     let mut file: usize = 0;
@@ -310,7 +312,8 @@ fn read_and_play(
 )
     requires { do
       ⌜ (first ≤ 3) × (scripts ≤ 8) × (length (now files) ≡ 131_080) × (length (now picks) ≡ 131_072) × (length (now stores) ≡ 136) ⌝ }
-    requires { ⌜ (length (now «file_lengths») ≡ 8) × (length (now «pick_lengths») ≡ 8) × (length (now «store_lengths») ≡ 8) ⌝ }
+    requires { do
+      ⌜ (length (now «file_lengths») ≡ 8) × (length (now «pick_lengths») ≡ 8) × (length (now «store_lengths») ≡ 8) ⌝ }
 {
     let all = read_scripts(
         first,

@@ -1,4 +1,5 @@
-// The public calls: the report of a script file, its run, and the frames of several scripts. They take all inputs, always end, and refuse by number and place.
+// The public calls: the report of a script file, its run, and the frames of several scripts. They take all inputs, always end, and refuse
+// by number and place.
 use calls::Outcome;
 use calls_frames::Frames;
 use calls_prices::ask_prices;
@@ -41,7 +42,9 @@ fn ask_lent(prices: &[u32], scratch: usize) -> Verdict
 // The report of a file under prices that 16 has passed, its rows in the lent table: the questions 2 to 14, 17 and 19.
 fn report_file(file: &[u8], prices: &[u32], table: &mut [u32], buffer: &mut [u8]) -> Reply
     requires { ⌜ Priced (now prices) × (length (now table) ≡ 1_024) ⌝ }
-    ensures { λ r. ⌜ Reported (now (prices .entry)) (judgedFile (pricesOf (now (prices .entry))) (fileScript (now (file .entry)))) (now (buffer .entry)) (now (buffer .exit)) r ⌝ }
+    ensures { λ r. do
+      ⌜ Reported (now (prices .entry)) (judgedFile (pricesOf (now (prices .entry))) (fileScript (now (file .entry))))
+          (now (buffer .entry)) (now (buffer .exit)) r ⌝ }
 {
     let none: [i32; 2] = [0; 2];
     let mut ranges = [none; 16];
@@ -57,10 +60,14 @@ fn report_file(file: &[u8], prices: &[u32], table: &mut [u32], buffer: &mut [u8]
     }
 }
 
-// The report of a file under four lent prices: the questions 1, 16, 2 to 14, 17 and 19. Accepted, the report is at the front of the buffer, and
-// the answer is its length. Refused, the buffer is untouched. The first 1,024 numbers of the scratch are written over; the others keep their values.
+// The report of a file under four lent prices: the questions 1, 16, 2 to 14, 17 and 19. Accepted, the report is at the front of the buffer,
+// and
+// the answer is its length. Refused, the buffer is untouched. The first 1,024 numbers of the scratch are written over; the others keep
+// their values.
 pub fn report(file: &[u8], prices: &[u32], scratch: &mut [u32], buffer: &mut [u8]) -> Reply
-    ensures answer { λ r. ⌜ Reported (now (prices .entry)) (judgement (now (prices .entry)) (now (scratch .entry)) (now (file .entry))) (now (buffer .entry)) (now (buffer .exit)) r ⌝ }
+    ensures answer { λ r. do
+      ⌜ Reported (now (prices .entry)) (judgement (now (prices .entry)) (now (scratch .entry)) (now (file .entry)))
+          (now (buffer .entry)) (now (buffer .exit)) r ⌝ }
     ensures scratch { λ _. ⌜ ScratchKept (now (scratch .entry)) (now (scratch .exit)) ⌝ }
 {
     let lent = ask_lent(prices, scratch.len());
@@ -80,7 +87,11 @@ fn run_file(
     allowance: u64,
 ) -> Outcome
     requires { ⌜ Priced (now prices) × (length (now table) ≡ 1_024) ⌝ }
-    ensures { λ r. ⌜ RanAs (runReply (now (prices .entry)) (judgedFile (pricesOf (now (prices .entry))) (fileScript (now (file .entry)))) (now (store .entry)) (now (picks .entry)) allowance) (now (store .entry)) (now (store .exit)) r ⌝ }
+    ensures { λ r. do
+      ⌜ RanAs
+          (runReply (now (prices .entry)) (judgedFile (pricesOf (now (prices .entry))) (fileScript (now (file .entry))))
+          (now (store .entry)) (now (picks .entry)) allowance)
+          (now (store .entry)) (now (store .exit)) r ⌝ }
 {
     let none: [i32; 2] = [0; 2];
     let mut ranges = [none; 16];
@@ -101,8 +112,10 @@ fn run_file(
     }
 }
 
-// The run of a file under four lent prices: the questions 1, 16, 2 to 13, 15, 17 and 19. The store is overwritten with the final one; refused, it
-// is untouched. With the ticks of the file's report under the same prices as allowance, the run keeps within that report: demand 3. The first 1,024
+// The run of a file under four lent prices: the questions 1, 16, 2 to 13, 15, 17 and 19. The store is overwritten with the final one;
+// refused, it
+// is untouched. With the ticks of the file's report under the same prices as allowance, the run keeps within that report: demand 3. The
+// first 1,024
 // numbers of the scratch are written over; the others keep their values.
 pub fn run(
     file: &[u8],
@@ -112,7 +125,9 @@ pub fn run(
     picks: &[u8],
     allowance: u64,
 ) -> Outcome
-    ensures answer { λ r. ⌜ KeptCall (now (prices .entry)) (judgement (now (prices .entry)) (now (scratch .entry)) (now (file .entry))) (now (store .entry)) (now (store .exit)) (now (picks .entry)) allowance r ⌝ }
+    ensures answer { λ r. do
+      ⌜ KeptCall (now (prices .entry)) (judgement (now (prices .entry)) (now (scratch .entry)) (now (file .entry)))
+          (now (store .entry)) (now (store .exit)) (now (picks .entry)) allowance r ⌝ }
     ensures scratch { λ _. ⌜ ScratchKept (now (scratch .entry)) (now (scratch .exit)) ⌝ }
 {
     let lent = ask_lent(prices, scratch.len());
@@ -129,9 +144,12 @@ pub fn run(
     }
 }
 
-// The frames of up to 8 scripts under four lent prices: the questions 20, 1 and 16, then script by script 2 to 13, 15, 17 and 19. Files, stores and picks are each lent end to end
-// with a list of their lengths. In every frame each script that is not finished gets q ticks and runs on; what is left it carries forward. The stores are overwritten with the
-// final ones; refused, they are untouched. Each script is finished by frame ceil(T/q), T its report's ticks, with the answer of its run alone with allowance T.
+// The frames of up to 8 scripts under four lent prices: the questions 20, 1 and 16, then script by script 2 to 13, 15, 17 and 19. Files,
+// stores and picks are each lent end to end
+// with a list of their lengths. In every frame each script that is not finished gets q ticks and runs on; what is left it carries forward.
+// The stores are overwritten with the
+// final ones; refused, they are untouched. Each script is finished by frame ceil(T/q), T its report's ticks, with the answer of its run
+// alone with allowance T.
 pub fn frames(
     files: &[u8],
     file_lengths: &[usize],
@@ -143,7 +161,11 @@ pub fn frames(
     q: u64,
     scratch: &mut [u32],
 ) -> Frames
-    ensures answer { λ r. ⌜ FramedCall (now (prices .entry)) (length (now (scratch .entry))) (lentOf (now (files .entry)) (now («file_lengths» .entry)) (now (stores .entry)) (now («store_lengths» .entry)) (now (picks .entry)) (now («pick_lengths» .entry))) q (now (stores .exit)) r ⌝ }
+    ensures answer { λ r. do
+      ⌜ FramedCall (now (prices .entry)) (length (now (scratch .entry)))
+          (lentOf (now (files .entry)) (now («file_lengths» .entry)) (now (stores .entry)) (now («store_lengths» .entry))
+          (now (picks .entry)) (now («pick_lengths» .entry)))
+          q (now (stores .exit)) r ⌝ }
     ensures scratch { λ _. ⌜ now (scratch .exit) ≡ now (scratch .entry) ⌝ }
 {
     let fits = calls_lists::fitting(

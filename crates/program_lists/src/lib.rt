@@ -58,7 +58,8 @@ fn put_prices(list: &[u8], prices: &mut [u32]) -> bool
 // Keeps the prices of a first word that is `prices=A,C,P,T`.
 pub fn read_prices(word: &[u8], prices: &mut [u32]) -> PricesWord
     requires { ⌜ length (now prices) ≡ 4 ⌝ }
-    ensures { λ r. ⌜ (r ≡ lentIn (now (word .entry))) × (now (prices .exit) ≡ lentPrices (now (word .entry)) (now (prices .entry))) ⌝ }
+    ensures { λ r. do
+      ⌜ (r ≡ lentIn (now (word .entry))) × (now (prices .exit) ≡ lentPrices (now (word .entry)) (now (prices .entry))) ⌝ }
 {
     if !starts_with(word, b"prices=") {
         return PricesWord::Nothing;
@@ -155,7 +156,8 @@ fn keep_prices(list: &[u8], prices: &mut [u32]) -> Lent
 // Keeps the prices of a first word that is `prices=A,C,P,T`, or a list of more or fewer; without it they are as they were.
 pub fn lend_prices(word: &[u8], prices: &mut [u32]) -> Lent
     requires { ⌜ length (now prices) ≡ 5 ⌝ }
-    ensures { λ r. ⌜ LentAs (lentBy (now (word .entry))) (pricesLent (now (word .entry)) (now (prices .entry))) r (now (prices .exit)) ⌝ }
+    ensures { λ r. do
+      ⌜ LentAs (lentBy (now (word .entry))) (pricesLent (now (word .entry)) (now (prices .entry))) r (now (prices .exit)) ⌝ }
 {
     if !starts_with(word, b"prices=") {
         return Lent::Nothing;

@@ -203,8 +203,10 @@ fn put_lines(
     ticks: u64,
     buffer: &mut [u8],
 ) -> usize
-    requires { ⌜ LineTable loops (now lines) × (length (reportText rows (firstLines (now lines) loops) ticks) ≤ length (now buffer)) ⌝ }
-    ensures { λ r. ⌜ Wrote (reportText rows (firstLines (now (lines .entry)) loops) ticks) (now (buffer .entry)) (now (buffer .exit)) r ⌝ }
+    requires { do
+      ⌜ LineTable loops (now lines) × (length (reportText rows (firstLines (now lines) loops) ticks) ≤ length (now buffer)) ⌝ }
+    ensures { λ r. do
+      ⌜ Wrote (reportText rows (firstLines (now (lines .entry)) loops) ticks) (now (buffer .entry)) (now (buffer .exit)) r ⌝ }
 {
     let a = put_head(rows, loops, buffer);
     let b = a + put_loops(lines, loops, &mut buffer[a..]);
@@ -220,7 +222,9 @@ pub fn write_report(
     buffer: &mut [u8],
 ) -> Reply
     requires { ⌜ LineTable loops (now lines) ⌝ }
-    ensures { λ r. ⌜ (r ≡ bufferReply (reportText rows (firstLines (now (lines .entry)) loops) ticks) (length (now (buffer .entry)))) × (now (buffer .exit) ≡ written (reportText rows (firstLines (now (lines .entry)) loops) ticks) (now (buffer .entry))) ⌝ }
+    ensures { λ r. do
+      ⌜ (r ≡ bufferReply (reportText rows (firstLines (now (lines .entry)) loops) ticks) (length (now (buffer .entry))))
+          × (now (buffer .exit) ≡ written (reportText rows (firstLines (now (lines .entry)) loops) ticks) (now (buffer .entry))) ⌝ }
 {
     let len = report_len(rows, lines, loops, ticks);
     if buffer.len() < len {

@@ -9,7 +9,8 @@ ghost use lib.ListN.{length};
 ghost use Rattle.run_machine.specs.Steps.{scriptIn};
 ghost use Rattle.run_live.specs.Goes.{CuePut, MayGoLive, WentLive};
 
-// The cue of the machine's row, if it is one whose price fits, put at the end of the list: so many are in it after that, or more than it has room for.
+// The cue of the machine's row, if it is one whose price fits, put at the end of the list: so many are in it after that, or more than it
+// has room for.
 fn put_cue(m: Machine, rows: &[u32], price: u64, cues: &mut [u32], fired: usize) -> usize
     requires { ⌜ (4 * m .row + 3 < length (now rows)) × (fired ≤ length (now cues)) ⌝ }
     ensures { λ r. ⌜ CuePut (now (rows .entry)) price m (now (cues .entry)) (now (cues .exit)) fired r ⌝ }

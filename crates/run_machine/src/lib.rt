@@ -128,7 +128,9 @@ fn for_row(
     counts: &mut [[u64; 3]; 16],
 ) -> Machine
     requires { ⌜ ForRow kind m (now text) (now rows) (length (now store)) (now counts) ⌝ }
-    ensures { λ r. ⌜ ForBegun prices kind m r (now (text .entry)) (now (rows .entry)) (now (store .entry)) (now (store .exit)) (now (counts .entry)) (now (counts .exit)) ⌝ }
+    ensures { λ r. do
+      ⌜ ForBegun prices kind m r (now (text .entry)) (now (rows .entry)) (now (store .entry)) (now (store .exit))
+          (now (counts .entry)) (now (counts .exit)) ⌝ }
 {
     let i = m.row;
     let e = partner_at(rows, i);
@@ -181,7 +183,10 @@ pub fn act(
     counts: &mut [[u64; 3]; 16],
 ) -> Machine
     requires { ⌜ ((count : ℕ) × AtRow (now text) (now rows) count m (now store) (now counts)) ⌝ }
-    ensures { λ r. ⌜ ((count : ℕ) → AtRow (now (text .entry)) (now (rows .entry)) count m (now (store .entry)) (now (counts .entry)) → Stepped prices (scriptIn (now (text .entry)) (now (rows .entry)) count) m r (now (store .entry)) (now (store .exit)) (now (picks .entry)) (now (counts .entry)) (now (counts .exit))) ⌝ }
+    ensures { λ r. do
+      ⌜ ((count : ℕ) → AtRow (now (text .entry)) (now (rows .entry)) count m (now (store .entry)) (now (counts .entry))
+          → Stepped prices (scriptIn (now (text .entry)) (now (rows .entry)) count) m r (now (store .entry)) (now (store .exit))
+          (now (picks .entry)) (now (counts .entry)) (now (counts .exit))) ⌝ }
 {
     let i = m.row;
     match table::op_at(rows, i) {
@@ -235,7 +240,8 @@ fn kept_value(k: usize, x: u32, text: &[u8], store: &[i32], limits: &mut [i64; 1
 // The limit of the loop that ends at row i, or PAST. An expression is told by one bit.
 fn limit_of(rows: &[u32], i: usize, text: &[u8], store: &[i32], limits: &mut [i64; 16]) -> i64
     requires { ⌜ LimitAt (now text) (now rows) i (now store) (now limits) ⌝ }
-    ensures { λ r. ⌜ LimitRead (now (text .entry)) (now (rows .entry)) i (now (store .entry)) (now (limits .entry)) (now (limits .exit)) r ⌝ }
+    ensures { λ r. do
+      ⌜ LimitRead (now (text .entry)) (now (rows .entry)) i (now (store .entry)) (now (limits .entry)) (now (limits .exit)) r ⌝ }
 {
     let x = table::limit_value_at(rows, i);
     if table::limit_kind_at(rows, i) == codes::CONSTANT {
@@ -257,9 +263,15 @@ pub fn test_row(
     counts: &mut [[u64; 3]; 16],
     limits: &mut [i64; 16],
 ) -> Machine
-    requires { ⌜ ((count : ℕ) × AtTest (now text) (now rows) count m (now store) (now counts) × KeptAt (now text) (now rows) m (now store) (now limits)) ⌝ }
-    ensures step { λ r. ⌜ ((count : ℕ) (picks : List ℕ) → AtTest (now (text .entry)) (now (rows .entry)) count m (now (store .entry)) (now (counts .entry)) → Stepped prices (scriptIn (now (text .entry)) (now (rows .entry)) count) m r (now (store .entry)) (now (store .entry)) picks (now (counts .entry)) (now (counts .exit))) ⌝ }
-    ensures limits { λ r. ⌜ TestKept (now (text .entry)) (now (rows .entry)) m r (now (store .entry)) (now (limits .entry)) (now (limits .exit)) ⌝ }
+    requires { do
+      ⌜ ((count : ℕ) × AtTest (now text) (now rows) count m (now store) (now counts) × KeptAt (now text) (now rows) m (now store)
+          (now limits)) ⌝ }
+    ensures step { λ r. do
+      ⌜ ((count : ℕ) (picks : List ℕ) → AtTest (now (text .entry)) (now (rows .entry)) count m (now (store .entry))
+          (now (counts .entry)) → Stepped prices (scriptIn (now (text .entry)) (now (rows .entry)) count) m r (now (store .entry))
+          (now (store .entry)) picks (now (counts .entry)) (now (counts .exit))) ⌝ }
+    ensures limits { λ r. do
+      ⌜ TestKept (now (text .entry)) (now (rows .entry)) m r (now (store .entry)) (now (limits .entry)) (now (limits .exit)) ⌝ }
 {
     let i = m.row;
     let price = prices.test;

@@ -21,7 +21,9 @@ pub fn resume(
     counts: &mut [[u64; 3]; 16],
 ) -> Machine
     requires { ⌜ MayGo (now text) prices (now rows) count from (now store) (now picks) (now counts) ⌝ }
-    ensures { λ r. ⌜ WentOn prices (scriptIn (now (text .entry)) (now (rows .entry)) count) from r (now (store .entry)) (now (store .exit)) (now (picks .entry)) (now (counts .entry)) (now (counts .exit)) ⌝ }
+    ensures { λ r. do
+      ⌜ WentOn prices (scriptIn (now (text .entry)) (now (rows .entry)) count) from r (now (store .entry)) (now (store .exit))
+          (now (picks .entry)) (now (counts .entry)) (now (counts .exit)) ⌝ }
 {
     let mut m = from;
     let mut limits = [run_machine::NOT_KEPT; 16];
@@ -96,7 +98,9 @@ pub fn run_rows(
     counts: &mut [[u64; 3]; 16],
 ) -> Ran
     requires { ⌜ MayRun (now text) prices (now rows) count (now store) allowance × Cleared (now counts) ⌝ }
-    ensures { λ r. ⌜ Answered prices (scriptIn (now (text .entry)) (now (rows .entry)) count) allowance (now (picks .entry)) r (now (store .entry)) (now (store .exit)) (now (counts .exit)) ⌝ }
+    ensures { λ r. do
+      ⌜ Answered prices (scriptIn (now (text .entry)) (now (rows .entry)) count) allowance (now (picks .entry)) r (now (store .entry))
+          (now (store .exit)) (now (counts .exit)) ⌝ }
 {
     let start = Machine {
         row: 0,

@@ -72,7 +72,8 @@ fn read_names(names: &mut [u8; ROOM], lengths: &mut [usize; 66]) -> Listing
 
 // Keeps argument i as a name.
 fn keep_argument(i: usize, line: usize, names: &mut [u8; ROOM], lengths: &mut [usize; 66]) -> usize
-    ensures { λ r. ⌜ (Listed line (now (names .entry)) (now (lengths .entry)) → Listed r (now (names .exit)) (now (lengths .exit))) ⌝ }
+    ensures { λ r. do
+      ⌜ (Listed line (now (names .entry)) (now (lengths .entry)) → Listed r (now (names .exit)) (now (lengths .exit))) ⌝ }
 {
     let mut word = [0u8; WORD];
     let n = os::arg(i, &mut word);

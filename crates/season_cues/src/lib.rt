@@ -39,7 +39,10 @@ fn cue_in(kind: Kind) -> Fired
 // A row's cue number behind those before it, which end at `at`.
 fn put_cue(kind: Kind, at: usize, out: &mut [u32]) -> usize
     requires { ⌜ at < length (now out) ⌝ }
-    ensures { λ r. ⌜ ((text w old : List ℕ) → Wrote w old (now (out .entry)) at → length w < length old → Wrote (w ++ cueOf (viewOf (kindOf text kind))) old (now (out .exit)) r) × (r ≤ at + 1) ⌝ }
+    ensures { λ r. do
+      ⌜ ((text w old : List ℕ) → Wrote w old (now (out .entry)) at → length w < length old → Wrote
+          (w ++ cueOf (viewOf (kindOf text kind))) old (now (out .exit)) r)
+          × (r ≤ at + 1) ⌝ }
 {
     let row = cue_in(kind);
     match row {
@@ -54,7 +57,10 @@ fn put_cue(kind: Kind, at: usize, out: &mut [u32]) -> usize
 // Puts the cue numbers of the first `count` rows at the front, and answers how many there are.
 pub fn put_cues(rows: &[u32], count: usize, out: &mut [u32]) -> usize
     requires { ⌜ (count ≤ 256) × (count ≤ length (now out)) × (length (now rows) ≡ 1_024) ⌝ }
-    ensures { λ r. ⌜ ((text : List ℕ) → Wrote (cuesOf (scriptRows text (rowsOf (now (rows .entry))) count)) (now (out .entry)) (now (out .exit)) r) × (r ≤ count) ⌝ }
+    ensures { λ r. do
+      ⌜ ((text : List ℕ) → Wrote (cuesOf (scriptRows text (rowsOf (now (rows .entry))) count)) (now (out .entry))
+          (now (out .exit)) r)
+          × (r ≤ count) ⌝ }
 {
     let mut at: usize = 0;
     let mut j: usize = 0;

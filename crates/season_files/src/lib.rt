@@ -32,7 +32,9 @@ pub struct FileFigures {
 // The report of a file under four ones and its cue numbers, each at the front of what is lent, and its ticks.
 pub fn measure(file: &[u8], rest: &mut [u8], cues: &mut [u32]) -> FileFigures
     requires { ⌜ 256 ≤ length (now cues) ⌝ }
-    ensures { λ r. ⌜ FoundAs (judged fourOnes 1_024 (now (file .entry))) (now (rest .entry)) (now (rest .exit)) (now (cues .entry)) (now (cues .exit)) r ⌝ }
+    ensures { λ r. do
+      ⌜ FoundAs (judged fourOnes 1_024 (now (file .entry))) (now (rest .entry)) (now (rest .exit)) (now (cues .entry))
+          (now (cues .exit)) r ⌝ }
 {
     let none: [i32; 2] = [0; 2];
     let mut ranges = [none; 16];
@@ -62,7 +64,8 @@ pub fn measure(file: &[u8], rest: &mut [u8], cues: &mut [u32]) -> FileFigures
     }
 }
 
-// A file more on the sheet: `counts` by refusal number, and of the groups' first files the reports with their lengths and the cue numbers with how many they are.
+// A file more on the sheet: `counts` by refusal number, and of the groups' first files the reports with their lengths and the cue numbers
+// with how many they are.
 // The file's report and cue numbers are written behind them.
 pub fn add_file(
     file: &[u8],
@@ -74,7 +77,10 @@ pub fn add_file(
     cues: &mut [u32],
 ) -> Sheet
     requires { ⌜ SheetWithRoom sheet (now counts) (now lengths) (now reports) (now fired) (now cues) ⌝ }
-    ensures { λ r. ⌜ ((js : List Judged) → SeasonSoFar js sheet (now (counts .entry)) (now (lengths .entry)) (now (reports .entry)) (now (fired .entry)) (now (cues .entry)) → SeasonSoFar (js ++ (judged fourOnes 1_024 (now (file .entry)) ∷ [])) r (now (counts .exit)) (now (lengths .exit)) (now (reports .exit)) (now (fired .exit)) (now (cues .exit))) ⌝ }
+    ensures { λ r. do
+      ⌜ ((js : List Judged) → SeasonSoFar js sheet (now (counts .entry)) (now (lengths .entry)) (now (reports .entry))
+          (now (fired .entry)) (now (cues .entry)) → SeasonSoFar (js ++ (judged fourOnes 1_024 (now (file .entry)) ∷ [])) r
+          (now (counts .exit)) (now (lengths .exit)) (now (reports .exit)) (now (fired .exit)) (now (cues .exit))) ⌝ }
 {
     let used = sheet.used;
     let cued = sheet.cued;

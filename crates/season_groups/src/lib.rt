@@ -1,4 +1,5 @@
-// The groups of a season: of each group's first file the report and the cue numbers are kept, one after the other in one list, with their lengths.
+// The groups of a season: of each group's first file the report and the cue numbers are kept, one after the other in one list, with their
+// lengths.
 ghost use mathlib.Core.Path.{_≡_};
 ghost use mathlib.Core.List.{List, map};
 ghost use Prim.Native.Nat.{_+_, _≤_, _<_};
@@ -29,7 +30,9 @@ fn same_cues(first: &[u32], cues: &[u32]) -> bool
 
 // Whether a file is in the group of a first file, by their reports and their cue numbers.
 fn same_group(first: &[u8], report: &[u8], fired: &[u32], cues: &[u32]) -> bool
-    ensures { λ r. ⌜ ((a b : Script) → now (first .entry) ≡ scriptReport ones a → now (report .entry) ≡ scriptReport ones b → now (fired .entry) ≡ cuesOf (a .rows) → now (cues .entry) ≡ cuesOf (b .rows) → r ≡ sameGroup a b) ⌝ }
+    ensures { λ r. do
+      ⌜ ((a b : Script) → now (first .entry) ≡ scriptReport ones a → now (report .entry) ≡ scriptReport ones b → now
+          (fired .entry) ≡ cuesOf (a .rows) → now (cues .entry) ≡ cuesOf (b .rows) → r ≡ sameGroup a b) ⌝ }
 {
     if program_words::is_word(report, first) {
         return same_cues(fired, cues);
@@ -46,8 +49,13 @@ fn is_known(
     report: &[u8],
     cues: &[u32],
 ) -> bool
-    requires { ⌜ (total (now lengths) ≤ length (now firsts)) × (length (now counts) ≡ length (now lengths)) × (total (now counts) ≤ length (now fired)) ⌝ }
-    ensures { λ r. ⌜ ((ss : List Script) (s : Script) → cutBy (now (lengths .entry)) (now (firsts .entry)) ≡ map (scriptReport ones) ss → cutBy (now (counts .entry)) (now (fired .entry)) ≡ map scriptCues ss → now (report .entry) ≡ scriptReport ones s → now (cues .entry) ≡ cuesOf (s .rows) → r ≡ among s ss) ⌝ }
+    requires { do
+      ⌜ (total (now lengths) ≤ length (now firsts)) × (length (now counts) ≡ length (now lengths))
+          × (total (now counts) ≤ length (now fired)) ⌝ }
+    ensures { λ r. do
+      ⌜ ((ss : List Script) (s : Script) → cutBy (now (lengths .entry)) (now (firsts .entry)) ≡ map (scriptReport ones) ss
+          → cutBy (now (counts .entry)) (now (fired .entry)) ≡ map scriptCues ss → now (report .entry) ≡ scriptReport ones s
+          → now (cues .entry) ≡ cuesOf (s .rows) → r ≡ among s ss) ⌝ }
 {
     if lengths.len() == 0 {
         return false;
@@ -74,7 +82,8 @@ pub struct Kept {
     pub cued: usize,
 }
 
-// A file whose report and cue numbers stand behind those of the firsts. It is a group's first if it is in none of the groups: then they are kept.
+// A file whose report and cue numbers stand behind those of the firsts. It is a group's first if it is in none of the groups: then they are
+// kept.
 pub fn keep_first(
     kept: Kept,
     len: usize,
@@ -85,7 +94,9 @@ pub fn keep_first(
     cues: &[u32],
 ) -> bool
     requires { ⌜ Behind kept len count (now lengths) (now reports) (now counts) (now cues) ⌝ }
-    ensures { λ r. ⌜ FirstsAfter kept len count (now (lengths .entry)) (now (lengths .exit)) (now (reports .entry)) (now (counts .entry)) (now (counts .exit)) (now (cues .entry)) r ⌝ }
+    ensures { λ r. do
+      ⌜ FirstsAfter kept len count (now (lengths .entry)) (now (lengths .exit)) (now (reports .entry)) (now (counts .entry))
+          (now (counts .exit)) (now (cues .entry)) r ⌝ }
 {
     let groups = kept.groups;
     let used = kept.used;

@@ -1,4 +1,5 @@
-// The file names of standard input, one a line, kept as the input is read. Of the first 65 lines the first 256 bytes are kept: enough to tell a name that is too long from
+// The file names of standard input, one a line, kept as the input is read. Of the first 65 lines the first 256 bytes are kept: enough to
+// tell a name that is too long from
 // one that is not, and 65 names from 64.
 ghost use mathlib.Core.Path.{_≡_};
 ghost use mathlib.Core.Bool.{cond};
@@ -32,7 +33,9 @@ pub fn start(names: &mut [u8; ROOM], lengths: &mut [usize; 66]) -> usize
 
 // One byte more of the input. Line `at` is open; after 65 lines nothing is kept.
 fn push(at: usize, b: u8, names: &mut [u8; ROOM], lengths: &mut [usize; 66]) -> usize
-    ensures { λ r. ⌜ ((input : List ℕ) → NamesKept input at (now (names .entry)) (now (lengths .entry)) → NamesKept (input ++ (b ∷ [])) r (now (names .exit)) (now (lengths .exit))) ⌝ }
+    ensures { λ r. do
+      ⌜ ((input : List ℕ) → NamesKept input at (now (names .entry)) (now (lengths .entry)) → NamesKept (input ++ (b ∷ [])) r
+          (now (names .exit)) (now (lengths .exit))) ⌝ }
 {
     if at >= LINES {
         return at;
@@ -51,7 +54,9 @@ fn push(at: usize, b: u8, names: &mut [u8; ROOM], lengths: &mut [usize; 66]) -> 
 
 // A block more of the input.
 pub fn push_all(at: usize, block: &[u8], names: &mut [u8; ROOM], lengths: &mut [usize; 66]) -> usize
-    ensures { λ r. ⌜ ((input : List ℕ) → NamesKept input at (now (names .entry)) (now (lengths .entry)) → NamesKept (input ++ now (block .entry)) r (now (names .exit)) (now (lengths .exit))) ⌝ }
+    ensures { λ r. do
+      ⌜ ((input : List ℕ) → NamesKept input at (now (names .entry)) (now (lengths .entry)) → NamesKept
+          (input ++ now (block .entry)) r (now (names .exit)) (now (lengths .exit))) ⌝ }
 {
     let mut line = at;
     let mut i = 0;
@@ -74,7 +79,8 @@ fn filled(length: usize) -> usize
 
 // How many names there are: what stands after the last LF is one if it is not empty. 0 for no name or more than 64.
 pub fn count(at: usize, lengths: &[usize; 66]) -> usize
-    ensures { λ r. ⌜ ((input names : List ℕ) → NamesKept input at names (now (lengths .entry)) → r ≡ listed (namesOf input)) × (r ≤ 64) ⌝ }
+    ensures { λ r. do
+      ⌜ ((input names : List ℕ) → NamesKept input at names (now (lengths .entry)) → r ≡ listed (namesOf input)) × (r ≤ 64) ⌝ }
 {
     if at >= LINES {
         return 0;
@@ -115,7 +121,9 @@ fn opens(name: &[u8]) -> bool
 
 // How many bytes of name k are to be opened: all, or none of a name that does not open.
 pub fn opened(k: usize, names: &[u8], lengths: &[usize; 66]) -> usize
-    ensures name { λ r. ⌜ ((input : List ℕ) (at : ℕ) → NamesKept input at (now (names .entry)) (now (lengths .entry)) → k < 65 → k < length (namesOf input) → Opened (getD (namesOf input) k []) (take r (drop (256 * k) (now (names .entry)))) r) ⌝ }
+    ensures name { λ r. do
+      ⌜ ((input : List ℕ) (at : ℕ) → NamesKept input at (now (names .entry)) (now (lengths .entry)) → k < 65 → k < length
+          (namesOf input) → Opened (getD (namesOf input) k []) (take r (drop (256 * k) (now (names .entry)))) r) ⌝ }
     ensures room { λ r. ⌜ r ≤ 255 ⌝ }
 {
     if k >= LINES {

@@ -8,9 +8,11 @@ ghost use lib.ListN.{length, getD};
 ghost use Rattle.rules.specs.Report.{decimal, keyLine};
 ghost use Rattle.rules_season.specs.Season.{refusalText};
 ghost use Rattle.report_pieces.specs.Pieces.{Wrote};
-ghost use Rattle.season_sheet.specs.Figures.{SheetIs, Accepting, CounterRaised, Refusing, frontText, metText, numbersText, tailText, SheetWritten};
+ghost use Rattle.season_sheet.specs.Figures.{SheetIs, Accepting, CounterRaised, Refusing, frontText, metText, numbersText};
+ghost use Rattle.season_sheet.specs.Figures.{tailText, SheetWritten};
 
-// The figures, but for the refusals by number, which stand in an array of 21; and how many bytes the reports and how many numbers the cues of the groups' first files take.
+// The figures, but for the refusals by number, which stand in an array of 21; and how many bytes the reports and how many numbers the cues
+// of the groups' first files take.
 pub struct Sheet {
     pub accepted: u64,
     pub refused: u64,
@@ -23,7 +25,9 @@ pub struct Sheet {
 
 // The sheet of no file.
 pub fn empty(counts: &mut [u64; 21]) -> Sheet
-    ensures { λ r. ⌜ SheetIs [] r (now (counts .exit)) × (r .groups ≡ 0) × (r .used ≡ 0) × (r .cued ≡ 0) × (length (now (counts .exit)) ≡ 21) ⌝ }
+    ensures { λ r. do
+      ⌜ SheetIs [] r (now (counts .exit)) × (r .groups ≡ 0) × (r .used ≡ 0) × (r .cued ≡ 0)
+          × (length (now (counts .exit)) ≡ 21) ⌝ }
 {
     *counts = [0; 21];
     Sheet {
@@ -49,7 +53,9 @@ fn if_fresh(fresh: bool, n: usize) -> usize
 
 // An accepted file more: its ticks, its report's length, how many cues it has, and whether it is in a new group.
 pub fn with_accepted(sheet: Sheet, ticks: u64, len: usize, count: usize, fresh: bool) -> Sheet
-    requires { ⌜ (sheet .accepted < 64) × (sheet .ticks ≤ 64_000_000_000_000) × (ticks ≤ 1_000_000_000_000) × (sheet .groups < 64) × (sheet .used + len ≤ 133_696) × (sheet .cued + count ≤ 16_384) ⌝ }
+    requires { do
+      ⌜ (sheet .accepted < 64) × (sheet .ticks ≤ 64_000_000_000_000) × (ticks ≤ 1_000_000_000_000) × (sheet .groups < 64)
+          × (sheet .used + len ≤ 133_696) × (sheet .cued + count ≤ 16_384) ⌝ }
     ensures { λ r. ⌜ Accepting sheet ticks len count fresh r ⌝ }
 {
     let most = larger(sheet.greatest, ticks);
@@ -98,7 +104,8 @@ pub fn with_refused(sheet: Sheet, number: u32, counts: &mut [u64; 21]) -> Sheet
 // Writes a key and a number, and then a line of another key and number.
 fn put_pair(first: &[u8], x: u64, second: &[u8], y: u64, out: &mut [u8]) -> usize
     requires { ⌜ length ((now first ++ decimal x) ++ keyLine (now second) y) ≤ length (now out) ⌝ }
-    ensures { λ r. ⌜ Wrote ((now (first .entry) ++ decimal x) ++ keyLine (now (second .entry)) y) (now (out .entry)) (now (out .exit)) r ⌝ }
+    ensures { λ r. do
+      ⌜ Wrote ((now (first .entry) ++ decimal x) ++ keyLine (now (second .entry)) y) (now (out .entry)) (now (out .exit)) r ⌝ }
 {
     let at = report_pieces::put_number(first, x, out);
     at + report_pieces::put_entry(second, y, &mut out[at..])
@@ -118,7 +125,8 @@ fn put_met(number: usize, n: u64, out: &mut [u8]) -> usize
 // Writes the lines of the refusal numbers, in rising order.
 fn put_numbers(counts: &[u64; 21], out: &mut [u8]) -> usize
     requires { ⌜ 1_000 ≤ length (now out) ⌝ }
-    ensures { λ r. ⌜ Wrote (numbersText (λ q. getD (now (counts .entry)) q 0)) (now (out .entry)) (now (out .exit)) r × (r ≤ 1_000) ⌝ }
+    ensures { λ r. do
+      ⌜ Wrote (numbersText (λ q. getD (now (counts .entry)) q 0)) (now (out .entry)) (now (out .exit)) r × (r ≤ 1_000) ⌝ }
 {
     let mut at: usize = 0;
     let mut q: usize = 1;
@@ -141,7 +149,8 @@ fn put_front(sheet: Sheet, out: &mut [u8]) -> usize
 // Writes the lines after them.
 fn put_tail(sheet: Sheet, out: &mut [u8]) -> usize
     requires { ⌜ 85 ≤ length (now out) ⌝ }
-    ensures { λ r. ⌜ Wrote (tailText (sheet .ticks) (sheet .greatest) (sheet .groups)) (now (out .entry)) (now (out .exit)) r × (r ≤ 85) ⌝ }
+    ensures { λ r. do
+      ⌜ Wrote (tailText (sheet .ticks) (sheet .greatest) (sheet .groups)) (now (out .entry)) (now (out .exit)) r × (r ≤ 85) ⌝ }
 {
     let a = report_pieces::put_entry(b"ticks=", sheet.ticks, out);
     let b = a + report_pieces::put_entry(b"greatest=", sheet.greatest, &mut out[a..]);
