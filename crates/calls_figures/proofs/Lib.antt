@@ -1,0 +1,2 @@
+-- Laws of the figures as numbers.
+pub mod Laws

@@ -1,0 +1,2 @@
+-- A report's figures as numbers.
+pub mod Told
