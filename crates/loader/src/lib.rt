@@ -1,8 +1,6 @@
 // The public calls: the report of a script file, its run, and the frames of several scripts. They take all inputs, always end, and refuse
 // by number and place.
 use calls::Outcome;
-use calls_figures::Figures;
-use calls_figures::figures_script;
 use calls_frames::Frames;
 use calls_prices::ask_prices;
 use reader::load;
@@ -14,7 +12,6 @@ ghost use Rattle.rules.specs.File.{fileScript};
 ghost use Rattle.rules.specs.Report.{longestReport};
 ghost use Rattle.rules.specs.Calls.{pricesOf, Priced, judgedFile, runReply};
 ghost use Rattle.calls.specs.Told.{RanAs};
-ghost use Rattle.calls_figures.specs.Told.{FiguresAs};
 ghost use Rattle.calls_lists.specs.Parts.{lentOf};
 ghost use Rattle.loader.specs.Kept.{lentVerdict, judgement, Reported, KeptCall, ScratchKept};
 ghost use Rattle.loader.specs.Framing.{FramedCall};
@@ -77,36 +74,6 @@ pub fn report(file: &[u8], prices: &[u32], scratch: &mut [u32], buffer: &mut [u8
     match lent {
         Verdict::Passed => report_file(file, prices, &mut scratch[..SCRATCH], buffer),
         Verdict::Refused(q, p) => Reply::Refused(q, p),
-    }
-}
-
-// The figures of a file under prices that 16 has passed, its rows in the lent table: the questions 2 to 13, 17 and 19.
-fn figures_file(file: &[u8], prices: &[u32], table: &mut [u32], lines: &mut [[u64; 7]; 16]) -> Figures
-    requires { ⌜ Priced (now prices) × (length (now table) ≡ 1_024) ⌝ }
-    ensures { λ r. ⌜ FiguresAs (now (prices .entry)) (judgedFile (pricesOf (now (prices .entry))) (fileScript (now (file .entry))))
-        (now (lines .exit)) r ⌝ }
-{
-    let none: [i32; 2] = [0; 2];
-    let mut ranges = [none; 16];
-    let l = load(file, &mut ranges, table);
-    let verdict = l.verdict;
-    match verdict {
-        Verdict::Passed => figures_script(file, &table[..], l, ranges, prices, lines),
-        Verdict::Refused(_, _) => calls_figures::no_figures(verdict),
-    }
-}
-
-// What the report of a file under four lent prices says, as numbers: the questions 1, 16, 2 to 13, 17 and 19. Accepted, its ticks, how many variables and loops it has,
-// and the loops' numbers in the first lines. Refused, there are none. The first 1,024 numbers of the scratch are written over; the others keep their values.
-pub fn figures(file: &[u8], prices: &[u32], scratch: &mut [u32], lines: &mut [[u64; 7]; 16]) -> Figures
-    ensures answer { λ r. ⌜ FiguresAs (now (prices .entry)) (judgement (now (prices .entry)) (now (scratch .entry)) (now (file .entry)))
-        (now (lines .exit)) r ⌝ }
-    ensures scratch { λ _. ⌜ ScratchKept (now (scratch .entry)) (now (scratch .exit)) ⌝ }
-{
-    let lent = ask_lent(prices, scratch.len());
-    match lent {
-        Verdict::Passed => figures_file(file, prices, &mut scratch[..SCRATCH], lines),
-        Verdict::Refused(_, _) => calls_figures::no_figures(lent),
     }
 }
 

@@ -7,13 +7,12 @@ use native.Mathlib.Omega.{arith}
 use native.Mathlib.Numerals.{add-one}
 use lib.Dec.{eqb, ltb}
 use borrow.Author.Tests.{ltb-true, ltb-false, eq-eqb, ne-eqb, eqb-true, eqb-false}
-use lib.ListN.{length, getD, take, drop}
+use lib.ListN.{length, getD, take, drop, length-drop}
 use Rattle.rules.specs.Text.{prefixed, split, startsWith, wordsOf, lineTexts, nextTexts, nextWords, nextLines}
-use Rattle.reading_text.specs.Words.{before, HasEnd, parts, following}
-use Rattle.rules.specs.File.{asksEnd}
+use Rattle.rules.specs.declared.Word.{Word}
+use Rattle.reading_text.specs.declared.LineWords.{LineWords}
+use Rattle.reading_text.specs.Words.{before, cutWord, HasEnd, parts, following, lineWord, LineRead}
 use Rattle.reading_text.proofs.Laws.{split-more, split-last}
-use Rattle.reading_text.proofs.Cut.{cut-end}
-use Rattle.reading_text.proofs.Line.{Reached, reach-end}
 use Rattle.reading_lines.specs.Lines.{fileLines, keyed, clean}
 
 -- there is always a part
@@ -186,6 +185,19 @@ keyed-at key s p c e k =
     let w = at-words key s c k in
     subst (Keyed key s) e (record { ends = w .ends; texts = at-next key s c k; words = same-words _ _ (at-next key s c k); line = w .line })
 
--- the line ends where its m words do
-pub keyed-end : (key s : List ℕ) (p m n : ℕ) → Keyed key s p → Reached s p m n → asksEnd (following (drop p s) m) ≡ 0 → n ≡ before 10 s
-keyed-end key s p m n k r z = reach-end s p m n r (cut-end (following (drop p s) m) ∙ z) ∙ k .line
+-- the words of such a line, their numbers cut off, and the line after it
+pub record KeyLine (key s : List ℕ) (l : LineWords) : Type 0 where
+  pub word : (k : ℕ) → k < 8 → lineWord l k ≡ cutWord (nextWords key (fileLines s) k)
+  pub next : nextLines (fileLines s) ≡ fileLines (drop (l .end + 1) s)
+  pub long : l .end + 1 ≤ length s
+
+pub key-line : (key s : List ℕ) (p : ℕ) (l : LineWords) → Keyed key s p → LineRead s p l → KeyLine key s l
+unfolding HasEnd
+key-line key s p l k r =
+    let e : l .end ≡ before 10 s = r .end ∙ k .line in
+    let h : before 10 s < length s = omega (arith, k .ends, k .line, length-drop p s) in
+    record {
+      word = λ n m. r .word n m ∙ ap (λ (w : ℕ → Word). cutWord (w n)) (sym (k .words));
+      next = lines-next s h ∙ ap (λ n. fileLines (drop (n + 1) s)) (sym e);
+      long = omega (arith, e, h);
+    }

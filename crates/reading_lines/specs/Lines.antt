@@ -8,7 +8,7 @@ use lib.ListN.{length, drop}
 use Rattle.rules.specs.Ranges.{Range}
 use Rattle.rules.specs.Text.{split, startsWith, nextWords, nextLines}
 use Rattle.rules.specs.File
-use Rattle.rules.specs.File.{Reading, read, refused, unless, countLine, asksRange, rangeKey}
+use Rattle.rules.specs.File.{Reading, read, refused, unless, countLine, scriptLine, asksRange, rangeKey}
 use Rattle.reading_text.specs.Words.{before}
 use Rattle.reading_lines.specs.declared.CountLine.{CountLine}
 use Rattle.reading_lines.specs.declared.Ranged.{Ranged}
@@ -41,6 +41,10 @@ Within rest most (CountLine.Wrong q) = q ≡ 0 → ⊥
 pub record CountRead (key rest : List ℕ) (most : ℕ) (r : CountLine) : Type 0 where
   pub line : (p : ℕ) → countLine key most p (fileLines rest) ≡ countOf rest p r
   pub within : Within rest most r
+
+-- r is what the line `script=1` says
+abbrev pub ScriptRead : List ℕ → CountLine → Type 0
+ScriptRead rest r = (scriptLine (fileLines rest) ≡ countOf rest 1 r) × Within rest 1 r
 
 -- what a range line reads, and then f
 unfoldable pub rangeRead : List ℕ → ℕ → (Range → List (List ℕ) → Reading (List Range)) → Ranged → Reading (List Range)

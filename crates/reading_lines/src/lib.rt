@@ -1,10 +1,10 @@
 // The lines before a file's rows, one at a time: `script=`, `vars=`, `range=`, `rows=`. Each reader gets the unread rest of the file.
 use reading_order::first_refusal;
-use reading_text::next_word;
+use reading_text::line_words;
 use reading_text::position;
-use reading_text::said;
 use reading_text::starts_with;
-use reading_words::asks_last;
+use reading_text::word;
+use reading_words::asks_end;
 use reading_words::asks_number;
 use reading_words::asks_one;
 use reading_words::asks_order;
@@ -15,9 +15,8 @@ ghost use lib.Dec.{ltb};
 ghost use lib.IntN.{pos, natAbs};
 ghost use lib.Signed.{_≤ℤ_};
 ghost use lib.ListN.{length};
-ghost use Rattle.rules.specs.File.{scriptLine};
 ghost use Rattle.reading_text.specs.Words.{before};
-ghost use Rattle.reading_lines.specs.Lines.{keyed, clean, fileLines, countOf, CountRead, Within, RangeRead};
+ghost use Rattle.reading_lines.specs.Lines.{keyed, clean, CountRead, ScriptRead, RangeRead};
 
 // Whether an LF ends the next line.
 fn has_line(rest: &[u8]) -> bool
@@ -55,12 +54,11 @@ pub fn count_line(rest: &[u8], key: &[u8], most: i32) -> CountLine
     ensures { λ r. ⌜ CountRead (now (key .entry)) (now (rest .entry)) (natAbs most) r ⌝ }
 {
     if keyed(rest, key) {
-        let f = next_word(rest, key.len() - 1);
-        let x = said(f.tag, f.value);
-        let end = f.end;
-        let q = first_refusal(asks_number(0, most, x), asks_last(rest, end));
+        let line = line_words(rest, key.len() - 1);
+        let x = word(line, 0);
+        let q = first_refusal(asks_number(0, most, x), asks_end(word(line, 1)));
         if q == 0 {
-            return CountLine::Count(number_of(x) as usize, end + 1);
+            return CountLine::Count(number_of(x) as usize, line.end + 1);
         }
         return CountLine::Wrong(q);
     }
@@ -69,15 +67,13 @@ pub fn count_line(rest: &[u8], key: &[u8], most: i32) -> CountLine
 
 // `script=1`
 pub fn script_line(rest: &[u8]) -> CountLine
-    ensures { λ r. ⌜ (scriptLine (fileLines (now (rest .entry))) ≡ countOf (now (rest .entry)) 1 r) × Within (now (rest .entry)) 1 r ⌝ }
+    ensures { λ r. ⌜ ScriptRead (now (rest .entry)) r ⌝ }
 {
     if keyed(rest, b"script=") {
-        let f = next_word(rest, 6);
-        let x = said(f.tag, f.value);
-        let end = f.end;
-        let q = first_refusal(asks_one(x), asks_last(rest, end));
+        let line = line_words(rest, 6);
+        let q = first_refusal(asks_one(word(line, 0)), asks_end(word(line, 1)));
         if q == 0 {
-            return CountLine::Count(1, end + 1);
+            return CountLine::Count(1, line.end + 1);
         }
         return CountLine::Wrong(q);
     }
@@ -95,16 +91,14 @@ pub fn range_line(rest: &[u8]) -> Ranged
     ensures { λ r. ⌜ RangeRead (now (rest .entry)) r ⌝ }
 {
     if keyed(rest, b"range=") {
-        let f = next_word(rest, 5);
-        let lo = said(f.tag, f.value);
-        let g = next_word(rest, f.end);
-        let hi = said(g.tag, g.value);
-        let end = g.end;
-        let ends = first_refusal(asks_last(rest, end), asks_order(lo, hi));
+        let line = line_words(rest, 5);
+        let lo = word(line, 0);
+        let hi = word(line, 1);
+        let ends = first_refusal(asks_end(word(line, 2)), asks_order(lo, hi));
         let high = first_refusal(asks_number(-1_000_000_000, 1_000_000_000, hi), ends);
         let q = first_refusal(asks_number(-1_000_000_000, 1_000_000_000, lo), high);
         if q == 0 {
-            return Ranged::Range(number_of(lo), number_of(hi), end + 1);
+            return Ranged::Range(number_of(lo), number_of(hi), line.end + 1);
         }
         return Ranged::Wrong(q);
     }

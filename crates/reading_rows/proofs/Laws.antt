@@ -1,5 +1,5 @@
 -- Laws of a row's words. Assumes nothing.
-use mathlib.Core.Path.{_≡_, refl, sym, ap, _∙_, fun-ext}
+use mathlib.Core.Path.{_≡_, refl, sym, ap, _∙_}
 use mathlib.Core.Bool.{Bool, true, false, cond}
 use mathlib.Core.List.{List, [], _∷_}
 use Prim.Native.Nat.{ℕ, zero, suc, _+_, _-_, _≤_, _<_}
@@ -23,30 +23,32 @@ use Rattle.rules.specs.Text.{wordOf, wordsOf}
 use Rattle.rules.specs.Parse.{Parsed, parsed, shapeless, parse, exprIn, depth, operators}
 use Rattle.rules.specs.Values.{lowest, highest}
 use Rattle.rules.specs.Written.{Composed, InText, WrittenOperand, Written}
-use Rattle.rules.specs.File.{RowRead, Read, Wrong, firstRefusal, asksEnd, asksNumber, asksVariable, asksSize, asksLeaves, asksExpr, asksStep, asksTest, asksFor, checked, variableOf, comparisonOf, setRow, moveRow, offRow, cueRow, bareRow, whileRow, doRow, forRow, holdRow, namedRow, firstWord, wordsRow, rowOf}
+use Rattle.rules.specs.File.{RowRead, Read, Wrong, firstRefusal, asksEnd, asksNumber, asksVariable, asksSize, asksLeaves, asksExpr, asksStep, asksTest, asksFor, checked, variableOf, comparisonOf, whileRow, doRow, namedRow, firstWord, wordsRow, rowOf}
 use Rattle.rules.proofs.Word as word
 use Rattle.rules.proofs.ReadLegal.{refusal-yes}
 use Rattle.reading_rows.proofs.Bare.{bare, bareIn}
 use Rattle.reading_rows.proofs.Words.{Alone, alone}
-use Rattle.reading_text.specs.Words.{before, cutWord, parts, following, spelling, WordRead}
-use Rattle.reading_text.specs.declared.WordFound.{WordFound}
-use Rattle.reading_text.proofs.Line.{Says, says-word, Reached, reach-text, reach-end, ends-within}
+use Rattle.reading_text.specs.declared.LineWords.{LineWords}
+use Rattle.reading_text.specs.Words.{cutWord, parts, following, spelling, lineWord, lineText, LineRead}
 use Rattle.reading_text.proofs.Cut.{lowest-below, cut-number, cut-number-of, cut-variable, cut-variable-of, row-cut}
 use Rattle.reading_rows.specs.declared.RowLine.{RowLine}
-use Rattle.reading_rows.specs.Rows.{wordsAfter, exprs, Bare, Rowed, WordsRead}
-use Rattle.reading_words.specs.Words.{textIn, Means, Small, operandAt}
+use Rattle.reading_rows.specs.Rows.{Bare, Rowed, TextRow, RowAt}
+use Rattle.reading_words.specs.Words.{lineExpr, Means, Meant, Small, operandAt, lineOperand, OperandFits}
 use Rattle.reading_words.proofs.Laws.{small-variable, no-keyword, no-keywords, none-asks, parse-none}
 
--- a row that is read, or not
-pub checked-read : (q Q : ℕ) (k r : RowKind) → q ≡ Q → q ≡ 0 → k ≡ r → Read k ≡ checked Q r
-unfolding checked
-checked-read q zero k r e z f = ap Read f
-checked-read q (suc Q) k r e z f = absurd (omega arith)
+-- a row's line, whose questions are asked: Q of its words, q by code
+module _ (s : List ℕ) (base end q Q : ℕ) (r : RowKind) (e : q ≡ Q) where
+  pub line-read : (k : Kind) → q ≡ 0 → ((file : List ℕ) → drop base file ≡ s → (kindOf file k ≡ r) × Written file k) → Rowed s base (checked Q r) end (RowLine.Read k end)
+  unfolding checked
+  line-read k z f = record { line = λ file d. rw (sym e ∙ z) (ap Read (f file d .0)); written = λ file d. f file d .1; ends = refl }
 
-pub checked-wrong : (q Q : ℕ) (r : RowKind) → q ≡ Q → (q ≡ 0 → ⊥) → Wrong q ≡ checked Q r
-unfolding checked
-checked-wrong q zero r e n = absurd (n e)
-checked-wrong q (suc Q) r e n = ap Wrong e
+  pub line-wrong : (q ≡ 0 → ⊥) → Rowed s base (checked Q r) end (RowLine.Wrong q)
+  unfolding checked
+  line-wrong n = record { line = λ file d. no q e n; written = λ file d. tt; ends = tt }
+    where
+      no : (p : ℕ) → p ≡ Q → (p ≡ 0 → ⊥) → Wrong p ≡ checked Q r
+      no zero g m = absurd (m refl)
+      no (suc p) g m = rw (← g)
 
 -- a row's words, whose questions all have yes: of two words, of a test, of four words, of a for
 pub two-yes : (a b c q : ℕ) → q ≡ firstRefusal a (firstRefusal b c) → q ≡ 0 → (a ≡ 0) × (b ≡ 0) × (c ≡ 0)
@@ -115,89 +117,60 @@ means-of vars few [] k = by-word vars few Missing (parse []) (unfold bareIn in r
 means-of vars few (w ∷ ws) zero = by-word vars few (wordOf w) (parse w) (alone w)
 means-of vars few (w ∷ ws) (suc k) = means-of vars few ws k
 
--- of the word k after a text's first byte
-pub means : (vars : ℕ) → vars ≤ 16 → (s : List ℕ) (k : ℕ) (w : Word) (t : List ℕ) → w ≡ cutWord (following s k) → spelling s k ≡ t → Means vars w (parse t)
+-- of each word of a line
+pub meant : (s : List ℕ) (at vars : ℕ) (l : LineWords) → vars ≤ 16 → LineRead s at l → Meant s vars l
 unfolding following spelling
-means vars few s k w t e f = rw (e, ← f) (means-of vars few (parts s) k)
+meant s at vars l few r = record { few = few; means = λ k h. rw (r .word k h, r .text k h) (means-of vars few (parts (drop at s)) k); long = r .long }
 
--- a word that has passed, with its bytes in the line's text s
-module _ (s : List ℕ) (at base end vars : ℕ) (w : Word) (long : end ≤ length s) (few : vars ≤ 16) (m : Means vars w (parse (textIn s at end))) (z : asksExpr vars (parse (textIn s at end)) ≡ 0) where
-  some : at < end
-  some = go (ltb at end) refl
+-- a word of a line of the text s, which begins at a file's byte `base`, that has passed as an expression
+module _ {s : List ℕ} {vars : ℕ} {l : LineWords} (m : Meant s vars l) (k : ℕ) (h : k < 8) (base : ℕ) (z : asksExpr vars (lineExpr s l k) ≡ 0) where
+  abbrev from : ℕ
+  from = getD (l .ends) k 0
+
+  abbrev to : ℕ
+  to = getD (l .ends) (k + 1) 0
+
+  some : from < to
+  some = go (ltb from to) refl
     where
-      go : (b : Bool) → ltb at end ≡ b → at < end
-      go true e = ltb-true at end e
-      go false e = absurd (omega (arith, z, none-asks s at end vars (ltb-false at end e)))
+      go : (b : Bool) → ltb from to ≡ b → from < to
+      go true e = ltb-true from to e
+      go false e = absurd (omega (arith, z, none-asks s from to vars (ltb-false from to e)))
 
-  small : (x : Word) → Means vars x (parse (textIn s at end)) → Small x
-  small Missing h = tt
-  small (Number y) h = tt
-  small (Variable v) h = small-variable vars v few (sym (h .0) ∙ z)
-  small (Compares c) h = tt
-  small (Keyword n) h = tt
-  small Other h = tt
+  small : (x : Word) → Means vars x (lineExpr s l k) → Small x
+  small Missing n = tt
+  small (Number y) n = tt
+  small (Variable v) n = small-variable vars v (m .few) (sym (n .0) ∙ z)
+  small (Compares c) n = tt
+  small (Keyword n) o = tt
+  small Other n = tt
 
-  pub operand-fits : base + length s ≤ 16_384 → (at < end) × (base + end ≤ 16_384) × Small w
-  operand-fits h = (some, omega arith, small w m)
+  pub operand-fits : base + length s ≤ 16_384 → OperandFits base l k
+  operand-fits e = record { some = some; place = omega (arith, m .long k h); small = small (lineWord l k) (m .means k h) }
 
   module _ (file : List ℕ) (e : drop base file ≡ s) where
-    same-text : take (end - (at + 1)) (drop (base + (at + 1)) file) ≡ textIn s at end
-    same-text = ap (take (end - (at + 1))) (sym (drop-drop (at + 1) base file) ∙ ap (drop (at + 1)) e)
+    same-text : take (to - (from + 1)) (drop (base + (from + 1)) file) ≡ lineText s l k
+    same-text = ap (take (to - (from + 1))) (sym (drop-drop (from + 1) base file) ∙ ap (drop (from + 1)) e)
 
-    in-text : Composed (exprIn (parse (textIn s at end))) → InText file (base + (at + 1)) (end - (at + 1))
-    in-text k = record {
-      within = omega (arith, some, long, ap length e, length-drop base file);
-      passed = record { vars = vars; few = few; asks = rw same-text z };
-      composed = rw same-text k;
+    in-text : Composed (exprIn (lineExpr s l k)) → InText file (base + (from + 1)) (to - (from + 1))
+    in-text c = record {
+      within = omega (arith, some, m .long k h, ap length e, length-drop base file);
+      passed = record { vars = vars; few = m .few; asks = rw same-text z };
+      composed = rw same-text c;
     }
 
     -- it says what it is read as, and stands in the file
-    says : (x : Word) → Means vars x (parse (textIn s at end)) → (exprOf file (operandAt base at end x) ≡ exprIn (parse (textIn s at end))) × WrittenOperand file (operandAt base at end x)
+    says : (x : Word) → Means vars x (lineExpr s l k) → (exprOf file (operandAt base from to x) ≡ exprIn (lineExpr s l k)) × WrittenOperand file (operandAt base from to x)
     unfolding exprOf
-    says Missing h = (ap (λ t. exprIn (parse t)) same-text, in-text (h z))
-    says (Number y) h = (sym (h .1 z), tt)
-    says (Variable v) h = (sym (h .1 z), tt)
-    says (Compares c) h = (ap (λ t. exprIn (parse t)) same-text, in-text (h z))
-    says (Keyword n) h = (ap (λ t. exprIn (parse t)) same-text, in-text (h z))
-    says Other h = (ap (λ t. exprIn (parse t)) same-text, in-text (h z))
+    says Missing n = (ap (λ t. exprIn (parse t)) same-text, in-text (n z))
+    says (Number y) n = (sym (n .1 z), tt)
+    says (Variable v) n = (sym (n .1 z), tt)
+    says (Compares c) n = (ap (λ t. exprIn (parse t)) same-text, in-text (n z))
+    says (Keyword n) o = (ap (λ t. exprIn (parse t)) same-text, in-text (o z))
+    says Other n = (ap (λ t. exprIn (parse t)) same-text, in-text (n z))
 
-    pub operand-says : (x : Operand) → x ≡ operandAt base at end w → (exprOf file x ≡ exprIn (parse (textIn s at end))) × WrittenOperand file x
-    operand-says x f = rw f (says w m)
-
--- the word k of a line, read between the bytes p and end, is to be an expression
-pub record Spelled (s : List ℕ) (at k vars p end : ℕ) (w : Word) : Type 0 where
-  pub text : spelling (drop at s) k ≡ textIn s p end
-  pub means : Means vars w (parse (textIn s p end))
-  pub long : end ≤ length s
-  pub few : vars ≤ 16
-
-pub spelled : (s : List ℕ) (at k p vars : ℕ) → Reached s at k p → vars ≤ 16 → (r : WordFound) → WordRead s p r → (w : Word) → w ≡ cutWord (following (drop at s) k) → Spelled s at k vars p (r .end) w
-spelled s at k p vars h few r n w e =
-    let t = reach-text s at k p h r n in
-    record { text = t; means = means vars few (drop at s) k w _ e t; long = omega (arith, ends-within s (r .end) (n .ends)); few = few }
-
-module _ {s : List ℕ} {at k vars p end : ℕ} {w : Word} (t : Spelled s at k vars p end w) where
-  pub spelled-asks : {q : ℕ} → q ≡ asksExpr vars (parse (textIn s p end)) → q ≡ asksExpr vars (parse (spelling (drop at s) k))
-  spelled-asks e = e ∙ ap (λ x. asksExpr vars (parse x)) (sym (t .text))
-
-  module _ (z : asksExpr vars (parse (spelling (drop at s) k)) ≡ 0) (base : ℕ) where
-    passes : asksExpr vars (parse (textIn s p end)) ≡ 0
-    passes = ap (λ x. asksExpr vars (parse x)) (sym (t .text)) ∙ z
-
-    pub spelled-fits : base + length s ≤ 16_384 → (p < end) × (base + end ≤ 16_384) × Small w
-    spelled-fits h = operand-fits s p base end vars w (t .long) (t .few) (t .means) passes h
-
-    pub spelled-says : (file : List ℕ) → drop base file ≡ s → (x : Operand) → x ≡ operandAt base p end w → (exprOf file x ≡ exprIn (parse (spelling (drop at s) k))) × WrittenOperand file x
-    spelled-says file d x e = rw (t .text) (operand-says s p base end vars w (t .long) (t .few) (t .means) passes file d x e)
-
--- ---- a row's line, whose words are read up to the byte p
-module _ (s : List ℕ) (at m p base : ℕ) (f : (ℕ → Word) → (ℕ → Parsed) → RowRead) (h : Reached s at m p) where
-  pub lined-read : (k : Kind) → ((file : List ℕ) → drop base file ≡ s → (Read (kindOf file k) ≡ f (wordsAfter Missing (drop at s)) (exprs shapeless (drop at s))) × Written file k)
-      → asksEnd (wordsAfter Missing (drop at s) (suc m)) ≡ 0 → WordsRead s at base f (RowLine.Read k p)
-  lined-read k e z = record { line = λ file d. e file d .0; written = λ file d. e file d .1; ends = reach-end s at m p h z }
-
-pub lined-wrong : (s : List ℕ) (at base : ℕ) (f : (ℕ → Word) → (ℕ → Parsed) → RowRead) (q : ℕ) → Wrong q ≡ f (wordsAfter Missing (drop at s)) (exprs shapeless (drop at s)) → WordsRead s at base f (RowLine.Wrong q)
-lined-wrong s at base f q e = record { line = λ file d. e; written = λ file d. tt; ends = tt }
+    pub operand-says : (x : Operand) → x ≡ lineOperand base l k → (exprOf file x ≡ exprIn (lineExpr s l k)) × WrittenOperand file x
+    operand-says x f = rw f (says (lineWord l k) (m .means k h))
 
 -- a row without words says the same in each text
 pub bare-says : (k : Kind) → Bare k → (file : List ℕ) → (kindOf file k ≡ kindOf [] k) × Written file k
@@ -215,70 +188,39 @@ bare-says (Kind.For v s c x d) b file = absurd b
 bare-says (Kind.Hold v) b file = absurd b
 
 -- a loop with a test
-module _ (wordsAfter : Bool) (vars : ℕ) (w : ℕ → Word) (ex : ℕ → Parsed) (q : ℕ) where
-  pub test-read : (file : List ℕ) (k : Kind) (v : ℕ) (c : Comparison) (x : Operand) → q ≡ asksTest vars w ex → q ≡ 0 → k ≡ cond wordsAfter (Kind.Do v c x) (Kind.While v c x)
-      → v ≡ variableOf (w 1) → c ≡ comparisonOf (w 2) → (exprOf file x ≡ exprIn (ex 3)) × WrittenOperand file x → (Read (kindOf file k) ≡ cond wordsAfter (doRow vars w ex) (whileRow vars w ex)) × Written file k
+module _ (s : List ℕ) (base end : ℕ) (after : Bool) (vars : ℕ) (w : ℕ → Word) (ex : ℕ → Parsed) (q : ℕ) (e : q ≡ asksTest vars w ex) where
+  abbrev the-row : RowRead
+  the-row = cond after (doRow vars w ex) (whileRow vars w ex)
+
+  pub test-read : (k : Kind) (v : ℕ) (c : Comparison) (x : Operand) → q ≡ 0 → k ≡ cond after (Kind.Do v c x) (Kind.While v c x)
+      → v ≡ variableOf (w 1) → c ≡ comparisonOf (w 2) → ((file : List ℕ) → drop base file ≡ s → (exprOf file x ≡ exprIn (ex 3)) × WrittenOperand file x) → Rowed s base the-row end (RowLine.Read k end)
   unfolding doRow whileRow kindOf
-  test-read file k v c x e z f a b (d, i) = go wordsAfter f
+  test-read k v c x z f a b i = go after f
     where
-      go : (t : Bool) → k ≡ cond t (Kind.Do v c x) (Kind.While v c x) → (Read (kindOf file k) ≡ cond t (doRow vars w ex) (whileRow vars w ex)) × Written file k
-      go true g = rw g (checked-read _ _ _ _ e z (rw (a, b, d)), i)
-      go false g = rw g (checked-read _ _ _ _ e z (rw (a, b, d)), i)
+      go : (t : Bool) → k ≡ cond t (Kind.Do v c x) (Kind.While v c x) → Rowed s base (cond t (doRow vars w ex) (whileRow vars w ex)) end (RowLine.Read k end)
+      go true g = rw g (line-read s base end q _ _ e _ z λ file d. let (h, j) = i file d in (rw (a, b, h), j))
+      go false g = rw g (line-read s base end q _ _ e _ z λ file d. let (h, j) = i file d in (rw (a, b, h), j))
 
-  pub test-wrong : q ≡ asksTest vars w ex → (q ≡ 0 → ⊥) → Wrong q ≡ cond wordsAfter (doRow vars w ex) (whileRow vars w ex)
+  pub test-wrong : (q ≡ 0 → ⊥) → Rowed s base the-row end (RowLine.Wrong q)
   unfolding doRow whileRow
-  test-wrong e n = go wordsAfter
+  test-wrong n = go after
     where
-      go : (t : Bool) → Wrong q ≡ cond t (doRow vars w ex) (whileRow vars w ex)
-      go true = checked-wrong _ _ _ e n
-      go false = checked-wrong _ _ _ e n
+      go : (t : Bool) → Rowed s base (cond t (doRow vars w ex) (whileRow vars w ex)) end (RowLine.Wrong q)
+      go true = line-wrong s base end q _ _ e n
+      go false = line-wrong s base end q _ _ e n
 
--- the first word of a row is asked no more
-pub named-after : (vars : ℕ) (x : Word) (p : Parsed) (s : List ℕ) (n : Name) → namedRow vars (wordsAfter Missing s) (exprs shapeless s) n ≡ namedRow vars (wordsAfter x s) (exprs p s) n
-unfolding setRow moveRow offRow cueRow bareRow whileRow doRow forRow holdRow asksTest asksFor
-named-after vars x p s Name.Set = refl
-named-after vars x p s Name.Add = refl
-named-after vars x p s Name.Sub = refl
-named-after vars x p s Name.Mul = refl
-named-after vars x p s Name.Div = refl
-named-after vars x p s Name.Off = refl
-named-after vars x p s Name.Cue = refl
-named-after vars x p s Name.Pick = refl
-named-after vars x p s Name.Else = refl
-named-after vars x p s Name.End = refl
-named-after vars x p s Name.While = refl
-named-after vars x p s Name.Do = refl
-named-after vars x p s Name.For = refl
-named-after vars x p s Name.Hold = refl
+-- the row of a line
+module _ (s : List ℕ) (at base vars : ℕ) (l : LineWords) (few : vars ≤ 16) (read : LineRead s at l) where
+  whole : wordsRow vars (lineWord l) (lineExpr s l) ≡ rowOf vars (parts (drop at s))
+  unfolding rowOf following spelling
+  whole = row-cut vars (lineWord l) (following (drop at s)) (lineExpr s l) _ few (read .word) (λ k h. ap parse (read .text k h))
 
--- the row of a line from its first word x
-module _ (s : List ℕ) (at base vars : ℕ) (f : WordFound) (n : WordRead s at f) (few : vars ≤ 16) (x : Word) (said : Says f x) where
-  abbrev first : Parsed
-  first = parse (spelling (drop at s) 0)
-
-  texts : exprs first (drop (f .end) s) ≡ (λ i. parse (getD (parts (drop at s)) i []))
-  unfolding spelling
-  texts = fun-ext same
-    where
-      same : (i : ℕ) → exprs first (drop (f .end) s) i ≡ parse (getD (parts (drop at s)) i [])
-      same zero = refl
-      same (suc k) = ap parse (sym (n .texts k))
-
-  whole : wordsRow vars (wordsAfter x (drop (f .end) s)) (exprs first (drop (f .end) s)) ≡ rowOf vars (parts (drop at s))
-  unfolding rowOf following
-  whole = ap (wordsRow vars (wordsAfter x (drop (f .end) s))) texts ∙ row-cut vars (wordsAfter x (drop (f .end) s)) (following (drop at s)) _ few words
-    where
-      words : (k : ℕ) → k < 8 → wordsAfter x (drop (f .end) s) k ≡ cutWord (following (drop at s) k)
-      words zero h = says-word f x said ∙ n .word
-      words (suc k) h = ap cutWord (sym (n .more k))
-
-  pub row-other : OneOf no-keywords (tagOf word.the-type x) → Rowed s base (rowOf vars (parts (drop at s))) (at + before 10 (drop at s)) (RowLine.Wrong 3)
+  pub row-other : (x : Word) → x ≡ lineWord l 0 → OneOf no-keywords (tagOf word.the-type x) → RowAt s at base vars (RowLine.Wrong 3)
   unfolding wordsRow
-  row-other o = record { line = λ file d. no-keyword x o .1 vars (wordsAfter x (drop (f .end) s)) (exprs first (drop (f .end) s)) ∙ whole; written = λ file d. tt; ends = tt }
+  row-other x e o = record { line = λ file d. no-keyword x o .1 vars (lineWord l) (lineExpr s l) ∙ ap (firstWord vars (lineWord l) (lineExpr s l)) e ∙ whole; written = λ file d. tt; ends = tt }
 
-  pub row-named : (name : Name) (r : RowLine) → x ≡ Keyword name → WordsRead s (f .end) base (λ w y. namedRow vars w y name) r → Rowed s base (rowOf vars (parts (drop at s))) (at + before 10 (drop at s)) r
+  pub row-named : (x : Word) → x ≡ lineWord l 0 → (name : Name) (r : RowLine) → x ≡ Keyword name → TextRow s base l (λ w y. namedRow vars w y name) r → RowAt s at base vars r
   unfolding wordsRow
-  row-named name r e l =
-      let same : namedRow vars (wordsAfter Missing (drop (f .end) s)) (exprs shapeless (drop (f .end) s)) name ≡ rowOf vars (parts (drop at s)) =
-      named-after vars x first (drop (f .end) s) name ∙ ap (firstWord vars (wordsAfter x (drop (f .end) s)) (exprs first (drop (f .end) s))) (sym e) ∙ whole in
-      rw (← same, ← n .line) l
+  row-named x e name r f t =
+      let same : namedRow vars (lineWord l) (lineExpr s l) name ≡ rowOf vars (parts (drop at s)) = ap (firstWord vars (lineWord l) (lineExpr s l)) (sym f ∙ e) ∙ whole in
+      rw (← same, ← read .end) t

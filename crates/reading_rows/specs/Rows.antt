@@ -1,27 +1,18 @@
 -- What a row's line reads.
 use mathlib.Core.Path.{_≡_}
 use mathlib.Core.List.{List}
-use Prim.Native.Nat.{ℕ, zero, suc, _+_}
+use Prim.Native.Nat.{ℕ, _+_}
 use lib.ListN.{drop}
 use Rattle.rules.specs.declared.Word.{Word}
-use Rattle.rules.specs.declared.Word.the-variants.{Missing}
 use Rattle.rules.specs.declared.Kind.{Kind}
 use Rattle.rules.specs.Blocks.{kindOf}
-use Rattle.rules.specs.Parse.{Parsed, shapeless, parse}
+use Rattle.rules.specs.Parse.{Parsed}
 use Rattle.rules.specs.Written.{Written}
-use Rattle.rules.specs.File.{RowRead, Read, Wrong}
-use Rattle.reading_text.specs.Words.{before, cutWord, following, spelling}
+use Rattle.rules.specs.File.{RowRead, Read, Wrong, rowOf}
+use Rattle.reading_text.specs.declared.LineWords.{LineWords}
+use Rattle.reading_text.specs.Words.{before, parts, lineWord}
+use Rattle.reading_words.specs.Words.{lineExpr}
 use Rattle.reading_rows.specs.declared.RowLine.{RowLine}
-
--- the word x, and the words after a text's first byte, their numbers cut off
-abbrev pub wordsAfter : Word → List ℕ → ℕ → Word
-wordsAfter x s zero = x
-wordsAfter x s (suc k) = cutWord (following s k)
-
--- what is read of those words as expressions
-abbrev pub exprs : Parsed → List ℕ → ℕ → Parsed
-exprs p s zero = p
-exprs p s (suc k) = parse (spelling s k)
 
 -- a row without words after its name
 abbrev pub Bare : Kind → Type 0
@@ -58,6 +49,14 @@ pub record Rowed (s : List ℕ) (base : ℕ) (row : RowRead) (end : ℕ) (r : Ro
   pub written : (file : List ℕ) → drop base file ≡ s → WrittenLine file r
   pub ends : LineEndsAt end r
 
--- the words after the first are read as f says; the line ends at its LF
-abbrev pub WordsRead : List ℕ → ℕ → ℕ → ((ℕ → Word) → (ℕ → Parsed) → RowRead) → RowLine → Type 0
-WordsRead s at base f r = Rowed s base (f (wordsAfter Missing (drop at s)) (exprs shapeless (drop at s))) (at + before 10 (drop at s)) r
+-- the words of a line are read as f says, and the line ends at its LF
+abbrev pub TextRow : List ℕ → ℕ → LineWords → ((ℕ → Word) → (ℕ → Parsed) → RowRead) → RowLine → Type 0
+TextRow s base l f r = Rowed s base (f (lineWord l) (lineExpr s l)) (l .end) r
+
+-- the same of a row without expressions, wherever its line stands
+abbrev pub LineRow : LineWords → ((ℕ → Word) → (ℕ → Parsed) → RowRead) → RowLine → Type 0
+LineRow l f r = (s : List ℕ) (base : ℕ) → TextRow s base l f r
+
+-- the row whose words stand after the byte `at`
+abbrev pub RowAt : List ℕ → ℕ → ℕ → ℕ → RowLine → Type 0
+RowAt s at base vars r = Rowed s base (rowOf vars (parts (drop at s))) (at + before 10 (drop at s)) r

@@ -1,12 +1,13 @@
 // A row by its words: their questions in order, and the row that they make.
 use reading_order::first_refusal;
-use reading_text::next_word;
-use reading_text::said;
+use reading_text::LineWords;
+use reading_text::line_words;
+use reading_text::word;
 use reading_words::amount;
 use reading_words::asks_change;
 use reading_words::asks_comparison;
+use reading_words::asks_end;
 use reading_words::asks_expression;
-use reading_words::asks_last;
 use reading_words::asks_number;
 use reading_words::asks_ordered;
 use reading_words::asks_step;
@@ -25,12 +26,13 @@ use rules::Word;
 ghost use mathlib.Core.Path.{_≡_};
 ghost use mathlib.Core.Bool.{cond};
 ghost use mathlib.Core.List.{[]};
-ghost use Prim.Native.Nat.{ℕ, _+_, _≤_};
+ghost use Prim.Native.Nat.{_+_, _≤_};
 ghost use lib.ListN.{length, drop};
-ghost use Rattle.rules.specs.File.{bareRow, setRow, moveRow, offRow, cueRow, whileRow, doRow, forRow, holdRow, namedRow, rowOf};
+ghost use Rattle.rules.specs.File.{bareRow, setRow, moveRow, offRow, cueRow, whileRow, doRow, forRow, holdRow, namedRow};
 ghost use Rattle.rules.specs.Blocks.{kindOf};
-ghost use Rattle.reading_text.specs.Words.{before, HasEnd, parts};
-ghost use Rattle.reading_rows.specs.Rows.{Bare, WordsRead, Rowed};
+ghost use Rattle.reading_text.specs.Words.{HasEnd};
+ghost use Rattle.reading_words.specs.Words.{Meant};
+ghost use Rattle.reading_rows.specs.Rows.{Bare, LineRow, TextRow, RowAt};
 
 // A row's line: its row and the byte of the line's LF, or the question that has no.
 pub enum RowLine {
@@ -39,73 +41,59 @@ pub enum RowLine {
 }
 
 // `pick`, `else`, `end`
-fn bare_row(s: &[u8], at: usize, vars: u32, kind: Kind) -> RowLine
-    requires { ⌜ HasEnd (drop at (now s)) × Bare kind ⌝ }
-    ensures { λ r. ⌜ ((base : ℕ) → WordsRead (now (s .entry)) at base (λ w x. bareRow vars w x (kindOf [] kind)) r) ⌝ }
+fn bare_row(line: LineWords, vars: u32, kind: Kind) -> RowLine
+    requires { ⌜ Bare kind ⌝ }
+    ensures { λ r. ⌜ LineRow line (λ w x. bareRow vars w x (kindOf [] kind)) r ⌝ }
 {
-    let q = asks_last(s, at);
+    let q = asks_end(word(line, 1));
     if q == 0 {
-        return RowLine::Read(kind, at);
+        return RowLine::Read(kind, line.end);
     }
     RowLine::Wrong(q)
 }
 
 // `set v0 X`
-fn set_row(s: &[u8], at: usize, base: usize, vars: u32) -> RowLine
-    requires { ⌜ HasEnd (drop at (now s)) × (vars ≤ 16) × (base + length (now s) ≤ 16_384) ⌝ }
-    ensures { λ r. ⌜ WordsRead (now (s .entry)) at base (setRow vars) r ⌝ }
+fn set_row(s: &[u8], line: LineWords, base: usize, vars: u32) -> RowLine
+    requires { ⌜ Meant (now s) vars line × (base + length (now s) ≤ 16_384) ⌝ }
+    ensures { λ r. ⌜ TextRow (now (s .entry)) base line (setRow vars) r ⌝ }
 {
-    let a = next_word(s, at);
-    let v = said(a.tag, a.value);
-    let b = next_word(s, a.end);
-    let x = said(b.tag, b.value);
-    let end = b.end;
-    let last = first_refusal(asks_expression(s, a.end, end, vars, x), asks_last(s, end));
+    let v = word(line, 1);
+    let last = first_refusal(asks_expression(s, line, 2, vars), asks_end(word(line, 3)));
     let q = first_refusal(asks_variable(vars, v), last);
     if q == 0 {
-        let kind = Kind::Set(variable_of(vars, v), operand_of(base, a.end, end, x));
-        return RowLine::Read(kind, end);
+        let kind = Kind::Set(variable_of(vars, v), operand_of(base, line, 2));
+        return RowLine::Read(kind, line.end);
     }
     RowLine::Wrong(q)
 }
 
 // `add v0 C`, `sub v0 C`, `mul v0 C`, `div v0 C`
-fn move_row(s: &[u8], at: usize, vars: u32, name: Name) -> RowLine
-    requires { ⌜ HasEnd (drop at (now s)) × (vars ≤ 16) ⌝ }
-    ensures { λ r. ⌜ ((base : ℕ) → WordsRead (now (s .entry)) at base (λ w x. moveRow vars w x name) r) ⌝ }
+fn move_row(line: LineWords, vars: u32, name: Name) -> RowLine
+    requires { ⌜ vars ≤ 16 ⌝ }
+    ensures { λ r. ⌜ LineRow line (λ w x. moveRow vars w x name) r ⌝ }
 {
-    let a = next_word(s, at);
-    let v = said(a.tag, a.value);
-    let b = next_word(s, a.end);
-    let x = said(b.tag, b.value);
-    let end = b.end;
-    let last = first_refusal(asks_change(name, x), asks_last(s, end));
+    let v = word(line, 1);
+    let x = word(line, 2);
+    let last = first_refusal(asks_change(name, x), asks_end(word(line, 3)));
     let q = first_refusal(asks_variable(vars, v), last);
     if q == 0 {
         let kind = Kind::Move(variable_of(vars, v), change_of(name, x));
-        return RowLine::Read(kind, end);
+        return RowLine::Read(kind, line.end);
     }
     RowLine::Wrong(q)
 }
 
 // `off v0 v1 > C`
-fn off_row(s: &[u8], at: usize, vars: u32) -> RowLine
-    requires { ⌜ HasEnd (drop at (now s)) × (vars ≤ 16) ⌝ }
-    ensures { λ r. ⌜ ((base : ℕ) → WordsRead (now (s .entry)) at base (offRow vars) r) ⌝ }
+fn off_row(line: LineWords, vars: u32) -> RowLine
+    requires { ⌜ vars ≤ 16 ⌝ }
+    ensures { λ r. ⌜ LineRow line (offRow vars) r ⌝ }
 {
-    let a = next_word(s, at);
-    let v = said(a.tag, a.value);
-    let b = next_word(s, a.end);
-    let w = said(b.tag, b.value);
-    let c = next_word(s, b.end);
-    let o = said(c.tag, c.value);
-    let d = next_word(s, c.end);
-    let k = said(d.tag, d.value);
-    let end = d.end;
-    let last = first_refusal(
-        asks_number(-1_000_000_000, 1_000_000_000, k),
-        asks_last(s, end),
-    );
+    let v = word(line, 1);
+    let w = word(line, 2);
+    let o = word(line, 3);
+    let k = word(line, 4);
+    let number = asks_number(-1_000_000_000, 1_000_000_000, k);
+    let last = first_refusal(number, asks_end(word(line, 5)));
     let test = first_refusal(asks_ordered(o), last);
     let rest = first_refusal(asks_variable(vars, w), test);
     let q = first_refusal(asks_variable(vars, v), rest);
@@ -113,23 +101,20 @@ fn off_row(s: &[u8], at: usize, vars: u32) -> RowLine
         let flag = variable_of(vars, v);
         let watched = variable_of(vars, w);
         let kind = Kind::Off(flag, watched, comparison_of(o), number_of(k));
-        return RowLine::Read(kind, end);
+        return RowLine::Read(kind, line.end);
     }
     RowLine::Wrong(q)
 }
 
 // `cue N`
-fn cue_row(s: &[u8], at: usize, vars: u32) -> RowLine
-    requires { ⌜ HasEnd (drop at (now s)) ⌝ }
-    ensures { λ r. ⌜ ((base : ℕ) → WordsRead (now (s .entry)) at base (cueRow vars) r) ⌝ }
+fn cue_row(line: LineWords, vars: u32) -> RowLine
+    ensures { λ r. ⌜ LineRow line (cueRow vars) r ⌝ }
 {
-    let a = next_word(s, at);
-    let n = said(a.tag, a.value);
-    let end = a.end;
-    let q = first_refusal(asks_number(0, 9_999, n), asks_last(s, end));
+    let n = word(line, 1);
+    let q = first_refusal(asks_number(0, 9_999, n), asks_end(word(line, 2)));
     if q == 0 {
         let kind = Kind::Cue(amount(n));
-        return RowLine::Read(kind, end);
+        return RowLine::Read(kind, line.end);
     }
     RowLine::Wrong(q)
 }
@@ -145,110 +130,93 @@ fn test(after: bool, v: u8, c: Comparison, x: Operand) -> Kind
 }
 
 // `while v0 <= X`, `do v0 <= X`
-fn test_row(s: &[u8], at: usize, base: usize, vars: u32, after: bool) -> RowLine
-    requires { ⌜ HasEnd (drop at (now s)) × (vars ≤ 16) × (base + length (now s) ≤ 16_384) ⌝ }
-    ensures { λ r. ⌜ WordsRead (now (s .entry)) at base (λ w x. cond after (doRow vars w x) (whileRow vars w x)) r ⌝ }
+fn test_row(s: &[u8], line: LineWords, base: usize, vars: u32, after: bool) -> RowLine
+    requires { ⌜ Meant (now s) vars line × (base + length (now s) ≤ 16_384) ⌝ }
+    ensures { λ r. ⌜ TextRow (now (s .entry)) base line (λ w x. cond after (doRow vars w x) (whileRow vars w x)) r ⌝ }
 {
-    let a = next_word(s, at);
-    let v = said(a.tag, a.value);
-    let b = next_word(s, a.end);
-    let o = said(b.tag, b.value);
-    let c = next_word(s, b.end);
-    let x = said(c.tag, c.value);
-    let end = c.end;
-    let last = first_refusal(asks_expression(s, b.end, end, vars, x), asks_last(s, end));
+    let v = word(line, 1);
+    let o = word(line, 2);
+    let last = first_refusal(asks_expression(s, line, 3, vars), asks_end(word(line, 4)));
     let rest = first_refusal(asks_comparison(o), last);
     let q = first_refusal(asks_variable(vars, v), rest);
     if q == 0 {
-        let limit = operand_of(base, b.end, end, x);
+        let limit = operand_of(base, line, 3);
         let kind = test(after, variable_of(vars, v), comparison_of(o), limit);
-        return RowLine::Read(kind, end);
+        return RowLine::Read(kind, line.end);
     }
     RowLine::Wrong(q)
 }
 
 // `for v0 X <= Y add C`
-fn for_row(s: &[u8], at: usize, base: usize, vars: u32) -> RowLine
-    requires { ⌜ HasEnd (drop at (now s)) × (vars ≤ 16) × (base + length (now s) ≤ 16_384) ⌝ }
-    ensures { λ r. ⌜ WordsRead (now (s .entry)) at base (forRow vars) r ⌝ }
+fn for_row(s: &[u8], line: LineWords, base: usize, vars: u32) -> RowLine
+    requires { ⌜ Meant (now s) vars line × (base + length (now s) ≤ 16_384) ⌝ }
+    ensures { λ r. ⌜ TextRow (now (s .entry)) base line (forRow vars) r ⌝ }
 {
-    let a = next_word(s, at);
-    let v = said(a.tag, a.value);
-    let b = next_word(s, a.end);
-    let x = said(b.tag, b.value);
-    let c = next_word(s, b.end);
-    let o = said(c.tag, c.value);
-    let d = next_word(s, c.end);
-    let y = said(d.tag, d.value);
-    let e = next_word(s, d.end);
-    let n = said(e.tag, e.value);
-    let f = next_word(s, e.end);
-    let z = said(f.tag, f.value);
-    let end = f.end;
-    let last = first_refusal(asks_step(n, z), asks_last(s, end));
-    let limit = first_refusal(asks_expression(s, c.end, d.end, vars, y), last);
+    let v = word(line, 1);
+    let o = word(line, 3);
+    let n = word(line, 5);
+    let z = word(line, 6);
+    let last = first_refusal(asks_step(n, z), asks_end(word(line, 7)));
+    let limit = first_refusal(asks_expression(s, line, 4, vars), last);
     let test = first_refusal(asks_comparison(o), limit);
-    let rest = first_refusal(asks_expression(s, a.end, b.end, vars, x), test);
+    let rest = first_refusal(asks_expression(s, line, 2, vars), test);
     let q = first_refusal(asks_variable(vars, v), rest);
     if q == 0 {
-        let start = operand_of(base, a.end, b.end, x);
-        let limit = operand_of(base, c.end, d.end, y);
+        let start = operand_of(base, line, 2);
+        let limit = operand_of(base, line, 4);
         let step = step_of(n, z);
         let kind = Kind::For(variable_of(vars, v), start, comparison_of(o), limit, step);
-        return RowLine::Read(kind, end);
+        return RowLine::Read(kind, line.end);
     }
     RowLine::Wrong(q)
 }
 
 // `hold v0`
-fn hold_row(s: &[u8], at: usize, vars: u32) -> RowLine
-    requires { ⌜ HasEnd (drop at (now s)) × (vars ≤ 16) ⌝ }
-    ensures { λ r. ⌜ ((base : ℕ) → WordsRead (now (s .entry)) at base (holdRow vars) r) ⌝ }
+fn hold_row(line: LineWords, vars: u32) -> RowLine
+    requires { ⌜ vars ≤ 16 ⌝ }
+    ensures { λ r. ⌜ LineRow line (holdRow vars) r ⌝ }
 {
-    let a = next_word(s, at);
-    let v = said(a.tag, a.value);
-    let end = a.end;
-    let q = first_refusal(asks_variable(vars, v), asks_last(s, end));
+    let v = word(line, 1);
+    let q = first_refusal(asks_variable(vars, v), asks_end(word(line, 2)));
     if q == 0 {
         let kind = Kind::Hold(variable_of(vars, v));
-        return RowLine::Read(kind, end);
+        return RowLine::Read(kind, line.end);
     }
     RowLine::Wrong(q)
 }
 
-// By the first word, which ends at the byte `at`.
-fn named_row(s: &[u8], at: usize, base: usize, vars: u32, name: Name) -> RowLine
-    requires { ⌜ HasEnd (drop at (now s)) × (vars ≤ 16) × (base + length (now s) ≤ 16_384) ⌝ }
-    ensures { λ r. ⌜ WordsRead (now (s .entry)) at base (λ w x. namedRow vars w x name) r ⌝ }
+// By the first word.
+fn named_row(s: &[u8], line: LineWords, base: usize, vars: u32, name: Name) -> RowLine
+    requires { ⌜ Meant (now s) vars line × (base + length (now s) ≤ 16_384) ⌝ }
+    ensures { λ r. ⌜ TextRow (now (s .entry)) base line (λ w x. namedRow vars w x name) r ⌝ }
 {
     match name {
-        Name::Set => set_row(s, at, base, vars),
-        Name::Add => move_row(s, at, vars, name),
-        Name::Sub => move_row(s, at, vars, name),
-        Name::Mul => move_row(s, at, vars, name),
-        Name::Div => move_row(s, at, vars, name),
-        Name::Cue => cue_row(s, at, vars),
-        Name::Pick => bare_row(s, at, vars, Kind::Pick),
-        Name::Else => bare_row(s, at, vars, Kind::Else),
-        Name::End => bare_row(s, at, vars, Kind::End),
-        Name::While => test_row(s, at, base, vars, false),
-        Name::Do => test_row(s, at, base, vars, true),
-        Name::For => for_row(s, at, base, vars),
-        Name::Off => off_row(s, at, vars),
-        Name::Hold => hold_row(s, at, vars),
+        Name::Set => set_row(s, line, base, vars),
+        Name::Add => move_row(line, vars, name),
+        Name::Sub => move_row(line, vars, name),
+        Name::Mul => move_row(line, vars, name),
+        Name::Div => move_row(line, vars, name),
+        Name::Cue => cue_row(line, vars),
+        Name::Pick => bare_row(line, vars, Kind::Pick),
+        Name::Else => bare_row(line, vars, Kind::Else),
+        Name::End => bare_row(line, vars, Kind::End),
+        Name::While => test_row(s, line, base, vars, false),
+        Name::Do => test_row(s, line, base, vars, true),
+        Name::For => for_row(s, line, base, vars),
+        Name::Off => off_row(line, vars),
+        Name::Hold => hold_row(line, vars),
     }
 }
 
 // The row whose first word begins after the byte `at`, or its first question that has no. The text s begins at the file's byte `base`.
 pub fn row_of(s: &[u8], at: usize, base: usize, vars: u32) -> RowLine
     requires { ⌜ HasEnd (drop at (now s)) × (vars ≤ 16) × (base + length (now s) ≤ 16_384) ⌝ }
-    ensures { λ r. ⌜ Rowed (now (s .entry)) base (rowOf vars (parts (drop at (now (s .entry))))) (at + before 10 (drop at (now (s .entry)))) r ⌝ }
+    ensures { λ r. ⌜ RowAt (now (s .entry)) at base vars r ⌝ }
 {
-    let f = next_word(s, at);
-    let first = said(f.tag, f.value);
-    let end = f.end;
+    let line = line_words(s, at);
+    let first = word(line, 0);
     match first {
-        Word::Keyword(n) => named_row(s, end, base, vars, n),
+        Word::Keyword(n) => named_row(s, line, base, vars, n),
         _ => RowLine::Wrong(3),
     }
 }

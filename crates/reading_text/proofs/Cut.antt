@@ -177,7 +177,7 @@ unfolding File.checked
 checked-same q zero k r e f = rw e (ap Read (f refl))
 checked-same q (suc Q) k r e f = rw e
 
-refusal-same : {p P q Q : ℕ} → p ≡ P → q ≡ Q → File.firstRefusal p q ≡ File.firstRefusal P Q
+pub refusal-same : {p P q Q : ℕ} → p ≡ P → q ≡ Q → File.firstRefusal p q ≡ File.firstRefusal P Q
 refusal-same e f = cc
 
 -- the words of a line, and the same words cut
@@ -215,7 +215,13 @@ module _ (u w : ℕ → Word) (same : (k : ℕ) → k < 8 → u k ≡ cutWord (w
   step-of-at : (k l : ℕ) → T (ltb k 8) → T (ltb l 8) → File.asksStep (w k) (w l) ≡ 0 → File.stepOf (u k) (u l) ≡ File.stepOf (w k) (w l)
   step-of-at k l s t e = ap (λ x. File.stepOf x (u l)) (at k s) ∙ ap (File.stepOf (cutWord (w k))) (at l t) ∙ cut-step-of (w k) (w l) e
 
-  module _ (vars : ℕ) (few : vars ≤ 16) (expr : ℕ → Parsed) where
+  module _ (vars : ℕ) (few : vars ≤ 16) (ex expr : ℕ → Parsed) (texts : (k : ℕ) → k < 8 → ex k ≡ expr k) where
+    text-at : (k : ℕ) → T (ltb k 8) → ex k ≡ expr k
+    text-at k t = texts k (ltb→lt k 8 t)
+
+    expr-at : (k : ℕ) → T (ltb k 8) → File.asksExpr vars (ex k) ≡ File.asksExpr vars (expr k)
+    expr-at k t = ap (File.asksExpr vars) (text-at k t)
+
     variable-at : (k : ℕ) → T (ltb k 8) → File.asksVariable vars (u k) ≡ File.asksVariable vars (w k)
     variable-at k t = ap (File.asksVariable vars) (at k t) ∙ cut-variable vars (w k) few
 
@@ -223,11 +229,11 @@ module _ (u w : ℕ → Word) (same : (k : ℕ) → k < 8 → u k ≡ cutWord (w
     variable-of-at k t e = ap File.variableOf (at k t) ∙ cut-variable-of vars (w k) few e
 
     -- each kind of row
-    bare-cut : (k : RowKind) → File.bareRow vars u expr k ≡ File.bareRow vars w expr k
+    bare-cut : (k : RowKind) → File.bareRow vars u ex k ≡ File.bareRow vars w expr k
     unfolding File.bareRow
     bare-cut k = checked-same _ _ k k (end-at 1 tt) (λ _. refl)
 
-    move-cut : (n : Name) → File.moveRow vars u expr n ≡ File.moveRow vars w expr n
+    move-cut : (n : Name) → File.moveRow vars u ex n ≡ File.moveRow vars w expr n
     unfolding File.moveRow
     move-cut n = checked-same _ _ _ _ (refusal-same (variable-at 1 tt) (refusal-same (change-at n 2 tt) (end-at 3 tt))) λ h.
         let (a, b) = refusal-yes _ _ h in
@@ -236,9 +242,9 @@ module _ (u w : ℕ → Word) (same : (k : ℕ) → k < 8 → u k ≡ cutWord (w
         let x = change-of-at n 2 tt c in
         cc
 
-    test-same : File.asksTest vars u expr ≡ File.asksTest vars w expr
+    test-same : File.asksTest vars u ex ≡ File.asksTest vars w expr
     unfolding File.asksTest
-    test-same = refusal-same (variable-at 1 tt) (refusal-same (comparison-at 2 tt) (refusal-same refl (end-at 4 tt)))
+    test-same = refusal-same (variable-at 1 tt) (refusal-same (comparison-at 2 tt) (refusal-same (expr-at 3 tt) (end-at 4 tt)))
 
     test-of-same : File.asksTest vars w expr ≡ 0
         → (File.variableOf (u 1) ≡ File.variableOf (w 1)) × (File.comparisonOf (u 2) ≡ File.comparisonOf (w 2))
@@ -247,10 +253,10 @@ module _ (u w : ℕ → Word) (same : (k : ℕ) → k < 8 → u k ≡ cutWord (w
         let (a, b) = refusal-yes _ _ h in
         (variable-of-at 1 tt a, comparison-of-at 2 tt)
 
-    for-cut : File.forRow vars u expr ≡ File.forRow vars w expr
+    for-cut : File.forRow vars u ex ≡ File.forRow vars w expr
     unfolding File.forRow File.asksFor
     for-cut = checked-same _ _ _ _
-        (refusal-same (variable-at 1 tt) (refusal-same refl (refusal-same (comparison-at 3 tt) (refusal-same refl
+        (refusal-same (variable-at 1 tt) (refusal-same (expr-at 2 tt) (refusal-same (comparison-at 3 tt) (refusal-same (expr-at 4 tt)
         (refusal-same (step-at 5 6 tt tt) (end-at 7 tt)))))) λ h.
         let (a, b) = refusal-yes _ _ h in
         let (c, d) = refusal-yes _ _ b in
@@ -260,9 +266,11 @@ module _ (u w : ℕ → Word) (same : (k : ℕ) → k < 8 → u k ≡ cutWord (w
         let v = variable-of-at 1 tt a in
         let o = comparison-of-at 3 tt in
         let s = step-of-at 5 6 tt tt i in
+        let x = text-at 2 tt in
+        let y = text-at 4 tt in
         cc
 
-    off-cut : File.offRow vars u expr ≡ File.offRow vars w expr
+    off-cut : File.offRow vars u ex ≡ File.offRow vars w expr
     unfolding File.offRow
     off-cut = checked-same _ _ _ _
         (refusal-same (variable-at 1 tt) (refusal-same (variable-at 2 tt) (refusal-same (ordered-at 3 tt) (refusal-same (number-at 4 tt lowest highest lowest-below) (end-at 5 tt))))) λ h.
@@ -276,12 +284,12 @@ module _ (u w : ℕ → Word) (same : (k : ℕ) → k < 8 → u k ≡ cutWord (w
         let k = number-of-at 4 tt lowest highest lowest-below f in
         cc
 
-    named-cut : (n : Name) → File.namedRow vars u expr n ≡ File.namedRow vars w expr n
+    named-cut : (n : Name) → File.namedRow vars u ex n ≡ File.namedRow vars w expr n
     unfolding File.setRow File.cueRow File.whileRow File.doRow File.holdRow
-    named-cut Name.Set = checked-same _ _ _ _ (refusal-same (variable-at 1 tt) (refusal-same refl (end-at 3 tt))) λ h.
+    named-cut Name.Set = checked-same _ _ _ _ (refusal-same (variable-at 1 tt) (refusal-same (expr-at 2 tt) (end-at 3 tt))) λ h.
         let (a, b) = refusal-yes _ _ h in
-        let (c, _) = refusal-yes _ _ b in
         let v = variable-of-at 1 tt a in
+        let x = text-at 2 tt in
         cc
     named-cut Name.Add = move-cut Name.Add
     named-cut Name.Sub = move-cut Name.Sub
@@ -296,14 +304,14 @@ module _ (u w : ℕ → Word) (same : (k : ℕ) → k < 8 → u k ≡ cutWord (w
     named-cut Name.Pick = bare-cut RowKind.Pick
     named-cut Name.Else = bare-cut RowKind.Else
     named-cut Name.End = bare-cut RowKind.End
-    named-cut Name.While = checked-same _ _ _ _ test-same λ h. let (a, b) = test-of-same h in cc
-    named-cut Name.Do = checked-same _ _ _ _ test-same λ h. let (a, b) = test-of-same h in cc
+    named-cut Name.While = checked-same _ _ _ _ test-same λ h. let (a, b) = test-of-same h in let x = text-at 3 tt in cc
+    named-cut Name.Do = checked-same _ _ _ _ test-same λ h. let (a, b) = test-of-same h in let x = text-at 3 tt in cc
     named-cut Name.For = for-cut
     named-cut Name.Hold = checked-same _ _ _ _ (refusal-same (variable-at 1 tt) (end-at 2 tt)) λ h.
         let (a, _) = refusal-yes _ _ h in
         ap RowKind.Hold (variable-of-at 1 tt a)
 
-    first-cut : (x : Word) → File.firstWord vars u expr (cutWord x) ≡ File.firstWord vars w expr x
+    first-cut : (x : Word) → File.firstWord vars u ex (cutWord x) ≡ File.firstWord vars w expr x
     unfolding cutWord
     first-cut Missing = refl
     first-cut (Number z) = refl
@@ -313,9 +321,9 @@ module _ (u w : ℕ → Word) (same : (k : ℕ) → k < 8 → u k ≡ cutWord (w
     first-cut Other = refl
 
 -- a row
-pub row-cut : (vars : ℕ) (u w : ℕ → Word) (expr : ℕ → Parsed) → vars ≤ 16 → ((k : ℕ) → k < 8 → u k ≡ cutWord (w k)) → File.wordsRow vars u expr ≡ File.wordsRow vars w expr
+pub row-cut : (vars : ℕ) (u w : ℕ → Word) (ex expr : ℕ → Parsed) → vars ≤ 16 → ((k : ℕ) → k < 8 → u k ≡ cutWord (w k)) → ((k : ℕ) → k < 8 → ex k ≡ expr k) → File.wordsRow vars u ex ≡ File.wordsRow vars w expr
 unfolding File.wordsRow
-row-cut vars u w expr few same = ap (File.firstWord vars u expr) (at u w same 0 tt) ∙ first-cut u w same vars few expr (w 0)
+row-cut vars u w ex expr few same texts = ap (File.firstWord vars u ex) (at u w same 0 tt) ∙ first-cut u w same vars few ex expr texts (w 0)
 
 -- the questions of a range: 3, 4, or all have yes
 data Early : ℕ → Type 0 where

@@ -2,7 +2,7 @@
 use mathlib.Core.Bool.{Bool, true, cond}
 use mathlib.Core.List.{List, [], _∷_}
 use mathlib.Core.Path.{_≡_}
-use Prim.Native.Nat.{ℕ, zero, suc, min, _+_, _*_, _-_, _<_}
+use Prim.Native.Nat.{ℕ, zero, suc, min, _+_, _*_, _-_, _<_, _≤_}
 use lib.Dec.{eqb}
 use lib.ListN.{length, getD, take, drop}
 use lib.IntN.{ℤ, pos, negsuc}
@@ -14,6 +14,7 @@ use Rattle.rules.specs.Text.{split, allDigits, valueFrom, isNatural, wordOf, wo
 use Rattle.expression_leaves.specs.Leaves.{ceiling, cutZ}
 use Rattle.reading_text.specs.declared.DigitsRead.{DigitsRead}
 use Rattle.reading_text.specs.declared.WordFound.{WordFound}
+use Rattle.reading_text.specs.declared.LineWords.{LineWords}
 
 -- how many bytes stand before the first b, or all
 unfoldable pub before : ℕ → List ℕ → ℕ
@@ -136,11 +137,21 @@ following s = wordsOf (parts s)
 unfoldable pub spelling : List ℕ → ℕ → List ℕ
 spelling s k = getD (parts s) k []
 
--- one word of a line is read, and the others begin after the byte `end`
-pub record WordRead (s : List ℕ) (at : ℕ) (r : WordFound) : Type 0 where
-  pub word : wordIn (r .tag) (r .value) ≡ cutWord (following (drop at s) 0)
-  pub text : spelling (drop at s) 0 ≡ take (r .end - (at + 1)) (drop (at + 1) s)
-  pub more : (k : ℕ) → following (drop at s) (suc k) ≡ following (drop (r .end) s) k
-  pub texts : (k : ℕ) → spelling (drop at s) (suc k) ≡ spelling (drop (r .end) s) k
-  pub line : r .end + before 10 (drop (r .end) s) ≡ at + before 10 (drop at s)
-  pub ends : HasEnd (drop (r .end) s)
+-- the bytes of a word that begins after the byte `at`
+abbrev pub textIn : List ℕ → ℕ → ℕ → List ℕ
+textIn s at end = take (end - (at + 1)) (drop (at + 1) s)
+
+-- word k of a line's words
+abbrev pub lineWord : LineWords → ℕ → Word
+lineWord l k = wordIn (getD (l .tags) k 0) (getD (l .values) k (pos 0))
+
+-- its text
+abbrev pub lineText : List ℕ → LineWords → ℕ → List ℕ
+lineText s l k = textIn s (getD (l .ends) k 0) (getD (l .ends) (k + 1) 0)
+
+-- these are the first eight words after the byte `at`, their numbers cut off, and the line's end
+pub record LineRead (s : List ℕ) (at : ℕ) (l : LineWords) : Type 0 where
+  pub word : (k : ℕ) → k < 8 → lineWord l k ≡ cutWord (following (drop at s) k)
+  pub text : (k : ℕ) → k < 8 → lineText s l k ≡ spelling (drop at s) k
+  pub long : (k : ℕ) → k < 8 → getD (l .ends) (k + 1) 0 ≤ length s
+  pub end : l .end ≡ at + before 10 (drop at s)

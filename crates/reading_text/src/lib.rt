@@ -10,7 +10,8 @@ ghost use lib.IntN.{pos, negℤ};
 ghost use Prim.Native.Nat.{_≤_, _<_};
 ghost use lib.ListN.{length, drop};
 ghost use Rattle.rules.specs.Text.{startsWith, isNatural, plainWord, wordOf};
-ghost use Rattle.reading_text.specs.Words.{before, marks, stops, stop, front, cutWord, digitsOf, naturalOf, Packs, keywords, packedWord, wordIn, HasEnd, Reads, WordRead};
+ghost use Rattle.reading_text.specs.Words.{before, marks, stops, stop, front, cutWord, digitsOf, naturalOf};
+ghost use Rattle.reading_text.specs.Words.{Packs, keywords, packedWord, wordIn, HasEnd, Reads, LineRead, lineWord};
 
 // How many bytes stand before the first b, or all.
 pub fn position(s: &[u8], b: u8) -> usize
@@ -178,7 +179,7 @@ const NUMBER: u32 = 22;
 const VARIABLE: u32 = 23;
 
 // The word that a tag and a value say.
-pub fn said(tag: u32, value: i32) -> Word
+fn said(tag: u32, value: i32) -> Word
     ensures { λ r. ⌜ r ≡ wordIn tag value ⌝ }
 {
     match tag {
@@ -308,10 +309,10 @@ fn signed(negative: bool, v: u32) -> i32
 }
 
 // A word by its tag and value, and the byte where it ends. No enum: that would be stored in pieces and then copied whole, which is slow.
-pub struct WordFound {
-    pub tag: u32,
-    pub value: i32,
-    pub end: usize,
+struct WordFound {
+    tag: u32,
+    value: i32,
+    end: usize,
 }
 
 // The keyword or comparison at the front.
@@ -398,20 +399,57 @@ fn word_of(s: &[u8]) -> WordFound
     }
 }
 
-// The next word of a line: it begins after the byte `at`, and there is none if that is the line's LF.
-pub fn next_word(s: &[u8], at: usize) -> WordFound
+// The first eight words of a line by their tags and values: word k stands between the bytes ends[k] and ends[k + 1].
+// The line's LF is the byte `end`.
+pub struct LineWords {
+    pub tags: [u32; 8],
+    pub values: [i32; 8],
+    pub ends: [usize; 9],
+    pub end: usize,
+}
+
+// The words of a line after the byte `at`.
+pub fn line_words(s: &[u8], at: usize) -> LineWords
     requires { ⌜ HasEnd (drop at (now s)) ⌝ }
-    ensures { λ r. ⌜ WordRead (now (s .entry)) at r ⌝ }
+    ensures { λ r. ⌜ LineRead (now (s .entry)) at r ⌝ }
 {
-    if s[at] == b'\n' {
-        return WordFound {
-            tag: MISSING,
-            value: 0,
-            end: at,
-        };
+    let mut tags = [MISSING; 8];
+    let mut values: [i32; 8] = [0; 8];
+    let mut ends: [usize; 9] = [0; 9];
+    ends[0] = at;
+    let mut end = at;
+    let mut i: usize = 0;
+    while i < 8 {
+        if s[end] == b'\n' {
+            return LineWords {
+                tags,
+                values,
+                ends,
+                end,
+            };
+        }
+        let begin = end + 1;
+        let f = word_of(&s[begin..]);
+        let value = f.value;
+        tags[i] = f.tag;
+        values[i] = value;
+        end = begin + f.end;
+        i += 1;
+        ends[i] = end;
     }
-    let begin = at + 1;
-    let mut f = word_of(&s[begin..]);
-    f.end = begin + f.end;
-    f
+    end = end + position(&s[end..], b'\n');
+    LineWords {
+        tags,
+        values,
+        ends,
+        end,
+    }
+}
+
+// Word k of a line.
+pub fn word(line: LineWords, k: usize) -> Word
+    requires { ⌜ k < 8 ⌝ }
+    ensures { λ r. ⌜ r ≡ lineWord line k ⌝ }
+{
+    said(line.tags[k], line.values[k])
 }

@@ -15,11 +15,12 @@ use Rattle.rules.specs.declared.Operand.{Operand}
 use Rattle.rules.specs.declared.Word.{Word}
 use Rattle.rules.specs.declared.Word.the-variants.{Missing, Number, Variable, Compares, Keyword, Other}
 use Rattle.rules.specs.Parse.{Parsed, shapeless, thenParse, factorOf, expression, readExpression, parse}
-use Rattle.rules.specs.File.{Wrong, asksNumber, asksVariable, asksExpr, asksChange, asksStep, asksOne, variableOf, numberOf, changeOf, stepOf, firstWord}
+use Rattle.rules.specs.File.{Wrong, asksEnd, asksNumber, asksVariable, asksExpr, asksChange, asksStep, asksOne, variableOf, numberOf, changeOf, stepOf, firstWord}
 use Rattle.rules.proofs.Name.{the-type}
 use Rattle.rules.proofs.Word as word
 use Rattle.rules.proofs.ReadLegal.{variable-yes, number-yes}
-use Rattle.reading_words.specs.Words.{textIn, operandAt}
+use Rattle.reading_text.specs.Words.{textIn}
+use Rattle.reading_words.specs.Words.{operandAt}
 
 -- a variable that passes question 5 is small
 pub small-variable : (vars v : ℕ) → vars ≤ 16 → asksVariable vars (Variable v) ≡ 0 → v < 256
@@ -95,6 +96,17 @@ no-variable (Variable v) o = absurd (miss no-variables 2 tt o)
 no-variable (Compares c) o = (λ _. refl, refl)
 no-variable (Keyword n) o = (λ _. refl, refl)
 no-variable Other o = (λ _. refl, refl)
+
+abbrev words : List ℕ
+words = 1 ∷ 2 ∷ 3 ∷ 4 ∷ 5 ∷ []
+
+pub some-word : (w : Word) → OneOf words (tagOf word.the-type w) → 3 ≡ asksEnd w
+some-word Missing o = absurd (miss words 0 tt o)
+some-word (Number z) o = refl
+some-word (Variable v) o = refl
+some-word (Compares c) o = refl
+some-word (Keyword n) o = refl
+some-word Other o = refl
 
 abbrev no-operands : List ℕ
 no-operands = 0 ∷ 3 ∷ 4 ∷ 5 ∷ []

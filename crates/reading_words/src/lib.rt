@@ -1,19 +1,22 @@
 // What a word of a row is asked, the questions 3, 17, 4 and 5, and what it says.
 use expression_questions::question;
+use reading_text::LineWords;
+use reading_text::word;
 use rules::Change;
 use rules::Comparison;
 use rules::Name;
 use rules::Operand;
 use rules::Word;
 ghost use mathlib.Core.Path.{_≡_};
-ghost use Prim.Native.Nat.{_+_, _≤_, _<_};
-ghost use lib.ListN.{length, drop};
+ghost use Prim.Native.Nat.{_≤_, _<_};
+ghost use lib.ListN.{length};
 ghost use lib.IntN.{pos, natAbs};
 ghost use Rattle.rules.specs.Values.{highest};
-ghost use Rattle.rules.specs.File.{asksEnd, asksNumber, asksVariable, asksExpr, asksComparison, asksOrdered, asksChange, asksStep, asksOne, asksOrder, numberOf, variableOf, comparisonOf, changeOf, stepOf};
+ghost use Rattle.rules.specs.File.{asksEnd, asksNumber, asksVariable, asksExpr, asksComparison, asksOrdered, asksChange, asksStep};
+ghost use Rattle.rules.specs.File.{asksOne, asksOrder, numberOf, variableOf, comparisonOf, changeOf, stepOf};
 ghost use Rattle.rules.specs.Parse.{parse};
-ghost use Rattle.reading_text.specs.Words.{HasEnd, following};
-ghost use Rattle.reading_words.specs.Words.{textIn, Means, Small, operandAt};
+ghost use Rattle.reading_text.specs.Words.{textIn};
+ghost use Rattle.reading_words.specs.Words.{lineExpr, Meant, OperandFits, lineOperand};
 
 // Question 4 of a number.
 fn inside(lo: i32, hi: i32, z: i32) -> u32
@@ -66,15 +69,20 @@ fn asks_text(s: &[u8], at: usize, end: usize, vars: u32) -> u32
     3
 }
 
-// The same of a word that is read: a constant or a variable alone is not read again.
-pub fn asks_expression(s: &[u8], at: usize, end: usize, vars: u32, w: Word) -> u32
-    requires { ⌜ (end ≤ length (now s)) × (vars ≤ 16) × Means vars w (parse (textIn (now s) at end)) ⌝ }
-    ensures { λ r. ⌜ r ≡ asksExpr vars (parse (textIn (now (s .entry)) at end)) ⌝ }
+// The same of word k of a line: a constant or a variable alone is not read again.
+pub fn asks_expression(s: &[u8], line: LineWords, k: usize, vars: u32) -> u32
+    requires { ⌜ Meant (now s) vars line × (k < 8) ⌝ }
+    ensures { λ r. ⌜ r ≡ asksExpr vars (lineExpr (now (s .entry)) line k) ⌝ }
 {
+    let w = word(line, k);
     match w {
         Word::Number(z) => inside(-1_000_000_000, 1_000_000_000, z),
         Word::Variable(v) => below(vars, v),
-        _ => asks_text(s, at, end, vars),
+        _ => {
+            let at = line.ends[k];
+            let end = line.ends[k + 1];
+            asks_text(s, at, end, vars)
+        }
     }
 }
 
@@ -171,15 +179,18 @@ pub fn variable_of(vars: u32, w: Word) -> u8
     }
 }
 
-// The operand that a word says: an expression by its place and length in the file, where the line's text begins at `base`.
-pub fn operand_of(base: usize, at: usize, end: usize, w: Word) -> Operand
-    requires { ⌜ (at < end) × (base + end ≤ 16_384) × Small w ⌝ }
-    ensures { λ r. ⌜ r ≡ operandAt base at end w ⌝ }
+// The operand that word k of a line says: an expression by its place and length in the file, where the line's text begins at `base`.
+pub fn operand_of(base: usize, line: LineWords, k: usize) -> Operand
+    requires { ⌜ (k < 8) × OperandFits base line k ⌝ }
+    ensures { λ r. ⌜ r ≡ lineOperand base line k ⌝ }
 {
+    let w = word(line, k);
     match w {
         Word::Number(z) => Operand::Constant(z),
         Word::Variable(v) => Operand::Variable(v as u8),
         _ => {
+            let at = line.ends[k];
+            let end = line.ends[k + 1];
             let begin = at + 1;
             Operand::Expression((base + begin) as u16, (end - begin) as u16)
         }
@@ -248,10 +259,12 @@ pub fn step_of(x: Word, w: Word) -> Change
     }
 }
 
-// Whether the byte `at` is the line's LF: nothing stands after it.
-pub fn asks_last(s: &[u8], at: usize) -> u32
-    requires { ⌜ HasEnd (drop at (now s)) ⌝ }
-    ensures { λ r. ⌜ r ≡ asksEnd (following (drop at (now (s .entry))) 0) ⌝ }
+// No word: nothing stands after the last.
+pub fn asks_end(w: Word) -> u32
+    ensures { λ r. ⌜ r ≡ asksEnd w ⌝ }
 {
-    if s[at] == b'\n' { 0 } else { 3 }
+    match w {
+        Word::Missing => 0,
+        _ => 3,
+    }
 }

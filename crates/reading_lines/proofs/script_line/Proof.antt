@@ -1,13 +1,11 @@
-use mathlib.Core.Path.{_≡_, refl, sym, ap, _∙_}
-use lib.ListN.{drop}
+use mathlib.Core.Path.{_≡_, refl, sym, _∙_}
 use denote.Ref.{now}
-use Rattle.reading_lines.proofs.Counts.{script-read, script-wrong, script-long, script-none}
-use Rattle.reading_lines.proofs.Lines.{Keyed, keyed-at, keyed-end, at-none, last}
-use Rattle.reading_lines.specs.Lines.{clean}
-use Rattle.reading_text.proofs.Line.{Reached, reach-none, reach-word}
-use Rattle.reading_text.specs.Words.{before, cutWord, following}
-use borrow.Author.Needs.{needs}
+use Rattle.reading_text.specs.Words.{lineWord}
 use Rattle.rules.specs.File.{firstRefusal, asksEnd, asksOne, scriptKey}
+use Rattle.reading_lines.proofs.Counts.{script-read, script-wrong, script-none}
+use Rattle.reading_lines.proofs.Lines.{Keyed, keyed-at, KeyLine, key-line, at-none, last}
+use Rattle.reading_lines.specs.Lines.{clean}
+use borrow.Author.Needs.{needs}
 use Rattle.reading_lines.proofs.script_line.Statement.{statement}
 use Rattle.reading_lines.proofs.script_line.Tie as tie
 
@@ -16,36 +14,21 @@ key-at : (c : tie.Then1) → Keyed scriptKey (now (c .before .before .before .be
 unfolding clean last
 key-at c = keyed-at _ _ _ refl refl (sym (c .before .keyed .ensures) ∙ c .if1 .taken)
 
--- the first word
-word : (c : tie.After-said) → let s = now (c .before .before .before .before .before .before .before .args .rest) in (c .said .result ≡ cutWord (following (drop 6 s) 0)) × Reached s 6 1 (c .before .before .next-word .result .end)
-word c = reach-word _ _ 0 _ (reach-none _ _ (key-at (c .before .before .before) .ends)) _ (c .before .before .next-word .ensures) _ (search needs, c .said .ensures)
+-- its words
+line : (c : tie.After-line-words) → KeyLine scriptKey (now (c .before .before .before .before .before .args .rest)) (c .line-words .result)
+line c = key-line _ _ _ _ (key-at (c .before)) (c .line-words .ensures)
 
--- the question after the first word, and where the line ends
-second : (c : tie.After-first-refusal) → c .before .asks-last .result ≡ asksEnd (following (drop 6 (now (c .before .before .before .before .before .before .before .before .before .before .args .rest))) 1)
-second c = c .before .asks-last .ensures ∙ ap asksEnd (sym (c .before .before .before .before .before .next-word .ensures .more 0))
+asked : (c : tie.After-first-refusal) → let w = lineWord (c .before .before .before .before .before .line-words .result) in c .first-refusal .result ≡ firstRefusal (asksOne (w 0)) (asksEnd (w 1))
+asked c = rw (c .first-refusal .ensures, c .before .asks-end .ensures, c .before .before .word2 .ensures, c .before .before .before .asks-one .ensures, c .before .before .before .before .word .ensures)
 
-ended : (c : tie.After-first-refusal) → let s = now (c .before .before .before .before .before .before .before .before .before .before .args .rest) in asksEnd (following (drop 6 s) 1) ≡ 0 → c .before .before .before .before .before .next-word .result .end ≡ before 10 s
-ended c z = keyed-end _ _ _ 1 _ (key-at (c .before .before .before .before .before .before)) (word (c .before .before .before) .1) z
-
-asked : (c : tie.After-first-refusal) → c .first-refusal .result ≡ firstRefusal (asksOne (c .before .before .before .said .result)) (c .before .asks-last .result)
-asked c = rw (c .first-refusal .ensures, c .before .before .asks-one .ensures)
-
-next-word-requires : tie.Need-next-word-requires
-next-word-requires c κs = key-at c .ends
-
-add-t13 : tie.Need-add-t13
-add-t13 c = let s = c .before .before .before .before .before .before .before .before .before .before .before in
-    let known = c .before .before .before .before .before .before .before .before .before .before .shared-slice-known in
-    let q = (c .before) in
-    let h = script-long _ _ (key-at (c .before .before .before .before .before .before .before) .words) _ _ _ _ (word (c .before .before .before .before) .0) (second q) (ended q) (asked q) (c .if2 .taken) in search needs
+add-end : tie.Need-add-t13
+add-end c = let h = line (c .before .before .before .before .before .before .before) .long in search needs
 
 returns : tie.Need-returns
-returns c = let q = (c .before) in
-    script-read _ _ (key-at (c .before .before .before .before .before .before .before) .words) _ _ _ _ (word (c .before .before .before .before) .0) (second q) (ended q) (asked q) (c .if2 .taken)
+returns c = script-read _ _ (line (c .before .before .before .before .before .before .before)) _ (asked (c .before .before)) (c .before .if2 .taken)
 
 returns-2 : tie.Need-returns-2
-returns-2 c = let q = (c .before) in
-    script-wrong _ _ (key-at (c .before .before .before .before .before .before .before) .words) _ _ _ _ (word (c .before .before .before .before) .0) (second q) (ended q) (asked q) (c .if2 .left)
+returns-2 c = script-wrong _ _ (line (c .before .before .before .before .before .before)) _ (asked (c .before)) (c .if2 .left)
 
 returns-3 : tie.Need-returns-3
 unfolding clean
@@ -56,9 +39,9 @@ script-line-spec =
     tie.close
     (tie.spec
     (λ c. search needs) (λ c κs. search needs)
-    next-word-requires
-    (λ c κs. search needs) (λ c κs. search needs) (λ c κs. search needs) (λ c κs. search needs)
-    add-t13
+    (λ c κs. key-at c .ends)
+    (λ c κs. search needs) (λ c κs. search needs) (λ c κs. search needs) (λ c κs. search needs) (λ c κs. search needs)
+    add-end
     returns
     returns-2
     returns-3)

@@ -1,3 +1,4 @@
+use denote.Ref.{now}
 use Rattle.rules.specs.Blocks.{kindOf}
 use borrow.Author.Needs.{needs}
 use Rattle.reading_rows.proofs.named_row.Statement.{statement}
@@ -8,26 +9,22 @@ unfolding kindOf
 named-row-spec =
     tie.close
     (tie.spec
-    (λ c. search needs) (λ c κs. search needs) (λ c. search needs) (λ c κs. search needs) (λ c. search needs) (λ c κs. search needs) (λ c. search needs)
-    (λ c κs. search needs) (λ c. search needs) (λ c κs. search needs) (λ c. search needs) (λ c κs. search needs) (λ c. search needs)
-    (λ c κs. (search needs, tt))
-    (λ c. search needs)
-    (λ c κs. (search needs, tt))
-    (λ c. search needs)
-    (λ c κs. (search needs, tt))
-    (λ c. search needs) (λ c κs. search needs) (λ c. search needs) (λ c κs. search needs) (λ c. search needs) (λ c κs. search needs) (λ c. search needs)
-    (λ c κs. search needs) (λ c. search needs) (λ c κs. search needs)
+    (λ c. search needs) (λ c κs. search needs) (λ c. search needs) (λ c κs. search needs) (λ c. search needs) (λ c κs. search needs)
+    (λ c. search needs) (λ c κs. search needs) (λ c. search needs) (λ c κs. search needs) (λ c. search needs) (λ c κs. search needs)
+    (λ c. search needs) (λ c κs. tt) (λ c. search needs) (λ c κs. tt) (λ c. search needs) (λ c κs. tt) (λ c. search needs) (λ c κs. search needs)
+    (λ c. search needs) (λ c κs. search needs) (λ c. search needs) (λ c κs. search needs) (λ c. search needs) (λ c κs. search needs)
+    (λ c. search needs) (λ c κs. search needs)
     (λ c. rw (c .before .enum-told .given .1) (c .set-row .ensures))
-    (λ c. rw (c .before .enum-told2 .given .1) (rw (c .before .enum-told2 .given .1) at (c .move-row .ensures (c .before .before .before .before .args .base))))
-    (λ c. rw (c .before .enum-told3 .given .1) (rw (c .before .enum-told3 .given .1) at (c .move-row2 .ensures (c .before .before .before .before .args .base))))
-    (λ c. rw (c .before .enum-told4 .given .1) (rw (c .before .enum-told4 .given .1) at (c .move-row3 .ensures (c .before .before .before .before .args .base))))
-    (λ c. rw (c .before .enum-told5 .given .1) (rw (c .before .enum-told5 .given .1) at (c .move-row4 .ensures (c .before .before .before .before .args .base))))
-    (λ c. rw (c .before .enum-told6 .given .1) (c .cue-row .ensures _))
-    (λ c. rw (c .before .enum-told7 .given .1) (c .bare-row .ensures _))
-    (λ c. rw (c .before .enum-told8 .given .1) (c .bare-row2 .ensures _))
-    (λ c. rw (c .before .enum-told9 .given .1) (c .bare-row3 .ensures _))
+    (λ c. rw (c .before .enum-told2 .given .1) (rw (c .before .enum-told2 .given .1) at (c .move-row .ensures (now (c .before .before .before .before .args .s)) (c .before .before .before .before .args .base))))
+    (λ c. rw (c .before .enum-told3 .given .1) (rw (c .before .enum-told3 .given .1) at (c .move-row2 .ensures (now (c .before .before .before .before .args .s)) (c .before .before .before .before .args .base))))
+    (λ c. rw (c .before .enum-told4 .given .1) (rw (c .before .enum-told4 .given .1) at (c .move-row3 .ensures (now (c .before .before .before .before .args .s)) (c .before .before .before .before .args .base))))
+    (λ c. rw (c .before .enum-told5 .given .1) (rw (c .before .enum-told5 .given .1) at (c .move-row4 .ensures (now (c .before .before .before .before .args .s)) (c .before .before .before .before .args .base))))
+    (λ c. rw (c .before .enum-told6 .given .1) (c .cue-row .ensures _ _))
+    (λ c. rw (c .before .enum-told7 .given .1) (c .bare-row .ensures _ _))
+    (λ c. rw (c .before .enum-told8 .given .1) (c .bare-row2 .ensures _ _))
+    (λ c. rw (c .before .enum-told9 .given .1) (c .bare-row3 .ensures _ _))
     (λ c. rw (c .before .enum-told10 .given .1) (c .test-row .ensures))
     (λ c. rw (c .before .enum-told11 .given .1) (c .test-row2 .ensures))
     (λ c. rw (c .before .enum-told12 .given .1) (c .for-row .ensures))
-    (λ c. rw (c .before .enum-told13 .given .1) (c .off-row .ensures _))
-    (λ c. rw (c .before .enum-told14 .given .1) (c .hold-row .ensures _)))
+    (λ c. rw (c .before .enum-told13 .given .1) (c .off-row .ensures _ _))
+    (λ c. rw (c .before .enum-told14 .given .1) (c .hold-row .ensures _ _)))
