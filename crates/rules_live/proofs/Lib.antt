@@ -12,3 +12,10 @@ pub mod LiveKeeps
 pub mod StateOfSeries
 pub mod FramesAsSteps
 pub mod Examples
+pub mod PlacesFit
+pub mod StandsFit
+pub mod StateNumbers
+pub mod StateStands
+pub mod WrittenPasses
+pub mod StateBack
+pub mod CallsAreSteps

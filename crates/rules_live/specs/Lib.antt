@@ -2,3 +2,5 @@
 pub mod Cues
 pub mod Live
 pub mod LiveRuns
+pub mod LiveState
+pub mod LiveCalls
