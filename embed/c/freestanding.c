@@ -24,10 +24,11 @@ static const uint32_t prices[DIFTANEW_PRICES] = {1, 1, 1, 1};
 static uint32_t scratch[DIFTANEW_SCRATCH];
 static uint8_t buffer[DIFTANEW_REPORT];
 static uint64_t answer[DIFTANEW_ANSWER];
+static uint64_t figures[DIFTANEW_FIGURES_ANSWER];
 static uint64_t many[DIFTANEW_FRAMES_ANSWER];
 
 static int check(void) {
-    const size_t file = sizeof script - 1, none = 0;
+    const size_t file = sizeof script - 1, none = 0, nine = 9;
     uint64_t place = 0;
     size_t i;
     if (diftanew_report(script, file, prices, DIFTANEW_PRICES, scratch, DIFTANEW_SCRATCH, buffer, sizeof buffer, &place) != DIFTANEW_ACCEPTED) return 1;
@@ -43,6 +44,11 @@ static int check(void) {
     if (diftanew_frames(0, 0, 0, 0, 0, 0, 0, 0, 0, 0, 0, 0, prices, DIFTANEW_PRICES, 1, scratch, DIFTANEW_SCRATCH, many) != DIFTANEW_FRAMES) return 10;
     if (diftanew_frames(script, file, &file, 1, 0, 0, &none, 1, 0, 0, &none, 1, prices, DIFTANEW_PRICES, 1, scratch, DIFTANEW_SCRATCH, many) != DIFTANEW_ACCEPTED) return 11;
     if (many[0] != 1 || many[1] != 1 || many[4] != 1) return 12;
+    if (diftanew_frames(script, file, &file, 1, 0, 0, &none, 1, 0, 0, &none, 1, prices, 3, 1, scratch, DIFTANEW_SCRATCH, many) != DIFTANEW_PRICE || many[0] != 3 || many[1] != 0) return 16;
+    if (diftanew_frames(script, 9, &nine, 1, 0, 0, &none, 1, 0, 0, &none, 1, prices, DIFTANEW_PRICES, 1, scratch, DIFTANEW_SCRATCH, many) != DIFTANEW_SHAPE || many[0] != 2 || many[1] != 1) return 17;
+    if (diftanew_figures(script, file, prices, DIFTANEW_PRICES, scratch, DIFTANEW_SCRATCH, figures) != DIFTANEW_ACCEPTED) return 13;
+    if (figures[DIFTANEW_FIGURES_TICKS] != 1 || figures[DIFTANEW_FIGURES_VARS] != 0 || figures[DIFTANEW_FIGURES_LOOPS] != 0) return 14;
+    if (diftanew_figures(0, 0, 0, 0, scratch, DIFTANEW_SCRATCH, figures) != DIFTANEW_PRICE || figures[0] != 0) return 15;
     return 0;
 }
 

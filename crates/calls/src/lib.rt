@@ -74,7 +74,7 @@ fn between(lo: i32, x: i32, hi: i32) -> bool
 }
 
 // 15: the first index of the store that is wrong, missing or extra.
-fn ask_store(vars: usize, ranges: &[[i32; 2]; 16], store: &[i32]) -> Verdict
+pub fn ask_store(vars: usize, ranges: &[[i32; 2]; 16], store: &[i32]) -> Verdict
     requires { ⌜ (vars ≤ 16) × (length (now ranges) ≡ 16) ⌝ }
     ensures { λ r. ⌜ r ≡ storeVerdict 0 (take vars (pairRanges (now (ranges .entry)))) (now (store .entry)) ⌝ }
 {
@@ -165,7 +165,7 @@ fn run_accepted(
 }
 
 // The questions 19 and 8 to 13 of a script, and its ticks. The report's lines are gone when it is done; nothing is lent for own ticks.
-fn figures_of(
+pub fn figures_of(
     text: &[u8],
     rows: &[u32],
     script: Loaded,

@@ -99,7 +99,8 @@ fn tell_lines(lines: &mut [[u64; 7]; 16], loops: usize)
     }
 }
 
-// The questions of a script after it has been read, and what its report says: ticks, how many variables and loops it has; 0 of a refused one.
+// The questions of a script after it has been read, and what its report says: ticks, how many variables and loops it has; 0 of a
+// refused one.
 pub struct Figures {
     pub verdict: Verdict,
     pub ticks: u64,

@@ -11,7 +11,7 @@ use Rattle.calls_lists.specs.Parts.{Fitted}
 use Rattle.calls_scripts.specs.declared.HeldScripts as code
 use Rattle.calls_scripts.specs.Held.{HeldBy, HeldScriptsAs}
 use Rattle.calls_frames.specs.Playing.{FramesReady}
-use Rattle.calls_frames.specs.Answers.{noFrames, Framed}
+use Rattle.calls_frames.specs.Answers.{noFrames, FramedScripts}
 
 module _ (prices : List ℕ) (l : Lent) (q : ℕ) (priced : Priced prices) (fits : Fitted l q) (tables : List ℕ) where
   module _ (c : code.HeldScripts) (h : HeldScriptsAs prices l tables c) where
@@ -22,9 +22,9 @@ module _ (prices : List ℕ) (l : Lent) (q : ℕ) (priced : Priced prices) (fits
         (ps, record { priced = priced; fits = fits; ready = ready; eight = eight; number = h .number; holds = holds })
 
     -- one is refused
-    pub no-play : (n p : ℕ) → c .verdict ≡ Refused n p → Framed (playedBy (pricesOf prices) q (readiness prices scratchSize (partsOf l))) (l .stores) (l .stores) (noFrames n p)
+    pub no-play : (n p : ℕ) → c .verdict ≡ Refused n p → FramedScripts prices l q (l .stores) (noFrames n p (c .script))
     unfolding playedBy storesAfter
     no-play n p e =
         let no : HeldBy (Refused n p) prices l tables (c .each) = subst (λ v. HeldBy v prices l tables (c .each)) e (h .held) in
         let reply : playedBy (pricesOf prices) q (readiness prices scratchSize (partsOf l)) ≡ FramesReply.refuses n p = ap (playedBy (pricesOf prices) q) no in
-        rw reply (record { told = refl; stores = refl })
+        record { framed = rw reply (record { told = refl; stores = refl }); script = h .script }

@@ -229,8 +229,8 @@ module _ (prices : List ℕ) (l : Lent) (q : ℕ) (ps : List Frames.Progress) (t
   count : length rs ≡ length (l .fileLengths)
   count = answers-length π q (out .n) ps ∙ scripts-count prices l q ps tables all on
 
-  told-all : (m : ℕ) → m ≡ e .most → ToldFrames (record { verdict = Passed; most = m; scripts = r }) rs (most π q ps (out .n))
-  told-all m z = record {
+  told-all : (script m : ℕ) → m ≡ e .most → ToldFrames (record { verdict = Passed; script = script; most = m; scripts = r }) rs (most π q ps (out .n))
+  told-all script m z = record {
     verdict = refl;
     most = z ∙ out .most;
     few = omega (arith, count, on .fits .few);
@@ -247,9 +247,9 @@ module _ (prices : List ℕ) (l : Lent) (q : ℕ) (ps : List Frames.Progress) (t
       ap (λ (z : ScriptPart). z .store) (cut-at (l .fileLengths) (l .storeLengths) (l .pickLengths) (l .files) stores (l .picks) (on .fits .stores) (on .fits .picks) j (omega arith) noPart)
       ∙ sym (ap (λ (z : Frames.Played). z .store) (answers-at π q (out .n) ps j (omega (arith, answers-length π q (out .n) ps, count))) ∙ one j (omega arith) .1)
 
-  pub framed : (m : ℕ) → m ≡ e .most → Framed (playedBy π q (ready ps)) (l .stores) stores (record { verdict = Passed; most = m; scripts = r })
+  pub framed : (script m : ℕ) → m ≡ e .most → Framed (playedBy π q (ready ps)) (l .stores) stores (record { verdict = Passed; script = script; most = m; scripts = r })
   unfolding playedBy storesAfter
-  framed m z =
+  framed script m z =
       let (a, b) = settles prices q (on .fits .tick) (partsOf l) ps (on .ready) (out .n) (done-all π q (out .n) ps (λ j h. out .done j (omega (arith, scripts-count prices l q ps tables all on)))) in
       let reply : playedBy π q (ready ps) ≡ played rs (most π q ps (out .n)) = λ i. played (a i) (b i) in
-      rw reply (record { told = told-all m z; stores = stores-are })
+      rw reply (record { told = told-all script m z; stores = stores-are })

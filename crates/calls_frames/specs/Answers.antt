@@ -7,12 +7,13 @@ use lib.ListN.{length, getD, take, replicate}
 use Rattle.rules.specs.declared.Ending.the-variants.{Ended}
 use Rattle.rules.specs.declared.Verdict.the-variants.{Passed, Refused}
 use Rattle.rules_frames.specs.Frames
-use Rattle.rules_frames.specs.Frames.{FramesReply, played, storesAfter}
+use Rattle.rules.specs.Calls.{pricesOf, scratchSize}
+use Rattle.rules_frames.specs.Frames.{FramesReply, played, storesAfter, Lent, partsOf, readiness, playedBy}
 use Rattle.runner.specs.Answered.{ranOf}
 use Rattle.run_loops.specs.Loops.{noCount, NoneFrom, Counted, LoopsOf}
 use Rattle.calls_scripts.specs.declared.Held.{Held}
 use Rattle.calls_scripts.specs.declared.HeldScripts.{HeldScripts}
-use Rattle.calls_scripts.specs.Held.{sliceOf, Inside, nobody}
+use Rattle.calls_scripts.specs.Held.{sliceOf, Inside, nobody, refusedScript}
 use Rattle.calls_turns.specs.declared.Progress.{Progress}
 use Rattle.calls_turns.specs.Progress.{startProgress}
 use Rattle.calls_frames.specs.declared.Played.{Played}
@@ -22,9 +23,9 @@ use Rattle.calls_frames.specs.declared.Frames as code
 abbrev pub noAnswer : Played
 noAnswer = record { frame = 0; outcome = record { verdict = Passed; ending = Ended; row = 0; ticks = 0; used = 0; loops = 0; counts = replicate 16 noCount } }
 
--- a refusal
-abbrev pub noFrames : ℕ → ℕ → code.Frames
-noFrames q p = record { verdict = Refused q p; most = 0; scripts = replicate 8 noAnswer }
+-- a refusal, of that script
+abbrev pub noFrames : ℕ → ℕ → ℕ → code.Frames
+noFrames q p script = record { verdict = Refused q p; script = script; most = 0; scripts = replicate 8 noAnswer }
 
 -- a script whose ticks and counts fit, with `count` rows in its table
 pub record Answerable (q : ℕ) (p : Progress) (t : List ℕ) (count : ℕ) (counts : List (List ℕ)) : Type 0 where
@@ -76,9 +77,14 @@ pub record ToldFrames (f : code.Frames) (rs : List Frames.Played) (m : ℕ) : Ty
 -- the answer is what the reply says
 abbrev pub FramesAnswered : code.Frames → FramesReply → Type 0
 FramesAnswered f (played rs m) = ToldFrames f rs m
-FramesAnswered f (FramesReply.refuses q p) = f ≡ noFrames q p
+FramesAnswered f (FramesReply.refuses q p) = f ≡ noFrames q p (f .script)
 
 -- the answer, and the stores after it
 pub record Framed (reply : FramesReply) (old new : List ℤ) (f : code.Frames) : Type 0 where
   pub told : FramesAnswered f reply
   pub stores : new ≡ storesAfter reply old
+
+-- the same after 20, 1 and 16, and which script is refused
+pub record FramedScripts (prices : List ℕ) (l : Lent) (q : ℕ) (new : List ℤ) (f : code.Frames) : Type 0 where
+  pub framed : Framed (playedBy (pricesOf prices) q (readiness prices scratchSize (partsOf l))) (l .stores) new f
+  pub script : f .script ≡ refusedScript prices (partsOf l)

@@ -15,11 +15,12 @@ use run_loops::NO_COUNT;
 use runner::with_ticks;
 ghost use mathlib.Core.Path.{_≡_};
 ghost use Prim.Native.Nat.{_≤_};
-ghost use Rattle.rules.specs.Calls.{Priced, pricesOf, scratchSize};
-ghost use Rattle.rules_frames.specs.Frames.{partsOf, ready, readiness, playedBy};
+ghost use Rattle.rules.specs.Calls.{Priced, pricesOf};
+ghost use Rattle.rules_frames.specs.Frames.{ready, playedBy};
 ghost use Rattle.calls_lists.specs.Parts.{lentOf, Fitted};
 ghost use Rattle.calls_frames.specs.Playing.{MayPlay, ForReady, Uncounted, PlayedOut};
-ghost use Rattle.calls_frames.specs.Answers.{noAnswer, noFrames, Answerable, AnsweredBy, AllAnswerable, AllAnswered, Framed};
+ghost use Rattle.calls_frames.specs.Answers.{noAnswer, noFrames, Answerable, AnsweredBy, AllAnswerable, AllAnswered};
+ghost use Rattle.calls_frames.specs.Answers.{Framed, FramedScripts};
 
 // The scripts when all are finished, and the most ticks that all together took in one frame.
 pub struct Ended {
@@ -161,22 +162,25 @@ fn answers(
     list
 }
 
-// What a call of frames answers: a refusal, or the most ticks that all together took in one frame and each script's answer.
+// What a call of frames answers: a refusal, with the script that it is of, from 1, or 0 where it is of the call; or the most ticks that all
+// together took in one frame and each script's answer.
 pub struct Frames {
     pub verdict: Verdict,
+    pub script: usize,
     pub most: u64,
     pub scripts: [Played; 8],
 }
 
 // A refusal.
-pub fn refusal(number: u32, place: usize) -> Frames
-    ensures { λ r. ⌜ r ≡ noFrames number place ⌝ }
+pub fn refusal(number: u32, place: usize, script: usize) -> Frames
+    ensures { λ r. ⌜ r ≡ noFrames number place script ⌝ }
 {
     let none = nothing();
     let scripts = [none; 8];
     let verdict = Verdict::Refused(number, place);
     Frames {
         verdict,
+        script,
         most: 0,
         scripts,
     }
@@ -195,7 +199,8 @@ fn play_held(
     requires { ⌜ MayPlay (now prices) (now files) (now tables) (now stores) (now picks) q all ⌝ }
     ensures { λ r. ⌜ ForReady (now (prices .entry)) (now (files .entry)) (now (tables .entry)) (now (stores .entry))
         (now (picks .entry)) q all
-        (λ l roles. Framed (playedBy (pricesOf (now (prices .entry))) q (ready roles)) (l .stores) (now (stores .exit)) r) ⌝ }
+        (λ l roles. Framed (playedBy (pricesOf (now (prices .entry))) q (ready roles)) (l .stores) (now (stores .exit)) r)
+        × (r .script ≡ all .script) ⌝ }
 {
     let mut counts: [[[u64; 3]; 16]; 8] = [[[0; 3]; 16]; 8];
     let ended = play(files, tables, stores, picks, all, prices, q, &mut counts);
@@ -204,6 +209,7 @@ fn play_held(
     let verdict = Verdict::Passed;
     Frames {
         verdict,
+        script: all.script,
         most: ended.most,
         scripts,
     }
@@ -222,10 +228,9 @@ pub fn run_frames(
 ) -> Frames
     requires { ⌜ Priced (now prices) × Fitted (lentOf (now files) (now «file_lengths») (now stores) (now «store_lengths»)
         (now picks) (now «pick_lengths»)) q ⌝ }
-    ensures { λ r. ⌜ Framed (playedBy (pricesOf (now (prices .entry))) q (readiness (now (prices .entry)) scratchSize
-        (partsOf (lentOf (now (files .entry)) (now («file_lengths» .entry)) (now (stores .entry))
-        (now («store_lengths» .entry)) (now (picks .entry)) (now («pick_lengths» .entry))))))
-        (now (stores .entry)) (now (stores .exit)) r ⌝ }
+    ensures { λ r. ⌜ FramedScripts (now (prices .entry)) (lentOf (now (files .entry)) (now («file_lengths» .entry))
+        (now (stores .entry)) (now («store_lengths» .entry)) (now (picks .entry)) (now («pick_lengths» .entry)))
+        q (now (stores .exit)) r ⌝ }
 {
     let mut tables = [0u32; 8_192];
     let all = calls_scripts::enter_all(
@@ -240,6 +245,6 @@ pub fn run_frames(
     let verdict = all.verdict;
     match verdict {
         Verdict::Passed => play_held(files, &tables[..], stores, picks, all, prices, q),
-        Verdict::Refused(number, place) => refusal(number, place),
+        Verdict::Refused(number, place) => refusal(number, place, all.script),
     }
 }

@@ -2,6 +2,7 @@
 use mathlib.Core.Path.{_≡_, sym, _∙_, ap}
 use mathlib.Core.List.{List}
 use Prim.Native.Nat.{ℕ, _+_, _<_}
+use native.Mathlib.Numerals.{add-one}
 use native.Mathlib.Decide.{ℕ-discrete}
 use native.Mathlib.Omega.{arith}
 use lib.ListN.{length, getD, set, length-set}
@@ -17,8 +18,8 @@ use Rattle.calls_lists.specs.Parts.{partOf}
 use Rattle.calls_scripts.specs.declared.Places.{Places}
 use Rattle.calls_scripts.specs.declared.Held.{Held}
 use Rattle.calls_scripts.specs.declared.Entered.{Entered}
-use Rattle.calls_scripts.specs.Held.{tableLengths, Lengths, PlacesOf, PutAt, EnteredAs, noPart, nobody, HeldBy}
-use Rattle.calls_scripts.proofs.Readiness.{answerTo, cast-no, cast-yes, judged-file, plays-at}
+use Rattle.calls_scripts.specs.Held.{tableLengths, Lengths, PlacesOf, PutAt, EnteredAs, noPart, nobody, HeldBy, refusedScript}
+use Rattle.calls_scripts.proofs.Readiness.{answerTo, cast-no, cast-yes, which-no, which-none, judged-file, plays-at}
 use Rattle.calls_scripts.proofs.Tables.{tables-whole, put-length, put-part, put-others}
 
 module _ (prices : List ℕ) (l : Lent) where
@@ -85,6 +86,13 @@ module _ (prices : List ℕ) (l : Lent) where
       pub entering-no : k < N → (t : List ℕ) (e : Entered) → Enters k t e → (q p : ℕ) → e .verdict ≡ Refused q p → readiness prices scratchSize parts ≡ Readiness.refuses q p
       entering-no inside t e entered q p refusal =
           cast-no prices parts k (omega (arith, count)) (λ j m. answered j (omega arith) ∙ sym (h .enters j m .verdict)) q p (answered k inside ∙ sym (entered .verdict) ∙ refusal)
+
+      pub entering-which : k < N → (t : List ℕ) (e : Entered) → Enters k t e → (q p : ℕ) → e .verdict ≡ Refused q p → k + 1 ≡ refusedScript prices parts
+      entering-which inside t e entered q p refusal =
+          add-one k ∙ sym (which-no prices parts k (omega (arith, count)) (λ j m. answered j (omega arith) ∙ sym (h .enters j m .verdict)) q p (answered k inside ∙ sym (entered .verdict) ∙ refusal))
+
+      pub entering-no-one : k ≡ N → 0 ≡ refusedScript prices parts
+      entering-no-one all = sym (which-none prices parts (λ j m. answered j (omega (arith, count)) ∙ sym (h .enters j (omega (arith, count)) .verdict)))
 
       pub entering-all : k ≡ N → HeldBy Passed prices l tables each
       entering-all all =

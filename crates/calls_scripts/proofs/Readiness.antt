@@ -14,7 +14,7 @@ use Rattle.rules_frames.specs.Frames.{Progress, beginning, ScriptPart, Readines
 use Rattle.rules_frames.specs.InTime.{Accepts}
 use Rattle.reader.specs.declared.Loaded.{Loaded}
 use Rattle.calls.specs.Held.{readScript, Given, admitted}
-use Rattle.calls_scripts.specs.Held.{HeldAs, noPart, noProgress}
+use Rattle.calls_scripts.specs.Held.{HeldAs, noPart, noProgress, firstNo, refusedScript}
 
 -- a script that was read is held
 pub held-as : (file t : List ℕ) (l : Loaded) (ranges : List (List ℤ)) → Given file t l ranges → (script : Script) → readScript file t l ranges ≡ script → HeldAs file script (l .count) t
@@ -58,6 +58,18 @@ module _ (prices : List ℕ) where
       let (ps, e) = cast-yes hs (λ j m. f (suc j) (omega arith)) in
       let (qs, d) = enters-yes h (judged prices scratchSize (h .file)) ps (f 0 (omega arith)) in
       (qs, ap (enters (judged prices scratchSize (h .file)) h) e ∙ d)
+
+  -- which one is refused
+  pub which-no : (hs : List ScriptPart) (k : ℕ) → k < length hs → ((j : ℕ) → j < k → answerTo (getD hs j noPart) ≡ Passed) → (q p : ℕ) → answerTo (getD hs k noPart) ≡ Refused q p → refusedScript prices hs ≡ suc k
+  unfolding refusedScript firstNo
+  which-no [] k l f q p e = absurd (omega arith)
+  which-no (h ∷ hs) zero l f q p e = ap (λ v. firstNo v (refusedScript prices hs)) e
+  which-no (h ∷ hs) (suc k) l f q p e = λ i. firstNo (f 0 (omega arith) i) (which-no hs k (omega arith) (λ j m. f (suc j) (omega arith)) q p e i)
+
+  pub which-none : (hs : List ScriptPart) → ((j : ℕ) → j < length hs → answerTo (getD hs j noPart) ≡ Passed) → refusedScript prices hs ≡ 0
+  unfolding refusedScript firstNo
+  which-none [] f = refl
+  which-none (h ∷ hs) f = λ i. firstNo (f 0 (omega arith) i) (which-none hs (λ j m. f (suc j) (omega arith)) i)
 
   -- 1 and 16 have yes
   pub judged-file : Priced prices → (file : List ℕ) → judged prices scratchSize file ≡ judgedFile (pricesOf prices) (fileScript file)

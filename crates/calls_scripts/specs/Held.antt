@@ -1,7 +1,7 @@
 -- A script as it is held for the frames, and all of them.
 use mathlib.Core.Path.{_≡_}
-use mathlib.Core.List.{List, [], _++_}
-use Prim.Native.Nat.{ℕ, _-_, _≤_, _<_, _^_}
+use mathlib.Core.List.{List, [], _∷_, _++_}
+use Prim.Native.Nat.{ℕ, zero, suc, _-_, _≤_, _<_, _^_}
 use lib.IntN.{ℤ}
 use lib.ListN.{length, getD, take, drop, replicate}
 use Rattle.rules.specs.declared.Verdict.{Verdict}
@@ -9,7 +9,7 @@ use Rattle.rules.specs.declared.Verdict.the-variants.{Passed, Refused}
 use Rattle.rules.specs.Written.{Written}
 use Rattle.rules.specs.Scripts.{Script}
 use Rattle.rules.specs.File.{fileScript}
-use Rattle.rules.specs.Calls.{accepted, Priced, pricesOf, judgedFile, scratchSize}
+use Rattle.rules.specs.Calls.{accepted, Priced, pricesOf, judgedFile, scratchSize, judged}
 use Rattle.rules_frames.specs.Frames.{Progress, beginning, Lent, ScriptPart, partsOf, total, Readiness, ready, readiness}
 use Rattle.table.specs.Code.{rowsOf, kindAt}
 use Rattle.table.specs.Paired.{Table}
@@ -118,7 +118,19 @@ abbrev pub HeldBy : Verdict → List ℕ → Lent → List ℕ → List Held →
 HeldBy Passed prices l tables each = (ps : List Progress) × (readiness prices scratchSize (partsOf l) ≡ ready ps) × Holds l ps tables each
 HeldBy (Refused q p) prices l tables each = readiness prices scratchSize (partsOf l) ≡ Readiness.refuses q p
 
+-- a script's own verdict, before which of the later ones is refused
+unfoldable pub firstNo : Verdict → ℕ → ℕ
+firstNo (Refused q p) later = 1
+firstNo Passed zero = 0
+firstNo Passed (suc k) = suc (suc k)
+
+-- which script is refused, from 1: the first whose own questions have no; 0 where none has
+unfoldable pub refusedScript : List ℕ → List ScriptPart → ℕ
+refusedScript prices [] = 0
+refusedScript prices (h ∷ hs) = firstNo (admitted (judged prices scratchSize (h .file)) (h .store)) (refusedScript prices hs)
+
 -- the same of what code answers
 pub record HeldScriptsAs (prices : List ℕ) (l : Lent) (tables : List ℕ) (c : code.HeldScripts) : Type 0 where
+  pub script : c .script ≡ refusedScript prices (partsOf l)
   pub number : c .number ≡ length (l .fileLengths)
   pub held : HeldBy (c .verdict) prices l tables (c .each)

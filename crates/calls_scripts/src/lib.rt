@@ -130,9 +130,11 @@ fn enter_at(
     )
 }
 
-// All scripts and how many they are, each accepted with its store; or the first no, with its number and place.
+// All scripts and how many they are, each accepted with its store; or the first no, with its number and place and which script has
+// it, from 1.
 pub struct HeldScripts {
     pub verdict: Verdict,
+    pub script: usize,
     pub number: usize,
     pub each: [Held; 8],
 }
@@ -171,6 +173,7 @@ pub fn enter_all(
             Verdict::Refused(q, p) => {
                 return HeldScripts {
                     verdict: Verdict::Refused(q, p),
+                    script: k + 1,
                     number,
                     each,
                 };
@@ -179,6 +182,7 @@ pub fn enter_all(
     }
     HeldScripts {
         verdict: Verdict::Passed,
+        script: 0,
         number,
         each,
     }

@@ -1,2 +1,3 @@
 -- How the numbers lie.
 pub mod Laid
+pub mod Figured

@@ -1,13 +1,20 @@
 // explain [prices=A,C,P,T] [FILE ..]: prints each script, or the one on standard input, row by row with its figures in a margin; of a
-// refused file the row or line, the cause and the remedy. The prices are four ones if they are not given.
+// refused file the row or line, the cause and the remedy. The prices are four ones if they are not given. explain refused=NUMBER prints
+// the cause and the remedy of a refusal.
+mod blocks;
+mod faults;
+mod limits;
+mod marked;
 mod refusal;
-mod remedies;
+mod refusals;
+mod rows;
 mod show;
+mod terms;
 
 use calls_prices::ask_prices;
 use calls_prices::prices_of;
 use libc::STDIN_FILENO;
-use program_lists::PricesWord;
+use program_parts::WORD;
 use program_parts::print_text;
 use reader::Loaded;
 use reader::load;
@@ -15,10 +22,23 @@ use refusal::print_refused;
 use rules::Prices;
 use rules::Verdict;
 use show::print_script;
+ghost use Prim.Native.Nat.{_≤_};
 ghost use lib.ListN.{length};
 ghost use Rattle.rules.specs.Calls.{Priced};
 ghost use Rattle.calls.specs.Held.{Given};
 ghost use Rattle.explain.specs.Asked.{Asked};
+
+fn help() {
+    print_text(b"explain [prices=A,C,P,T] [FILE ..]\n");
+    print_text(
+        b"prints each script, FILE or standard input, row by row with its turns and ticks in a margin\n",
+    );
+    print_text(
+        b"of a refused one the line or row, the cause and the remedy; prices are 1 if they are not given\n",
+    );
+    print_text(b"explain refused=NUMBER prints the cause and the remedy of a refusal\n");
+    print_text(b"example: explain examples/listing.eff\n");
+}
 
 // Prints a script that has been read, from its table of rows.
 fn explain_rows(
@@ -37,7 +57,7 @@ fn explain_rows(
     let found = analysis::analyse(file, rows, count, ranges, prices, &mut lines, &mut own);
     let verdict = found.verdict;
     if let Verdict::Refused(number, place) = verdict {
-        print_refused(file, vars, count, number, place);
+        rows::print_refused_rows(file, vars, rows, count, number, place);
         return;
     }
     let zero: [u64; 4] = [0; 4];
@@ -46,7 +66,6 @@ fn explain_rows(
     explain_margin::put_ticks(&own, &mut figures);
     print_script(file, vars, rows, count, &figures, found.ticks);
 }
-
 // Prints a script that has been read.
 fn explain_script(file: &[u8], rows: &[u32], script: Loaded, ranges: [[i32; 2]; 16], prices: &[u32])
     requires { ⌜ Given (now file) (now rows) script ranges × Priced (now prices) ⌝ }
@@ -66,7 +85,7 @@ fn explain_priced(file: &[u8], prices: &[u32])
     let verdict = l.verdict;
     match verdict {
         Verdict::Passed => explain_script(file, &table, l, ranges, prices),
-        Verdict::Refused(number, place) => print_refused(file, 0, 0, number, place),
+        Verdict::Refused(number, place) => print_refused(file, number, place),
     }
 }
 
@@ -75,7 +94,7 @@ fn explain_file(file: &[u8], prices: &[u32]) {
     let lent = ask_prices(prices);
     match lent {
         Verdict::Passed => explain_priced(file, prices),
-        Verdict::Refused(number, place) => print_refused(file, 0, 0, number, place),
+        Verdict::Refused(number, place) => print_refused(file, number, place),
     }
 }
 
@@ -91,14 +110,12 @@ fn explain_input(prices: &[u32]) {
     explain_file(&file[..length], prices);
 }
 
-// The file that argument i names, after its name.
-fn explain_named(i: usize, prices: &[u32]) {
-    let mut path = io::buffer();
-    let n = os::arg(i, &mut path);
-    print_text(&path[..n]);
+// The file of that name, after its name.
+fn explain_named(name: &[u8], prices: &[u32]) {
+    print_text(name);
     print_text(b"\n");
     let mut file = [0u8; 16385];
-    let input = program_parts::read_file(&path[..n], &mut file);
+    let input = program_parts::read_file(name, &mut file);
     let length = input.length;
     if input.failed {
         program_parts::cannot_read();
@@ -107,7 +124,18 @@ fn explain_named(i: usize, prices: &[u32]) {
     explain_file(&file[..length], prices);
 }
 
-// The files that the arguments from `first` on name, an empty line between two; standard input if there is none.
+// What argument i asks for: the words of a refusal, or the file of that name.
+fn explain_argument(i: usize, prices: &[u32]) {
+    let mut word = [0u8; WORD];
+    let n = os::arg(i, &mut word);
+    if refusal::asks_refusal(&word[..n]) {
+        refusal::print_words(&word[..n]);
+        return;
+    }
+    explain_named(&word[..n], prices);
+}
+
+// The arguments from `first` on, an empty line between two; standard input if there is none.
 fn explain_all(first: usize, arguments: usize, prices: &[u32]) {
     if arguments <= first {
         explain_input(prices);
@@ -118,20 +146,21 @@ fn explain_all(first: usize, arguments: usize, prices: &[u32]) {
         if i > first {
             print_text(b"\n");
         }
-        explain_named(i, prices);
+        explain_argument(i, prices);
         i += 1;
     }
 }
 
 fn main() {
     let arguments = os::arg_count();
-    let mut word = io::buffer();
-    let n = os::arg(1, &mut word);
-    let mut prices = [1u32; 4];
-    let lent = program_lists::read_prices(&word[..n], &mut prices);
-    match lent {
-        PricesWord::Nothing => explain_all(1, arguments, &prices),
-        PricesWord::Four => explain_all(2, arguments, &prices),
-        PricesWord::Malformed => program_parts::print_wrong_prices(),
+    if program_parts::asks_help() {
+        help();
+        return;
+    }
+    let mut prices = [1u32; 5];
+    let read = program_parts::read_prices(&mut prices);
+    let count = read.count;
+    if read.good {
+        explain_all(read.next, arguments, &prices[..count]);
     }
 }

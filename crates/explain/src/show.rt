@@ -117,7 +117,7 @@ fn print_block(head: bool, ticks: u64, passes: u64, whole: u64, w: Widths)
 }
 
 // At most a line of a text.
-fn print_shown(text: &[u8]) {
+pub fn print_shown(text: &[u8]) {
     let mut line = [0u8; LINE];
     let n = put_shown(text, &mut line);
     print_front(&line, n);

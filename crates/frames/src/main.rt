@@ -218,48 +218,10 @@ fn print_scripts(f: Frames, stores: &[i32], lengths: &[usize]) {
     print_text(b"\n");
 }
 
-// Whether a script alone is refused; its run takes no tick.
-fn is_refused(file: &[u8], prices: &[u32], store: &mut [i32]) -> bool {
-    let none = [0u8; 1];
-    let mut scratch = [0u32; SCRATCH];
-    let o = loader::run(file, prices, &mut scratch, store, &none, 0);
-    let verdict = o.verdict;
-    match verdict {
-        Verdict::Passed => false,
-        Verdict::Refused(_, _) => true,
-    }
-}
-
-// Which script of a refused call is refused: the first that is refused alone.
-fn refused_script(
-    files: &[u8],
-    file_lengths: &[usize],
-    stores: &mut [i32],
-    store_lengths: &[usize],
-    prices: &[u32],
-) -> usize {
-    let mut file: usize = 0;
-    let mut value: usize = 0;
-    let mut k: usize = 0;
-    while k < file_lengths.len() && k < store_lengths.len() {
-        let file_to = file + min_max::smaller_size(file_lengths[k], files.len() - file);
-        let value_to = value + min_max::smaller_size(store_lengths[k], stores.len() - value);
-        if is_refused(&files[file..file_to], prices, &mut stores[value..value_to]) {
-            return k;
-        }
-        file = file_to;
-        value = value_to;
-        k += 1;
-    }
-    k
-}
-
-// Prints a refusal. 20 and 16 are of the call; any other is of a script, and which it is stands before it.
+// Prints a refusal. Where it is of a script, which it is, from 0, stands before it.
 fn print_refused(number: u32, place: usize, script: usize) {
-    if number != 20 {
-        if number != 16 {
-            print_which(script);
-        }
+    if script != 0 {
+        print_which(script - 1);
     }
     program_parts::print_refusal(number, place);
 }
@@ -290,10 +252,7 @@ fn play(
     let verdict = f.verdict;
     match verdict {
         Verdict::Passed => print_scripts(f, stores, store_lengths),
-        Verdict::Refused(number, place) => {
-            let script = refused_script(files, file_lengths, stores, store_lengths, prices);
-            print_refused(number, place, script);
-        }
+        Verdict::Refused(number, place) => print_refused(number, place, f.script),
     }
 }
 

@@ -26,9 +26,9 @@ use Rattle.calls_lists.proofs.Extents.{part-length}
 use Rattle.calls_scripts.specs.Held.{noPart, noProgress}
 use Rattle.calls_scripts.proofs.Readiness.{plays-at}
 use Rattle.calls_frames.specs.declared.Frames as code
-use Rattle.calls_frames.specs.Answers.{noAnswer, noFrames, ToldPlayed, noPlayed, ToldFrames, FramesAnswered, Framed}
+use Rattle.calls_frames.specs.Answers.{noAnswer, noFrames, ToldPlayed, noPlayed, ToldFrames, FramesAnswered, Framed, FramedScripts}
 use Rattle.loader.specs.Kept.{verdictNumber, lentVerdict}
-use Rattle.loader.specs.Framing.{framesNumber, mostBy, framesFirst, OnTime, FramedCall}
+use Rattle.loader.specs.Framing.{scriptMeant, framesNumber, mostBy, framesFirst, OnTime, FramedCall}
 use Rattle.loader.proofs.Laws.{lent-no, lent-room}
 
 -- ---- the questions
@@ -44,10 +44,14 @@ unfolding readiness enters
 cast-lent prices scratch q p e [] l = absurd (omega arith)
 cast-lent prices scratch q p e (h ∷ hs) l = ap (λ j. enters j h (readiness prices scratch hs)) (lent-no prices scratch (h .file) e)
 
+-- the answer, the stores after it, and which script is refused
+abbrev Meant : List ℕ → ℕ → Lent → ℕ → List ℤ → code.Frames → Type 0
+Meant prices scratch l q new f = Framed (framesReply prices scratch l q) (l .stores) new f × (f .script ≡ scriptMeant prices scratch l q)
+
 module _ (prices : List ℕ) (scratch : ℕ) (l : Lent) (q : ℕ) where
-  pub framed-20 : fitting l q ≡ false → Framed (framesReply prices scratch l q) (l .stores) (l .stores) (noFrames 20 0)
+  pub framed-20 : fitting l q ≡ false → Meant prices scratch l q (l .stores) (noFrames 20 0 0)
   unfolding framesReply storesAfter
-  framed-20 e = rw e (record { told = refl; stores = refl })
+  framed-20 e = rw e (record { told = refl; stores = refl }, refl)
 
   module _ (yes-20 : fitting l q ≡ true) where
     pub fits : Fitted l q
@@ -57,16 +61,16 @@ module _ (prices : List ℕ) (scratch : ℕ) (l : Lent) (q : ℕ) where
     unfolding framesReply
     reply = rw yes-20
 
-    pub framed-lent : (n p : ℕ) → lentVerdict prices scratch ≡ Refused n p → Framed (framesReply prices scratch l q) (l .stores) (l .stores) (noFrames n p)
+    pub framed-lent : (n p : ℕ) → lentVerdict prices scratch ≡ Refused n p → Meant prices scratch l q (l .stores) (noFrames n p 0)
     unfolding playedBy storesAfter
     framed-lent n p e =
         let count = cut-length (l .fileLengths) (l .storeLengths) (l .pickLengths) (l .files) (l .stores) (l .picks) (fits .stores) (fits .picks) in
         let no : framesReply prices scratch l q ≡ FramesReply.refuses n p = reply ∙ ap (playedBy (pricesOf prices) q) (cast-lent prices scratch n p e (partsOf l) (omega (arith, fits .some))) in
-        rw no (record { told = refl; stores = refl })
+        (rw no (record { told = refl; stores = refl }), rw (yes-20, e) refl)
 
-    pub framed-yes : lentVerdict prices scratch ≡ Passed → (new : List ℤ) (f : code.Frames) → Framed (playedBy (pricesOf prices) q (readiness prices scratchSize (partsOf l))) (l .stores) new f
-        → Framed (framesReply prices scratch l q) (l .stores) new f
-    framed-yes e new f h = rw (reply ∙ ap (playedBy (pricesOf prices) q) (cast-scratch prices scratch scratchSize (lent-room prices scratch e) (omega arith) (partsOf l))) h
+    pub framed-yes : lentVerdict prices scratch ≡ Passed → (new : List ℤ) (f : code.Frames) → FramedScripts prices l q new f → Meant prices scratch l q new f
+    framed-yes e new f h =
+        (rw (reply ∙ ap (playedBy (pricesOf prices) q) (cast-scratch prices scratch scratchSize (lent-room prices scratch e) (omega arith) (partsOf l))) (h .framed), rw (yes-20, e) (h .script))
 
 -- ---- the answer's numbers
 told-number : (f : code.Frames) (r : FramesReply) → FramesAnswered f r → verdictNumber (f .verdict) ≡ framesNumber r
@@ -194,7 +198,7 @@ module _ (prices : List ℕ) (scratch : ℕ) (l : Lent) (q : ℕ) (new : List �
       all-on-time rs m (h .told) (h .stores) (did-fit rs m e) ps accepts as-alone highest
   in-time (FramesReply.refuses n p) e h v = absurd (let z : f .verdict ≡ Refused n p = ap (λ (y : code.Frames). y .verdict) (h .told) in let y : _≡_ {A = ℕ} 0 1 = cc in omega arith)
 
-  pub framed-call : Framed (framesReply prices scratch l q) (l .stores) new f → FramedCall prices scratch l q new f
-  framed-call h =
+  pub framed-call : Meant prices scratch l q new f → FramedCall prices scratch l q new f
+  framed-call (h, script) =
       let r = framesReply prices scratch l q in
-      record { answer = h; number = told-number f r (h .told); first = told-first f r (h .told); in-time = in-time r refl h }
+      record { answer = h; number = told-number f r (h .told); first = told-first f r (h .told); script = script; in-time = in-time r refl h }

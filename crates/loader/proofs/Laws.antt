@@ -8,15 +8,23 @@ use lib.IntN.{ℤ}
 use lib.ListN.{length, take, drop}
 use lib.Seq.{drop-at}
 use lib.Dec.{T, leb, leb→le}
+use Rattle.rules.specs.declared.Verdict.{Verdict}
 use Rattle.rules.specs.declared.Verdict.the-variants.{Passed, Refused}
 use Rattle.rules.specs.declared.Reply.{Reply}
 use Rattle.rules.specs.File.{fileScript}
 use Rattle.rules.specs.Calls.{Judged, refuses, pricesOf, pricesVerdict, Priced, judgedPriced, scratchSize, judgedFile, judged, replyOf, bufferOf, RunReply, ran, runReply, storeAfter}
 use Rattle.rules.proofs.Demand3File.{demand3-call}
 use Rattle.calls.specs.Told.{MeasuredAs, Told, RanAs, ToldNo}
+use Rattle.rules_live.specs.Live.{StepLent}
+use Rattle.rules_live.specs.LiveCalls.{startReply, stateStarted, stepReply, storeStepped, stateStepped, cuesStepped}
+use Rattle.calls_live.specs.declared.Started.{Started}
+use Rattle.calls_live.specs.declared.StepDone.{StepDone}
+use Rattle.calls_live.specs.Told.{StartedAs, ToldNoStep, SteppedAs}
 use Rattle.calls.specs.declared.Measured.{Measured}
 use Rattle.calls.specs.declared.Outcome.{Outcome}
 use Rattle.calls.proofs.Runs.{told-says}
+use Rattle.calls_figures.specs.declared.Figures.{Figures}
+use Rattle.calls_figures.specs.Told.{noFigures, FiguresAs}
 use Rattle.loader.specs.Kept.{replyNumber, replyPlace, verdictNumber, firstBy, runNumber, runFirst, lentVerdict, Reported, KeptCall, ScratchKept}
 
 -- the questions 1 and 16
@@ -73,6 +81,14 @@ module _ {prices : List ℕ} {j : Judged} {old : List ℕ} where
   pub reported-as : {k : Judged} {new : List ℕ} {m : Measured} → j ≡ k → MeasuredAs prices k old new m → Reported prices j old new (m .reply)
   reported-as e h = rw e (record { answer = h .reply; number = ap replyNumber (h .reply); place = ap replyPlace (h .reply); buffer = h .buffer })
 
+-- figures that are refused, and those of a file that is judged as its script is
+module _ (prices : List ℕ) {j : Judged} (new : List (List ℕ)) where
+  pub figured-no : {q p : ℕ} → j ≡ refuses q p → {v : Verdict} → v ≡ Refused q p → FiguresAs prices j new (noFigures v)
+  figured-no e z = rw e (z, refl, refl, refl)
+
+  pub figured-same : {k : Judged} (r : Figures) → j ≡ k → FiguresAs prices k new r → FiguresAs prices j new r
+  figured-same r e h = rw e h
+
 -- the numbers of an answer that tells a reply
 told-number : (o : Outcome) (reply : RunReply) → Told o reply → verdictNumber (o .verdict) ≡ runNumber reply
 told-number o (ran a cs) t = ap verdictNumber (t .verdict)
@@ -102,3 +118,20 @@ kept prices scratch file {store} picks allowance {o} r =
       first = told-first o reply (r .told);
       demand3 = demand3-call prices store picks allowance (o .ending) (o .ticks) (take (o .loops) (o .counts)) scratch file (told-says o reply (r .told));
     }
+
+-- a start and a step that are refused, and those that are judged as another is
+module _ (prices : List ℕ) (store : List ℤ) (ns : List ℕ) {j : Judged} where
+  pub started-no : {v : Verdict} {q p : ℕ} → j ≡ refuses q p → v ≡ Refused q p → {r : Started} → (r .verdict ≡ v) × (r .ticks ≡ 0) × (r .loops ≡ 0) → StartedAs (startReply prices j store ns) ns ns r
+  unfolding startReply stateStarted
+  started-no e f (a, b, c) = rw e (record { told = (a ∙ f, b, c); new-state = refl })
+
+  pub started-same : {k : Judged} {new : List ℕ} {r : Started} → j ≡ k → StartedAs (startReply prices k store ns) ns new r → StartedAs (startReply prices j store ns) ns new r
+  started-same e h = rw e h
+
+  pub stepped-no : (l : StepLent) {cues : List ℕ} {r : StepDone} {q p : ℕ} → j ≡ refuses q p → ToldNoStep r q p → SteppedAs (stepReply prices j store ns l) store store ns ns cues cues r
+  unfolding stepReply storeStepped stateStepped cuesStepped
+  stepped-no l e t = rw e (record { told = t; new-store = refl; new-state = refl; new-cues = refl })
+
+  pub stepped-same : (l : StepLent) {k : Judged} {new : List ℤ} {ns′ cues cues′ : List ℕ} {r : StepDone} → j ≡ k → SteppedAs (stepReply prices k store ns l) store new ns ns′ cues cues′ r
+      → SteppedAs (stepReply prices j store ns l) store new ns ns′ cues cues′ r
+  stepped-same l e h = rw e h

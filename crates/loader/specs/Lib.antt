@@ -1,3 +1,3 @@
--- The promises of the three calls.
+-- The promises of the calls.
 pub mod Kept
 pub mod Framing

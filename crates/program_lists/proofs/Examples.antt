@@ -5,25 +5,23 @@ use Prim.Native.Nat.{ℕ}
 use lib.IntN.{pos, negℤ}
 use Rattle.rules.specs.Text.{prefixed, split, startsWith, equals, isDigit, allDigits, valueFrom, isNatural}
 use Rattle.program_words.specs.Words.{sized, numberIn, valueIn}
-use Rattle.program_lists.specs.declared.PricesWord.the-variants.{Nothing, Four, Malformed}
+use Rattle.program_lists.specs.declared.Lent as lists
 use Rattle.program_lists.specs.declared.Values.the-variants.{Count, Wrong}
-use Rattle.program_lists.specs.Lists.{allPrices, fourPrices, pricesKept, lentIn, lentPrices, valuesIn, valuesKept, untilSpace, lineWords, commaWords}
+use Rattle.program_lists.specs.Lists.{priceOf, lentBy, pricesBy, pricesLent, valuesIn, valuesKept, untilSpace, lineWords, commaWords}
 
--- `prices=2,30,1,5`, and the prices after it
-abbrev word : List ℕ
-word = 112 ∷ 114 ∷ 105 ∷ 99 ∷ 101 ∷ 115 ∷ 61 ∷ 50 ∷ 44 ∷ 51 ∷ 48 ∷ 44 ∷ 49 ∷ 44 ∷ 53 ∷ []
-
-four : (lentIn word ≡ Four) × (lentPrices word (1 ∷ 1 ∷ 1 ∷ 1 ∷ []) ≡ 2 ∷ 30 ∷ 1 ∷ 5 ∷ [])
-unfolding lentIn lentPrices fourPrices allPrices pricesKept split prefixed startsWith numberIn sized isNatural allDigits isDigit valueFrom
+-- `prices=2,30,1,5` lends four, `prices=2,-3` two, of which the second is lent as 0; `script` says nothing
+four : (lentBy (112 ∷ 114 ∷ 105 ∷ 99 ∷ 101 ∷ 115 ∷ 61 ∷ 50 ∷ 44 ∷ 51 ∷ 48 ∷ 44 ∷ 49 ∷ 44 ∷ 53 ∷ []) ≡ lists.the-variants.Count 4)
+    × (pricesLent (112 ∷ 114 ∷ 105 ∷ 99 ∷ 101 ∷ 115 ∷ 61 ∷ 50 ∷ 44 ∷ 51 ∷ 48 ∷ 44 ∷ 49 ∷ 44 ∷ 53 ∷ []) [] ≡ 2 ∷ 30 ∷ 1 ∷ 5 ∷ 1 ∷ [])
+unfolding lentBy pricesLent pricesBy priceOf valuesIn valuesKept split prefixed startsWith valueIn numberIn sized isNatural allDigits isDigit valueFrom
 four = (refl, refl)
 
--- `prices=2,3` has too few, and its two are kept; `script` says nothing
-few : (lentIn (112 ∷ 114 ∷ 105 ∷ 99 ∷ 101 ∷ 115 ∷ 61 ∷ 50 ∷ 44 ∷ 51 ∷ []) ≡ Malformed) × (lentPrices (112 ∷ 114 ∷ 105 ∷ 99 ∷ 101 ∷ 115 ∷ 61 ∷ 50 ∷ 44 ∷ 51 ∷ []) (1 ∷ 1 ∷ 1 ∷ 1 ∷ []) ≡ 2 ∷ 3 ∷ 1 ∷ 1 ∷ [])
-unfolding lentIn lentPrices fourPrices allPrices pricesKept split prefixed startsWith numberIn sized isNatural allDigits isDigit valueFrom
+few : (lentBy (112 ∷ 114 ∷ 105 ∷ 99 ∷ 101 ∷ 115 ∷ 61 ∷ 50 ∷ 44 ∷ 45 ∷ 51 ∷ []) ≡ lists.the-variants.Count 2)
+    × (pricesLent (112 ∷ 114 ∷ 105 ∷ 99 ∷ 101 ∷ 115 ∷ 61 ∷ 50 ∷ 44 ∷ 45 ∷ 51 ∷ []) [] ≡ 2 ∷ 0 ∷ 1 ∷ 1 ∷ 1 ∷ [])
+unfolding lentBy pricesLent pricesBy priceOf valuesIn valuesKept split prefixed startsWith valueIn numberIn sized isNatural allDigits isDigit valueFrom
 few = (refl, refl)
 
-script : lentIn (115 ∷ 99 ∷ 114 ∷ 105 ∷ 112 ∷ 116 ∷ []) ≡ Nothing
-unfolding lentIn startsWith
+script : lentBy (115 ∷ 99 ∷ 114 ∷ 105 ∷ 112 ∷ 116 ∷ []) ≡ lists.the-variants.Nothing
+unfolding lentBy startsWith
 script = refl
 
 -- `7,-2` has two values, `7,` one and a wrong one, and `-` none; `7 ` of a line has one

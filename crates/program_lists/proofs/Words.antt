@@ -10,10 +10,9 @@ use lib.IntN.{ℤ}
 use lib.ListN.{length, getD, take, drop}
 use Rattle.rules.specs.Text.{space, minus, split, startsWith, equals}
 use Rattle.reading_text.proofs.Laws.{part-rest}
-use Rattle.program_lists.specs.declared.PricesWord.the-variants.{Nothing, Four, Malformed}
 use Rattle.program_lists.specs.declared.Values.{Values}
 use Rattle.program_lists.specs.declared.Values.the-variants.{Count}
-use Rattle.program_lists.specs.Lists.{comma, pricesKey, fourPrices, pricesKept, lentIn, lentPrices, valuesIn, valuesKept, untilSpace, lineWords, commaWords}
+use Rattle.program_lists.specs.Lists.{comma, valuesIn, valuesKept, untilSpace, lineWords, commaWords}
 
 -- ---- a first word
 -- a text is as long as a key that it starts with
@@ -26,18 +25,6 @@ starts-long (k ∷ key) (b ∷ s) e = go (eqb b k) (starts-long key s) e
     go : (t : Bool) → (startsWith key s ≡ true → length key ≤ length s) → cond t (startsWith key s) false ≡ true → suc (length key) ≤ suc (length s)
     go true ih h = omega (arith, ih h)
     go false ih h = absurd (let z : _≡_ {A = ℕ} 0 1 = cc in omega arith)
-
-pub lent-none : (word old : List ℕ) → startsWith pricesKey word ≡ false → (Nothing ≡ lentIn word) × (old ≡ lentPrices word old)
-unfolding lentIn lentPrices
-lent-none word old h = (rw h, rw h)
-
-pub lent-list : (word old new : List ℕ) → startsWith pricesKey word ≡ true → (t : Bool)
-    → t ≡ fourPrices (split comma (take (length word - 7) (drop 7 word))) → new ≡ pricesKept (split comma (take (length word - 7) (drop 7 word))) 0 old
-    → (cond t Four Malformed ≡ lentIn word) × (new ≡ lentPrices word old)
-unfolding lentIn lentPrices
-lent-list word old new h t f p =
-    let r = part-rest word 7 in
-    (rw h (ap (λ b. cond b Four Malformed) (f ∙ ap (λ l. fourPrices (split comma l)) r)), rw h (p ∙ ap (λ l. pricesKept (split comma l) 0 old) r))
 
 -- ---- words that are read as others, or are none
 pub read-as : (ws vs : List (List ℕ)) (r : Values) (old new : List ℤ) → vs ≡ ws → r ≡ valuesIn 0 ws → new ≡ valuesKept ws 0 old

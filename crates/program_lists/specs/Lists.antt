@@ -1,4 +1,4 @@
--- Lists of numbers as words: the four prices of a run, `prices=A,C,P,T`, and the values of a store, with a separator between them.
+-- Lists of numbers as words: the prices of a run, `prices=A,C,P,T`, and the values of a store, with a separator between them.
 use mathlib.Core.Path.{_≡_}
 use mathlib.Core.Bool.{Bool, true, false, cond, _&&_}
 use mathlib.Core.List.{List, [], _∷_, map}
@@ -7,8 +7,7 @@ use lib.Dec.{eqb}
 use lib.IntN.{ℤ, pos, negsuc}
 use lib.ListN.{length, getD, take, drop}
 use Rattle.rules.specs.Text.{space, minus, split, startsWith, equals}
-use Rattle.program_words.specs.Words.{numberIn, isPrice, pricedIn, valueIn, isValue, keptIn}
-use Rattle.program_lists.specs.declared.PricesWord as lents
+use Rattle.program_words.specs.Words.{valueIn, isValue, keptIn}
 use Rattle.program_lists.specs.declared.Values as counts
 use Rattle.program_lists.specs.declared.Lent as lists
 
@@ -19,31 +18,6 @@ comma = 44
 -- `prices=`
 abbrev pub pricesKey : List ℕ
 pricesKey = 112 ∷ 114 ∷ 105 ∷ 99 ∷ 101 ∷ 115 ∷ 61 ∷ []
-
--- whether each word is a price
-unfoldable pub allPrices : List (List ℕ) → Bool
-allPrices [] = true
-allPrices (w ∷ ws) = cond (isPrice (numberIn w)) (allPrices ws) false
-
--- whether words are four prices
-unfoldable pub fourPrices : List (List ℕ) → Bool
-fourPrices ws = eqb (length ws) 4 && allPrices ws
-
--- prices with those of words from a place on, up to the first word that is none
-unfoldable pub pricesKept : List (List ℕ) → ℕ → List ℕ → List ℕ
-pricesKept [] at prices = prices
-pricesKept (w ∷ ws) at prices = cond (isPrice (numberIn w)) (pricesKept ws (suc at) (pricedIn (numberIn w) prices at)) prices
-
--- what a first word says of the prices: `prices=` and four prices with commas between them
-unfoldable pub lentIn : List ℕ → lents.PricesWord
-lentIn word =
-    cond (startsWith pricesKey word)
-    (cond (fourPrices (split comma (drop 7 word))) lents.the-variants.Four lents.the-variants.Malformed)
-    lents.the-variants.Nothing
-
--- the prices after that word
-unfoldable pub lentPrices : List ℕ → List ℕ → List ℕ
-lentPrices word prices = cond (startsWith pricesKey word) (pricesKept (split comma (drop 7 word)) 0 prices) prices
 
 -- how many words are values, after n that are; or the index of the first that is none
 unfoldable pub valuesIn : ℕ → List (List ℕ) → counts.Values

@@ -1,7 +1,6 @@
 // Lists of numbers as words: the prices of a run, and the values of a store.
 use min_max::smaller_size;
 use program_words::is_word;
-use program_words::keep_price;
 use program_words::keep_value;
 use reading_text::position;
 use reading_text::starts_with;
@@ -9,15 +8,8 @@ ghost use mathlib.Core.Path.{_≡_};
 ghost use mathlib.Core.List.{map};
 ghost use lib.ListN.{length};
 ghost use Rattle.rules.specs.Text.{split};
-ghost use Rattle.program_lists.specs.Lists.{comma, fourPrices, pricesKept, lentIn, lentPrices, valuesIn, valuesKept};
+ghost use Rattle.program_lists.specs.Lists.{comma, valuesIn, valuesKept};
 ghost use Rattle.program_lists.specs.Lists.{lineWords, commaWords, priceOf, countBy, lentBy, pricesBy, pricesLent, LentAs};
-
-// What a first word says of the prices: nothing, four, or not what it should.
-pub enum PricesWord {
-    Nothing,
-    Four,
-    Malformed,
-}
 
 // What a first word says of the prices: nothing; how many it lends, five for more, since 16 refuses the fifth; or the index of one that is
 // no number of 32 bits.
@@ -31,43 +23,6 @@ pub enum Lent {
 pub enum Values {
     Count(usize),
     Wrong(usize),
-}
-
-// Keeps four numbers with commas between them; false for any other list.
-fn put_prices(list: &[u8], prices: &mut [u32]) -> bool
-    requires { ⌜ length (now prices) ≡ 4 ⌝ }
-    ensures { λ r. ⌜ r ≡ fourPrices (split comma (now (list .entry))) ⌝ }
-    ensures { λ _. ⌜ now (prices .exit) ≡ pricesKept (split comma (now (list .entry))) 0 (now (prices .entry)) ⌝ }
-{
-    let mut at: usize = 0;
-    let mut count: usize = 0;
-    while count < 4 {
-        let end = at + position(&list[at..], b',');
-        if !keep_price(&list[at..end], prices, count) {
-            return false;
-        }
-        count += 1;
-        if end == list.len() {
-            return count == 4;
-        }
-        at = end + 1;
-    }
-    false
-}
-
-// Keeps the prices of a first word that is `prices=A,C,P,T`.
-pub fn read_prices(word: &[u8], prices: &mut [u32]) -> PricesWord
-    requires { ⌜ length (now prices) ≡ 4 ⌝ }
-    ensures { λ r. do
-      ⌜ (r ≡ lentIn (now (word .entry))) × (now (prices .exit) ≡ lentPrices (now (word .entry)) (now (prices .entry))) ⌝ }
-{
-    if !starts_with(word, b"prices=") {
-        return PricesWord::Nothing;
-    }
-    if put_prices(&word[7..], prices) {
-        return PricesWord::Four;
-    }
-    PricesWord::Malformed
 }
 
 // Keeps the values of a list, with a separator between them, as far as the store has places.

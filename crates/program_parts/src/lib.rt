@@ -5,8 +5,10 @@ mod print;
 mod script;
 mod wrong;
 
+pub use arguments::PricesRead;
 pub use arguments::WORD;
 pub use arguments::asks_help;
+pub use arguments::read_prices;
 pub use lines::LineKind;
 pub use lines::answer_input;
 pub use print::print_front;
@@ -14,7 +16,6 @@ pub use print::print_number;
 pub use print::print_outcome;
 pub use print::print_refusal;
 pub use print::print_text;
-pub use print::print_wrong_prices;
 pub use script::Input;
 pub use script::cannot_read;
 pub use script::read_all;

@@ -1,11 +1,9 @@
 // A script file: read by its name, reported and run. A byte more than a file may have is read, so that a longer file is told.
-use crate::print::print_outcome;
 use crate::print::print_text;
 use crate::wrong::print_unread;
 use crate::wrong::print_wrong_allowance;
 use crate::wrong::print_wrong_picks;
 use libc::STDIN_FILENO;
-use loader::SCRATCH;
 use min_max::smaller_size;
 use program_words::Number;
 use program_words::allowance;
@@ -14,6 +12,8 @@ use program_words::put_picks;
 use report_text::TEXT;
 use report_text::put_report;
 ghost use mathlib.Core.Path.{_≡_};
+ghost use Prim.Native.Nat.{_≤_};
+ghost use lib.ListN.{length};
 ghost use Rattle.rules.specs.Calls.{fourOnes};
 ghost use Rattle.report_text.specs.Printed.{printed};
 ghost use Rattle.io.specs.Counts.{Counts};
@@ -114,15 +114,19 @@ pub fn report_file(path: &[u8]) {
     print_report(&file[..length]);
 }
 
-// Runs a file's bytes and prints the outcome.
-fn print_run(file: &[u8], prices: &[u32], allowed: u64, picks: &[u8], store: &mut [i32]) {
-    let mut scratch = [0u32; SCRATCH];
-    let outcome = loader::run(file, prices, &mut scratch, store, picks, allowed);
-    print_outcome(outcome, store);
+// Runs a file's bytes and prints what the call answers.
+fn print_run(file: &[u8], prices: &[u32], allowed: u64, picks: &[u8], store: &mut [i32])
+    requires { ⌜ length (now store) ≤ 17 ⌝ }
+{
+    let mut text = [0u8; run_text::TEXT];
+    let n = run_text::put_answer(file, prices, store, picks, allowed, &mut text);
+    print_text(&text[..n]);
 }
 
 // Runs the file of that name and prints the outcome.
-fn run_file(path: &[u8], prices: &[u32], allowed: u64, picks: &[u8], store: &mut [i32]) {
+fn run_file(path: &[u8], prices: &[u32], allowed: u64, picks: &[u8], store: &mut [i32])
+    requires { ⌜ length (now store) ≤ 17 ⌝ }
+{
     let mut file = [0u8; 16385];
     let input = read_file(path, &mut file);
     let length = input.length;
@@ -141,7 +145,9 @@ fn run_word(
     word: &[u8],
     picks: &mut [u8],
     store: &mut [i32],
-) {
+)
+    requires { ⌜ length (now store) ≤ 17 ⌝ }
+{
     if put_picks(word, picks) {
         run_file(path, prices, allowed, picks, store);
     } else {
@@ -150,14 +156,18 @@ fn run_word(
 }
 
 // The same with room for as many picks as an argument of a program can have.
-fn run_picks(path: &[u8], prices: &[u32], allowed: u64, word: &[u8], store: &mut [i32]) {
+fn run_picks(path: &[u8], prices: &[u32], allowed: u64, word: &[u8], store: &mut [i32])
+    requires { ⌜ length (now store) ≤ 17 ⌝ }
+{
     let mut room = [0u8; 131072];
     let count = pick_count(word, &room);
     run_word(path, prices, allowed, word, &mut room[..count], store);
 }
 
 // The same by a word of allowance.
-fn run_allowed(path: &[u8], prices: &[u32], allowed: &[u8], word: &[u8], store: &mut [i32]) {
+fn run_allowed(path: &[u8], prices: &[u32], allowed: &[u8], word: &[u8], store: &mut [i32])
+    requires { ⌜ length (now store) ≤ 17 ⌝ }
+{
     let n = allowance(allowed);
     match n {
         Number::Is(ticks) => run_picks(path, prices, ticks, word, store),
@@ -175,7 +185,9 @@ pub fn rehearse_file(
     word: &[u8],
     values: usize,
     store: &mut [i32],
-) {
+)
+    requires { ⌜ length (now store) ≤ 17 ⌝ }
+{
     let kept = smaller_size(values, store.len());
     run_allowed(path, prices, allowed, word, &mut store[..kept]);
 }

@@ -57,16 +57,6 @@ abbrev pub isValue : values.StoreValue → Bool
 isValue (values.the-variants.Is x) = true
 isValue values.the-variants.Malformed = false
 
--- a number of 32 bits, as a price is lent
-abbrev pub isPrice : numbers.Number → Bool
-isPrice (numbers.the-variants.Is n) = leb n 4_294_967_295
-isPrice numbers.the-variants.Malformed = false
-
--- prices with that one at a place
-abbrev pub pricedIn : numbers.Number → List ℕ → ℕ → List ℕ
-pricedIn (numbers.the-variants.Is n) prices at = cond (leb n 4_294_967_295) (set prices at n) prices
-pricedIn numbers.the-variants.Malformed prices at = prices
-
 -- `plan`
 abbrev pub planWord : List ℕ
 planWord = 112 ∷ 108 ∷ 97 ∷ 110 ∷ []

@@ -7,7 +7,7 @@ ghost use Prim.Native.Nat.{_≤_, _<_, min};
 ghost use lib.ListN.{length};
 ghost use Rattle.rules.specs.Text.{equals, allDigits, isNatural};
 ghost use Rattle.program_words.specs.Words.{digitOf, spelledIn, numberIn, isNumber, upwardOf, downwardOf, valueIn, keptIn};
-ghost use Rattle.program_words.specs.Words.{isValue, isPrice, pricedIn, allowanceIn, isNone, allBits, bitsOf, PutPicks};
+ghost use Rattle.program_words.specs.Words.{isValue, allowanceIn, isNone, allBits, bitsOf, PutPicks};
 
 // A word that is a number, or is none.
 pub enum Number {
@@ -177,25 +177,6 @@ pub fn keep_value(word: &[u8], store: &mut [i32], at: usize) -> bool
             true
         }
         StoreValue::Malformed => false,
-    }
-}
-
-// Keeps the price that the word is at its place; false if the word is no number of 32 bits.
-pub fn keep_price(word: &[u8], prices: &mut [u32], at: usize) -> bool
-    requires { ⌜ at < length (now prices) ⌝ }
-    ensures { λ r. ⌜ r ≡ isPrice (numberIn (now (word .entry))) ⌝ }
-    ensures { λ _. ⌜ now (prices .exit) ≡ pricedIn (numberIn (now (word .entry))) (now (prices .entry)) at ⌝ }
-{
-    let n = read_number(word);
-    match n {
-        Number::Is(p) => {
-            if p > 4_294_967_295 {
-                return false;
-            }
-            prices[at] = p as u32;
-            true
-        }
-        Number::Malformed => false,
     }
 }
 

@@ -63,7 +63,8 @@ fn if_read(verdict: Verdict, n: usize) -> usize
     }
 }
 
-// A loaded file: all questions have yes, or the first no; the number of variables; and how many rows are in the table. A refused file has none.
+// A loaded file: all questions have yes, or the first no; the number of variables; and how many rows are in the table. A refused file
+// has none.
 pub struct Loaded {
     pub verdict: Verdict,
     pub vars: usize,
@@ -77,8 +78,8 @@ const NONE_OPEN: Blocks = Blocks {
     loops: 0,
 };
 
-// A file's script, or its first no: the ranges in the pairs of the lent array, the rows in the lent table. Both loops stand here, since an array of
-// rows that is handed on is copied, 8 KB.
+// A file's script, or its first no: the ranges in the pairs of the lent array, the rows in the lent table. Both loops stand here, since
+// an array of rows that is handed on is copied, 8 KB.
 pub fn load(file: &[u8], ranges: &mut [[i32; 2]; 16], table: &mut [u32]) -> Loaded
     requires { ⌜ length (now table) ≡ 1_024 ⌝ }
     ensures { λ r. ⌜ LoadedAs (now (file .entry)) (fileScript (now (file .entry))) r (now (ranges .exit)) (now (table .exit)) ⌝ }

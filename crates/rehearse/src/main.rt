@@ -2,11 +2,11 @@
 // its store and the turns of its loops. The prices are four ones if they are not given. ALLOWANCE is a number or `plan`, PICKS a word of 0
 // and 1 or `-`, and the values are the store.
 
-use program_lists::Lent;
 use program_lists::Values;
 use program_parts::WORD;
 use program_parts::print_text;
 ghost use Prim.Native.Nat.{_≤_};
+ghost use lib.ListN.{length};
 
 fn usage() {
     print_text(b"rehearse [prices=A,C,P,T] FILE ALLOWANCE PICKS [VALUE ..]\n");
@@ -57,7 +57,7 @@ fn read_values(first: usize, arguments: usize, store: &mut [i32]) -> Values
 
 // Runs the file that argument `file` names under prices, by the allowance and the picks after it and the first values in a store.
 fn rehearse(file: usize, prices: &[u32], values: usize, store: &mut [i32])
-    requires { ⌜ file ≤ 2 ⌝ }
+    requires { ⌜ (file ≤ 2) × (length (now store) ≤ 17) ⌝ }
 {
     let mut path = [0u8; WORD];
     let p = os::arg(file, &mut path);
@@ -93,16 +93,12 @@ fn start(file: usize, arguments: usize, prices: &[u32])
 }
 
 // Reads the prices, if the first argument has them.
-fn read_prices(arguments: usize) {
-    let mut word = [0u8; WORD];
-    let n = os::arg(1, &mut word);
-    let ones = [1u32; 4];
+fn read_and_start(arguments: usize) {
     let mut prices = [1u32; 5];
-    let lent = program_lists::lend_prices(&word[..n], &mut prices);
-    match lent {
-        Lent::Nothing => start(1, arguments, &ones),
-        Lent::Count(k) => start(2, arguments, &prices[..k]),
-        Lent::Wrong(at) => program_parts::print_wrong_price(at, &word[..n]),
+    let read = program_parts::read_prices(&mut prices);
+    let count = read.count;
+    if read.good {
+        start(read.next, arguments, &prices[..count]);
     }
 }
 
@@ -112,5 +108,5 @@ fn main() {
         help();
         return;
     }
-    read_prices(arguments);
+    read_and_start(arguments);
 }

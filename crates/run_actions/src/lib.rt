@@ -115,7 +115,7 @@ pub fn cue_row(m: Machine, prices: Prices) -> Machine
 }
 
 // Byte 0 takes the one row, any other the next.
-fn branch(byte: u8, other: usize, next: usize) -> usize
+pub fn branch(byte: u8, other: usize, next: usize) -> usize
     ensures { λ r. ⌜ r ≡ cond (eqb byte 0) other next ⌝ }
 {
     if byte == 0 { other } else { next }

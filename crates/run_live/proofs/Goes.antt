@@ -20,7 +20,7 @@ use Rattle.rules_machine.specs.RowMachine.{TurnCounts, fresh, testing, Place, N
 use Rattle.rules.proofs.TreeOf.{tree-of}
 use Rattle.rules_machine.proofs.PairsIn.{partners}
 use Rattle.rules_machine.proofs.RowMachineRuns.{next-row, next-past}
-use Rattle.rules_live.specs.Live.{Stand, going, full, Stop, stopsAt, cueAt, blocked, runsOn}
+use Rattle.rules_live.specs.Live.{Stand, going, full, Stop, stopsAt, cueAt, blocked, runsOn, rowOfNext}
 use Rattle.rules_live.specs.Cues.{cueOf}
 use Rattle.rules_live.proofs.Laws.{runs-more, runs-over, runs-full, blocked-none, blocked-room, blocked-dear, blocked-full}
 use Rattle.table.specs.declared.Tag.{Tag}
@@ -218,6 +218,15 @@ stood π rows here r store picks c Spent i q f =
     let (x, y, _) = waits-next π rows _ _ here i _ _ q in
     λ k. going (record { row = sym a k; phase = sym b k; now = sym x k; tally = sym y k })
 
+-- and its next price is the one that did not fit
+pub spent-at : (π : Prices) (rows : List RowKind) (here : Place) (r : Machine) (store : List ℤ) (picks : List ℕ) (c : TurnCounts) (i : ℕ)
+    → stepOf π rows here ≡ over Spent i (stateOf r store picks) c → (r .row ≡ here .row) × (phaseOf (r .testing) ≡ here .phase)
+    → rowOfNext (stepOf π rows (placeOf r store picks c)) ≡ i
+unfolding rowOfNext
+spent-at π rows here r store picks c i q (a, b) =
+    let (x, y, _) = waits-next π rows _ _ here i _ _ q in
+    ap rowOfNext (subst (λ p. stepOf π rows p ≡ over Spent i (stateOf r store picks) c) (λ k. record { row = sym a k; phase = sym b k; now = sym x k; tally = sym y k }) q)
+
 -- the answer
 module _ (π : Prices) (rows : List RowKind) (m₀ : Machine) (store₀ store : List ℤ) (picks : List ℕ) (counts₀ counts : List (List ℕ)) (cues₀ cues : List ℕ) where
   abbrev first : Place
@@ -228,8 +237,9 @@ module _ (π : Prices) (rows : List RowKind) (m₀ : Machine) (store₀ store : 
 
   pub went-over : (r : Stop′) (m : Machine) (fired : ℕ) → (r .machine ≡ m) × (r .fired ≡ fired) × (r .full ≡ false)
       → Stopped π rows first cues₀ cues fired (stoodBy false (m .status) m store picks (tallyOf (loopRows 0 rows) counts))
+      → ((i : ℕ) → m .status ≡ Over Spent i → rowOfNext (stepOf π rows (placeIn rows m store picks counts)) ≡ i)
       → WentOn π rows m₀ m store₀ store picks counts₀ counts → WentLive π rows m₀ r store₀ store picks counts₀ counts cues₀ cues
-  went-over r m fired e s w = subst (λ z. WentLive π rows m₀ z store₀ store picks counts₀ counts cues₀ cues) (stop-is r m fired false e) (record {
+  went-over r m fired e s sp w = subst (λ z. WentLive π rows m₀ z store₀ store picks counts₀ counts cues₀ cues) (stop-is r m fired false e) (record {
     stop = s .stop;
     over = λ _. w .over;
     few = s .few;
@@ -237,6 +247,7 @@ module _ (π : Prices) (rows : List RowKind) (m₀ : Machine) (store₀ store : 
     long = s .long;
     before-cue = λ z. no-true z;
     waits = w .waits;
+    spent = sp;
     left = w .left;
     used = w .used;
     room = w .room;
@@ -253,6 +264,7 @@ module _ (π : Prices) (rows : List RowKind) (m₀ : Machine) (store₀ store : 
     long = s .long;
     before-cue = λ _. b;
     waits = λ i q _. absurd (let z : Going ≡ Over Spent i = sym g ∙ q in let y : _≡_ {A = ℕ} 0 1 = cc in omega arith);
+    spent = λ i q. absurd (let z : Going ≡ Over Spent i = sym g ∙ q in let y : _≡_ {A = ℕ} 0 1 = cc in omega arith);
     left = l;
     used = u;
     room = room;
@@ -266,7 +278,8 @@ fit-of {text} {t} {count} s = let (n, closed) = s .runs .closed in let (tree, wh
 -- it goes on from there, or is over there
 abbrev pub AfterStep : Prices → List RowKind → Place → List ℕ → List ℕ → ℕ → Machine → List ℤ → List ℕ → TurnCounts → Status → Type 0
 AfterStep π rows start cues₀ l n r store picks c Going = Firing π rows start (placeOf r store picks c) cues₀ l n
-AfterStep π rows start cues₀ l n r store picks c (Over e i) = Stopped π rows start cues₀ l n (stopsAt (placeOf r store picks c) e i (stateOf r store picks) c)
+AfterStep π rows start cues₀ l n r store picks c (Over e i) =
+    Stopped π rows start cues₀ l n (stopsAt (placeOf r store picks c) e i (stateOf r store picks) c) × (e ≡ Spent → rowOfNext (stepOf π rows (placeOf r store picks c)) ≡ i)
 
 module _ (π : Prices) (rows : List RowKind) (start : Place) (cues₀ l : List ℕ) (n : ℕ) (r : Machine) (store : List ℤ) (picks : List ℕ) (c : TurnCounts) where
   pub after-going : (z : Status) → isGoing z ≡ true → AfterStep π rows start cues₀ l n r store picks c z → Firing π rows start (placeOf r store picks c) cues₀ l n
@@ -275,7 +288,11 @@ module _ (π : Prices) (rows : List RowKind) (start : Place) (cues₀ l : List �
 
   pub after-over : (z : Status) → isGoing z ≡ false → AfterStep π rows start cues₀ l n r store picks c z → Stopped π rows start cues₀ l n (stoodBy false z r store picks c)
   after-over Going e a = no-true (sym e)
-  after-over (Over x i) e a = a
+  after-over (Over x i) e a = a .0
+
+  pub after-spent : (z : Status) → AfterStep π rows start cues₀ l n r store picks c z → (i : ℕ) → z ≡ Over Spent i → rowOfNext (stepOf π rows (placeOf r store picks c)) ≡ i
+  after-spent Going a i e = absurd (let y : _≡_ {A = ℕ} 0 1 = cc in omega arith)
+  after-spent (Over x j) a i e = let p : x ≡ Spent = cc in let q : j ≡ i = cc in a .1 p ∙ q
 
 module _ {text : List ℕ} (π : Prices) (some-ticks : 1 ≤ π .test) (t : List ℕ) (count : ℕ) (picks : List ℕ) (start : Place) (m : Machine) (store : List ℤ) (counts : List (List ℕ))
     (s : Runs text t count (length store)) (cues₀ cues : List ℕ) (fired : ℕ)
@@ -298,16 +315,21 @@ module _ {text : List ℕ} (π : Prices) (some-ticks : 1 ≤ π .test) (t : List
       ≡ stopsAt (placeOf r store′ picks (tallyOf (loopRows 0 rows′) counts′)) e i (stateOf r store′ picks) (tallyOf (loopRows 0 rows′) counts′)
   stands e i q = stood π rows′ from r store′ picks _ e i (step-is (Over e i) q) (λ z. let (a, b) = done .acts .rests i (q ∙ ap (λ x. Over x i) z) in (a, ap phaseOf b))
 
+  spends : (e : Ending) (i : ℕ) → r .status ≡ Over e i → e ≡ Spent → rowOfNext (stepOf π rows′ (placeOf r store′ picks (tallyOf (loopRows 0 rows′) counts′))) ≡ i
+  spends e i q s =
+      let (a, b) = done .acts .rests i (q ∙ ap (λ x. Over x i) s) in
+      spent-at π rows′ from r store′ picks _ i (step-is (Over e i) q ∙ ap (λ x. over x i (stateOf r store′ picks) (tallyOf (loopRows 0 rows′) counts′)) s) (a, ap phaseOf b)
+
   pub test-fires : viewAt rows′ (m .row) ≡ is-end → (z : Status) → r .status ≡ z → Outcome cues fired z
   unfolding cueOf
   test-fires v Going q = no-cue-on π some-ticks rows′ (fit-of s) start from cues₀ cues fired now (ap cueOf v) _ (step-is Going q)
   test-fires v (Over e i) q =
-      stopped-at now (no-cue-over π some-ticks rows′ (fit-of s) start from cues₀ cues fired now (ap cueOf v) e i _ _ (step-is (Over e i) q) ∙ ap (λ x. record { stand = x; cues = take fired cues }) (stands e i q))
+      (stopped-at now (no-cue-over π some-ticks rows′ (fit-of s) start from cues₀ cues fired now (ap cueOf v) e i _ _ (step-is (Over e i) q) ∙ ap (λ x. record { stand = x; cues = take fired cues }) (stands e i q)), spends e i q)
 
   pub row-fires : m .row < count → (cues′ : List ℕ) (n : ℕ) → CuePut t (π .cue) m cues cues′ fired n → n ≤ length cues′ → (z : Status) → r .status ≡ z → Outcome cues′ n z
   row-fires l cues′ n put k Going q = row-on π some-ticks s (fit-of s) start m store picks counts l cues₀ cues cues′ fired n now put k _ (step-is Going q)
   row-fires l cues′ n put k (Over e i) q =
-      subst (Stopped π rows′ start cues₀ cues′ n) (stands e i q) (row-over π some-ticks s (fit-of s) start m store picks counts l cues₀ cues cues′ fired n now put k e i _ _ (step-is (Over e i) q))
+      (subst (Stopped π rows′ start cues₀ cues′ n) (stands e i q) (row-over π some-ticks s (fit-of s) start m store picks counts l cues₀ cues cues′ fired n now put k e i _ _ (step-is (Over e i) q)), spends e i q)
 
 -- past the last row
 pub past-fires : {text : List ℕ} (π : Prices) → 1 ≤ π .test → (t : List ℕ) (count : ℕ) (picks : List ℕ) (start : Place) (m : Machine) (store : List ℤ) (counts : List (List ℕ)) (vars : ℕ) → Runs text t count vars

@@ -9,8 +9,8 @@ use Rattle.rules.specs.declared.Ending.the-variants.{Spent}
 use Rattle.rules.specs.declared.Prices.{Prices}
 use Rattle.rules.specs.Blocks.{RowKind}
 use Rattle.rules.specs.Calls.{loopRows}
-use Rattle.rules_machine.specs.RowMachine.{TurnCounts, pairs}
-use Rattle.rules_live.specs.Live.{Stand, going, full, stopsAt, runsOn}
+use Rattle.rules_machine.specs.RowMachine.{TurnCounts, next, pairs}
+use Rattle.rules_live.specs.Live.{Stand, going, full, stopsAt, runsOn, rowOfNext}
 use Rattle.table.specs.Code.{number, opIn}
 use Rattle.table.specs.declared.PricedRows.{PricedRows}
 use Rattle.run_actions.specs.declared.Machine.{Machine}
@@ -55,6 +55,8 @@ pub record WentLive (π : Prices) (rows : List RowKind) (m : Machine) (r : Stop)
   pub long : length cues′ ≡ length cues
   pub before-cue : r .full ≡ true → r .machine .testing ≡ false
   pub waits : (i : ℕ) → r .machine .status ≡ Over Spent i → r .machine .testing ≡ true → EndsLoop rows (r .machine .row)
+  pub spent : (i : ℕ) → r .machine .status ≡ Over Spent i
+      → rowOfNext (next π rows (pairs rows (length rows) .end) (pairs rows (length rows) .head) (placeIn rows (r .machine) store′ picks counts′)) ≡ i
   pub left : r .machine .left ≤ m .left
   pub used : r .machine .used ≤ length picks
   pub room : Room rows counts′

@@ -28,7 +28,7 @@ pub struct Loops {
 }
 
 // Does row i begin a loop?
-fn is_loop(rows: &[u32], i: usize) -> bool
+pub fn is_loop(rows: &[u32], i: usize) -> bool
     requires { ⌜ 4 * i + 3 < length (now rows) ⌝ }
     ensures { λ r. ⌜ ((text : List ℕ) → r ≡ isLoop (viewOf (kindOf text (kindAt (rowsOf (now (rows .entry))) i)))) ⌝ }
 {

@@ -1,7 +1,6 @@
 // verify [prices=A,C,P,T] FILE REPORT: finds the report of a script file, and prints `same` if the file REPORT holds just that; else the
 // first line that differs, as it is found here, or the refusal.
 use bytes::scan::find;
-use program_lists::Lent;
 use program_parts::WORD;
 use program_parts::print_number;
 use program_parts::print_text;
@@ -158,16 +157,12 @@ fn start(i: usize, arguments: usize, prices: &[u32])
 }
 
 // Reads the prices, if the first argument has them.
-fn read_prices(arguments: usize) {
-    let mut word = [0u8; WORD];
-    let n = os::arg(1, &mut word);
-    let ones = [1u32; 4];
+fn read_and_start(arguments: usize) {
     let mut prices = [1u32; 5];
-    let lent = program_lists::lend_prices(&word[..n], &mut prices);
-    match lent {
-        Lent::Nothing => start(1, arguments, &ones),
-        Lent::Count(k) => start(2, arguments, &prices[..k]),
-        Lent::Wrong(at) => program_parts::print_wrong_price(at, &word[..n]),
+    let read = program_parts::read_prices(&mut prices);
+    let count = read.count;
+    if read.good {
+        start(read.next, arguments, &prices[..count]);
     }
 }
 
@@ -177,5 +172,5 @@ fn main() {
         help();
         return;
     }
-    read_prices(arguments);
+    read_and_start(arguments);
 }

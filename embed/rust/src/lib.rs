@@ -1,10 +1,10 @@
 //! Safe Rust calls over the proved loader of effect scripts.
 //!
-//! A call of the library needs a scratch of 1,024 numbers and a stack of 16 KB (a report or a run) or 60 KB (frames), no heap, and nothing else. A report and
-//! a run write over the first 1,024 numbers of the scratch, whatever these were; every number past them, where a patch list may lie, keeps its value, and so
+//! A call of the library needs a scratch of 1,024 numbers and a stack of 16 KB (a report, figures or a run) or 60 KB (frames), no heap, and nothing else. A
+//! report, figures and a run write over the first 1,024 numbers of the scratch, whatever these were; every number past them, where a patch list may lie, keeps its value, and so
 //! do all of them if the scratch is refused as too short.
 //!
-//! The crate is `no_std`. [`report`] and the calls in [`numbers`] take no heap; [`run`] and [`frames`] take some for lists of loops and of what is lent, and
+//! The crate is `no_std`. [`report`], [`figures`] and the calls in [`numbers`] take no heap; [`run`] and [`frames`] take some for lists of loops and of what is lent, and
 //! stand under the feature `alloc`, which is on by default. Calls on several threads at once are safe where scratch, store, buffer and answer are each
 //! thread's own, as Rust's borrows see to; file, prices and picks may be shared.
 #![no_std]
@@ -12,16 +12,18 @@
 #[cfg(feature = "alloc")]
 extern crate alloc;
 
+pub mod live;
 pub mod numbers;
 
 #[cfg(feature = "alloc")]
 use alloc::vec::Vec;
 
+use numbers::{FIGURES_ANSWER, LINE};
 #[cfg(feature = "alloc")]
 use numbers::{ANSWER, FRAMES_ANSWER};
 
 /// The library's version, as in `diftanew.h`: a change of its first number may break a caller, one of the second adds calls.
-pub const VERSION: [u32; 3] = [1, 1, 0];
+pub const VERSION: [u32; 3] = [1, 2, 0];
 
 /// The 32-bit numbers of scratch that a call wants.
 pub const SCRATCH: usize = 1_024;
@@ -39,11 +41,20 @@ pub const REPORT: usize = 2_089;
 /// The bytes of stack that a report needs at most.
 pub const REPORT_STACK: usize = 16 * 1_024;
 
+/// The bytes of stack that a call of figures needs at most.
+pub const FIGURES_STACK: usize = 16 * 1_024;
+
 /// The bytes of stack that a run needs at most.
 pub const RUN_STACK: usize = 16 * 1_024;
 
+/// The bytes of stack that `live::start` and `live::step` need at most.
+pub const STEP_STACK: usize = 16 * 1_024;
+
 /// The bytes of stack that a call of frames needs at most.
 pub const FRAMES_STACK: usize = 60 * 1_024;
+
+/// The loops that a script has at most.
+pub const LOOPS: usize = 16;
 
 /// The scripts that a call of frames takes at most.
 pub const SCRIPTS: usize = 8;
@@ -91,10 +102,14 @@ pub enum Question {
     /// No script or more than 8, lists of lengths that do not fit what is lent, or ticks of a frame that are not 1 to 1,000,000; asked by
     /// frames alone, before all others.
     Frames = 20,
+    /// The state of a live run has not 64 numbers, or one that no run of this file can have there; asked after the store.
+    State = 21,
+    /// More than 1,000,000 ticks for one step of a live run; asked last.
+    StepTicks = 22,
 }
 
 impl Question {
-    const ALL: [Question; 19] = [
+    const ALL: [Question; 21] = [
         Question::Scratch,
         Question::File,
         Question::Shape,
@@ -114,6 +129,8 @@ impl Question {
         Question::Expression,
         Question::Hold,
         Question::Frames,
+        Question::State,
+        Question::StepTicks,
     ];
 
     /// The question's number.
@@ -148,6 +165,8 @@ impl Question {
             Question::Expression => ("more than 8 parentheses open together or more than 15 operators in one expression", "line"),
             Question::Hold => ("the hold's body breaks its terms", "row"),
             Question::Frames => ("no script or more than 8, lengths that do not fit what is lent, or ticks of a frame that are not 1 to 1,000,000", "place"),
+            Question::State => ("no run of this file can have this state", "number"),
+            Question::StepTicks => ("more than 1,000,000 ticks for one step", "place"),
         }
     }
 }
@@ -158,29 +177,117 @@ impl core::fmt::Display for Question {
     }
 }
 
-/// A refusal: the first question that has no for an answer, and its place.
+/// A refusal: the first question that has no for an answer, and its place; of [`frames`] also which script it is of, from 1. `script` is 0 where no
+/// script is meant: in all other calls, and where frames are refused for the call itself.
 #[derive(Clone, Copy, Debug, PartialEq, Eq)]
 pub struct Refused {
     pub question: Question,
     pub place: u64,
+    pub script: u64,
 }
 
 impl Refused {
     /// The library's contract gives no other number.
     fn of(number: u32, place: u64) -> Refused {
-        Refused { question: Question::of(number).expect("a question's number"), place }
+        Refused { question: Question::of(number).expect("a question's number"), place, script: 0 }
     }
 }
 
-/// As in `refused=4 12: a number is outside its limits (line 12)`.
+/// As in `refused=4 12: a number is outside its limits (line 12)`, or `script 2: refused=..`.
 impl core::fmt::Display for Refused {
     fn fmt(&self, out: &mut core::fmt::Formatter) -> core::fmt::Result {
         let (wrong, place) = self.question.words();
+        if self.script != 0 {
+            write!(out, "script {}: ", self.script)?;
+        }
         write!(out, "refused={} {}: {wrong} ({place} {})", self.question.number(), self.place, self.place)
     }
 }
 
 impl core::error::Error for Refused {}
+
+/// What a turn of a loop does to what it counts by, with the slowest and the fastest step as the report has them: adds, multiplies or divides.
+#[derive(Clone, Copy, Debug, PartialEq, Eq)]
+pub enum Step {
+    Add(i64, i64),
+    Grow(u64, u64),
+    Shrink(u64, u64),
+}
+
+/// As in `add -2 3`.
+impl core::fmt::Display for Step {
+    fn fmt(&self, out: &mut core::fmt::Formatter) -> core::fmt::Result {
+        match self {
+            Step::Add(a, b) => write!(out, "add {a} {b}"),
+            Step::Grow(f, g) => write!(out, "grow {f} {g}"),
+            Step::Shrink(f, g) => write!(out, "shrink {f} {g}"),
+        }
+    }
+}
+
+/// A loop's line of the report: its head row, its step, its turns in one entry and in all, and whether these are exact or the most.
+#[derive(Clone, Copy, Debug, PartialEq, Eq)]
+pub struct Line {
+    pub row: u64,
+    pub step: Step,
+    pub turns: u64,
+    pub total: u64,
+    pub exact: bool,
+}
+
+impl Line {
+    /// The library's contract gives no other steps.
+    fn of(numbers: &[u64]) -> Line {
+        let (a, b) = (numbers[2], numbers[3]);
+        let step = match numbers[1] {
+            0 => Step::Add(a as i64, b as i64),
+            1 => Step::Grow(a, b),
+            _ => Step::Shrink(a, b),
+        };
+        Line { row: numbers[0], step, turns: numbers[4], total: numbers[5], exact: numbers[6] == 1 }
+    }
+}
+
+/// As in `loop=1 add 1 1 10 10 exact`, the report's line.
+impl core::fmt::Display for Line {
+    fn fmt(&self, out: &mut core::fmt::Formatter) -> core::fmt::Result {
+        write!(out, "loop={} {} {} {} {}", self.row, self.step, self.turns, self.total, if self.exact { "exact" } else { "most" })
+    }
+}
+
+/// What a report says: its ticks, how many variables the script has, and its loops' lines, of which there are at most 16.
+#[derive(Clone, Copy, Debug, PartialEq, Eq)]
+pub struct Figures {
+    pub ticks: u64,
+    pub variables: usize,
+    count: usize,
+    lines: [Line; LOOPS],
+}
+
+impl Figures {
+    /// Figures from their numbers.
+    pub fn of(answer: &[u64; FIGURES_ANSWER]) -> Figures {
+        let count = answer[2] as usize;
+        let lines = core::array::from_fn(|k| Line::of(&answer[3 + LINE * k..3 + LINE * (k + 1)]));
+        Figures { ticks: answer[0], variables: answer[1] as usize, count, lines }
+    }
+
+    /// The loops' lines, in row order.
+    pub fn lines(&self) -> &[Line] {
+        &self.lines[..self.count]
+    }
+}
+
+/// The report's lines from `loops=` on.
+impl core::fmt::Display for Figures {
+    fn fmt(&self, out: &mut core::fmt::Formatter) -> core::fmt::Result {
+        writeln!(out, "loops={}", self.count)?;
+        for line in self.lines() {
+            writeln!(out, "{line}")?;
+        }
+        writeln!(out, "ticks={}", self.ticks)
+    }
+}
 
 /// How a run ends.
 #[derive(Clone, Copy, Debug, PartialEq, Eq)]
@@ -226,6 +333,15 @@ pub fn report(file: &[u8], prices: &[u32], scratch: &mut [u32], buffer: &mut [u8
     match numbers::report(file, prices, scratch, buffer, &mut place) {
         0 => Ok(place as usize),
         number => Err(Refused::of(number, place)),
+    }
+}
+
+/// What the report of `file` with these prices says. Its ticks as the allowance of a run keep that run within the report.
+pub fn figures(file: &[u8], prices: &[u32], scratch: &mut [u32]) -> Result<Figures, Refused> {
+    let mut answer = [0; FIGURES_ANSWER];
+    match numbers::figures(file, prices, scratch, &mut answer) {
+        0 => Ok(Figures::of(&answer)),
+        number => Err(Refused::of(number, answer[0])),
     }
 }
 
@@ -282,6 +398,6 @@ pub fn frames(scripts: &mut [Script], prices: &[u32], q: u64, scratch: &mut [u32
             let of = |a: &[u64]| (a[0], Run::of(a[1..].try_into().expect("a run's numbers")));
             Ok(Frames { most: answer[0], scripts: answer[1..].chunks(1 + ANSWER).take(scripts.len()).map(of).collect() })
         }
-        number => Err(Refused::of(number, answer[0])),
+        number => Err(Refused { script: answer[1], ..Refused::of(number, answer[0]) }),
     }
 }

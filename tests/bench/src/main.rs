@@ -1,7 +1,8 @@
 //! bench [quick]: times the library against the oracle. Both are called in this process with the same
 //! input; the answers are compared before anything is timed.
 
-use diftanew::numbers::{self, ANSWER, FRAMES_ANSWER};
+use diftanew::numbers::{self, ANSWER, FRAMES_ANSWER, STATE, STEP_ANSWER};
+use oracle::paused;
 use oracle::{Ending, ONES, SCRATCH};
 use std::hint::black_box;
 use std::time::{Duration, Instant};
@@ -131,6 +132,41 @@ fn closing(turns: u64) -> Vec<u8> {
 
 fn held(turns: u64) -> Vec<u8> {
     file(&[(1, 1), (0, 0)], &rows(&format!("hold v0, add v1 1, off v0 v1 >= {turns}, end")))
+}
+
+/// Eight scripts of the examples.
+const EXAMPLES: [&[u8]; 8] = [
+    include_bytes!("../../../examples/chase.eff"),
+    include_bytes!("../../../examples/closing.eff"),
+    include_bytes!("../../../examples/fade.eff"),
+    include_bytes!("../../../examples/heartbeat.eff"),
+    include_bytes!("../../../examples/listing.eff"),
+    include_bytes!("../../../examples/master.eff"),
+    include_bytes!("../../../examples/rain.eff"),
+    include_bytes!("../../../examples/storm.eff"),
+];
+
+/// What a caller holds of a live run, and the list that its cues go into.
+#[derive(Clone, Debug, PartialEq)]
+struct Held {
+    store: Vec<i32>,
+    state: [u64; STATE],
+    cues: [u32; 128],
+    answer: [u64; STEP_ANSWER],
+}
+
+impl Held {
+    /// Before the first step, from the lowest store.
+    fn start(file: &[u8]) -> Held {
+        let plan = oracle::plan(file, &ONES, SCRATCH).expect("an example is accepted");
+        let store = plan.script.ranges[..plan.script.vars].iter().map(|range| range[0]).collect();
+        Held { store, state: [0; STATE], cues: [0; 128], answer: [0; STEP_ANSWER] }
+    }
+
+    fn set(&mut self, from: &Held) {
+        self.store.copy_from_slice(&from.store);
+        self.state = from.state;
+    }
 }
 
 /// For each of the two the shortest of several rounds, each of as many calls as fill a while; the rounds take turns.
@@ -263,6 +299,49 @@ impl Bench {
         );
         self.line(&format!("frames: 8 of {name}, q = {q}, {frame} frames"), library, oracle);
     }
+
+    /// A frame of eight scripts, which is a loop over `step`; the frames before it have been played.
+    fn steps(&mut self, q: u64, before: usize) {
+        let picks: [u8; 64] = std::array::from_fn(|i| (i % 3 == 0) as u8);
+        let theirs = |file: &[u8], held: &mut Held| {
+            let lent = paused::Lent { q, picks: &picks, cues: &mut held.cues };
+            held.answer = paused::step(file, &ONES, SCRATCH, &mut held.store, &mut held.state, lent).expect("a good state");
+        };
+        let scratch = &mut self.scratch;
+        let mut ours = |file: &[u8], held: &mut Held| {
+            let frame = numbers::Frame { q, picks: &picks, cues: &mut held.cues };
+            numbers::step(file, &ONES, scratch, &mut held.store, &mut held.state, frame, &mut held.answer)
+        };
+        let mut from = EXAMPLES.map(Held::start);
+        for (file, held) in EXAMPLES.iter().zip(&mut from) {
+            for _ in 0..before {
+                theirs(file, held);
+            }
+        }
+        let (mut first, mut second) = (from.clone(), from.clone());
+        for (i, file) in EXAMPLES.iter().enumerate() {
+            assert_eq!(ours(file, &mut first[i]), 0, "example {i}");
+            theirs(file, &mut second[i]);
+        }
+        assert_eq!(first, second);
+        let ticks: u64 = second.iter().map(|held| held.answer[2]).sum();
+        let (library, oracle) = time(
+            self.quick,
+            || {
+                for ((file, held), from) in EXAMPLES.iter().zip(&mut first).zip(&from) {
+                    held.set(from);
+                    black_box(ours(black_box(file), held));
+                }
+            },
+            || {
+                for ((file, held), from) in EXAMPLES.iter().zip(&mut second).zip(&from) {
+                    held.set(from);
+                    theirs(black_box(file), held);
+                }
+            },
+        );
+        self.line(&format!("steps: 8 examples, q = {q}, frame {}, {ticks} ticks", before + 1), library, oracle);
+    }
 }
 
 fn main() {
@@ -272,8 +351,8 @@ fn main() {
         println!("NOT a release build: these times say nothing");
     }
     println!("Same process, same input. Scratch and report buffer are reused and not cleared between calls; the store is");
-    println!("set before each run. Both run calls read and analyse the file first. Best of 7 rounds (2 if over 0.3 s).");
-    println!("The oracle keeps its rows on the heap and counts only, without a list of entries.");
+    println!("set before each run, store and state before each step. All calls read and analyse the file first.");
+    println!("Best of 7 rounds (2 if over 0.3 s). The oracle keeps its rows on the heap and counts only, without a list of entries.");
     println!();
     println!("{:<54} {:>12} {:>12} {:>8}", "workload", "library", "oracle", "ratio");
     bench.report("small chase", &chase());
@@ -308,5 +387,8 @@ fn main() {
     }
     for q in [1, 100, 10_000] {
         bench.frames("while", &counting(if quick { 1_000 } else { 20_000 }), &[0], q);
+    }
+    for before in [0, 1] {
+        bench.steps(100, before);
     }
 }

@@ -6,7 +6,7 @@ use crate::vectors::{self, FramesCall};
 use crate::{answer_of, Checker, Room, GUARD};
 use diftanew::numbers::{self, Lent, ANSWER, FRAMES_ANSWER};
 use generate::{frames_case, FramesCase};
-use oracle::frames::{breach, frames, scripts, Frames};
+use oracle::frames::{breach, frames, refused_script, scripts, Frames};
 use oracle::{plan, Refusal, SCRATCH};
 use std::path::Path;
 use std::time::Instant;
@@ -77,6 +77,7 @@ impl FramesChecker {
         let (refusal, left) = match expected {
             Err((refusal, place)) => {
                 numbers[0] = *place;
+                numbers[1] = refused_script(case.lent(), &case.prices, case.q, case.scratch);
                 (*refusal, case.stores.clone())
             }
             Ok(frames) => {

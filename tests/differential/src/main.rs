@@ -1,17 +1,19 @@
 //! differential [COUNT [SEED [FIRST]]]: compares the library with the oracle on COUNT generated files, from
 //! file number FIRST on.
 //! differential frames [COUNT [SEED]]: the same for the call of several scripts.
+//! differential live [COUNT [SEED]]: the same for series of steps.
 //! differential reach [COUNT [SEED]]: searches the picks that bring loops to the turns of their report.
 //! differential vectors FOLDER: compares oracle and library with the stored answers in the folders of a folder.
 //! The first difference is printed with its file, and the exit code is 1.
 mod frames;
+mod live;
 mod reach;
 mod stack;
 mod vectors;
 
-use diftanew::numbers::{self, ANSWER};
+use diftanew::numbers::{self, ANSWER, FIGURES_ANSWER, LINE};
 use generate::{allowance, any_store, case, picks, store, wrong_prices, Case, Rng, SEED};
-use oracle::{Ending, Plan, Refusal, Run, ONES, SCRATCH};
+use oracle::{Ending, Plan, Refusal, Run, Step, ONES, SCRATCH};
 use stack::Stack;
 use std::path::Path;
 use std::process::exit;
@@ -54,6 +56,7 @@ struct Tally {
     accepted: u64,
     refused: [u64; 20],
     reports: u64,
+    figures: u64,
     runs: u64,
     endings: [u64; 4],
     run_refusals: u64,
@@ -69,8 +72,8 @@ struct Checker {
     prices: Vec<u32>,
     rng: Rng,
     tally: Tally,
-    /// For report and run calls; each has as much stack as its call may use.
-    stacks: [Stack; 2],
+    /// For report, run and figures calls; each has as much stack as its call may use.
+    stacks: [Stack; 3],
 }
 
 fn word(ending: Ending) -> u64 {
@@ -88,6 +91,22 @@ fn answer_of(run: &Run) -> [u64; ANSWER] {
     numbers[..5].copy_from_slice(&[word(run.ending), run.row as u64, run.ticks, run.used as u64, run.loops.len() as u64]);
     for (k, &(row, all, most)) in run.loops.iter().enumerate() {
         numbers[5 + 3 * k..8 + 3 * k].copy_from_slice(&[row as u64, all, most]);
+    }
+    numbers
+}
+
+/// What the oracle's report says as the library's numbers.
+fn figures_of(plan: &Plan) -> [u64; FIGURES_ANSWER] {
+    let mut numbers = [0; FIGURES_ANSWER];
+    numbers[..3].copy_from_slice(&[plan.ticks, plan.script.vars as u64, plan.lines.len() as u64]);
+    for (line, numbers) in plan.lines.iter().zip(numbers[3..].chunks_mut(LINE)) {
+        let (step, first, second) = match line.step {
+            Step::Add(a, b) => (0, a, b),
+            Step::Grow(a, b) => (1, a, b),
+            Step::Shrink(a, b) => (2, a, b),
+            Step::Unknown => unreachable!("question 8"),
+        };
+        numbers.copy_from_slice(&[line.row as u64, step, first as u64, second as u64, line.turns, line.total as u64, line.exact as u64]);
     }
     numbers
 }
@@ -182,6 +201,39 @@ impl Checker {
         self.scratch_kept(call, number, &before, &scratch);
     }
 
+    /// What the report says, and that it is what the report's own text says.
+    fn figures(&mut self, scratch_len: usize, expected: Result<&Plan, Refusal>) {
+        self.tally.figures += 1;
+        let call = &format!("figures with prices {:?} and {scratch_len} scratch numbers", self.prices);
+        let mut scratch = self.scratch(scratch_len);
+        let before = scratch.all.clone();
+        let mut answer = Room::new((0..FIGURES_ANSWER as u64).map(|i| !i), 0x5a5a);
+        let (file, prices) = (self.file.clone(), self.prices.clone());
+        let mut number = 0;
+        self.stacks[2].call(|| number = numbers::figures(&file, &prices, scratch.lent(), answer.lent().try_into().unwrap()));
+        self.same(call, "file after the call", &self.file, &file);
+        self.same(call, "prices after the call", &self.prices, &prices);
+        if !answer.guarded() {
+            self.differ(call, &"numbers round the answer kept", &"changed");
+        }
+        let mut numbers = [0; FIGURES_ANSWER];
+        match expected {
+            Err((refusal, place)) => {
+                numbers[0] = place;
+                self.same(call, "number", refusal, number);
+            }
+            Ok(plan) => {
+                numbers = figures_of(plan);
+                self.same(call, "number", 0, number);
+                let text = String::from_utf8(oracle::report_text(plan)).unwrap();
+                let figures = diftanew::Figures::of((&*answer.lent()).try_into().unwrap());
+                self.same(call, "text", text, format!("report=1\nrows={}\n{figures}", plan.script.rows.len()));
+            }
+        }
+        self.same(call, "answer", &numbers[..], answer.lent());
+        self.scratch_kept(call, number, &before, &scratch);
+    }
+
     fn run(&mut self, scratch_len: usize, store: &[i32], picks: &[u8], allowance: u64, expected: &Result<Run, Refusal>) {
         self.tally.runs += 1;
         let call = &format!(
@@ -239,6 +291,8 @@ impl Checker {
         for scratch_len in [SCRATCH + 1, self.enough()] {
             self.report(scratch_len, length, &Ok(text.clone()));
         }
+        let scratch_len = self.enough();
+        self.figures(scratch_len, Ok(plan));
 
         let longest = LONGEST * *self.prices.iter().min().unwrap() as u64;
         for _ in 0..5 {
@@ -274,6 +328,8 @@ impl Checker {
             let scratch_len = self.enough();
             self.report(scratch_len, buffer_len, &Err(refusal));
         }
+        let scratch_len = self.enough();
+        self.figures(scratch_len, Err(refusal));
         let (store, picks) = (any_store(&mut self.rng), picks(&mut self.rng));
         let allowance = self.rng.next();
         let scratch_len = self.enough();
@@ -298,6 +354,7 @@ impl Checker {
         }
         for little in [0, SCRATCH - 1, self.rng.below(SCRATCH)] {
             self.report(little, 500, &Err((1, SCRATCH as u64)));
+            self.figures(little, Err((1, SCRATCH as u64)));
             let (store, picks) = (any_store(&mut self.rng), picks(&mut self.rng));
             self.run(little, &store, &picks, 100, &Err((1, SCRATCH as u64)));
         }
@@ -309,10 +366,11 @@ impl Checker {
         let plan = oracle::plan(&self.file, &self.prices, SCRATCH);
         match &call.kind {
             Kind::Report(answer) => {
-                let oracle = plan.map(|plan| oracle::report_text(&plan));
+                let oracle = plan.as_ref().map(oracle::report_text).map_err(|refusal| *refusal);
                 let what = format!("the oracle's report with prices {:?}", self.prices);
                 self.same(&what, "stored answer", answer, &oracle);
                 self.report(SCRATCH, 4_096, answer);
+                self.figures(SCRATCH, plan.as_ref().map_err(|refusal| *refusal));
             }
             Kind::Run { store, picks, allowance, answer } => {
                 let allowance = allowance.unwrap_or(plan.as_ref().map_or(0, |plan| plan.ticks));
@@ -356,12 +414,13 @@ fn generated(checker: &mut Checker, count: u64, seed: u64, first: u64) {
     let t = &checker.tally;
     let refused: Vec<String> = (2..=13).chain([16, 17, 19]).map(|number| format!("{number}:{}", t.refused[number])).collect();
     println!(
-        "no difference: {count} files of seed {seed}, {} accepted, refused {}; {} report calls; {} run calls ({} refused, \
+        "no difference: {count} files of seed {seed}, {} accepted, refused {}; {} report calls; {} figures calls; {} run calls ({} refused, \
          ended {}, spent {}, range {}, no pick {}, {} ticks); demand 3 held in {} runs with {} entries; \
-         stack: report {} bytes of {}, run {} of {}; {:.1} s",
+         stack: report {} bytes of {}, figures {} of {}, run {} of {}; {:.1} s",
         t.accepted,
         refused.join(" "),
         t.reports,
+        t.figures,
         t.runs,
         t.run_refusals,
         t.endings[0],
@@ -373,6 +432,8 @@ fn generated(checker: &mut Checker, count: u64, seed: u64, first: u64) {
         t.entries,
         checker.stacks[0].used(),
         diftanew::REPORT_STACK,
+        checker.stacks[2].used(),
+        diftanew::FIGURES_STACK,
         checker.stacks[1].used(),
         diftanew::RUN_STACK,
         begin.elapsed().as_secs_f64()
@@ -397,6 +458,7 @@ fn stored(checker: &mut Checker, folder: &Path) -> Result<(), String> {
     }
     println!("vectors: {} files, {} report calls, {} run calls, no difference", files.len(), t.reports, t.runs);
     frames::FramesChecker::new().stored(checker, &folder.join("14"))?;
+    live::LiveChecker::new().stored(checker, &folder.join("15"))?;
     Ok(())
 }
 
@@ -408,7 +470,7 @@ fn main() {
         prices: ONES.to_vec(),
         rng: Rng::new(SEED, 0),
         tally: Tally::default(),
-        stacks: [Stack::new(diftanew::REPORT_STACK), Stack::new(diftanew::RUN_STACK)],
+        stacks: [Stack::new(diftanew::REPORT_STACK), Stack::new(diftanew::RUN_STACK), Stack::new(diftanew::FIGURES_STACK)],
     };
     if let [word, folder] = &arguments[..] {
         if word == "vectors" {
@@ -422,13 +484,16 @@ fn main() {
     let number = |at: usize, default: u64| {
         arguments.get(at).map_or(default, |word| {
             word.parse().unwrap_or_else(|_| {
-                println!("use: differential [COUNT [SEED [FIRST]]], differential frames|reach [COUNT [SEED]], or differential vectors FOLDER");
+                println!("use: differential [COUNT [SEED [FIRST]]], differential frames|live|reach [COUNT [SEED]], or differential vectors FOLDER");
                 exit(2)
             })
         })
     };
     if arguments.first().is_some_and(|word| word == "frames") {
         return frames::FramesChecker::new().generated(&mut checker, number(1, 2_000), number(2, SEED));
+    }
+    if arguments.first().is_some_and(|word| word == "live") {
+        return live::LiveChecker::new().generated(&mut checker, number(1, 2_000), number(2, SEED));
     }
     if arguments.first().is_some_and(|word| word == "reach") {
         return reach::generated(&mut checker, number(1, 5_000), number(2, SEED));

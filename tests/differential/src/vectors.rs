@@ -1,7 +1,11 @@
 //! Stored calls and their answers: NAME.eff is a script file, NAME.out has its calls. A call is a line `> report PRICES`
 //! or `> run PRICES STORE PICKS ALLOWANCE`, and below it stands what it answers. In calls.out a call is a line
-//! `> frames Q PRICES N FILE STORE PICKS ..`, and below it each script's run with `frame=N`, and `most=N`.
+//! `> frames Q PRICES N FILE STORE PICKS ..`, and below it each script's run with `frame=N`, and `most=N`. In series.out a series begins with
+//! `> start FILE PRICES STORE`; each `> step Q PICKS ROOM` goes on from what the one before it left, and so does `> damaged PLACE NUMBER Q PICKS ROOM`,
+//! with that number in this place of the state (a 65th in place 64), behind which the series goes on as if it had not been. Below a step stand its
+//! answer, the cues that it fires, and store and state as it leaves them; the zeros at the end of a state are left out.
 
+use diftanew::numbers::{STATE, STEP_ANSWER};
 use oracle::frames::{Framed, Frames};
 use oracle::{Ending, Entry, Refusal, Run};
 use std::path::{Path, PathBuf};
@@ -133,6 +137,65 @@ fn frames_call(head: &str, answer: &[&str]) -> Option<FramesCall> {
         None => Ok(frames(answer)?),
     };
     Some(FramesCall { q: q.parse().ok()?, prices: list(prices)?, scripts: scripts.chunks(3).map(script).collect::<Option<_>>()?, answer })
+}
+
+/// A call of a live run.
+pub enum LiveCall {
+    Start { file: String, prices: Vec<u32>, store: Vec<i32>, answer: Result<(u64, u64), Refusal> },
+    Step { damage: Option<(usize, u64)>, q: u64, picks: Vec<u8>, room: usize, answer: Result<Left, Refusal> },
+}
+
+/// What a step answers and leaves.
+pub struct Left {
+    pub answer: [u64; STEP_ANSWER],
+    pub cues: Vec<u32>,
+    pub store: Vec<i32>,
+    pub state: Vec<u64>,
+}
+
+fn left(answer: &[&str]) -> Option<Left> {
+    let [status, ticks, used, cues, loops @ .., store, state] = answer else { return None };
+    let (word, row) = status.strip_prefix("status=")?.split_once(' ')?;
+    let status = ["going", "waits", "full", "ended", "range"].iter().position(|name| *name == word)?;
+    let [ticks, all_ticks] = numbers(ticks.strip_prefix("ticks=")?)?;
+    let [used, all_used] = numbers(used.strip_prefix("used=")?)?;
+    let cues: Vec<u32> = list(cues.strip_prefix("cues=")?)?;
+    let mut answer = [0; STEP_ANSWER];
+    answer[..8].copy_from_slice(&[status as u64, row.parse().ok()?, ticks, all_ticks, used, all_used, cues.len() as u64, loops.len() as u64]);
+    for (line, three) in loops.iter().zip(answer[8..].chunks_mut(3)) {
+        three.copy_from_slice(&numbers::<3>(line.strip_prefix("loop=")?)?);
+    }
+    let mut state: Vec<u64> = list(state.strip_prefix("state=")?)?;
+    state.resize(STATE, 0);
+    Some(Left { answer, cues, store: list(store.strip_prefix("store=")?)?, state })
+}
+
+fn live_call(head: &str, answer: &[&str]) -> Option<LiveCall> {
+    let refused = refusal(answer);
+    let words: Vec<&str> = head.split(' ').collect();
+    let (damage, words) = match words[..] {
+        ["start", file, prices, store] => {
+            let answer = match (refused, answer) {
+                (Some(refusal), _) => Err(refusal),
+                (None, [ticks, loops]) => Ok((ticks.strip_prefix("ticks=")?.parse().ok()?, loops.strip_prefix("loops=")?.parse().ok()?)),
+                _ => return None,
+            };
+            return Some(LiveCall::Start { file: file.into(), prices: list(prices)?, store: list(store)?, answer });
+        }
+        ["step", q, picks, room] => (None, [q, picks, room]),
+        ["damaged", place, number, q, picks, room] => (Some((place.parse().ok()?, number.parse().ok()?)), [q, picks, room]),
+        _ => return None,
+    };
+    let answer = match refused {
+        Some(refusal) => Err(refusal),
+        None => Ok(left(answer)?),
+    };
+    Some(LiveCall::Step { damage, q: words[0].parse().ok()?, picks: bytes(words[1])?, room: words[2].parse().ok()?, answer })
+}
+
+/// The calls of a series.out, or the line of a call that cannot be read.
+pub fn live_calls(text: &str) -> Result<Vec<LiveCall>, String> {
+    read(text, live_call)
 }
 
 /// The calls of a calls.out, or the line of a call that cannot be read.

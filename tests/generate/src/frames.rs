@@ -36,13 +36,13 @@ impl FramesCase {
     }
 }
 
-struct One {
-    file: Vec<u8>,
-    store: Vec<i32>,
+pub(crate) struct One {
+    pub(crate) file: Vec<u8>,
+    pub(crate) store: Vec<i32>,
     picks: Vec<u8>,
 }
 
-fn good_store(rng: &mut Rng, plan: &Plan) -> Vec<i32> {
+pub(crate) fn good_store(rng: &mut Rng, plan: &Plan) -> Vec<i32> {
     loop {
         let store = store(rng, &plan.script);
         if oracle::run::check_store(&plan.script, &store).is_ok() {
@@ -52,7 +52,7 @@ fn good_store(rng: &mut Rng, plan: &Plan) -> Vec<i32> {
 }
 
 /// A script that finishes soon with these prices.
-fn short(rng: &mut Rng, prices: &[u32]) -> One {
+pub(crate) fn short(rng: &mut Rng, prices: &[u32]) -> One {
     let most = if rng.chance(4) { LONGEST } else { SHORT + 20 * prices.iter().sum::<u32>() as u64 };
     loop {
         let file = case(rng.next(), rng.next()).file;

@@ -8,6 +8,7 @@ mod expressions;
 mod frames;
 mod held;
 mod levels;
+mod live;
 mod reach;
 mod rng;
 mod script;
@@ -15,6 +16,7 @@ mod spread;
 mod triangles;
 
 pub use frames::{frames_case, FramesCase};
+pub use live::{damaged, live_case, LiveCase, StepCase};
 pub use rng::Rng;
 pub use spread::Spread;
 

@@ -21,11 +21,13 @@ fn printed(program: &Path, prices: &[u32], file: &[u8]) -> String {
     String::from_utf8(text).expect("plain text")
 }
 
-/// Two texts of a refusal, each in lines that begin with two spaces.
-fn advice(text: &str) -> Option<(&str, &str)> {
-    let (cause, remedy) = text.strip_prefix("\ncause\n")?.split_once("\nremedy\n")?;
-    let fine = |text: &str| !text.is_empty() && text.ends_with('\n') && text.lines().all(|line| line.starts_with("  ") && line.len() > 2);
-    (fine(cause) && fine(remedy)).then_some((cause, remedy))
+/// The remedy of a refusal, after what is left of its cause; both in lines that begin with two spaces.
+fn remedy(number: u32, text: &str) -> Option<&str> {
+    let (cause, remedy) = text.split_once("\nremedy\n")?;
+    let fine = |text: &str| text.lines().all(|line| line.starts_with("  "));
+    let cause = if number == 3 { cause } else { cause.split_once("cause\n")?.1 };
+    let told = fine(cause) && (number == 3 || !cause.is_empty());
+    (told && fine(remedy) && remedy.ends_with('\n')).then_some(remedy)
 }
 
 /// What has been seen: the texts of each number, and how many files were accepted.
@@ -52,18 +54,33 @@ impl Seen {
                 let Some(rest) = got.strip_prefix(&front) else {
                     return Some(format!("expected to begin:\n{front}"));
                 };
-                if advice(rest).is_none() {
+                let Some(rest) = remedy(number, rest) else {
                     return Some("no cause and remedy".into());
-                }
-                // One text for each number, and no two numbers with the same.
+                };
+                // One remedy for each number, and no two numbers with the same.
                 if self.texts.iter().any(|(n, text)| (*n == number) != (text == rest)) {
-                    return Some(format!("the cause and remedy of {number} are not always the same, or another number's"));
+                    return Some(format!("the remedy of {number} is not always the same, or another number's"));
                 }
                 self.texts.insert(number, rest.into());
                 None
             }
         }
     }
+}
+
+/// A file with one byte changed, put in or taken out.
+fn damaged(file: &[u8], seed: u64) -> Vec<u8> {
+    const BYTES: &[u8] = b" \t\r\n+-0v#=/(9x\xef";
+    let mut file = file.to_vec();
+    let random = seed.wrapping_mul(6_364_136_223_846_793_005).wrapping_add(1_442_695_040_888_963_407) >> 16;
+    let at = (random / 64) as usize % (file.len() + 1);
+    let byte = BYTES[(random / 4) as usize % 16 % BYTES.len()];
+    match random % 4 {
+        0 if at < file.len() => file[at] = byte,
+        1 if at < file.len() => drop(file.remove(at)),
+        _ => file.insert(at, byte),
+    }
+    file
 }
 
 fn compare(program: &Path, seen: &mut Seen, name: &str, file: &[u8], prices: &[u32]) {
@@ -94,13 +111,15 @@ fn main() {
     }
     for index in 0..count {
         let case = generate::case(seed, index);
-        // The program takes four prices alone.
-        let prices = if case.prices.len() == 4 { case.prices } else { oracle::ONES.to_vec() };
+        // The program takes prices of 31 bits, and one at least.
+        let lent = !case.prices.is_empty() && case.prices.iter().all(|price| *price < 1 << 31);
+        let prices = if lent { case.prices } else { oracle::ONES.to_vec() };
         compare(&program, &mut seen, &format!("file {index} of seed {seed}"), &case.file, &prices);
+        compare(&program, &mut seen, &format!("file {index} of seed {seed}, damaged"), &damaged(&case.file, index ^ seed), &oracle::ONES);
     }
     let numbers: Vec<String> = seen.texts.keys().map(u32::to_string).collect();
     println!(
-        "explain: {} stored and {count} generated files of seed {seed}, no difference; {} accepted, {} refused by {}",
+        "explain: {} stored and {count} generated files of seed {seed} and each with a byte damaged, no difference; {} accepted, {} refused by {}",
         names.len(),
         seen.accepted,
         seen.refused,

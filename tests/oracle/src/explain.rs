@@ -1,6 +1,7 @@
 //! What README says of the program explain: a script with its figures in a margin, or where a refusal points.
 
 use crate::analyse::block_ticks;
+use crate::causes::{cause, Kind};
 use crate::{desk, prices, read, Line, Plan, Prices, Refusal, Row, Script};
 
 const COLUMNS: usize = 100;
@@ -32,27 +33,69 @@ fn line(file: &[u8], n: usize) -> Option<&[u8]> {
     Some(rest.split(|&b| b == b'\n').next().unwrap_or(rest))
 }
 
-fn named(file: &[u8], n: usize, without: usize) -> String {
-    match line(file, n) {
-        Some(text) => format!("  {}\n", wrapped(&text[without.min(text.len())..], 2)),
-        None => "  (the file ends before this line)\n".into(),
+/// A line with a mark under a byte, cut round it where it has more than 94 bytes.
+fn marked(line: &[u8], at: Option<usize>) -> String {
+    let mark = at.unwrap_or(0);
+    let from = if line.len() <= 94 { 0 } else { mark.saturating_sub(48).min(line.len()) };
+    let to = (from + 94).min(line.len());
+    let dots = |shown: bool| if shown { ".." } else { "" };
+    let text: String = line[from..to].iter().map(|&b| if (b' '..=b'~').contains(&b) { b as char } else { '?' }).collect();
+    let front = dots(from > 0);
+    let shown = format!("  {front}{text}{}\n", dots(to < line.len()));
+    match at {
+        Some(at) => format!("{shown}  {:1$}^\n", "", front.len() + at - from),
+        None => shown,
     }
 }
 
-/// The front of what is printed of a refusal; cause and remedy stand after it. `size`: the variables and rows of a file that was read.
-fn refused(file: &[u8], size: Option<(usize, usize)>, refusal: Refusal) -> String {
+fn named(file: &[u8], n: usize) -> String {
+    line(file, n).map_or("  (the file ends before this line)\n".into(), |text| marked(text, None))
+}
+
+/// The number after a key of five bytes on a line that has been read.
+fn count(file: &[u8], n: usize) -> usize {
+    let text = line(file, n).map_or("", |text| std::str::from_utf8(&text[5..]).unwrap_or(""));
+    text.parse().unwrap_or(0)
+}
+
+/// Of a refusal by 3 the line with its mark, and the first line of the cause.
+fn shapeless(file: &[u8], place: usize) -> String {
+    let Some(text) = line(file, place) else {
+        return named(file, place) + "\ncause\n  the file ends too early\n";
+    };
+    let vars = if place > 2 { count(file, 2) } else { 0 };
+    let rows = if place > 3 + vars { count(file, 3 + vars) } else { 0 };
+    if place > 3 + vars + rows && place > 3 {
+        return named(file, place) + "\ncause\n  the last row stands before this line, and nothing may follow it\n";
+    }
+    let kind = match place {
+        1 => Kind::Script,
+        2 => Kind::Vars,
+        _ if place <= 2 + vars => Kind::Range,
+        _ if place == 3 + vars => Kind::Rows,
+        _ => Kind::Row,
+    };
+    let ended = file.split(|&b| b == b'\n').count() > place;
+    let (at, words) = cause(kind, text, ended).expect("a cause");
+    marked(text, Some(at)) + &format!("\ncause\n  {words}\n")
+}
+
+/// The front of what is printed of a refusal, of 3 up to the first line of its cause. `script`: a file that was read.
+fn refused(file: &[u8], script: Option<&Script>, refusal: Refusal) -> String {
     let (number, place) = (refusal.0, refusal.1 as usize);
     let mut text = String::from_utf8(desk::refused(refusal)).expect("ASCII");
-    match (number, size) {
-        (3..=7 | 17, _) => {
-            text += &format!("\nline {place}\n");
-            text += &named(file, place, 0);
+    let row = |script: &Script, row: usize| format!("row {row}, line {}\n{}", 4 + script.vars + row, named(file, 4 + script.vars + row));
+    match (number, script) {
+        (3, _) => text += &format!("\nline {place}\n{}", shapeless(file, place)),
+        // The mark, and so the cut of a long line, is not compared.
+        (4 | 5, _) => text += &format!("\nline {place}\n{}", line(file, place).map_or(String::new(), |text| if text.len() <= 94 { marked(text, None) } else { "  ".into() })),
+        (6 | 7 | 17, _) => text += &format!("\nline {place}\n{}", named(file, place)),
+        (8..=13 | 19, Some(script)) if place >= script.rows.len() => text += "\nthe whole file\n",
+        (13, Some(script)) => {
+            let head = script.rows.iter().position(|row| end_of(row) == Some(place)).expect("a head");
+            text += &format!("\nthe block\n{}\n{}", row(script, head), row(script, place));
         }
-        (8..=13 | 19, Some((_, count))) if place >= count => text += "\nthe whole file\n",
-        (8..=13 | 19, Some((vars, _))) => {
-            text += &format!("\nrow {place}, line {}\n", 4 + vars + place);
-            text += &named(file, 4 + vars + place, "row=".len());
-        }
+        (8..=12 | 19, Some(script)) => text += &format!("\n{}", row(script, place)),
         _ => (),
     }
     text
@@ -136,12 +179,11 @@ fn shown(file: &[u8], plan: &Plan) -> String {
     text
 }
 
-/// What explain prints of a file: all of an accepted one, and of a refused one what stands before its cause.
+/// What explain prints of a file: all of an accepted one, and of a refused one what stands before its cause, of 3 with the first line of it.
 pub fn explain(file: &[u8], lent: &[u32]) -> Result<String, (u32, String)> {
-    let wrong = |size, refusal: Refusal| (refusal.0, refused(file, size, refusal));
+    let wrong = |script: Option<&Script>, refusal: Refusal| (refusal.0, refused(file, script, refusal));
     let by: Prices = prices::prices(lent).map_err(|refusal| wrong(None, refusal))?;
     let script: Script = read::script(file).map_err(|refusal| wrong(None, refusal))?;
-    let size = (script.vars, script.rows.len());
-    let plan = crate::analyse::analyse(script, by).map_err(|refusal| wrong(Some(size), refusal))?;
+    let plan = crate::analyse::analyse(script.clone(), by).map_err(|refusal| wrong(Some(&script), refusal))?;
     Ok(shown(file, &plan))
 }

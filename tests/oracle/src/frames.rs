@@ -138,6 +138,16 @@ pub fn frames(lent: Lent, prices: &[u32], q: u64, scratch_len: usize) -> Result<
     Ok(Frames { scripts: runs.into_iter().zip(finished).map(|(run, frame)| Framed { frame, run }).collect(), most })
 }
 
+/// Which script a refused call is refused for, from 1: the first that is refused by itself; 0 where 20, 1 or 16 refuse, and for a call that is accepted.
+pub fn refused_script(lent: Lent, prices: &[u32], q: u64, scratch_len: usize) -> u64 {
+    if scratch_len < crate::SCRATCH || crate::prices::prices(prices).is_err() {
+        return 0;
+    }
+    let Ok(scripts) = scripts(lent, q) else { return 0 };
+    let refused = |(file, store, _): &(&[u8], &[i32], &[u8])| plan(file, prices, scratch_len).and_then(|plan| check_store(&plan.script, store)).is_err();
+    scripts.iter().position(refused).map_or(0, |index| index as u64 + 1)
+}
+
 /// Whether a script of these frames keeps its promises: it is finished by frame ceil(T/q), or the first, and it is as running alone with
 /// allowance T. None if all is well, else what is not.
 pub fn breach(plan: &Plan, store: &[i32], picks: &[u8], q: u64, framed: &Framed) -> Option<String> {

@@ -3,11 +3,13 @@
 //! In force are the change requests of documents 02 and 03 that the code names.
 
 pub mod analyse;
+pub mod causes;
 pub mod desk;
 pub mod explain;
 pub mod expression;
 pub mod frames;
 pub mod live;
+pub mod paused;
 pub mod prices;
 pub mod reach;
 pub mod read;

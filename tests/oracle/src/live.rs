@@ -1,9 +1,13 @@
 //! Request 15 (document 03): runs that go frame by frame. A live run is held by its history, the bytes that it has used and the prices that it
 //! has paid; each step runs the script anew from its first store and goes on behind what was paid. So nothing here is a machine that pauses.
 
-use crate::read::Loop;
+use crate::read::{Kind, Loop, Row, L};
 use crate::run::{check_store, Listener};
 use crate::{plan, run_planned, Plan, Refusal, Run};
+
+/// The numbers of a state, and the first one of the loops'.
+pub const STATE: usize = 64;
+pub(crate) const LOOPS: usize = 16;
 
 /// Question 22: a step's ticks at most.
 pub const MOST_TICKS: u64 = 1_000_000;
@@ -50,6 +54,37 @@ impl Listener for Priced {
     }
 }
 
+/// Where the last price was met.
+#[derive(Default)]
+struct Met {
+    row: usize,
+    test: bool,
+    /// The turns of each loop's latest entry.
+    turns: [u64; 16],
+    /// The for whose start is still to be paid and made: its entry begins with the test behind that.
+    begins: Option<usize>,
+}
+
+impl Listener for Met {
+    fn enter(&mut self, l: &Loop, _: usize) {
+        match l.kind {
+            Kind::For { .. } => self.begins = Some(l.index as usize),
+            _ => self.turns[l.index as usize] = 0,
+        }
+    }
+    fn turn(&mut self, l: &Loop) {
+        self.turns[l.index as usize] += 1;
+    }
+    fn leave(&mut self, _: &Loop) {}
+    fn price(&mut self, row: usize, test: bool) {
+        (self.row, self.test) = (row, test);
+        if let (true, Some(k)) = (test, self.begins) {
+            self.turns[k] = 0;
+            self.begins = None;
+        }
+    }
+}
+
 /// A live run so far.
 #[derive(Clone)]
 pub struct Live {
@@ -59,6 +94,8 @@ pub struct Live {
     paid: usize,
     ticks: u64,
     left: u64,
+    status: Status,
+    stepped: bool,
 }
 
 impl Live {
@@ -66,7 +103,7 @@ impl Live {
     pub fn start(file: &[u8], prices: &[u32], scratch_len: usize, store: &[i32]) -> Result<Live, Refusal> {
         let plan = plan(file, prices, scratch_len)?;
         check_store(&plan.script, store)?;
-        Ok(Live { plan, first: store.to_vec(), used: Vec::new(), paid: 0, ticks: 0, left: 0 })
+        Ok(Live { plan, first: store.to_vec(), used: Vec::new(), paid: 0, ticks: 0, left: 0, status: Status::Going, stepped: false })
     }
 
     /// The run that this is, cut off where it stands: the ticks so far as allowance, the used bytes as picks.
@@ -79,6 +116,28 @@ impl Live {
         &self.used
     }
 
+    /// The state that the last call wrote: 0 the status, 1 the row, 2 whether a loop's test is due there, 3 what is left, 4 the ticks and 5 the bytes
+    /// of all steps, from 16 on for each loop the turns of its current entry, all its turns and the most in one entry.
+    pub fn state(&self) -> [u64; STATE] {
+        let mut met = Met::default();
+        let cut = crate::run_told(&self.plan, &self.first, &self.used, self.ticks, &mut met);
+        let mut numbers = [0; STATE];
+        if self.paid == 0 && self.status == Status::Going && self.left == 0 && !self.stepped {
+            return numbers;
+        }
+        let (row, left) = match self.status {
+            Status::Going => (met.row, self.left),
+            Status::Waits | Status::Full => (cut.row, self.left),
+            Status::Ended | Status::Range => (cut.row, 0),
+        };
+        let test = self.status == Status::Going && met.test;
+        numbers[..6].copy_from_slice(&[self.status as u64, row as u64, test as u64, left, self.ticks, self.used.len() as u64]);
+        for (k, &(_, all, most)) in cut.loops.iter().enumerate() {
+            numbers[LOOPS + 3 * k..LOOPS + 3 * k + 3].copy_from_slice(&[met.turns[k], all, most]);
+        }
+        numbers
+    }
+
     /// `step`, with q ticks, these picks, and a list with room for so many cues.
     pub fn step(&mut self, q: u64, picks: &[u8], room: usize) -> Result<Step, Refusal> {
         if q > MOST_TICKS {
@@ -86,17 +145,13 @@ impl Live {
         }
         let all: Vec<u8> = self.used.iter().chain(picks).copied().collect();
         let mut priced = Priced::default();
-        let whole = crate::run_told(&self.plan, &self.first, &all, u64::MAX, &mut priced);
         let carried = self.left;
         let budget = self.ticks + carried + q;
+        let whole = crate::run_told(&self.plan, &self.first, &all, budget, &mut priced);
         let before = self.ticks;
         let mut cues = Vec::new();
         let mut status = None;
         while let Some(&(ticks, cue)) = priced.prices.get(self.paid) {
-            if ticks > budget {
-                status = Some(Status::Going);
-                break;
-            }
             if let Some(number) = cue {
                 if cues.len() == room {
                     status = Some(Status::Full);
@@ -111,9 +166,11 @@ impl Live {
             crate::Ending::Ended => Status::Ended,
             crate::Ending::Range => Status::Range,
             crate::Ending::NoPick => Status::Waits,
-            crate::Ending::Spent => unreachable!("the allowance is not bounded"),
+            crate::Ending::Spent => Status::Going,
         });
         let left = budget - self.ticks;
+        self.status = status;
+        self.stepped = true;
         self.left = match status {
             Status::Waits | Status::Full => left.min(carried),
             _ => left,
@@ -132,6 +189,63 @@ impl Live {
             cues,
             loops: cut.loops,
         })
+    }
+}
+
+/// Question 15 as a step asks it: V numbers, each from -L to L.
+pub fn check_wide(plan: &Plan, store: &[i32]) -> Result<(), Refusal> {
+    let vars = plan.script.vars;
+    match (0..vars.max(store.len())).find(|&i| i >= vars || i >= store.len() || !(-L..=L).contains(&store[i])) {
+        Some(i) => Err((15, i as u64)),
+        None => Ok(()),
+    }
+}
+
+/// Question 21: the first number that no run of this file can have there, by the words of `docs/changes/15-live.md`.
+pub fn check_state(plan: &Plan, numbers: &[u64]) -> Result<(), Refusal> {
+    if numbers.len() != STATE {
+        return Err((21, STATE as u64));
+    }
+    match (0..STATE).find(|&place| !can_have(plan, numbers, place)) {
+        Some(place) => Err((21, place as u64)),
+        None => Ok(()),
+    }
+}
+
+fn can_have(plan: &Plan, numbers: &[u64], place: usize) -> bool {
+    let rows = &plan.script.rows;
+    let at = |row: u64| usize::try_from(row).ok().and_then(|row| rows.get(row));
+    let number = numbers[place];
+    match place {
+        0 => number <= 4,
+        1 => match numbers[0] {
+            0 => number <= rows.len() as u64,
+            1 => matches!(at(number), Some(Row::Pick { .. })),
+            2 => matches!(at(number), Some(Row::Cue { .. })),
+            3 => number == rows.len() as u64,
+            _ => number < rows.len() as u64,
+        },
+        2 => {
+            let ends_loop = || match at(numbers[1]) {
+                Some(Row::End { head }) => matches!(rows[*head as usize], Row::Loop(_)),
+                _ => false,
+            };
+            number == 0 || number == 1 && numbers[0] == 0 && ends_loop()
+        }
+        3 if numbers[0] <= 2 => number < plan.prices.dearest(),
+        4 => number <= plan.ticks,
+        5 => number <= numbers[4],
+        _ if place >= LOOPS && (place - LOOPS) / 3 < plan.lines.len() => {
+            let k = (place - LOOPS) / 3;
+            let line = &plan.lines[k];
+            let [turns, all, most] = [0, 1, 2].map(|j| numbers[LOOPS + 3 * k + j]);
+            match (place - LOOPS) % 3 {
+                0 => turns <= line.turns,
+                1 => turns <= all && all as u128 <= line.total,
+                _ => turns <= most && most <= all && most <= line.turns,
+            }
+        }
+        _ => number == 0,
     }
 }
 

@@ -12,6 +12,13 @@ pub struct Prices {
     pub test: u64,
 }
 
+impl Prices {
+    /// The dearest price.
+    pub fn dearest(&self) -> u64 {
+        self.arithmetic.max(self.cue).max(self.pick).max(self.test)
+    }
+}
+
 /// Four ones: document 01's ticks.
 pub const ONES: [u32; 4] = [1; 4];
 

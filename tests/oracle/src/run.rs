@@ -38,6 +38,9 @@ pub trait Listener {
     fn enter(&mut self, l: &Loop, row: usize);
     fn turn(&mut self, l: &Loop);
     fn leave(&mut self, l: &Loop);
+    /// A price is next: the row where it is met, and whether it is that of a test, which is met at the loop's `end`.
+    #[inline]
+    fn price(&mut self, _: usize, _: bool) {}
     /// A price is taken; all ticks so far.
     #[inline]
     fn tick(&mut self, _: u64) {}
@@ -131,7 +134,8 @@ pub fn run<E: Listener, P: Picks>(
         };
     }
     macro_rules! tick {
-        ($price:ident, $row:expr) => {
+        ($price:ident, $row:expr, $met:expr, $test:expr) => {
+            listener.price($met, $test);
             if prices.$price > allowance - ticks {
                 end!(Ending::Spent, $row);
             }
@@ -168,7 +172,7 @@ pub fn run<E: Listener, P: Picks>(
     }
     macro_rules! test {
         ($l:expr, $head:expr) => {
-            tick!(test, $head);
+            tick!(test, $head, $l.end as usize, true);
             let limit = operand!($l.limit, $head);
             if $l.compare.holds(store[$l.v as usize], limit) {
                 turn!($l);
@@ -186,29 +190,29 @@ pub fn run<E: Listener, P: Picks>(
         };
         match row {
             Row::Set { v, x } => {
-                tick!(arithmetic, r);
+                tick!(arithmetic, r, r, false);
                 store[*v as usize] = operand!(*x, r);
                 r += 1;
             }
             Row::Change { v, by } => {
-                tick!(arithmetic, r);
+                tick!(arithmetic, r, r, false);
                 change!(*v, by, r);
                 r += 1;
             }
             Row::Cue { n } => {
-                tick!(cue, r);
+                tick!(cue, r, r, false);
                 listener.cue(*n as u32);
                 r += 1;
             }
             Row::Off { v, w, compare, c } => {
-                tick!(arithmetic, r);
+                tick!(arithmetic, r, r, false);
                 if compare.holds(store[*w as usize], *c) {
                     store[*v as usize] = 0;
                 }
                 r += 1;
             }
             Row::Pick { middle, .. } => {
-                tick!(pick, r);
+                tick!(pick, r, r, false);
                 let Some(byte) = picks.next(r, used) else {
                     end!(Ending::NoPick, r);
                 };
@@ -226,7 +230,7 @@ pub fn run<E: Listener, P: Picks>(
                         continue;
                     }
                     Kind::For { start, .. } => {
-                        tick!(arithmetic, r);
+                        tick!(arithmetic, r, r, false);
                         store[l.v as usize] = operand!(start, r);
                     }
                     Kind::While | Kind::Hold => {}
@@ -237,7 +241,7 @@ pub fn run<E: Listener, P: Picks>(
                 let head = *head as usize;
                 if let Row::Loop(l) = &rows[head] {
                     if let Kind::For { step, .. } = l.kind {
-                        tick!(arithmetic, head);
+                        tick!(arithmetic, head, r, false);
                         change!(l.v, step, head);
                     }
                     test!(*l, head);
@@ -251,13 +255,13 @@ pub fn run<E: Listener, P: Picks>(
 }
 
 #[inline]
-fn within(value: i64) -> Option<i32> {
+pub(crate) fn within(value: i64) -> Option<i32> {
     (-L as i64 <= value && value <= L as i64).then_some(value as i32)
 }
 
 /// None if one of its operators goes past ±L.
 #[inline]
-fn value(items: &[Item], store: &[i32; 16], x: Operand) -> Option<i32> {
+pub(crate) fn value(items: &[Item], store: &[i32; 16], x: Operand) -> Option<i32> {
     match x {
         Operand::Constant(c) => Some(c),
         Operand::Variable(v) => Some(store[v as usize]),

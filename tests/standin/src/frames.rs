@@ -1,7 +1,7 @@
 //! The call of several scripts, and change 14's mistakes.
 
 use crate::{answer_of, wrong};
-use oracle::frames::{frames, scripts, shared, whole, Framed, Frames, Lent};
+use oracle::frames::{frames, refused_script, scripts, shared, whole, Framed, Frames, Lent};
 use oracle::{plan, Refusal};
 use std::slice;
 
@@ -164,13 +164,17 @@ pub unsafe extern "C" fn diftanew_frames(
     };
     let answer = slice::from_raw_parts_mut(answer, 433);
     answer.fill(0);
-    let (called, others) = called(lent, slice::from_raw_parts(prices, prices_len), q, scratch_len);
+    let prices = slice::from_raw_parts(prices, prices_len);
+    let script = refused_script(lent, prices, q, scratch_len);
+    let (called, others) = called(lent, prices, q, scratch_len);
     if let Some(others) = others {
         stores.copy_from_slice(&others);
     }
     match called {
         Err((number, place)) => {
             answer[0] = place;
+            // 89: a refused script is counted from 0.  90: it is told for 20, 1 and 16 too.
+            answer[1] = if wrong(90) { script.max(1) } else { script - (wrong(89) && script > 0) as u64 };
             number
         }
         Ok(frames) => {

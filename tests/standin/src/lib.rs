@@ -4,6 +4,7 @@
 mod expressions;
 mod frames;
 mod held;
+mod live;
 mod triangles;
 
 use expressions::*;
@@ -295,6 +296,57 @@ pub unsafe extern "C" fn diftanew_report(
         *place = 8_192;
     }
     if wrong(7) && number == 4 && file.windows(3).any(|w| w == b"v99") { 5 } else { number }
+}
+
+/// # Safety
+/// As the C interface says: every pointer is good for its length, the answer's for 115 numbers.
+#[no_mangle]
+pub unsafe extern "C" fn diftanew_figures(
+    file: *const u8,
+    file_len: usize,
+    prices: *const u32,
+    prices_len: usize,
+    scratch: *mut u32,
+    scratch_len: usize,
+    answer: *mut u64,
+) -> u32 {
+    let answer = slice::from_raw_parts_mut(answer, 115);
+    // 84: an unused number of the answer keeps its value.
+    let last = answer[114];
+    answer.fill(0);
+    answer[114] = if wrong(84) { last } else { 0 };
+    // 85: figures write past the table.
+    if wrong(85) && scratch_len > 1_024 {
+        *scratch.add(1_024) ^= 1;
+    }
+    let file = slice::from_raw_parts(file, file_len);
+    let plan = match oracle::plan(file, slice::from_raw_parts(prices, prices_len), scratch_len) {
+        Ok(plan) => plan,
+        Err((number, place)) => {
+            // 86: a refusal's place is the second number.
+            answer[wrong(86) as usize] = place;
+            return number;
+        }
+    };
+    answer[..3].copy_from_slice(&[plan.ticks, plan.script.vars as u64, plan.lines.len() as u64]);
+    for (line, numbers) in plan.lines.iter().zip(answer[3..].chunks_mut(7)) {
+        let (step, mut first, second) = match line.step {
+            Step::Add(a, b) => (0, a, b),
+            Step::Grow(a, b) => (1, a, b),
+            Step::Shrink(a, b) => (2, a, b),
+            Step::Unknown => unreachable!("question 8"),
+        };
+        // 87: an end below 0 in 32 bits.
+        if wrong(87) && first < 0 {
+            first = first as u32 as i64;
+        }
+        numbers.copy_from_slice(&[line.row as u64, step, first as u64, second as u64, line.turns, line.total as u64, line.exact as u64]);
+        // 88: turns and total the other way round.
+        if wrong(88) {
+            numbers.swap(4, 5);
+        }
+    }
+    0
 }
 
 /// # Safety

@@ -1,4 +1,5 @@
 -- `calls_frames::run_frames` meets its contract. Assumes nothing.
+use mathlib.Core.Path.{_∙_}
 use mathlib.Core.List.{List}
 use Rattle.rules_frames.specs.Frames
 use Rattle.calls_lists.specs.Parts.{lentOf}
@@ -22,7 +23,10 @@ play-held-requires : tie.Need-play-held-requires
 play-held-requires c κs = let a = c .before .before .before .before .before .before .before .before .before .before .before .before .before .before .args in let (roles, on) = ready (c .before) in (a .file-lengths .now, a .store-lengths .now, a .pick-lengths .now, roles, on)
 
 returns : tie.Need-returns
-returns c = let (roles, on) = ready (c .before .before .before) in rw (on .ready) (c .before .play-held .ensures _ _ _ roles on)
+returns c =
+    let (roles, on) = ready (c .before .before .before) in
+    let p = c .before .play-held .ensures in
+    record { framed = rw (on .ready) (p .0 _ _ _ roles on); script = p .1 ∙ c .before .before .before .before .before .before .before .enter-all .ensures _ .script }
 
 returns-2 : tie.Need-returns-2
 returns-2 c =

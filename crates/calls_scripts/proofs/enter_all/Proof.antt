@@ -7,7 +7,7 @@ use Rattle.calls_lists.specs.Parts.{partOf, lentOf}
 use Rattle.calls_lists.proofs.Extents.{extent-part, extent-within}
 use Rattle.calls_scripts.specs.Held.{tableLengths, EnteredAs}
 use Rattle.calls_scripts.proofs.Tables.{table-size, tables-whole, put-length}
-use Rattle.calls_scripts.proofs.Entering.{Entering, entering-none, entering-more, entering-all, entering-no}
+use Rattle.calls_scripts.proofs.Entering.{Entering, entering-none, entering-more, entering-all, entering-no, entering-which, entering-no-one}
 use borrow.Author.Needs.{needs}
 use Rattle.calls_scripts.proofs.enter_all.Statement.{statement}
 use Rattle.calls_scripts.proofs.enter_all.Tie as tie
@@ -73,6 +73,7 @@ returns c picks =
     let l = c .before .before .before .before .before .before .before .before .before .loop in
     record {
       number = refl;
+      script = entering-which _ _ (s .pre .priced) (s .pre .lengths) (l .k) (l .tables) (l .each) (l .inv .1 picks) (c .before .before .before .before .before .before .before .before .loop-test .taken) _ (c .before .before .before .before .before .enter-at .result) (entered (c .before .before .before .before .before)) _ _ (c .before .asked .given .1);
       held = entering-no _ _ (s .pre .priced) (s .pre .lengths) (l .k) (l .tables) (l .each) (l .inv .1 picks) (c .before .before .before .before .before .before .before .before .loop-test .taken) _ (c .before .before .before .before .before .enter-at .result) (entered (c .before .before .before .before .before)) _ _ (c .before .asked .given .1);
     }
 
@@ -82,6 +83,7 @@ returns-2 c picks =
     let l = c .before .loop in
     record {
       number = refl;
+      script = entering-no-one _ _ (s .pre .priced) (s .pre .lengths) (l .k) (l .tables) (l .each) (l .inv .1 picks) (omega (arith, c .loop-test .left, l .inv .0));
       held = entering-all _ _ (s .pre .priced) (s .pre .lengths) (l .k) (l .tables) (l .each) (l .inv .1 picks) (omega (arith, c .loop-test .left, l .inv .0));
     }
 
@@ -101,6 +103,7 @@ enter-all-spec =
     (λ c. search needs)
     loop-again
     (λ c. search needs)
+    (λ c. let h = one-of-8 (c .before .before .before .before .before .before .before .before) in search needs)
     same-length
     returns
     (λ c. c .before .loop .inv .1 [] .whole ∙ sym (c .before .before .before .before .before .before .before .before .pre .all-tables))

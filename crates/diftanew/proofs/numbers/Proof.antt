@@ -9,7 +9,7 @@ use Rattle.diftanew.proofs.numbers.Statement.{statement}
 use Rattle.diftanew.proofs.numbers.Tie as tie
 
 abbrev Inv-loop : tie.InvT-loop
-Inv-loop loops counts n a₀ k₀ a k = (k ≤ n) × (a ≡ loopNumbers k counts a₀)
+Inv-loop loops counts n a₀ k₀ a k = (k ≤ n) × (a ≡ loopNumbers 5 k counts a₀)
 
 abbrev μ-loop : tie.MeasureT-loop
 μ-loop loops counts n a₀ k₀ a k = n - k

@@ -3,7 +3,7 @@
 use mathlib.Core.Bool.{true, false}
 use mathlib.Core.Path.{_≡_, refl, sym, _∙_, ap, subst}
 use mathlib.Core.Logic.{⊎-elim}
-use Prim.Native.Nat.{_<_}
+use Prim.Native.Nat.{ℕ, _<_}
 use native.Mathlib.Omega.{arith}
 use denote.Ref.{now}
 use lib.ListN.{length}
@@ -16,7 +16,7 @@ use Rattle.run_machine.specs.Steps.{scriptIn, Runs, Stepped}
 use Rattle.runner.specs.Runs.{placeIn, MayGo}
 use Rattle.runner.proofs.Limits.{LimitsKept, none-kept}
 use Rattle.runner.proofs.Loop.{Reached, reached-start, at-row, at-test, kept-at, test-limits, row-limits, goes-on, is-over, past-end}
-use Rattle.run_live.proofs.Goes.{Firing, firing-start, Stopped, AfterStep, after-going, after-over, went-over, went-full, past-fires, row-full, fit-of, test-fires, row-fires}
+use Rattle.run_live.proofs.Goes.{Firing, firing-start, Stopped, AfterStep, after-going, after-over, after-spent, went-over, went-full, past-fires, row-full, fit-of, test-fires, row-fires}
 use Rattle.run_live.specs.Goes.{stoodBy}
 use Rattle.run_live.proofs.go_on.Statement.{statement}
 use Rattle.run_live.proofs.go_on.Tie as tie
@@ -58,6 +58,7 @@ returns c =
     let p = c .before .before .if2 .taken in
     went-over _ _ _ _ _ _ _ _ _ _ (c .stopped .result) _ _ (rw (sym (c .before .ended .ensures)) (c .stopped .ensures))
     (past-fires _ (l .inv .0 .price) _ _ _ _ (l .m) (l .store) (l .counts) _ (l .inv .0 .script) _ (l .cues) (l .fired) (l .inv .4) p)
+    (λ i e. absurd (let z : _≡_ {A = ℕ} 0 1 = cc in omega arith))
     (past-end _ _ _ _ _ _ _ (l .inv .0) (l .m) (l .store) (l .counts) (l .inv .1) p)
 
 -- the list is full
@@ -131,6 +132,7 @@ returns-3 c =
     let l = d .before .loop in
     let (x, y, _, _, _) = done d in
     went-over _ _ _ _ _ _ _ _ _ _ (c .stopped3 .result) (d .if1 .m) (d .if1 .fired) (c .stopped3 .ensures) (over-there c)
+    (after-spent _ _ _ _ (d .if1 .cues) (d .if1 .fired) (d .if1 .m) (d .if1 .store) _ _ (d .if1 .m .status) (done d .4))
     (is-over _ _ _ _ _ _ _ (l .inv .0) (l .m) (l .store) (l .counts) (l .inv .1) (d .if1 .m) (d .if1 .store) (d .if1 .counts) y x (sym (c .before .before .going .ensures) ∙ not-true _ (c .before .if4 .taken)))
 
 -- it goes on from there, with a lower rank

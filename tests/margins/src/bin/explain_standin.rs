@@ -35,10 +35,15 @@ fn refused(number: u32, front: String, mistake: u32) -> String {
         10 => front.replace("the file ends before this line", ""),
         11 => front.replace("\nthe whole file\n", ""),
         12 => front.replacen("refused=", "refused=1", 1),
+        15 => front.replacen(" ^\n", "^\n", 1),
+        16 => front.replace("a space after the last word", "a tab; one space stands between words"),
         _ => front,
     };
     let number = if mistake == 13 && number == 9 { 8 } else { number };
     let remedy = if mistake == 14 { String::new() } else { format!("  the remedy of {number}\n") };
+    if number == 3 {
+        return format!("{front}\nremedy\n{remedy}");
+    }
     format!("{front}\ncause\n  the cause of {number}\n\nremedy\n{remedy}")
 }
 

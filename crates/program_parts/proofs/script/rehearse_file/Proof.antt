@@ -1,5 +1,6 @@
 -- `script::rehearse_file` is safe: the values kept lie in the store. Assumes nothing.
 use mathlib.Core.Path.{sym}
+use lib.ListN.{length-take}
 use lib.Seq.{length-take-le}
 use native.Mathlib.Omega.{arith}
 use borrow.Author.Needs.{needs}
@@ -15,4 +16,4 @@ rehearse-file-spec =
     (tie.spec
     (λ c κs. search needs) (λ c. search needs)
     slice-aggregate-run-allowed
-    (λ c κs. search needs) (λ c. search needs) (λ c. search needs))
+    (λ c κs. simp length-take (omega (arith, c .before .before .before .before .before .before .pre))) (λ c. search needs) (λ c. search needs))

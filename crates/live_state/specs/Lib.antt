@@ -1,0 +1,2 @@
+-- What the contracts of the state cite.
+pub mod Numbers
