@@ -1,5 +1,5 @@
-// The words of each refusal, cause and remedy, at most 98 columns a line behind two spaces. They are those of README's table, which
-// tests/programs compares with them.
+// The words of each refusal, cause and remedy, at most 98 columns a line behind two spaces. They are those of the table
+// in docs/SCRIPT.md, which tests/programs compares with them.
 use program_parts::print_text;
 
 // Of the questions about the file and its lines.

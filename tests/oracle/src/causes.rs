@@ -1,4 +1,4 @@
-//! What README says of the one cause of a refusal by 3: read from the left, the first word that is not what its place wants.
+//! What docs/PROGRAMS.md says of the one cause of a refusal by 3: read from the left, the first word that is not what its place wants.
 
 /// The lines of a script file.
 #[derive(Clone, Copy, PartialEq)]

@@ -1,4 +1,4 @@
-//! What README says of the program explain: a script with its figures in a margin, or where a refusal points.
+//! What docs/PROGRAMS.md says of the program explain: a script with its figures in a margin, or where a refusal points.
 
 use crate::analyse::block_ticks;
 use crate::causes::{cause, Kind};
