@@ -1,15 +1,16 @@
-/* Diftanew: the report and the run of an effect script, what its report says as numbers, and several scripts in one frame, for C.
+/* Diftanew: the report and the run of an effect script, what its report says as numbers, several scripts in one frame, and live runs, for C.
  *
  * Every input is taken or refused by number. The caller guarantees valid pointers: each pointer is to at least as many elements as the length
  * beside it says (a length of 0 may come with any pointer, a null one too: nothing is read or written through it), `place` to one number,
- * `answer` to DIFTANEW_ANSWER numbers (of figures, to DIFTANEW_FIGURES_ANSWER; of frames, to DIFTANEW_FRAMES_ANSWER), and no two of the lent
- * parts overlap, but those that are only read. Nothing else is asked.
+ * `answer` to DIFTANEW_ANSWER numbers (of figures, to DIFTANEW_FIGURES_ANSWER; of frames, to DIFTANEW_FRAMES_ANSWER; of start, to
+ * DIFTANEW_START_ANSWER; of step, to DIFTANEW_STEP_ANSWER), and no two of the lent parts overlap, but those that are only read. Nothing else
+ * is asked.
  *
- * A call needs a scratch of 1,024 numbers and a stack of 16 KB (a report, figures or a run) or 60 KB (frames), no heap, and nothing else; it keeps no state. A
- * report, figures and a run write over the first 1,024 numbers of the scratch, whatever these were; every number past them, where a patch list may lie, keeps its value, and so
+ * A call needs a scratch of 1,024 numbers and a stack of 16 KB (60 KB for frames), no heap, and nothing else; it keeps no state. All calls
+ * but frames write over the first 1,024 numbers of the scratch, whatever these were; every number past them, where a patch list may lie, keeps its value, and so
  * do all of them if the scratch is refused as too short.
  *
- * Calls on several threads at once are safe where scratch, store, buffer and answer are each thread's own; file, prices and picks may be shared.
+ * Calls on several threads at once are safe where scratch, store, state, buffer, cues and answer are each thread's own; file, prices and picks may be shared.
  * The library calls `memcpy` and `memset` and nothing else; freestanding, the program has these two. */
 #ifndef DIFTANEW_H
 #define DIFTANEW_H

@@ -1,11 +1,11 @@
 //! Safe Rust calls over the proved loader of effect scripts.
 //!
-//! A call of the library needs a scratch of 1,024 numbers and a stack of 16 KB (a report, figures or a run) or 60 KB (frames), no heap, and nothing else. A
-//! report, figures and a run write over the first 1,024 numbers of the scratch, whatever these were; every number past them, where a patch list may lie, keeps its value, and so
+//! A call of the library needs a scratch of 1,024 numbers and a stack of 16 KB (60 KB for frames), no heap, and nothing else. All calls but
+//! frames write over the first 1,024 numbers of the scratch, whatever these were; every number past them, where a patch list may lie, keeps its value, and so
 //! do all of them if the scratch is refused as too short.
 //!
-//! The crate is `no_std`. [`report`], [`figures`] and the calls in [`numbers`] take no heap; [`run`] and [`frames`] take some for lists of loops and of what is lent, and
-//! stand under the feature `alloc`, which is on by default. Calls on several threads at once are safe where scratch, store, buffer and answer are each
+//! The crate is `no_std`. [`report`], [`figures`] and the calls in [`live`] and [`numbers`] take no heap; [`run`] and [`frames`] take some for lists of loops and of what is lent, and
+//! stand under the feature `alloc`, which is on by default. Calls on several threads at once are safe where scratch, store, state, buffer, cues and answer are each
 //! thread's own, as Rust's borrows see to; file, prices and picks may be shared.
 #![no_std]
 
