@@ -93,13 +93,13 @@ pub fn loop_at(text: &[u8], rows: &[u32], count: usize, i: usize, begun: &[[i32;
     let v = head.tested;
     let comparison = head.comparison;
     let limit = head.limit;
-    let body = body_moves(text, rows, count, i, v);
+    let body = body_moves(rows, count, i, v);
     let set = body.set;
     let step = body.step;
     let s = interval_at(begun, v);
     let n = bounds(text, begun, limit);
     let kept = keeps(text, limit, set);
-    let way = way_of(text, rows, count, i, is_hold(kind), step, kept);
+    let way = way_of(rows, count, i, is_hold(kind), step, kept);
     let trip = trip_by(way, begun, is_do(kind), step, comparison, s, n, kept);
     Loop {
         trip: trip,

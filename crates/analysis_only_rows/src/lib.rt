@@ -1,4 +1,4 @@
-// The only row of a block that assigns a variable.
+// The only row of a block that assigns a variable. The text is not read, as in analysis_steps.
 use analysis_steps::add_row;
 use analysis_steps::has;
 use analysis_steps::moves_of;
@@ -11,6 +11,7 @@ use table::kind_at;
 use table::past_else;
 use table::shape_at;
 ghost use mathlib.Core.Path.{_≡_};
+ghost use mathlib.Core.List.{List};
 ghost use Prim.Native.Nat.{ℕ, _<_};
 ghost use Rattle.rules.specs.declared.Kind.{Kind};
 ghost use Rattle.table.specs.Code.{kindAt, rowsOf};
@@ -32,7 +33,6 @@ pub enum Sole {
 
 // At the row i, which assigns v and reads w, behind rows that assign a set.
 fn read_at(
-    text: &[u8],
     rows: &[u32],
     count: usize,
     i: usize,
@@ -41,14 +41,16 @@ fn read_at(
     read: Read,
     before: [bool; 16],
 ) -> Sole
-    requires { ⌜ AtRead (now text) (rowsOf (now rows)) count i v w read ⌝ }
-    ensures { λ r. ⌜ ReadAt (now (text .entry)) (rowsOf (now (rows .entry))) count i v before r ⌝ }
+    requires { ⌜ ((text : List ℕ) × AtRead text (rowsOf (now rows)) count i v w read) ⌝ }
+    ensures { λ r. do
+      ⌜ ((text : List ℕ) → AtRead text (rowsOf (now (rows .entry))) count i v w read → ReadAt text
+          (rowsOf (now (rows .entry))) count i v before r) ⌝ }
 {
     if w == v {
         return Sole::Other;
     }
     let mut rest = [false; 16];
-    moves_of(text, rows, count, i + 1, v, &mut rest);
+    moves_of(rows, count, i + 1, v, &mut rest);
     if has(rest, v) {
         return Sole::Other;
     }
@@ -61,41 +63,40 @@ fn read_at(
 }
 
 // At the row i, which sets v to x, behind rows that assign a set.
-fn set_at(
-    text: &[u8],
-    rows: &[u32],
-    count: usize,
-    i: usize,
-    v: u8,
-    x: Operand,
-    before: [bool; 16],
-) -> Sole
-    requires { ⌜ AtRow (now text) (rowsOf (now rows)) count i v × ((u : ℕ) × (kindAt (rowsOf (now rows)) i ≡ Kind.Set u x)) ⌝ }
-    ensures { λ r. ⌜ ReadAt (now (text .entry)) (rowsOf (now (rows .entry))) count i v before r ⌝ }
+fn set_at(rows: &[u32], count: usize, i: usize, v: u8, x: Operand, before: [bool; 16]) -> Sole
+    requires { do
+      ⌜ ((text : List ℕ) × AtRow text (rowsOf (now rows)) count i v) × ((u : ℕ) × (kindAt (rowsOf (now rows)) i ≡ Kind.Set u x)) ⌝ }
+    ensures { λ r. do
+      ⌜ ((text : List ℕ) → AtRow text (rowsOf (now (rows .entry))) count i v → ReadAt text
+          (rowsOf (now (rows .entry))) count i v before r) ⌝ }
 {
     match x {
         Operand::Constant(_) => Sole::Other,
-        Operand::Variable(w) => read_at(text, rows, count, i, v, w, Read::Copy, before),
+        Operand::Variable(w) => read_at(rows, count, i, v, w, Read::Copy, before),
         Operand::Expression(_, _) => Sole::Other,
     }
 }
 
 // At the row i, which assigns v, behind rows that assign a set.
-fn sole_at(text: &[u8], rows: &[u32], count: usize, i: usize, v: u8, before: [bool; 16]) -> Sole
-    requires { ⌜ AtRow (now text) (rowsOf (now rows)) count i v ⌝ }
-    ensures { λ r. ⌜ ReadAt (now (text .entry)) (rowsOf (now (rows .entry))) count i v before r ⌝ }
+fn sole_at(rows: &[u32], count: usize, i: usize, v: u8, before: [bool; 16]) -> Sole
+    requires { ⌜ ((text : List ℕ) × AtRow text (rowsOf (now rows)) count i v) ⌝ }
+    ensures { λ r. do
+      ⌜ ((text : List ℕ) → AtRow text (rowsOf (now (rows .entry))) count i v → ReadAt text
+          (rowsOf (now (rows .entry))) count i v before r) ⌝ }
 {
     match kind_at(rows, i) {
-        Kind::Set(_, x) => set_at(text, rows, count, i, v, x, before),
-        Kind::Off(_, w, c, k) => read_at(text, rows, count, i, v, w, Read::Off(c, k), before),
+        Kind::Set(_, x) => set_at(rows, count, i, v, x, before),
+        Kind::Off(_, w, c, k) => read_at(rows, count, i, v, w, Read::Off(c, k), before),
         _ => Sole::Other,
     }
 }
 
 // The only assignment of v in the block that starts at row `at`.
-pub fn sole_of(text: &[u8], rows: &[u32], count: usize, at: usize, v: u8) -> Sole
-    requires { ⌜ Ready (now text) (rowsOf (now rows)) count at × (v < 16) ⌝ }
-    ensures { λ r. ⌜ SoleAt (now (text .entry)) (rowsOf (now (rows .entry))) count at v r ⌝ }
+pub fn sole_of(rows: &[u32], count: usize, at: usize, v: u8) -> Sole
+    requires { ⌜ ((text : List ℕ) × Ready text (rowsOf (now rows)) count at) × (v < 16) ⌝ }
+    ensures { λ r. do
+      ⌜ ((text : List ℕ) → Ready text (rowsOf (now (rows .entry))) count at → SoleAt text (rowsOf (now (rows .entry)))
+          count at v r) ⌝ }
 {
     let mut set = [false; 16];
     let mut i = at;
@@ -103,18 +104,18 @@ pub fn sole_of(text: &[u8], rows: &[u32], count: usize, at: usize, v: u8) -> Sol
         match shape_at(rows, i) {
             Shape::Plain => {
                 if sets_it(rows, i, v) {
-                    return sole_at(text, rows, count, i, v, set);
+                    return sole_at(rows, count, i, v, set);
                 }
                 add_row(&mut set, rows, i);
                 i = i + 1;
             }
             Shape::Branch => {
-                let a = moves_of(text, rows, count, i + 1, v, &mut set);
-                let second = moves_of(text, rows, count, past_else(rows, a.next), v, &mut set);
+                let a = moves_of(rows, count, i + 1, v, &mut set);
+                let second = moves_of(rows, count, past_else(rows, a.next), v, &mut set);
                 i = second.next + 1;
             }
             Shape::Loop => {
-                let body = moves_of(text, rows, count, i + 1, v, &mut set);
+                let body = moves_of(rows, count, i + 1, v, &mut set);
                 add_row(&mut set, rows, i);
                 i = body.next + 1;
             }

@@ -1,4 +1,5 @@
-// How a variable moves in one turn: walks over the rows of a block, nested blocks first.
+// How a variable moves in one turn: walks over the rows of a block, nested blocks first. No walk reads the text that the rows'
+// expressions stand in: its answer is that for each text with which the rows are a tree.
 use analysis_row_steps::change_step;
 use analysis_row_steps::only;
 use rules_steps::Step;
@@ -92,16 +93,12 @@ pub struct StepOver {
 }
 
 // What the block that starts at row `at` does: its variables are added to the set; the step of v, and the row that closes the block.
-pub fn moves_of(
-    text: &[u8],
-    rows: &[u32],
-    count: usize,
-    at: usize,
-    v: u8,
-    set: &mut [bool; 16],
-) -> StepOver
-    requires { ⌜ Ready (now text) (rowsOf (now rows)) count at × (v < 16) × (length (now set) ≡ 16) ⌝ }
-    ensures { λ r. ⌜ MovesOf (now (text .entry)) (rowsOf (now (rows .entry))) count at v (now (set .entry)) (now (set .exit)) r ⌝ }
+pub fn moves_of(rows: &[u32], count: usize, at: usize, v: u8, set: &mut [bool; 16]) -> StepOver
+    requires { do
+      ⌜ ((text : List ℕ) × Ready text (rowsOf (now rows)) count at) × (v < 16) × (length (now set) ≡ 16) ⌝ }
+    ensures { λ r. do
+      ⌜ ((text : List ℕ) → Ready text (rowsOf (now (rows .entry))) count at → MovesOf text
+          (rowsOf (now (rows .entry))) count at v (now (set .entry)) (now (set .exit)) r) ⌝ }
 {
     let mut step = Step::STILL;
     let mut i = at;
@@ -115,9 +112,9 @@ pub fn moves_of(
                 i = i + 1;
             }
             Shape::Branch => {
-                let a = moves_of(text, rows, count, i + 1, v, set);
+                let a = moves_of(rows, count, i + 1, v, set);
                 let e = a.next;
-                let b = moves_of(text, rows, count, past_else(rows, e), v, set);
+                let b = moves_of(rows, count, past_else(rows, e), v, set);
                 let x = a.step;
                 let y = b.step;
                 step = step.then(x.either(y));
@@ -125,7 +122,7 @@ pub fn moves_of(
             }
             Shape::Loop => {
                 let mut inner = [false; 16];
-                let body = moves_of(text, rows, count, i + 1, v, &mut inner);
+                let body = moves_of(rows, count, i + 1, v, &mut inner);
                 add_row(&mut inner, rows, i);
                 step = step.then(only(has(inner, v), Step::Unknown));
                 add_all(set, inner);
@@ -146,12 +143,14 @@ pub struct Moves {
 }
 
 // What the body of the loop at row i does, a for's step row included, with the step of v.
-pub fn body_moves(text: &[u8], rows: &[u32], count: usize, i: usize, v: u8) -> Moves
-    requires { ⌜ AtLoop (now text) (rowsOf (now rows)) count i × (v < 16) ⌝ }
-    ensures { λ r. ⌜ BodyMoves (now (text .entry)) (rowsOf (now (rows .entry))) count i v r ⌝ }
+pub fn body_moves(rows: &[u32], count: usize, i: usize, v: u8) -> Moves
+    requires { ⌜ ((text : List ℕ) × AtLoop text (rowsOf (now rows)) count i) × (v < 16) ⌝ }
+    ensures { λ r. do
+      ⌜ ((text : List ℕ) → AtLoop text (rowsOf (now (rows .entry))) count i → BodyMoves text
+          (rowsOf (now (rows .entry))) count i v r) ⌝ }
 {
     let mut set = [false; 16];
-    let body = moves_of(text, rows, count, i + 1, v, &mut set);
+    let body = moves_of(rows, count, i + 1, v, &mut set);
     add_row(&mut set, rows, i);
     let step = body.step;
     Moves {

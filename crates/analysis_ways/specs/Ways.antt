@@ -74,7 +74,12 @@ pub record WayAt (text : List ℕ) (rows : List Row) (count i : ℕ) (r : Way) :
 abbrev pub NoHold : List ℕ → List Row → ℕ → Type 0
 NoHold text rows i = isHold (formOf text (kindAt rows i)) ≡ false
 
--- its tested variable has no step of its own
+-- the loop at row i is a hold
+pub record HoldAt (text : List ℕ) (rows : List Row) (count i : ℕ) : Type 0 where
+  pub loop : AtLoop text rows count i
+  pub form : isHold (formOf text (kindAt rows i)) ≡ true
+
+-- it is no hold, and its tested variable has no step of its own
 pub record SoleFrom (text : List ℕ) (rows : List Row) (count i : ℕ) : Type 0 where
   pub loop : AtLoop text rows count i
   pub form : NoHold text rows i

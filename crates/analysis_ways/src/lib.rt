@@ -1,4 +1,5 @@
-// How a loop's turns are counted: by its own step, by a copied or a watched variable, or by a difference.
+// How a loop's turns are counted: by its own step, by a copied or a watched variable, or by a difference. Only the answer to question 10
+// reads the text.
 use analysis_comparisons::chases;
 use analysis_comparisons::copies;
 use analysis_comparisons::difference;
@@ -16,7 +17,6 @@ use rules::Operand;
 use rules_steps::Step;
 use table::kind_at;
 ghost use mathlib.Core.Path.{_≡_};
-ghost use mathlib.Core.Bool.{true};
 ghost use mathlib.Core.List.{List};
 ghost use Prim.Native.Nat.{ℕ, _<_};
 ghost use lib.ListN.{take, drop};
@@ -27,12 +27,12 @@ ghost use Rattle.rules.specs.Steps.{assigns};
 ghost use Rattle.rules.specs.Ranges.{isDo, isHold};
 ghost use Rattle.rules.specs.Trips as trips;
 ghost use Rattle.rules.specs.Bounds.{Fine, FineOperand};
-ghost use Rattle.table.specs.Code.{kindAt, rowsOf};
+ghost use Rattle.table.specs.Code.{rowsOf};
 ghost use Rattle.analysis_steps.specs.Tree.{formOf};
 ghost use Rattle.analysis_steps.specs.Sets.{setOf};
 ghost use Rattle.analysis_steps.specs.Body.{AtLoop};
 ghost use Rattle.analysis_ways.specs.Heads.{HeadOf, isFor};
-ghost use Rattle.analysis_ways.specs.Ways.{CopiedAt, WatchedAt, SoleFrom, ChaseAt, LimitAt, WayFrom, WayAt};
+ghost use Rattle.analysis_ways.specs.Ways.{CopiedAt, WatchedAt, SoleFrom, HoldAt, ChaseAt, LimitAt, WayFrom, WayAt};
 
 // The test of a loop.
 pub struct LoopTest {
@@ -146,7 +146,6 @@ pub enum Way {
 
 // The tested variable's only row copies w.
 fn copied_way(
-    text: &[u8],
     rows: &[u32],
     count: usize,
     i: usize,
@@ -155,10 +154,12 @@ fn copied_way(
     before: bool,
     after: bool,
 ) -> Way
-    requires { ⌜ AtLoop (now text) (rowsOf (now rows)) count i × (w < 16) ⌝ }
-    ensures { λ r. ⌜ CopiedAt (now (text .entry)) (rowsOf (now (rows .entry))) count i comparison w before after r ⌝ }
+    requires { ⌜ ((text : List ℕ) × AtLoop text (rowsOf (now rows)) count i) × (w < 16) ⌝ }
+    ensures { λ r. do
+      ⌜ ((text : List ℕ) → AtLoop text (rowsOf (now (rows .entry))) count i → CopiedAt text
+          (rowsOf (now (rows .entry))) count i comparison w before after r) ⌝ }
 {
-    let body = body_moves(text, rows, count, i, w);
+    let body = body_moves(rows, count, i, w);
     let step = body.step;
     if copies(comparison, step, before, after) {
         return Way::Copied(w, before, step);
@@ -167,9 +168,11 @@ fn copied_way(
 }
 
 // Which way the while, do or for at row i goes, by the only row of its tested variable, which has no step of its own.
-fn sole_way(text: &[u8], rows: &[u32], count: usize, i: usize) -> Way
-    requires { ⌜ SoleFrom (now text) (rowsOf (now rows)) count i ⌝ }
-    ensures { λ r. ⌜ WayAt (now (text .entry)) (rowsOf (now (rows .entry))) count i r ⌝ }
+fn sole_way(rows: &[u32], count: usize, i: usize) -> Way
+    requires { ⌜ ((text : List ℕ) × SoleFrom text (rowsOf (now rows)) count i) ⌝ }
+    ensures { λ r. do
+      ⌜ ((text : List ℕ) → SoleFrom text (rowsOf (now (rows .entry))) count i → WayAt text
+          (rowsOf (now (rows .entry))) count i r) ⌝ }
 {
     let kind = kind_at(rows, i);
     if is_for(kind) {
@@ -177,10 +180,10 @@ fn sole_way(text: &[u8], rows: &[u32], count: usize, i: usize) -> Way
     }
     let head = head_of(kind);
     let comparison = head.comparison;
-    match sole_of(text, rows, count, i + 1, head.tested) {
+    match sole_of(rows, count, i + 1, head.tested) {
         Sole::Other => Way::Own,
         Sole::Reads(w, read, before, after) => match read {
-            Read::Copy => copied_way(text, rows, count, i, comparison, w, before, after),
+            Read::Copy => copied_way(rows, count, i, comparison, w, before, after),
             Read::Off(_, _) => Way::Own,
         },
     }
@@ -188,7 +191,6 @@ fn sole_way(text: &[u8], rows: &[u32], count: usize, i: usize) -> Way
 
 // The flag's only row is an off that compares w with k.
 fn watched_way(
-    text: &[u8],
     rows: &[u32],
     count: usize,
     i: usize,
@@ -198,10 +200,12 @@ fn watched_way(
     before: bool,
     after: bool,
 ) -> Way
-    requires { ⌜ AtLoop (now text) (rowsOf (now rows)) count i × (w < 16) ⌝ }
-    ensures { λ r. ⌜ WatchedAt (now (text .entry)) (rowsOf (now (rows .entry))) count i w comparison k before after r ⌝ }
+    requires { ⌜ ((text : List ℕ) × AtLoop text (rowsOf (now rows)) count i) × (w < 16) ⌝ }
+    ensures { λ r. do
+      ⌜ ((text : List ℕ) → AtLoop text (rowsOf (now (rows .entry))) count i → WatchedAt text
+          (rowsOf (now (rows .entry))) count i w comparison k before after r) ⌝ }
 {
-    let body = body_moves(text, rows, count, i, w);
+    let body = body_moves(rows, count, i, w);
     let step = body.step;
     if watches(comparison, step, before, after) {
         return Way::Watched(w, comparison, k, before, step);
@@ -210,40 +214,35 @@ fn watched_way(
 }
 
 // Which way the hold at row i goes, by the only row of its flag.
-fn hold_way(text: &[u8], rows: &[u32], count: usize, i: usize) -> Way
-    requires { do
-      ⌜ AtLoop (now text) (rowsOf (now rows)) count i × (isHold (formOf (now text) (kindAt (rowsOf (now rows)) i)) ≡ true) ⌝ }
-    ensures { λ r. ⌜ WayAt (now (text .entry)) (rowsOf (now (rows .entry))) count i r ⌝ }
+fn hold_way(rows: &[u32], count: usize, i: usize) -> Way
+    requires { ⌜ ((text : List ℕ) × HoldAt text (rowsOf (now rows)) count i) ⌝ }
+    ensures { λ r. do
+      ⌜ ((text : List ℕ) → HoldAt text (rowsOf (now (rows .entry))) count i → WayAt text
+          (rowsOf (now (rows .entry))) count i r) ⌝ }
 {
     let kind = kind_at(rows, i);
     let head = head_of(kind);
     let flag = head.tested;
-    match sole_of(text, rows, count, i + 1, flag) {
+    match sole_of(rows, count, i + 1, flag) {
         Sole::Other => Way::Broken,
         Sole::Reads(w, read, before, after) => match read {
             Read::Copy => Way::Broken,
-            Read::Off(c, k) => watched_way(text, rows, count, i, w, c, k, before, after),
+            Read::Off(c, k) => watched_way(rows, count, i, w, c, k, before, after),
         },
     }
 }
 
 // The limit is the variable w, which the body assigns; step: the tested variable's own.
-fn chased_way(
-    text: &[u8],
-    rows: &[u32],
-    count: usize,
-    i: usize,
-    head: LoopTest,
-    step: Step,
-    w: u8,
-) -> Way
-    requires { ⌜ ChaseAt (now text) (rowsOf (now rows)) count i head step w ⌝ }
-    ensures { λ r. ⌜ WayAt (now (text .entry)) (rowsOf (now (rows .entry))) count i r ⌝ }
+fn chased_way(rows: &[u32], count: usize, i: usize, head: LoopTest, step: Step, w: u8) -> Way
+    requires { ⌜ ((text : List ℕ) × ChaseAt text (rowsOf (now rows)) count i head step w) ⌝ }
+    ensures { λ r. do
+      ⌜ ((text : List ℕ) → ChaseAt text (rowsOf (now (rows .entry))) count i head step w → WayAt text
+          (rowsOf (now (rows .entry))) count i r) ⌝ }
 {
     if w == head.tested {
         return Way::Own;
     }
-    let body = body_moves(text, rows, count, i, w);
+    let body = body_moves(rows, count, i, w);
     let other = body.step;
     let comparison = head.comparison;
     if chases(comparison, step, other) {
@@ -253,41 +252,37 @@ fn chased_way(
 }
 
 // Which way the loop at row i goes, by its limit, which the body assigns; step: the tested variable's own, which is known.
-fn limit_way(text: &[u8], rows: &[u32], count: usize, i: usize, step: Step) -> Way
-    requires { ⌜ LimitAt (now text) (rowsOf (now rows)) count i step ⌝ }
-    ensures { λ r. ⌜ WayAt (now (text .entry)) (rowsOf (now (rows .entry))) count i r ⌝ }
+fn limit_way(rows: &[u32], count: usize, i: usize, step: Step) -> Way
+    requires { ⌜ ((text : List ℕ) × LimitAt text (rowsOf (now rows)) count i step) ⌝ }
+    ensures { λ r. do
+      ⌜ ((text : List ℕ) → LimitAt text (rowsOf (now (rows .entry))) count i step → WayAt text
+          (rowsOf (now (rows .entry))) count i r) ⌝ }
 {
     let kind = kind_at(rows, i);
     let head = head_of(kind);
     let limit = head.limit;
     match limit {
         Operand::Constant(_) => Way::Own,
-        Operand::Variable(w) => chased_way(text, rows, count, i, head, step, w),
+        Operand::Variable(w) => chased_way(rows, count, i, head, step, w),
         Operand::Expression(_, _) => Way::Own,
     }
 }
 
 // Which way the loop at row i goes; held: it is a hold; step: its tested variable's own; kept: the answer to question 10.
-pub fn way_of(
-    text: &[u8],
-    rows: &[u32],
-    count: usize,
-    i: usize,
-    held: bool,
-    step: Step,
-    kept: bool,
-) -> Way
-    requires { ⌜ WayFrom (now text) (rowsOf (now rows)) count i held step kept ⌝ }
-    ensures { λ r. ⌜ WayAt (now (text .entry)) (rowsOf (now (rows .entry))) count i r ⌝ }
+pub fn way_of(rows: &[u32], count: usize, i: usize, held: bool, step: Step, kept: bool) -> Way
+    requires { ⌜ ((text : List ℕ) × WayFrom text (rowsOf (now rows)) count i held step kept) ⌝ }
+    ensures { λ r. do
+      ⌜ ((text : List ℕ) → WayFrom text (rowsOf (now (rows .entry))) count i held step kept → WayAt text
+          (rowsOf (now (rows .entry))) count i r) ⌝ }
 {
     if held {
-        return hold_way(text, rows, count, i);
+        return hold_way(rows, count, i);
     }
     if !known(step) {
-        return sole_way(text, rows, count, i);
+        return sole_way(rows, count, i);
     }
     if kept {
         return Way::Own;
     }
-    limit_way(text, rows, count, i, step)
+    limit_way(rows, count, i, step)
 }

@@ -11,6 +11,7 @@ use Rattle.table.specs.Code.{kindAt, rowsOf}
 use Rattle.table.proofs.Laws.{row-in}
 use Rattle.analysis_steps.specs.Tree.{formOf, testOf}
 use Rattle.analysis_steps.specs.Body.{bodyAt}
+use Rattle.analysis_ways.specs.Ways.{WayFrom}
 use Rattle.analysis_intervals.specs.Env.{envOf}
 use Rattle.analysis_loops.proofs.Filling.{trip-is, near-is}
 use borrow.Author.Needs.{needs}
@@ -23,16 +24,16 @@ limit-written c =
     let s = c .before .before .before .before in
     c .head-of .ensures (now (s .args .text)) .written (rw (c .before .kind-at .ensures) (s .pre .0 .ready .written _ (s .pre .0 .inside)))
 
-way-of-requires : tie.Need-way-of-requires
-way-of-requires c κs =
-    let s = c .before .before .before .before .before .before .before .before in
-    let text = now (s .before .before .args .text) in
-    let rows = rowsOf (now (s .before .before .args .rows)) in
-    let body = bodyAt text rows (s .before .before .args .count) (s .before .before .args .i) in
+-- what is known of the loop when its way is asked
+way-from : (c : tie.After-is-hold) → let a = c .before .before .before .before .before .before .before .before .before .before .args in WayFrom (now (a .text)) (rowsOf (now (a .rows))) (a .count) (a .i) (c .is-hold .result) (c .before .before .before .before .before .body-moves .result .step) (c .before .keeps .result)
+way-from c =
+    let s = c .before .before .before .before .before .before .before .before .before .before in
+    let text = now (s .args .text) in
+    let body = bodyAt text (rowsOf (now (s .args .rows))) (s .args .count) (s .args .i) in
     let h = rw (c .before .before .before .before .before .before .before .kind-at .ensures) at (c .before .before .before .before .before .before .head-of .ensures text) in
-    let b = c .before .before .before .before .before .body-moves .ensures in
+    let b = c .before .before .before .before .before .body-moves .ensures text (s .pre .0) in
     record {
-      loop = s .before .before .pre .0;
+      loop = s .pre .0;
       form = c .is-hold .ensures text ∙ ap (λ d. isHold (formOf text d)) (c .before .before .before .before .before .before .before .kind-at .ensures);
       own = b .moves ∙ ap (λ v. step v body) (h .tested);
       near = b .near;
@@ -41,7 +42,8 @@ way-of-requires c κs =
 
 returns : tie.Need-returns
 returns c =
-    let a = c .before .before .before .before .before .before .before .before .before .before .before .before .before .args in
+    let s = c .before .before .before .before .before .before .before .before .before .before .before .before .before in
+    let a = s .args in
     let text = now (a .text) in
     let rows = rowsOf (now (a .rows)) in
     let k = kindAt rows (a .i) in
@@ -49,8 +51,8 @@ returns c =
     let ρ = envOf (now (a .begun)) in
     let same = c .before .before .before .before .before .before .before .before .before .before .kind-at .ensures in
     let h = rw same at (c .before .before .before .before .before .before .before .before .before .head-of .ensures text) in
-    let b = c .before .before .before .before .before .before .before .before .body-moves .ensures in
-    let way = c .before .before .way-of .ensures in
+    let b = c .before .before .before .before .before .before .before .before .body-moves .ensures text (s .pre .0) in
+    let way = c .before .before .way-of .ensures text (way-from (c .before .before .before)) in
     let r = c .trip-by .ensures in
     record {
       trip = r ∙ trip-is (formOf text k) ρ (testOf text k) body (c .before .before .way-of .result) (way .value) (way .moves) (c .before .is-do .ensures text ∙ ap (λ d. isDo (formOf text d)) same) (b .moves ∙ ap (λ v. step v body) (h .tested)) (h .comparison)
@@ -67,12 +69,12 @@ loop-at-spec =
     (tie.spec
     (λ c κs. row-in (now (c .before .before .args .rows)) _ (search needs))
     (λ c κs. rw (c .kind-at .ensures) (c .before .before .before .pre .0 .ready .fine _ (c .before .before .before .pre .0 .inside)))
-    (λ c κs. (c .before .before .before .before .pre .0, c .head-of .ensures [] .small))
+    (λ c κs. ((_, c .before .before .before .before .pre .0), c .head-of .ensures [] .small))
     (λ c κs. c .before .before .head-of .ensures [] .small)
     (λ c κs. (c .before .before .before .head-of .ensures [] .fine, limit-written (c .before .before .before), c .before .before .before .before .before .before .before .pre .1))
     (λ c κs. (c .before .before .before .before .head-of .ensures [] .fine, limit-written (c .before .before .before .before)))
     (λ c κs. search needs)
-    way-of-requires
+    (λ c κs. (_, way-from c))
     (λ c κs. search needs)
-    (λ c κs. c .before .way-of .ensures .small)
+    (λ c κs. c .before .way-of .ensures _ (way-from (c .before .before)) .small)
     returns)
