@@ -99,7 +99,9 @@ fn load_ranges(file: &[u8], at: usize, vars: usize, ranges: &mut [[i32; 2]; 16])
 // `vars=V` and on.
 fn load_vars(file: &[u8], at: usize, ranges: &mut [[i32; 2]; 16]) -> Head
     requires { ⌜ at ≤ length (now file) ⌝ }
-    ensures { λ r. ⌜ HeadRead (now (file .entry)) (thenLines (countLine varsKey 16 2 (fileLines (drop at (now (file .entry))))) rangePart) r (now (ranges .exit)) ⌝ }
+    ensures { λ r. do
+      ⌜ HeadRead (now (file .entry))
+          (thenLines (countLine varsKey 16 2 (fileLines (drop at (now (file .entry))))) rangePart) r (now (ranges .exit)) ⌝ }
 {
     let c = count_line(&file[at..], b"vars=", 16);
     match c {
@@ -110,7 +112,9 @@ fn load_vars(file: &[u8], at: usize, ranges: &mut [[i32; 2]; 16]) -> Head
 
 // The lines before the rows.
 pub fn load_head(file: &[u8], ranges: &mut [[i32; 2]; 16]) -> Head
-    ensures { λ r. ⌜ HeadRead (now (file .entry)) (fileScript (now (file .entry))) r (now (ranges .exit)) × NotTooLong (now (file .entry)) r ⌝ }
+    ensures { λ r. do
+      ⌜ HeadRead (now (file .entry)) (fileScript (now (file .entry))) r (now (ranges .exit))
+          × NotTooLong (now (file .entry)) r ⌝ }
 {
     if 16_384 < file.len() {
         return refused(2, 16_384);

@@ -14,7 +14,7 @@ use Rattle.rules.specs.declared.Word.{Word}
 use Rattle.rules.specs.declared.Word.the-variants.{Missing}
 use Rattle.rules.specs.Text.{prefixed, split, wordOf, wordsOf}
 use Rattle.reading_text.proofs.Laws.{stop-within}
-use Rattle.reading_text.specs.Words.{before, stops, stop, front, cutWord, HasEnd, parts, following, spelling, wordIn, textIn, Reads, LineRead}
+use Rattle.reading_text.specs.Words.{before, stops, stop, front, cutWord, HasEnd, parts, following, spelling, wordIn, textIn, Reads, LineRead, missingTag}
 use Rattle.reading_text.specs.declared.WordFound.{WordFound}
 
 -- a line's words: the word at the front, and those after the byte that ends it
@@ -155,7 +155,7 @@ pub record Filled (s : List ℕ) (at : ℕ) (tags : List ℕ) (values : List ℤ
   pub word : (k : ℕ) → k < i → wordIn (getD tags k 0) (getD values k (pos 0)) ≡ cutWord (following (drop at s) k)
   pub text : (k : ℕ) → k < i → textIn s (getD ends k 0) (getD ends (k + 1) 0) ≡ spelling (drop at s) k
   pub long : (k : ℕ) → getD ends k 0 ≤ length s
-  pub blank : (k : ℕ) → i ≤ k → k < 8 → (getD tags k 0 ≡ 21) × (getD ends (k + 1) 0 ≡ 0)
+  pub blank : (k : ℕ) → i ≤ k → k < 8 → (getD tags k 0 ≡ missingTag) × (getD ends (k + 1) 0 ≡ 0)
   pub sizes : (length tags ≡ 8) × (length values ≡ 8) × (length ends ≡ 9)
 
 blank-from : (x k n : ℕ) → k < n → getD (replicate n x) k 0 ≡ x
@@ -168,7 +168,7 @@ none-from k zero = refl
 none-from zero (suc n) = refl
 none-from (suc k) (suc n) = none-from k n
 
-pub filled-none : (s : List ℕ) (at : ℕ) → HasEnd (drop at s) → Filled s at (replicate 8 21) (replicate 8 (pos 0)) (set (replicate 9 0) 0 at) at 0
+pub filled-none : (s : List ℕ) (at : ℕ) → HasEnd (drop at s) → Filled s at (replicate 8 missingTag) (replicate 8 (pos 0)) (set (replicate 9 0) 0 at) at 0
 filled-none s at h = record {
   few = omega arith;
   reached = reach-none s at h;
@@ -176,7 +176,7 @@ filled-none s at h = record {
   word = λ k l. absurd (omega arith);
   text = λ k l. absurd (omega arith);
   long = λ k. go k;
-  blank = λ k _ l. (blank-from 21 k 8 l, rw (add-one k) (none-from k 8));
+  blank = λ k _ l. (blank-from missingTag k 8 l, rw (add-one k) (none-from k 8));
   sizes = (refl, refl, refl);
 }
   where

@@ -111,9 +111,21 @@ unfoldable pub variableWord : ℤ → Word
 variableWord (pos v) = Variable v
 variableWord (negsuc v) = Other
 
--- the word that a tag and a value say: 21 none, 22 a number, 23 a variable; below that the place of a keyword or comparison, and 20 any other word
+-- the tag of a word that is not there
+abbrev pub missingTag : ℕ
+missingTag = 21
+
+-- the tag of a number
+abbrev pub numberTag : ℕ
+numberTag = 22
+
+-- the tag of a variable
+abbrev pub variableTag : ℕ
+variableTag = 23
+
+-- the word that a tag and a value say; below those tags, a keyword's or comparison's place in the table, and after it any other word
 unfoldable pub wordIn : ℕ → ℤ → Word
-wordIn t z = cond (eqb t 21) Missing (cond (eqb t 22) (Number z) (cond (eqb t 23) (variableWord z) (wordAt keywords t)))
+wordIn t z = cond (eqb t missingTag) Missing (cond (eqb t numberTag) (Number z) (cond (eqb t variableTag) (variableWord z) (wordAt keywords t)))
 
 -- the word at the front of a text is read, its number cut off
 pub record Reads (s : List ℕ) (r : WordFound) : Type 0 where

@@ -7,7 +7,7 @@ use mir.Facts.{toZ-ofZ}
 use borrow.Author.Tests.{ne-eqb}
 use native.Mathlib.Omega.{arith}
 use Rattle.ints.proofs.Parts.{ints, abs-parts}
-use Rattle.reading_text.specs.Words.{keywords, wordAt, wordIn}
+use Rattle.reading_text.specs.Words.{keywords, wordAt, wordIn, missingTag, numberTag, variableTag}
 use Rattle.reading_text.proofs.Keywords.{word-past, is-variable, no-variable}
 use Rattle.reading_text.proofs.said.Statement.{statement}
 use Rattle.reading_text.proofs.said.Tie as tie
@@ -36,7 +36,7 @@ returns-25 c = let r = c .match .rest in
     let b : 12 ≤ c .before .args .tag = omega (arith, r .0 .0 .0 .0 .0 .0 .0 .0 .0 .0 .0 .0 .0 .0 .0 .0 .1, r .0 .0 .0 .0 .0 .0 .0 .0 .0 .0 .0 .0 .0 .0 .0 .1, r .0 .0 .0 .0 .0 .0 .0 .0 .0 .0 .0 .0 .0 .0 .1, r .0 .0 .0 .0 .0 .0 .0 .0 .0 .0 .0 .0 .0 .1, r .0 .0 .0 .0 .0 .0 .0 .0 .0 .0 .0 .0 .1, r .0 .0 .0 .0 .0 .0 .0 .0 .0 .0 .0 .1) in
     let d : 18 ≤ c .before .args .tag = omega (arith, r .0 .0 .0 .0 .0 .0 .0 .0 .0 .0 .1, r .0 .0 .0 .0 .0 .0 .0 .0 .0 .1, r .0 .0 .0 .0 .0 .0 .0 .0 .1, r .0 .0 .0 .0 .0 .0 .0 .1, r .0 .0 .0 .0 .0 .0 .1, r .0 .0 .0 .0 .0 .1) in
     let h : 20 ≤ c .before .args .tag = omega (arith, r .0 .0 .0 .0 .1, r .0 .0 .0 .1) in
-    rw (ne-eqb _ 21 (r .0 .0 .1), ne-eqb _ 22 (r .0 .1), ne-eqb _ 23 (r .1), word-past keywords _ h)
+    rw (ne-eqb _ missingTag (r .0 .0 .1), ne-eqb _ numberTag (r .0 .1), ne-eqb _ variableTag (r .1), word-past keywords _ h)
 
 pub said-spec : {M : Type 1} → statement M
 unfolding keywords wordAt wordIn
