@@ -26,7 +26,7 @@ use rules::Word;
 ghost use mathlib.Core.Path.{_≡_};
 ghost use mathlib.Core.Bool.{cond};
 ghost use mathlib.Core.List.{[]};
-ghost use Prim.Native.Nat.{_+_, _≤_};
+ghost use Prim.Native.Nat.{ℕ, _+_, _≤_};
 ghost use lib.ListN.{length, drop};
 ghost use Rattle.rules.specs.File.{bareRow, setRow, moveRow, offRow, cueRow, whileRow, doRow, forRow, holdRow, namedRow};
 ghost use Rattle.rules.specs.Blocks.{kindOf};
@@ -41,9 +41,9 @@ pub enum RowLine {
 }
 
 // `pick`, `else`, `end`
-fn bare_row(line: LineWords, vars: u32, kind: Kind) -> RowLine
+fn bare_row(line: LineWords, kind: Kind) -> RowLine
     requires { ⌜ Bare kind ⌝ }
-    ensures { λ r. ⌜ LineRow line (λ w x. bareRow vars w x (kindOf [] kind)) r ⌝ }
+    ensures { λ r. ⌜ ((vars : ℕ) → LineRow line (λ w x. bareRow vars w x (kindOf [] kind)) r) ⌝ }
 {
     let q = asks_end(word(line, 1));
     if q == 0 {
@@ -61,7 +61,7 @@ fn set_row(s: &[u8], line: LineWords, base: usize, vars: u32) -> RowLine
     let last = first_refusal(asks_expression(s, line, 2, vars), asks_end(word(line, 3)));
     let q = first_refusal(asks_variable(vars, v), last);
     if q == 0 {
-        let kind = Kind::Set(variable_of(vars, v), operand_of(base, line, 2));
+        let kind = Kind::Set(variable_of(v), operand_of(base, line, 2));
         return RowLine::Read(kind, line.end);
     }
     RowLine::Wrong(q)
@@ -77,7 +77,7 @@ fn move_row(line: LineWords, vars: u32, name: Name) -> RowLine
     let last = first_refusal(asks_change(name, x), asks_end(word(line, 3)));
     let q = first_refusal(asks_variable(vars, v), last);
     if q == 0 {
-        let kind = Kind::Move(variable_of(vars, v), change_of(name, x));
+        let kind = Kind::Move(variable_of(v), change_of(name, x));
         return RowLine::Read(kind, line.end);
     }
     RowLine::Wrong(q)
@@ -98,8 +98,8 @@ fn off_row(line: LineWords, vars: u32) -> RowLine
     let rest = first_refusal(asks_variable(vars, w), test);
     let q = first_refusal(asks_variable(vars, v), rest);
     if q == 0 {
-        let flag = variable_of(vars, v);
-        let watched = variable_of(vars, w);
+        let flag = variable_of(v);
+        let watched = variable_of(w);
         let kind = Kind::Off(flag, watched, comparison_of(o), number_of(k));
         return RowLine::Read(kind, line.end);
     }
@@ -107,8 +107,8 @@ fn off_row(line: LineWords, vars: u32) -> RowLine
 }
 
 // `cue N`
-fn cue_row(line: LineWords, vars: u32) -> RowLine
-    ensures { λ r. ⌜ LineRow line (cueRow vars) r ⌝ }
+fn cue_row(line: LineWords) -> RowLine
+    ensures { λ r. ⌜ ((vars : ℕ) → LineRow line (cueRow vars) r) ⌝ }
 {
     let n = word(line, 1);
     let q = first_refusal(asks_number(0, 9_999, n), asks_end(word(line, 2)));
@@ -141,7 +141,7 @@ fn test_row(s: &[u8], line: LineWords, base: usize, vars: u32, after: bool) -> R
     let q = first_refusal(asks_variable(vars, v), rest);
     if q == 0 {
         let limit = operand_of(base, line, 3);
-        let kind = test(after, variable_of(vars, v), comparison_of(o), limit);
+        let kind = test(after, variable_of(v), comparison_of(o), limit);
         return RowLine::Read(kind, line.end);
     }
     RowLine::Wrong(q)
@@ -165,7 +165,7 @@ fn for_row(s: &[u8], line: LineWords, base: usize, vars: u32) -> RowLine
         let start = operand_of(base, line, 2);
         let limit = operand_of(base, line, 4);
         let step = step_of(n, z);
-        let kind = Kind::For(variable_of(vars, v), start, comparison_of(o), limit, step);
+        let kind = Kind::For(variable_of(v), start, comparison_of(o), limit, step);
         return RowLine::Read(kind, line.end);
     }
     RowLine::Wrong(q)
@@ -179,7 +179,7 @@ fn hold_row(line: LineWords, vars: u32) -> RowLine
     let v = word(line, 1);
     let q = first_refusal(asks_variable(vars, v), asks_end(word(line, 2)));
     if q == 0 {
-        let kind = Kind::Hold(variable_of(vars, v));
+        let kind = Kind::Hold(variable_of(v));
         return RowLine::Read(kind, line.end);
     }
     RowLine::Wrong(q)
@@ -196,10 +196,10 @@ fn named_row(s: &[u8], line: LineWords, base: usize, vars: u32, name: Name) -> R
         Name::Sub => move_row(line, vars, name),
         Name::Mul => move_row(line, vars, name),
         Name::Div => move_row(line, vars, name),
-        Name::Cue => cue_row(line, vars),
-        Name::Pick => bare_row(line, vars, Kind::Pick),
-        Name::Else => bare_row(line, vars, Kind::Else),
-        Name::End => bare_row(line, vars, Kind::End),
+        Name::Cue => cue_row(line),
+        Name::Pick => bare_row(line, Kind::Pick),
+        Name::Else => bare_row(line, Kind::Else),
+        Name::End => bare_row(line, Kind::End),
         Name::While => test_row(s, line, base, vars, false),
         Name::Do => test_row(s, line, base, vars, true),
         Name::For => for_row(s, line, base, vars),

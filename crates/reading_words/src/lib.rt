@@ -8,7 +8,7 @@ use rules::Name;
 use rules::Operand;
 use rules::Word;
 ghost use mathlib.Core.Path.{_≡_};
-ghost use Prim.Native.Nat.{_≤_, _<_};
+ghost use Prim.Native.Nat.{ℕ, _≤_, _<_};
 ghost use lib.ListN.{length};
 ghost use lib.IntN.{pos, natAbs};
 ghost use Rattle.rules.specs.Values.{highest};
@@ -169,8 +169,8 @@ pub fn amount(w: Word) -> u32
 }
 
 // The variable that a word says.
-pub fn variable_of(vars: u32, w: Word) -> u8
-    requires { ⌜ (vars ≤ 16) × (asksVariable vars w ≡ 0) ⌝ }
+pub fn variable_of(w: Word) -> u8
+    requires { ⌜ ((vars : ℕ) × (vars ≤ 16) × (asksVariable vars w ≡ 0)) ⌝ }
     ensures { λ r. ⌜ r ≡ variableOf w ⌝ }
 {
     match w {

@@ -13,11 +13,11 @@ asked c = rw (c .asks-end .ensures, c .before .word .ensures)
 
 returns : tie.Need-returns
 unfolding bareRow
-returns c = λ s base. line-read s base _ _ _ _ (asked (c .before)) _ (c .if1 .taken) λ file d. bare-says _ (c .before .before .before .pre) file
+returns c = λ vars s base. line-read s base _ _ _ _ (asked (c .before)) _ (c .if1 .taken) λ file d. bare-says _ (c .before .before .before .pre) file
 
 returns-2 : tie.Need-returns-2
 unfolding bareRow
-returns-2 c = λ s base. line-wrong s base _ _ _ _ (asked (c .before)) (c .if1 .left)
+returns-2 c = λ vars s base. line-wrong s base _ _ _ _ (asked (c .before)) (c .if1 .left)
 
 pub bare-row-spec : {M : Type 1} → statement M
 bare-row-spec =

@@ -23,11 +23,11 @@ amount-requires c κs = number-wider (pos 0) (pos 9_999) (pos 0) highest (c .bef
 
 returns : tie.Need-returns
 unfolding cueRow kindOf
-returns c = λ s base. line-read s base _ _ _ _ (asked (c .before .before)) _ (c .before .if1 .taken) λ file d. (rw (c .amount .ensures, c .before .before .before .before .before .before .word .ensures), tt)
+returns c = λ vars s base. line-read s base _ _ _ _ (asked (c .before .before)) _ (c .before .if1 .taken) λ file d. (rw (c .amount .ensures, c .before .before .before .before .before .before .word .ensures), tt)
 
 returns-2 : tie.Need-returns-2
 unfolding cueRow
-returns-2 c = λ s base. line-wrong s base _ _ _ _ (asked (c .before)) (c .if1 .left)
+returns-2 c = λ vars s base. line-wrong s base _ _ _ _ (asked (c .before)) (c .if1 .left)
 
 pub cue-row-spec : {M : Type 1} → statement M
 cue-row-spec =

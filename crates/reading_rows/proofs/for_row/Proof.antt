@@ -32,7 +32,7 @@ step-of-requires : tie.Need-step-of-requires
 step-of-requires c κs = rw (c .before .before .before .before .before .before .before .before .before .before .before .before .before .before .before .before .word3 .ensures, c .before .before .before .before .before .before .before .before .before .before .before .before .before .before .before .word4 .ensures) (for-yes _ _ _ _ (asked (c .before .before .before)) (c .before .before .if1 .taken) .3)
 
 variable-of-requires : tie.Need-variable-of-requires
-variable-of-requires c κs = (c .before .before .before .before .before .before .before .before .before .before .before .before .before .before .before .before .before .before .before .before .before .pre .0 .few, rw (c .before .before .before .before .before .before .before .before .before .before .before .before .before .before .before .before .before .before .before .word .ensures) (for-yes _ _ _ _ (asked (c .before .before .before .before)) (c .before .before .before .if1 .taken) .0))
+variable-of-requires c κs = (_, c .before .before .before .before .before .before .before .before .before .before .before .before .before .before .before .before .before .before .before .before .before .pre .0 .few, rw (c .before .before .before .before .before .before .before .before .before .before .before .before .before .before .before .before .before .before .before .word .ensures) (for-yes _ _ _ _ (asked (c .before .before .before .before)) (c .before .before .before .if1 .taken) .0))
 
 returns : tie.Need-returns
 unfolding forRow kindOf

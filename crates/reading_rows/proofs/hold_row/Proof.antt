@@ -14,7 +14,7 @@ asked : (c : tie.After-first-refusal) → let a = c .before .before .before .bef
 asked c = rw (c .first-refusal .ensures, c .before .asks-end .ensures, c .before .before .word2 .ensures, c .before .before .before .asks-variable .ensures, c .before .before .before .before .word .ensures)
 
 variable-of-requires : tie.Need-variable-of-requires
-variable-of-requires c κs = (c .before .before .before .before .before .before .pre, rw (c .before .before .before .before .before .word .ensures) (refusal-yes _ _ (sym (asked (c .before)) ∙ c .if1 .taken) .0))
+variable-of-requires c κs = (_, c .before .before .before .before .before .before .pre, rw (c .before .before .before .before .before .word .ensures) (refusal-yes _ _ (sym (asked (c .before)) ∙ c .if1 .taken) .0))
 
 returns : tie.Need-returns
 unfolding holdRow kindOf

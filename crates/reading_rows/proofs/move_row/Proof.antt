@@ -13,7 +13,7 @@ asked : (c : tie.After-first-refusal2) → let a = c .before .before .before .be
 asked c = rw (c .first-refusal2 .ensures, c .before .asks-variable .ensures, c .before .before .first-refusal .ensures, c .before .before .before .asks-end .ensures, c .before .before .before .before .word3 .ensures, c .before .before .before .before .before .asks-change .ensures, c .before .before .before .before .before .before .word2 .ensures, c .before .before .before .before .before .before .before .word .ensures)
 
 variable-of-requires : tie.Need-variable-of-requires
-variable-of-requires c κs = (c .before .before .before .before .before .before .before .before .before .pre, rw (c .before .before .before .before .before .before .before .before .word .ensures) (two-yes _ _ _ _ (asked (c .before)) (c .if1 .taken) .0))
+variable-of-requires c κs = (_, c .before .before .before .before .before .before .before .before .before .pre, rw (c .before .before .before .before .before .before .before .before .word .ensures) (two-yes _ _ _ _ (asked (c .before)) (c .if1 .taken) .0))
 
 change-of-requires : tie.Need-change-of-requires
 change-of-requires c κs = rw (c .before .before .before .before .before .before .before .before .word2 .ensures) (two-yes _ _ _ _ (asked (c .before .before)) (c .before .if1 .taken) .1)

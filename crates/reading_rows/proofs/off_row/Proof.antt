@@ -16,10 +16,10 @@ unfolding lowest highest
 asked c = rw (c .first-refusal4 .ensures, c .before .asks-variable2 .ensures, c .before .before .first-refusal3 .ensures, c .before .before .before .asks-variable .ensures, c .before .before .before .before .first-refusal2 .ensures, c .before .before .before .before .before .asks-ordered .ensures, c .before .before .before .before .before .before .first-refusal .ensures, c .before .before .before .before .before .before .before .asks-end .ensures, c .before .before .before .before .before .before .before .before .word5 .ensures, c .before .before .before .before .before .before .before .before .before .asks-number .ensures, c .before .before .before .before .before .before .before .before .before .before .word4 .ensures, c .before .before .before .before .before .before .before .before .before .before .before .word3 .ensures, c .before .before .before .before .before .before .before .before .before .before .before .before .word2 .ensures, c .before .before .before .before .before .before .before .before .before .before .before .before .before .word .ensures)
 
 variable-of-requires : tie.Need-variable-of-requires
-variable-of-requires c κs = (c .before .before .before .before .before .before .before .before .before .before .before .before .before .before .before .pre, rw (c .before .before .before .before .before .before .before .before .before .before .before .before .before .before .word .ensures) (four-yes _ _ _ _ _ _ (asked (c .before)) (c .if1 .taken) .0))
+variable-of-requires c κs = (_, c .before .before .before .before .before .before .before .before .before .before .before .before .before .before .before .pre, rw (c .before .before .before .before .before .before .before .before .before .before .before .before .before .before .word .ensures) (four-yes _ _ _ _ _ _ (asked (c .before)) (c .if1 .taken) .0))
 
 variable-of-requires-2 : tie.Need-variable-of-requires-2
-variable-of-requires-2 c κs = (c .before .before .before .before .before .before .before .before .before .before .before .before .before .before .before .before .pre, rw (c .before .before .before .before .before .before .before .before .before .before .before .before .before .before .word2 .ensures) (four-yes _ _ _ _ _ _ (asked (c .before .before)) (c .before .if1 .taken) .1))
+variable-of-requires-2 c κs = (_, c .before .before .before .before .before .before .before .before .before .before .before .before .before .before .before .before .pre, rw (c .before .before .before .before .before .before .before .before .before .before .before .before .before .before .word2 .ensures) (four-yes _ _ _ _ _ _ (asked (c .before .before)) (c .before .if1 .taken) .1))
 
 returns : tie.Need-returns
 unfolding offRow kindOf

@@ -16,7 +16,7 @@ asked : (c : tie.After-first-refusal2) → let a = c .before .before .before .be
 asked c = rw (c .first-refusal2 .ensures, c .before .asks-variable .ensures, c .before .before .first-refusal .ensures, c .before .before .before .asks-end .ensures, c .before .before .before .before .word2 .ensures, c .before .before .before .before .before .asks-expression .ensures, c .before .before .before .before .before .before .word .ensures)
 
 variable-of-requires : tie.Need-variable-of-requires
-variable-of-requires c κs = (c .before .before .before .before .before .before .before .before .before .pre .0 .few, rw (c .before .before .before .before .before .before .before .word .ensures) (two-yes _ _ _ _ (asked (c .before)) (c .if1 .taken) .0))
+variable-of-requires c κs = (_, c .before .before .before .before .before .before .before .before .before .pre .0 .few, rw (c .before .before .before .before .before .before .before .word .ensures) (two-yes _ _ _ _ (asked (c .before)) (c .if1 .taken) .0))
 
 operand-of-requires : tie.Need-operand-of-requires
 operand-of-requires c κs = (omega arith, operand-fits (c .before .before .before .before .before .before .before .before .before .before .pre .0) 2 (omega arith) _ (two-yes _ _ _ _ (asked (c .before .before)) (c .before .if1 .taken) .1) (c .before .before .before .before .before .before .before .before .before .before .pre .1))

@@ -19,7 +19,7 @@ operand-of-requires : tie.Need-operand-of-requires
 operand-of-requires c κs = (omega arith, operand-fits (c .before .before .before .before .before .before .before .before .before .before .before .before .pre .0) 3 (omega arith) _ (test-yes _ _ _ _ (asked (c .before)) (c .if1 .taken) .1) (c .before .before .before .before .before .before .before .before .before .before .before .before .pre .1))
 
 variable-of-requires : tie.Need-variable-of-requires
-variable-of-requires c κs = (c .before .before .before .before .before .before .before .before .before .before .before .before .before .pre .0 .few, rw (c .before .before .before .before .before .before .before .before .before .before .before .word .ensures) (test-yes _ _ _ _ (asked (c .before .before)) (c .before .if1 .taken) .0))
+variable-of-requires c κs = (_, c .before .before .before .before .before .before .before .before .before .before .before .before .before .pre .0 .few, rw (c .before .before .before .before .before .before .before .before .before .before .before .word .ensures) (test-yes _ _ _ _ (asked (c .before .before)) (c .before .if1 .taken) .0))
 
 returns : tie.Need-returns
 returns c = let e = asked (c .before .before .before .before .before) in

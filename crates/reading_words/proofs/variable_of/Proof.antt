@@ -5,7 +5,7 @@ use Rattle.reading_words.proofs.variable_of.Statement.{statement}
 use Rattle.reading_words.proofs.variable_of.Tie as tie
 
 cast-result : tie.Need-cast-result
-cast-result c = omega (arith, small-variable _ _ (c .before .before .before .pre .0) (rw (c .before .w .given .1) at (c .before .before .before .pre .1)))
+cast-result c = omega (arith, small-variable _ _ (c .before .before .before .pre .1) (rw (c .before .w .given .1) at (c .before .before .before .pre .2)))
 
 returns-2 : tie.Need-returns-2
 returns-2 c = no-variable (c .before .args .w) (c .match .keys2) .1
