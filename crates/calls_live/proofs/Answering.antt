@@ -29,8 +29,8 @@ use Rattle.run_actions.specs.declared.Status.the-variants.{Going, Over}
 use Rattle.run_actions.specs.States.{tallyOf, placeOf}
 use Rattle.run_machine.specs.Steps.{scriptIn, EndsLoop}
 use Rattle.run_machine.proofs.Rows.{size-is}
-use Rattle.run_live.specs.declared.Stop.{Stop as Stopped}
-use Rattle.run_live.specs.Goes.{stoodBy}
+use Rattle.runner.specs.declared.live.Stop.{Stop as Stopped}
+use Rattle.runner.specs.Goes.{stoodBy}
 use Rattle.run_loops.specs.declared.Loops.{Loops}
 use Rattle.run_loops.specs.Loops.{HeadCounts}
 use Rattle.live_state.specs.declared.Standing.{Standing}

@@ -30,8 +30,8 @@ use Rattle.table.proofs.Pairing.{heads-rise}
 use Rattle.run_machine.specs.Steps.{scriptIn, Room, EndsLoop}
 use Rattle.run_machine.proofs.Rows.{size-is, partner-of}
 use Rattle.runner.specs.Runs.{placeIn, RoomToEnd, MayGo}
-use Rattle.run_live.specs.declared.Stop.{Stop as Stopped}
-use Rattle.run_live.specs.Goes.{stoodBy, WentLive}
+use Rattle.runner.specs.declared.live.Stop.{Stop as Stopped}
+use Rattle.runner.specs.Goes.{stoodBy, WentLive}
 use Rattle.live_state.specs.Numbers.{dueNumber}
 use Rattle.calls_live.specs.declared.Settled.{Settled}
 use Rattle.calls_live.specs.Plays.{AtPick, ByteTaken, readyBy, Readied, stopFrom, MayPlay, Played, SettledAs}

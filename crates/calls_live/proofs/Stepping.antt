@@ -24,7 +24,7 @@ use Rattle.run_actions.specs.declared.Machine.{Machine}
 use Rattle.run_actions.specs.declared.Status.{Status}
 use Rattle.run_actions.specs.declared.Status.the-variants.{Going, Over}
 use Rattle.run_actions.specs.States.{phaseOf, stateOf, placeOf, isGoing}
-use Rattle.run_live.specs.Goes.{stoodBy}
+use Rattle.runner.specs.Goes.{stoodBy}
 use Rattle.live_state.specs.Numbers.{dueIn, statusIn, givenAt}
 use Rattle.calls_live.specs.Plays.{readyBy, stopFrom, rowStopped}
 

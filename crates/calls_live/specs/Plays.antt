@@ -22,8 +22,8 @@ use Rattle.run_actions.specs.declared.Status.the-variants.{Going, Over}
 use Rattle.run_actions.specs.States.{tallyOf, stateOf, placeOf, nextOf, isGoing}
 use Rattle.run_machine.specs.Steps.{scriptIn, Runs, Room, EndsLoop}
 use Rattle.runner.specs.Runs.{placeIn}
-use Rattle.run_live.specs.declared.Stop.{Stop as Stopped}
-use Rattle.run_live.specs.Goes.{stoodBy}
+use Rattle.runner.specs.declared.live.Stop.{Stop as Stopped}
+use Rattle.runner.specs.Goes.{stoodBy}
 use Rattle.live_state.specs.Numbers.{dueNumber}
 use Rattle.calls_live.specs.declared.Settled.{Settled}
 

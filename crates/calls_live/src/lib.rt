@@ -14,8 +14,9 @@ use rules::Prices;
 use rules::Verdict;
 use run_actions::Machine;
 use run_actions::Status;
-use run_live::Stop;
 use run_loops::NO_COUNT;
+use runner::live::Begin;
+use runner::live::Stop;
 use table::PricedRows;
 ghost use mathlib.Core.Path.{_≡_};
 ghost use mathlib.Core.Bool.{false};
@@ -94,7 +95,11 @@ fn play(
             full: false,
         };
     }
-    run_live::go_on(text, rows, script, m, store, picks, counts, cues)
+    let begin = Begin {
+        machine: m,
+        listed: true,
+    };
+    runner::live::go_on(text, rows, script, begin, store, picks, counts, cues)
 }
 
 // How a step leaves a script: status and row as they are answered, the row where it stands, whether a test is due there, what it keeps.

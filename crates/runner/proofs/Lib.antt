@@ -1,4 +1,6 @@
-pub mod Tests
+-- The run, from its start or on from where it paused.
+pub mod Limits
 pub mod Loop
 pub mod Start
-pub mod Limits
+pub mod Tests
+pub mod Goes

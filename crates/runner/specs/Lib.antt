@@ -1,3 +1,4 @@
--- The run in code, as `rules` has it.
-pub mod Runs
+-- The run, from its start or on from where it paused.
 pub mod Answered
+pub mod Runs
+pub mod Goes

@@ -1,8 +1,12 @@
 // The run of a script: the machine from its start to its end, and its answer.
+pub mod live;
+
+use live::Begin;
 use rules::Ending;
 use rules::Prices;
 use run_actions::Machine;
 use run_actions::Status;
+use table::PricedRows;
 ghost use mathlib.Core.Path.{_≡_};
 ghost use Prim.Native.Nat.{_+_, _≤_, _<_, _^_};
 ghost use Rattle.run_machine.specs.Steps.{scriptIn};
@@ -25,21 +29,14 @@ pub fn resume(
       ⌜ WentOn prices (scriptIn (now (text .entry)) (now (rows .entry)) count) from r (now (store .entry)) (now (store .exit))
           (now (picks .entry)) (now (counts .entry)) (now (counts .exit)) ⌝ }
 {
-    let mut m = from;
-    let mut limits = [run_machine::NOT_KEPT; 16];
-    loop {
-        if m.testing {
-            m = run_machine::test_row(m, rows, prices, text, &store[..], counts, &mut limits);
-        } else {
-            if count <= m.row {
-                return run_actions::ended(m, m.left, Ending::Ended, count);
-            }
-            m = run_machine::act(m, rows, prices, text, store, picks, counts);
-        }
-        if !run_actions::going(m) {
-            return m;
-        }
-    }
+    let begin = Begin {
+        machine: from,
+        listed: false,
+    };
+    let script = PricedRows { prices, count };
+    let mut none = [0u32; 0];
+    let stop = live::go_on(text, rows, script, begin, store, picks, counts, &mut none);
+    stop.machine
 }
 
 // A machine that waits gets q ticks more.

@@ -1,5 +1,5 @@
 -- `calls_live::play` meets its contract. Assumes nothing.
-use mathlib.Core.Path.{sym, _∙_}
+use mathlib.Core.Path.{refl, sym, _∙_}
 use borrow.Author.Tests.{not-true, not-false}
 use Rattle.calls_live.proofs.Playing.{at-pick, stays-over, may-go, goes-far}
 use borrow.Author.Needs.{needs}
@@ -16,4 +16,4 @@ play-spec =
     (λ c. stays-over (c .before .before .before .before .before .before .before .pre) _ (c .before .before .ready .ensures) _ (sym (c .before .going .ensures) ∙ not-true _ (c .if1 .taken)))
     (λ c κs. may-go (c .before .before .before .before .before .before .before .before .before .before .pre) _ (c .before .before .before .before .before .ready .ensures) (sym (c .before .before .before .before .going .ensures) ∙ not-false _ (c .before .before .before .if1 .left)))
     (λ c. search needs) (λ c. search needs)
-    (λ c. goes-far (c .before .before .before .before .before .before .before .before .before .before .before .before .before .before .pre) _ (c .before .before .before .before .before .before .before .before .before .ready .ensures) (sym (c .before .before .before .before .before .before .before .before .going .ensures) ∙ not-false _ (c .before .before .before .before .before .before .before .if1 .left)) _ _ _ _ _ (c .before .before .before .go-on .ensures)))
+    (λ c. goes-far (c .before .before .before .before .before .before .before .before .before .before .before .before .before .before .pre) _ (c .before .before .before .before .before .before .before .before .before .ready .ensures) (sym (c .before .before .before .before .before .before .before .before .going .ensures) ∙ not-false _ (c .before .before .before .before .before .before .before .if1 .left)) _ _ _ _ _ (c .before .before .before .go-on .ensures .live refl)))

@@ -34,9 +34,9 @@ use Rattle.run_machine.specs.Steps.{scriptIn, Runs, Room, stepOf, Stepped}
 use Rattle.run_machine.proofs.Rows.{kind-op, row-is, size-is}
 use Rattle.rules.proofs.Laws.{no-true}
 use Rattle.rules_frames.proofs.Resumed.{waits-next}
 use Rattle.runner.specs.Runs.{placeIn, MayGo, WentOn}
-use Rattle.run_live.specs.declared.Stop.{Stop as Stop′}
-use Rattle.run_live.specs.Goes.{WentLive, cueOp, CuePut, no-cue, dear, last, no-room, stoodBy}
+use Rattle.runner.specs.declared.live.Stop.{Stop as Stop′}
+use Rattle.runner.specs.Goes.{WentLive, cueOp, CuePut, no-cue, unlisted, dear, last, no-room, stoodBy}
 
 -- ---- the cue of a row, by its op
 not-cue : (text : List ℕ) (op : ℕ) (n : List ℕ) → (op ≡ cueOp → ⊥) → cueOf (viewOf (kindOf text (kindBy (tagIn op) n))) ≡ []
@@ -167,8 +167,8 @@ stopped-at f e = record { few = f .few; long = f .long; rest = f .rest; stop = e
 module _ (π : Prices) (some-ticks : 1 ≤ π .test) {text t : List ℕ} {count vars : ℕ} (s : Runs text t count vars)
     (fit : Partners (scriptIn text t count) (pairs (scriptIn text t count) (length (scriptIn text t count)) .end) (pairs (scriptIn text t count) (length (scriptIn text t count)) .head))
     (start : Place) (m : Machine) (store : List ℤ) (picks : List ℕ) (counts : List (List ℕ)) (inside : m .row < count)
-    (cues₀ cues cues′ : List ℕ) (fired r : ℕ) (now : Firing π (scriptIn text t count) start (placeIn (scriptIn text t count) m store picks counts) cues₀ cues fired)
-    (put : CuePut t (π .cue) m cues cues′ fired r) where
+    (cues₀ cues cues′ : List ℕ) (fired r : ℕ) (b : Bool) (now : Firing π (scriptIn text t count) start (placeIn (scriptIn text t count) m store picks counts) cues₀ cues fired)
+    {listed : Bool} (is : listed ≡ true) (put : CuePut listed t (π .cue) m cues cues′ fired r b) where
   abbrev rows : List RowKind
   rows = scriptIn text t count
 
@@ -178,32 +178,52 @@ module _ (π : Prices) (some-ticks : 1 ≤ π .test) {text t : List ℕ} {count 
   in-rows : m .row < length rows
   in-rows = subst (λ n. m .row < n) (sym (size-is s)) inside
 
-  pub row-on : r ≤ length cues′ → (w : Place) → stepOf π rows here ≡ more w → Firing π rows start w cues₀ cues′ r
+  pub row-on : b ≡ false → (w : Place) → stepOf π rows here ≡ more w → Firing π rows start w cues₀ cues′ r
   row-on l w q = by put
     where
-      by : CuePut t (π .cue) m cues cues′ fired r → Firing π rows start w cues₀ cues′ r
-      by (no-cue f e c) = rw (e, c) (no-cue-on π some-ticks rows fit start here cues₀ cues fired now (no-cue-view s (m .row) inside f) w q)
-      by (dear o k e c) = absurd (cue-dear π rows _ _ here _ in-rows (cue-view s (m .row) inside o) k w q)
-      by (last o k f e c) = rw (e, c) (cue-on π some-ticks rows fit start here cues₀ cues fired now _ in-rows (cue-view s (m .row) inside o) (omega (arith, now .long)) w q)
-      by (no-room o k f e c) = absurd (omega (arith, ap length c))
+      by : CuePut listed t (π .cue) m cues cues′ fired r b → Firing π rows start w cues₀ cues′ r
+      by (no-cue f e _ c) = rw (e, c) (no-cue-on π some-ticks rows fit start here cues₀ cues fired now (no-cue-view s (m .row) inside f) w q)
+      by (unlisted z e _ c) = no-true (sym z ∙ is)
+      by (dear o k e _ c) = absurd (cue-dear π rows _ _ here _ in-rows (cue-view s (m .row) inside o) k w q)
+      by (last o k f e _ c) = rw (e, c) (cue-on π some-ticks rows fit start here cues₀ cues fired now _ in-rows (cue-view s (m .row) inside o) (omega (arith, now .long)) w q)
+      by (no-room _ o k f e c) = no-true (sym l ∙ e)
 
-  pub row-over : r ≤ length cues′ → (e : Ending) (i : ℕ) (u : State) (c : TurnCounts) → stepOf π rows here ≡ over e i u c → Stopped π rows start cues₀ cues′ r (stopsAt here e i u c)
+  pub row-over : b ≡ false → (e : Ending) (i : ℕ) (u : State) (c : TurnCounts) → stepOf π rows here ≡ over e i u c → Stopped π rows start cues₀ cues′ r (stopsAt here e i u c)
   row-over l e i u c q = by put
     where
-      by : CuePut t (π .cue) m cues cues′ fired r → Stopped π rows start cues₀ cues′ r (stopsAt here e i u c)
-      by (no-cue f x y) = rw (x, y) (stopped-at now (no-cue-over π some-ticks rows fit start here cues₀ cues fired now (no-cue-view s (m .row) inside f) e i u c q))
-      by (dear o k x y) = rw (x, y) (stopped-at now (dear-over π some-ticks rows fit start here cues₀ cues fired now _ in-rows (cue-view s (m .row) inside o) k e i u c q))
-      by (last o k f x y) = absurd (cue-fits π rows _ _ here _ in-rows (cue-view s (m .row) inside o) k e i u c q)
-      by (no-room o k f x y) = absurd (omega (arith, ap length y))
+      by : CuePut listed t (π .cue) m cues cues′ fired r b → Stopped π rows start cues₀ cues′ r (stopsAt here e i u c)
+      by (no-cue f x _ y) = rw (x, y) (stopped-at now (no-cue-over π some-ticks rows fit start here cues₀ cues fired now (no-cue-view s (m .row) inside f) e i u c q))
+      by (unlisted z x _ y) = no-true (sym z ∙ is)
+      by (dear o k x _ y) = rw (x, y) (stopped-at now (dear-over π some-ticks rows fit start here cues₀ cues fired now _ in-rows (cue-view s (m .row) inside o) k e i u c q))
+      by (last o k f x _ y) = absurd (cue-fits π rows _ _ here _ in-rows (cue-view s (m .row) inside o) k e i u c q)
+      by (no-room _ o k f x y) = no-true (sym l ∙ x)
 
-  pub row-full : length cues′ < r → Stopped π rows start cues₀ cues′ fired (full here)
+  pub row-full : b ≡ true → Stopped π rows start cues₀ cues′ fired (full here)
   row-full l = by put
     where
-      by : CuePut t (π .cue) m cues cues′ fired r → Stopped π rows start cues₀ cues′ fired (full here)
-      by (no-cue f x y) = absurd (omega (arith, ap length y, now .few, now .long))
-      by (dear o k x y) = absurd (omega (arith, ap length y, now .few, now .long))
-      by (last o k f x y) = absurd (omega (arith, ap length y, length-set cues fired (number (rowOf t m) 3)))
-      by (no-room o k f x y) = rw y (stopped-at now (cue-full π some-ticks rows fit start here cues₀ cues fired now _ in-rows (cue-view s (m .row) inside o) (omega (arith, now .long)) k))
+      by : CuePut listed t (π .cue) m cues cues′ fired r b → Stopped π rows start cues₀ cues′ fired (full here)
+      by (no-cue f x z y) = no-true (sym z ∙ l)
+      by (unlisted z x _ y) = no-true (sym z ∙ is)
+      by (dear o k x z y) = no-true (sym z ∙ l)
+      by (last o k f x z y) = no-true (sym z ∙ l)
+      by (no-room _ o k f x y) = rw y (stopped-at now (cue-full π some-ticks rows fit start here cues₀ cues fired now _ in-rows (cue-view s (m .row) inside o) (omega (arith, now .long)) k))
+
+-- what is done with a cue keeps the list's length, and puts no more into it than it has room for
+pub put-keeps : {listed : Bool} {t : List ℕ} {price : ℕ} {m : Machine} (cues cues′ : List ℕ) {fired n : ℕ} {b : Bool} → CuePut listed t price m cues cues′ fired n b
+    → (length cues′ ≡ length cues) × (b ≡ false → fired ≤ length cues → n ≤ length cues)
+put-keeps cues cues′ (no-cue f e _ c) = (ap length c, λ _ k. omega (arith, e, k))
+put-keeps cues cues′ (unlisted z e _ c) = (ap length c, λ _ k. omega (arith, e, k))
+put-keeps cues cues′ (dear o l e _ c) = (ap length c, λ _ k. omega (arith, e, k))
+put-keeps cues cues′ (last o l f e _ c) = (ap length c ∙ length-set cues _ _, λ _ k. omega (arith, e, f))
+put-keeps cues cues′ (no-room _ o l f e c) = (ap length c, λ z k. no-true (sym z ∙ e))
+
+-- and finds it full only where cues are listed
+pub full-listed : {listed : Bool} {t : List ℕ} {price : ℕ} {m : Machine} {cues cues′ : List ℕ} {fired n : ℕ} {b : Bool} → CuePut listed t price m cues cues′ fired n b → b ≡ true → listed ≡ true
+full-listed (no-cue f e z c) q = no-true (sym z ∙ q)
+full-listed (unlisted y e z c) q = no-true (sym z ∙ q)
+full-listed (dear o l e z c) q = no-true (sym z ∙ q)
+full-listed (last o l f e z c) q = no-true (sym z ∙ q)
+full-listed (no-room y o l f e c) q = y
 
 -- a machine that is over stands where the step says: spent, it waits where it stood
 pub stood : (π : Prices) (rows : List RowKind) (here : Place) (r : Machine) (store : List ℤ) (picks : List ℕ) (c : TurnCounts) (e : Ending) (i : ℕ)
@@ -254,17 +274,17 @@ module _ (π : Prices) (rows : List RowKind) (m₀ : Machine) (store₀ store : 
   })
 
   pub went-full : (r : Stop′) (m : Machine) (fired : ℕ) → (r .machine ≡ m) × (r .fired ≡ fired) × (r .full ≡ true)
-      → Stopped π rows first cues₀ cues fired (full (placeIn rows m store picks counts)) → m .testing ≡ false → m .status ≡ Going → m .left ≤ m₀ .left → m .used ≤ length picks → Room rows counts
+      → Stopped π rows first cues₀ cues fired (full (placeIn rows m store picks counts)) → m .testing ≡ false → (k : ℕ) → m .status ≡ Over Ended k → m .left ≤ m₀ .left → m .used ≤ length picks → Room rows counts
       → WentLive π rows m₀ r store₀ store picks counts₀ counts cues₀ cues
-  went-full r m fired e s b g l u room = subst (λ z. WentLive π rows m₀ z store₀ store picks counts₀ counts cues₀ cues) (stop-is r m fired true e) (record {
+  went-full r m fired e s b k g l u room = subst (λ z. WentLive π rows m₀ z store₀ store picks counts₀ counts cues₀ cues) (stop-is r m fired true e) (record {
     stop = s .stop;
     over = λ z. no-true (sym z);
     few = s .few;
     rest = s .rest;
     long = s .long;
     before-cue = λ _. b;
-    waits = λ i q _. absurd (let z : Going ≡ Over Spent i = sym g ∙ q in let y : _≡_ {A = ℕ} 0 1 = cc in omega arith);
-    spent = λ i q. absurd (let z : Going ≡ Over Spent i = sym g ∙ q in let y : _≡_ {A = ℕ} 0 1 = cc in omega arith);
+    waits = λ i q _. absurd (let z : Over Ended k ≡ Over Spent i = sym g ∙ q in let y : _≡_ {A = ℕ} 0 1 = cc in omega arith);
+    spent = λ i q. absurd (let z : Over Ended k ≡ Over Spent i = sym g ∙ q in let y : _≡_ {A = ℕ} 0 1 = cc in omega arith);
     left = l;
     used = u;
     room = room;
@@ -326,10 +346,10 @@ module _ {text : List ℕ} (π : Prices) (some-ticks : 1 ≤ π .test) (t : List
   test-fires v (Over e i) q =
       (stopped-at now (no-cue-over π some-ticks rows′ (fit-of s) start from cues₀ cues fired now (ap cueOf v) e i _ _ (step-is (Over e i) q) ∙ ap (λ x. record { stand = x; cues = take fired cues }) (stands e i q)), spends e i q)
 
-  pub row-fires : m .row < count → (cues′ : List ℕ) (n : ℕ) → CuePut t (π .cue) m cues cues′ fired n → n ≤ length cues′ → (z : Status) → r .status ≡ z → Outcome cues′ n z
-  row-fires l cues′ n put k Going q = row-on π some-ticks s (fit-of s) start m store picks counts l cues₀ cues cues′ fired n now put k _ (step-is Going q)
-  row-fires l cues′ n put k (Over e i) q =
-      (subst (Stopped π rows′ start cues₀ cues′ n) (stands e i q) (row-over π some-ticks s (fit-of s) start m store picks counts l cues₀ cues cues′ fired n now put k e i _ _ (step-is (Over e i) q)), spends e i q)
+  pub row-fires : m .row < count → (cues′ : List ℕ) (n : ℕ) (b : Bool) {listed : Bool} → listed ≡ true → CuePut listed t (π .cue) m cues cues′ fired n b → b ≡ false → (z : Status) → r .status ≡ z → Outcome cues′ n z
+  row-fires l cues′ n b is put k Going q = row-on π some-ticks s (fit-of s) start m store picks counts l cues₀ cues cues′ fired n b now is put k _ (step-is Going q)
+  row-fires l cues′ n b is put k (Over e i) q =
+      (subst (Stopped π rows′ start cues₀ cues′ n) (stands e i q) (row-over π some-ticks s (fit-of s) start m store picks counts l cues₀ cues cues′ fired n b now is put k e i _ _ (step-is (Over e i) q)), spends e i q)
 
 -- past the last row
 pub past-fires : {text : List ℕ} (π : Prices) → 1 ≤ π .test → (t : List ℕ) (count : ℕ) (picks : List ℕ) (start : Place) (m : Machine) (store : List ℤ) (counts : List (List ℕ)) (vars : ℕ) → Runs text t count vars

@@ -19,20 +19,23 @@ use Rattle.run_actions.specs.declared.Status.the-variants.{Going, Over}
 use Rattle.run_actions.specs.States.{tallyOf, stateOf, placeOf, isGoing}
 use Rattle.run_machine.specs.Rows.{rowOf}
 use Rattle.run_machine.specs.Steps.{Room, EndsLoop}
-use Rattle.runner.specs.Runs.{placeIn, MayGo}
-use Rattle.run_live.specs.declared.Stop.{Stop}
+use Rattle.runner.specs.Runs.{placeIn, MayGo, WentOn}
+use Rattle.runner.specs.declared.live.Stop.{Stop}
+use Rattle.runner.specs.declared.live.Begin.{Begin}
 
 -- the op of a cue row
 abbrev pub cueOp : ℕ
 cueOp = 11
 
--- what is done with the cue of the machine's row: it is none, or its price does not fit; it is put at the end of the list, or finds it full
-pub data CuePut (t : List ℕ) (price : ℕ) (m : Machine) (cues cues′ : List ℕ) (fired r : ℕ) : Type 0 where
-  no-cue : (opIn (rowOf t m) ≡ cueOp → ⊥) → r ≡ fired → cues′ ≡ cues → CuePut t price m cues cues′ fired r
-  dear : opIn (rowOf t m) ≡ cueOp → m .left < price → r ≡ fired → cues′ ≡ cues → CuePut t price m cues cues′ fired r
-  last : opIn (rowOf t m) ≡ cueOp → price ≤ m .left → fired < length cues → r ≡ suc fired → cues′ ≡ set cues fired (number (rowOf t m) 3)
-      → CuePut t price m cues cues′ fired r
-  no-room : opIn (rowOf t m) ≡ cueOp → price ≤ m .left → length cues ≤ fired → r ≡ suc fired → cues′ ≡ cues → CuePut t price m cues cues′ fired r
+-- what is done with the cue of the machine's row: it is none, cues are not listed, or its price does not fit; it is put at the end of the list,
+-- which has n then, or finds it full
+pub data CuePut (listed : Bool) (t : List ℕ) (price : ℕ) (m : Machine) (cues cues′ : List ℕ) (fired n : ℕ) (b : Bool) : Type 0 where
+  no-cue : (opIn (rowOf t m) ≡ cueOp → ⊥) → n ≡ fired → b ≡ false → cues′ ≡ cues → CuePut listed t price m cues cues′ fired n b
+  unlisted : listed ≡ false → n ≡ fired → b ≡ false → cues′ ≡ cues → CuePut listed t price m cues cues′ fired n b
+  dear : opIn (rowOf t m) ≡ cueOp → m .left < price → n ≡ fired → b ≡ false → cues′ ≡ cues → CuePut listed t price m cues cues′ fired n b
+  last : opIn (rowOf t m) ≡ cueOp → price ≤ m .left → fired < length cues → n ≡ suc fired → b ≡ false → cues′ ≡ set cues fired (number (rowOf t m) 3)
+      → CuePut listed t price m cues cues′ fired n b
+  no-room : listed ≡ true → opIn (rowOf t m) ≡ cueOp → price ≤ m .left → length cues ≤ fired → b ≡ true → cues′ ≡ cues → CuePut listed t price m cues cues′ fired n b
 
 -- a machine that is going may go on to the end
 abbrev pub MayGoLive : List ℕ → PricedRows → List ℕ → Machine → List ℤ → List ℕ → List (List ℕ) → Type 0
@@ -60,3 +63,8 @@ pub record WentLive (π : Prices) (rows : List RowKind) (m : Machine) (r : Stop)
   pub left : r .machine .left ≤ m .left
   pub used : r .machine .used ≤ length picks
   pub room : Room rows counts′
+
+-- it has gone on: with its cues listed as a live run, else as a run, which no list stops
+pub record Went (π : Prices) (rows : List RowKind) (m : Begin) (r : Stop) (store store′ : List ℤ) (picks : List ℕ) (counts counts′ : List (List ℕ)) (cues cues′ : List ℕ) : Type 0 where
+  pub live : m .listed ≡ true → WentLive π rows (m .machine) r store store′ picks counts counts′ cues cues′
+  pub run : m .listed ≡ false → WentOn π rows (m .machine) (r .machine) store store′ picks counts counts′

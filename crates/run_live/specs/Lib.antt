@@ -1,2 +1,0 @@
--- One step of a live run in code.
-pub mod Goes
