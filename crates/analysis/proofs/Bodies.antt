@@ -14,8 +14,8 @@ use Rattle.rules.specs.Figures.{alike, often, totalOf, inBody, lines}
 use Rattle.rules.proofs.Walk.{over-once}
 use Rattle.analysis_ticks.specs.Capped.{capped}
 use Rattle.analysis_ticks.proofs.Caps.{cap-times}
-use Rattle.analysis_passes.specs.declared.Round.{Round}
-use Rattle.analysis_passes.specs.Rounds.{roundOf, passIn, bodyOf}
+use Rattle.analysis_ticks.specs.declared.passes.Round.{Round}
+use Rattle.analysis_ticks.specs.Rounds.{roundOf, passIn, bodyOf}
 use Rattle.analysis.specs.Fold.{cappedLines}
 use Rattle.analysis.proofs.Folding.{cap-lines}
 

@@ -22,12 +22,12 @@ use Rattle.rules.specs.declared.Verdict.the-variants.{Passed as passed, Refused
 use Rattle.rules.specs.Questions.{andThen, asked, tickLimit, ofTrip, loopsVerdict, blocksVerdict}
 use Rattle.analysis_ticks.specs.Capped.{capped}
 use Rattle.analysis_ticks.proofs.Caps.{cap-mul}
-use Rattle.analysis_passes.specs.declared.Round.{Round}
-use Rattle.analysis_passes.specs.Rounds.{roundOf, passIn}
-use Rattle.analysis_tallies.specs.Tallies.{FoldState, lastPrice}
+use Rattle.analysis_ticks.specs.declared.passes.Round.{Round}
+use Rattle.analysis_ticks.specs.Rounds.{roundOf, passIn}
+use Rattle.analysis.specs.Tallies.{FoldState, lastPrice}
 use Rattle.analysis.specs.Own.{putOwn}
 use Rattle.analysis.specs.Fold.{loopCount, frontOf, restOf, cappedLine, cappedLines, folded}
-use Rattle.analysis_tallies.proofs.Laws.{state-is}
+use Rattle.analysis.proofs.Laws.{state-is}
 
 -- ---- verdicts one after the other
 pub then-passed : (v : Verdict) → andThen v passed ≡ v

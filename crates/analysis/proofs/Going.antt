@@ -36,21 +36,21 @@ use Rattle.analysis_steps.specs.Body.{bodyAt}
 use Rattle.analysis_steps.proofs.Laws.{PickIs, LoopIs}
 use Rattle.analysis_steps.proofs.Walking.{Walking, plain-row}
 use Rattle.analysis_intervals.specs.Env.{envOf}
-use Rattle.analysis_transfer.specs.Env.{EnvIs}
+use Rattle.analysis_ranges.specs.Env.{EnvIs}
 use Rattle.analysis_ticks.specs.Capped.{capped, once, overOf}
 use Rattle.analysis_ticks.proofs.Caps.{cap-mul, loop-ticks-is}
-use Rattle.analysis_passes.specs.declared.Round.{Round}
-use Rattle.analysis_passes.specs.Rounds.{roundOf, passIn, FineRound, branchOf}
-use Rattle.analysis_passes.proofs.Loops.{walk-is}
-use Rattle.analysis_entries.specs.declared.LoopEntry.{LoopEntry}
-use Rattle.analysis_entries.specs.Enter.{walkedAt, EntryPassed}
-use Rattle.analysis_tallies.specs.Tallies.{FoldState, LentTally, tallied, lastTicks, lineFor, Restarted, PastRow, LineAdded, BlockClosed}
+use Rattle.analysis_ticks.specs.declared.passes.Round.{Round}
+use Rattle.analysis_ticks.specs.Rounds.{roundOf, passIn, FineRound, branchOf}
+use Rattle.analysis_ticks.proofs.Loops.{walk-is}
+use Rattle.analysis.specs.declared.entries.LoopEntry.{LoopEntry}
+use Rattle.analysis.specs.Enter.{walkedAt, EntryPassed}
+use Rattle.analysis.specs.Tallies.{FoldState, LentTally, tallied, lastTicks, lineFor, Restarted, PastRow, LineAdded, BlockClosed}
 use Rattle.analysis.specs.Own.{putOwn}
 use Rattle.analysis.specs.Fold.{loopCount, frontOf, restOf, cappedLine, cappedLines, folded, Walkable, PassedPart, Analysed, IsBlock, PassedBlock}
-use Rattle.analysis_tallies.proofs.Laws.{state-is}
+use Rattle.analysis.proofs.Laws.{state-is}
 use Rattle.analysis.proofs.Folding.{cap-lines, later-in, fold-plain, first-pick, first-loop, fold-first, pastPlain, pickTicks, pastPick, ownTicks, allTicks, pastLoop, SameBody, same-body}
 use Rattle.analysis.proofs.Bodies.{body-known, body-sum, body-lines, own-passes, cap-often}
-use Rattle.analysis_tallies.proofs.Laws.{last-small}
+use Rattle.analysis.proofs.Laws.{last-small}
 
 -- what a walk over a block found, part by part, from a tally with these parts
 pub record Part (π : Prices) (q : Round) (k : Bool) (ρ : Env) (s : ℕ) (o : Verdict) (ls : List Line) (n : ℕ) (os : List ℕ) (b : Block) (ranges : List (List ℤ)) (r : LentTally) : Type 0 where

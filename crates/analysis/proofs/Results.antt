@@ -14,7 +14,7 @@ use Rattle.rules.specs.declared.Prices.{Prices}
 use Rattle.rules.specs.Passes.{any}
 use Rattle.rules.specs.Figures.{ticks, alike, lines}
 use Rattle.rules.proofs.Walk.{over-once}
-use Rattle.analysis_passes.specs.declared.Round.{Round}
+use Rattle.analysis_ticks.specs.declared.passes.Round.{Round}
 use Rattle.rules.specs.declared.Verdict.{Verdict}
 use Rattle.rules.specs.declared.Verdict.the-variants.{Passed as passed, Refused as refused}
 use Rattle.rules.specs.Questions.{andThen, loopsVerdict, verdict}
@@ -22,8 +22,8 @@ use Rattle.rules.specs.Scripts as scripts
 use Rattle.rules.specs.Scripts.{pairRanges, BlankFrom, scriptOf, treeOf, Legal}
 use Rattle.analysis_steps.specs.Tree.{kinds, blockAt}
 use Rattle.analysis_intervals.specs.Env.{envOf}
-use Rattle.analysis_tallies.specs.declared.Tally.{Tally}
-use Rattle.analysis_tallies.specs.Tallies.{LentTally, withLent, tallied}
+use Rattle.analysis.specs.declared.tallies.Tally.{Tally}
+use Rattle.analysis.specs.Tallies.{LentTally, withLent, tallied}
 use Rattle.analysis.specs.Fold.{Analysed}
 use Rattle.analysis.specs.Own.{putOwn, OwnPut}
 use Rattle.analysis_lines.specs.Coded.{firstLines}

@@ -23,9 +23,9 @@ use Rattle.table.specs.Shapes.{shapeOf}
 use Rattle.analysis_steps.specs.Tree.{blockAt, endAt, Ready}
 use Rattle.analysis_intervals.specs.Env.{envOf}
 use Rattle.analysis_ticks.specs.Capped.{capped}
-use Rattle.analysis_passes.specs.declared.Round.{Round}
-use Rattle.analysis_passes.specs.Rounds.{roundOf, passIn, FineRound}
-use Rattle.analysis_tallies.specs.Tallies.{FoldState, LentTally, tallied}
+use Rattle.analysis_ticks.specs.declared.passes.Round.{Round}
+use Rattle.analysis_ticks.specs.Rounds.{roundOf, passIn, FineRound}
+use Rattle.analysis.specs.Tallies.{FoldState, LentTally, tallied}
 use Rattle.analysis.specs.Own.{putOwn}
 
 -- how many loops a block has

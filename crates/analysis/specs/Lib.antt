@@ -1,4 +1,6 @@
--- What the contracts cite.
+-- The analysis: one walk over the blocks of a script.
+pub mod Tallies
+pub mod Enter
 pub mod Fold
-pub mod Whole
 pub mod Own
+pub mod Whole

@@ -11,7 +11,7 @@ use Rattle.rules.specs.declared.Verdict.the-variants.{Passed as passed, Refused
 use Rattle.rules.specs.Questions.{verdict}
 use Rattle.rules.specs.Scripts.{Script, startEnv, treeOf, scriptOf, BlankFrom, Legal, reportTicks, reportLines}
 use Rattle.analysis_lines.specs.Coded.{firstLines}
-use Rattle.analysis_tallies.specs.declared.Tally.{Tally}
+use Rattle.analysis.specs.declared.tallies.Tally.{Tally}
 use Rattle.analysis.specs.Own.{OwnPut}
 use Rattle.analysis.specs.declared.Figures.{Figures}
 

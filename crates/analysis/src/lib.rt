@@ -1,15 +1,18 @@
 // The whole file: the questions 19 and 8 to 13, ticks, and the report's lines.
-use analysis_entries::enter_loop;
-use analysis_entries::leave_loop;
-use analysis_passes::Round;
-use analysis_passes::branch;
-use analysis_tallies::Tally;
-use analysis_tallies::leave_pick;
-use analysis_tallies::past_row;
-use analysis_tallies::restarted;
+pub mod tallies;
+pub mod entries;
+
+use crate::entries::enter_loop;
+use crate::entries::leave_loop;
+use analysis_ticks::passes::Round;
+use analysis_ticks::passes::branch;
+use crate::tallies::Tally;
+use crate::tallies::leave_pick;
+use crate::tallies::past_row;
+use crate::tallies::restarted;
 use analysis_ticks::LIMIT;
-use analysis_transfer::joined;
-use analysis_transfer::step_row;
+use analysis_ranges::transfer::joined;
+use analysis_ranges::transfer::step_row;
 use rules::Prices;
 use rules::Verdict;
 use table::PricedRows;
@@ -24,7 +27,7 @@ ghost use Rattle.rules.specs.Written.{Written};
 ghost use Rattle.table.specs.Code.{kindAt, rowsOf};
 ghost use Rattle.table.specs.Shapes.{shapeOf};
 ghost use Rattle.analysis_intervals.specs.Env.{envOf};
-ghost use Rattle.analysis_tallies.specs.Tallies.{withLent};
+ghost use Rattle.analysis.specs.Tallies.{withLent};
 ghost use Rattle.analysis.specs.Fold.{Walkable, Analysed, IsBlock, AtBlock, PastBlock};
 ghost use Rattle.analysis.specs.Whole.{FirstNo, LegalRows, FoundOf};
 

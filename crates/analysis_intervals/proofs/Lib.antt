@@ -1,2 +1,5 @@
--- The laws that belong to no one function.
+-- Intervals, and comparisons over them.
+pub mod Fits
+pub mod Small
+pub mod Sorts
 pub mod Words

@@ -1,3 +1,5 @@
--- What the contracts cite.
+-- Intervals, and comparisons over them.
+pub mod Sorts
+pub mod Wide
 pub mod Changes
 pub mod Env

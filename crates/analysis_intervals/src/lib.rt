@@ -1,14 +1,16 @@
 // The range of one variable: what a row, a pick and a test make of it.
-use analysis_comparisons::WideInterval;
-use analysis_comparisons::edge;
-use analysis_comparisons::falls;
-use analysis_comparisons::rises;
-use expression_operators::clamp;
+pub mod comparisons;
+
+use crate::comparisons::WideInterval;
+use crate::comparisons::edge;
+use crate::comparisons::falls;
+use crate::comparisons::rises;
+use expressions::operators::clamp;
 use expressions::bounds_in;
-use min_max::higher;
-use min_max::higher_end;
-use min_max::lower;
-use min_max::lower_end;
+use ints::min_max::higher;
+use ints::min_max::higher_end;
+use ints::min_max::lower;
+use ints::min_max::lower_end;
 use rules::Change;
 use rules::Comparison;
 use rules::Operand;
@@ -23,7 +25,7 @@ ghost use Rattle.rules.specs.Blocks.{exprOf};
 ghost use Rattle.rules.specs.Written.{InText, WrittenOperand};
 ghost use Rattle.rules.specs.Ranges.{bounds, single, full, edge, sort, insideRange, byStep, outsideRange};
 ghost use Rattle.rules.specs.Bounds.{FineOperand, FineChange};
-ghost use Rattle.analysis_comparisons.specs.Wide.{wideRange, Unmoved};
+ghost use Rattle.analysis_intervals.specs.Wide.{wideRange, Unmoved};
 ghost use Rattle.analysis_intervals.specs.Env.{envOf, rangeOf};
 ghost use Rattle.ints.specs.Ints.{clamp};
 ghost use Rattle.rules.specs.Values.{lowest, highest, applied};

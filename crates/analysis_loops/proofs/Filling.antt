@@ -15,11 +15,11 @@ use Rattle.rules.specs.Ranges.{Range, Env, bounds, single, isDo}
 use Rattle.rules_steps.specs.Ends.{EndsWithin}
 use Rattle.rules.specs.Trips as trips
 use Rattle.rules.specs.Trips.{untested, tries, flag, keeps, wayOf, tripBy, trip}
-use Rattle.analysis_row_steps.proofs.Ends.{ends-more}
-use Rattle.analysis_ways.specs.declared.Way.{Way}
-use Rattle.analysis_trips.specs.Found.{ownFrom, readFrom, chaseFrom}
+use Rattle.analysis_steps.proofs.Ends.{ends-more}
+use Rattle.analysis_loops.specs.declared.ways.Way.{Way}
+use Rattle.analysis_loops.specs.Found.{ownFrom, readFrom, chaseFrom}
 use Rattle.analysis_loops.specs.Loops.{tripFrom}
-use Rattle.analysis_ways.specs.Ways.{wayIs, WayStep}
+use Rattle.analysis_loops.specs.Ways.{wayIs, WayStep}
 
 -- a constant is a single number
 constant-single : (a b : Bool) (k : ℤ) → a && (b && single (record { lo = k; hi = k })) ≡ a && b

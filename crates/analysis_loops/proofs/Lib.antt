@@ -1,2 +1,4 @@
--- The laws that belong to no one function.
+-- What a loop's trip count is read from.
+pub mod Heads
+pub mod WaysLaws
 pub mod Filling

@@ -7,7 +7,7 @@ use Rattle.rules.specs.Values.{opposite}
 use Rattle.rules.specs.Ranges.{Range, Env}
 use Rattle.rules.specs.Trips as trips
 use Rattle.rules.specs.Trips.{untested, tries, flag, trip}
-use Rattle.analysis_ways.specs.declared.Way.{Way}
+use Rattle.analysis_loops.specs.declared.ways.Way.{Way}
 use mathlib.Core.Path.{_≡_}
 use mathlib.Core.List.{List}
 use Prim.Native.Nat.{ℕ, _<_}
@@ -18,7 +18,7 @@ use Rattle.analysis_steps.specs.Tree.{formOf, testOf}
 use Rattle.analysis_steps.specs.Sets.{setOf}
 use Rattle.analysis_steps.specs.Body.{bodyAt}
 use Rattle.analysis_loops.specs.declared.Loop.{Loop}
-use Rattle.analysis_trips.specs.Found.{tripOf, ownFrom, readFrom, chaseFrom}
+use Rattle.analysis_loops.specs.Found.{tripOf, ownFrom, readFrom, chaseFrom}
 
 -- the trip by a way, ρ the ranges at the loop's start
 abbrev pub tripFrom : Way → Env → Bool → Step → Comparison → Range → Range → Bool → trips.Trip

@@ -14,9 +14,9 @@ use Rattle.analysis_steps.specs.Tree.{formOf, testOf}
 use Rattle.analysis_steps.specs.Sets.{setOf}
 use Rattle.analysis_steps.specs.Body.{bodyAt}
 use Rattle.analysis_loops.specs.declared.Loop.{Loop}
-use Rattle.analysis_trips.specs.Found.{tripOf}
+use Rattle.analysis_loops.specs.Found.{tripOf}
 use Rattle.analysis_loops.specs.Loops.{LoopAt}
-use Rattle.analysis_transfer.specs.Env.{widenedEnv}
+use Rattle.analysis_ranges.specs.Env.{widenedEnv}
 use Rattle.analysis_ranges.specs.Loops.{widened}
 
 -- the tested variable and the set are the loop's

@@ -2,7 +2,7 @@
 use Rattle.rules.specs.Ranges.{Range, Env}
 use Rattle.analysis_steps.specs.Sets.{setOf}
 use Rattle.analysis_loops.specs.declared.Loop.{Loop}
-use Rattle.analysis_transfer.specs.Env.{widenedEnv}
+use Rattle.analysis_ranges.specs.Env.{widenedEnv}
 
 -- over a loop, with its tested variable's range
 abbrev pub widened : Loop → Range → Env → Env

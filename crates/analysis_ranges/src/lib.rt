@@ -1,19 +1,21 @@
 // The known ranges of the variables at a loop's body's start, and of the tested one after the loop.
+pub mod transfer;
+
 use analysis_intervals::FULL;
 use analysis_intervals::Interval;
 use analysis_intervals::inside_interval;
 use analysis_intervals::outside_interval;
 use analysis_loops::Loop;
-use analysis_transfer::widen;
-use analysis_trips::Counter;
-use analysis_trips::Trip;
+use crate::transfer::widen;
+use analysis_loops::trips::Counter;
+use analysis_loops::trips::Trip;
 ghost use mathlib.Core.Path.{_≡_};
 ghost use Prim.Native.Nat.{_<_};
 ghost use lib.ListN.{length};
 ghost use Rattle.rules.specs.Trips.{innerOf, outerOf};
 ghost use Rattle.analysis_intervals.specs.Env.{envOf, rangeOf};
-ghost use Rattle.analysis_trips.specs.Found.{tripOf};
-ghost use Rattle.analysis_transfer.specs.Env.{EnvIs};
+ghost use Rattle.analysis_loops.specs.Found.{tripOf};
+ghost use Rattle.analysis_ranges.specs.Env.{EnvIs};
 ghost use Rattle.analysis_ranges.specs.Loops.{widened};
 
 // The tested variable of a trip at the body's start.

@@ -11,7 +11,7 @@ use Rattle.rules_steps.specs.declared.Step.the-variants.{Unknown}
 use Rattle.rules_steps.specs.Joins.{still, then, either}
 use Rattle.rules.specs.Steps.{rowStep, step}
 use Rattle.rules_steps.specs.Ends.{EndsWithin}
-use Rattle.analysis_row_steps.proofs.Ends.{ends-more, then-ends}
+use Rattle.analysis_steps.proofs.Ends.{ends-more, then-ends}
 use Rattle.table.specs.Code.{kindAt}
 use Rattle.table.specs.declared.Shape.{Shape}
 use Rattle.table.specs.Shapes.{shapeOf, plainOf}

@@ -17,7 +17,7 @@ use Rattle.rules_steps.specs.Joins.{still, then, either}
 use Rattle.rules.specs.Steps.{sets, starts, assigns, sourceStep, changeStep, rowStep, stepFrom, step}
 use Rattle.rules_steps.specs.Ends.{EndsWithin}
 use Rattle.rules.specs.Bounds.{Fine}
-use Rattle.analysis_row_steps.proofs.Ends.{ends-more, ends-only, still-ends, then-ends, either-ends, change-ends}
+use Rattle.analysis_steps.proofs.Ends.{ends-more, ends-only, still-ends, then-ends, either-ends, change-ends}
 use Rattle.table.specs.declared.Shape.{Shape}
 use Rattle.table.specs.Code.{kindAt}
 use Rattle.table.specs.Shapes.{shapeOf, lastRow, plainOf}

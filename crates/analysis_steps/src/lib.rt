@@ -1,7 +1,10 @@
 // How a variable moves in one turn: walks over the rows of a block, nested blocks first. No walk reads the text that the rows'
 // expressions stand in: its answer is that for each text with which the rows are a tree.
-use analysis_row_steps::change_step;
-use analysis_row_steps::only;
+pub mod rows;
+pub mod only_rows;
+
+use crate::rows::change_step;
+use crate::rows::only;
 use rules_steps::Step;
 use table::Shape;
 use table::Tag;

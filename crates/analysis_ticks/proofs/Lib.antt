@@ -1,2 +1,4 @@
--- The laws that belong to no one function.
+-- The ticks of rows, and of the turns of a loop pass by pass.
 pub mod Caps
+pub mod Loops
+pub mod Values

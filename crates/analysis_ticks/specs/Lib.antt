@@ -1,2 +1,3 @@
--- What the contracts cite.
+-- The ticks of rows, and of the turns of a loop pass by pass.
 pub mod Capped
+pub mod Rounds

@@ -1,4 +1,6 @@
 // Ticks: sums and products that stop just past the limit of question 13, the ticks of a loop, the first block over the limit.
+pub mod passes;
+
 use rules::Kind;
 use rules::Prices;
 ghost use mathlib.Core.Path.{_≡_};

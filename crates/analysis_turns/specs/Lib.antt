@@ -1,2 +1,3 @@
--- What the contracts cite.
+-- The trip count of a loop: its turns in one entry.
+pub mod Needs
 pub mod Verdicts

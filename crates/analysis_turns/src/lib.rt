@@ -1,25 +1,29 @@
 // The questions 19 and 8 to 12 of one loop, and the turns of one entry.
-use analysis_comparisons::WideInterval;
-use analysis_comparisons::edge;
-use analysis_comparisons::equal_ends;
-use analysis_comparisons::known;
-use analysis_comparisons::moving;
-use analysis_comparisons::suits;
-use analysis_figures::at_test;
-use analysis_figures::has_figure;
-use analysis_figures::while_turns;
+pub mod moves;
+pub mod figures;
+pub mod leads;
+
+use analysis_intervals::comparisons::WideInterval;
+use analysis_intervals::comparisons::edge;
+use analysis_intervals::comparisons::equal_ends;
+use analysis_intervals::comparisons::known;
+use analysis_intervals::comparisons::moving;
+use analysis_intervals::comparisons::suits;
+use crate::figures::at_test;
+use crate::figures::has_figure;
+use crate::figures::while_turns;
 use analysis_intervals::Interval;
 use analysis_intervals::whole;
-use analysis_leads::led;
-use analysis_trips::Counter;
-use analysis_trips::Trip;
+use crate::leads::led;
+use analysis_loops::trips::Counter;
+use analysis_loops::trips::Trip;
 ghost use mathlib.Core.Path.{_≡_};
 ghost use Rattle.rules_steps.specs.Ends.{EndsWithin};
 ghost use Rattle.rules.specs.Trips.{isExact};
 ghost use Rattle.analysis_intervals.specs.Env as env;
-ghost use Rattle.analysis_trips.specs.declared.Counter.{Counter};
-ghost use Rattle.analysis_trips.specs.Found.{startOf, limitOf, tripOf};
-ghost use Rattle.analysis_comparisons.specs.Wide.{wideRange, Unmoved};
+ghost use Rattle.analysis_loops.specs.declared.trips.Counter.{Counter};
+ghost use Rattle.analysis_loops.specs.Found.{startOf, limitOf, tripOf};
+ghost use Rattle.analysis_intervals.specs.Wide.{wideRange, Unmoved};
 ghost use Rattle.analysis_turns.specs.Verdicts.{FigureOf};
 
 // The range of the difference of two numbers.

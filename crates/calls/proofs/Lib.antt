@@ -1,7 +1,9 @@
--- The laws that belong to no one function.
-pub mod Loaded
-pub mod Tables
-pub mod Judging
-pub mod Stores
+-- A script that has been read under prices: its report, its figures, its run.
+pub mod Asking
 pub mod Counts
+pub mod Judging
+pub mod Loaded
 pub mod Runs
+pub mod Stores
+pub mod Tables
+pub mod Laws

@@ -1,3 +1,5 @@
--- What the calls on a script answer.
+-- A script that has been read under prices: its report, its figures, its run.
+pub mod First
 pub mod Held
 pub mod Told
+pub mod Figures

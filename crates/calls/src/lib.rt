@@ -1,7 +1,10 @@
 // The two calls on a script that has been read: its report, and its run.
+pub mod prices;
+pub mod figures;
+
 use analysis::Figures;
-use calls_prices::prices_of;
-use min_max::smaller;
+use crate::prices::prices_of;
+use ints::min_max::smaller;
 use reader::Loaded;
 use rules::Ending;
 use rules::LoopCount;

@@ -1,6 +1,6 @@
 // Several scripts in one frame (change 14), after the questions 20, 1 and 16: the scripts, their frames, and the answers.
 use calls::Outcome;
-use calls_prices::prices_of;
+use calls::prices::prices_of;
 use calls_scripts::HeldScripts;
 use calls_turns::Progress;
 use calls_turns::START;
@@ -8,7 +8,7 @@ use calls_turns::new_frame;
 use calls_turns::turn;
 use calls_turns::turn_to;
 use calls_turns::waiting;
-use min_max::larger;
+use ints::min_max::larger;
 use rules::Ending;
 use rules::Verdict;
 use run_loops::NO_COUNT;

@@ -8,8 +8,8 @@ use lib.Seq.{getD-take}
 use Rattle.rules.specs.Calls.{Judged, accepted, refuses}
 use Rattle.rules.specs.Figures.{Line}
 use Rattle.rules.specs.Scripts.{reportLines}
-use Rattle.calls_figures.specs.declared.Figures.{Figures}
-use Rattle.calls_figures.specs.Told.{lineNumbers, FiguresAs}
+use Rattle.calls.specs.declared.figures.Figures.{Figures}
+use Rattle.calls.specs.Figures.{lineNumbers, FiguresAs}
 use Rattle.loader.specs.Kept.{verdictNumber}
 use Rattle.loader.specs.Framing.{mostBy}
 use Rattle.diftanew.specs.Numbers.{Sevens, inARow, filled, figuresTold, judgedNumber, Figured-in-numbers}

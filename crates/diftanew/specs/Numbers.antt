@@ -14,7 +14,7 @@ use Rattle.rules_frames.specs.Frames.{Lent}
 use Rattle.calls.specs.declared.Outcome.{Outcome}
 use Rattle.run_loops.specs.Loops.{noCount}
 use Rattle.rules_live.specs.LiveCalls.{StartReply, StepReply}
-use Rattle.calls_figures.specs.Told.{lineNumbers}
+use Rattle.calls.specs.Figures.{lineNumbers}
 use Rattle.calls_live.specs.declared.Started.{Started}
 use Rattle.calls_live.specs.declared.StepDone.{StepDone}
 use Rattle.calls_live.specs.Told.{StartedAs, SteppedAs}

@@ -1,6 +1,6 @@
 // The calls for C and Rust: numbers and slices only.
 use calls::Outcome;
-use calls_figures::Figures;
+use calls::figures::Figures;
 use calls_frames::Frames;
 use calls_frames::Played;
 use calls_live::StepDone;

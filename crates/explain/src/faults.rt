@@ -4,9 +4,9 @@ use line_causes::Fault;
 use line_causes::LineKind;
 use line_causes::agree;
 use line_causes::cause_of;
-use min_max::smaller_size;
+use ints::min_max::smaller_size;
 use program_parts::print_text;
-use reading_text::position;
+use reading::text::position;
 ghost use Prim.Native.Nat.{_≤_};
 ghost use lib.ListN.{length};
 

@@ -1,12 +1,12 @@
 // The number of a line that is outside its limits, and the variable that is not below V.
 use crate::marked::print_marked;
-use expression_leaves::digits_at;
-use expression_leaves::is_digit;
+use expressions::leaves::digits_at;
+use expressions::leaves::is_digit;
 use line_causes::LineKind;
 use program_parts::print_number;
 use program_parts::print_text;
-use reading_text::position;
-use reading_text::starts_with;
+use reading::text::position;
+use reading::text::starts_with;
 ghost use Prim.Native.Nat.{_≤_, _<_};
 ghost use lib.ListN.{length};
 

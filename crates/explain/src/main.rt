@@ -11,8 +11,8 @@ mod rows;
 mod show;
 mod terms;
 
-use calls_prices::ask_prices;
-use calls_prices::prices_of;
+use calls::prices::ask_prices;
+use calls::prices::prices_of;
 use libc::STDIN_FILENO;
 use program_parts::WORD;
 use program_parts::print_text;

@@ -3,7 +3,7 @@ use crate::show::print_shown;
 use crate::show::print_spaces;
 use explain_margin::LinePlace;
 use explain_margin::line_of;
-use min_max::smaller_size;
+use ints::min_max::smaller_size;
 use program_parts::print_text;
 ghost use Prim.Native.Nat.{_≤_};
 ghost use lib.ListN.{length};

@@ -5,7 +5,7 @@ use crate::refusals::print_cause;
 use crate::refusals::print_remedy;
 use crate::terms::print_term;
 use explain_margin::is_head;
-use min_max::smaller_size;
+use ints::min_max::smaller_size;
 use program_parts::print_number;
 use program_parts::print_refusal;
 use program_parts::print_text;

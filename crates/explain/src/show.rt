@@ -24,7 +24,7 @@ use explain_margin::passes_here;
 use explain_margin::put_shown;
 use explain_margin::room;
 use explain_margin::share;
-use min_max::smaller_size;
+use ints::min_max::smaller_size;
 use program_parts::print_front;
 use program_parts::print_number;
 use program_parts::print_text;
@@ -50,7 +50,7 @@ pub fn print_spaces(n: usize) {
 // A number at the right end of a column.
 fn print_right(n: u64, width: usize) {
     let mut text = [0u8; 20];
-    let k = report_pieces::put_number(b"", n, &mut text);
+    let k = report::pieces::put_number(b"", n, &mut text);
     print_spaces(width - smaller_size(k, width));
     print_front(&text, k);
 }

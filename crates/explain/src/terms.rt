@@ -1,5 +1,5 @@
 // The row, and the term, for which a loop is refused by 8, 9, 10 or 19.
-use min_max::smaller_size;
+use ints::min_max::smaller_size;
 use program_parts::print_number;
 use program_parts::print_text;
 use rules::Operand;

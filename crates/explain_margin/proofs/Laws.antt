@@ -11,8 +11,8 @@ use lib.ListN.{length, getD, take, drop, set, length-take, length-drop, length-m
 use lib.Seq.{drop-cons, drop-drop, getD-take, take-suc, take-all, length-take-le, set-at}
 use Rattle.rules.specs.declared.LoopLine.{LoopLine}
 use Rattle.rules.specs.Text.{lf, split}
-use Rattle.reading_text.specs.Words.{before}
-use Rattle.reading_text.proofs.Laws.{split-more, split-last}
+use Rattle.reading.specs.Words.{before}
+use Rattle.reading.proofs.TextLaws.{split-more, split-last}
 use Rattle.explain_margin.specs.Figures.{lineFigures, putLines, mostIn}
 use Rattle.explain_margin.specs.declared.place.LinePlace.the-variants.{At, Missing}
 use Rattle.explain_margin.specs.Places.{lineFrom, shownByte}

@@ -1,5 +1,5 @@
 // The columns: how wide they are, what is left for the script, and the bar.
-use min_max::smaller_size;
+use ints::min_max::smaller_size;
 ghost use mathlib.Core.Path.{_≡_};
 ghost use Prim.Native.Nat.{_+_, _-_, _≤_, _<_, min, max};
 ghost use Rattle.explain_margin.specs.Columns.{ColumnOf, Narrow, shareOf};
@@ -25,7 +25,7 @@ pub fn column(greatest: u64) -> usize
     ensures { λ r. ⌜ ColumnOf greatest r ⌝ }
 {
     let mut text = [0u8; 20];
-    let n = report_pieces::put_number(b"", greatest, &mut text);
+    let n = report::pieces::put_number(b"", greatest, &mut text);
     if n < HEADING { HEADING } else { n }
 }
 

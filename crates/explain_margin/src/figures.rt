@@ -1,6 +1,6 @@
 // The figures by row: turns, total and exact or most of a loop's head, the ticks of one pass of a block's head; 0 at other rows.
 use analysis_lines::line_at;
-use min_max::larger;
+use ints::min_max::larger;
 use rules::LoopLine;
 use table::Shape;
 use table::shape_at;

@@ -1,5 +1,5 @@
 // The open blocks along the rows: how deep a row stands, and how often what stands there is passed in all.
-use min_max::smaller_size;
+use ints::min_max::smaller_size;
 use table::Tag;
 ghost use mathlib.Core.Path.{_≡_};
 ghost use Prim.Native.Nat.{_*_, _-_, _≤_, min};

@@ -1,6 +1,6 @@
 // Where a refusal points in the file, and the lines of a file.
-use min_max::smaller_size;
-use reading_text::position;
+use ints::min_max::smaller_size;
+use reading::text::position;
 ghost use mathlib.Core.Path.{_≡_};
 ghost use Rattle.rules.specs.Text.{lf, split};
 ghost use Rattle.explain_margin.specs.Places.{within, placeKind, lineFrom, StandsIn, shownByte, ShownAs};

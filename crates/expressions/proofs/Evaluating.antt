@@ -13,10 +13,10 @@ use Rattle.rules.specs.declared.Operator.the-variants.{Add, Sub, Mul}
 use Rattle.rules.specs.Expressions.{Expr, constant, variable, group, apply, Numbers, meaning}
 use Rattle.rules.specs.Parse.{Parsed, parsed, shapeless, thenParse, atom, Ahead, operator, other, ahead, afterTerm, afterFactor, close, factorOf, readExpression, readFactor}
 use Rattle.rules.proofs.Parsing.{factor-is}
-use Rattle.expression_leaves.specs.declared.Leaf.{Leaf}
-use Rattle.expression_leaves.specs.declared.WholeNumber.{WholeNumber}
-use Rattle.expression_leaves.specs.Leaves.{cutExpr, cutIn, said, neither, leafOf, LeafAt}
-use Rattle.expression_operators.specs.Operators.{operatorOf, joinedBy, isSum}
+use Rattle.expressions.specs.declared.leaves.Leaf.{Leaf}
+use Rattle.expressions.specs.declared.leaves.WholeNumber.{WholeNumber}
+use Rattle.expressions.specs.Leaves.{cutExpr, cutIn, said, neither, leafOf, LeafAt}
+use Rattle.expressions.specs.Operators.{operatorOf, joinedBy, isSum}
 use Rattle.expressions.specs.Evaluating.{shut, Gives}
 
 -- ---- what is read

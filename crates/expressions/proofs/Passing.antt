@@ -13,7 +13,7 @@ use Rattle.rules.specs.Expressions.{Expr, constant, variable, group, apply, Num
 use Rattle.rules.specs.Values.{lowest, highest, inLimits}
 use Rattle.rules.specs.Parse.{Parsed, parsed, shapeless, thenParse, atEnd, parse, exprIn, readExpression}
 use Rattle.rules.specs.File.{turnOf, firstRefusal, asksSize, asksLeaves, asksExpr}
-use Rattle.expression_leaves.specs.Leaves.{ceiling, cutZ, cutExpr}
+use Rattle.expressions.specs.Leaves.{ceiling, cutZ, cutExpr}
 use Rattle.expressions.specs.Evaluating.{Gives}
 use Rattle.rules.specs.Written.{PassedWord}
 

@@ -13,10 +13,10 @@ use Rattle.rules.specs.Values.{number}
 use Rattle.rules.specs.Ranges.{Env}
 use Rattle.rules.specs.Evaluate.{notPast}
 use Rattle.rules.specs.Scripts.{storeOf}
-use Rattle.expression_operators.specs.declared.PartRange.{PartRange}
-use Rattle.expression_operators.specs.declared.PartValue.{PartValue}
-use Rattle.expression_leaves.specs.Leaves.{cutExpr}
-use Rattle.expression_operators.specs.Operators.{ranges, runNumbers, valueOf, partResult}
+use Rattle.expressions.specs.declared.operators.PartRange.{PartRange}
+use Rattle.expressions.specs.declared.operators.PartValue.{PartValue}
+use Rattle.expressions.specs.Leaves.{cutExpr}
+use Rattle.expressions.specs.Operators.{ranges, runNumbers, valueOf, partResult}
 
 -- a number, before the byte `next`
 abbrev pub cameTo : ℤ → ℕ → PartValue

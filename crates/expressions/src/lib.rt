@@ -1,13 +1,17 @@
 // Expressions: what a word comes to, in ranges and in a run.
-use expression_leaves::VARIABLE;
-use expression_leaves::digits_at;
-use expression_leaves::leaf_at;
-use expression_operators::FIRST;
-use expression_operators::PartRange;
-use expression_operators::PartValue;
-use expression_operators::joined;
-use expression_operators::joined_run;
-use expression_operators::sums;
+pub mod leaves;
+pub mod operators;
+pub mod names;
+
+use crate::leaves::VARIABLE;
+use crate::leaves::digits_at;
+use crate::leaves::leaf_at;
+use crate::operators::FIRST;
+use crate::operators::PartRange;
+use crate::operators::PartValue;
+use crate::operators::joined;
+use crate::operators::joined_run;
+use crate::operators::sums;
 use rules::Value;
 ghost use mathlib.Core.Path.{_≡_};
 ghost use lib.ListN.{length, drop, getD};

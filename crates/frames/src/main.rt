@@ -4,8 +4,8 @@
 use calls_frames::Frames;
 use calls_frames::Played;
 use loader::SCRATCH;
-use program_lists::Lent;
-use program_lists::Values;
+use program_words::lists::Lent;
+use program_words::lists::Values;
 use program_parts::WORD;
 use program_parts::print_text;
 use program_words::Number;
@@ -51,13 +51,13 @@ fn read_last(i: usize, file: usize, picks: usize, store: &mut [i32]) -> Share
 {
     let mut word = [0u8; WORD];
     let n = os::arg(i, &mut word);
-    let values = program_lists::read_word_values(&word[..n], store);
+    let values = program_words::lists::read_word_values(&word[..n], store);
     match values {
         Values::Count(count) => Share {
             words: Words::Right,
             file,
             picks,
-            values: min_max::smaller_size(count, store.len()),
+            values: ints::min_max::smaller_size(count, store.len()),
         },
         Values::Wrong(at) => wrong(Words::NoValue(at)),
     }
@@ -207,7 +207,7 @@ fn print_scripts(f: Frames, stores: &[i32], lengths: &[usize]) {
     let mut k: usize = 0;
     while k < lengths.len() && k < SCRIPTS {
         let p = scripts[k];
-        let n = min_max::smaller_size(lengths[k], stores.len() - at);
+        let n = ints::min_max::smaller_size(lengths[k], stores.len() - at);
         let to = at + n;
         print_script(k, p, &stores[at..to]);
         at = to;
@@ -395,7 +395,7 @@ fn read_prices(arguments: usize) {
     let n = os::arg(1, &mut word);
     let ones = [1u32; 4];
     let mut prices = [1u32; 5];
-    let lent = program_lists::lend_prices(&word[..n], &mut prices);
+    let lent = program_words::lists::lend_prices(&word[..n], &mut prices);
     match lent {
         Lent::Nothing => read_q(1, arguments, &ones),
         Lent::Count(k) => read_q(2, arguments, &prices[..k]),

@@ -11,9 +11,9 @@ use lib.ListN.{length, getD, take, drop, drop-of-length-le, length-drop}
 use lib.Seq.{drop-cons, drop-drop, length-take-le}
 use Rattle.rules.specs.Parse.{isMark}
 use Rattle.rules.specs.Text.{space, prefixed, split, startsWith, isDigit}
-use Rattle.reading_text.specs.Words.{before}
-use Rattle.reading_text.proofs.Laws.{part-rest}
-use Rattle.program_lists.proofs.Pieces.{piece-within, piece-last, piece-more}
+use Rattle.reading.specs.Words.{before}
+use Rattle.reading.proofs.TextLaws.{part-rest}
+use Rattle.program_words.proofs.Pieces.{piece-within, piece-last, piece-more}
 use Rattle.line_causes.specs.declared.Cause.{Cause}
 use Rattle.line_causes.specs.declared.breaks.Mode.{Mode}
 use Rattle.line_causes.specs.declared.breaks.Turn.{Turn}

@@ -7,7 +7,7 @@ use lib.ListN.{take, drop}
 use Rattle.rules.specs.Text.{space, equals, startsWith}
 use Rattle.rules.specs.Parse.{parse}
 use Rattle.rules.specs.File.{asksExpr}
-use Rattle.reading_text.specs.Words.{before}
+use Rattle.reading.specs.Words.{before}
 use Rattle.program_words.specs.Words.{isNumber}
 
 -- `k`: the name of a row, which is one

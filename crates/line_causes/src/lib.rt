@@ -4,10 +4,10 @@ mod breaks;
 mod shapes;
 
 use breaks::broken_at;
-use expression_leaves::is_digit;
+use expressions::leaves::is_digit;
 use program_words::is_word;
-use reading_text::position;
-use reading_text::starts_with;
+use reading::text::position;
+use reading::text::starts_with;
 pub use shapes::COMPARES;
 pub use shapes::EXPRESSION;
 pub use shapes::KNOWN;

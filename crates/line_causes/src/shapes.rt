@@ -1,8 +1,8 @@
 // What a line's words are to be: a shape has a letter for each word.
-use expression_questions::question;
+use reading::questions::question;
 use program_words::is_number;
 use program_words::is_word;
-use reading_text::starts_with;
+use reading::text::starts_with;
 ghost use mathlib.Core.Path.{_≡_};
 ghost use mathlib.Core.Bool.{_||_};
 ghost use Rattle.rules.specs.Text.{equals};

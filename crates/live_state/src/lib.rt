@@ -1,7 +1,7 @@
 // The state of a live run, 64 numbers that the caller holds: question 21, what they say, and what is written.
 use analysis_lines::line_at;
-use min_max::larger;
-use min_max::smaller;
+use ints::min_max::larger;
+use ints::min_max::smaller;
 use rules::ALL;
 use rules::Ending;
 use rules::Kind;

@@ -23,8 +23,8 @@ use Rattle.calls_live.specs.Told.{StartedAs, ToldNoStep, SteppedAs}
 use Rattle.calls.specs.declared.Measured.{Measured}
 use Rattle.calls.specs.declared.Outcome.{Outcome}
 use Rattle.calls.proofs.Runs.{told-says}
-use Rattle.calls_figures.specs.declared.Figures.{Figures}
-use Rattle.calls_figures.specs.Told.{noFigures, FiguresAs}
+use Rattle.calls.specs.declared.figures.Figures.{Figures}
+use Rattle.calls.specs.Figures.{noFigures, FiguresAs}
 use Rattle.loader.specs.Kept.{replyNumber, replyPlace, verdictNumber, firstBy, runNumber, runFirst, lentVerdict, Reported, KeptCall, ScratchKept}
 
 -- the questions 1 and 16

@@ -1,13 +1,13 @@
 // The public calls: the report of a script file, its figures, its run, and the frames of several scripts. They take all inputs, always end,
 // and refuse by number and place.
 use calls::Outcome;
-use calls_figures::Figures;
+use calls::figures::Figures;
 use calls_frames::Frames;
 use calls_live::Started;
 use calls_live::StepDone;
 use calls_live::Turn;
-use calls_prices::ask_prices;
-use calls_prices::prices_of;
+use calls::prices::ask_prices;
+use calls::prices::prices_of;
 use reader::load;
 use rules::Reply;
 use rules::Verdict;
@@ -19,7 +19,7 @@ ghost use Rattle.rules.specs.Calls.{pricesOf, Priced, judgedFile, runReply};
 ghost use Rattle.rules_live.specs.LiveCalls.{startReply, stepReply};
 ghost use Rattle.calls.specs.Told.{RanAs};
 ghost use Rattle.calls_live.specs.Told.{stepLent, StartedAs, SteppedAs};
-ghost use Rattle.calls_figures.specs.Told.{FiguresAs};
+ghost use Rattle.calls.specs.Figures.{FiguresAs};
 ghost use Rattle.calls_lists.specs.Parts.{lentOf};
 ghost use Rattle.loader.specs.Kept.{lentVerdict, judgement, Reported, KeptCall, ScratchKept};
 ghost use Rattle.loader.specs.Framing.{FramedCall};
@@ -105,9 +105,9 @@ fn figures_file(
     let verdict = l.verdict;
     match verdict {
         Verdict::Passed => {
-            calls_figures::figures_script(file, &table[..], l, ranges, prices, lines)
+            calls::figures::figures_script(file, &table[..], l, ranges, prices, lines)
         }
-        Verdict::Refused(_, _) => calls_figures::no_figures(verdict),
+        Verdict::Refused(_, _) => calls::figures::no_figures(verdict),
     }
 }
 
@@ -128,7 +128,7 @@ pub fn figures(
     let lent = ask_lent(prices, scratch.len());
     match lent {
         Verdict::Passed => figures_file(file, prices, &mut scratch[..SCRATCH], lines),
-        Verdict::Refused(_, _) => calls_figures::no_figures(lent),
+        Verdict::Refused(_, _) => calls::figures::no_figures(lent),
     }
 }
 

@@ -1,7 +1,7 @@
 // The arguments of a program.
 use crate::wrong::print_wrong_price;
-use program_lists::Lent;
-use program_lists::lend_prices;
+use program_words::lists::Lent;
+use program_words::lists::lend_prices;
 use program_words::is_word;
 ghost use mathlib.Core.Path.{_≡_};
 ghost use Prim.Native.Nat.{_≤_};

@@ -7,10 +7,10 @@ use crate::wrong::print_wrong_listed;
 use crate::wrong::print_wrong_price;
 use bytes::scan::find;
 use libc::STDIN_FILENO;
-use program_lists::Lent;
-use program_lists::Values;
-use program_lists::lend_prices;
-use program_lists::read_line_values;
+use program_words::lists::Lent;
+use program_words::lists::Values;
+use program_words::lists::lend_prices;
+use program_words::lists::read_line_values;
 
 // What a line is: the name of a file to report, or a run, `[prices=A,C,P,T] NAME ALLOWANCE PICKS VALUE ..`.
 pub enum LineKind {

@@ -4,18 +4,18 @@ use crate::wrong::print_unread;
 use crate::wrong::print_wrong_allowance;
 use crate::wrong::print_wrong_picks;
 use libc::STDIN_FILENO;
-use min_max::smaller_size;
+use ints::min_max::smaller_size;
 use program_words::Number;
 use program_words::allowance;
 use program_words::pick_count;
 use program_words::put_picks;
-use report_text::TEXT;
-use report_text::put_report;
+use answer_text::reports::TEXT;
+use answer_text::reports::put_report;
 ghost use mathlib.Core.Path.{_≡_};
 ghost use Prim.Native.Nat.{_≤_};
 ghost use lib.ListN.{length};
 ghost use Rattle.rules.specs.Calls.{fourOnes};
-ghost use Rattle.report_text.specs.Printed.{printed};
+ghost use Rattle.answer_text.specs.Printed.{printed};
 ghost use Rattle.io.specs.Counts.{Counts};
 
 // How many bytes were read, and whether a read failed.
@@ -118,8 +118,8 @@ pub fn report_file(path: &[u8]) {
 fn print_run(file: &[u8], prices: &[u32], allowed: u64, picks: &[u8], store: &mut [i32])
     requires { ⌜ length (now store) ≤ 17 ⌝ }
 {
-    let mut text = [0u8; run_text::TEXT];
-    let n = run_text::put_answer(file, prices, store, picks, allowed, &mut text);
+    let mut text = [0u8; answer_text::runs::TEXT];
+    let n = answer_text::runs::put_answer(file, prices, store, picks, allowed, &mut text);
     print_text(&text[..n]);
 }
 

@@ -2,7 +2,7 @@
 use crate::print::print_number;
 use crate::print::print_text;
 use bytes::scan::find;
-use min_max::smaller_size;
+use ints::min_max::smaller_size;
 use program_words::is_number;
 ghost use Prim.Native.Nat.{_≤_};
 ghost use lib.ListN.{length};

@@ -8,7 +8,7 @@ use borrow.Author.Tests.{le-leb, lt-leb, leb-true}
 use lib.Dec.{leb}
 use lib.ListN.{length, getD, drop}
 use Rattle.rules.specs.Text.{isDigit, allDigits, valueFrom}
-use Rattle.reading_text.proofs.Laws.{all-more, all-stop, all-end, value-more, value-end}
+use Rattle.reading.proofs.TextLaws.{all-more, all-stop, all-end, value-more, value-end}
 use Rattle.program_words.specs.Words.{digitOf, sized, spelledIn}
 use Rattle.program_words.specs.declared.Number.{Number}
 use Rattle.program_words.specs.declared.Number.the-variants.{Is, Malformed}

@@ -1,4 +1,9 @@
--- The laws that belong to no one function.
+-- The words of a program's arguments and input: numbers, picks, lists.
+pub mod Bits
 pub mod Digits
 pub mod Words
-pub mod Bits
+pub mod Examples
+pub mod ListsLaws
+pub mod Pieces
+pub mod Prices
+pub mod ListWords

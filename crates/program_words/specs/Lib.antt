@@ -1,2 +1,3 @@
--- What the words of a program's arguments and lines say.
+-- The words of a program's arguments and input: numbers, picks, lists.
 pub mod Words
+pub mod Lists

@@ -1,6 +1,8 @@
 // Numbers, prices and picks as words. A number is written as in a script: no plus, no leading zeros, `-` only before a non-zero number.
-use min_max::smaller_size;
-use reading_text::starts_with;
+pub mod lists;
+
+use ints::min_max::smaller_size;
+use reading::text::starts_with;
 ghost use mathlib.Core.Path.{_≡_};
 ghost use mathlib.Core.Bool.{true, cond};
 ghost use Prim.Native.Nat.{_≤_, _<_, min};

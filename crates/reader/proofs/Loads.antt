@@ -20,15 +20,15 @@ use Rattle.rules.specs.Ranges.{Range}
 use Rattle.rules.specs.Scripts.{Script, pairRanges, BlankFrom, scriptOf}
 use Rattle.rules.specs.Text.{prefixed, split}
 use Rattle.rules.specs.File.{Reading, read, refused, thenLines, unless, turnOf, firstRefusal, asksRest, asksClosed, lastLine, rowLines, noRows}
-use Rattle.reading_nesting.specs.Open.{nestOf}
-use Rattle.reading_nesting.proofs.Laws.{closed-depth, open-depth}
-use Rattle.reading_head.specs.declared.Head.{Head}
+use Rattle.reader.specs.Open.{nestOf}
+use Rattle.reader.proofs.NestingLaws.{closed-depth, open-depth}
+use Rattle.reader.specs.declared.head.Head.{Head}
 use Rattle.reader.specs.declared.Loaded.{Loaded}
-use Rattle.reading_lines.specs.Lines.{fileLines}
-use Rattle.reading_head.specs.Head.{HeadRead, passing, headRead}
+use Rattle.reader.specs.Lines.{fileLines}
+use Rattle.reader.specs.Head.{HeadRead, passing, headRead}
 use Rattle.reader.specs.Read.{rowsVerdict, ifRead, readAnswer, loadedAnswer, WrittenRows, RowsPart, ReadAs}
-use Rattle.reading_lines.proofs.Lines.{split-some}
-use Rattle.reader.proofs.Fill.{Stop, given, RowsRead}
+use Rattle.reader.proofs.NextLine.{split-some}
+use Rattle.reader.proofs.FillRows.{Stop, given, RowsRead}
 
 -- bytes after the last line
 rest-some : (s : List ℕ) → 0 < length s → asksRest (fileLines s) ≡ 3

@@ -1,2 +1,6 @@
--- What the contracts of the reader cite.
+-- The reader: a file to its lines, its rows and the table of them.
+pub mod Rows
+pub mod Lines
+pub mod Head
+pub mod Open
 pub mod Read

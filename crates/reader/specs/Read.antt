@@ -15,13 +15,13 @@ use Rattle.rules.specs.declared.Verdict.{Verdict}
 use Rattle.rules.specs.declared.Verdict.the-variants.{Passed, Refused}
 use Rattle.rules.specs.Questions.{asked}
 use Rattle.rules.specs.File.{Reading, read, refused, rowKey, rowOf}
-use Rattle.reading_text.specs.Words.{before}
-use Rattle.reading_rows.specs.declared.RowLine.{RowLine}
-use Rattle.reading_rows.specs.Rows.{Rowed}
-use Rattle.reading_head.specs.declared.Head.{Head}
+use Rattle.reading.specs.Words.{before}
+use Rattle.reader.specs.declared.rows.RowLine.{RowLine}
+use Rattle.reader.specs.Rows.{Rowed}
+use Rattle.reader.specs.declared.head.Head.{Head}
 use Rattle.reader.specs.declared.Loaded.{Loaded}
-use Rattle.reading_lines.specs.Lines.{fileLines}
-use Rattle.reading_head.specs.Head.{passing, headRead}
+use Rattle.reader.specs.Lines.{fileLines}
+use Rattle.reader.specs.Head.{passing, headRead}
 use Rattle.table.specs.Code.{rowsOf}
 use Rattle.table.specs.Paired.{Table}
 

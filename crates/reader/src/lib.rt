@@ -1,10 +1,15 @@
 // Reads a script file line by line: the questions 2 to 7 and 17. Each line's reader gets the unread rest of the file.
-use reading_head::load_head;
-use reading_lines::keyed;
-use reading_nesting::Blocks;
-use reading_nesting::nest_row;
-use reading_rows::RowLine;
-use reading_rows::row_of;
+pub mod rows;
+pub mod lines;
+pub mod head;
+pub mod nesting;
+
+use crate::head::load_head;
+use crate::lines::keyed;
+use crate::nesting::Blocks;
+use crate::nesting::nest_row;
+use crate::rows::RowLine;
+use crate::rows::row_of;
 use rules::BLANK;
 use rules::Row;
 use rules::Verdict;

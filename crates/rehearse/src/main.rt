@@ -2,7 +2,7 @@
 // its store and the turns of its loops. The prices are four ones if they are not given. ALLOWANCE is a number or `plan`, PICKS a word of 0
 // and 1 or `-`, and the values are the store.
 
-use program_lists::Values;
+use program_words::lists::Values;
 use program_parts::WORD;
 use program_parts::print_text;
 ghost use Prim.Native.Nat.{_≤_};

@@ -18,11 +18,11 @@ use Rattle.rules.specs.declared.Reply.the-variants.{Accepted, Refused}
 use Rattle.rules.specs.Calls.{bufferReply, written}
 use Rattle.rules.specs.Figures.{Line}
 use Rattle.rules.specs.Report.{lineOf, linesOf, joined, sign, size, decimal, stepName, firstEnd, secondEnd, exactName, keyLine, loopLine, loopLines, reportText, ticksKey}
-use Rattle.report_pieces.specs.declared.Label.the-variants.{Loop, Space, Newline}
-use Rattle.report_pieces.specs.declared.Piece.{Piece}
-use Rattle.report_pieces.specs.declared.Piece.the-variants.{Fixed, Number}
-use Rattle.report_pieces.specs.Pieces.{pieceText, pieceTexts, Wrote}
-use Rattle.report_pieces.proofs.Laws.{joined-append}
+use Rattle.report.specs.declared.pieces.Label.the-variants.{Loop, Space, Newline}
+use Rattle.report.specs.declared.pieces.Piece.{Piece}
+use Rattle.report.specs.declared.pieces.Piece.the-variants.{Fixed, Number}
+use Rattle.report.specs.Pieces.{pieceText, pieceTexts, Wrote}
+use Rattle.report.proofs.PiecesLaws.{joined-append}
 use Rattle.report.specs.Lines.{headText, loopsText}
 
 -- a number below 0: one more, and that turned round

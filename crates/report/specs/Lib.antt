@@ -1,1 +1,3 @@
+-- The report's text.
+pub mod Pieces
 pub mod Lines

@@ -1,7 +1,9 @@
 // Writing the report, line by line, into the unused rest of the buffer.
+pub mod pieces;
+
 use analysis_lines::line_at;
-use report_pieces::Label;
-use report_pieces::Piece;
+use crate::pieces::Label;
+use crate::pieces::Piece;
 use rules::LoopLine;
 use rules::Reply;
 use rules_steps::Step;
@@ -11,7 +13,7 @@ ghost use lib.ListN.{length};
 ghost use Rattle.rules.specs.Calls.{bufferReply, written};
 ghost use Rattle.rules.specs.Report.{joined, decimal, sign, size, stepName, firstEnd, secondEnd, exactName, loopLine, lineOf, reportText};
 ghost use Rattle.analysis_lines.specs.Coded.{linesIn, firstLines, LineTable};
-ghost use Rattle.report_pieces.specs.Pieces.{pieceText, pieceTexts, Wrote};
+ghost use Rattle.report.specs.Pieces.{pieceText, pieceTexts, Wrote};
 ghost use Rattle.report.specs.Lines.{endNumber, headText, loopsText};
 
 // How far z is from 0.
@@ -141,9 +143,9 @@ fn loop_line(line: LoopLine) -> [Piece; 17]
 fn head_len(rows: usize, loops: usize) -> usize
     ensures { λ r. ⌜ (r ≡ length (headText rows loops)) × (r ≤ 84) ⌝ }
 {
-    let first = report_pieces::key_len(Label::Report, 1)
-        + report_pieces::key_len(Label::Rows, rows as u64);
-    first + report_pieces::key_len(Label::Loops, loops as u64)
+    let first = crate::pieces::key_len(Label::Report, 1)
+        + crate::pieces::key_len(Label::Rows, rows as u64);
+    first + crate::pieces::key_len(Label::Loops, loops as u64)
 }
 
 // The loops' lines: how many bytes they have.
@@ -155,7 +157,7 @@ fn loops_len(lines: &[[u64; 7]; 16], loops: usize) -> usize
     let mut k: usize = 0;
     while k < loops {
         let line = line_at(lines, k);
-        len += report_pieces::line_len(loop_line(line));
+        len += crate::pieces::line_len(loop_line(line));
         k += 1;
     }
     len
@@ -167,7 +169,7 @@ pub fn report_len(rows: usize, lines: &[[u64; 7]; 16], loops: usize, ticks: u64)
     ensures { λ r. ⌜ r ≡ length (reportText rows (firstLines (now (lines .entry)) loops) ticks) ⌝ }
 {
     let before = head_len(rows, loops) + loops_len(lines, loops);
-    before + report_pieces::key_len(Label::Ticks, ticks)
+    before + crate::pieces::key_len(Label::Ticks, ticks)
 }
 
 // Writes the lines before the loops'.
@@ -175,9 +177,9 @@ fn put_head(rows: usize, loops: usize, buffer: &mut [u8]) -> usize
     requires { ⌜ length (headText rows loops) ≤ length (now buffer) ⌝ }
     ensures { λ r. ⌜ Wrote (headText rows loops) (now (buffer .entry)) (now (buffer .exit)) r ⌝ }
 {
-    let a = report_pieces::put_key(Label::Report, 1, buffer);
-    let b = a + report_pieces::put_key(Label::Rows, rows as u64, &mut buffer[a..]);
-    b + report_pieces::put_key(Label::Loops, loops as u64, &mut buffer[b..])
+    let a = crate::pieces::put_key(Label::Report, 1, buffer);
+    let b = a + crate::pieces::put_key(Label::Rows, rows as u64, &mut buffer[a..]);
+    b + crate::pieces::put_key(Label::Loops, loops as u64, &mut buffer[b..])
 }
 
 // Writes the loops' lines, each into the unused rest of the buffer.
@@ -189,7 +191,7 @@ fn put_loops(lines: &[[u64; 7]; 16], loops: usize, buffer: &mut [u8]) -> usize
     let mut k: usize = 0;
     while k < loops {
         let line = line_at(lines, k);
-        at += report_pieces::put_line(loop_line(line), &mut buffer[at..]);
+        at += crate::pieces::put_line(loop_line(line), &mut buffer[at..]);
         k += 1;
     }
     at
@@ -210,7 +212,7 @@ fn put_lines(
 {
     let a = put_head(rows, loops, buffer);
     let b = a + put_loops(lines, loops, &mut buffer[a..]);
-    b + report_pieces::put_key(Label::Ticks, ticks, &mut buffer[b..])
+    b + crate::pieces::put_key(Label::Ticks, ticks, &mut buffer[b..])
 }
 
 // Writes the report, if the buffer is long enough (question 14).

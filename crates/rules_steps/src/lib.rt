@@ -1,8 +1,8 @@
 // The step of a variable, and two steps joined: in sequence, or over a pick.
-use min_max::higher;
-use min_max::larger;
-use min_max::lower;
-use min_max::smaller;
+use ints::min_max::higher;
+use ints::min_max::larger;
+use ints::min_max::lower;
+use ints::min_max::smaller;
 ghost use mathlib.Core.Path.{_≡_};
 ghost use mathlib.Core.Bool.{cond};
 ghost use Prim.Native.Nat.{_≤_};

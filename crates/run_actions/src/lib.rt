@@ -1,5 +1,5 @@
 // What one price of a run buys: an assignment, a cue, a pick; and the counts of the turns.
-use min_max::larger;
+use ints::min_max::larger;
 use rules::ALL;
 use rules::Ending;
 use rules::MOST;
@@ -93,7 +93,7 @@ pub fn put(
     if left < price {
         return ended(m, left, Ending::Spent, at);
     }
-    if !expression_operators::within(z) {
+    if !expressions::operators::within(z) {
         return ended(m, left - price, Ending::Range, at);
     }
     let i = v as usize;

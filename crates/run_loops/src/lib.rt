@@ -1,5 +1,5 @@
 // The loops of a script in row order, with their two counts.
-use min_max::larger;
+use ints::min_max::larger;
 use rules::ALL;
 use rules::LoopCount;
 use rules::MOST;

@@ -4,8 +4,8 @@ use mathlib.Core.List.{List}
 use Prim.Native.Nat.{ℕ}
 use lib.ListN.{length}
 use Rattle.rules_season.specs.Season.{judgedAll}
-use Rattle.season_names.specs.Kept.{NamesKept}
-use Rattle.season_sheet.specs.declared.Sheet.{Sheet}
+use Rattle.season_sheet.specs.Kept.{NamesKept}
+use Rattle.season_sheet.specs.declared.sheet.Sheet.{Sheet}
 use Rattle.season_sheet.specs.Figures.{SheetIs}
 
 -- the names are those of some input

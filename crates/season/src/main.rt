@@ -2,7 +2,7 @@
 // `files` first a line for each name. For no name or more than 64 it prints `refused=18 0`.
 use bytes::scan::find;
 use libc::STDIN_FILENO;
-use min_max::smaller_size;
+use ints::min_max::smaller_size;
 use program_parts::Input;
 use program_parts::WORD;
 use program_parts::print_front;
@@ -12,15 +12,15 @@ use program_parts::print_text;
 use program_parts::read_file;
 use program_parts::read_some;
 use rules::Reply;
-use season_files::CUES;
-use season_files::FILES;
-use season_files::REPORTS;
-use season_files::add_file;
-use season_names::LINE;
-use season_names::LINES;
-use season_names::ROOM;
-use season_sheet::Sheet;
-use season_sheet::TEXT;
+use season_sheet::files::CUES;
+use season_sheet::files::FILES;
+use season_sheet::files::REPORTS;
+use season_sheet::files::add_file;
+use season_sheet::names::LINE;
+use season_sheet::names::LINES;
+use season_sheet::names::ROOM;
+use season_sheet::sheet::Sheet;
+use season_sheet::sheet::TEXT;
 ghost use mathlib.Core.Path.{_≡_};
 ghost use mathlib.Core.Bool.{true};
 ghost use Prim.Native.Nat.{_≤_, _<_};
@@ -43,7 +43,7 @@ fn read_block(line: usize, names: &mut [u8; ROOM], lengths: &mut [usize; 66]) ->
     let mut block = io::large_buffer();
     let input = read_some(STDIN_FILENO, &mut block);
     let n = input.length;
-    let next = season_names::push_all(line, &block[..n], names, lengths);
+    let next = season_sheet::names::push_all(line, &block[..n], names, lengths);
     Listing {
         line: next,
         more: n > 0 && next < LINES,
@@ -56,7 +56,7 @@ fn read_block(line: usize, names: &mut [u8; ROOM], lengths: &mut [usize; 66]) ->
 fn read_names(names: &mut [u8; ROOM], lengths: &mut [usize; 66]) -> Listing
     ensures { λ r. ⌜ Listed (r .line) (now (names .exit)) (now (lengths .exit)) ⌝ }
 {
-    let mut line = season_names::start(names, lengths);
+    let mut line = season_sheet::names::start(names, lengths);
     let mut more = true;
     let mut failed = false;
     let mut turns = u64::MAX;
@@ -77,8 +77,8 @@ fn keep_argument(i: usize, line: usize, names: &mut [u8; ROOM], lengths: &mut [u
 {
     let mut word = [0u8; WORD];
     let n = os::arg(i, &mut word);
-    let next = season_names::push_all(line, &word[..n], names, lengths);
-    season_names::push_all(next, b"\n", names, lengths)
+    let next = season_sheet::names::push_all(line, &word[..n], names, lengths);
+    season_sheet::names::push_all(next, b"\n", names, lengths)
 }
 
 // Takes the names from the arguments, `first` and all after it. After 65 names there is no need of more.
@@ -90,7 +90,7 @@ fn argument_names(
 ) -> usize
     ensures { λ r. ⌜ Listed r (now (names .exit)) (now (lengths .exit)) ⌝ }
 {
-    let mut line = season_names::start(names, lengths);
+    let mut line = season_sheet::names::start(names, lengths);
     let mut i = first;
     while i < arguments {
         let next = keep_argument(i, line, names, lengths);
@@ -105,7 +105,7 @@ fn read_named(k: usize, names: &[u8], lengths: &[usize; 66], file: &mut [u8]) ->
     requires { ⌜ (k < 64) × (length (now names) ≡ 16_640) ⌝ }
     ensures { λ r. ⌜ Counts (r .length) (now (file .exit)) × (r .failed ≡ true → r .length ≡ 0) ⌝ }
 {
-    let n = season_names::opened(k, names, lengths);
+    let n = season_sheet::names::opened(k, names, lengths);
     if n == 0 {
         return Input {
             length: 0,
@@ -128,7 +128,7 @@ fn read_named(k: usize, names: &[u8], lengths: &[usize; 66], file: &mut [u8]) ->
 fn print_figures(file: &[u8]) {
     let mut report = [0u8; 2_089];
     let mut cues = [0u32; 256];
-    let found = season_files::measure(file, &mut report, &mut cues);
+    let found = season_sheet::files::measure(file, &mut report, &mut cues);
     let reply = found.reply;
     match reply {
         Reply::Accepted(_) => {
@@ -170,7 +170,7 @@ fn sheet_of(
     let mut reports = [0u8; REPORTS];
     let mut fired = [0usize; FILES];
     let mut cues = [0u32; CUES];
-    let mut sheet = season_sheet::empty(counts);
+    let mut sheet = season_sheet::sheet::empty(counts);
     let mut k = 0;
     while k < count {
         let mut file = [0u8; 16_385];
@@ -200,13 +200,13 @@ fn print_sheet(count: usize, names: &[u8], lengths: &[usize; 66], listing: bool)
     let mut counts = [0u64; 21];
     let mut text = [0u8; TEXT];
     let sheet = sheet_of(count, names, lengths, listing, &mut counts);
-    let n = season_sheet::put_sheet(sheet, &counts, &mut text);
+    let n = season_sheet::sheet::put_sheet(sheet, &counts, &mut text);
     print_front(&text, n);
 }
 
 fn print_no_sheet() {
     let mut text = [0u8; 64];
-    let n = season_sheet::put_refusal(&mut text);
+    let n = season_sheet::sheet::put_refusal(&mut text);
     print_front(&text, n);
 }
 
@@ -214,7 +214,7 @@ fn print_no_sheet() {
 fn print_season(line: usize, names: &[u8], lengths: &[usize; 66], failed: bool, listing: bool)
     requires { ⌜ length (now names) ≡ 16_640 ⌝ }
 {
-    let count = season_names::count(line, lengths);
+    let count = season_sheet::names::count(line, lengths);
     if count == 0 {
         print_no_sheet();
         return;

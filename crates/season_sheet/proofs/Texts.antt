@@ -14,9 +14,9 @@ use Rattle.rules.specs.Calls.{Judged}
 use Rattle.rules_season.specs.Season as season
 use Rattle.rules_season.specs.Season.{acceptedKey, refusedWord, refusedKey, numberKey, greatestKey, groupsKey, numberLines, sheetText, refusalText, sheetOf}
 use Rattle.rules.proofs.LongestReport.{decimal-short, key-short}
-use Rattle.report_pieces.specs.Pieces.{Wrote}
-use Rattle.report_pieces.proofs.Laws.{joined-append, wrote-nothing, wrote-then, wrote-length}
-use Rattle.season_sheet.specs.declared.Sheet.{Sheet}
+use Rattle.report.specs.Pieces.{Wrote}
+use Rattle.report.proofs.PiecesLaws.{joined-append, wrote-nothing, wrote-then, wrote-length}
+use Rattle.season_sheet.specs.declared.sheet.Sheet.{Sheet}
 use Rattle.season_sheet.specs.Figures.{figuresOf, SheetIs, frontText, metText, numbersText, tailText, SheetWritten}
 
 -- a key and a number, and a line of another key and number

@@ -11,8 +11,8 @@ use Rattle.rules.specs.Report.{joined, keyLine, ticksKey}
 use Rattle.rules.specs.Calls.{Judged, accepted, refuses}
 use Rattle.rules_season.specs.Season as season
 use Rattle.rules_season.specs.Season.{scriptsOf, among, sheetOf, acceptedKey, refusedKey, numberKey, greatestKey, groupsKey, numberLines, sheetText}
-use Rattle.report_pieces.specs.Pieces.{Wrote}
-use Rattle.season_sheet.specs.declared.Sheet.{Sheet}
+use Rattle.report.specs.Pieces.{Wrote}
+use Rattle.season_sheet.specs.declared.sheet.Sheet.{Sheet}
 
 -- the figures by their names; `counts` has 21, by refusal number
 abbrev pub figuresOf : Sheet → List ℕ → season.Sheet

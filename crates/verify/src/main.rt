@@ -6,8 +6,8 @@ use program_parts::print_number;
 use program_parts::print_text;
 use program_parts::print_unread;
 use program_parts::read_file;
-use report_text::TEXT;
-use report_text::put_report;
+use answer_text::reports::TEXT;
+use answer_text::reports::put_report;
 ghost use mathlib.Core.Path.{_≡_};
 ghost use Prim.Native.Nat.{_+_, _≤_, _<_};
 ghost use lib.ListN.{length};
@@ -59,7 +59,7 @@ fn differ(here: &[u8], there: &[u8]) -> Place
     requires { ⌜ length (now here) ≤ 2_089 ⌝ }
     ensures { λ r. ⌜ (r .start ≤ r .at) × (r .at ≤ length (now (here .entry))) ⌝ }
 {
-    let both = min_max::smaller_size(here.len(), there.len());
+    let both = ints::min_max::smaller_size(here.len(), there.len());
     let mut p = Place {
         at: 0,
         line: 1,
@@ -105,7 +105,7 @@ fn compare(here: &[u8], there: &[u8])
             return;
         }
     }
-    if reading_text::starts_with(here, b"refused=") {
+    if reading::text::starts_with(here, b"refused=") {
         print_text(here);
         return;
     }

@@ -17,9 +17,9 @@ use Rattle.analysis_steps.specs.Sets.{setOf}
 use Rattle.analysis_steps.proofs.Laws.{PickIs, LoopIs}
 use Rattle.analysis_steps.proofs.Walking.{ready, begin, pick-at, loop-at, at-close, at-last}
 use Rattle.analysis_intervals.specs.Env.{envOf, rangeOf}
-use Rattle.analysis_transfer.specs.Env.{widenedEnv}
+use Rattle.analysis_ranges.specs.Env.{widenedEnv}
 use Rattle.analysis_ranges.proofs.Loops.{outside-after}
-use Rattle.analysis_tallies.specs.Tallies.{LentTally, withLent, tallied}
+use Rattle.analysis.specs.Tallies.{LentTally, withLent, tallied}
 use Rattle.analysis.specs.Fold.{PassedPart, IsBlock}
 use Rattle.analysis.proofs.Folding.{fold-none}
 use Rattle.analysis.proofs.Going.{block-shape, loop-shape, refused-in, closing, restart-walkable, walked-from, Going, room, go-plain, go-block, block-stops, pick-room, pick-first, pick-second, part-by, past-pick, loop-room, loop-refused, body-refused, body-walkable, body-by, past-loop}
@@ -37,14 +37,14 @@ use Rattle.analysis.proofs.+walk+walk_block+walk_loop+walk_pick.Lts-wal
 use Rattle.analysis.proofs.walk.Reads as walk
 use Rattle.analysis.proofs.walk.Kinds as walk-kinds
 use Rattle.analysis.proofs.+walk+walk_block+walk_loop+walk_pick.Lts-walk as walk-lts
-use Rattle.analysis_passes.proofs.branch.Reads as branch-reads
-use Rattle.analysis_transfer.proofs.step_row.Reads as step-row-reads
-use Rattle.analysis_transfer.proofs.joined.Reads as joined-reads
-use Rattle.analysis_entries.proofs.enter_loop.Reads as enter-loop-reads
-use Rattle.analysis_entries.proofs.leave_loop.Reads as leave-loop-reads
-use Rattle.analysis_tallies.proofs.leave_pick.Reads as leave-pick-reads
-use Rattle.analysis_tallies.proofs.past_row.Reads as past-row-reads
-use Rattle.analysis_tallies.proofs.restarted.Reads as restarted-reads
+use Rattle.analysis_ticks.proofs.passes.branch.Reads as branch-reads
+use Rattle.analysis_ranges.proofs.transfer.step_row.Reads as step-row-reads
+use Rattle.analysis_ranges.proofs.transfer.joined.Reads as joined-reads
+use Rattle.analysis.proofs.entries.enter_loop.Reads as enter-loop-reads
+use Rattle.analysis.proofs.entries.leave_loop.Reads as leave-loop-reads
+use Rattle.analysis.proofs.tallies.leave_pick.Reads as leave-pick-reads
+use Rattle.analysis.proofs.tallies.past_row.Reads as past-row-reads
+use Rattle.analysis.proofs.tallies.restarted.Reads as restarted-reads
 use Rattle.table.proofs.past_else.Reads as past-else-reads
 use Rattle.table.proofs.shape_at.Reads as shape-at-reads
 use Rattle.analysis.proofs.+walk+walk_block+walk_loop+walk_pick.{statement}

@@ -7,9 +7,9 @@ use mir.Facts.{toZ-ofZ}
 use Rattle.ints.proofs.Parts.{ints, sfits-both, min-parts, max-parts}
 use Rattle.rules.specs.Values.{lowest, highest}
 use Rattle.rules.specs.Ranges.{full, edge, sort, insideRange}
-use Rattle.analysis_comparisons.specs.Wide.{EdgeWithin}
-use Rattle.analysis_comparisons.proofs.Small.{word}
-use Rattle.analysis_comparisons.proofs.Sorts.{is-rising, is-falling, unordered}
+use Rattle.analysis_intervals.specs.Wide.{EdgeWithin}
+use Rattle.analysis_intervals.proofs.Small.{word}
+use Rattle.analysis_intervals.proofs.Sorts.{is-rising, is-falling, unordered}
 use Rattle.analysis_intervals.specs.Env.{rangeOf}
 use Rattle.analysis_intervals.proofs.inside_interval.Statement.{statement}
 use Rattle.analysis_intervals.proofs.inside_interval.Tie as tie

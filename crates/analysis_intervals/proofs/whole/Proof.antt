@@ -4,7 +4,7 @@ use mathlib.Core.Path.{refl}
 use mir.Syntax.{w32}
 use mir.Val.{SFits}
 use mir.Facts.{toZ-ofZ}
-use Rattle.analysis_comparisons.proofs.Small.{word}
+use Rattle.analysis_intervals.proofs.Small.{word}
 use Rattle.analysis_intervals.proofs.whole.Statement.{statement}
 use Rattle.analysis_intervals.proofs.whole.Tie as tie
 

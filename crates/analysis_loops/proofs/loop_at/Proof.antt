@@ -11,7 +11,7 @@ use Rattle.table.specs.Code.{kindAt, rowsOf}
 use Rattle.table.proofs.Laws.{row-in}
 use Rattle.analysis_steps.specs.Tree.{formOf, testOf}
 use Rattle.analysis_steps.specs.Body.{bodyAt}
-use Rattle.analysis_ways.specs.Ways.{WayFrom}
+use Rattle.analysis_loops.specs.Ways.{WayFrom}
 use Rattle.analysis_intervals.specs.Env.{envOf}
 use Rattle.analysis_loops.proofs.Filling.{trip-is, near-is}
 use borrow.Author.Needs.{needs}

@@ -7,7 +7,7 @@ use mathlib.Core.Path.{ap, _∙_}
 use mathlib.Core.Bool.{true}
 use Rattle.rules.specs.Trips.{flag}
 use Rattle.analysis_intervals.specs.Env.{rangeOf}
-use Rattle.analysis_trips.specs.Found.{readFrom, chaseFrom}
+use Rattle.analysis_loops.specs.Found.{readFrom, chaseFrom}
 use Rattle.analysis_loops.proofs.trip_by.Statement.{statement}
 use Rattle.analysis_loops.proofs.trip_by.Tie as tie
 

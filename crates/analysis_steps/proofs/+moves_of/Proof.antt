@@ -8,7 +8,7 @@ use mathlib.Core.Logic.{⊎-elim}
 use Rattle.rules_steps.specs.declared.Step.the-variants.{Unknown}
 use Rattle.rules_steps.specs.Joins.{then}
 use Rattle.rules.specs.Steps.{rowStep}
-use Rattle.analysis_row_steps.proofs.Ends.{ends-only}
+use Rattle.analysis_steps.proofs.Ends.{ends-only}
 use Rattle.table.specs.Code.{kindAt, rowsOf}
 use Rattle.table.specs.Shapes.{pastElse, plainOf}
 use Rattle.table.proofs.Laws.{row-in}
@@ -25,7 +25,7 @@ use Rattle.analysis_steps.proofs.moves_of.Kinds as moves-of-kinds
 use Rattle.analysis_steps.proofs.+moves_of.Lts-moves_of as lts
 use Rattle.rules_steps.proofs.Step.either.Reads as either-reads
 use Rattle.rules_steps.proofs.Step.then.Reads as then-reads
-use Rattle.analysis_row_steps.proofs.only.Reads as only-reads
+use Rattle.analysis_steps.proofs.rows.only.Reads as only-reads
 use Rattle.analysis_steps.proofs.add_all.Reads as add-all-reads
 use Rattle.analysis_steps.proofs.add_row.Reads as add-row-reads
 use Rattle.analysis_steps.proofs.has.Reads as has-reads

@@ -3,7 +3,7 @@ use borrow.Author.Needs.{needs}
 use mathlib.Core.Path.{refl}
 use lib.IntN.{pos}
 use Rattle.ints.proofs.Parts.{ints, neg-parts}
-use Rattle.analysis_comparisons.specs.Wide.{Short}
+use Rattle.analysis_intervals.specs.Wide.{Short}
 use Rattle.analysis_turns.proofs.limit_of.Statement.{statement}
 use Rattle.analysis_turns.proofs.limit_of.Tie as tie
 

@@ -12,7 +12,7 @@ use borrow.Fn.Kinds.{In}
 use borrow.Fn.PlainCycle.{Measures, is, falls, and}
 use Rattle.rules.specs.Parse.{afterTerm, afterFactor, readExpression, readTerm, readFactor}
 use Rattle.rules.proofs.Parsing.{term-is, expression-is}
-use Rattle.expression_operators.specs.Operators.{operatorOf, ranges, valueOf}
+use Rattle.expressions.specs.Operators.{operatorOf, ranges, valueOf}
 use Rattle.expressions.specs.Evaluating.{valuesOf}
 use Rattle.expressions.proofs.Evaluating.{ChainBegun, begins, reads, goes, stops, no-factor, end-factor, more-factor, no-term, end-term, more-term, sums-later, factor-atom, factor-group}
 use Rattle.expressions.proofs.expression.Reads as expression
@@ -24,10 +24,10 @@ use Rattle.expressions.proofs.+expression+factor+term.Lts-factor as fac
 use Rattle.expressions.proofs.term.Reads as term
 use Rattle.expressions.proofs.term.Kinds as term-kinds
 use Rattle.expressions.proofs.+expression+factor+term.Lts-term as term-lts
-use Rattle.expression_operators.proofs.joined.Reads as joined-reads
+use Rattle.expressions.proofs.operators.joined.Reads as joined-reads
 use Rattle.expressions.proofs.operand.Reads as operand-reads
 use Rattle.expressions.proofs.shut.Reads as shut-reads
-use Rattle.expression_operators.proofs.sums.Reads as sums-reads
+use Rattle.expressions.proofs.operators.sums.Reads as sums-reads
 use Rattle.expressions.proofs.+expression+factor+term.{statement}
 use Rattle.expressions.proofs.+expression+factor+term.Tie.{close}
 

@@ -14,7 +14,7 @@ use Rattle.rules.specs.Parse.{afterTerm, afterFactor, readExpression, readTerm,
 use Rattle.rules.proofs.Parsing.{term-is, expression-is}
 use Rattle.rules.specs.Values.{number}
 use Rattle.rules.specs.Scripts.{storeOf}
-use Rattle.expression_operators.specs.Operators.{operatorOf, runNumbers, partResult}
+use Rattle.expressions.specs.Operators.{operatorOf, runNumbers, partResult}
 use Rattle.expressions.proofs.Evaluating.{ChainBegun, begins, reads, goes, stops, no-factor, end-factor, more-factor, no-term, end-term, more-term, sums-later, factor-atom, factor-group}
 use Rattle.expressions.proofs.expression_run.Reads as expression-run
 use Rattle.expressions.proofs.expression_run.Kinds as expression-run-kinds
@@ -25,10 +25,10 @@ use Rattle.expressions.proofs.+expression_run+factor_run+term_run.Lts-f
 use Rattle.expressions.proofs.term_run.Reads as term-run
 use Rattle.expressions.proofs.term_run.Kinds as term-run-kinds
 use Rattle.expressions.proofs.+expression_run+factor_run+term_run.Lts-term_run as term-run-lts
-use Rattle.expression_operators.proofs.joined_run.Reads as joined-run-reads
+use Rattle.expressions.proofs.operators.joined_run.Reads as joined-run-reads
 use Rattle.expressions.proofs.operand_run.Reads as operand-run-reads
 use Rattle.expressions.proofs.shut.Reads as shut-reads
-use Rattle.expression_operators.proofs.sums.Reads as sums-reads
+use Rattle.expressions.proofs.operators.sums.Reads as sums-reads
 use Rattle.expressions.proofs.+expression_run+factor_run+term_run.{statement}
 use Rattle.expressions.proofs.+expression_run+factor_run+term_run.Tie.{close}
 

@@ -5,7 +5,7 @@ use mir.Val.{SFits}
 use mir.Facts.{toZ-ofZ}
 use mir.ValLaws.{toZ-pos}
 use borrow.Author.Needs.{needs, sfits-of}
-use Rattle.expression_leaves.proofs.Leaves.{digits-whole, digits-small, minus-fits, minus-is, leaf-past, leaf-variable, leaf-negative, leaf-other}
+use Rattle.expressions.proofs.LeavesLaws.{digits-whole, digits-small, minus-fits, minus-is, leaf-past, leaf-variable, leaf-negative, leaf-other}
 use Rattle.expressions.proofs.Evaluating.{no-leaf, variable-gives, constant-gives, negative-gives}
 use Rattle.expressions.proofs.operand_run.Statement.{statement}
 use Rattle.expressions.proofs.operand_run.Tie as tie

@@ -2,7 +2,7 @@
 use borrow.Author.Needs.{needs}
 use mathlib.Core.Path.{sym}
 use lib.Seq.{length-take-le}
-use Rattle.program_lists.proofs.Prices.{lent-within}
+use Rattle.program_words.proofs.Prices.{lent-within}
 use Rattle.frames.proofs.read_prices.Statement.{statement}
 use Rattle.frames.proofs.read_prices.Tie as tie
 

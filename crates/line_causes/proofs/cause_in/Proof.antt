@@ -6,7 +6,7 @@ use native.Mathlib.Omega.{arith}
 use borrow.Author.Tests.{not-true, not-false}
 use denote.Ref.{now}
 use lib.ListN.{length}
-use Rattle.program_lists.proofs.Pieces.{piece-within}
+use Rattle.program_words.proofs.Pieces.{piece-within}
 use Rattle.line_causes.proofs.Laws.{WordsRead, words-wrong, words-last, words-more}
 use Rattle.line_causes.proofs.cause_in.Statement.{statement}
 use Rattle.line_causes.proofs.cause_in.Tie as tie

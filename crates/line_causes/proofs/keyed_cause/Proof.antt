@@ -2,7 +2,7 @@
 use borrow.Author.Needs.{needs}
 use mathlib.Core.Path.{sym, _∙_}
 use Rattle.line_causes.specs.Causes.{keyedCause}
-use Rattle.program_lists.proofs.Words.{starts-long}
+use Rattle.program_words.proofs.ListWords.{starts-long}
 use Rattle.line_causes.proofs.keyed_cause.Statement.{statement}
 use Rattle.line_causes.proofs.keyed_cause.Tie as tie
 

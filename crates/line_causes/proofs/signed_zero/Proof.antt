@@ -2,9 +2,9 @@
 use borrow.Author.Needs.{needs}
 use mathlib.Core.Path.{sym, _∙_}
 use mathlib.Core.List.{[], _∷_}
-use Rattle.reading_text.proofs.Laws.{part-rest}
+use Rattle.reading.proofs.TextLaws.{part-rest}
 use Rattle.line_causes.specs.Causes.{signedZero}
-use Rattle.program_lists.proofs.Words.{starts-long}
+use Rattle.program_words.proofs.ListWords.{starts-long}
 use Rattle.line_causes.proofs.signed_zero.Statement.{statement}
 use Rattle.line_causes.proofs.signed_zero.Tie as tie
 

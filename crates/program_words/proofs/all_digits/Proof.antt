@@ -6,7 +6,7 @@ use mathlib.Core.Path.{_≡_, refl, sym, _∙_}
 use Prim.Native.Nat.{_-_}
 use lib.ListN.{length, drop}
 use Rattle.rules.specs.Text.{allDigits}
-use Rattle.reading_text.proofs.Laws.{all-more, all-stop, all-end}
+use Rattle.reading.proofs.TextLaws.{all-more, all-stop, all-end}
 use Rattle.program_words.proofs.Digits.{digit-not, digit-is}
 use Rattle.program_words.proofs.all_digits.Statement.{statement}
 use Rattle.program_words.proofs.all_digits.Tie as tie

@@ -4,13 +4,13 @@ use mathlib.Core.Logic.{⊎-elim}
 use Prim.Native.Nat.{_+_, _-_, _≤_}
 use lib.ListN.{length, drop, length-drop}
 use denote.Ref.{now}
-use Rattle.reading_text.proofs.Laws.{part-rest}
+use Rattle.reading.proofs.TextLaws.{part-rest}
 use Rattle.rules.specs.File.{fileScript}
 use Rattle.table.proofs.Whole.{Filled, fill-none, fill-ready, fill-more, fill-done}
 use Rattle.reader.specs.declared.Loaded.{Loaded}
 use Rattle.reader.specs.Read.{LineRead, ReadAs}
 use Rattle.reader.proofs.Packs.{read-closes, read-few, read-packable, read-loaded}
-use Rattle.reader.proofs.Fill.{RowsUpto, RowsRead, rows-none, rows-more, rows-wrong, rows-misplaced, rows-long, rows-all}
+use Rattle.reader.proofs.FillRows.{RowsUpto, RowsRead, rows-none, rows-more, rows-wrong, rows-misplaced, rows-long, rows-all}
 use Rattle.reader.proofs.Loads.{load-read, then-passed, rows-passed, loads}
 use borrow.Author.Needs.{needs}
 use native.Mathlib.Omega.{arith}

@@ -7,7 +7,7 @@ use lib.ListN.{length}
 use Rattle.rules.specs.Report.{lineOf, loopLine, loopLines}
 use Rattle.analysis_lines.specs.Coded.{firstLines}
 use Rattle.analysis_lines.proofs.Laws.{lent-room}
-use Rattle.report_pieces.proofs.Laws.{Measured, measured-none, measured-more, measured-all}
+use Rattle.report.proofs.PiecesLaws.{Measured, measured-none, measured-more, measured-all}
 use Rattle.report.specs.Lines.{loopsText}
 use Rattle.report.proofs.Laws.{taken-loops, loop-taken}
 use Rattle.report.proofs.loops_len.Statement.{statement}

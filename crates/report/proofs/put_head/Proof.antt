@@ -5,7 +5,7 @@ use Prim.Native.Nat.{_≤_}
 use lib.ListN.{length, length-drop}
 use Rattle.rules.specs.Report.{joined, keyLine, reportKey, rowsKey, loopsKey}
 use Rattle.report.specs.Lines.{headText}
-use Rattle.report_pieces.proofs.Laws.{first-room, second-room, third-room, third-written, writing-all, part-rest}
+use Rattle.report.proofs.PiecesLaws.{first-room, second-room, third-room, third-written, writing-all, part-rest}
 use Rattle.report.proofs.put_head.Statement.{statement}
 use Rattle.report.proofs.put_head.Tie as tie
 

@@ -9,7 +9,7 @@ use Rattle.analysis_lines.specs.Coded.{linesIn}
 use Rattle.analysis_lines.proofs.Laws.{lent-room}
 use Rattle.report.specs.Lines.{headText, loopsText}
 use Rattle.report.proofs.Laws.{report-parts}
-use Rattle.report_pieces.proofs.Laws.{first-room, second-room, third-room, third-written, writing-all, part-rest}
+use Rattle.report.proofs.PiecesLaws.{first-room, second-room, third-room, third-written, writing-all, part-rest}
 use Rattle.report.proofs.put_lines.Statement.{statement}
 use Rattle.report.proofs.put_lines.Tie as tie
 

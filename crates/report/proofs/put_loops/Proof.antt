@@ -8,8 +8,8 @@ use lib.ListN.{length, getD, length-drop}
 use Rattle.rules.specs.Report.{joined, lineOf, loopLine, loopLines}
 use Rattle.analysis_lines.specs.Coded.{firstLines}
 use Rattle.analysis_lines.proofs.Laws.{lent-room}
-use Rattle.report_pieces.specs.Pieces.{pieceTexts}
-use Rattle.report_pieces.proofs.Laws.{Writing, writing-none, writing-room, writing-more, writing-all, part-rest}
+use Rattle.report.specs.Pieces.{pieceTexts}
+use Rattle.report.proofs.PiecesLaws.{Writing, writing-none, writing-room, writing-more, writing-all, part-rest}
 use Rattle.report.specs.Lines.{loopsText}
 use Rattle.report.proofs.Laws.{taken-loops, loop-taken}
 use Rattle.report.proofs.put_loops.Statement.{statement}

@@ -8,9 +8,9 @@ use lib.ListN.{length, length-replicate}
 use Rattle.rules.specs.Calls.{fourOnes, judged}
 use Rattle.rules_season.specs.Season.{judgedAll}
 use Rattle.rules_season.proofs.GroupsExact.{length-end}
-use Rattle.season_sheet.specs.declared.Sheet.{Sheet}
-use Rattle.season_files.specs.Holds.{SeasonSoFar}
-use Rattle.season_files.proofs.Laws.{holds-none, judged-end, judged-count}
+use Rattle.season_sheet.specs.declared.sheet.Sheet.{Sheet}
+use Rattle.season_sheet.specs.Holds.{SeasonSoFar}
+use Rattle.season_sheet.proofs.FilesLaws.{holds-none, judged-end, judged-count}
 use Rattle.season.proofs.sheet_of.Statement.{statement}
 use Rattle.season.proofs.sheet_of.Tie as tie
 

@@ -4,7 +4,7 @@ use native.Mathlib.Omega.{arith}
 use mathlib.Core.Path.{sym, ap}
 use lib.ListN.{length}
 use lib.Seq.{length-take-le}
-use Rattle.report_text.proofs.Laws.{printed-front}
+use Rattle.answer_text.proofs.ReportsLaws.{printed-front}
 use Rattle.verify.proofs.verify_report.Statement.{statement}
 use Rattle.verify.proofs.verify_report.Tie as tie
 

@@ -6,8 +6,8 @@ use mathlib.Core.Path.{_≡_, refl, sym, ap, _∙_}
 use Prim.Native.Nat.{suc, _+_, _-_, _≤_, _<_}
 use lib.ListN.{length, drop}
 use Rattle.rules.specs.Text.{lf, split}
-use Rattle.reading_text.specs.Words.{before}
-use Rattle.reading_text.proofs.Laws.{part-rest}
+use Rattle.reading.specs.Words.{before}
+use Rattle.reading.proofs.TextLaws.{part-rest}
 use Rattle.explain_margin.specs.Places.{lineFrom}
 use Rattle.explain_margin.proofs.Laws.{line-inside, line-last, line-next, line-here}
 use Rattle.explain_margin.proofs.place.line_of.Statement.{statement}

@@ -4,9 +4,9 @@ use mathlib.Core.Path.{sym, _∙_}
 use mathlib.Core.List.{[], _∷_}
 use native.Mathlib.Omega.{arith}
 use borrow.Author.Tests.{not-true, not-false}
-use Rattle.reading_text.proofs.Laws.{part-rest}
+use Rattle.reading.proofs.TextLaws.{part-rest}
 use Rattle.line_causes.specs.Shapes.{isVariable}
-use Rattle.program_lists.proofs.Words.{starts-long}
+use Rattle.program_words.proofs.ListWords.{starts-long}
 use Rattle.line_causes.proofs.shapes.is_variable.Statement.{statement}
 use Rattle.line_causes.proofs.shapes.is_variable.Tie as tie
 

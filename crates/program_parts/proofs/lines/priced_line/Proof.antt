@@ -2,7 +2,7 @@
 use borrow.Author.Needs.{needs}
 use mathlib.Core.Path.{sym}
 use lib.Seq.{length-take-le}
-use Rattle.program_lists.proofs.Prices.{lent-within}
+use Rattle.program_words.proofs.Prices.{lent-within}
 use Rattle.program_parts.proofs.lines.priced_line.Statement.{statement}
 use Rattle.program_parts.proofs.lines.priced_line.Tie as tie
 

@@ -3,7 +3,7 @@ use borrow.Author.Needs.{needs}
 use native.Mathlib.Omega.{arith}
 use mathlib.Core.Path.{sym}
 use lib.Seq.{length-take-le}
-use Rattle.report_text.proofs.Laws.{printed-front}
+use Rattle.answer_text.proofs.ReportsLaws.{printed-front}
 use Rattle.program_parts.proofs.script.print_report.Statement.{statement}
 use Rattle.program_parts.proofs.script.print_report.Tie as tie
 

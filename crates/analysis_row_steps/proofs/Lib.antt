@@ -1,2 +1,0 @@
--- Laws of joined steps.
-pub mod Ends

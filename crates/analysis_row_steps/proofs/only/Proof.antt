@@ -1,7 +1,0 @@
--- `analysis_row_steps::only` meets its contract.
-use borrow.Author.Needs.{needs}
-use Rattle.analysis_row_steps.proofs.only.Statement.{statement}
-use Rattle.analysis_row_steps.proofs.only.Tie as tie
-
-pub only-spec : {M : Type 1} → statement M
-only-spec = tie.close (tie.spec (λ c. search needs) (λ c. rw (c .if1 .left)))

@@ -1,4 +1,0 @@
--- The laws that belong to no one function.
-pub mod Laws
-pub mod Parts
-pub mod Priced

@@ -1,2 +1,0 @@
--- What the contracts of the trips cite.
-pub mod Found

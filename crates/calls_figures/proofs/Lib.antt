@@ -1,2 +1,0 @@
--- Laws of the figures as numbers.
-pub mod Laws

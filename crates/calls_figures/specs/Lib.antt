@@ -1,2 +1,0 @@
--- A report's figures as numbers.
-pub mod Told

@@ -1,2 +1,0 @@
-mod Wide
-mod Operators

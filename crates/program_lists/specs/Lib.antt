@@ -1,2 +1,0 @@
--- What lists of numbers say.
-pub mod Lists

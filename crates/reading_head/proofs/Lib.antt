@@ -1,3 +1,0 @@
--- Laws of the lines before the rows, one after the other.
-pub mod Fill
-mod Heads

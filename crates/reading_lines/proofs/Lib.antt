@@ -1,3 +1,0 @@
--- Laws of the lines before the rows.
-pub mod Lines
-mod Counts

@@ -1,2 +1,0 @@
--- Laws of the open blocks.
-pub mod Laws

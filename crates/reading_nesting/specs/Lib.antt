@@ -1,2 +1,0 @@
--- What the contracts on open blocks cite.
-pub mod Open

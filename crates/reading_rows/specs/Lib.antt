@@ -1,2 +1,0 @@
--- What the contracts on a row's line cite.
-pub mod Rows

@@ -1,5 +1,0 @@
--- Laws of the words of a line.
-pub mod Cut
-pub mod Keywords
-pub mod Laws
-pub mod Line

@@ -1,2 +1,0 @@
--- What the contracts on words cite.
-pub mod Words

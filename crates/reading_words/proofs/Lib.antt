@@ -1,2 +1,0 @@
--- Laws of one word.
-pub mod Laws

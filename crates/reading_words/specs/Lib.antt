@@ -1,2 +1,0 @@
--- What the contracts on one word cite.
-pub mod Words

@@ -1,2 +1,0 @@
--- What is printed of a script file.
-pub mod Printed

@@ -1,3 +1,0 @@
--- What is printed of a run's answer.
-pub mod Texts
-pub mod Adding
