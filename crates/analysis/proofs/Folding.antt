@@ -25,6 +25,7 @@ use Rattle.analysis_ticks.proofs.Caps.{cap-mul}
 use Rattle.analysis_ticks.specs.declared.passes.Round.{Round}
 use Rattle.analysis_ticks.specs.Rounds.{roundOf, passIn}
 use Rattle.analysis.specs.Tallies.{FoldState, lastPrice}
+use Rattle.analysis.specs.Known.{notKnown}
 use Rattle.analysis.specs.Own.{putOwn}
 use Rattle.analysis.specs.Fold.{loopCount, frontOf, restOf, cappedLine, cappedLines, folded}
 use Rattle.analysis.proofs.Laws.{state-is}
@@ -235,7 +236,7 @@ module _ (π : Prices) (r : Round) (x : FoldState) where
       over = andThen (andThen (x .over) (blocksVerdict π β body)) (asked 13 e (leb ownTicks tickLimit) passed);
       lines = (x .lines ++ (cappedLine (line (roundOf r) (startPass form test K) i form σ test body) ∷ [])) ++ cappedLines (lines (inBody (roundOf r) (startPass form test K) form σ test body) (firstPass form σ test body) β body);
       loops = x .loops + 1 + loopCount body;
-      own = set (putOwn π β body (x .own)) i (capped ownTicks);
+      own = set (set (putOwn π β body (x .own)) i (capped ownTicks)) e (notKnown 16 (x .env));
     }
 
     pub fold-loop : (rest : Block) → folded π r x (loop i e form test body rest) ≡ folded π r pastLoop rest
@@ -259,7 +260,7 @@ module _ (π : Prices) (r : Round) (x : FoldState) where
         ∙ sym (then-assoc (x .over) _ _) ∙ sym (then-assoc _ q _))
         (lines-loop (x .lines) one inner (lines (roundOf r) (later s K) α rest) ∙ ap (λ k. ((x .lines ++ (cappedLine one ∷ [])) ++ cappedLines inner) ++ cappedLines (lines (roundOf r) k α rest)) l)
         (omega arith)
-        (ap (λ n. putOwn π α rest (set (putOwn π β body (x .own)) i (capped n))) (let z : F + 0 ≡ F = omega arith in z))
+        (ap (λ n. putOwn π α rest (set (set (putOwn π β body (x .own)) i (capped n)) e (notKnown 16 (x .env)))) (let z : F + 0 ≡ F = omega arith in z))
 
 -- ---- the first row or block alone, then the rest
 module _ (π : Prices) (r : Round) (x : FoldState) where

@@ -44,6 +44,7 @@ use Rattle.analysis_ticks.specs.Rounds.{roundOf, passIn, FineRound, branchOf}
 use Rattle.analysis_ticks.proofs.Loops.{walk-is}
 use Rattle.analysis.specs.declared.entries.LoopEntry.{LoopEntry}
 use Rattle.analysis.specs.Enter.{walkedAt, EntryPassed}
+use Rattle.analysis.specs.Known.{notKnown, NotedFor}
 use Rattle.analysis.specs.Tallies.{FoldState, LentTally, tallied, lastTicks, lineFor, Restarted, PastRow, LineAdded, BlockClosed}
 use Rattle.analysis.specs.Own.{putOwn}
 use Rattle.analysis.specs.Fold.{loopCount, frontOf, restOf, cappedLine, cappedLines, folded, Walkable, PassedPart, Analysed, IsBlock, PassedBlock}
@@ -84,6 +85,15 @@ part-of {text} {π} {rows} {count} {at} {q} {ρ} {t} {r} {ranges} k s o ls n os 
       own = ap (λ (x : FoldState). x .own) v;
       long = p .long;
     }
+
+-- a tally with another list of own ticks
+abbrev pub withOwn : LentTally → List ℕ → LentTally
+withOwn r os = record { number = r .number; kept = r .kept; place = r .place; over = r .over; spent = r .spent; loops = r .loops; next = r .next; lines = r .lines; own = os }
+
+-- what is noted only where the list has a place is noted
+noted : (os : List ℕ) (e : ℕ) {x y : ℕ} → (0 < length os → x ≡ y) → set os e x ≡ set os e y
+noted [] e h = refl
+noted (o ∷ os) e h = ap (set (o ∷ os) e) (h (omega arith))
 
 -- or which loop it refused
 pub refused-in : {text : List ℕ} {π : Prices} {rows : List Row} {count at : ℕ} {q : Round} {ρ : Env} {t r : LentTally} {ranges : List (List ℤ)} → Analysed text π rows count at ρ q t ranges r → (r .number ≡ 0 → ⊥)
@@ -365,9 +375,10 @@ module _ {text : List ℕ} (π : Prices) {rows : List Row} {count : ℕ} (round 
       pub past-loop : {inner-ranges ranges : List (List ℤ)} {b r : LentTally} {keep : Bool}
           → Part π (x .round) (x .round .known) β (x .round .count * lastTicks text π (kindAt rows i)) (overOf (t .over)) (firstLines (t .lines) (t .loops) ++ (lineFor i (trip form σ test body) (turns form σ test body) (capped (W * round .times)) ∷ [])) (t .loops + 1) (t .own) (blockAt text rows count (i + 1)) inner-ranges b
           → ((G : ℕ) → b .spent ≡ capped G → BlockClosed t b i e (capped (x .exit .ran .own * (G + x .exit .ran .tests * π .test) + 1 * once π form)) (capped (x .exit .ran .all * (G + x .exit .ran .tests * π .test) + round .count * once π form)) keep r)
-          → keep ≡ (t .kept && not (starts (round .v) form test)) && not (assigns (round .v) body) → EnvIs ranges (outside form σ test body) → PassedBlock text π rows count i ρ round t ranges r
+          → keep ≡ (t .kept && not (starts (round .v) form test)) && not (assigns (round .v) body) → EnvIs ranges (outside form σ test body)
+          → {os : List ℕ} {sum : ℕ} → NotedFor (length (r .own)) ρ sum → os ≡ set (r .own) e sum → PassedBlock text π rows count i ρ round t ranges (withOwn r os)
       unfolding andThen restOf
-      past-loop {ranges} {b} {r} {keep} p f kp s =
+      past-loop {ranges} {b} {r} {keep} p f kp s {os} nf wrote =
           let n = turns form σ test body in
           let G = inner (λ j. ticks π j β body) in
           let F = ownTicks π round (tallied t ρ) i e form test body in
@@ -378,14 +389,14 @@ module _ {text : List ℕ} (π : Prices) {rows : List Row} {count : ℕ} (round 
           = ap cappedLines (sym (same .lined (roundOf (x .round)) (passIn (x .round) (x .round .known)) β))
           ∙ body-lines round κ form σ test body (capped (W * round .times)) (x .round) (en .round) (ap capped (sym total-is)) β body
           ∙ ap (λ j. cappedLines (lines (inBody (roundOf round) j form σ test body) (firstPass form σ test body) β body)) (sym start-is) in
-          let y : tallied r (envOf ranges) ≡ pastLoop π round (tallied t ρ) i e form test body = state-is (s .value)
+          let y : tallied (withOwn r os) (envOf ranges) ≡ pastLoop π round (tallied t ρ) i e form test body = state-is (s .value)
           (c .kept ∙ kp)
           (sym (ap₂ (λ a w. andThen a w) (en .verdict) (same .loops β ∙ p .verdict)))
           (c .spent ∙ omega (arith, all-is))
           (c .over .value F own-is ∙ ap (λ w. andThen w (asked 13 e (leb F tickLimit) passed)) (p .over ∙ ap (andThen (overOf (t .over))) (sym (same .over β))))
           (ap₂ firstLines (c .same) (c .loops) ∙ p .lined ∙ ap₂ (λ a w. (firstLines (t .lines) (t .loops) ++ (a ∷ [])) ++ w) L lined)
           (c .loops ∙ p .count ∙ ap (λ m. t .loops + 1 + m) (sym (same .count)))
-          (c .own ∙ ap₂ (λ o m. set o i m) (p .own ∙ sym (same .own β (t .own))) own-is) in
+          (wrote ∙ noted (r .own) e nf ∙ ap (λ o. set o e (notKnown 16 ρ)) (c .own ∙ ap₂ (λ o m. set o i m) (p .own ∙ sym (same .own β (t .own))) own-is)) in
           record {
             value = y ∙ sym loop-alone;
             rest = rw (c .next) (ap restOf (u .block));

@@ -1,31 +1,32 @@
 // Entering and leaving a loop: its questions 19 and 8 to 12, its line, and the passes of its body.
-use analysis_intervals::comparisons::both;
-use analysis_intervals::Interval;
-use analysis_loops::Loop;
-use analysis_loops::loop_at;
-use analysis_ticks::passes::Round;
-use analysis_ticks::passes::body;
-use analysis_ticks::passes::walked;
-use analysis_ranges::inside;
-use analysis_ranges::outer;
-use analysis_steps::has;
 use crate::tallies::Tally;
 use crate::tallies::closed;
 use crate::tallies::last_ticks;
 use crate::tallies::lined;
 use crate::tallies::refused;
-use analysis_ticks::loop_ticks;
-use analysis_ticks::plus;
-use analysis_ticks::times;
+use analysis_intervals::Interval;
+use analysis_intervals::comparisons::both;
+use analysis_intervals::interval_at;
+use analysis_loops::Loop;
+use analysis_loops::loop_at;
+use analysis_ranges::inside;
+use analysis_ranges::outer;
 use analysis_ranges::transfer::at_start;
 use analysis_ranges::transfer::widen;
+use analysis_steps::has;
+use analysis_ticks::loop_ticks;
+use analysis_ticks::passes::Round;
+use analysis_ticks::passes::body;
+use analysis_ticks::passes::walked;
+use analysis_ticks::plus;
+use analysis_ticks::times;
 use analysis_turns::Figure;
 use analysis_turns::ask;
 use rules::Kind;
 use rules::Prices;
 use table::kind_at;
 ghost use mathlib.Core.Path.{_≡_};
-ghost use mathlib.Core.Bool.{not, _&&_};
+ghost use mathlib.Core.Bool.{not, cond, _&&_};
 ghost use mathlib.Core.List.{List};
 ghost use Prim.Native.Nat.{ℕ, _+_, _*_, _≤_, _<_};
 ghost use lib.ListN.{length};
@@ -34,10 +35,11 @@ ghost use Rattle.rules.specs.Steps.{starts};
 ghost use Rattle.table.specs.Code.{kindAt, rowsOf};
 ghost use Rattle.analysis_steps.specs.Tree.{formOf, testOf};
 ghost use Rattle.analysis_steps.specs.Body.{AtLoop};
-ghost use Rattle.analysis_intervals.specs.Env.{envOf};
+ghost use Rattle.analysis_intervals.specs.Env.{envOf, rangeOf};
 ghost use Rattle.analysis_ticks.specs.Rounds.{FineRound};
 ghost use Rattle.analysis.specs.Tallies.{withLent};
 ghost use Rattle.analysis.specs.Enter.{ExitOf, PassCountsOf, EnteredAt, LeftLoop};
+ghost use Rattle.analysis.specs.Known.{isFull, notKnown, NotedFor};
 
 // How often a loop's passes are taken as they are walked: in its longest entry, and in all passes of the loop round it; and how many
 // are walked.
@@ -184,4 +186,49 @@ pub fn leave_loop(
     let set = has(assigned, round.v);
     let kept = both(begun, !set);
     closed(own, t, body, body.next, ticks, all, kept)
+}
+
+// -L and L.
+const LOWEST: i32 = -1_000_000_000;
+
+const HIGHEST: i32 = 1_000_000_000;
+
+// A variable of this range is not known.
+fn is_full(s: Interval) -> bool
+    ensures { λ r. ⌜ r ≡ isFull (rangeOf s) ⌝ }
+{
+    let lo = s.lo;
+    let hi = s.hi;
+    if lo == LOWEST { hi == HIGHEST } else { false }
+}
+
+// What a variable adds to the sum of those that are not known.
+fn part_of(unknown: bool, bit: u64) -> u64
+    ensures { λ r. ⌜ r ≡ cond unknown bit 0 ⌝ }
+{
+    if unknown { bit } else { 0 }
+}
+
+// The variables that are not known: the sum of 2^v.
+fn not_known(r: &[[i32; 2]; 16]) -> u64
+    ensures { λ x. ⌜ x ≡ notKnown 16 (envOf (now (r .entry))) ⌝ }
+{
+    let mut sum: u64 = 0;
+    let mut bit: u64 = 1;
+    for v in 0..16 {
+        let s = interval_at(r, v);
+        sum += part_of(is_full(s), bit);
+        bit *= 2;
+    }
+    sum
+}
+
+// The same where it is noted: what is lent for it has some places.
+pub fn to_note(places: usize, r: &[[i32; 2]; 16]) -> u64
+    ensures { λ x. ⌜ NotedFor places (envOf (now (r .entry))) x ⌝ }
+{
+    if places == 0 {
+        return 0;
+    }
+    not_known(r)
 }

@@ -1,18 +1,20 @@
 // The whole file: the questions 19 and 8 to 13, ticks, and the report's lines.
-pub mod tallies;
 pub mod entries;
+pub mod tallies;
 
 use crate::entries::enter_loop;
 use crate::entries::leave_loop;
-use analysis_ticks::passes::Round;
-use analysis_ticks::passes::branch;
+use crate::entries::to_note;
 use crate::tallies::Tally;
 use crate::tallies::leave_pick;
 use crate::tallies::past_row;
+use crate::tallies::put_own;
 use crate::tallies::restarted;
-use analysis_ticks::LIMIT;
 use analysis_ranges::transfer::joined;
 use analysis_ranges::transfer::step_row;
+use analysis_ticks::LIMIT;
+use analysis_ticks::passes::Round;
+use analysis_ticks::passes::branch;
 use rules::Prices;
 use rules::Verdict;
 use table::PricedRows;
@@ -84,6 +86,7 @@ fn walk_loop(
         (envOf (now (r .entry))) round (withLent t (now (lines .entry)) (now (own .entry)))
         (now (r .exit)) (withLent x (now (lines .exit)) (now (own .exit))) ⌝ }
 {
+    let unknown = to_note(own.len(), r);
     let entered = enter_loop(text, rows, script.count, round, script.prices, lines, t, r);
     let first = entered.first;
     if first.number != 0 {
@@ -95,7 +98,9 @@ fn walk_loop(
     if body.number != 0 {
         return body;
     }
-    leave_loop(rows, entered.exit, round, script.prices, own, t, body, r)
+    let left = leave_loop(rows, entered.exit, round, script.prices, own, t, body, r);
+    put_own(own, body.next, unknown);
+    left
 }
 
 // The pick or loop at row t.next, from the ranges before it to those after it.
@@ -206,7 +211,7 @@ pub struct Figures {
 }
 
 // The first `count` rows and the ranges of a script that has passed the questions 4 to 7. `own` gets each block's own ticks at its head
-// row, as far as it goes.
+// row, and at a loop's end row the variables that are not known before it, as the sum of 2^v; as far as it goes.
 pub fn analyse(
     text: &[u8],
     rows: &[u32],

@@ -1,12 +1,12 @@
 // What the walk over the rows carries from row to row.
 use analysis_intervals::comparisons::both;
 use analysis_lines::put_line;
-use analysis_ticks::passes::Round;
+use analysis_loops::trips::Trip;
 use analysis_steps::sets_it;
 use analysis_ticks::first_over;
+use analysis_ticks::passes::Round;
 use analysis_ticks::plus;
 use analysis_ticks::times;
-use analysis_loops::trips::Trip;
 use analysis_turns::exact;
 use ints::min_max::larger;
 use rules::Kind;
@@ -133,12 +133,12 @@ pub fn lined(
     }
 }
 
-// A block's own ticks at its head row i, if what is lent for them has that row.
-fn put_own(own: &mut [u64], i: usize, ticks: u64)
-    ensures { λ _. ⌜ now (own .exit) ≡ set (now (own .entry)) i ticks ⌝ }
+// A number at row i, if what is lent for it has that row.
+pub fn put_own(own: &mut [u64], i: usize, x: u64)
+    ensures { λ _. ⌜ now (own .exit) ≡ set (now (own .entry)) i x ⌝ }
 {
     if i < own.len() {
-        own[i] = ticks;
+        own[i] = x;
     }
 }
 

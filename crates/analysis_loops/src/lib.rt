@@ -1,12 +1,7 @@
 // A loop: its trip, found once from its rows and the ranges at its start, and what its body assigns.
-pub mod ways;
 pub mod trips;
+pub mod ways;
 
-use analysis_intervals::comparisons::opposite;
-use analysis_intervals::Interval;
-use analysis_intervals::bounds;
-use analysis_intervals::interval_at;
-use analysis_steps::body_moves;
 use crate::trips::Lead;
 use crate::trips::Trip;
 use crate::trips::chase_trip;
@@ -19,6 +14,11 @@ use crate::ways::is_do;
 use crate::ways::is_hold;
 use crate::ways::keeps;
 use crate::ways::way_of;
+use analysis_intervals::Interval;
+use analysis_intervals::bounds;
+use analysis_intervals::comparisons::opposite;
+use analysis_intervals::interval_at;
+use analysis_steps::body_moves;
 use rules::Comparison;
 use rules_steps::Step;
 use table::kind_at;

@@ -1,6 +1,6 @@
 // What is stepped and tested at a loop: its trip, from the step that is read and the ranges at the loop's start.
-use analysis_intervals::comparisons::both;
 use analysis_intervals::Interval;
+use analysis_intervals::comparisons::both;
 use analysis_intervals::single;
 use rules::Comparison;
 use rules_steps::Step;

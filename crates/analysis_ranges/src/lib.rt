@@ -1,12 +1,12 @@
 // The known ranges of the variables at a loop's body's start, and of the tested one after the loop.
 pub mod transfer;
 
+use crate::transfer::widen;
 use analysis_intervals::FULL;
 use analysis_intervals::Interval;
 use analysis_intervals::inside_interval;
 use analysis_intervals::outside_interval;
 use analysis_loops::Loop;
-use crate::transfer::widen;
 use analysis_loops::trips::Counter;
 use analysis_loops::trips::Trip;
 ghost use mathlib.Core.Path.{_≡_};

@@ -1,7 +1,7 @@
 // How a variable moves in one turn: walks over the rows of a block, nested blocks first. No walk reads the text that the rows'
 // expressions stand in: its answer is that for each text with which the rows are a tree.
-pub mod rows;
 pub mod only_rows;
+pub mod rows;
 
 use crate::rows::change_step;
 use crate::rows::only;

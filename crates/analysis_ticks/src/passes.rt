@@ -1,16 +1,16 @@
 // Triangles: the passes of a loop by the values of its variable, and a loop in its body that is summed over them.
+use crate::cap;
+use crate::times;
+use analysis_intervals::Interval;
 use analysis_intervals::comparisons::both;
 use analysis_intervals::comparisons::edge;
 use analysis_intervals::comparisons::is_add;
 use analysis_intervals::comparisons::ordered;
-use analysis_intervals::Interval;
 use analysis_intervals::whole;
-use analysis_turns::moves::climb;
-use crate::cap;
-use crate::times;
 use analysis_loops::trips::Counter;
 use analysis_loops::trips::Trip;
 use analysis_turns::exact;
+use analysis_turns::moves::climb;
 use rules::AddLoop;
 use rules::Comparison;
 use rules::Kind;

@@ -1,10 +1,10 @@
 // The turns of a step from a start to a limit, and whether they can be counted.
+use crate::moves::climb;
+use crate::moves::turned_up;
 use analysis_intervals::comparisons::WideInterval;
 use analysis_intervals::comparisons::falls;
 use analysis_intervals::comparisons::is_differ;
 use analysis_intervals::comparisons::rises;
-use crate::moves::climb;
-use crate::moves::turned_up;
 use rules::AddLoop;
 use rules::Comparison;
 use rules_steps::Step;

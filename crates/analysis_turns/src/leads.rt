@@ -1,7 +1,7 @@
 // The turns of a loop with what comes before its first counted test.
+use analysis_intervals::Interval;
 use analysis_intervals::comparisons::falls;
 use analysis_intervals::comparisons::rises;
-use analysis_intervals::Interval;
 use analysis_loops::trips::Lead;
 use rules::Comparison;
 ghost use mathlib.Core.Path.{_≡_};

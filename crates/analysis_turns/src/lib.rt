@@ -1,20 +1,20 @@
 // The questions 19 and 8 to 12 of one loop, and the turns of one entry.
-pub mod moves;
 pub mod figures;
 pub mod leads;
+pub mod moves;
 
+use crate::figures::at_test;
+use crate::figures::has_figure;
+use crate::figures::while_turns;
+use crate::leads::led;
+use analysis_intervals::Interval;
 use analysis_intervals::comparisons::WideInterval;
 use analysis_intervals::comparisons::edge;
 use analysis_intervals::comparisons::equal_ends;
 use analysis_intervals::comparisons::known;
 use analysis_intervals::comparisons::moving;
 use analysis_intervals::comparisons::suits;
-use crate::figures::at_test;
-use crate::figures::has_figure;
-use crate::figures::while_turns;
-use analysis_intervals::Interval;
 use analysis_intervals::whole;
-use crate::leads::led;
 use analysis_loops::trips::Counter;
 use analysis_loops::trips::Trip;
 ghost use mathlib.Core.Path.{_≡_};

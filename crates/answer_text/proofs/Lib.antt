@@ -2,3 +2,4 @@
 pub mod ReportsLaws
 pub mod Answers
 pub mod RunsLaws
+pub mod StepTexts

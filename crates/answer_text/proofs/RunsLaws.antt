@@ -4,13 +4,14 @@ use mathlib.Core.Bool.{Bool, true, false, cond}
 use mathlib.Core.List.{List, [], _∷_, _++_, append-assoc, append-nil}
 use Prim.Native.Nat.{ℕ, zero, suc, _+_, _*_, _-_, _≤_, _<_}
 use native.Mathlib.Omega.{arith}
+use native.Mathlib.Nat.{mul-suc}
 use lib.IntN.{ℤ, pos}
 use lib.ListN.{length, take, drop, set, length-append, length-take, length-set, take-append-drop, getD}
-use lib.Seq.{take-all}
+use lib.Seq.{take-all, take-append-seam}
 use lib.Dec.{eqb, eqb·suc-zero}
 use lib.Signed.{ltZ}
 use borrow.Rule.Slice.PartMut.{midOf, putMid}
-use Rattle.rules.specs.Report.{decimal, sign, size, joined, gap, newline, loopKey, ticksKey}
+use Rattle.rules.specs.Report.{decimal, sign, size, joined, gap, newline, ticksKey}
 use Rattle.rules.specs.Calls.{over}
 use Rattle.rules.proofs.LongestReport.{decimal-short}
 use Rattle.report.specs.Pieces.{Wrote}
@@ -18,7 +19,7 @@ use Rattle.report.proofs.PiecesLaws.{wrote-nothing, wrote-byte, wrote-then, wro
 use Rattle.report.proofs.Laws.{below-sign, above-sign}
 use Rattle.rules.specs.declared.Ending.{Ending}
 use Rattle.rules.specs.declared.LoopCount.{LoopCount}
-use Rattle.answer_text.specs.Texts.{valueText, valuesText, countText, countTexts, endingKey, usedKey, storeKey, frontText, runText}
+use Rattle.answer_text.specs.Texts.{valueText, listed, valuesText, threeText, countText, countTexts, endingKey, usedKey, storeKey, frontText, runText}
 use Rattle.answer_text.specs.Adding.{Adds}
 
 -- what stands there is written
@@ -69,47 +70,48 @@ pub value-above : (first b : Bool) (v : ℤ) (n : ℕ) → first ≡ b → ltZ v
 unfolding valueText
 value-above first b v n f e g = λ k. lead (sym f k) ++ (above-sign v e k ++ decimal (g k))
 
--- ---- values and counts, one more at the end
-values-next : (first : Bool) (vs : List ℤ) (i : ℕ) → suc i < length vs → (d : ℤ) → valuesText first (take (suc (suc i)) vs) ≡ valuesText first (take (suc i) vs) ++ valueText false (getD vs (suc i) d)
-unfolding valuesText
-values-next first [] i l d = absurd (omega arith)
-values-next first (v ∷ []) i l d = absurd (omega arith)
-values-next first (v ∷ (w ∷ vs)) zero l d = ap (λ t. valueText first v ++ t) (append-nil (valueText false w)) ∙ ap (λ t. t ++ valueText false w) (sym (append-nil (valueText first v)))
-values-next first (v ∷ (w ∷ vs)) (suc i) l d =
-    ap (λ t. valueText first v ++ t) (values-next false (w ∷ vs) i (omega arith) d) ∙ sym (append-assoc (valueText first v) _ _)
+-- ---- lists and counts, one more at the end
+module _ {A : Type 0} (piece : Bool → A → List ℕ) where
+  listed-next : (first : Bool) (vs : List A) (i : ℕ) → suc i < length vs → (d : A) → listed piece first (take (suc (suc i)) vs) ≡ listed piece first (take (suc i) vs) ++ piece false (getD vs (suc i) d)
+  unfolding listed
+  listed-next first [] i l d = absurd (omega arith)
+  listed-next first (v ∷ []) i l d = absurd (omega arith)
+  listed-next first (v ∷ (w ∷ vs)) zero l d = ap (λ t. piece first v ++ t) (append-nil (piece false w)) ∙ ap (λ t. t ++ piece false w) (sym (append-nil (piece first v)))
+  listed-next first (v ∷ (w ∷ vs)) (suc i) l d =
+      ap (λ t. piece first v ++ t) (listed-next false (w ∷ vs) i (omega arith) d) ∙ sym (append-assoc (piece first v) _ _)
 
-pub values-more : (vs : List ℤ) (i : ℕ) → i < length vs → (d : ℤ) → valuesText true (take (suc i) vs) ≡ valuesText true (take i vs) ++ valueText (eqb i 0) (getD vs i d)
-unfolding valuesText
-values-more [] i l d = absurd (omega arith)
-values-more (v ∷ vs) zero l d = append-nil (valueText true v)
-values-more (v ∷ vs) (suc i) l d = values-next true (v ∷ vs) i l d ∙ ap (λ b. valuesText true (take (suc i) (v ∷ vs)) ++ valueText b (getD (v ∷ vs) (suc i) d)) (sym (eqb·suc-zero i))
+  pub listed-more : (vs : List A) (i : ℕ) → i < length vs → (d : A) → listed piece true (take (suc i) vs) ≡ listed piece true (take i vs) ++ piece (eqb i 0) (getD vs i d)
+  unfolding listed
+  listed-more [] i l d = absurd (omega arith)
+  listed-more (v ∷ vs) zero l d = append-nil (piece true v)
+  listed-more (v ∷ vs) (suc i) l d = listed-next true (v ∷ vs) i l d ∙ ap (λ b. listed piece true (take (suc i) (v ∷ vs)) ++ piece b (getD (v ∷ vs) (suc i) d)) (sym (eqb·suc-zero i))
+
+  -- the pieces before i are written, each of at most so many bytes
+  pub record Listing (width : ℕ) (vs : List A) (at : ℕ) (old now : List ℕ) (end i : ℕ) : Type 0 where
+    pub within : i ≤ length vs
+    pub adds : Adds (listed piece true (take i vs)) at old now end
+    pub small : end ≤ at + width * i
+
+  pub listing-none : (width : ℕ) (vs : List A) (at : ℕ) (old : List ℕ) → Listing width vs at old old at 0
+  unfolding listed
+  listing-none width vs at old = record { within = omega arith; adds = adds-none old at; small = omega arith }
+
+  pub listing-more : (width : ℕ) (vs : List A) (at : ℕ) (old now new : List ℕ) (end i r : ℕ) (d : A) (b : Bool) → Listing width vs at old now end i → i < length vs → b ≡ eqb i 0 → Adds (piece b (getD vs i d)) end now new r → r ≤ end + width
+      → Listing width vs at old new r (i + 1)
+  listing-more width vs at old now new end i r d b h l e a k = record {
+    within = omega arith;
+    adds = subst (λ n. Adds (listed piece true (take n vs)) at old new r) (let e : suc i ≡ i + 1 = omega arith in e) (adds-is (ap (λ f. listed piece true (take i vs) ++ piece f (getD vs i d)) e ∙ sym (listed-more vs i l d)) (adds-join _ _ _ _ _ _ _ _ (h .adds) a));
+    small = omega (arith, h .small, mul-suc width i);
+  }
+
+  pub listing-all : (width : ℕ) (vs : List A) (at : ℕ) (old now : List ℕ) (end i : ℕ) → Listing width vs at old now end i → length vs ≤ i → Adds (listed piece true vs) at old now end
+  listing-all width vs at old now end i h l = adds-is (ap (listed piece true) (take-all i vs l)) (h .adds)
 
 pub counts-more : (cs : List LoopCount) (i : ℕ) → i < length cs → (d : LoopCount) → countTexts (take (suc i) cs) ≡ countTexts (take i cs) ++ countText (getD cs i d)
 unfolding countTexts
 counts-more [] i l d = absurd (omega arith)
 counts-more (c ∷ cs) zero l d = append-nil (countText c)
 counts-more (c ∷ cs) (suc i) l d = ap (λ t. countText c ++ t) (counts-more cs i (omega arith) d) ∙ sym (append-assoc (countText c) _ _)
-
--- the values before i are written
-pub record Valuing (vs : List ℤ) (at : ℕ) (old now : List ℕ) (end i : ℕ) : Type 0 where
-  pub within : i ≤ length vs
-  pub adds : Adds (valuesText true (take i vs)) at old now end
-  pub small : end ≤ at + 22 * i
-
-pub valuing-none : (vs : List ℤ) (at : ℕ) (old : List ℕ) → Valuing vs at old old at 0
-unfolding valuesText
-valuing-none vs at old = record { within = omega arith; adds = adds-none old at; small = omega arith }
-
-pub valuing-more : (vs : List ℤ) (at : ℕ) (old now new : List ℕ) (end i r : ℕ) (d : ℤ) (b : Bool) → Valuing vs at old now end i → i < length vs → b ≡ eqb i 0 → Adds (valueText b (getD vs i d)) end now new r → r ≤ end + 22
-    → Valuing vs at old new r (i + 1)
-valuing-more vs at old now new end i r d b h l e a k = record {
-  within = omega arith;
-  adds = subst (λ n. Adds (valuesText true (take n vs)) at old new r) (let e : suc i ≡ i + 1 = omega arith in e) (adds-is (ap (λ f. valuesText true (take i vs) ++ valueText f (getD vs i d)) e ∙ sym (values-more vs i l d)) (adds-join _ _ _ _ _ _ _ _ (h .adds) a));
-  small = omega (arith, h .small);
-}
-
-pub valuing-all : (vs : List ℤ) (at : ℕ) (old now : List ℕ) (end i : ℕ) → Valuing vs at old now end i → length vs ≤ i → length vs ≤ 17 → Adds (valuesText true vs) at old now end × (end ≤ at + 374)
-valuing-all vs at old now end i h l k = (adds-is (ap (valuesText true) (take-all i vs l)) (h .adds), omega (arith, h .small, h .within))
 
 -- the counts before i are written
 pub record Counting (cs : List LoopCount) (at : ℕ) (old now : List ℕ) (end i : ℕ) : Type 0 where
@@ -137,18 +139,23 @@ five a b c d e = simp append-assoc refl
 four : (a b c d : List ℕ) → ((a ++ b) ++ c) ++ d ≡ a ++ (b ++ (c ++ d))
 four a b c d = simp append-assoc refl
 
-pub count-text : (c : LoopCount) → (((loopKey ++ decimal (c .row)) ++ (gap ++ decimal (c .all))) ++ (gap ++ decimal (c .most))) ++ newline ≡ countText c
-unfolding countText joined
-count-text c = five loopKey (decimal (c .row)) (gap ++ decimal (c .all)) (gap ++ decimal (c .most)) newline
+pub three-text : (key : List ℕ) (a b c : ℕ) → (((key ++ decimal a) ++ (gap ++ decimal b)) ++ (gap ++ decimal c)) ++ newline ≡ threeText key a b c
+unfolding threeText joined
+three-text key a b c = five key (decimal a) (gap ++ decimal b) (gap ++ decimal c) newline
 
 pub front-text : (ending : Ending) (row ticks used : ℕ) → (((endingKey ending ++ decimal row) ++ ((newline ++ ticksKey) ++ decimal ticks)) ++ ((newline ++ usedKey) ++ decimal used)) ++ (newline ++ storeKey) ≡ frontText ending row ticks used
 unfolding frontText joined
 front-text ending row ticks used = five (endingKey ending) (decimal row) ((newline ++ ticksKey) ++ decimal ticks) ((newline ++ usedKey) ++ decimal used) (newline ++ storeKey)
 
 pub run-text : (ending : Ending) (row ticks used : ℕ) (store : List ℤ) (counts : List LoopCount)
-    → ((frontText ending row ticks used ++ valuesText true store) ++ newline) ++ countTexts counts ≡ runText ending row ticks used store counts
+    → ((frontText ending row ticks used ++ valuesText store) ++ newline) ++ countTexts counts ≡ runText ending row ticks used store counts
 unfolding runText
-run-text ending row ticks used store counts = four (frontText ending row ticks used) (valuesText true store) newline (countTexts counts)
+run-text ending row ticks used store counts = four (frontText ending row ticks used) (valuesText store) newline (countTexts counts)
 
 pub wrote-is : {a b : List ℕ} {old new : List ℕ} {r : ℕ} → a ≡ b → Wrote a old new r → Wrote b old new r
 wrote-is {a} {b} {old} {new} {r} e h = subst (λ t. Wrote t old new r) e h
+
+-- the bytes that are answered are the text
+pub wrote-front : (text old new : List ℕ) (r : ℕ) → Wrote text old new r → take r new ≡ text
+unfolding over
+wrote-front text old new r h = rw (h .kept, h .count, take-append-seam)

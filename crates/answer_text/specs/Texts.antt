@@ -38,14 +38,22 @@ storeKey = 115 ∷ 116 ∷ 111 ∷ 114 ∷ 101 ∷ 61 ∷ []
 unfoldable pub valueText : Bool → ℤ → List ℕ
 valueText first v = cond first [] gap ++ (sign v ++ decimal (size v))
 
--- values, the first of them the first of all or not
-unfoldable pub valuesText : Bool → List ℤ → List ℕ
-valuesText first [] = []
-valuesText first (v ∷ vs) = valueText first v ++ valuesText false vs
+-- the pieces of a list, its first the first of all or not
+unfoldable pub listed : {A : Type 0} → (Bool → A → List ℕ) → Bool → List A → List ℕ
+listed piece first [] = []
+listed piece first (v ∷ vs) = piece first v ++ listed piece false vs
+
+-- the values of a store, one space between two
+abbrev pub valuesText : List ℤ → List ℕ
+valuesText vs = listed valueText true vs
+
+-- a line of three numbers under a key
+unfoldable pub threeText : List ℕ → ℕ → ℕ → ℕ → List ℕ
+threeText key a b c = joined (key ∷ decimal a ∷ gap ∷ decimal b ∷ gap ∷ decimal c ∷ newline ∷ [])
 
 -- `loop=ROW ALL MOST`
-unfoldable pub countText : LoopCount → List ℕ
-countText c = joined (loopKey ∷ decimal (c .row) ∷ gap ∷ decimal (c .all) ∷ gap ∷ decimal (c .most) ∷ newline ∷ [])
+abbrev pub countText : LoopCount → List ℕ
+countText c = threeText loopKey (c .row) (c .all) (c .most)
 
 -- for each loop
 unfoldable pub countTexts : List LoopCount → List ℕ
@@ -58,7 +66,7 @@ frontText ending row ticks used = joined (endingKey ending ∷ decimal row ∷ n
 
 -- a run's answer
 unfoldable pub runText : Ending → ℕ → ℕ → ℕ → List ℤ → List LoopCount → List ℕ
-runText ending row ticks used store counts = frontText ending row ticks used ++ (valuesText true store ++ (newline ++ countTexts counts))
+runText ending row ticks used store counts = frontText ending row ticks used ++ (valuesText store ++ (newline ++ countTexts counts))
 
 -- what a run call answers of a store, or its refusal
 unfoldable pub replyText : RunReply → List ℤ → List ℕ

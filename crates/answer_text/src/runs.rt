@@ -1,12 +1,12 @@
 // What a program prints of a run's answer, written into a lent buffer: how it ended, its ticks, the picks it used, its store and the
-// turns of its loops; or its refusal.
+// turns of its loops; or its refusal. The same of a live run: a step, a cue, and the answer so far.
+
 use calls::Outcome;
 use loader::SCRATCH;
 use rules::Ending;
 use rules::LoopCount;
 use rules::Verdict;
 ghost use mathlib.Core.Path.{_≡_};
-ghost use mathlib.Core.Bool.{true};
 ghost use mathlib.Core.List.{_++_};
 ghost use Prim.Native.Nat.{_+_, _*_, _≤_};
 ghost use lib.Dec.{eqb};
@@ -14,7 +14,7 @@ ghost use lib.ListN.{length, take};
 ghost use Rattle.rules.specs.Report.{decimal, newline};
 ghost use Rattle.rules.specs.Calls.{scratchSize, judged, runReply};
 ghost use Rattle.report.specs.Pieces.{Wrote};
-ghost use Rattle.answer_text.specs.Texts.{endingKey, valueText, valuesText, countText, countTexts, frontText, runText};
+ghost use Rattle.answer_text.specs.Texts.{endingKey, valueText, valuesText, threeText, countText, countTexts, frontText, runText};
 ghost use Rattle.answer_text.specs.Texts.{outcomeText, replyText};
 ghost use Rattle.answer_text.specs.Adding.{Adds};
 
@@ -22,7 +22,7 @@ ghost use Rattle.answer_text.specs.Adding.{Adds};
 pub const TEXT: usize = 2_048;
 
 // Writes a key and a number behind what is written.
-fn add_number(key: &[u8], n: u64, at: usize, out: &mut [u8]) -> usize
+pub fn add_number(key: &[u8], n: u64, at: usize, out: &mut [u8]) -> usize
     requires { ⌜ at + (length (now key) + 20) ≤ length (now out) ⌝ }
     ensures { λ r. do
       ⌜ Adds (now (key .entry) ++ decimal n) at (now (out .entry)) (now (out .exit)) r
@@ -32,7 +32,7 @@ fn add_number(key: &[u8], n: u64, at: usize, out: &mut [u8]) -> usize
 }
 
 // Ends a line.
-fn end_line(at: usize, out: &mut [u8]) -> usize
+pub fn end_line(at: usize, out: &mut [u8]) -> usize
     requires { ⌜ at + 1 ≤ length (now out) ⌝ }
     ensures { λ r. ⌜ Adds newline at (now (out .entry)) (now (out .exit)) r ⌝ }
 {
@@ -59,7 +59,7 @@ fn add_value(first: bool, v: i32, at: usize, out: &mut [u8]) -> usize
 }
 
 // Is this the first one?
-fn is_first(i: usize) -> bool
+pub fn is_first(i: usize) -> bool
     ensures { λ r. ⌜ r ≡ eqb i 0 ⌝ }
 {
     i == 0
@@ -68,7 +68,7 @@ fn is_first(i: usize) -> bool
 // Writes the values of a store, one space between two.
 fn add_values(store: &[i32], at: usize, out: &mut [u8]) -> usize
     requires { ⌜ (length (now store) ≤ 17) × (at + 374 ≤ length (now out)) ⌝ }
-    ensures { λ r. ⌜ Adds (valuesText true (now (store .entry))) at (now (out .entry)) (now (out .exit)) r × (r ≤ at + 374) ⌝ }
+    ensures { λ r. ⌜ Adds (valuesText (now (store .entry))) at (now (out .entry)) (now (out .exit)) r × (r ≤ at + 374) ⌝ }
 {
     let mut end = at;
     let mut i: usize = 0;
@@ -80,15 +80,25 @@ fn add_values(store: &[i32], at: usize, out: &mut [u8]) -> usize
     end
 }
 
+// Writes a line of three numbers under a key.
+pub fn add_three(key: &[u8], x: u64, y: u64, z: u64, at: usize, out: &mut [u8]) -> usize
+    requires { ⌜ at + (length (now key) + 63) ≤ length (now out) ⌝ }
+    ensures { λ r. do
+      ⌜ Adds (threeText (now (key .entry)) x y z) at (now (out .entry)) (now (out .exit)) r
+          × (r ≤ at + (length (now (key .entry)) + 63)) ⌝ }
+{
+    let a = add_number(key, x, at, out);
+    let b = add_number(b" ", y, a, out);
+    let c = add_number(b" ", z, b, out);
+    end_line(c, out)
+}
+
 // Writes the line of a loop's counts.
 fn add_count(count: LoopCount, at: usize, out: &mut [u8]) -> usize
     requires { ⌜ at + 68 ≤ length (now out) ⌝ }
     ensures { λ r. ⌜ Adds (countText count) at (now (out .entry)) (now (out .exit)) r × (r ≤ at + 68) ⌝ }
 {
-    let row = add_number(b"loop=", count.row as u64, at, out);
-    let all = add_number(b" ", count.all, row, out);
-    let most = add_number(b" ", count.most, all, out);
-    end_line(most, out)
+    add_three(b"loop=", count.row as u64, count.all, count.most, at, out)
 }
 
 // Writes the lines of the first `loops` counts.
@@ -122,7 +132,7 @@ fn add_ending(ending: Ending, row: usize, out: &mut [u8]) -> usize
 }
 
 // Writes a text behind what is written.
-fn add_text(text: &[u8], at: usize, out: &mut [u8]) -> usize
+pub fn add_text(text: &[u8], at: usize, out: &mut [u8]) -> usize
     requires { ⌜ at + length (now text) ≤ length (now out) ⌝ }
     ensures { λ r. ⌜ Adds (now (text .entry)) at (now (out .entry)) (now (out .exit)) r ⌝ }
 {

@@ -1,6 +1,6 @@
 // What a report says, as numbers: its ticks, and each loop's line.
-use analysis_lines::line_at;
 use crate::prices::prices_of;
+use analysis_lines::line_at;
 use reader::Loaded;
 use rules::LoopLine;
 use rules::Verdict;

@@ -1,9 +1,9 @@
 // The two calls on a script that has been read: its report, and its run.
-pub mod prices;
 pub mod figures;
+pub mod prices;
 
-use analysis::Figures;
 use crate::prices::prices_of;
+use analysis::Figures;
 use ints::min_max::smaller;
 use reader::Loaded;
 use rules::Ending;

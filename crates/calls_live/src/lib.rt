@@ -1,12 +1,12 @@
 // The two calls of a live run on a script that has been read: its start, and one step.
 
 use calls::prices::prices_of;
+use ints::min_max::smaller;
 use live_state::LEFT;
 use live_state::STATE;
 use live_state::Standing;
 use live_state::TICKS;
 use live_state::USED;
-use ints::min_max::smaller;
 use reader::Loaded;
 use rules::Ending;
 use rules::LoopCount;

@@ -1,10 +1,10 @@
 // The words of the one cause for which 3 refuses a line.
 use crate::marked::print_marked;
+use ints::min_max::smaller_size;
 use line_causes::Fault;
 use line_causes::LineKind;
 use line_causes::agree;
 use line_causes::cause_of;
-use ints::min_max::smaller_size;
 use program_parts::print_text;
 use reading::text::position;
 ghost use Prim.Native.Nat.{_≤_};

@@ -3,6 +3,7 @@
 // the cause and the remedy of a refusal.
 mod blocks;
 mod faults;
+mod known;
 mod limits;
 mod marked;
 mod refusal;
@@ -64,8 +65,9 @@ fn explain_rows(
     let mut figures = [zero; 256];
     explain_margin::put_lines(&lines, found.loops, &mut figures);
     explain_margin::put_ticks(&own, &mut figures);
-    print_script(file, vars, rows, count, &figures, found.ticks);
+    print_script(file, vars, rows, count, &figures, found.ticks, ranges);
 }
+
 // Prints a script that has been read.
 fn explain_script(file: &[u8], rows: &[u32], script: Loaded, ranges: [[i32; 2]; 16], prices: &[u32])
     requires { ⌜ Given (now file) (now rows) script ranges × Priced (now prices) ⌝ }

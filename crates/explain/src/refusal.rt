@@ -10,8 +10,8 @@ use crate::refusals::print_remedy;
 use explain_margin::PlaceKind;
 use explain_margin::place_of;
 use expressions::leaves::digits_at;
-use line_causes::LineKind;
 use ints::min_max::smaller_size;
+use line_causes::LineKind;
 use program_parts::print_number;
 use program_parts::print_refusal;
 use program_parts::print_text;
@@ -233,11 +233,11 @@ pub fn print_words(word: &[u8]) {
     match number {
         Number::Is(n) => {
             if n < 1 {
-                print_wrong(b"error=refused is not from 1 to 20", &word[from..]);
+                print_wrong(b"error=refused is not from 1 to 22", &word[from..]);
                 return;
             }
-            if n > 20 {
-                print_wrong(b"error=refused is not from 1 to 20", &word[from..]);
+            if n > 22 {
+                print_wrong(b"error=refused is not from 1 to 22", &word[from..]);
                 return;
             }
             print_both(n as u32);

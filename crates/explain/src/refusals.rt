@@ -105,6 +105,10 @@ fn call_cause(number: u32) {
             );
             print_text(b"  to what is lent; q below 1 or above 1,000,000\n");
         }
+        21 => print_text(
+            b"  live only: the first number of the state that no run of this file can have there\n",
+        ),
+        22 => print_text(b"  live only: q above 1,000,000\n"),
         _ => (),
     }
 }
@@ -191,6 +195,10 @@ fn call_remedy(number: u32) {
         20 => print_text(
             b"  lend a length of file, store and picks for each script, and 1 to 1,000,000 ticks a frame\n",
         ),
+        21 => print_text(
+            b"  lend the 64 numbers as the last start or step of this file and these prices left them\n",
+        ),
+        22 => print_text(b"  lend at most 1,000,000 ticks a step\n"),
         _ => (),
     }
 }

@@ -56,7 +56,12 @@ fn head_of(rows: &[u32], end: usize) -> usize
     }
 }
 
-// The block that an `end` row ends, from its head.
+// The figure of a block that 13 refuses: it is not counted past the limit.
+fn print_over() {
+    print_text(b"\nits figure: more than 1000000000000 ticks\n");
+}
+
+// The block that an `end` row ends, from its head, and its figure.
 fn print_block(file: &[u8], vars: usize, rows: &[u32], end: usize)
     requires { ⌜ (vars ≤ 16) × (end ≤ 256) × (4 * end + 3 < length (now rows)) ⌝ }
 {
@@ -64,6 +69,7 @@ fn print_block(file: &[u8], vars: usize, rows: &[u32], end: usize)
     print_text(b"\nthe block");
     print_row(file, vars, head);
     print_row(file, vars, end);
+    print_over();
 }
 
 // A refusal of a script of `count` rows.
@@ -86,6 +92,7 @@ pub fn print_refused_rows(
         }
     } else {
         print_text(b"\nthe whole file\n");
+        print_over();
     }
     print_text(b"\ncause\n");
     print_cause(number);

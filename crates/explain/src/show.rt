@@ -1,4 +1,5 @@
 // What is printed of an accepted script: its ticks, and each row behind its margin.
+use crate::known::print_unknown;
 use analysis_ticks::cap;
 use analysis_ticks::times;
 use explain_margin::EXACT;
@@ -11,6 +12,7 @@ use explain_margin::OpenBlocks;
 use explain_margin::TICKS;
 use explain_margin::TOTAL;
 use explain_margin::TURNS;
+use explain_margin::UNKNOWN;
 use explain_margin::Widths;
 use explain_margin::after_row;
 use explain_margin::begins;
@@ -28,6 +30,7 @@ use ints::min_max::smaller_size;
 use program_parts::print_front;
 use program_parts::print_number;
 use program_parts::print_text;
+use table::partner_at;
 use table::tag_at;
 ghost use mathlib.Core.Path.{_≡_};
 ghost use Prim.Native.Nat.{_+_, _*_, _≤_, _<_};
@@ -179,6 +182,26 @@ fn print_row(
     print_line(file, 3 + vars + i, KEY, begins(w) + inner);
 }
 
+// What the figure of the loop at row i rests on, of a loop that is counted.
+fn print_rests(
+    file: &[u8],
+    rows: &[u32],
+    count: usize,
+    i: usize,
+    figures: &[[u64; 4]; 256],
+    ranges: [[i32; 2]; 16],
+)
+    requires { ⌜ (i < count) × (count ≤ 256) × (4 * count ≤ length (now rows)) × (length (now figures) ≡ 256) ⌝ }
+{
+    if figures[i][EXACT] == NO_LOOP {
+        return;
+    }
+    let end = partner_at(rows, i);
+    if end < count {
+        print_unknown(file, rows, i, end, figures[end][UNKNOWN], ranges);
+    }
+}
+
 // The rows one after the other.
 fn print_rows(
     file: &[u8],
@@ -188,6 +211,7 @@ fn print_rows(
     figures: &[[u64; 4]; 256],
     w: Widths,
     whole: u64,
+    ranges: [[i32; 2]; 16],
 )
     requires { ⌜ (count ≤ 256) × (4 * count ≤ length (now rows)) × (vars ≤ 16) × (length (now figures) ≡ 256) × Narrow w ⌝ }
 {
@@ -196,6 +220,7 @@ fn print_rows(
     while i < count {
         let row = figures[i];
         print_row(file, vars, rows, i, row, nest, w, whole);
+        print_rests(file, rows, count, i, figures, ranges);
         let next = after_row(nest, tag_at(rows, i), row[TOTAL]);
         nest = next;
         i += 1;
@@ -210,6 +235,7 @@ pub fn print_script(
     count: usize,
     figures: &[[u64; 4]; 256],
     whole: u64,
+    ranges: [[i32; 2]; 16],
 )
     requires { ⌜ (count ≤ 256) × (4 * count ≤ length (now rows)) × (vars ≤ 16) × (length (now figures) ≡ 256) ⌝ }
 {
@@ -222,5 +248,5 @@ pub fn print_script(
     print_number(whole);
     print_text(b"\n\n");
     print_headings(w);
-    print_rows(file, vars, rows, count, figures, w, whole);
+    print_rows(file, vars, rows, count, figures, w, whole, ranges);
 }

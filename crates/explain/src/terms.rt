@@ -14,7 +14,7 @@ ghost use Prim.Native.Nat.{_+_, _*_, _≤_, _<_};
 ghost use lib.ListN.{length};
 
 // What a row does to a variable.
-enum Deed {
+pub enum Deed {
     Sets,
     Clears,
     Moves,
@@ -47,7 +47,7 @@ fn does(rows: &[u32], i: usize, v: u8, deed: Deed) -> bool
 }
 
 // The first row from `from` on, before `end`, that does it, or `end`.
-fn first_row(rows: &[u32], from: usize, end: usize, v: u8, deed: Deed) -> usize
+pub fn first_row(rows: &[u32], from: usize, end: usize, v: u8, deed: Deed) -> usize
     requires { ⌜ 4 * end ≤ length (now rows) ⌝ }
 {
     let mut i = from;

@@ -1,4 +1,5 @@
-// The figures by row: turns, total and exact or most of a loop's head, the ticks of one pass of a block's head; 0 at other rows.
+// The figures by row: turns, total and exact or most of a loop's head, the ticks of one pass of a block's head, what is not known before a
+// loop at its end; 0 at other rows.
 use analysis_lines::line_at;
 use ints::min_max::larger;
 use rules::LoopLine;
@@ -21,6 +22,9 @@ pub const TOTAL: usize = 1;
 pub const EXACT: usize = 2;
 
 pub const TICKS: usize = 3;
+
+// At a loop's end row: the variables that are not known before it, as the sum of 2^v. It has at most five digits, as a heading has.
+pub const UNKNOWN: usize = 3;
 
 // What stands in the column EXACT: no loop's head, most, exact.
 pub const NO_LOOP: u64 = 0;
@@ -74,7 +78,7 @@ pub fn is_head(rows: &[u32], i: usize) -> bool
     }
 }
 
-// The ticks of one pass of row i's block, beside its other figures.
+// What the analysis noted at row i, beside its other figures.
 fn put_own(figures: &mut [[u64; 4]; 256], i: usize, ticks: u64)
     requires { ⌜ (i < 256) × (length (now figures) ≡ 256) ⌝ }
     ensures { λ _. ⌜ (now (figures .exit) ≡ set (now (figures .entry)) i (ticksBeside (getD (now (figures .entry)) i []) ticks))
@@ -86,7 +90,8 @@ fn put_own(figures: &mut [[u64; 4]; 256], i: usize, ticks: u64)
     figures[i] = [turns, total, exact, ticks];
 }
 
-// The ticks of one pass of the block that each row begins, 0 if it begins none, beside the row's other figures.
+// What the analysis noted at each row, beside the row's other figures: the ticks of one pass of the block that it begins, the variables
+// that are not known before the loop that it ends, else 0.
 pub fn put_ticks(own: &[u64; 256], figures: &mut [[u64; 4]; 256])
     requires { ⌜ (length (now own) ≡ 256) × (length (now figures) ≡ 256) ⌝ }
     ensures { λ _. ⌜ (now (figures .exit) ≡ putTicks (now (own .entry)) 256 (now (figures .entry)))

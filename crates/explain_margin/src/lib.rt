@@ -18,6 +18,7 @@ pub use figures::NO_LOOP;
 pub use figures::TICKS;
 pub use figures::TOTAL;
 pub use figures::TURNS;
+pub use figures::UNKNOWN;
 pub use figures::greatest;
 pub use figures::is_head;
 pub use figures::put_lines;

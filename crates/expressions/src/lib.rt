@@ -1,7 +1,7 @@
 // Expressions: what a word comes to, in ranges and in a run.
 pub mod leaves;
-pub mod operators;
 pub mod names;
+pub mod operators;
 
 use crate::leaves::VARIABLE;
 use crate::leaves::digits_at;

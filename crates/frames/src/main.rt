@@ -4,11 +4,11 @@
 use calls_frames::Frames;
 use calls_frames::Played;
 use loader::SCRATCH;
-use program_words::lists::Lent;
-use program_words::lists::Values;
 use program_parts::WORD;
 use program_parts::print_text;
 use program_words::Number;
+use program_words::lists::Lent;
+use program_words::lists::Values;
 use rules::Verdict;
 ghost use mathlib.Core.Path.{_≡_};
 ghost use Prim.Native.Nat.{_+_, _*_, _≤_, _<_};

@@ -1,7 +1,7 @@
 // What a line's words are to be: a shape has a letter for each word.
-use reading::questions::question;
 use program_words::is_number;
 use program_words::is_word;
+use reading::questions::question;
 use reading::text::starts_with;
 ghost use mathlib.Core.Path.{_≡_};
 ghost use mathlib.Core.Bool.{_||_};

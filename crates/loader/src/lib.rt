@@ -2,12 +2,12 @@
 // and refuse by number and place.
 use calls::Outcome;
 use calls::figures::Figures;
+use calls::prices::ask_prices;
+use calls::prices::prices_of;
 use calls_frames::Frames;
 use calls_live::Started;
 use calls_live::StepDone;
 use calls_live::Turn;
-use calls::prices::ask_prices;
-use calls::prices::prices_of;
 use reader::load;
 use rules::Reply;
 use rules::Verdict;

@@ -1,14 +1,23 @@
 // What the programs share: files by name, lists of lines, arguments, and what is printed.
 mod arguments;
+mod asks;
+mod cues;
+mod found;
+mod input;
 mod lines;
 mod print;
 mod script;
+mod steps;
 mod wrong;
 
 pub use arguments::PricesRead;
+pub use arguments::STORE;
 pub use arguments::WORD;
 pub use arguments::asks_help;
+pub use arguments::read_arguments;
 pub use arguments::read_prices;
+pub use input::Line;
+pub use input::read_line;
 pub use lines::LineKind;
 pub use lines::answer_input;
 pub use print::print_front;
@@ -16,6 +25,7 @@ pub use print::print_number;
 pub use print::print_outcome;
 pub use print::print_refusal;
 pub use print::print_text;
+pub use print::try_print;
 pub use script::Input;
 pub use script::cannot_read;
 pub use script::read_all;

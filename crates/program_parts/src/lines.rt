@@ -1,4 +1,5 @@
 // Lists on standard input, one file or one run a line.
+use crate::arguments::STORE;
 use crate::print::print_text;
 use crate::script::rehearse_file;
 use crate::script::report_file;
@@ -20,10 +21,10 @@ pub enum LineKind {
 
 // Makes the run of a line under prices, from its name, allowance, picks and values.
 fn run_words(name: &[u8], prices: &[u32], allowance: &[u8], picks: &[u8], words: &[u8]) {
-    let mut store = [0i32; 17];
+    let mut store = [0i32; STORE];
     let values = read_line_values(words, &mut store);
     match values {
-        Values::Count(count) => rehearse_file(name, prices, allowance, picks, count, &mut store),
+        Values::Count(count) => rehearse_file(name, prices, allowance, picks, count, store, false),
         Values::Wrong(at) => print_wrong_listed(at, words, b' '),
     }
 }

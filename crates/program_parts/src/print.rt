@@ -26,11 +26,18 @@ fn cannot_write() {
     libc::close(STDOUT_FILENO);
 }
 
+// Prints a text; false if it cannot, and then it has said so.
+pub fn try_print(text: &[u8]) -> bool {
+    if write_out(text) {
+        return true;
+    }
+    cannot_write();
+    false
+}
+
 // Prints a text, or says that it cannot.
 pub fn print_text(text: &[u8]) {
-    if !write_out(text) {
-        cannot_write();
-    }
+    try_print(text);
 }
 
 // Prints a number in decimal.

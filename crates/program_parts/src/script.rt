@@ -1,20 +1,28 @@
 // A script file: read by its name, reported and run. A byte more than a file may have is read, so that a longer file is told.
+use crate::arguments::STORE;
+use crate::arguments::WORD;
+use crate::cues::print_cues;
+use crate::found::find_picks;
 use crate::print::print_text;
 use crate::wrong::print_unread;
 use crate::wrong::print_wrong_allowance;
 use crate::wrong::print_wrong_picks;
-use libc::STDIN_FILENO;
+use crate::wrong::print_wrong_seed;
+use answer_text::reports::TEXT;
+use answer_text::reports::put_report;
 use ints::min_max::smaller_size;
+use libc::STDIN_FILENO;
 use program_words::Number;
 use program_words::allowance;
 use program_words::pick_count;
+use program_words::picks::PicksBy;
+use program_words::picks::picks_by;
 use program_words::put_picks;
-use answer_text::reports::TEXT;
-use answer_text::reports::put_report;
 ghost use mathlib.Core.Path.{_≡_};
 ghost use Prim.Native.Nat.{_≤_};
-ghost use lib.ListN.{length};
-ghost use Rattle.rules.specs.Calls.{fourOnes};
+ghost use lib.ListN.{take};
+ghost use Rattle.rules.specs.Calls.{fourOnes, scratchSize, judged, runReply};
+ghost use Rattle.answer_text.specs.Texts.{replyText};
 ghost use Rattle.answer_text.specs.Printed.{printed};
 ghost use Rattle.io.specs.Counts.{Counts};
 
@@ -114,18 +122,79 @@ pub fn report_file(path: &[u8]) {
     print_report(&file[..length]);
 }
 
-// Runs a file's bytes and prints what the call answers.
-fn print_run(file: &[u8], prices: &[u32], allowed: u64, picks: &[u8], store: &mut [i32])
-    requires { ⌜ length (now store) ≤ 17 ⌝ }
+// Writes what is printed of a run from the first values of a store.
+fn write_run(
+    file: &[u8],
+    prices: &[u32],
+    allowed: u64,
+    picks: &[u8],
+    values: usize,
+    store: [i32; STORE],
+    text: &[u8],
+)
+    requires { do
+      ⌜ now text ≡ replyText (runReply (now prices) (judged (now prices) scratchSize (now file)) (take values store) (now picks) allowed)
+          (take values store) ⌝ }
 {
-    let mut text = [0u8; answer_text::runs::TEXT];
-    let n = answer_text::runs::put_answer(file, prices, store, picks, allowed, &mut text);
-    print_text(&text[..n]);
+    print_text(text);
 }
 
-// Runs the file of that name and prints the outcome.
-fn run_file(path: &[u8], prices: &[u32], allowed: u64, picks: &[u8], store: &mut [i32])
-    requires { ⌜ length (now store) ≤ 17 ⌝ }
+// Runs a file's bytes from the first values of a store and prints what the call answers.
+fn print_run(
+    file: &[u8],
+    prices: &[u32],
+    allowed: u64,
+    picks: &[u8],
+    values: usize,
+    store: [i32; STORE],
+)
+    requires { ⌜ values ≤ 17 ⌝ }
+{
+    let mut after = store;
+    let mut text = [0u8; answer_text::runs::TEXT];
+    let n = answer_text::runs::put_answer(
+        file,
+        prices,
+        &mut after[..values],
+        picks,
+        allowed,
+        &mut text,
+    );
+    write_run(file, prices, allowed, picks, values, store, &text[..n]);
+}
+
+// Finds the picks of a run of a file's bytes, and prints its cues, if they are asked for, and what the call answers.
+fn run_found(
+    file: &[u8],
+    prices: &[u32],
+    allowed: u64,
+    by: PicksBy,
+    picks: &mut [u8],
+    values: usize,
+    store: [i32; STORE],
+    cues: bool,
+)
+    requires { ⌜ values ≤ 17 ⌝ }
+{
+    let n = find_picks(file, prices, allowed, by, values, store, picks);
+    if cues {
+        print_cues(file, prices, allowed, &picks[..n], values, store);
+    }
+    print_run(file, prices, allowed, &picks[..n], values, store);
+}
+
+// The same of the file of that name.
+fn run_file(
+    path: &[u8],
+    prices: &[u32],
+    allowed: u64,
+    by: PicksBy,
+    picks: &mut [u8],
+    values: usize,
+    store: [i32; STORE],
+    cues: bool,
+)
+    requires { ⌜ values ≤ 17 ⌝ }
 {
     let mut file = [0u8; 16385];
     let input = read_file(path, &mut file);
@@ -134,7 +203,16 @@ fn run_file(path: &[u8], prices: &[u32], allowed: u64, picks: &[u8], store: &mut
         print_unread(path);
         return;
     }
-    print_run(&file[..length], prices, allowed, picks, store);
+    run_found(
+        &file[..length],
+        prices,
+        allowed,
+        by,
+        picks,
+        values,
+        store,
+        cues,
+    );
 }
 
 // Runs the file of that name by a word of picks, whose bytes go into picks.
@@ -144,50 +222,67 @@ fn run_word(
     allowed: u64,
     word: &[u8],
     picks: &mut [u8],
-    store: &mut [i32],
+    values: usize,
+    store: [i32; STORE],
+    cues: bool,
 )
-    requires { ⌜ length (now store) ≤ 17 ⌝ }
+    requires { ⌜ values ≤ 17 ⌝ }
 {
     if put_picks(word, picks) {
-        run_file(path, prices, allowed, picks, store);
+        let by = PicksBy::Word;
+        run_file(path, prices, allowed, by, picks, values, store, cues);
     } else {
         print_wrong_picks(word);
     }
 }
 
-// The same with room for as many picks as an argument of a program can have.
-fn run_picks(path: &[u8], prices: &[u32], allowed: u64, word: &[u8], store: &mut [i32])
-    requires { ⌜ length (now store) ≤ 17 ⌝ }
+// The same with room for as many picks as an argument of a program can have, or by picks that are found.
+fn run_picks(
+    path: &[u8],
+    prices: &[u32],
+    allowed: u64,
+    word: &[u8],
+    values: usize,
+    store: [i32; STORE],
+    cues: bool,
+)
+    requires { ⌜ values ≤ 17 ⌝ }
 {
-    let mut room = [0u8; 131072];
-    let count = pick_count(word, &room);
-    run_word(path, prices, allowed, word, &mut room[..count], store);
-}
-
-// The same by a word of allowance.
-fn run_allowed(path: &[u8], prices: &[u32], allowed: &[u8], word: &[u8], store: &mut [i32])
-    requires { ⌜ length (now store) ≤ 17 ⌝ }
-{
-    let n = allowance(allowed);
-    match n {
-        Number::Is(ticks) => run_picks(path, prices, ticks, word, store),
-        Number::Malformed => print_wrong_allowance(allowed),
+    let mut picks = [0u8; WORD];
+    let by = picks_by(word);
+    let count = pick_count(word, &picks);
+    match by {
+        PicksBy::Word => run_word(
+            path,
+            prices,
+            allowed,
+            word,
+            &mut picks[..count],
+            values,
+            store,
+            cues,
+        ),
+        PicksBy::Seed(_) => run_file(path, prices, allowed, by, &mut picks, values, store, cues),
+        PicksBy::Ask => run_file(path, prices, allowed, by, &mut picks, values, store, cues),
+        PicksBy::Malformed => print_wrong_seed(word),
     }
 }
 
-// Runs the file of that name under prices, by a word of allowance, a word of picks and the first values in a store, and prints the outcome
-// or what is wrong. The store's 17 places do: a script has at most 16 variables, and a store of 17 is refused at the place where a longer
-// one would be.
+// Runs the file of that name under prices, by a word of allowance, a word that says the picks and the first values of a store, and prints
+// the outcome or what is wrong; before it the cues, if they are asked for.
 pub fn rehearse_file(
     path: &[u8],
     prices: &[u32],
     allowed: &[u8],
     word: &[u8],
     values: usize,
-    store: &mut [i32],
-)
-    requires { ⌜ length (now store) ≤ 17 ⌝ }
-{
-    let kept = smaller_size(values, store.len());
-    run_allowed(path, prices, allowed, word, &mut store[..kept]);
+    store: [i32; STORE],
+    cues: bool,
+) {
+    let kept = smaller_size(values, STORE);
+    let n = allowance(allowed);
+    match n {
+        Number::Is(ticks) => run_picks(path, prices, ticks, word, kept, store, cues),
+        Number::Malformed => print_wrong_allowance(allowed),
+    }
 }

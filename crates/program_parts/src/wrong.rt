@@ -96,6 +96,14 @@ pub fn print_wrong_picks(word: &[u8]) {
     print_wrong(b"error=picks are not 0 and 1, or -", word);
 }
 
+// The seed of picks that are drawn.
+pub fn print_wrong_seed(word: &[u8]) {
+    print_wrong(
+        b"error=the seed is not from 0 to 18446744073709551615",
+        word,
+    );
+}
+
 // The place past a separator, or the end.
 pub fn next(list: &[u8], end: usize) -> usize
     requires { ⌜ end ≤ length (now list) ⌝ }

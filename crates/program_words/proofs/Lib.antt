@@ -2,6 +2,7 @@
 pub mod Bits
 pub mod Digits
 pub mod Words
+pub mod Drawn
 pub mod Examples
 pub mod ListsLaws
 pub mod Pieces

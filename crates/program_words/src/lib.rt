@@ -1,5 +1,6 @@
 // Numbers, prices and picks as words. A number is written as in a script: no plus, no leading zeros, `-` only before a non-zero number.
 pub mod lists;
+pub mod picks;
 
 use ints::min_max::smaller_size;
 use reading::text::starts_with;

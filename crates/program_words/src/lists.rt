@@ -1,7 +1,8 @@
 // Lists of numbers as words: the prices of a run, and the values of a store.
-use ints::min_max::smaller_size;
+
 use crate::is_word;
 use crate::keep_value;
+use ints::min_max::smaller_size;
 use reading::text::position;
 use reading::text::starts_with;
 ghost use mathlib.Core.Path.{_≡_};

@@ -1,8 +1,8 @@
 // Reads a script file line by line: the questions 2 to 7 and 17. Each line's reader gets the unread rest of the file.
-pub mod rows;
-pub mod lines;
 pub mod head;
+pub mod lines;
 pub mod nesting;
+pub mod rows;
 
 use crate::head::load_head;
 use crate::lines::keyed;

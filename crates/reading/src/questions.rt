@@ -1,11 +1,11 @@
 // What the reader asks of a word as an expression: the questions 3, 17, 4 and 5.
+use crate::order::first_refusal;
 use expressions::leaves::NEITHER;
 use expressions::leaves::VARIABLE;
 use expressions::leaves::leaf_at;
 use expressions::operators::sums;
 use expressions::operators::within;
 use ints::min_max::larger_size;
-use crate::order::first_refusal;
 ghost use mathlib.Core.Path.{_≡_};
 ghost use mathlib.Core.Bool.{true, false, cond};
 ghost use Prim.Native.Nat.{_≤_};

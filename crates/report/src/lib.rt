@@ -1,9 +1,9 @@
 // Writing the report, line by line, into the unused rest of the buffer.
 pub mod pieces;
 
-use analysis_lines::line_at;
 use crate::pieces::Label;
 use crate::pieces::Piece;
+use analysis_lines::line_at;
 use rules::LoopLine;
 use rules::Reply;
 use rules_steps::Step;

@@ -1,8 +1,8 @@
 // season [files] [FILE ..]: prints the season's sheet of the files that are named, as arguments or on standard input, one a line; with
 // `files` first a line for each name. For no name or more than 64 it prints `refused=18 0`.
 use bytes::scan::find;
-use libc::STDIN_FILENO;
 use ints::min_max::smaller_size;
+use libc::STDIN_FILENO;
 use program_parts::Input;
 use program_parts::WORD;
 use program_parts::print_front;

@@ -1,14 +1,14 @@
 // A season's files, one after the other: each is read, judged under four ones and counted on the sheet.
-use calls::measure_script;
-use reader::load;
-use rules::Reply;
-use rules::Verdict;
 use crate::cues::put_cues;
 use crate::groups::Kept;
 use crate::groups::keep_first;
 use crate::sheet::Sheet;
 use crate::sheet::with_accepted;
 use crate::sheet::with_refused;
+use calls::measure_script;
+use reader::load;
+use rules::Reply;
+use rules::Verdict;
 ghost use mathlib.Core.List.{List, [], _∷_, _++_};
 ghost use Prim.Native.Nat.{_≤_};
 ghost use lib.ListN.{length};

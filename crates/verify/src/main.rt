@@ -1,13 +1,13 @@
 // verify [prices=A,C,P,T] FILE REPORT: finds the report of a script file, and prints `same` if the file REPORT holds just that; else the
 // first line that differs, as it is found here, or the refusal.
+use answer_text::reports::TEXT;
+use answer_text::reports::put_report;
 use bytes::scan::find;
 use program_parts::WORD;
 use program_parts::print_number;
 use program_parts::print_text;
 use program_parts::print_unread;
 use program_parts::read_file;
-use answer_text::reports::TEXT;
-use answer_text::reports::put_report;
 ghost use mathlib.Core.Path.{_≡_};
 ghost use Prim.Native.Nat.{_+_, _≤_, _<_};
 ghost use lib.ListN.{length};

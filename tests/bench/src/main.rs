@@ -1,9 +1,9 @@
-//! bench [quick]: times the library against the oracle. Both are called in this process with the same
+//! bench [quick]: times the library against the reference. Both are called in this process with the same
 //! input; the answers are compared before anything is timed.
 
 use diftanew::numbers::{self, ANSWER, FRAMES_ANSWER, STATE, STEP_ANSWER};
-use oracle::paused;
-use oracle::{Ending, ONES, SCRATCH};
+use reference::paused;
+use reference::{Ending, ONES, SCRATCH};
 use std::hint::black_box;
 use std::time::{Duration, Instant};
 
@@ -158,7 +158,7 @@ struct Held {
 impl Held {
     /// Before the first step, from the lowest store.
     fn start(file: &[u8]) -> Held {
-        let plan = oracle::plan(file, &ONES, SCRATCH).expect("an example is accepted");
+        let plan = reference::plan(file, &ONES, SCRATCH).expect("an example is accepted");
         let store = plan.script.ranges[..plan.script.vars].iter().map(|range| range[0]).collect();
         Held { store, state: [0; STATE], cues: [0; 128], answer: [0; STEP_ANSWER] }
     }
@@ -206,43 +206,43 @@ struct Bench {
 }
 
 impl Bench {
-    fn line(&self, name: &str, library: Duration, oracle: Duration) {
-        let ratio = library.as_secs_f64() / oracle.as_secs_f64();
-        println!("{name:<54} {:>12} {:>12} {ratio:>8.2}", human(library), human(oracle));
+    fn line(&self, name: &str, library: Duration, reference: Duration) {
+        let ratio = library.as_secs_f64() / reference.as_secs_f64();
+        println!("{name:<54} {:>12} {:>12} {ratio:>8.2}", human(library), human(reference));
     }
 
     fn report(&mut self, name: &str, file: &[u8]) {
         let (mut ours, mut theirs) = (vec![0; 2_048], vec![0; 2_048]);
         let mut place = 0;
         let number = numbers::report(file, &ONES, &mut self.scratch, &mut theirs, &mut place);
-        let expected = oracle::report_into(file, &ONES, SCRATCH, &mut ours).map_or_else(|r| r, |length| (0, length));
+        let expected = reference::report_into(file, &ONES, SCRATCH, &mut ours).map_or_else(|r| r, |length| (0, length));
         assert_eq!((number, place), expected, "{name}");
         assert!(ours == theirs, "{name}");
         let scratch = &mut self.scratch;
-        let (library, oracle) = time(
+        let (library, reference) = time(
             self.quick,
             || {
                 black_box(numbers::report(black_box(file), &ONES, scratch, &mut theirs, &mut place));
             },
             || {
-                let _ = black_box(oracle::report_into(black_box(file), &ONES, SCRATCH, &mut ours));
+                let _ = black_box(reference::report_into(black_box(file), &ONES, SCRATCH, &mut ours));
             },
         );
         let (bytes, answer) = (file.len(), if number == 0 { "accepted".into() } else { format!("refused {number}") });
-        self.line(&format!("report: {name}, {bytes} bytes, {answer}"), library, oracle);
+        self.line(&format!("report: {name}, {bytes} bytes, {answer}"), library, reference);
     }
 
     fn run(&mut self, name: &str, file: &[u8], store: &[i32], picks: &[u8]) {
         let mut answer = [0; ANSWER];
         let (mut ours, mut theirs) = (store.to_vec(), store.to_vec());
         let number = numbers::run(file, &ONES, &mut self.scratch, &mut theirs, picks, u64::MAX, &mut answer);
-        let (counts, loops) = oracle::run_counts(file, &ONES, SCRATCH, &mut ours, picks, u64::MAX).expect(name);
+        let (counts, loops) = reference::run_counts(file, &ONES, SCRATCH, &mut ours, picks, u64::MAX).expect(name);
         assert_eq!(counts.ending, Ending::Ended, "{name}");
         let first = [0, counts.row as u64, counts.ticks, counts.used as u64, loops as u64, 0, counts.all[0], counts.most[0]];
         assert_eq!((number, &answer[..8]), (0, &first[..]), "{name}");
         assert_eq!(ours, theirs, "{name}");
         let scratch = &mut self.scratch;
-        let (library, oracle) = time(
+        let (library, reference) = time(
             self.quick,
             || {
                 theirs.copy_from_slice(store);
@@ -250,10 +250,10 @@ impl Bench {
             },
             || {
                 ours.copy_from_slice(store);
-                let _ = black_box(oracle::run_counts(black_box(file), &ONES, SCRATCH, &mut ours, picks, u64::MAX));
+                let _ = black_box(reference::run_counts(black_box(file), &ONES, SCRATCH, &mut ours, picks, u64::MAX));
             },
         );
-        self.line(&format!("run: {name}, {} ticks", counts.ticks), library, oracle);
+        self.line(&format!("run: {name}, {} ticks", counts.ticks), library, reference);
     }
 
     /// Eight scripts together, q ticks a frame.
@@ -263,7 +263,7 @@ impl Bench {
         let stores = store.repeat(8);
         let mut ours = stores.clone();
         let mut answer = [0; FRAMES_ANSWER];
-        let lent = oracle::frames::Lent {
+        let lent = reference::frames::Lent {
             files: &files,
             file_lengths: &file_lengths,
             stores: &stores,
@@ -285,19 +285,19 @@ impl Bench {
             let number = numbers::frames(lent, &ONES, q, scratch, &mut answer);
             (number, answer[0], answer[1])
         };
-        let expected = oracle::frames::frames(lent, &ONES, q, SCRATCH).expect(name);
+        let expected = reference::frames::frames(lent, &ONES, q, SCRATCH).expect(name);
         let frame = expected.scripts[0].frame;
         assert_eq!(call(), (0, expected.most, frame), "{name}");
-        let (library, oracle) = time(
+        let (library, reference) = time(
             self.quick,
             || {
                 black_box(call());
             },
             || {
-                let _ = black_box(oracle::frames::frames(lent, &ONES, q, SCRATCH));
+                let _ = black_box(reference::frames::frames(lent, &ONES, q, SCRATCH));
             },
         );
-        self.line(&format!("frames: 8 of {name}, q = {q}, {frame} frames"), library, oracle);
+        self.line(&format!("frames: 8 of {name}, q = {q}, {frame} frames"), library, reference);
     }
 
     /// A frame of eight scripts, which is a loop over `step`; the frames before it have been played.
@@ -325,7 +325,7 @@ impl Bench {
         }
         assert_eq!(first, second);
         let ticks: u64 = second.iter().map(|held| held.answer[2]).sum();
-        let (library, oracle) = time(
+        let (library, reference) = time(
             self.quick,
             || {
                 for ((file, held), from) in EXAMPLES.iter().zip(&mut first).zip(&from) {
@@ -340,7 +340,7 @@ impl Bench {
                 }
             },
         );
-        self.line(&format!("steps: 8 examples, q = {q}, frame {}, {ticks} ticks", before + 1), library, oracle);
+        self.line(&format!("steps: 8 examples, q = {q}, frame {}, {ticks} ticks", before + 1), library, reference);
     }
 }
 
@@ -352,9 +352,9 @@ fn main() {
     }
     println!("Same process, same input. Scratch and report buffer are reused and not cleared between calls; the store is");
     println!("set before each run, store and state before each step. All calls read and analyse the file first.");
-    println!("Best of 7 rounds (2 if over 0.3 s). The oracle keeps its rows on the heap and counts only, without a list of entries.");
+    println!("Best of 7 rounds (2 if over 0.3 s). The reference keeps its rows on the heap and counts only, without a list of entries.");
     println!();
-    println!("{:<54} {:>12} {:>12} {:>8}", "workload", "library", "oracle", "ratio");
+    println!("{:<54} {:>12} {:>12} {:>8}", "workload", "library", "reference", "ratio");
     bench.report("small chase", &chase());
     bench.report("worst file", &worst());
     bench.report("worst file left open", &refused());

@@ -42,8 +42,10 @@ use Rattle.analysis_ranges.proofs.transfer.step_row.Reads as step-row-reads
 use Rattle.analysis_ranges.proofs.transfer.joined.Reads as joined-reads
 use Rattle.analysis.proofs.entries.enter_loop.Reads as enter-loop-reads
 use Rattle.analysis.proofs.entries.leave_loop.Reads as leave-loop-reads
+use Rattle.analysis.proofs.entries.to_note.Reads as to-note-reads
 use Rattle.analysis.proofs.tallies.leave_pick.Reads as leave-pick-reads
 use Rattle.analysis.proofs.tallies.past_row.Reads as past-row-reads
+use Rattle.analysis.proofs.tallies.put_own.Reads as put-own-reads
 use Rattle.analysis.proofs.tallies.restarted.Reads as restarted-reads
 use Rattle.table.proofs.past_else.Reads as past-else-reads
 use Rattle.table.proofs.shape_at.Reads as shape-at-reads
@@ -88,7 +90,7 @@ abbrev walk-below : ℕ → In 5 walk-kinds.ps
 walk-below t = and 5 walk-kinds.ps (falls 5 walk-kinds.ps _<_ μ-walk t) walk.Pre
 
 abbrev loop-given : ℕ → loop-lts.Claims
-loop-given t = (enter-loop-reads.Asked, enter-loop-reads.Learnt, walk-below t, walk.Post, leave-loop-reads.Asked, leave-loop-reads.Learnt)
+loop-given t = (to-note-reads.Asked, to-note-reads.Learnt, enter-loop-reads.Asked, enter-loop-reads.Learnt, walk-below t, walk.Post, leave-loop-reads.Asked, leave-loop-reads.Learnt, put-own-reads.Asked, put-own-reads.Learnt)
 
 abbrev pick-given : ℕ → pick-lts.Claims
 pick-given t = (branch-reads.Asked, branch-reads.Learnt, restarted-reads.Asked, restarted-reads.Learnt, walk-below t, walk.Post, past-else-reads.Asked, past-else-reads.Learnt, joined-reads.Asked, joined-reads.Learnt, leave-pick-reads.Asked, leave-pick-reads.Learnt)
@@ -203,13 +205,13 @@ loop-from t s = withLent (s .args .t) (now (s .args .lines)) (now (s .args .own)
 
 loop-enter-loop-requires : (t : ℕ) → loop-lts.Need-enter-loop-requires (loop-given t) (loop-at-t t) walk-loop.Post
 loop-enter-loop-requires t c κs =
-    let s = c .before .before .before .before .before in
+    let s = c .before .before .before .before .before .before .before in
     let w = s .pre .1 .walk in
     (record { ready = w .ready; inside = s .pre .1 .inside; loops = s .pre .1 .is }, w .fine, w .prices, omega (arith, loop-room (s .args .script .prices) (s .args .round) (envOf (now (s .args .r))) (loop-from t s) (loop-is t s refl) (w .room)), w .long, s .pre .1 .long)
 
 loop-returns : (t : ℕ) → loop-lts.Need-returns (loop-given t) (loop-at-t t) walk-loop.Post
 loop-returns t c =
-    let s = c .before .before .before .before .before .before .before .before .before in
+    let s = c .before .before .before .before .before .before .before .before .before .before .before in
     record {
       stopped = λ h. loop-refused (s .args .script .prices) (s .args .round) (envOf (now (s .args .r))) (loop-from t s) (loop-is t s refl) _ _ (c .before .before .before .enter-loop .ensures (now (s .args .own)) .stopped h);
       whole = λ z. absurd (c .if1 .taken z);
@@ -217,7 +219,7 @@ loop-returns t c =
 
 loop-walk-requires : (t : ℕ) → loop-lts.Need-walk-requires (loop-given t) (loop-at-t t) walk-loop.Post
 loop-walk-requires t c κs =
-    let s = c .before .before .before .before .before .before .before .before .before .before .before .before .before .before in
+    let s = c .before .before .before .before .before .before .before .before .before .before .before .before .before .before .before .before in
     let e = c .before .before .before .before .before .before .before .before .enter-loop in
     let n = e .ensures (now (s .args .own)) .whole (c .before .before .before .before .before .if1 .left) in
     let w = s .pre .1 .walk in
@@ -225,7 +227,7 @@ loop-walk-requires t c κs =
 
 loop-returns-2 : (t : ℕ) → loop-lts.Need-returns-2 (loop-given t) (loop-at-t t) walk-loop.Post
 loop-returns-2 t c =
-    let s = c .before .before .before .before .before .before .before .before .before .before .before .before .before .before .before .before .before .before .before in
+    let s = c .before .before .before .before .before .before .before .before .before .before .before .before .before .before .before .before .before .before .before .before .before in
     let e = c .before .before .before .before .before .before .before .before .before .before .before .before .before .enter-loop .ensures (now (s .args .own)) in
     let l = c .before .before .before .before .before .before .before .before .before .before .if1 .left in
     let a = s .args in
@@ -238,13 +240,13 @@ loop-returns-2 t c =
     }
 
 -- its body, once it is walked
-loop-body : (t : ℕ) (c : loop-lts.Else2 (loop-given t) (loop-at-t t) walk-loop.Post) → let a = c .before .before .before .before .before .before .before .before .before .before .before .before .before .before .before .before .before .before .before .args in let e = c .before .before .before .before .before .before .before .before .before .before .before .before .before .enter-loop in
+loop-body : (t : ℕ) (c : loop-lts.Else2 (loop-given t) (loop-at-t t) walk-loop.Post) → let a = c .before .before .before .before .before .before .before .before .before .before .before .before .before .before .before .before .before .before .before .before .before .args in let e = c .before .before .before .before .before .before .before .before .before .before .before .before .before .enter-loop in
     PassedPart (now (a .text)) (a .script .prices) (rowsOf (now (a .rows))) (a .script .count) (a .t .next + 1) (envOf (e .last .1 .1 .1 .1 .1 .1 .1 .0)) (e .result .round) (withLent (e .result .first) (e .last .1 .1 .1 .1 .1 .0) (now (a .own))) (c .before .before .before .before .walk .last .1 .1 .1 .1 .1 .1 .1 .0) (withLent (c .before .before .before .before .walk .result) (c .before .before .before .before .walk .last .1 .1 .1 .1 .0) (c .before .before .before .before .walk .last .1 .1 .1 .1 .1 .0))
-loop-body t c = walked-from (c .before .before .before .before .before .before .before .before .before .before .before .before .before .enter-loop .ensures (now (c .before .before .before .before .before .before .before .before .before .before .before .before .before .before .before .before .before .before .before .args .own)) .whole (c .before .before .before .before .before .before .before .before .before .before .if1 .left) .lined .next) (c .before .before .before .before .walk .ensures) .whole (c .if2 .left)
+loop-body t c = walked-from (c .before .before .before .before .before .before .before .before .before .before .before .before .before .enter-loop .ensures (now (c .before .before .before .before .before .before .before .before .before .before .before .before .before .before .before .before .before .before .before .before .before .args .own)) .whole (c .before .before .before .before .before .before .before .before .before .before .if1 .left) .lined .next) (c .before .before .before .before .walk .ensures) .whole (c .if2 .left)
 
 loop-leave-loop-requires : (t : ℕ) → loop-lts.Need-leave-loop-requires (loop-given t) (loop-at-t t) walk-loop.Post
 loop-leave-loop-requires t c κs =
-    let s = c .before .before .before .before .before .before .before .before .before .before .before .before .before .before .before .before .before .before .before .before .before in
+    let s = c .before .before .before .before .before .before .before .before .before .before .before .before .before .before .before .before .before .before .before .before .before .before .before in
     let e = c .before .before .before .before .before .before .before .before .before .before .before .before .before .before .before .enter-loop .ensures [] in
     let l = c .before .before .before .before .before .before .before .before .before .before .before .before .if1 .left in
     let w = s .pre .1 .walk in
@@ -256,19 +258,19 @@ loop-leave-loop-requires t c κs =
 
 loop-returns-3 : (t : ℕ) → loop-lts.Need-returns-3 (loop-given t) (loop-at-t t) walk-loop.Post
 loop-returns-3 t c =
-    let s = c .before .before .before .before .before .before .before .before .before .before .before .before .before .before .before .before .before .before .before .before .before .before .before .before in
-    let e = c .before .before .before .before .before .before .before .before .before .before .before .before .before .before .before .before .before .before .enter-loop .ensures (now (s .args .own)) in
-    let one = c .before .before .before .before .before .before .before .before .before .before .before .before .before .before .before .before .before .before .enter-loop .result in
-    let l = c .before .before .before .before .before .before .before .before .before .before .before .before .before .before .before .if1 .left in
+    let s = c .before .before .before .before .before .before .before .before .before .before .before .before .before .before .before .before .before .before .before .before .before .before .before .before .before .before .before .before .before .before in
+    let e = c .before .before .before .before .before .before .before .before .before .before .before .before .before .before .before .before .before .before .before .before .before .before .enter-loop .ensures (now (s .args .own)) in
+    let one = c .before .before .before .before .before .before .before .before .before .before .before .before .before .before .before .before .before .before .before .before .before .before .enter-loop .result in
+    let l = c .before .before .before .before .before .before .before .before .before .before .before .before .before .before .before .before .before .before .before .if1 .left in
     let a = s .args in
     let x = e .exit in
     let k = kindAt (rowsOf (now (a .rows))) (a .t .next) in
     let text = now (a .text) in
     let v = a .round .v in
-    let left = c .before .before .leave-loop .ensures in
-    let p = loop-body t (c .before .before .before .before .before) in
+    let left = c .before .before .before .before .before .before .leave-loop .ensures in
+    let p = loop-body t (c .before .before .before .before .before .before .before .before .before) in
     record {
-      stopped = λ h. absurd (h (left .closed text (c .before .before .before .before .before .before .before .before .before .walk .result .spent) (omega (arith, p .small)) [] [] [] .number));
+      stopped = λ h. absurd (h (left .closed text (c .before .before .before .before .before .before .before .before .before .before .before .before .before .walk .result .spent) (omega (arith, p .small)) [] [] [] .number));
       whole = λ z.
           let u = loop-is t s (p .place) in
           let n = e .whole l in
@@ -279,7 +281,9 @@ loop-returns-3 t c =
           (record {
             long = left .env .long;
             value = left .env .value ∙ ap (widenedEnv (setOf (one .exit .set)) (rangeOf (one .exit .mine)) (one .exit .tested)) (e .begun l .value) ∙ outside-after (formOf text k) _ (testOf text k) _ (x .sets) (x .mine) (x .tested);
-          });
+          })
+          (λ h. c .before .before .before .before .before .before .before .before .before .before .before .before .before .before .before .before .before .before .before .before .before .before .before .before .before .to-note .ensures (let o = c .before .before .before .before .before .before .before .before .before .before .before .before .own in let o2 = c .before .before .before .before .before .own2 in search needs))
+          (c .before .before .put-own .ensures);
     }
 
 -- ---- a pick or a loop
@@ -400,12 +404,14 @@ pub +walk+walk-block+walk-loop+walk-pick-spec : {M : Type 1} → statement M
     (λ t. loop-lts.spec (loop-given t)
     (loop-at-t t)
     walk-loop.Post
+    (λ c κs. search needs)
     (loop-enter-loop-requires t)
     (loop-returns t)
     (loop-walk-requires t)
     (λ c. search needs)
     (loop-returns-2 t)
     (loop-leave-loop-requires t)
+    (λ c κs. search needs)
     (λ c. search needs)
     (loop-returns-3 t))
     λ t. pick-lts.spec (pick-given t)

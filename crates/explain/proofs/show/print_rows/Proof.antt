@@ -5,10 +5,10 @@ use Rattle.explain.proofs.show.print_rows.Statement.{statement}
 use Rattle.explain.proofs.show.print_rows.Tie as tie
 
 abbrev Inv-loop : tie.InvT-loop
-Inv-loop file vars rows count figures w whole nest₀ i₀ nest i = Unit {0}
+Inv-loop file vars rows count figures w whole ranges nest₀ i₀ nest i = Unit {0}
 
 abbrev μ-loop : tie.MeasureT-loop
-μ-loop file vars rows count figures w whole nest₀ i₀ nest i = count - i
+μ-loop file vars rows count figures w whole ranges nest₀ i₀ nest i = count - i
 
 pub print-rows-spec : {M : Type 1} → statement M
-print-rows-spec = tie.close (tie.spec Inv-loop μ-loop (λ c. search needs) (λ c. search needs) (λ c. search needs) (λ c κs. search needs) (λ c κs. search needs) (λ c. search needs) (λ c κs. search needs) (λ c. search needs) (λ c. search needs) (λ c. search needs) (λ c. search needs))
+print-rows-spec = tie.close (tie.spec Inv-loop μ-loop (λ c. search needs) (λ c. search needs) (λ c. search needs) (λ c κs. search needs) (λ c κs. search needs) (λ c κs. search needs) (λ c. search needs) (λ c κs. search needs) (λ c. search needs) (λ c. search needs) (λ c. search needs) (λ c. search needs))
