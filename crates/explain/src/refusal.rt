@@ -197,7 +197,7 @@ fn print_line_place(file: &[u8], number: u32, place: usize) {
     }
 }
 
-// A refusal of a file before its rows are asked: by 2 to 7, 16 or 17.
+// A refusal of a file before its rows are asked, by 2 to 7, 16 or 17, or of a store, by 15.
 pub fn print_refused(file: &[u8], number: u32, place: usize) {
     print_refusal(number, place);
     match place_of(number) {

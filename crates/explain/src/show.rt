@@ -51,7 +51,7 @@ pub fn print_spaces(n: usize) {
 }
 
 // A number at the right end of a column.
-fn print_right(n: u64, width: usize) {
+pub fn print_right(n: u64, width: usize) {
     let mut text = [0u8; 20];
     let k = report::pieces::put_number(b"", n, &mut text);
     print_spaces(width - smaller_size(k, width));

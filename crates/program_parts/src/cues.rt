@@ -13,14 +13,28 @@ ghost use Prim.Native.Nat.{_≤_};
 ghost use lib.ListN.{length};
 ghost use Rattle.answer_text.specs.Steps.{cueLine};
 
-// The picks used; whether a cue is next, 1, and its row and ticks; whether to go on.
-struct Next {
-    used: usize,
-    due: usize,
-    row: usize,
-    tick: u64,
-    on: bool,
+// Where a run stands between two cues: the picks used; whether its last step did a cue, and its number; whether a cue is next, 1, and its
+// row and ticks; whether to go on.
+pub struct CuePlace {
+    pub used: usize,
+    pub did: bool,
+    pub number: u32,
+    pub due: usize,
+    pub row: usize,
+    pub tick: u64,
+    pub on: bool,
 }
+
+// Before the first step.
+pub const BEFORE_CUES: CuePlace = CuePlace {
+    used: 0,
+    did: false,
+    number: 0,
+    due: 0,
+    row: 0,
+    tick: 0,
+    on: true,
+};
 
 // Writes the line of a cue; false if it cannot.
 fn write_cue(n: u32, row: usize, tick: u64, text: &[u8]) -> bool
@@ -43,16 +57,16 @@ fn due_after(status: u64) -> usize
     if status == live_state::FULL { 1 } else { 0 }
 }
 
-// The next step, and the line of the cue that was next.
-fn list_next(
+// The next step, with room for the cue that is next.
+pub fn next_cue(
     file: &[u8],
     prices: &[u32],
     allowed: u64,
     picks: &[u8],
     store: &mut [i32],
     state: &mut [u64],
-    at: Next,
-) -> Next
+    at: CuePlace,
+) -> CuePlace
     requires { ⌜ (length (now state) ≡ 64) × (at .used ≤ length (now picks)) × (at .due ≤ 1) ⌝ }
     ensures { λ r. ⌜ (r .used ≤ length (now (picks .entry))) × (r .due ≤ 1) ⌝ }
 {
@@ -68,17 +82,23 @@ fn list_next(
         &picks[used..],
         &mut cues[..due],
     );
-    let mut written = true;
-    if d.cues > 0 {
-        written = print_cue(cues[0], at.row, at.tick);
-    }
-    Next {
+    CuePlace {
         used: used + smaller_size(d.used, picks.len() - used),
+        did: d.cues > 0,
+        number: cues[0],
         due: due_after(d.status),
         row: d.row,
         tick: d.all_ticks,
-        on: written && goes_on(allowed, d, &state[..]),
+        on: goes_on(allowed, d, &state[..]),
     }
+}
+
+// Prints the line of the cue that was next at a place, if the step to another did it; false if it cannot.
+fn print_done(at: CuePlace, next: CuePlace) -> bool {
+    if next.did {
+        return print_cue(next.number, at.row, at.tick);
+    }
+    true
 }
 
 // Prints the cues of a run that has been started. A proved loop has to end: it counts its turns down from a number that no run uses up.
@@ -92,16 +112,12 @@ fn list_cues(
 )
     requires { ⌜ length (now state) ≡ 64 ⌝ }
 {
-    let mut at = Next {
-        used: 0,
-        due: 0,
-        row: 0,
-        tick: 0,
-        on: true,
-    };
+    let mut at = BEFORE_CUES;
+    let mut written = true;
     let mut turns = u64::MAX;
-    while turns > 0 && at.on {
-        let next = list_next(file, prices, allowed, picks, store, state, at);
+    while turns > 0 && at.on && written {
+        let next = next_cue(file, prices, allowed, picks, store, state, at);
+        written = print_done(at, next);
         at = next;
         turns -= 1;
     }

@@ -7,15 +7,16 @@ use Rattle.program_parts.proofs.cues.list_cues.Statement.{statement}
 use Rattle.program_parts.proofs.cues.list_cues.Tie as tie
 
 abbrev Inv-loop : tie.InvT-loop
-Inv-loop file prices allowed picks store₀ state₀ at₀ turns₀ store state at turns =
+Inv-loop file prices allowed picks store₀ state₀ at₀ written₀ turns₀ store state at written turns =
     (length state ≡ 64) × (length state₀ ≡ 64) × (length store ≡ length store₀) × (at .used ≤ length picks) × (at .due ≤ 1)
 
 abbrev μ-loop : tie.MeasureT-loop
-μ-loop file prices allowed picks store₀ state₀ at₀ turns₀ store state at turns = turns
+μ-loop file prices allowed picks store₀ state₀ at₀ written₀ turns₀ store state at written turns = turns
 
 pub list-cues-spec : {M : Type 1} → statement M
 list-cues-spec = tie.close (tie.spec
     Inv-loop
     μ-loop
-    (λ c. search needs) (λ c κs. search needs) (λ c. search needs) (λ c. search needs) (λ c. search needs) (λ c. search needs) (λ c. search needs) (λ c. search needs)
-    (λ c. search needs) (λ c. search needs) (λ c. search needs))
+    (λ c. search needs) (λ c κs. search needs) (λ c κs. search needs) (λ c. search needs) (λ c. search needs)
+    (λ c. search needs) (λ c. search needs) (λ c. search needs) (λ c. search needs) (λ c. search needs)
+    (λ c. search needs) (λ c. search needs) (λ c. search needs) (λ c. search needs) (λ c. search needs))
