@@ -1,4 +1,5 @@
-//! The example `live` fed with datagrams, some of them late: it fires the cues that the same picks fire when all are there.
+//! The example `live` fed with datagrams, some of them late: it fires the cues that the same picks fire when all are there, and those that
+//! `rehearse cues` lists, where DIFTANEW_REHEARSE names that program.
 use diftanew::live::{self, Frame, Status};
 use std::io::{BufRead, BufReader};
 use std::net::UdpSocket;
@@ -30,6 +31,15 @@ fn cues_at_once(q: u64, room: usize) -> (Vec<u32>, u64) {
         held += (step.status == Status::Full) as u64;
     }
     unreachable!()
+}
+
+/// The cues that `rehearse cues` lists, `cue=NUMBER ROW TICK` in each line.
+fn cues_rehearsed(rehearse: &str) -> Vec<u32> {
+    let picks: String = PICKS.map(|pick| char::from(b'0' + pick)).into_iter().collect();
+    let values = STORE.map(|value| value.to_string());
+    let answer = Command::new(rehearse).args(["cues", RAIN, "plan", &picks]).args(values).output().expect("rehearse is built");
+    let text = String::from_utf8(answer.stdout).expect("text");
+    text.lines().filter_map(|line| line.strip_prefix("cue=")?.split(' ').next()?.parse().ok()).collect()
 }
 
 #[test]
@@ -75,6 +85,9 @@ fn datagrams_that_come_late() {
     let cues: Vec<u32> = printed.iter().filter_map(|line| line.strip_prefix("cue=")?.split(' ').next()?.parse().ok()).collect();
     let (whole, ticks) = cues_at_once(1_000_000, 4_096);
     assert_eq!(cues, whole);
+    if let Ok(rehearse) = std::env::var("DIFTANEW_REHEARSE") {
+        assert_eq!(cues, cues_rehearsed(&rehearse));
+    }
     let last = printed.last().expect("a last line");
     assert!(last.starts_with(&format!("ended ticks={ticks} frames=")), "{last}");
 }
