@@ -1,4 +1,4 @@
--- `analysis_entries::enter_loop` meets its contract.
+-- `analysis::entries::enter_loop` meets its contract.
 use mathlib.Core.Path.{_≡_, sym, ap, subst, _∙_}
 use mathlib.Core.Bool.{not, cond, _&&_}
 use denote.Ref.{now}

@@ -1,4 +1,4 @@
--- `analysis_entries::exit_of` meets its contract.
+-- `analysis::entries::exit_of` meets its contract.
 use borrow.Author.Needs.{needs}
 use mathlib.Core.Path.{refl}
 use Rattle.analysis.proofs.entries.exit_of.Statement.{statement}

@@ -1,4 +1,4 @@
--- `analysis_entries::is_full` meets its contract.
+-- `analysis::entries::is_full` meets its contract.
 use borrow.Author.Needs.{needs}
 use mir.Syntax.{w32}
 use mir.Val.{SFits}

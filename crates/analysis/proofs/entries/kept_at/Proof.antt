@@ -1,4 +1,4 @@
--- `analysis_entries::kept_at` meets its contract.
+-- `analysis::entries::kept_at` meets its contract.
 use borrow.Author.Needs.{needs}
 use mathlib.Core.Path.{_≡_, refl}
 use mathlib.Core.Bool.{Bool, true, false, not, _&&_}

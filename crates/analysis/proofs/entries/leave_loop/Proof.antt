@@ -1,4 +1,4 @@
--- `analysis_entries::leave_loop` meets its contract.
+-- `analysis::entries::leave_loop` meets its contract.
 use borrow.Author.Needs.{needs}
 use native.Mathlib.Nat.{mul-le-mul}
 use native.Mathlib.Omega.{arith}

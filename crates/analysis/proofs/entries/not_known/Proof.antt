@@ -1,4 +1,4 @@
--- `analysis_entries::not_known` meets its contract: the sum over the first v variables.
+-- `analysis::entries::not_known` meets its contract: the sum over the first v variables.
 use Prim.Native.Nat.{_-_, _≤_, _<_}
 use mathlib.Core.Path.{_≡_, ap, _∙_}
 use mathlib.Core.Bool.{cond}

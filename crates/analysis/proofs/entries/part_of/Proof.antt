@@ -1,4 +1,4 @@
--- `analysis_entries::part_of` meets its contract.
+-- `analysis::entries::part_of` meets its contract.
 use Rattle.analysis.proofs.entries.part_of.Statement.{statement}
 use Rattle.analysis.proofs.entries.part_of.Tie as tie
 

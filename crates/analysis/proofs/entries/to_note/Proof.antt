@@ -1,4 +1,4 @@
--- `analysis_entries::to_note` meets its contract.
+-- `analysis::entries::to_note` meets its contract.
 use borrow.Author.Needs.{needs}
 use native.Mathlib.Omega.{arith}
 use Rattle.analysis.proofs.entries.to_note.Statement.{statement}

@@ -1,4 +1,4 @@
--- `analysis_tallies::last_ticks` meets its contract.
+-- `analysis::tallies::last_ticks` meets its contract.
 use mathlib.Core.Path.{sym, ap}
 use borrow.Author.Needs.{needs}
 use Rattle.rules.specs.Blocks.{viewOf, kindOf}

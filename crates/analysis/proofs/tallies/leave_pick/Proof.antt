@@ -1,4 +1,4 @@
--- `analysis_tallies::leave_pick` meets its contract.
+-- `analysis::tallies::leave_pick` meets its contract.
 use borrow.Author.Needs.{needs}
 use native.Mathlib.Omega.{arith}
 use mathlib.Core.Path.{refl, ap, _∙_}

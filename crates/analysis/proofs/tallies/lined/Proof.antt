@@ -1,4 +1,4 @@
--- `analysis_tallies::lined` meets its contract.
+-- `analysis::tallies::lined` meets its contract.
 use denote.Ref.{now}
 use borrow.Author.Needs.{needs}
 use mathlib.Core.Path.{refl, ap, _∙_}

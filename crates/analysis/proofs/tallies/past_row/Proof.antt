@@ -1,4 +1,4 @@
--- `analysis_tallies::past_row` meets its contract.
+-- `analysis::tallies::past_row` meets its contract.
 use borrow.Author.Needs.{needs}
 use native.Mathlib.Nat.{mul-le-mul}
 use native.Mathlib.Omega.{arith}

@@ -1,4 +1,4 @@
--- `analysis_tallies::plain_price` meets its contract.
+-- `analysis::tallies::plain_price` meets its contract.
 use mathlib.Core.Path.{_≡_, refl, sym, subst}
 use denote.Ref.{now}
 use borrow.Author.Needs.{needs}

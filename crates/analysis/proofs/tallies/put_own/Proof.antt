@@ -1,4 +1,4 @@
--- `analysis_tallies::put_own` meets its contract.
+-- `analysis::tallies::put_own` meets its contract.
 use borrow.Author.Needs.{needs}
 use mathlib.Core.Path.{sym}
 use lib.Seq.{set-out}

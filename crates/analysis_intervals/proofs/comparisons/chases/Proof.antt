@@ -1,4 +1,4 @@
--- `analysis_comparisons::chases` meets its contract.
+-- `analysis_intervals::comparisons::chases` meets its contract.
 use borrow.Author.Needs.{needs}
 use Rattle.analysis_intervals.proofs.comparisons.chases.Statement.{statement}
 use Rattle.analysis_intervals.proofs.comparisons.chases.Tie as tie

@@ -1,4 +1,4 @@
--- `analysis_comparisons::copies` meets its contract.
+-- `analysis_intervals::comparisons::copies` meets its contract.
 use borrow.Author.Needs.{needs}
 use Rattle.analysis_intervals.proofs.comparisons.copies.Statement.{statement}
 use Rattle.analysis_intervals.proofs.comparisons.copies.Tie as tie

@@ -1,4 +1,4 @@
--- `analysis_comparisons::difference` meets its contract.
+-- `analysis_intervals::comparisons::difference` meets its contract.
 use borrow.Author.Needs.{needs}
 use mathlib.Core.Path.{_≡_, refl}
 use mathlib.Core.List.{List, [], _∷_}

@@ -1,4 +1,4 @@
--- `analysis_comparisons::edge` meets its contract.
+-- `analysis_intervals::comparisons::edge` meets its contract.
 use borrow.Author.Needs.{needs}
 use mathlib.Core.Path.{refl}
 use lib.IntN.{pos}

@@ -1,4 +1,4 @@
--- `analysis_comparisons::equal_ends` meets its contract.
+-- `analysis_intervals::comparisons::equal_ends` meets its contract.
 use borrow.Author.Needs.{needs, sfits-of}
 use mir.Syntax.{w64}
 use mir.Val.{SFits}

@@ -1,4 +1,4 @@
--- `analysis_comparisons::is_add` meets its contract.
+-- `analysis_intervals::comparisons::is_add` meets its contract.
 use borrow.Author.Needs.{needs}
 use Rattle.rules.specs.Steps.{isAdd}
 use Rattle.analysis_intervals.proofs.comparisons.is_add.Statement.{statement}

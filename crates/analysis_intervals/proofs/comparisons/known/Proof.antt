@@ -1,4 +1,4 @@
--- `analysis_comparisons::known` meets its contract.
+-- `analysis_intervals::comparisons::known` meets its contract.
 use borrow.Author.Needs.{needs}
 use Rattle.rules.specs.Questions.{known}
 use Rattle.analysis_intervals.proofs.comparisons.known.Statement.{statement}

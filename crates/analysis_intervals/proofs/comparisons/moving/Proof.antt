@@ -1,4 +1,4 @@
--- `analysis_comparisons::moving` meets its contract.
+-- `analysis_intervals::comparisons::moving` meets its contract.
 use borrow.Author.Needs.{needs, sfits-of}
 use mir.Syntax.{w64}
 use mir.Val.{SFits}

@@ -1,4 +1,4 @@
--- `analysis_comparisons::ordered` meets its contract.
+-- `analysis_intervals::comparisons::ordered` meets its contract.
 use borrow.Author.Needs.{needs}
 use mathlib.Core.Path.{sym, _∙_}
 use Rattle.rules.specs.Ranges.{sort}

@@ -1,4 +1,4 @@
--- `analysis_comparisons::suits` meets its contract.
+-- `analysis_intervals::comparisons::suits` meets its contract.
 use borrow.Author.Needs.{needs, sfits-of}
 use mathlib.Core.Path.{sym, _∙_}
 use mir.Syntax.{w64}

@@ -1,4 +1,4 @@
--- `analysis_comparisons::watches` meets its contract.
+-- `analysis_intervals::comparisons::watches` meets its contract.
 use borrow.Author.Needs.{needs}
 use mathlib.Core.Path.{ap}
 use mathlib.Core.Bool.{not, _&&_}

@@ -1,4 +1,4 @@
--- `analysis_trips::chase_trip` meets its contract.
+-- `analysis_loops::trips::chase_trip` meets its contract.
 use borrow.Author.Needs.{needs}
 use Rattle.analysis_loops.proofs.trips.chase_trip.Statement.{statement}
 use Rattle.analysis_loops.proofs.trips.chase_trip.Tie as tie

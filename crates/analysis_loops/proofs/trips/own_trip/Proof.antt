@@ -1,4 +1,4 @@
--- `analysis_trips::own_trip` meets its contract.
+-- `analysis_loops::trips::own_trip` meets its contract.
 use borrow.Author.Needs.{needs}
 use Rattle.analysis_loops.proofs.trips.own_trip.Statement.{statement}
 use Rattle.analysis_loops.proofs.trips.own_trip.Tie as tie

@@ -1,4 +1,4 @@
--- `analysis_trips::read_trip` meets its contract.
+-- `analysis_loops::trips::read_trip` meets its contract.
 use borrow.Author.Needs.{needs}
 use Rattle.analysis_loops.proofs.trips.read_trip.Statement.{statement}
 use Rattle.analysis_loops.proofs.trips.read_trip.Tie as tie

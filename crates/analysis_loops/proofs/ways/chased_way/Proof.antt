@@ -1,4 +1,4 @@
--- `analysis_ways::chased_way` meets its contract.
+-- `analysis_loops::ways::chased_way` meets its contract.
 use denote.Ref.{now}
 use borrow.Author.Needs.{needs}
 use borrow.Author.Tests.{eq-eqb, ne-eqb}

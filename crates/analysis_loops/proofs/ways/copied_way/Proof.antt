@@ -1,4 +1,4 @@
--- `analysis_ways::copied_way` meets its contract.
+-- `analysis_loops::ways::copied_way` meets its contract.
 use denote.Ref.{now}
 use borrow.Author.Needs.{needs}
 use native.Mathlib.Omega.{arith}

@@ -1,4 +1,4 @@
--- `analysis_ways::head_of` meets its contract.
+-- `analysis_loops::ways::head_of` meets its contract.
 use mathlib.Core.Path.{refl}
 use native.Mathlib.Omega.{arith}
 use Rattle.rules.specs.Blocks.{viewOf, kindOf, exprOf}

@@ -1,4 +1,4 @@
--- `analysis_ways::hold_way` meets its contract.
+-- `analysis_loops::ways::hold_way` meets its contract.
 use denote.Ref.{now}
 use borrow.Author.Needs.{needs}
 use mir.Syntax.{w32}

@@ -1,4 +1,4 @@
--- `analysis_ways::is_do` meets its contract.
+-- `analysis_loops::ways::is_do` meets its contract.
 use Rattle.rules.specs.Blocks.{viewOf, kindOf}
 use Rattle.analysis_steps.specs.Tree.{headOf}
 use Rattle.analysis_loops.proofs.Heads.{not-do}

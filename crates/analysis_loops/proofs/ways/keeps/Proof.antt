@@ -1,4 +1,4 @@
--- `analysis_ways::keeps` meets its contract.
+-- `analysis_loops::ways::keeps` meets its contract.
 use borrow.Author.Needs.{needs}
 use mathlib.Core.Path.{ap, _∙_}
 use mathlib.Core.Bool.{not}

@@ -1,4 +1,4 @@
--- `analysis_ways::limit_way` meets its contract.
+-- `analysis_loops::ways::limit_way` meets its contract.
 use borrow.Author.Needs.{needs}
 use mathlib.Core.Path.{_≡_, refl, sym, ap, subst, _∙_}
 use mathlib.Core.Bool.{Bool, true, false, not}

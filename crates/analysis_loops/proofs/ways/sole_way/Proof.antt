@@ -1,4 +1,4 @@
--- `analysis_ways::sole_way` meets its contract.
+-- `analysis_loops::ways::sole_way` meets its contract.
 use denote.Ref.{now}
 use borrow.Author.Needs.{needs}
 use mathlib.Core.Path.{_≡_, sym, ap, _∙_}

@@ -1,4 +1,4 @@
--- `analysis_ways::watched_way` meets its contract.
+-- `analysis_loops::ways::watched_way` meets its contract.
 use denote.Ref.{now}
 use borrow.Author.Needs.{needs}
 use mir.Facts.{toZ-ofZ}

@@ -1,4 +1,4 @@
--- `analysis_ways::way_of` meets its contract.
+-- `analysis_loops::ways::way_of` meets its contract.
 use borrow.Author.Needs.{needs}
 use mathlib.Core.Path.{_≡_, refl, sym, ap, _∙_}
 use mathlib.Core.Bool.{Bool, true, false, false≢true}

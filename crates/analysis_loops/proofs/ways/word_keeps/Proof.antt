@@ -1,4 +1,4 @@
--- `analysis_ways::word_keeps` meets its contract.
+-- `analysis_loops::ways::word_keeps` meets its contract.
 use Rattle.analysis_steps.specs.Sets.{setOf}
 use Rattle.analysis_intervals.proofs.Words.{width}
 use borrow.Author.Needs.{needs}

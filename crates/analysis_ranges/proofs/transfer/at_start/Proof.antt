@@ -1,4 +1,4 @@
--- `analysis_transfer::at_start` meets its contract.
+-- `analysis_ranges::transfer::at_start` meets its contract.
 use denote.Ref.{now}
 use Rattle.rules.specs.Ranges.{atStart}
 use Rattle.rules.specs.Blocks.{viewOf, kindOf}

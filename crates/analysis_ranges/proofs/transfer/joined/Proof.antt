@@ -1,4 +1,4 @@
--- `analysis_transfer::joined` meets its contract: the first i variables are joined.
+-- `analysis_ranges::transfer::joined` meets its contract: the first i variables are joined.
 use Prim.Native.Nat.{_≤_, _-_}
 use mathlib.Core.Path.{_≡_, sym, _∙_}
 use borrow.Author.Needs.{needs}

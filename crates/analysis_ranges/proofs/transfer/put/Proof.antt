@@ -1,4 +1,4 @@
--- `analysis_transfer::put` meets its contract.
+-- `analysis_ranges::transfer::put` meets its contract.
 use mir.Syntax.{w32}
 use mir.Val.{SFits}
 use mir.Facts.{toZ-ofZ}

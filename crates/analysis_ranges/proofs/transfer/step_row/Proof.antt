@@ -1,4 +1,4 @@
--- `analysis_transfer::step_row` meets its contract.
+-- `analysis_ranges::transfer::step_row` meets its contract.
 use mathlib.Core.Path.{_≡_, refl, sym, subst, _∙_}
 use denote.Ref.{now}
 use borrow.Author.Needs.{needs}

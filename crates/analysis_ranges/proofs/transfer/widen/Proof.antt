@@ -1,4 +1,4 @@
--- `analysis_transfer::widen` meets its contract: the first w variables are widened.
+-- `analysis_ranges::transfer::widen` meets its contract: the first w variables are widened.
 use Prim.Native.Nat.{_≤_, _-_}
 use mathlib.Core.Path.{_≡_, sym, ap, _∙_}
 use borrow.Author.Needs.{needs}

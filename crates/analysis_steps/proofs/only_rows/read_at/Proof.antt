@@ -1,4 +1,4 @@
--- `analysis_only_rows::read_at` meets its contract.
+-- `analysis_steps::only_rows::read_at` meets its contract.
 use borrow.Author.Needs.{needs}
 use borrow.Author.Tests.{eq-eqb, ne-eqb}
 use mathlib.Core.Path.{refl, sym, _∙_}

@@ -1,4 +1,4 @@
--- `analysis_only_rows::set_at` meets its contract.
+-- `analysis_steps::only_rows::set_at` meets its contract.
 use denote.Ref.{now}
 use borrow.Author.Needs.{needs}
 use mathlib.Core.Path.{sym, ap, _∙_}

@@ -1,4 +1,4 @@
--- `analysis_only_rows::sole_of` meets its contract: what the rows walked assign, and the block that is left.
+-- `analysis_steps::only_rows::sole_of` meets its contract: what the rows walked assign, and the block that is left.
 use denote.Ref.{now}
 use borrow.Author.Needs.{needs}
 use mathlib.Core.Path.{_≡_, refl, sym, _∙_}

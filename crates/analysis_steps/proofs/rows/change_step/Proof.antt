@@ -1,4 +1,4 @@
--- `analysis_row_steps::change_step` meets its contract.
+-- `analysis_steps::rows::change_step` meets its contract.
 use borrow.Author.Tests.{eq-eqb, ne-eqb}
 use Rattle.rules_steps.proofs.Near.{neg-fits, neg-is}
 use mir.Syntax.{w64}

@@ -1,4 +1,4 @@
--- `analysis_row_steps::only` meets its contract.
+-- `analysis_steps::rows::only` meets its contract.
 use borrow.Author.Needs.{needs}
 use Rattle.analysis_steps.proofs.rows.only.Statement.{statement}
 use Rattle.analysis_steps.proofs.rows.only.Tie as tie

@@ -1,4 +1,4 @@
--- `analysis_passes::body` meets its contract.
+-- `analysis_ticks::passes::body` meets its contract.
 use borrow.Author.Needs.{needs, sfits-of}
 use mathlib.Core.Path.{sym, _∙_}
 use mir.Syntax.{w32, w64}

@@ -1,4 +1,4 @@
--- `analysis_passes::branch` meets its contract.
+-- `analysis_ticks::passes::branch` meets its contract.
 use borrow.Author.Needs.{needs}
 use native.Mathlib.Omega.{arith}
 use mathlib.Core.Path.{ap}

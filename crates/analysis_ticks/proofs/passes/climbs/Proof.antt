@@ -1,4 +1,4 @@
--- `analysis_passes::climbs` meets its contract: the limit has moved i times, and the sums of the limits left are to be added.
+-- `analysis_ticks::passes::climbs` meets its contract: the limit has moved i times, and the sums of the limits left are to be added.
 use native.Mathlib.Omega.{arith}
 use mathlib.Core.Path.{_≡_, sym, ap, subst, _∙_}
 use Prim.Native.Nat.{ℕ, _+_, _*_, _-_, _≤_}

@@ -1,4 +1,4 @@
--- `analysis_passes::first_end` meets its contract.
+-- `analysis_ticks::passes::first_end` meets its contract.
 use borrow.Author.Needs.{needs, sfits-of}
 use mathlib.Core.Path.{_≡_, refl}
 use mathlib.Core.Bool.{true, false≢true}

@@ -1,4 +1,4 @@
--- `analysis_passes::summed` meets its contract.
+-- `analysis_ticks::passes::summed` meets its contract.
 use borrow.Author.Needs.{needs, sfits-of}
 use mathlib.Core.Path.{ap, _∙_}
 use mir.Syntax.{w32, w64}

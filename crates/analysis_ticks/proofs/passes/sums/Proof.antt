@@ -1,4 +1,4 @@
--- `analysis_passes::sums` meets its contract.
+-- `analysis_ticks::passes::sums` meets its contract.
 use borrow.Author.Needs.{needs}
 use Rattle.analysis_ticks.proofs.passes.sums.Statement.{statement}
 use Rattle.analysis_ticks.proofs.passes.sums.Tie as tie

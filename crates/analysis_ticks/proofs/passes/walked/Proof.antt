@@ -1,4 +1,4 @@
--- `analysis_passes::walked` meets its contract.
+-- `analysis_ticks::passes::walked` meets its contract.
 use borrow.Author.Needs.{needs}
 use mathlib.Core.Path.{sym, ap, _∙_}
 use Rattle.analysis_steps.specs.Tree.{formOf, testOf}

@@ -1,4 +1,4 @@
--- `analysis_figures::add_turns` meets its contract.
+-- `analysis_turns::figures::add_turns` meets its contract.
 use borrow.Author.Needs.{needs}
 use mathlib.Core.Path.{_≡_, sym, _∙_}
 use lib.IntN.{ℤ, pos, negsuc, negℤ}

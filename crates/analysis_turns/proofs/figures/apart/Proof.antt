@@ -1,4 +1,4 @@
--- `analysis_figures::apart` meets its contract.
+-- `analysis_turns::figures::apart` meets its contract.
 use mathlib.Core.Path.{_≡_, refl, _∙_}
 use Prim.Native.Nat.{zero, suc, _<_}
 use lib.IntN.{ℤ, pos, negsuc, natAbs, _-ℤ_}

@@ -1,4 +1,4 @@
--- `analysis_figures::at_test` meets its contract.
+-- `analysis_turns::figures::at_test` meets its contract.
 use borrow.Author.Needs.{needs}
 use Rattle.rules.specs.Turns.{atTest}
 use Rattle.analysis_turns.proofs.MovesLaws.{unmoved-begun}

@@ -1,4 +1,4 @@
--- `analysis_figures::distance` meets its contract.
+-- `analysis_turns::figures::distance` meets its contract.
 use borrow.Author.Needs.{needs}
 use mathlib.Core.Path.{_≡_}
 use mathlib.Core.Bool.{true, false}

@@ -1,4 +1,4 @@
--- `analysis_figures::has_figure` meets its contract.
+-- `analysis_turns::figures::has_figure` meets its contract.
 use borrow.Author.Needs.{needs, sfits-of}
 use mathlib.Core.Path.{sym, _∙_}
 use mir.Syntax.{w64}

@@ -1,4 +1,4 @@
--- `analysis_figures::meets` meets its contract.
+-- `analysis_turns::figures::meets` meets its contract.
 use borrow.Author.Needs.{needs}
 use mathlib.Core.Path.{ap, _∙_}
 use lib.IntN.{pos, negsuc, _+ℤ_, _*ℤ_}

@@ -1,4 +1,4 @@
--- `analysis_figures::moved` meets its contract.
+-- `analysis_turns::figures::moved` meets its contract.
 use borrow.Author.Needs.{needs, sfits-of}
 use mathlib.Core.Path.{refl}
 use Prim.Native.Nat.{_≤_}

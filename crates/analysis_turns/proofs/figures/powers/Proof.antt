@@ -1,4 +1,4 @@
--- `analysis_figures::powers` meets its contract: at has been multiplied k times, and the fuel of the definition is not spent.
+-- `analysis_turns::figures::powers` meets its contract: at has been multiplied k times, and the fuel of the definition is not spent.
 use mathlib.Core.Path.{_≡_, refl, _∙_}
 use Prim.Native.Nat.{ℕ, zero, suc, _+_, _*_, _-_, _≤_, _<_}
 use native.Mathlib.Nat.{mul-le-mul-left, mul-le-mul}

@@ -1,4 +1,4 @@
--- `analysis_figures::scale` meets its contract.
+-- `analysis_turns::figures::scale` meets its contract.
 use borrow.Author.Needs.{needs}
 use mathlib.Core.Path.{_≡_}
 use mathlib.Core.Bool.{false}

@@ -1,4 +1,4 @@
--- `analysis_figures::share` meets its contract.
+-- `analysis_turns::figures::share` meets its contract.
 use mir.Syntax.{w64}
 use mir.Val.{SFits}
 use mir.Facts.{toZ-ofZ}

@@ -1,4 +1,4 @@
--- `analysis_figures::while_turns` meets its contract.
+-- `analysis_turns::figures::while_turns` meets its contract.
 use mathlib.Core.Path.{_≡_, sym, subst₃}
 use lib.IntN.{ℤ}
 use Rattle.rules_steps.specs.declared.Step.the-variants.{Add}

@@ -1,4 +1,4 @@
--- `analysis_leads::is_zero` meets its contract.
+-- `analysis_turns::leads::is_zero` meets its contract.
 use borrow.Author.Needs.{needs}
 use lib.IntN.{pos}
 use mir.Syntax.{w32}

@@ -1,4 +1,4 @@
--- `analysis_leads::led` meets its contract.
+-- `analysis_turns::leads::led` meets its contract.
 use borrow.Author.Needs.{needs}
 use mathlib.Core.Path.{sym, _∙_}
 use native.Mathlib.Numerals.{add-one}

@@ -1,4 +1,4 @@
--- `analysis_leads::misses` meets its contract.
+-- `analysis_turns::leads::misses` meets its contract.
 use borrow.Author.Needs.{needs}
 use mathlib.Core.Path.{_≡_, refl, sym, _∙_}
 use mathlib.Core.Bool.{false}

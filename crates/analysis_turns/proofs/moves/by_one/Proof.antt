@@ -1,4 +1,4 @@
--- `analysis_moves::by_one` meets its contract.
+-- `analysis_turns::moves::by_one` meets its contract.
 use borrow.Author.Needs.{needs, sfits-of}
 use Prim.Native.Nat.{_≤_}
 use lib.Dec.{T}

@@ -1,4 +1,4 @@
--- `analysis_moves::climb` meets its contract.
+-- `analysis_turns::moves::climb` meets its contract.
 use borrow.Author.Needs.{needs}
 use mir.Syntax.{w64}
 use mir.Val.{SFits}

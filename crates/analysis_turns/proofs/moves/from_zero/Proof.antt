@@ -1,4 +1,4 @@
--- `analysis_moves::from_zero` meets its contract.
+-- `analysis_turns::moves::from_zero` meets its contract.
 use borrow.Author.Needs.{needs}
 use lib.IntN.{_-ℤ_}
 use mir.Syntax.{w64}

@@ -1,4 +1,4 @@
--- `analysis_moves::turned_up` meets its contract.
+-- `analysis_turns::moves::turned_up` meets its contract.
 use borrow.Author.Needs.{needs}
 use lib.IntN.{ℤ, negℤ, +ℤ-idl}
 use mir.Syntax.{w64}

@@ -1,4 +1,4 @@
--- `analysis_moves::turns_to` meets its contract.
+-- `analysis_turns::moves::turns_to` meets its contract.
 use mathlib.Core.Path.{_≡_, refl}
 use Prim.Native.Nat.{_+_}
 use lib.Dec.{T}

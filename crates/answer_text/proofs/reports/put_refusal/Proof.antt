@@ -1,4 +1,4 @@
--- `report_text::put_refusal` meets its contract. Assumes nothing.
+-- `answer_text::reports::put_refusal` meets its contract. Assumes nothing.
 use borrow.Author.Needs.{needs}
 use native.Mathlib.Omega.{arith}
 use lib.ListN.{length-drop}

@@ -1,4 +1,4 @@
--- `report_text::put_report` meets its contract. Assumes nothing.
+-- `answer_text::reports::put_report` meets its contract. Assumes nothing.
 use borrow.Author.Needs.{needs}
 use denote.Ref.{now}
 use Rattle.answer_text.proofs.ReportsLaws.{accepted-printed, refused-printed, refusal-printed}

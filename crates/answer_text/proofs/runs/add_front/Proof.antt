@@ -1,4 +1,4 @@
--- `run_text::add_front` meets its contract. Assumes nothing.
+-- `answer_text::runs::add_front` meets its contract. Assumes nothing.
 use borrow.Author.Needs.{needs}
 use native.Mathlib.Omega.{arith}
 use Rattle.answer_text.proofs.RunsLaws.{adds-is, adds-join, front-text}

@@ -1,4 +1,4 @@
--- `run_text::add_value` meets its contract. Assumes nothing.
+-- `answer_text::runs::add_value` meets its contract. Assumes nothing.
 use mathlib.Core.Path.{sym}
 use mathlib.Core.Bool.{true, false}
 use mir.Facts.{toZ-ofZ}

@@ -1,4 +1,4 @@
--- `run_text::end_line` meets its contract. Assumes nothing.
+-- `answer_text::runs::end_line` meets its contract. Assumes nothing.
 use borrow.Author.Needs.{needs}
 use native.Mathlib.Omega.{arith}
 use Rattle.answer_text.proofs.RunsLaws.{adds-byte}

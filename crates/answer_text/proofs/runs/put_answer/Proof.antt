@@ -1,4 +1,4 @@
--- `run_text::put_answer` meets its contract. Assumes nothing.
+-- `answer_text::runs::put_answer` meets its contract. Assumes nothing.
 use borrow.Author.Needs.{needs}
 use Rattle.answer_text.proofs.RunsLaws.{wrote-is}
 use Rattle.answer_text.proofs.Answers.{told-text, told-loops}

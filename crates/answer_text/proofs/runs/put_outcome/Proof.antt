@@ -1,4 +1,4 @@
--- `run_text::put_outcome` meets its contract. Assumes nothing.
+-- `answer_text::runs::put_outcome` meets its contract. Assumes nothing.
 use borrow.Author.Needs.{needs}
 use native.Mathlib.Omega.{arith}
 use Rattle.answer_text.proofs.ReportsLaws.{refusal-line, refusal-room}

@@ -1,4 +1,4 @@
--- `calls_figures::figures_script` meets its contract. Assumes nothing.
+-- `calls::figures::figures_script` meets its contract. Assumes nothing.
 use mathlib.Core.Path.{_≡_, sym, _∙_}
 use native.Mathlib.Omega.{arith}
 use lib.ListN.{length, length-take}

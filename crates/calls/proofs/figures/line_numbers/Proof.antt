@@ -1,4 +1,4 @@
--- `calls_figures::line_numbers` meets its contract. Assumes nothing.
+-- `calls::figures::line_numbers` meets its contract. Assumes nothing.
 use borrow.Author.Needs.{needs}
 use Rattle.calls.proofs.figures.line_numbers.Statement.{statement}
 use Rattle.calls.proofs.figures.line_numbers.Tie as tie

@@ -1,4 +1,4 @@
--- `calls_figures::step_number` meets its contract. Assumes nothing.
+-- `calls::figures::step_number` meets its contract. Assumes nothing.
 use borrow.Author.Needs.{needs}
 use Rattle.calls.specs.Figures.{stepNumber}
 use Rattle.calls.proofs.figures.step_number.Statement.{statement}

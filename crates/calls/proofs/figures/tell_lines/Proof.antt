@@ -1,4 +1,4 @@
--- `calls_figures::tell_lines` meets its contract. Assumes nothing.
+-- `calls::figures::tell_lines` meets its contract. Assumes nothing.
 use mathlib.Core.Path.{_≡_, refl, sym, _∙_, ap, subst}
 use Prim.Native.Nat.{_-_, _≤_}
 use native.Mathlib.Omega.{arith}

@@ -1,4 +1,4 @@
--- `calls_figures::twos_complement` meets its contract. Assumes nothing.
+-- `calls::figures::twos_complement` meets its contract. Assumes nothing.
 use mathlib.Core.Path.{_≡_, _∙_}
 use Prim.Native.Nat.{_-_, _≤_}
 use native.Mathlib.Omega.{arith}

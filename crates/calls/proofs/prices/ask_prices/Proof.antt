@@ -1,4 +1,4 @@
--- `calls_prices::ask_prices` meets its contract. The invariant: the first i prices are fine.
+-- `calls::prices::ask_prices` meets its contract. The invariant: the first i prices are fine.
 use mathlib.Core.Path.{_≡_, sym, _∙_}
 use Prim.Native.Nat.{_≤_, _-_}
 use lib.ListN.{drop}

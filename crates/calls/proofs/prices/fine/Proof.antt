@@ -1,4 +1,4 @@
--- `calls_prices::fine` meets its contract.
+-- `calls::prices::fine` meets its contract.
 use borrow.Author.Tests.{le-leb, lt-leb}
 use Rattle.calls.proofs.prices.fine.Statement.{statement}
 use Rattle.calls.proofs.prices.fine.Tie as tie

@@ -1,4 +1,4 @@
--- `calls_prices::fine_at` meets its contract.
+-- `calls::prices::fine_at` meets its contract.
 use lib.ListN.{drop-of-length-le}
 use lib.Seq.{drop-cons}
 use borrow.Author.Needs.{needs}

@@ -1,4 +1,4 @@
--- `calls_prices::prices_of` meets its contract.
+-- `calls::prices::prices_of` meets its contract.
 use borrow.Author.Needs.{needs}
 use Rattle.calls.proofs.prices.prices_of.Statement.{statement}
 use Rattle.calls.proofs.prices.prices_of.Tie as tie

@@ -1,4 +1,4 @@
--- `expression_operators::clamp` meets its contract.
+-- `expressions::operators::clamp` meets its contract.
 use borrow.Author.Needs.{needs}
 use Rattle.rules.specs.Values.{lowest, highest}
 use mir.Syntax.{w32}

@@ -1,4 +1,4 @@
--- `expression_operators::within` meets its contract. Assumes nothing.
+-- `expressions::operators::within` meets its contract. Assumes nothing.
 use mathlib.Core.Path.{_≡_}
 use mathlib.Core.Bool.{true, false}
 use lib.IntN.{negsuc}

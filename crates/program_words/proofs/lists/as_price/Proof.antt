@@ -1,4 +1,4 @@
--- `program_lists::as_price` meets its contract.
+-- `program_words::lists::as_price` meets its contract.
 use mir.Facts.{toZ-ofZ}
 use Rattle.program_words.proofs.Prices.{above, above-price, below-price}
 use Rattle.program_words.proofs.lists.as_price.Statement.{statement}

@@ -1,4 +1,4 @@
--- `program_lists::keep_prices` meets its contract.
+-- `program_words::lists::keep_prices` meets its contract.
 use mathlib.Core.Path.{_≡_, ap, _∙_}
 use mathlib.Core.List.{map}
 use native.Mathlib.Omega.{arith}

@@ -1,4 +1,4 @@
--- `program_lists::lend_prices` meets its contract.
+-- `program_words::lists::lend_prices` meets its contract.
 use borrow.Author.Needs.{needs}
 use borrow.Author.Tests.{not-true, not-false}
 use mathlib.Core.Path.{sym, _∙_}

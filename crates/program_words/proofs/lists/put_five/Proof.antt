@@ -1,4 +1,4 @@
--- `program_lists::put_five` meets its contract.
+-- `program_words::lists::put_five` meets its contract.
 use denote.Ref.{now}
 use native.Mathlib.Omega.{arith}
 use borrow.Author.Needs.{needs}

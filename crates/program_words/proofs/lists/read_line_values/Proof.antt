@@ -1,4 +1,4 @@
--- `program_lists::read_line_values` meets its contract. Assumes nothing.
+-- `program_words::lists::read_line_values` meets its contract. Assumes nothing.
 use borrow.Author.Needs.{needs}
 use native.Mathlib.Omega.{arith}
 use mathlib.Core.Path.{sym}

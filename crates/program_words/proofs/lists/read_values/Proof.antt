@@ -1,4 +1,4 @@
--- `program_lists::read_values` meets its contract. The measure is what is left of the list. Assumes nothing.
+-- `program_words::lists::read_values` meets its contract. The measure is what is left of the list. Assumes nothing.
 use borrow.Author.Needs.{needs}
 use mathlib.Core.Path.{sym, ap, _∙_}
 use Prim.Native.Nat.{_+_, _-_, _≤_}

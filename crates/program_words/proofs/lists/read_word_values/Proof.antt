@@ -1,4 +1,4 @@
--- `program_lists::read_word_values` meets its contract. Assumes nothing.
+-- `program_words::lists::read_word_values` meets its contract. Assumes nothing.
 use borrow.Author.Needs.{needs}
 use mathlib.Core.Path.{sym, _∙_}
 use Rattle.program_words.proofs.ListWords.{read-as, read-none, comma-none, comma-some}

@@ -1,4 +1,4 @@
--- `reading_nesting::else_part` meets its contract. Assumes nothing.
+-- `reader::nesting::else_part` meets its contract. Assumes nothing.
 use lib.ListN.{length}
 use native.Mathlib.Omega.{arith}
 use borrow.Author.Needs.{needs}

@@ -1,4 +1,4 @@
--- `reading_nesting::end_block` meets its contract. Assumes nothing.
+-- `reader::nesting::end_block` meets its contract. Assumes nothing.
 use borrow.Author.Needs.{needs}
 use Rattle.rules.specs.Nesting.{ends}
 use Rattle.reader.specs.Open.{nestOf, nestedOf}

@@ -1,4 +1,4 @@
--- `reading_nesting::nest_row` meets its contract. Assumes nothing.
+-- `reader::nesting::nest_row` meets its contract. Assumes nothing.
 use borrow.Author.Needs.{needs}
 use Rattle.rules.specs.Blocks.{viewOf, kindOf}
 use Rattle.rules.specs.Nesting.{nestRow}

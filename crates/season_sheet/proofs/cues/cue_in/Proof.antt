@@ -1,4 +1,4 @@
--- `season_cues::cue_in` meets its contract. Assumes nothing.
+-- `season_sheet::cues::cue_in` meets its contract. Assumes nothing.
 use borrow.Author.Needs.{needs}
 use Rattle.rules.specs.Blocks.{viewOf, kindOf}
 use Rattle.rules_season.specs.Season.{cueOf}

@@ -1,4 +1,4 @@
--- `season_cues::put_cue` meets its contract. Assumes nothing.
+-- `season_sheet::cues::put_cue` meets its contract. Assumes nothing.
 use mathlib.Core.Path.{sym, ap, _∙_}
 use native.Mathlib.Omega.{arith}
 use borrow.Author.Needs.{needs}

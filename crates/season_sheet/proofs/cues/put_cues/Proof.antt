@@ -1,4 +1,4 @@
--- `season_cues::put_cues` meets its contract: the cue numbers of the rows passed are put. The measure is how many rows are left.
+-- `season_sheet::cues::put_cues` meets its contract: the cue numbers of the rows passed are put. The measure is how many rows are left.
 use mathlib.Core.Path.{_≡_, refl}
 use mathlib.Core.List.{List}
 use Prim.Native.Nat.{ℕ, _-_, _≤_}

@@ -1,4 +1,4 @@
--- `season_files::add_file` meets its contract. Assumes nothing.
+-- `season_sheet::files::add_file` meets its contract. Assumes nothing.
 use mathlib.Core.Path.{sym, _∙_}
 use Prim.Native.Nat.{_+_, _≤_, _<_}
 use native.Mathlib.Omega.{arith}

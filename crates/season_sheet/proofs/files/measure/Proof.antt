@@ -1,4 +1,4 @@
--- `season_files::measure` meets its contract. Assumes nothing.
+-- `season_sheet::files::measure` meets its contract. Assumes nothing.
 use mathlib.Core.Path.{_∙_}
 use native.Mathlib.Omega.{arith}
 use denote.Ref.{now}

@@ -1,4 +1,4 @@
--- `season_groups::is_known` meets its contract. The measure is how many firsts are left. Assumes nothing.
+-- `season_sheet::groups::is_known` meets its contract. The measure is how many firsts are left. Assumes nothing.
 use borrow.Author.Needs.{needs}
 use native.Mathlib.Omega.{arith}
 use Prim.Native.Nat.{ℕ, _≤_, _<_}

@@ -1,4 +1,4 @@
--- `season_groups::keep_first` meets its contract. Assumes nothing.
+-- `season_sheet::groups::keep_first` meets its contract. Assumes nothing.
 use mathlib.Core.Path.{sym, ap, _∙_}
 use mathlib.Core.Bool.{not}
 use native.Mathlib.Omega.{arith}

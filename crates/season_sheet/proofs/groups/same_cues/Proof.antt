@@ -1,4 +1,4 @@
--- `season_groups::same_cues` meets its contract: the numbers passed are the same. The measure is how many are left.
+-- `season_sheet::groups::same_cues` meets its contract: the numbers passed are the same. The measure is how many are left.
 use mathlib.Core.Path.{_≡_, refl, sym, _∙_}
 use Prim.Native.Nat.{_-_}
 use native.Mathlib.Numerals.{add-one}

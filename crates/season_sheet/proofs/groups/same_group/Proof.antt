@@ -1,4 +1,4 @@
--- `season_groups::same_group` meets its contract. Assumes nothing.
+-- `season_sheet::groups::same_group` meets its contract. Assumes nothing.
 use mathlib.Core.Path.{sym, ap, _∙_}
 use mathlib.Core.Bool.{_&&_}
 use borrow.Author.Needs.{needs}

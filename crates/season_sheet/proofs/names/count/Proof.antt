@@ -1,4 +1,4 @@
--- `season_names::count` meets its contract. Assumes nothing.
+-- `season_sheet::names::count` meets its contract. Assumes nothing.
 use mathlib.Core.Path.{sym}
 use native.Mathlib.Omega.{arith}
 use borrow.Author.Needs.{needs}

@@ -1,4 +1,4 @@
--- `season_names::filled` meets its contract. Assumes nothing.
+-- `season_sheet::names::filled` meets its contract. Assumes nothing.
 use native.Mathlib.Omega.{arith}
 use borrow.Author.Tests.{eq-eqb, ne-eqb}
 use Rattle.season_sheet.proofs.names.filled.Statement.{statement}

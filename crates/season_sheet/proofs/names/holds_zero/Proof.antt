@@ -1,4 +1,4 @@
--- `season_names::holds_zero` meets its contract: no byte passed is 0. The measure is what is left of the name.
+-- `season_sheet::names::holds_zero` meets its contract: no byte passed is 0. The measure is what is left of the name.
 use mathlib.Core.Path.{_≡_, refl, sym, _∙_}
 use Prim.Native.Nat.{_-_}
 use native.Mathlib.Numerals.{add-one}

@@ -1,4 +1,4 @@
--- `season_names::opened` meets its contract. Assumes nothing.
+-- `season_sheet::names::opened` meets its contract. Assumes nothing.
 use mathlib.Core.Path.{refl, sym, ap, _∙_}
 use native.Mathlib.Omega.{arith}
 use borrow.Author.Needs.{needs}

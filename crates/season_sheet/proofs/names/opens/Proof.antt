@@ -1,4 +1,4 @@
--- `season_names::opens` meets its contract. Assumes nothing.
+-- `season_sheet::names::opens` meets its contract. Assumes nothing.
 use mathlib.Core.Path.{sym}
 use borrow.Author.Needs.{needs}
 use Rattle.season_sheet.proofs.NamesLaws.{empty-shut, long-shut, short-opens}

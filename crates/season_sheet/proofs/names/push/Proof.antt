@@ -1,4 +1,4 @@
--- `season_names::push` meets its contract. Assumes nothing.
+-- `season_sheet::names::push` meets its contract. Assumes nothing.
 use native.Mathlib.Omega.{arith}
 use borrow.Author.Needs.{needs}
 use borrow.Author.Tests.{ne-eqb}

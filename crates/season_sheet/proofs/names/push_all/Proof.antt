@@ -1,4 +1,4 @@
--- `season_names::push_all` meets its contract: the bytes passed are kept. The measure is what is left of the block.
+-- `season_sheet::names::push_all` meets its contract: the bytes passed are kept. The measure is what is left of the block.
 use mathlib.Core.List.{List, _++_, append-nil, append-assoc}
 use Prim.Native.Nat.{ℕ, _-_, _≤_}
 use native.Mathlib.Numerals.{add-one}

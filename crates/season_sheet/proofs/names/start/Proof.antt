@@ -1,4 +1,4 @@
--- `season_names::start` meets its contract. Assumes nothing.
+-- `season_sheet::names::start` meets its contract. Assumes nothing.
 use mathlib.Core.Path.{refl}
 use Prim.Native.Nat.{ℕ}
 use lib.ListN.{length-replicate}

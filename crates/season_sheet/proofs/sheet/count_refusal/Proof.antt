@@ -1,4 +1,4 @@
--- `season_sheet::count_refusal` meets its contract. Assumes nothing.
+-- `season_sheet::sheet::count_refusal` meets its contract. Assumes nothing.
 use borrow.Author.Needs.{needs}
 use native.Mathlib.Omega.{arith}
 use Rattle.season_sheet.proofs.SheetLaws.{counted, not-counted}

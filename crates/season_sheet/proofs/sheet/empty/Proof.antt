@@ -1,4 +1,4 @@
--- `season_sheet::empty` meets its contract. Assumes nothing.
+-- `season_sheet::sheet::empty` meets its contract. Assumes nothing.
 use mathlib.Core.Path.{refl}
 use Prim.Native.Nat.{ℕ}
 use lib.ListN.{getD-replicate, length-replicate}

@@ -1,4 +1,4 @@
--- `season_sheet::if_fresh` meets its contract. Assumes nothing.
+-- `season_sheet::sheet::if_fresh` meets its contract. Assumes nothing.
 use native.Mathlib.Omega.{arith}
 use Rattle.season_sheet.proofs.sheet.if_fresh.Statement.{statement}
 use Rattle.season_sheet.proofs.sheet.if_fresh.Tie as tie

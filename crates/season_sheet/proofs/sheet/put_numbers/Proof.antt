@@ -1,4 +1,4 @@
--- `season_sheet::put_numbers` meets its contract: the numbers before q are written. The measure is how many are left.
+-- `season_sheet::sheet::put_numbers` meets its contract: the numbers before q are written. The measure is how many are left.
 use borrow.Author.Needs.{needs}
 use native.Mathlib.Omega.{arith}
 use Prim.Native.Nat.{_-_}

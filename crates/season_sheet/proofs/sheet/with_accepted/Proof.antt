@@ -1,4 +1,4 @@
--- `season_sheet::with_accepted` meets its contract. Assumes nothing.
+-- `season_sheet::sheet::with_accepted` meets its contract. Assumes nothing.
 use mathlib.Core.Path.{refl, ap}
 use Prim.Native.Nat.{_+_}
 use borrow.Author.Needs.{needs}

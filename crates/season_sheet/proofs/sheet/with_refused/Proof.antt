@@ -1,4 +1,4 @@
--- `season_sheet::with_refused` meets its contract. Assumes nothing.
+-- `season_sheet::sheet::with_refused` meets its contract. Assumes nothing.
 use mathlib.Core.Path.{refl}
 use borrow.Author.Needs.{needs}
 use Rattle.season_sheet.proofs.SheetLaws.{refusing}
