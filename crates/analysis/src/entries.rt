@@ -26,7 +26,7 @@ use table::kind_at;
 
 // How often a loop's passes are taken as they are walked: in its longest entry, and in all passes of the loop round it; and how many
 // are walked.
-#[derive(Drop)]
+#[derive(Clone, Copy)]
 pub struct PassCounts {
     pub own: u64,
     pub all: u64,
@@ -63,7 +63,7 @@ fn kept_at(kind: Kind, v: u8, kept: bool) -> bool
 
 // What leaves a loop: its tested variable and the range of that one after the loop, the variables that its body assigns, and how often its
 // passes are taken.
-#[derive(Drop)]
+#[derive(Clone, Copy)]
 pub struct Exit {
     pub tested: u8,
     pub mine: Interval,
@@ -85,7 +85,7 @@ fn exit_of(one: Loop, ran: PassCounts) -> Exit
 }
 
 // A loop that has been entered: what leaves it, the passes of its body, and what has been found: its line, or its refusal.
-#[derive(Drop)]
+#[derive(Clone, Copy)]
 pub struct LoopEntry {
     pub exit: Exit,
     pub round: Round,

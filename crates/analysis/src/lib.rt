@@ -1,4 +1,5 @@
 // The whole file: the questions 19 and 8 to 13, ticks, and the report's lines.
+#![tactic(auto)]
 pub mod entries;
 pub mod tallies;
 
@@ -195,7 +196,7 @@ const EMPTY: Tally = Tally {
 };
 
 // The questions 19 and 8 to 13 of a file, and the report's figures, 0 for a refused file.
-#[derive(Drop)]
+#[derive(Clone, Copy)]
 pub struct Figures {
     pub verdict: Verdict,
     pub ticks: u64,

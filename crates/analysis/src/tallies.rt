@@ -24,7 +24,7 @@ use table::{Shape, Tag, tag_at};
 // What a walk has found: a refusal of 19 or 8 to 12 (number 0: none), whether the variable of the loop round the block is known and not
 // assigned so far, the first block over the limit (256: none), the ticks of all passes of one entry of that loop, how many lines there
 // are so far, and the row that it looks at next.
-#[derive(Drop)]
+#[derive(Clone, Copy)]
 pub struct Tally {
     pub number: u32,
     pub kept: bool,

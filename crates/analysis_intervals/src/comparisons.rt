@@ -193,7 +193,7 @@ pub fn equal_ends(step: Step) -> bool
 }
 
 // A range of 64 bits: a start moved by one turn is not clamped.
-#[derive(Drop)]
+#[derive(Clone, Copy)]
 pub struct WideInterval {
     pub lo: i64,
     pub hi: i64,

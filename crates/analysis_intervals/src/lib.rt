@@ -1,4 +1,5 @@
 // The range of one variable: what a row, a pick and a test make of it.
+#![tactic(auto)]
 pub mod comparisons;
 
 ghost use Rattle.std.specs.Prelude.{◌≡◌, cond, ◌<◌, ◌+◌, length, take, drop};
@@ -22,7 +23,7 @@ use rules_steps::Step;
 use values::changed;
 
 // A pair of ends.
-#[derive(Drop)]
+#[derive(Clone, Copy)]
 pub struct Interval {
     pub lo: i32,
     pub hi: i32,

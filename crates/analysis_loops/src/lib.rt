@@ -1,4 +1,5 @@
 // A loop: its trip, found once from its rows and the ranges at its start, and what its body assigns.
+#![tactic(auto)]
 pub mod trips;
 pub mod ways;
 
@@ -68,7 +69,7 @@ fn trip_by(
 }
 
 // A loop: its trip, its tested variable, and the variables that its body assigns.
-#[derive(Drop)]
+#[derive(Clone, Copy)]
 pub struct Loop {
     pub trip: Trip,
     pub tested: u8,

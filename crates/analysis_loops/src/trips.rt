@@ -11,7 +11,7 @@ use rules_steps::Step;
 
 // What comes before the first counted test: nothing, a turn that is not tested (a do's), a turn that tests another range, or a turn if a
 // flag is not 0.
-#[derive(Drop)]
+#[derive(Clone, Copy)]
 pub enum Lead {
     Nothing,
     Untested,
@@ -28,7 +28,7 @@ pub fn lead_of(untested: bool, first: Lead) -> Lead
 // What is counted by: the tested variable's own value; that of another variable, which is copied into it or which its off watches; or the
 // difference of the tested variable and the limit. The tested variable is [-L, L] at the body's start and after the loop where it is not
 // its own.
-#[derive(Drop)]
+#[derive(Clone, Copy)]
 pub enum Counter {
     Own,
     Other,
@@ -38,7 +38,7 @@ pub enum Counter {
 // What is stepped and tested: the step that is read and its comparison, the ranges of its start and its limit (of a difference, those of
 // the two variables); whether the first counted test sees the start moved by one turn, and what comes before that test; whether the starts
 // and the limit are single numbers, questions 10 and 19 have yes, and what is counted by.
-#[derive(Drop)]
+#[derive(Clone, Copy)]
 pub struct Trip {
     pub step: Step,
     pub comparison: Comparison,

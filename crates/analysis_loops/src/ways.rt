@@ -24,7 +24,7 @@ use rules_steps::Step;
 use table::kind_at;
 
 // The test of a loop.
-#[derive(Drop)]
+#[derive(Clone, Copy)]
 pub struct LoopTest {
     pub tested: u8,
     pub comparison: Comparison,
@@ -126,7 +126,7 @@ pub fn is_hold(kind: Kind) -> bool
 // How turns are counted: by the tested variable's own step; by that of a variable copied into it, whose rows come before the copy or not;
 // by that of its difference from the limit; by that of a variable that an off compares, whose rows come before the off or not; or not at
 // all, of a hold that breaks its terms.
-#[derive(Drop)]
+#[derive(Clone, Copy)]
 pub enum Way {
     Own,
     Copied(u8, bool, Step),

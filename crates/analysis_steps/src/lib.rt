@@ -1,5 +1,6 @@
 // How a variable moves in one turn: walks over the rows of a block, nested blocks first. No walk reads the text that the rows'
 // expressions stand in: its answer is that for each text with which the rows are a tree.
+#![tactic(auto)]
 pub mod only_rows;
 pub mod rows;
 
@@ -80,7 +81,7 @@ fn row_step(rows: &[u32], i: usize, v: u8) -> Step
 }
 
 // The step of one variable over some rows, and the row after them.
-#[derive(Drop)]
+#[derive(Clone, Copy)]
 pub struct StepOver {
     pub step: Step,
     pub next: usize,
@@ -131,7 +132,7 @@ pub fn moves_of(rows: &[u32], count: usize, at: usize, v: u8, set: &mut [bool; 1
 }
 
 // What a loop's body does: the variables that it assigns, and the step of one variable.
-#[derive(Drop)]
+#[derive(Clone, Copy)]
 pub struct Moves {
     pub set: [bool; 16],
     pub step: Step,

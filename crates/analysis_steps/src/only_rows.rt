@@ -10,7 +10,7 @@ use rules::{Comparison, Kind, Operand};
 use table::{Shape, kind_at, past_else, shape_at};
 
 // What a row that assigns a variable reads another one for: to copy it, or to compare it with a constant (off).
-#[derive(Drop)]
+#[derive(Clone, Copy)]
 pub enum Read {
     Copy,
     Off(Comparison, i32),
@@ -18,7 +18,7 @@ pub enum Read {
 
 // The only assignment of a variable in a block, directly in it: another variable that it reads, what for, and whether rows before and
 // after it assign that one.
-#[derive(Drop)]
+#[derive(Clone, Copy)]
 pub enum Sole {
     Other,
     Reads(u8, Read, bool, bool),

@@ -26,7 +26,7 @@ use rules_steps::Step;
 
 // The passes of a block: `count` of one entry of the loop round it, its variable moved by `by` in each, `times` over; if known, its
 // variable v holds x in the first.
-#[derive(Drop)]
+#[derive(Clone, Copy)]
 pub struct Round {
     pub count: u64,
     pub by: i64,

@@ -1,4 +1,5 @@
 // The questions 19 and 8 to 12 of one loop, and the turns of one entry.
+#![tactic(auto)]
 pub mod figures;
 pub mod leads;
 pub mod moves;
@@ -52,7 +53,7 @@ fn limit_of(counter: Counter, n: Interval) -> WideInterval
 }
 
 // The turns of one entry, or the number of the first question that has no.
-#[derive(Drop)]
+#[derive(Clone, Copy)]
 pub enum Figure {
     Turns(u64),
     Refused(u32),

@@ -131,7 +131,7 @@ pub fn add_text(text: &[u8], at: usize, out: &mut [u8]) -> usize
     requires { at + length text.now ≤ length out.old }
     ensures { Adds text.now at out.old out.new result }
 {
-    at + bytes::copy(text, &mut out[at..])
+    at + byte_slices::copy(text, &mut out[at..])
 }
 
 // Writes what comes before the values.

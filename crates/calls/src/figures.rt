@@ -98,7 +98,7 @@ fn tell_lines(lines: &mut [[u64; 7]; 16], loops: usize)
 
 // The questions of a script after it has been read, and what its report says: ticks, how many variables and loops it has; 0 of a
 // refused one.
-#[derive(Drop)]
+#[derive(Clone, Copy)]
 pub struct Figures {
     pub verdict: Verdict,
     pub ticks: u64,

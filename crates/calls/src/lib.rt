@@ -1,4 +1,5 @@
 // The two calls on a script that has been read: its report, and its run.
+#![tactic(auto)]
 pub mod figures;
 pub mod prices;
 
@@ -22,7 +23,7 @@ use rules::{Ending, LoopCount, Prices, Reply, Verdict};
 use run_loops::NO_COUNT;
 
 // What a report call answers, and the script's ticks: 0 of a refused one.
-#[derive(Drop)]
+#[derive(Clone, Copy)]
 pub struct Measured {
     pub reply: Reply,
     pub ticks: u64,
@@ -93,7 +94,7 @@ pub fn ask_store(vars: usize, ranges: &[[i32; 2]; 16], store: &[i32]) -> Verdict
 }
 
 // What a run call answers: a refusal, or the run's figures.
-#[derive(Drop)]
+#[derive(Clone, Copy)]
 pub struct Outcome {
     pub verdict: Verdict,
     pub ending: Ending,

@@ -1,4 +1,5 @@
 // Several scripts in one frame (change 14), after the questions 20, 1 and 16: the scripts, their frames, and the answers.
+#![tactic(auto)]
 ghost use Rattle.std.specs.Prelude.{◌≡◌, ◌≤◌};
 ghost use Rattle.rules.specs.Calls.{Priced, prices_of};
 ghost use Rattle.rules_frames.specs.Frames.{ready, played_by};
@@ -17,7 +18,7 @@ use run_loops::NO_COUNT;
 use runner::with_ticks;
 
 // The scripts when all are finished, and the most ticks that all together took in one frame.
-#[derive(Drop)]
+#[derive(Clone, Copy)]
 pub struct Ended {
     pub progress: [Progress; 8],
     pub most: u64,
@@ -78,7 +79,7 @@ fn play(
 }
 
 // A script's answer: the frame that it finished in, and what a run answers.
-#[derive(Drop)]
+#[derive(Clone, Copy)]
 pub struct Played {
     pub frame: u64,
     pub outcome: Outcome,
@@ -160,7 +161,7 @@ fn answers(
 
 // What a call of frames answers: a refusal, with the script that it is of, from 1, or 0 where it is of the call; or the most ticks that all
 // together took in one frame and each script's answer.
-#[derive(Drop)]
+#[derive(Clone, Copy)]
 pub struct Frames {
     pub verdict: Verdict,
     pub script: usize,

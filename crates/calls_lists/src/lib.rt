@@ -1,4 +1,5 @@
 // The lists of lengths by which several scripts' files, stores and picks are lent end to end: question 20, and the part of one script.
+#![tactic(auto)]
 ghost use Rattle.std.specs.Prelude.{◌≡◌, ◌&&◌, ◌<◌, ◌^◌, eqb, length};
 ghost use Rattle.rules_frames.specs.Frames.{total, within, fitting};
 ghost use Rattle.calls_lists.specs.Parts.{lent_of, ExtentOf};
@@ -75,7 +76,7 @@ pub fn fitting(
 }
 
 // The part of one script: from where those before it end, to where it ends.
-#[derive(Drop)]
+#[derive(Clone, Copy)]
 pub struct Extent {
     pub from: usize,
     pub to: usize,

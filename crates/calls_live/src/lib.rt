@@ -1,4 +1,5 @@
 // The two calls of a live run on a script that has been read: its start, and one step.
+#![tactic(auto)]
 
 ghost use Rattle.std.specs.Prelude.{◌≡◌, false, List, ℕ, ◌+◌, ◌*◌, ◌≤◌, ◌<◌, length};
 ghost use Rattle.run_machine.specs.Steps.{script_in};
@@ -91,7 +92,7 @@ fn play(
 }
 
 // How a step leaves a script: status and row as they are answered, the row where it stands, whether a test is due there, what it keeps.
-#[derive(Drop)]
+#[derive(Clone, Copy)]
 struct Settled {
     status: u64,
     row: usize,
@@ -165,7 +166,7 @@ fn settle(stop: Stop, carried: u64) -> Settled
 
 // What a step answers: a refusal, or status and row, the ticks and the bytes of this step and of all, its cues, and the loops' counts so
 // far.
-#[derive(Drop)]
+#[derive(Clone, Copy)]
 pub struct StepDone {
     pub verdict: Verdict,
     pub status: u64,
@@ -200,7 +201,7 @@ pub fn no_step(number: u32, place: usize) -> StepDone
 }
 
 // What a step goes by: the script's rows and prices, q, and the ticks and loops of its report.
-#[derive(Drop)]
+#[derive(Clone, Copy)]
 pub struct Paced {
     pub count: usize,
     pub prices: Prices,
@@ -308,7 +309,7 @@ fn ask_step(
 }
 
 // What a step is lent beside the script's rows and ranges: how many there are, the prices, and q.
-#[derive(Drop)]
+#[derive(Clone, Copy)]
 pub struct Turn {
     pub script: Loaded,
     pub prices: Prices,
@@ -366,7 +367,7 @@ pub fn step_script(
 }
 
 // What `start` answers: a refusal, or the report's ticks and how many loops there are.
-#[derive(Drop)]
+#[derive(Clone, Copy)]
 pub struct Started {
     pub verdict: Verdict,
     pub ticks: u64,

@@ -1,5 +1,6 @@
 // The scripts that are to play together: each file is read into its own table and asked its own questions, 15 of its store included. No
 // store is touched.
+#![tactic(auto)]
 ghost use Rattle.std.specs.Prelude.{◌≡◌, List, ℕ, ◌<◌, length};
 ghost use Rattle.rules.specs.Calls.{Priced};
 ghost use Rattle.calls_lists.specs.Parts.{lent_of, ExtentOf};
@@ -10,7 +11,7 @@ use calls_lists::{Extent, part};
 use rules::Verdict;
 
 // Where a script's file, table, store and picks stand in what is lent.
-#[derive(Drop)]
+#[derive(Clone, Copy)]
 pub struct Places {
     pub file: Extent,
     pub table: Extent,
@@ -19,7 +20,7 @@ pub struct Places {
 }
 
 // A script that has been read: its places, and the number of its rows in the table.
-#[derive(Drop)]
+#[derive(Clone, Copy)]
 pub struct Held {
     pub places: Places,
     pub count: usize,
@@ -75,7 +76,7 @@ fn places_of(
 }
 
 // A script's own questions, and the number of its rows.
-#[derive(Drop)]
+#[derive(Clone, Copy)]
 pub struct Entered {
     pub verdict: Verdict,
     pub count: usize,
@@ -132,7 +133,7 @@ fn enter_at(
 
 // All scripts and how many they are, each accepted with its store; or the first no, with its number and place and which script has
 // it, from 1.
-#[derive(Drop)]
+#[derive(Clone, Copy)]
 pub struct HeldScripts {
     pub verdict: Verdict,
     pub script: usize,

@@ -1,4 +1,5 @@
 // One script's turn in a frame (change 14): it gets its ticks and runs on over its own parts of what is lent.
+#![tactic(auto)]
 ghost use Rattle.std.specs.Prelude.{◌≡◌, ◌||◌, ◌+◌, ◌≤◌, ◌<◌, ◌^◌};
 ghost use Rattle.calls_turns.specs.Progress.{is_spent, is_waiting, FrameFits, new_frame, turn_to, MayTurn, Turned};
 
@@ -7,7 +8,7 @@ use rules::{Ending, Prices};
 use run_actions::{Machine, Status};
 
 // A script in its frames: its machine, and the last frame that it ran in.
-#[derive(Drop)]
+#[derive(Clone, Copy)]
 pub struct Progress {
     pub machine: Machine,
     pub frame: u64,
@@ -56,7 +57,7 @@ fn either(a: bool, b: bool) -> bool
 }
 
 // A frame so far: the frames before it, the ticks that its scripts took, and whether one of them still waits.
-#[derive(Drop)]
+#[derive(Clone, Copy)]
 pub struct Frame {
     pub earlier: u64,
     pub ticks: u64,
@@ -75,7 +76,7 @@ pub fn new_frame(earlier: u64) -> Frame
 }
 
 // After a turn: the script, and the frame so far.
-#[derive(Drop)]
+#[derive(Clone, Copy)]
 pub struct AfterTurn {
     pub progress: Progress,
     pub frame: Frame,

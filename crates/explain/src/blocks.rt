@@ -6,7 +6,7 @@ use program_words::is_word;
 use reading::text::starts_with;
 
 // The lines, from 0, that begin the open blocks; a file that has come so far has at most 8.
-#[derive(Drop)]
+#[derive(Clone, Copy)]
 struct Heads {
     lines: [usize; 8],
     depth: usize,

@@ -12,7 +12,7 @@ use reader::load;
 use rules::Verdict;
 
 // Whether a run is to be drawn; whether the values of the store are given, and how many; the values.
-#[derive(Drop)]
+#[derive(Clone, Copy)]
 pub struct Drawing {
     pub asked: bool,
     pub given: bool,

@@ -10,7 +10,7 @@ use reading::text::{position, starts_with};
 const L: u32 = 1_000_000_000;
 
 // The limits of a line's numbers: from `low` to `high`; `minus`: from -high to high.
-#[derive(Drop)]
+#[derive(Clone, Copy)]
 pub struct Limits {
     pub minus: bool,
     pub low: u32,

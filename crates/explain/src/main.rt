@@ -1,6 +1,7 @@
 // explain [prices=A,C,P,T] [run=PICKS [values=V,..]] [FILE ..]: prints each script, or the one on standard input, row by row with its
 // figures in a margin; of a refused file the row or line, the cause and the remedy. With run= it prints the run of each, and draws its
 // cues over its ticks. The prices are four ones if they are not given. explain refused=NUMBER prints the cause and the remedy of a refusal.
+#![tactic(auto)]
 mod blocks;
 mod drawing;
 mod faults;

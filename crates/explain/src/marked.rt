@@ -61,7 +61,7 @@ pub fn print_plain(line: &[u8]) {
 }
 
 // Where a line begins and ends, without its LF; a line that is not there begins and ends at the file's end.
-#[derive(Drop)]
+#[derive(Clone, Copy)]
 pub struct Span {
     pub start: usize,
     pub end: usize,

@@ -24,7 +24,7 @@ fn count_on(file: &[u8], k: usize) -> u32 {
 }
 
 // What is known of a file whose line `place` is refused: V and R as far as their lines stand before it.
-#[derive(Drop)]
+#[derive(Clone, Copy)]
 struct Counts {
     vars: u32,
     rows: u32,

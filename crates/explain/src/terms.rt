@@ -7,7 +7,7 @@ use rules::Operand;
 use table::{Tag, assigns, limit_at, partner_at, tag_at, variable_at, watched_at};
 
 // What a row does to a variable.
-#[derive(Drop)]
+#[derive(Clone, Copy)]
 pub enum Deed {
     Sets,
     Clears,

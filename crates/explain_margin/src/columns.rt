@@ -8,7 +8,7 @@ use ints::min_max::smaller_size;
 pub const LINE: usize = 100;
 
 // How wide the figures' columns are.
-#[derive(Drop)]
+#[derive(Clone, Copy)]
 pub struct Widths {
     pub turns: usize,
     pub total: usize,

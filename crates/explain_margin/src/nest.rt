@@ -6,7 +6,7 @@ use ints::min_max::smaller_size;
 use table::Tag;
 
 // How many blocks are open, and for each depth the passes there: the total of the loop next round it, 1 outside all loops.
-#[derive(Drop)]
+#[derive(Clone, Copy)]
 pub struct OpenBlocks {
     pub depth: usize,
     pub passes: [u64; 9],

@@ -7,7 +7,7 @@ use ints::min_max::smaller_size;
 use reading::text::position;
 
 // What the place of a question is: a line of the file, from 1; a row, from 0; or neither.
-#[derive(Drop)]
+#[derive(Clone, Copy)]
 pub enum PlaceKind {
     Line,
     Row,
@@ -40,7 +40,7 @@ pub fn place_of(number: u32) -> PlaceKind
 }
 
 // Where a line begins and ends, without its LF; or there is none.
-#[derive(Drop)]
+#[derive(Clone, Copy)]
 pub enum LinePlace {
     At(usize, usize),
     Missing,

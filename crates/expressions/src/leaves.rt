@@ -39,7 +39,7 @@ pub fn more(value: u64, b: u8) -> u64
 }
 
 // The value of digits, and the byte after them.
-#[derive(Drop)]
+#[derive(Clone, Copy)]
 pub struct Digits {
     pub value: u32,
     pub next: usize,
@@ -80,7 +80,7 @@ fn at_mark(s: &[u8], at: usize) -> bool
 }
 
 // A number not below 0 and the byte after it, or none.
-#[derive(Drop)]
+#[derive(Clone, Copy)]
 pub struct WholeNumber {
     pub good: bool,
     pub value: u32,
@@ -125,7 +125,7 @@ const CONSTANT: u8 = 1;
 pub const VARIABLE: u8 = 2;
 
 // A constant or a variable and the byte after it, or neither.
-#[derive(Drop)]
+#[derive(Clone, Copy)]
 pub struct Leaf {
     pub tag: u8,
     pub value: i32,

@@ -1,4 +1,5 @@
 // Expressions: what a word comes to, in ranges and in a run.
+#![tactic(auto)]
 pub mod leaves;
 pub mod names;
 pub mod operators;

@@ -10,7 +10,7 @@ use ints::min_max::{higher, lower};
 use rules::Value;
 
 // What part of a text comes to, and the byte after it.
-#[derive(Drop)]
+#[derive(Clone, Copy)]
 pub struct PartRange {
     pub lo: i32,
     pub hi: i32,
@@ -101,7 +101,7 @@ pub fn sums(b: u8) -> bool
 }
 
 // What part of a text comes to in a run, and the byte after it.
-#[derive(Drop)]
+#[derive(Clone, Copy)]
 pub struct PartValue {
     pub number: i32,
     pub past: bool,

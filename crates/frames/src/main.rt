@@ -1,6 +1,7 @@
 // frames [prices=A,C,P,T] Q [FILE PICKS VALUES] ..: runs up to 8 script files together, Q ticks a frame, and prints of each the frame that
 // it finished in and its run as `rehearse` does, and the most ticks that all together took in one frame. The prices are four ones if they
 // are not given. PICKS is a word of 0 and 1 or `-`, and VALUES the store, numbers with commas between them, or `-`.
+#![tactic(auto)]
 ghost use Rattle.std.specs.Prelude.{◌≡◌, ◌+◌, ◌*◌, ◌≤◌, ◌<◌, length};
 
 use calls_frames::{Frames, Played};
@@ -14,7 +15,7 @@ use rules::Verdict;
 const SCRIPTS: usize = 8;
 
 // What a script's words are: all three right, or the first wrong one.
-#[derive(Drop)]
+#[derive(Clone, Copy)]
 pub enum Words {
     Right,
     NoFile,
@@ -24,7 +25,7 @@ pub enum Words {
 }
 
 // A script's three words, and how much of what is lent each takes.
-#[derive(Drop)]
+#[derive(Clone, Copy)]
 pub struct Share {
     pub words: Words,
     pub file: usize,

@@ -7,7 +7,7 @@ use crate::shapes::is_variable;
 use program_words::is_number;
 
 // A number, a variable or `(` is due; inside a number or a variable; after `)`.
-#[derive(Drop)]
+#[derive(Clone, Copy)]
 pub enum Mode {
     Due,
     Inside,
@@ -15,7 +15,7 @@ pub enum Mode {
 }
 
 // Whether the expression goes on, and how.
-#[derive(Drop)]
+#[derive(Clone, Copy)]
 pub struct Turn {
     pub good: bool,
     pub mode: Mode,

@@ -1,5 +1,6 @@
 // The one cause for which a line has not the shape that its place wants (refusal 3), and the byte where it breaks: read from the left, the
 // first word that is not what is wanted there.
+#![tactic(auto)]
 mod breaks;
 mod shapes;
 
@@ -21,7 +22,7 @@ pub use shapes::{
 use shapes::{fits, is_bare, is_step, is_test};
 
 // The lines of a script file.
-#[derive(Drop)]
+#[derive(Clone, Copy)]
 pub enum LineKind {
     Script,
     Vars,
@@ -33,7 +34,7 @@ pub enum LineKind {
 // What is wrong: nothing; the file ends before the line; an empty line, a comment, a byte order mark, another key; a space too many, a
 // space after the last word, a tab, a carriage return, another byte that is not plain; a number with `+` or with a leading zero; a word
 // that is not the one that is wanted; an expression that breaks; a word missing or too many; no LF at the end.
-#[derive(Drop)]
+#[derive(Clone, Copy)]
 pub enum Fault {
     Nothing,
     Ended,
@@ -56,7 +57,7 @@ pub enum Fault {
 }
 
 // A fault, what is wanted in its place, and the byte of the line, from 0.
-#[derive(Drop)]
+#[derive(Clone, Copy)]
 pub struct Cause {
     pub fault: Fault,
     pub wants: u8,

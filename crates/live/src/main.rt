@@ -1,6 +1,7 @@
 // live [prices=A,C,P,T] FILE Q [VALUE ..]: plays a script frame by frame, Q ticks a frame. A line of standard input is a frame: the picks
 // that came, a word of 0 and 1, or nothing. Each frame prints a line with its status, ticks and cues; after the last, the answer so far is
 // printed as `rehearse` prints a run.
+#![tactic(auto)]
 ghost use Rattle.std.specs.Prelude.{◌≡◌, ◌≤◌, length};
 ghost use Rattle.answer_text.specs.Steps.{step_text};
 
@@ -18,7 +19,7 @@ use rules::Verdict;
 const HELD: usize = WORD;
 
 // The frames played, the picks held, whether to go on, and whether there is an answer to print at the end.
-#[derive(Drop)]
+#[derive(Clone, Copy)]
 struct Desk {
     frame: u64,
     held: usize,
@@ -34,7 +35,7 @@ fn write_step(frame: u64, d: StepDone, cues: &[u32], text: &[u8]) -> bool
 }
 
 // What a frame is: the step's answer, and whether its line is written.
-#[derive(Drop)]
+#[derive(Clone, Copy)]
 struct Frame {
     done: StepDone,
     written: bool,
@@ -74,8 +75,8 @@ fn take_off(picks: &mut [u8], held: usize, used: usize) -> usize
     ensures { result ≤ length picks.old }
 {
     let mut rest = [0u8; HELD];
-    let n = bytes::copy(&picks[used..held], &mut rest);
-    bytes::copy(&rest[..n], picks)
+    let n = byte_slices::copy(&picks[used..held], &mut rest);
+    byte_slices::copy(&rest[..n], picks)
 }
 
 // Is the script finished?

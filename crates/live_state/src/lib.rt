@@ -1,4 +1,5 @@
 // The state of a live run, 64 numbers that the caller holds: question 21, what they say, and what is written.
+#![tactic(auto)]
 ghost use Rattle.std.specs.Prelude.{◌≡◌, ◌&&◌, List, [], ◌∷◌, ◌++◌, ℕ, ◌+◌, ◌-◌, ◌*◌, ◌≤◌, ◌<◌, leb, length, take, drop, replicate};
 ghost use Rattle.rules.specs.Blocks.{view_of, kind_of};
 ghost use Rattle.rules.specs.Report.{line_of};
@@ -381,7 +382,7 @@ pub fn counts_in(state: &[u64], loops: usize) -> [[u64; 3]; 16]
 }
 
 // What is written of a script beside its loops: a finished one has nothing left.
-#[derive(Drop)]
+#[derive(Clone, Copy)]
 pub struct Standing {
     pub status: u64,
     pub row: usize,

@@ -1,5 +1,6 @@
 // The public calls: the report of a script file, its figures, its run, and the frames of several scripts. They take all inputs, always end,
 // and refuse by number and place.
+#![tactic(auto)]
 ghost use Rattle.std.specs.Prelude.{◌≡◌, length};
 ghost use Rattle.rules.specs.File.{file_script};
 ghost use Rattle.rules.specs.Report.{longest_report};

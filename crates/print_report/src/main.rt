@@ -1,4 +1,5 @@
 // print_report [FILE]: prints the report of a script file, or of the one on standard input, or `refused=NUMBER PLACE`.
+#![tactic(auto)]
 use program_parts::{WORD, print_text};
 
 fn help() {

@@ -19,7 +19,7 @@ pub fn asks_help() -> bool {
 }
 
 // What the first argument says of the prices: whether they can be lent, how many they are, and the argument after them.
-#[derive(Drop)]
+#[derive(Clone, Copy)]
 pub struct PricesRead {
     pub good: bool,
     pub count: usize,

@@ -13,7 +13,7 @@ use program_words::is_word;
 const LINE: usize = 64;
 
 // An answer: whether there is a line, whether it is a pick, and the pick.
-#[derive(Drop)]
+#[derive(Clone, Copy)]
 struct Answer {
     some: bool,
     good: bool,
@@ -65,7 +65,7 @@ fn ask_pick(row: usize) -> Answer {
 }
 
 // How many picks are found, whether the last is still to be lent, 1, and whether to go on.
-#[derive(Drop)]
+#[derive(Clone, Copy)]
 struct Asking {
     count: usize,
     lent: usize,

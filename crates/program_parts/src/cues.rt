@@ -12,7 +12,7 @@ use live_state::STATE;
 
 // Where a run stands between two cues: the picks used; whether its last step did a cue, and its number; whether a cue is next, 1, and its
 // row and ticks; whether to go on.
-#[derive(Drop)]
+#[derive(Clone, Copy)]
 pub struct CuePlace {
     pub used: usize,
     pub did: bool,

@@ -3,7 +3,7 @@ use crate::script::read_some;
 use libc::STDIN_FILENO;
 
 // Whether there is a line, how many bytes it has, and whether a read failed.
-#[derive(Drop)]
+#[derive(Clone, Copy)]
 pub struct Line {
     pub some: bool,
     pub length: usize,
@@ -11,7 +11,7 @@ pub struct Line {
 }
 
 // A byte of standard input, if there is one, and whether the read failed.
-#[derive(Drop)]
+#[derive(Clone, Copy)]
 struct Byte {
     some: bool,
     byte: u8,

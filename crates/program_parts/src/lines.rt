@@ -3,12 +3,12 @@ use crate::arguments::STORE;
 use crate::print::print_text;
 use crate::script::{rehearse_file, report_file};
 use crate::wrong::{next, print_wrong_listed, print_wrong_price};
-use bytes::scan::find;
+use byte_slices::find;
 use libc::STDIN_FILENO;
 use program_words::lists::{Lent, Values, lend_prices, read_line_values};
 
 // What a line is: the name of a file to report, or a run, `[prices=A,C,P,T] NAME ALLOWANCE PICKS VALUE ..`.
-#[derive(Drop)]
+#[derive(Clone, Copy)]
 pub enum LineKind {
     File,
     Run,

@@ -17,7 +17,7 @@ use program_words::picks::{PicksBy, picks_by};
 use program_words::{Number, allowance, pick_count, put_picks};
 
 // How many bytes were read, and whether a read failed.
-#[derive(Drop)]
+#[derive(Clone, Copy)]
 pub struct Input {
     pub length: usize,
     pub failed: bool,

@@ -3,7 +3,7 @@ ghost use Rattle.std.specs.Prelude.{◌≤◌, length};
 ghost use Rattle.io.specs.Counts.{IsPrefixLen};
 
 use crate::print::{print_number, print_text};
-use bytes::scan::find;
+use byte_slices::find;
 use ints::min_max::smaller_size;
 use program_words::is_number;
 

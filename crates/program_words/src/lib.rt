@@ -1,4 +1,5 @@
 // Numbers, prices and picks as words. A number is written as in a script: no plus, no leading zeros, `-` only before a non-zero number.
+#![tactic(auto)]
 pub mod lists;
 pub mod picks;
 
@@ -11,14 +12,14 @@ use ints::min_max::smaller_size;
 use reading::text::starts_with;
 
 // A word that is a number, or is none.
-#[derive(Drop)]
+#[derive(Clone, Copy)]
 pub enum Number {
     Is(u64),
     Malformed,
 }
 
 // A word that is a value of the store, or is none.
-#[derive(Drop)]
+#[derive(Clone, Copy)]
 pub enum StoreValue {
     Is(i32),
     Malformed,

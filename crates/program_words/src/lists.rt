@@ -11,7 +11,7 @@ use reading::text::{position, starts_with};
 
 // What a first word says of the prices: nothing; how many it lends, five for more, since 16 refuses the fifth; or the index of one that is
 // no number of 32 bits.
-#[derive(Drop)]
+#[derive(Clone, Copy)]
 pub enum Lent {
     Nothing,
     Count(usize),
@@ -19,7 +19,7 @@ pub enum Lent {
 }
 
 // How many words are values of the store, or the index of one that is none.
-#[derive(Drop)]
+#[derive(Clone, Copy)]
 pub enum Values {
     Count(usize),
     Wrong(usize),

@@ -6,7 +6,7 @@ use crate::{Number, is_word, read_number};
 use reading::text::starts_with;
 
 // How a word says the picks: it is a word of them; they are drawn from a seed; they are asked for; or its seed is no number.
-#[derive(Drop)]
+#[derive(Clone, Copy)]
 pub enum PicksBy {
     Word,
     Seed(u64),

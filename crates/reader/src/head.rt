@@ -8,7 +8,7 @@ use crate::lines::{CountLine, Ranged, count_line, range_line, script_line};
 use rules::Verdict;
 
 // The range lines end before this byte, or the first no with its line.
-#[derive(Drop)]
+#[derive(Clone, Copy)]
 pub enum Ranges {
     Until(usize),
     Refused(u32, usize),
@@ -41,7 +41,7 @@ fn read_ranges(file: &[u8], at: usize, n: usize, ranges: &mut [[i32; 2]; 16]) ->
 }
 
 // The lines before the rows: all their questions have yes, or the first no; what they say, and the byte where the rows begin.
-#[derive(Drop)]
+#[derive(Clone, Copy)]
 pub struct Head {
     pub verdict: Verdict,
     pub vars: usize,

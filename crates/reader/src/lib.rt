@@ -1,4 +1,5 @@
 // Reads a script file line by line: the questions 2 to 7 and 17. Each line's reader gets the unread rest of the file.
+#![tactic(auto)]
 pub mod head;
 pub mod lines;
 pub mod nesting;
@@ -65,7 +66,7 @@ fn if_read(verdict: Verdict, n: usize) -> usize
 
 // A loaded file: all questions have yes, or the first no; the number of variables; and how many rows are in the table. A refused file
 // has none.
-#[derive(Drop)]
+#[derive(Clone, Copy)]
 pub struct Loaded {
     pub verdict: Verdict,
     pub vars: usize,

@@ -32,7 +32,7 @@ pub fn keyed(rest: &[u8], key: &[u8]) -> bool
 }
 
 // What a count line says: the count, and the line's length with its LF.
-#[derive(Drop)]
+#[derive(Clone, Copy)]
 pub enum CountLine {
     Count(usize, usize),
     Wrong(u32),
@@ -71,7 +71,7 @@ pub fn script_line(rest: &[u8]) -> CountLine
 }
 
 // What a range line says: its ends, and its length with its LF.
-#[derive(Drop)]
+#[derive(Clone, Copy)]
 pub enum Ranged {
     Range(i32, i32, usize),
     Wrong(u32),

@@ -25,7 +25,7 @@ const DEEPEST: usize = 8;
 const MOST_LOOPS: usize = 16;
 
 // The open blocks, and the loops so far.
-#[derive(Drop)]
+#[derive(Clone, Copy)]
 pub struct Blocks {
     pub kinds: [u8; 8],
     pub depth: usize,
@@ -33,7 +33,7 @@ pub struct Blocks {
 }
 
 // The blocks after a row, or the question that has no.
-#[derive(Drop)]
+#[derive(Clone, Copy)]
 pub struct Placed {
     pub number: u32,
     pub blocks: Blocks,

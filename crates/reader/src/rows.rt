@@ -16,7 +16,7 @@ use reading::words::{
 use rules::{Comparison, Kind, Name, Operand, Word};
 
 // A row's line: its row and the byte of the line's LF, or the question that has no.
-#[derive(Drop)]
+#[derive(Clone, Copy)]
 pub enum RowLine {
     Read(Kind, usize),
     Wrong(u32),

@@ -1,4 +1,5 @@
 // The words of a line: found in the text, and asked in order, expressions too.
+#![tactic(auto)]
 pub mod order;
 pub mod questions;
 pub mod text;

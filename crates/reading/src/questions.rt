@@ -13,7 +13,7 @@ use ints::min_max::larger_size;
 // A walk over a word: whether its shape is good so far, whether a factor is due, the open parentheses, the most of them at a leaf, the
 // operators, the
 // leaves' first no, and the next byte.
-#[derive(Drop)]
+#[derive(Clone, Copy)]
 struct Scan {
     good: bool,
     due: bool,

@@ -63,7 +63,7 @@ fn stop(s: &[u8]) -> usize
 }
 
 // A number not below 0 and how many digits it has, or none.
-#[derive(Drop)]
+#[derive(Clone, Copy)]
 enum DigitsRead {
     None,
     Of(u32, usize),
@@ -304,7 +304,7 @@ fn signed(negative: bool, v: u32) -> i32
 }
 
 // A word by its tag and value, and the byte where it ends. No enum: that would be stored in pieces and then copied whole, which is slow.
-#[derive(Drop)]
+#[derive(Clone, Copy)]
 struct WordFound {
     tag: u32,
     value: i32,
@@ -397,7 +397,7 @@ fn word_of(s: &[u8]) -> WordFound
 
 // The first eight words of a line by their tags and values: word k stands between the bytes ends[k] and ends[k + 1].
 // The line's LF is the byte `end`.
-#[derive(Drop)]
+#[derive(Clone, Copy)]
 pub struct LineWords {
     pub tags: [u32; 8],
     pub values: [i32; 8],

@@ -1,6 +1,7 @@
 // rehearse [prices=A,C,P,T] [cues] FILE ALLOWANCE PICKS [VALUE ..]: runs a script file and prints how the run ended, its ticks, the picks
 // it used, its store and the turns of its loops; with `cues` before it a line for each cue. The prices are four ones if they are not given.
 // ALLOWANCE is a number or `plan`, PICKS a word of 0 and 1, `-`, `picks=random:SEED` or `picks=ask`, and the values are the store.
+#![tactic(auto)]
 
 ghost use Rattle.std.specs.Prelude.{◌≤◌};
 

@@ -1,4 +1,5 @@
 // Writing the report, line by line, into the unused rest of the buffer.
+#![tactic(auto)]
 pub mod pieces;
 
 ghost use Rattle.std.specs.Prelude.{◌≡◌, ◌≤◌, length};
@@ -24,14 +25,14 @@ pub fn size(z: i64) -> u64
 }
 
 // An end of a step: a change, or a factor.
-#[derive(Drop)]
+#[derive(Clone, Copy)]
 enum End {
     Change(i64),
     Factor(u64),
 }
 
 // A step's two ends.
-#[derive(Drop)]
+#[derive(Clone, Copy)]
 struct Ends {
     first: End,
     second: End,

@@ -4,7 +4,7 @@ ghost use Rattle.rules.specs.Report.{decimal_in, decimal, joined, key_line};
 ghost use Rattle.report.specs.Pieces.{label_text, piece_text, piece_texts, Wrote};
 
 // The fixed texts of a report.
-#[derive(Drop)]
+#[derive(Clone, Copy)]
 pub enum Label {
     Report,
     Rows,
@@ -22,7 +22,7 @@ pub enum Label {
 }
 
 // A part of a line: no bytes, a fixed text, or a number in decimal.
-#[derive(Drop)]
+#[derive(Clone, Copy)]
 pub enum Piece {
     Nothing,
     Fixed(Label),
@@ -140,7 +140,7 @@ fn put_label(label: Label, out: &mut [u8]) -> usize
 {
     let text = letters(label);
     let len = label_len(label);
-    bytes::copy(&text[..len], out)
+    byte_slices::copy(&text[..len], out)
 }
 
 // Writes a key, as its bytes, and a number after it.
@@ -148,7 +148,7 @@ pub fn put_number(key: &[u8], n: u64, out: &mut [u8]) -> usize
     requires { length (key.now ++ decimal n) ≤ length out.old }
     ensures { Wrote (key.now ++ decimal n) out.old out.new result }
 {
-    let at = bytes::copy(key, out);
+    let at = byte_slices::copy(key, out);
     at + put_digits(20, n, &mut out[at..])
 }
 

@@ -1,4 +1,5 @@
 // Reads names of script files from standard input, one a line, and prints for each its name and its report or refusal.
+#![tactic(auto)]
 use program_parts::LineKind;
 
 fn main() {

@@ -1,1 +1,2 @@
 // Runs that go frame by frame: definitions in specs/, laws in proofs/. It has no code.
+#![tactic(auto)]

@@ -1,1 +1,2 @@
 // The season sheet: definitions in specs/, laws in proofs/. It has no code.
+#![tactic(auto)]

@@ -1,4 +1,5 @@
 // The step of a variable, and two steps joined: in sequence, or over a pick.
+#![tactic(auto)]
 ghost use Rattle.std.specs.Prelude.{◌≡◌, cond, ◌≤◌};
 ghost use Rattle.rules_steps.specs.Joins.{is_still, factor_limit, product, then, either, two_of};
 ghost use Rattle.rules_steps.specs.Ends.{EndsWithin};
@@ -6,7 +7,7 @@ ghost use Rattle.rules_steps.specs.Ends.{EndsWithin};
 use ints::min_max::{higher, larger, lower, smaller};
 
 // How a variable moves in one turn: the least and the most change, a factor, a divisor, or not known.
-#[derive(Drop)]
+#[derive(Clone, Copy)]
 pub enum Step {
     Add(i64, i64),
     Grow(u64, u64),
@@ -47,7 +48,7 @@ impl Step {
 }
 
 // Two steps to be joined: of one kind, with the ends of both, or a mixture.
-#[derive(Drop)]
+#[derive(Clone, Copy)]
 pub enum Two {
     Adds(i64, i64, i64, i64),
     Grows(u64, u64, u64, u64),

@@ -1,4 +1,5 @@
 // What one price of a run buys: an assignment, a cue, a pick; and the counts of the turns.
+#![tactic(auto)]
 ghost use Rattle.std.specs.Prelude.{◌≡◌, cond, ◌<◌, eqb, length};
 ghost use Rattle.rules.specs.Values.{compares};
 ghost use Rattle.table.specs.Code.{comparison_by};
@@ -10,14 +11,14 @@ use ints::min_max::larger;
 use rules::{ALL, Ending, MOST, Prices, TURNS};
 
 // Going, or over: the ending and its row.
-#[derive(Drop)]
+#[derive(Clone, Copy)]
 pub enum Status {
     Going,
     Over(Ending, usize),
 }
 
 // Before a row, or before the test of the loop that ends there; the ticks that are left, the bytes used.
-#[derive(Drop)]
+#[derive(Clone, Copy)]
 pub struct Machine {
     pub row: usize,
     pub testing: bool,

@@ -1,4 +1,5 @@
 // The loops of a script in row order, with their two counts.
+#![tactic(auto)]
 ghost use Rattle.std.specs.Prelude.{◌≡◌, List, ℕ, ◌+◌, ◌*◌, ◌<◌, ◌^◌, max, length, get_or};
 ghost use Rattle.rules.specs.Blocks.{view_of, kind_of};
 ghost use Rattle.rules.specs.Calls.{is_loop_row};
@@ -17,7 +18,7 @@ pub const NO_COUNT: LoopCount = LoopCount {
 };
 
 // At most 16 loops, with their counts in row order.
-#[derive(Drop)]
+#[derive(Clone, Copy)]
 pub struct Loops {
     pub count: usize,
     pub counts: [LoopCount; 16],

@@ -1,4 +1,5 @@
 // One step of the machine: a row of the table, or the test of the loop that ends there.
+#![tactic(auto)]
 ghost use Rattle.std.specs.Prelude.{◌≡◌, List, ℕ, ◌+◌, ◌*◌, ◌<◌, length};
 ghost use Rattle.table.specs.Code.{operand_in, limit_in, numbers_at};
 ghost use Rattle.run_machine.specs.Steps.{script_in, AtRow, AtTest, Stepped};

@@ -1,4 +1,5 @@
 // The run of a script: the machine from its start to its end, and its answer.
+#![tactic(auto)]
 pub mod live;
 
 ghost use Rattle.std.specs.Prelude.{◌≡◌, ◌+◌, ◌≤◌, ◌<◌, ◌^◌};
@@ -52,7 +53,7 @@ pub fn with_ticks(m: Machine, q: u64) -> Machine
 }
 
 // What a run answers beside the store and the counts.
-#[derive(Drop)]
+#[derive(Clone, Copy)]
 pub struct Ran {
     pub ending: Ending,
     pub row: usize,

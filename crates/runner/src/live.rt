@@ -10,7 +10,7 @@ use run_actions::Machine;
 use table::{PricedRows, codes};
 
 // What was done with a row's cue: how many the list has after it, and whether it found the list full.
-#[derive(Drop)]
+#[derive(Clone, Copy)]
 struct Put {
     fired: usize,
     full: bool,
@@ -53,14 +53,14 @@ fn put_cue(
 }
 
 // Where a machine begins, and whether the cues that it fires are listed: those of a plain run are not.
-#[derive(Drop)]
+#[derive(Clone, Copy)]
 pub struct Begin {
     pub machine: Machine,
     pub listed: bool,
 }
 
 // Where a machine has stopped: over, or before a cue that finds the list full; and how many cues it has fired.
-#[derive(Drop)]
+#[derive(Clone, Copy)]
 pub struct Stop {
     pub machine: Machine,
     pub fired: usize,

@@ -1,10 +1,11 @@
 // season [files] [FILE ..]: prints the season's sheet of the files that are named, as arguments or on standard input, one a line; with
 // `files` first a line for each name. For no name or more than 64 it prints `refused=18 0`.
+#![tactic(auto)]
 ghost use Rattle.std.specs.Prelude.{◌≡◌, true, ◌≤◌, ◌<◌, length};
 ghost use Rattle.io.specs.Counts.{IsPrefixLen};
 ghost use Rattle.season.specs.Listed.{Listed, SheetOf};
 
-use bytes::scan::find;
+use byte_slices::find;
 use ints::min_max::smaller_size;
 use libc::STDIN_FILENO;
 use program_parts::{
@@ -16,7 +17,7 @@ use season_sheet::names::{LINE, LINES, ROOM};
 use season_sheet::sheet::{Sheet, TEXT};
 
 // The names so far: the line that is open, whether more is to be read, and whether a read failed.
-#[derive(Drop)]
+#[derive(Clone, Copy)]
 struct Listing {
     line: usize,
     more: bool,

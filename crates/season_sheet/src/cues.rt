@@ -11,7 +11,7 @@ use rules::Kind;
 use table::kind_at;
 
 // What a row fires: nothing, or a cue.
-#[derive(Drop)]
+#[derive(Clone, Copy)]
 pub enum Fired {
     Nothing,
     Cue(u32),

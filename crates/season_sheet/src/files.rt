@@ -18,7 +18,7 @@ pub const REPORTS: usize = 133_696;
 pub const CUES: usize = 16_384;
 
 // What is found of a file: the answer of a report call, the ticks, and how many cues it has.
-#[derive(Drop)]
+#[derive(Clone, Copy)]
 pub struct FileFigures {
     pub reply: Reply,
     pub ticks: u64,

@@ -72,7 +72,7 @@ fn is_known(
 }
 
 // How much is kept of the groups' first files: how many there are, the bytes of their reports and the numbers of their cues.
-#[derive(Drop)]
+#[derive(Clone, Copy)]
 pub struct Kept {
     pub groups: usize,
     pub used: usize,

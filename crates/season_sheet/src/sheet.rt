@@ -10,7 +10,7 @@ use ints::min_max::larger;
 
 // The figures, but for the refusals by number, which stand in an array of 21; and how many bytes the reports and how many numbers the cues
 // of the groups' first files take.
-#[derive(Drop)]
+#[derive(Clone, Copy)]
 pub struct Sheet {
     pub accepted: u64,
     pub refused: u64,

@@ -1,4 +1,5 @@
 // The rows of a script as a flat table of numbers, four to a row: 256 rows are the 1,024 numbers of the lent scratch.
+#![tactic(auto)]
 pub mod codes;
 mod fields;
 
@@ -17,7 +18,7 @@ ghost use Rattle.table.specs.Paired.{Ready, NextPut};
 use rules::{Change, Comparison, Kind, Operand, Prices};
 
 // How many rows a script in a table has, and what each kind of row takes.
-#[derive(Drop)]
+#[derive(Clone, Copy)]
 pub struct PricedRows {
     pub count: usize,
     pub prices: Prices,
@@ -75,7 +76,7 @@ pub fn change(kind: u32, c: u32) -> Change
 }
 
 // The kinds of row.
-#[derive(Drop)]
+#[derive(Clone, Copy)]
 pub enum Tag {
     End,
     Else,
@@ -265,7 +266,7 @@ pub fn kind_at(rows: &[u32], i: usize) -> Kind
 }
 
 // What a walk tells apart: a plain row, a pick, a loop's head, an else or end.
-#[derive(Drop)]
+#[derive(Clone, Copy)]
 pub enum Shape {
     Plain,
     Branch,
@@ -319,7 +320,7 @@ pub fn assigns(rows: &[u32], i: usize) -> bool
 }
 
 // A kind and its value.
-#[derive(Drop)]
+#[derive(Clone, Copy)]
 struct OperandCode {
     kind: u32,
     value: u32,
@@ -504,7 +505,7 @@ pub fn put_row(rows: &mut [u32], i: usize, kind: Kind)
 }
 
 // The blocks that are open: their head rows (after an else, its row), how many loops began before each, the depth, the loops so far.
-#[derive(Drop)]
+#[derive(Clone, Copy)]
 pub struct Open {
     pub heads: [u8; 8],
     pub numbers: [u8; 8],
@@ -521,7 +522,7 @@ pub const NONE_OPEN: Open = Open {
 };
 
 // What a row does to the blocks.
-#[derive(Drop)]
+#[derive(Clone, Copy)]
 enum Role {
     Plain,
     Pick,

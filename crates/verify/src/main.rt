@@ -1,9 +1,10 @@
 // verify [prices=A,C,P,T] FILE REPORT: finds the report of a script file, and prints `same` if the file REPORT holds just that; else the
 // first line that differs, as it is found here, or the refusal.
+#![tactic(auto)]
 ghost use Rattle.std.specs.Prelude.{◌≡◌, ◌+◌, ◌≤◌, ◌<◌, length};
 
 use answer_text::reports::{TEXT, put_report};
-use bytes::scan::find;
+use byte_slices::find;
 use program_parts::{WORD, print_number, print_text, print_unread, read_file};
 
 fn form() {
@@ -22,7 +23,7 @@ fn help() {
 }
 
 // A byte of a text, the number of its line, and where that line starts.
-#[derive(Drop)]
+#[derive(Clone, Copy)]
 struct Place {
     at: usize,
     line: usize,
