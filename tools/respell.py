@@ -49,7 +49,6 @@ def read(path):
 
 def declared(path):
     """The names that a file declares, but for those whose type Rattle makes."""
-    depth = 0
     for line in read(path).split("\n"):
         if SKIP.match(line):
             continue
@@ -58,8 +57,6 @@ def declared(path):
             continue
         names, kind = m.group(3).split(), m.group(4)
         if any(not WORD.fullmatch(n) or n in "→=λ" or n.endswith(":") for n in names) or "=" in names or "→" in names:
-            continue
-        if m.group(1) and len(m.group(1)) > 4:
             continue
         if re.match(r"\s*(tie|goal|lts)\.", kind):
             continue

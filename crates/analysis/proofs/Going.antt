@@ -313,21 +313,21 @@ module _ {text : List ℕ} (π : Prices) {rows : List Row} {count : ℕ} (round 
       abbrev inner : (Pass → ℕ) → ℕ
       inner f = sum_over (pass_in x.round x.round.known) x.round.by x.round.count f
 
-      inner-is : (f : Pass → ℕ) → inner f ≡ sum_over (first_pass form σ test body) (in_body (round_of round) κ form σ test body).by (in_body (round_of round) κ form σ test body).count f
-      inner-is = body_sum round κ form σ test body (capped (W * round.times)) x.round en.round
+      inner_is : (f : Pass → ℕ) → inner f ≡ sum_over (first_pass form σ test body) (in_body (round_of round) κ form σ test body).by (in_body (round_of round) κ form σ test body).count f
+      inner_is = body_sum round κ form σ test body (capped (W * round.times)) x.round en.round
 
-      sums-known : x.round.known ≡ sums form σ test body
-      sums-known = body_known round κ form σ test body (capped (W * round.times)) x.round en.round
+      sums_known : x.round.known ≡ sums form σ test body
+      sums_known = body_known round κ form σ test body (capped (W * round.times)) x.round en.round
 
-      pub with-last : inner (λ j. ticks π j β body) ≡ x.round.count * last_ticks text π (kind_at rows i) + inner (λ j. ticks π j β (block_at text rows count (i + 1)))
-      with-last =
+      pub with_last_lem : inner (λ j. ticks π j β body) ≡ x.round.count * last_ticks text π (kind_at rows i) + inner (λ j. ticks π j β (block_at text rows count (i + 1)))
+      with_last_lem =
           let p = last_ticks text π (kind_at rows i) in
           ap inner (fun_ext λ j. same.ticked j β)
           ∙ over_add (pass_in x.round x.round.known) x.round.by x.round.count (λ _. p) (λ j. ticks π j β (block_at text rows count (i + 1)))
           ∙ ap (λ z. z + inner (λ j. ticks π j β (block_at text rows count (i + 1)))) (over_same (pass_in x.round x.round.known) x.round.by x.round.count p)
 
-      with-tests : inner (λ j. ticks π j β body) + x.exit.ran.tests * π.test ≡ inner turn
-      with-tests =
+      with_tests : inner (λ j. ticks π j β body) + x.exit.ran.tests * π.test ≡ inner turn
+      with_tests =
           omega (
             arith,
             ap (λ z. z * π.test) en.ran.tests,
@@ -338,18 +338,18 @@ module _ {text : List ℕ} (π : Prices) {rows : List Row} {count : ℕ} (round 
       own_is : capped (x.exit.ran.own * (inner (λ j. ticks π j β body) + x.exit.ran.tests * π.test) + 1 * once π form) ≡ capped (own_ticks π round (tallied t ρ) i e form test body)
       own_is =
           let n = turns form σ test body in
-          let a : x.exit.ran.own ≡ cond (sums form σ test body) 1 n = en.ran.own ∙ ap (λ b. cond b 1 n) sums-known in
-          let g = with-tests ∙ inner-is turn in
+          let a : x.exit.ran.own ≡ cond (sums form σ test body) 1 n = en.ran.own ∙ ap (λ b. cond b 1 n) sums_known in
+          let g = with_tests ∙ inner_is turn in
           let z : x.exit.ran.own * (inner (λ j. ticks π j β body) + x.exit.ran.tests * π.test) ≡ over_passes any form σ test body turn = (λ j. a j * g j) ∙ sym (own_passes round κ form σ test body turn) in
           omega (arith, z, loop_ticks_is π form (over_passes any form σ test body turn))
 
-      all-is : capped (x.exit.ran.all * (inner (λ j. ticks π j β body) + x.exit.ran.tests * π.test) + round.count * once π form) ≡ capped (ticks_of_all π round (tallied t ρ) i e form test body)
-      all-is =
+      all_is : capped (x.exit.ran.all * (inner (λ j. ticks π j β body) + x.exit.ran.tests * π.test) + round.count * once π form) ≡ capped (ticks_of_all π round (tallied t ρ) i e form test body)
+      all_is =
           let s = sums form σ test body in
           let K = pass_in round t.kept in
           let o : ℕ = round.count * once π form in
-          let a : x.exit.ran.all ≡ cond s round.count (capped W) = en.ran.all ∙ ap (λ b. cond b round.count (capped W)) sums-known in
-          let g = with-tests ∙ inner-is turn in
+          let a : x.exit.ran.all ≡ cond s round.count (capped W) = en.ran.all ∙ ap (λ b. cond b round.count (capped W)) sums_known in
+          let g = with_tests ∙ inner_is turn in
           let G = sum_over (first_pass form σ test body) (in_body (round_of round) κ form σ test body).by (in_body (round_of round) κ form σ test body).count turn in
           let f : Pass → ℕ = λ j. over_passes j form σ test body turn in
           let walk : sum_over κ round.by round.count f ≡ cond s round.count W * G = passes_walk (round_of round) κ form σ test body turn ∙ ap (λ z. cond s round.count z * G) turns_are in
@@ -362,27 +362,27 @@ module _ {text : List ℕ} (π : Prices) {rows : List Row} {count : ℕ} (round 
           (λ j. capped (a j * g j + o)) ∙ cap_often round κ form σ test body s round.count W G o ∙ ap (λ z. capped (z + o)) (sym walk ∙ sym past) ∙ ap capped (sym loops)
 
       -- its body may be walked, and has been
-      pub body-walkable : Ready text rows count (i + 1) → FinePrices π → t.loops + loop_count (block_at text rows count i) ≤ 16 → Walkable text π rows count first.next x.round first
-      body-walkable k fine h = lined_walkable k fine en.fine en.lined (omega (arith, mul-le-mul en.fine.few (last_small fine text (kind_at rows i)))) (loop_room h)
+      pub body_walkable : Ready text rows count (i + 1) → FinePrices π → t.loops + loop_count (block_at text rows count i) ≤ 16 → Walkable text π rows count first.next x.round first
+      body_walkable k fine h = lined_walkable k fine en.fine en.lined (omega (arith, mul-le-mul en.fine.few (last_small fine text (kind_at rows i)))) (loop_room h)
 
-      pub body-by : {ρ' : Env} {ranges : List (List ℤ)} {b : LentTally} → ρ' ≡ β → PassedPart text π rows count (i + 1) ρ' x.round first ranges b
+      pub body_by : {ρ' : Env} {ranges : List (List ℤ)} {b : LentTally} → ρ' ≡ β → PassedPart text π rows count (i + 1) ρ' x.round first ranges b
           → Part π x.round x.round.known β (x.round.count * last_ticks text π (kind_at rows i)) (over_of t.over) (first_lines t.lines t.loops ++ (line_for i (trip form σ test body) (turns form σ test body) (capped (W * round.times)) ∷ [])) (t.loops + 1) t.own (block_at text rows count (i + 1)) ranges b
-      body-by {ρ'} {ranges} {b} e p =
+      body_by {ρ'} {ranges} {b} e p =
           let s = x.round.count * last_ticks text π (kind_at rows i) in
           let ls = first_lines t.lines t.loops ++ (line_for i (trip form σ test body) (turns form σ test body) (capped (W * round.times)) ∷ []) in
           subst (λ z. Part π x.round x.round.known z s (over_of t.over) ls (t.loops + 1) t.own (block_at text rows count (i + 1)) ranges b) e (part_of x.round.known s (over_of t.over) ls (t.loops + 1) t.own (en.lined.value _) p)
 
-      pub past-loop : {inner-ranges ranges : List (List ℤ)} {b r : LentTally} {keep : Bool}
+      pub past_loop_lem : {inner-ranges ranges : List (List ℤ)} {b r : LentTally} {keep : Bool}
           → Part π x.round x.round.known β (x.round.count * last_ticks text π (kind_at rows i)) (over_of t.over) (first_lines t.lines t.loops ++ (line_for i (trip form σ test body) (turns form σ test body) (capped (W * round.times)) ∷ [])) (t.loops + 1) t.own (block_at text rows count (i + 1)) inner-ranges b
           → ((G : ℕ) → b.spent ≡ capped G → BlockClosed t b i e (capped (x.exit.ran.own * (G + x.exit.ran.tests * π.test) + 1 * once π form)) (capped (x.exit.ran.all * (G + x.exit.ran.tests * π.test) + round.count * once π form)) keep r)
           → keep ≡ (t.kept && not (starts round.v form test)) && not (assigns round.v body) → EnvIs ranges (outside form σ test body)
           → {os : List ℕ} {sum : ℕ} → NotedFor (length r.own) ρ sum → os ≡ set r.own e sum → PassedBlock text π rows count i ρ round t ranges (with_own r os)
       unfolding and_then rest_of
-      past-loop {ranges} {b} {r} {keep} p f kp s {os} nf wrote =
+      past_loop_lem {ranges} {b} {r} {keep} p f kp s {os} nf wrote =
           let n = turns form σ test body in
           let G = inner (λ j. ticks π j β body) in
           let F = own_ticks π round (tallied t ρ) i e form test body in
-          let c = f G (p.spent ∙ ap capped (sym with-last)) in
+          let c = f G (p.spent ∙ ap capped (sym with_last_lem)) in
           let L : line_for i (trip form σ test body) n (capped (W * round.times)) ≡ capped_line (line (round_of round) (start_pass form test (pass_in round t.kept)) i form σ test body)
           = ap (λ z. line_for i (trip form σ test body) n (capped z)) (sym total_is ∙ ap (λ j. total_of (round_of round) j form σ test body) (sym start_is)) in
           let lined : capped_lines (lines (round_of x.round) (pass_in x.round x.round.known) β (block_at text rows count (i + 1))) ≡ capped_lines (lines (in_body (round_of round) (start_pass form test (pass_in round t.kept)) form σ test body) (first_pass form σ test body) β body)
@@ -392,7 +392,7 @@ module _ {text : List ℕ} (π : Prices) {rows : List Row} {count : ℕ} (round 
           let y : tallied (with_own r os) (env_of ranges) ≡ past_loop π round (tallied t ρ) i e form test body = state_is s.value
           (c.kept ∙ kp)
           (sym (ap₂ (λ a w. and_then a w) en.verdict (same.loops β ∙ p.verdict)))
-          (c.spent ∙ omega (arith, all-is))
+          (c.spent ∙ omega (arith, all_is))
           (c.over.value F own_is ∙ ap (λ w. and_then w (asked 13 e (leb F tick_limit) passed)) (p.over ∙ ap (and_then (over_of t.over)) (sym (same.over β))))
           (ap₂ first_lines c.same c.loops ∙ p.lined ∙ ap₂ (λ a w. (first_lines t.lines t.loops ++ (a ∷ [])) ++ w) L lined)
           (c.loops ∙ p.count ∙ ap (λ m. t.loops + 1 + m) (sym same.count))

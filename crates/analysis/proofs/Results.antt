@@ -30,7 +30,7 @@ use Rattle.analysis_lines.specs.Coded.{first_lines}
 use Rattle.analysis.specs.Whole.{FirstNo, of_loop, of_block, of_file, none, AnalysisOf}
 use Rattle.analysis.proofs.Going.{from_parts, part_of, refused_in}
 use Rattle.analysis.proofs.Totals.{lines_true}
-use Rattle.analysis.proofs.Verdicts.{verdict_loop, verdict_block, verdict-file, verdict-passed}
+use Rattle.analysis.proofs.Verdicts.{verdict_loop, verdict_block, verdict_file, verdict_passed}
 use Rattle.analysis.proofs.Legals.{env_is, file_is, few_in}
 
 -- the one pass of a file's rows
@@ -77,7 +77,7 @@ module _ (π : Prices) (fine : FinePrices π) (text : List ℕ) (ranges : List (
   result t₀ t ls e s f (of_file z l o p) m u k v free =
       let part = part_of false 0 passed [] 0 t₀.own e (s.whole z) in
       record {
-        verdict = moved (verdict π count) ∙ verdict-file π count ρ b part.verdict t.over part.over l (omega (arith, part.spent, over_once (pos 0) (λ j. ticks π j ρ b))) ∙ sym p;
+        verdict = moved (verdict π count) ∙ verdict_file π count ρ b part.verdict t.over part.over l (omega (arith, part.spent, over_once (pos 0) (λ j. ticks π j ρ b))) ∙ sym p;
         ticks = λ w. not_both p w;
         loops = λ w. not_both p w;
         long = λ w. not_both p w;
@@ -89,7 +89,7 @@ module _ (π : Prices) (fine : FinePrices π) (text : List ℕ) (ranges : List (
       let m : ticks π any ρ b ≤ 1_000_000_000_000 = omega (arith, part.spent, over_once (pos 0) (λ j. ticks π j ρ b)) in
       let n : t.spent ≡ ticks π any ρ b = omega (arith, part.spent, over_once (pos 0) (λ j. ticks π j ρ b)) in
       record {
-        verdict = moved (verdict π count) ∙ verdict-passed π count ρ b part.verdict t.over part.over l m ∙ sym p;
+        verdict = moved (verdict π count) ∙ verdict_passed π count ρ b part.verdict t.over part.over l m ∙ sym p;
         ticks = λ w. u w ∙ n ∙ sym (moved (ticks π any));
         loops = λ w. omega (arith, v w, part.count, few_in text ranges vars rows count legal few all);
         long = λ w. part.long;

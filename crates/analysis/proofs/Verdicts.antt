@@ -26,10 +26,10 @@ module _ (π : Prices) (count : ℕ) (ρ : Env) (b : Block) where
       unfolding over_of
       blocks = sym e ∙ (rw (le-ltb o 256 h))
 
-      pub verdict-file : 1_000_000_000_000 < ticks π any ρ b → verdict π count ρ b ≡ refused 13 count
+      pub verdict_file : 1_000_000_000_000 < ticks π any ρ b → verdict π count ρ b ≡ refused 13 count
       unfolding verdict and_then asked tick_limit
-      verdict-file k = rw (l, blocks, lt-leb (ticks π any ρ b) 1_000_000_000_000 k)
+      verdict_file k = rw (l, blocks, lt-leb (ticks π any ρ b) 1_000_000_000_000 k)
 
-      pub verdict-passed : ticks π any ρ b ≤ 1_000_000_000_000 → verdict π count ρ b ≡ passed
+      pub verdict_passed : ticks π any ρ b ≤ 1_000_000_000_000 → verdict π count ρ b ≡ passed
       unfolding verdict and_then asked tick_limit
-      verdict-passed k = rw (l, blocks, le-leb (ticks π any ρ b) 1_000_000_000_000 k)
+      verdict_passed k = rw (l, blocks, le-leb (ticks π any ρ b) 1_000_000_000_000 k)

@@ -70,8 +70,8 @@ module _ (text : List ℕ) (rows : List Row) (count : ℕ) where
       h : i < length (kinds text rows count)
       h = omega (arith, w.long)
 
-      loop-by : (h : LoopHead) → LoopAt (kinds text rows count) i h.form h.test h.last → LoopIs h i (end_at text rows count (i + 1))
-      loop-by h t = rw (add-one i) (record {
+      loop_by : (h : LoopHead) → LoopAt (kinds text rows count) i h.form h.test h.last → LoopIs h i (end_at text rows count (i + 1))
+      loop_by h t = rw (add-one i) (record {
         block = rw (add-one i, add-one (end_at text rows count (suc i))) t.block;
         end = rw (add-one (end_at text rows count (suc i))) t.last;
         first = t.past;
@@ -79,8 +79,8 @@ module _ (text : List ℕ) (rows : List Row) (count : ℕ) where
       })
 
       -- the pick's first part is closed by `end`, or by `else`
-      pick-by : PickAt (kinds text rows count) i → PickIs i (end_at text rows count (i + 1)) (second_at text rows count i) (end_at text rows count (second_at text rows count i))
-      pick-by (alone a b r k e) =
+      pick_by : PickAt (kinds text rows count) i → PickIs i (end_at text rows count (i + 1)) (second_at text rows count i) (end_at text rows count (second_at text rows count i))
+      pick_by (alone a b r k e) =
           let m = end_at text rows count (suc i) in
           let n : m < count = omega (arith, w.long) in
           let q : past_else (kind_at rows m) m ≡ m = past_is m n r in
@@ -95,7 +95,7 @@ module _ (text : List ℕ) (rows : List Row) (count : ℕ) where
             last = omega arith;
             below = n;
           })
-      pick-by (both j p a r b c s k e) =
+      pick_by (both j p a r b c s k e) =
           let n : end_at text rows count (suc j) < count = omega (arith, w.long) in
           let q : past_else (kind_at rows j) j ≡ j + 1 = past_is j (omega arith) r in
           rw (add-one i, p, q, add-one j) (record {
@@ -109,13 +109,13 @@ module _ (text : List ℕ) (rows : List Row) (count : ℕ) where
             below = n;
           })
 
-      law-by : (v : View) → view_at (kinds text rows count) i ≡ v → RowLaw (shape_by v) v i
-      law-by (is_plain p) e = let t = block_plain (kinds text rows count) w.tree w.builds i h p e in record { block = rw (add-one i) t.0; end = rw (add-one i) t.1 }
-      law-by is_pick e = pick-by (block_pick (kinds text rows count) w.tree w.builds i h e)
-      law-by is_else e = let t = block_else (kinds text rows count) w.tree w.builds i h e in record { block = t.0; end = t.1 }
-      law-by is_end e = let t = block_end (kinds text rows count) w.tree w.builds i h e in record { block = t.0; end = t.1 }
-      law-by (is_loop form test last) e = loop-by (record { form = form; test = test; last = last }) (block_loop (kinds text rows count) w.tree w.builds i h form test last e)
+      law_by : (v : View) → view_at (kinds text rows count) i ≡ v → RowLaw (shape_by v) v i
+      law_by (is_plain p) e = let t = block_plain (kinds text rows count) w.tree w.builds i h p e in record { block = rw (add-one i) t.0; end = rw (add-one i) t.1 }
+      law_by is_pick e = pick_by (block_pick (kinds text rows count) w.tree w.builds i h e)
+      law_by is_else e = let t = block_else (kinds text rows count) w.tree w.builds i h e in record { block = t.0; end = t.1 }
+      law_by is_end e = let t = block_end (kinds text rows count) w.tree w.builds i h e in record { block = t.0; end = t.1 }
+      law_by (is_loop form test last) e = loop_by (record { form = form; test = test; last = last }) (block_loop (kinds text rows count) w.tree w.builds i h form test last e)
 
       -- the law of row i
-      pub row-law : RowLaw (shape_by (view_of (kind_of text (kind_at rows i)))) (view_of (kind_of text (kind_at rows i))) i
-      row-law = law-by (view_of (kind_of text (kind_at rows i))) (view_is i l)
+      pub row_law : RowLaw (shape_by (view_of (kind_of text (kind_at rows i)))) (view_of (kind_of text (kind_at rows i))) i
+      row_law = law_by (view_of (kind_of text (kind_at rows i))) (view_is i l)

@@ -20,9 +20,9 @@ use Rattle.analysis_steps.specs.Tree.{Ready, Walked, block_at, head_of}
 use Rattle.analysis_steps.specs.Sets.{set_of, none, with_row, both_of, assigns_from, SetIs}
 use Rattle.analysis_steps.specs.Body.{AtLoop, MovesOf, BodyMoves}
 use Rattle.analysis_steps.proofs.Laws.{PickIs, LoopIs}
-use Rattle.analysis_steps.proofs.Walking.{Walking, begin, loop_at, plain_row, pick-row, loop_row, at-close, at_last}
+use Rattle.analysis_steps.proofs.Walking.{Walking, begin, loop_at, plain_row, pick_row, loop_row, at_close, at_last}
 use Rattle.analysis_steps.proofs.Sets.{from_none, from_plain, from_pick, from_loop, both_loop, body_set}
-use Rattle.analysis_steps.proofs.Stepping.{Stepping, starts_at, closed, ended, plain_step, pick-step, loop-step, row_ends, body_is}
+use Rattle.analysis_steps.proofs.Stepping.{Stepping, starts_at, closed, ended, plain_step, pick_step, loop_step, row_ends, body_is}
 
 -- at row i, the set has what the rows from `at` assign, and s is their step
 pub record Moving (text : List ℕ) (rows : List Row) (count at v : ℕ) (first : List Bool) (i : ℕ) (set : List Bool) (s : Step) : Type 0 where
@@ -36,31 +36,31 @@ module _ {text : List ℕ} (rows : List Row) (count at v : ℕ) (first : List Bo
     begins l = record { long = l; sets = begin rows count assigns_from at (set_of first) r.within; moves = starts_at rows count at v r }
 
     module _ {i : ℕ} {set : List Bool} {s : Step} (k : Moving text rows count at v first i set s) where
-      pub with-plain : i < count → shape_of (kind_at rows i) ≡ Shape.Plain → {m : List Bool} → SetIs m (with_row (set_of set) (plain_of text (kind_at rows i)))
+      pub with_plain : i < count → shape_of (kind_at rows i) ≡ Shape.Plain → {m : List Bool} → SetIs m (with_row (set_of set) (plain_of text (kind_at rows i)))
           → {t : Step} → t ≡ then s (row_step v (plain_of text (kind_at rows i))) → Moving text rows count at v first (i + 1) m t
-      with-plain l h a b = record {
+      with_plain l h a b = record {
         long = a.long;
         sets = rw a.value (plain_row rows count assigns_from at (set_of first) k.sets l r.built h (from_plain _ _ _));
         moves = rw b (plain_step rows count at v r k.moves l h);
       }
 
-      pub with-pick : i < count → {a b : StepOver} {q : ℕ} {m n : List Bool} → PickIs text rows count i a.next q b.next → MovesOf text rows count (i + 1) v set m a → MovesOf text rows count q v m n b
+      pub with_pick : i < count → {a b : StepOver} {q : ℕ} {m n : List Bool} → PickIs text rows count i a.next q b.next → MovesOf text rows count (i + 1) v set m a → MovesOf text rows count q v m n b
           → {t : Step} → t ≡ then s (either a.step b.step) → Moving text rows count at v first (b.next + 1) n t
-      with-pick l u f g h = record {
+      with_pick l u f g h = record {
         long = g.long;
-        sets = rw (g.sets.value, f.sets.value) (pick-row rows count assigns_from at (set_of first) k.sets l r.built u (from_pick _ _ _ _ _));
-        moves = rw h (pick-step rows count at v r k.moves l u (f.moves, f.near) (g.moves, g.near));
+        sets = rw (g.sets.value, f.sets.value) (pick_row rows count assigns_from at (set_of first) k.sets l r.built u (from_pick _ _ _ _ _));
+        moves = rw h (pick_step rows count at v r k.moves l u (f.moves, f.near) (g.moves, g.near));
       }
 
-      pub with-loop : i < count → {b : StepOver} → LoopIs text rows count (head_of text (kind_at rows i)) i b.next → shape_of (kind_at rows i) ≡ Shape.Loop
+      pub with_loop : i < count → {b : StepOver} → LoopIs text rows count (head_of text (kind_at rows i)) i b.next → shape_of (kind_at rows i) ≡ Shape.Loop
           → {z n : List Bool} → set_of z ≡ none → MovesOf text rows count (i + 1) v z n b → {o : List Bool} → SetIs o (with_row (set_of n) (plain_of text (kind_at rows i)))
           → {m : List Bool} → SetIs m (both_of (set_of set) (set_of o)) → {x : Bool} → x ≡ set_of o v → {t : Step} → t ≡ then s (cond x Unknown still) → Moving text rows count at v first (b.next + 1) m t
-      with-loop l u h {z} {n} e g {o} a {m} c f p =
+      with_loop l u h {z} {n} e g {o} a {m} c f p =
           let own = a.value ∙ ap (λ y. with_row y (plain_of text (kind_at rows i))) (g.sets.value ∙ ap (λ y. assigns_from y (block_at text rows count (i + 1))) e) in
           record {
             long = c.long;
             sets = rw (c.value, own, both_loop) (loop_row rows count assigns_from at (set_of first) k.sets l r.built u (from_loop _ _ text _ h _ _));
-            moves = rw p (loop-step rows count at v r k.moves l u (f ∙ ap (λ y. y v) own ∙ body_set v text (kind_at rows i) h i (block_at text rows count (i + 1))));
+            moves = rw p (loop_step rows count at v r k.moves l u (f ∙ ap (λ y. y v) own ∙ body_set v text (kind_at rows i) h i (block_at text rows count (i + 1))));
           }
 
       -- the walk is over
@@ -68,7 +68,7 @@ module _ {text : List ℕ} (rows : List Row) (count at v : ℕ) (first : List Bo
       over x w = record { long = k.long; sets = x; moves = w.0; near = w.1 }
 
       pub closes : i < count → shape_of (kind_at rows i) ≡ Shape.Close → MovesOf text rows count at v first set (record { step = s; next = i })
-      closes l h = over (at-close rows count assigns_from at (set_of first) (from_none _) k.sets l r.built h) (closed rows count at v r k.moves l h)
+      closes l h = over (at_close rows count assigns_from at (set_of first) (from_none _) k.sets l r.built h) (closed rows count at v r k.moves l h)
 
       pub ends : count ≤ i → MovesOf text rows count at v first set (record { step = s; next = i })
       ends l = over (at_last rows count assigns_from at (set_of first) (from_none _) k.sets r.built l) (ended rows count at v r k.moves l)

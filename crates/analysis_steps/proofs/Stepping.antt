@@ -24,7 +24,7 @@ use Rattle.table.specs.Shapes.{shape_of, last_row, plain_of}
 use Rattle.analysis_steps.specs.Tree.{Ready, Walked, block_at, head_of}
 use Rattle.analysis_steps.specs.Body.{body_at}
 use Rattle.analysis_steps.proofs.Laws.{PickIs, LoopIs}
-use Rattle.analysis_steps.proofs.Walking.{Walking, begin, plain_row, pick-row, loop_row, at-close, at_last}
+use Rattle.analysis_steps.proofs.Walking.{Walking, begin, plain_row, pick_row, loop_row, at_close, at_last}
 use Rattle.analysis_steps.proofs.Sets.{head_row, loop_assigns}
 
 -- the step of one row within its limits
@@ -66,7 +66,7 @@ module _ {text : List ℕ} (rows : List Row) (count at v : ℕ) where
 
       pub closed : i < count → shape_of (kind_at rows i) ≡ Shape.Close → Walked text rows count at i s (step v) × EndsWithin (i - at) s
       unfolding step_from
-      closed l h = (at-close rows count (steps v) at still refl k.walk l r.built h, k.ends)
+      closed l h = (at_close rows count (steps v) at still refl k.walk l r.built h, k.ends)
 
       pub ended : count ≤ i → Walked text rows count at i s (step v) × EndsWithin (i - at) s
       unfolding step_from
@@ -92,16 +92,16 @@ module _ {text : List ℕ} (rows : List Row) (count at v : ℕ) where
           pub pick_room : EndsWithin 512 (either x y)
           pick_room = ends_more (e - i) 512 (omega arith) (either x y) either_room
 
-          pub pick-step : Stepping text rows count at v (e + 1) (then s (either x y))
+          pub pick_step : Stepping text rows count at v (e + 1) (then s (either x y))
           unfolding step_from
-          pick-step =
+          pick_step =
               next (either x y) (e - i) (e + 1) (omega arith) either_room
-              (pick-row rows count (steps v) at still k.walk l r.built t (λ rest. rw (f.0.value, g.0.value) refl))
+              (pick_row rows count (steps v) at still k.walk l r.built t (λ rest. rw (f.0.value, g.0.value) refl))
 
-        pub loop-step : {e : ℕ} → LoopIs text rows count (head_of text (kind_at rows i)) i e → {x : Bool} → x ≡ assigns v (body_at text rows count i)
+        pub loop_step : {e : ℕ} → LoopIs text rows count (head_of text (kind_at rows i)) i e → {x : Bool} → x ≡ assigns v (body_at text rows count i)
             → Stepping text rows count at v (e + 1) (then s (cond x Unknown still))
         unfolding step_from
-        loop-step {e} t {x} f =
+        loop_step {e} t {x} f =
             next (cond x Unknown still) 1 (e + 1) (omega arith) (ends_only 1 x Unknown tt)
             (loop_row rows count (steps v) at still k.walk l r.built t
             (λ rest. rw (loop_assigns v text (kind_at rows i) i (block_at text rows count (i + 1)), f) refl))

@@ -10,7 +10,7 @@ use Rattle.table.specs.Code.{kind_at}
 use Rattle.table.specs.Shapes.{shape_of, plain_of, past_else}
 use Rattle.table.proofs.Laws.{shape_text}
 use Rattle.analysis_steps.specs.Tree.{Ready, Walked, Whole, block_at, end_at, head_of, form_of, test_of, with_last_of}
-use Rattle.analysis_steps.proofs.Laws.{RowLaw, PickIs, LoopIs, ClosedAt, row-law, last_law}
+use Rattle.analysis_steps.proofs.Laws.{RowLaw, PickIs, LoopIs, ClosedAt, row_law, last_law}
 
 -- the rows build from any row on
 pub ready : {text : List ℕ} {rows : List Row} {count i j : ℕ} → Ready text rows count i → j ≤ count → Ready text rows count j
@@ -26,7 +26,7 @@ pub record Walking {A B : Type 0} (text : List ℕ) (rows : List Row) (count : �
 module _ {text : List ℕ} (rows : List Row) (count : ℕ) where
   module _ (i : ℕ) (l : i < count) (built : Whole text rows count) where
     law_at : (s : Shape) → shape_of (kind_at rows i) ≡ s → RowLaw text rows count s (view_of (kind_of text (kind_at rows i))) i
-    law_at s e = rw (shape_text text (kind_at rows i) ∙ e) at (row-law text rows count built i l)
+    law_at s e = rw (shape_text text (kind_at rows i) ∙ e) at (row_law text rows count built i l)
 
     -- what a walk knows of a pick whose first part is closed at m, whose second part starts at s and ends at e
     pub pick_at : shape_of (kind_at rows i) ≡ Shape.Branch → {m s e : ℕ} → m ≡ end_at text rows count (i + 1) → s ≡ past_else (kind_at rows m) m → e ≡ end_at text rows count s → PickIs text rows count i m s e
@@ -48,12 +48,12 @@ module _ {text : List ℕ} (rows : List Row) (count : ℕ) where
           record { low = omega arith; high = omega arith; value = k.value ∙ ap (f x) t.block ∙ g _; place = k.place ∙ t.end }
 
       -- a plain row is next
-      pub plain-next : shape_of (kind_at rows i) ≡ Shape.Plain → f x₀ (block_at text rows count at) ≡ f x (plain i (plain_of text (kind_at rows i)) (block_at text rows count (i + 1)))
-      plain-next h = k.value ∙ ap (f x) (law_at i l built Shape.Plain h).block
+      pub plain_next : shape_of (kind_at rows i) ≡ Shape.Plain → f x₀ (block_at text rows count at) ≡ f x (plain i (plain_of text (kind_at rows i)) (block_at text rows count (i + 1)))
+      plain_next h = k.value ∙ ap (f x) (law_at i l built Shape.Plain h).block
 
-      pub pick-row : {m s e : ℕ} → PickIs text rows count i m s e → {y : A}
+      pub pick_row : {m s e : ℕ} → PickIs text rows count i m s e → {y : A}
           → ((rest : Block) → f x (pick i e (block_at text rows count (i + 1)) (block_at text rows count s) rest) ≡ f y rest) → Walking text rows count f at x₀ (e + 1) y
-      pick-row t g =
+      pick_row t g =
           record { low = omega arith; high = omega arith; value = k.value ∙ ap (f x) t.block ∙ g _; place = k.place ∙ t.end }
 
       pub loop_row : {e : ℕ} → LoopIs text rows count (head_of text (kind_at rows i)) i e → {y : A}
@@ -67,8 +67,8 @@ module _ {text : List ℕ} (rows : List Row) (count : ℕ) where
       stopped : ClosedAt text rows count i → Walked text rows count at i y (f x₀)
       stopped t = record { value = sym (k.value ∙ ap (f x) t.block ∙ none); place = sym (k.place ∙ t.end); low = k.low; high = k.high }
 
-      pub at-close : i < count → Whole text rows count → shape_of (kind_at rows i) ≡ Shape.Close → Walked text rows count at i y (f x₀)
-      at-close l built h = stopped (law_at i l built Shape.Close h)
+      pub at_close : i < count → Whole text rows count → shape_of (kind_at rows i) ≡ Shape.Close → Walked text rows count at i y (f x₀)
+      at_close l built h = stopped (law_at i l built Shape.Close h)
 
       pub at_last : Whole text rows count → count ≤ i → Walked text rows count at i y (f x₀)
       at_last built l = stopped (let e : i ≡ count = omega arith in rw e (last_law text rows count built))

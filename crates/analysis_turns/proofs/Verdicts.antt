@@ -31,33 +31,33 @@ module _ (τ : Trip) where
     refused_8 a = (λ i. rw (z, a))
 
     module _ (a : known τ.step ≡ true) where
-      pub refused-9 : moving τ.step ≡ false → FigureOf τ (Figure.Refused 9)
+      pub refused_9 : moving τ.step ≡ false → FigureOf τ (Figure.Refused 9)
       unfolding loop_verdict asked
-      refused-9 b = (λ i. rw (z, a, b))
+      refused_9 b = (λ i. rw (z, a, b))
 
       module _ (b : moving τ.step ≡ true) where
-        pub refused-10 : τ.keeps ≡ false → FigureOf τ (Figure.Refused 10)
+        pub refused_10 : τ.keeps ≡ false → FigureOf τ (Figure.Refused 10)
         unfolding loop_verdict asked
-        refused-10 d = (λ i. rw (z, a, b, d))
+        refused_10 d = (λ i. rw (z, a, b, d))
 
         module _ (d : τ.keeps ≡ true) where
-          pub refused-11 : suits τ.step (sort τ.comparison) ≡ false → FigureOf τ (Figure.Refused 11)
+          pub refused_11 : suits τ.step (sort τ.comparison) ≡ false → FigureOf τ (Figure.Refused 11)
           unfolding loop_verdict asked
-          refused-11 e = (λ i. rw (z, a, b, d, e))
+          refused_11 e = (λ i. rw (z, a, b, d, e))
 
           -- r: what the first counted test sees; m: the limit's range; x: its end
           module _ (e : suits τ.step (sort τ.comparison) ≡ true) (r m : Range) (x : ℤ) (start : r ≡ first_of τ) (same : m ≡ τ.limit) (end : x ≡ edge_of τ) where
-            figure-is : has_figure τ.step (sort τ.comparison) τ.start r m x ≡ has_figure τ.step (sort τ.comparison) τ.start (first_of τ) τ.limit (edge_of τ)
-            figure-is = λ j. has_figure τ.step (sort τ.comparison) τ.start (start j) (same j) (end j)
+            figure_is : has_figure τ.step (sort τ.comparison) τ.start r m x ≡ has_figure τ.step (sort τ.comparison) τ.start (first_of τ) τ.limit (edge_of τ)
+            figure_is = λ j. has_figure τ.step (sort τ.comparison) τ.start (start j) (same j) (end j)
 
-            pub refused-12 : has_figure τ.step (sort τ.comparison) τ.start r m x ≡ false → FigureOf τ (Figure.Refused 12)
+            pub refused_12 : has_figure τ.step (sort τ.comparison) τ.start r m x ≡ false → FigureOf τ (Figure.Refused 12)
             unfolding loop_verdict asked
-            refused-12 h = (λ i. rw (z, a, b, d, e, sym figure-is ∙ h))
+            refused_12 h = (λ i. rw (z, a, b, d, e, sym figure_is ∙ h))
 
             pub accepted : has_figure τ.step (sort τ.comparison) τ.start r m x ≡ true → (k : ℕ) → k ≡ while_turns τ.step (sort τ.comparison) r m x → (t : ℕ) → t ≡ led τ.lead (sort τ.comparison) x k
                 → FigureOf τ (Figure.Turns t)
             unfolding loop_verdict asked turns_of
             accepted h k w t p = (
-              (λ i. rw (z, a, b, d, e, sym figure-is ∙ h)),
+              (λ i. rw (z, a, b, d, e, sym figure_is ∙ h)),
               p ∙ ap₂ (led τ.lead (sort τ.comparison)) end (w ∙ (λ j. while_turns τ.step (sort τ.comparison) (start j) (same j) (end j))),
             )

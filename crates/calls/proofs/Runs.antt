@@ -50,19 +50,19 @@ module _ (prices : List ℕ) (script : Script) (count : ℕ) (s : Figures) (ls :
       passes : store_verdict 0 script.ranges store ≡ Passed
       passes = sym asked ∙ y
 
-      pub runs-from : Runnable (length store) script.rows
-      runs-from = subst (λ k. Runnable k script.rows) (sym (store_in script store passes).whole) (runnable script (is_accepted prices script count s ls found z legal))
+      pub runs_from : Runnable (length store) script.rows
+      runs_from = subst (λ k. Runnable k script.rows) (sym (store_in script store passes).whole) (runnable script (is_accepted prices script count s ls found z legal))
 
       -- the run with the smaller of the allowance and the report's ticks is the run
-      same-run : Priced prices → run_script (prices_of prices) script store picks allowance ≡ run_script (prices_of prices) script store picks (min allowance s.ticks)
+      same_run : Priced prices → run_script (prices_of prices) script store picks allowance ≡ run_script (prices_of prices) script store picks (min allowance s.ticks)
       unfolding run_script
-      same-run q =
+      same_run q =
           run_capped (prices_of prices) (fine_prices prices q).test.some script (is_accepted prices script count s ls found z legal) store (store_in script store passes) picks allowance
           ∙ ap (λ t. run_script (prices_of prices) script store picks (min allowance t)) (sym (found.figures.ticks z))
 
-      pub replied-run : Priced prices → run_reply prices (judged_script prices script) store picks allowance ≡ ran_script (prices_of prices) script store picks (min allowance s.ticks)
+      pub replied_run : Priced prices → run_reply prices (judged_script prices script) store picks allowance ≡ ran_script (prices_of prices) script store picks (min allowance s.ticks)
       unfolding stored ran_script
-      replied-run q = replied Passed y ∙ ap (λ (a : Answer). ran a (counts_at a.entries (loop_rows 0 script.rows))) (same-run q)
+      replied_run q = replied Passed y ∙ ap (λ (a : Answer). ran a (counts_at a.entries (loop_rows 0 script.rows))) (same_run q)
 
 -- the run of the rows is the answer
 pub ran_all : (prices : List ℕ) → Priced prices → (π : Prices) → π ≡ prices_of prices → (script : Script) (count : ℕ) (s : Figures) (ls : List (List ℕ)) → FiguresFound prices script count s ls
@@ -72,4 +72,4 @@ pub ran_all : (prices : List ℕ) → Priced prices → (π : Prices) → π ≡
 unfolding ran_script run_script
 ran_all prices q π f script count s ls found store picks allowance z v asked y legal least e new o =
     subst (λ r. RanAs r store new o)
-    ((λ j. ran_rows (f j) script.rows store picks (e j)) ∙ sym (replied-run prices script count s ls found store picks allowance z v asked y legal q))
+    ((λ j. ran_rows (f j) script.rows store picks (e j)) ∙ sym (replied_run prices script count s ls found store picks allowance z v asked y legal q))

@@ -38,7 +38,7 @@ use Rattle.calls_turns.specs.declared.AfterTurn.{AfterTurn}
 use Rattle.calls_turns.specs.Progress.{is_waiting, start_progress, FrameFits, new_frame, turn_to, MayTurn, Turned, Stands}
 use Rattle.calls_frames.specs.Playing.{FramesReady, Uncounted, PlayedOut}
 use Rattle.calls_turns.proofs.Turning.{may_turn, went_on, stores_long, others_keep}
-use Rattle.calls_turns.proofs.Standing.{is-done, stands_still, takes-still, not_done, stands_on, takes-on, not_due, may_run_on}
+use Rattle.calls_turns.proofs.Standing.{is_done, stands_still, takes_still, not_done, stands_on, takes_on, not_due, may_run_on}
 
 -- one script more
 module _ (π : Prices) (q n : ℕ) where
@@ -182,24 +182,24 @@ module _ (prices : List ℕ) (l : Lent) (q : ℕ) (ps : List Frames.Progress) (t
       here = h.due k (omega arith) inside
 
       -- its ticks so far are few
-      pub few-left : x.machine.left ≤ 1_000_000_000_000
-      few-left = omega (arith, here.left, mul-le-mul_right q here.late, h.frames)
+      pub few_left : x.machine.left ≤ 1_000_000_000_000
+      few_left = omega (arith, here.left, mul-le-mul_right q here.late, h.frames)
 
-      next-taken : (r : ℕ) → ticks_in π q (role k) n ≡ r → f.ticks + r ≡ together π q (take (k + 1) ps) n
-      next-taken r e = omega (arith, h.taken, together_more π q n ps k (omega (arith, scripts_count)))
+      next_taken : (r : ℕ) → ticks_in π q (role k) n ≡ r → f.ticks + r ≡ together π q (take (k + 1) ps) n
+      next_taken r e = omega (arith, h.taken, together_more π q n ps k (omega (arith, scripts_count)))
 
       -- it is finished
-      pub playing-still : is_waiting x.machine.status ≡ false → Playing stores counts xs m f (k + 1)
-      playing-still s = record {
+      pub playing_still : is_waiting x.machine.status ≡ false → Playing stores counts xs m f (k + 1)
+      playing_still s = record {
         frames = h.frames;
         upto = omega arith;
         sizes = h.sizes;
         had = λ j g. by j g (ℕ_discrete j k);
         due = λ j g i. h.due j (omega arith) i;
-        taken = omega (arith, next-taken 0 (takes-still π q (role k) n x _ _ _ here s));
+        taken = omega (arith, next_taken 0 (takes_still π q (role k) n x _ _ _ here s));
         few = omega (arith, h.few);
         most = h.most;
-        waits = waits_still n k h.waits (is-done π q (role k) (suc n) x _ _ _ (stands_still π q (role k) n x _ _ _ here s) s);
+        waits = waits_still n k h.waits (is_done π q (role k) (suc n) x _ _ _ (stands_still π q (role k) n x _ _ _ here s) s);
       }
         where
           by : (j : ℕ) → j < k + 1 → Dec (j ≡ k) → Here stores counts xs j (suc n)
@@ -208,25 +208,25 @@ module _ (prices : List ℕ) (l : Lent) (q : ℕ) (ps : List Frames.Progress) (t
 
       -- it waits
       module _ (s : is_waiting x.machine.status ≡ true) where
-        abbrev h-k : Held
-        h-k = get_or all.each k nobody
+        abbrev h_k : Held
+        h_k = get_or all.each k nobody
 
-        pub ready-to-turn : MayTurn π l.files tables stores l.picks h-k (with_ticks q x.machine) (get_or counts k [])
-        ready-to-turn =
+        pub ready_to_turn : MayTurn π l.files tables stores l.picks h_k (with_ticks q x.machine) (get_or counts k [])
+        ready_to_turn =
             let at = held_at k inside in
-            may_turn π l q on.fits tables on.eight stores h.sizes.2 k inside h-k at.places _ _
+            may_turn π l q on.fits tables on.eight stores h.sizes.2 k inside h_k at.places _ _
             (may_run_on π one (role k) (accepted_at k inside) _ (inside_at k inside) _ (plays k inside).is q on.fits.tick on.fits.small n h.frames x _ _ here s (part_same k inside stores h.sizes.2) _ _ _ at.held)
 
-        module _ (r : Machine) (stores' : List ℤ) (table : List (List ℕ)) (turned : Turned π l.files tables stores stores' l.picks h-k (with_ticks q x.machine) r (get_or counts k []) table)
+        module _ (r : Machine) (stores' : List ℤ) (table : List (List ℕ)) (turned : Turned π l.files tables stores stores' l.picks h_k (with_ticks q x.machine) r (get_or counts k []) table)
             (a : AfterTurn) (turn : a ≡ turn_to x.machine r q f) where
           abbrev pub x' : Progress
           x' = record { machine = r; frame = n + 1 }
 
-          went : WentOn π (script_in (part_of l.file_lengths k l.files) (part_of table_lengths k tables) h-k.count) (with_ticks q x.machine) r (part_of l.store_lengths k stores) (part_of l.store_lengths k stores') (part_of l.pick_lengths k l.picks) (get_or counts k []) table
-          went = went_on π l q on.fits tables on.eight stores h.sizes.2 k inside h-k (held_at k inside).places _ _ stores' r table turned
+          went : WentOn π (script_in (part_of l.file_lengths k l.files) (part_of table_lengths k tables) h_k.count) (with_ticks q x.machine) r (part_of l.store_lengths k stores) (part_of l.store_lengths k stores') (part_of l.pick_lengths k l.picks) (get_or counts k []) table
+          went = went_on π l q on.fits tables on.eight stores h.sizes.2 k inside h_k (held_at k inside).places _ _ stores' r table turned
 
-          now-here : Stands π q (role k) (suc n) x' (part_of l.store_lengths k stores') (part_of l.pick_lengths k l.picks) table
-          now-here = stands_on π q (role k) n x _ _ _ here s _ (held_at k inside).held.rows _ _ x' went refl
+          now_here : Stands π q (role k) (suc n) x' (part_of l.store_lengths k stores') (part_of l.pick_lengths k l.picks) table
+          now_here = stands_on π q (role k) n x _ _ _ here s _ (held_at k inside).held.rows _ _ x' went refl
 
           -- the others
           other : (j i : ℕ) → j < N → (j ≡ k → ⊥) → Here stores counts xs j i → Here stores' (set counts k table) (set xs k x') j i
@@ -234,28 +234,28 @@ module _ (prices : List ℕ) (l : Lent) (q : ℕ) (ps : List Frames.Progress) (t
               rw (
                 get_or-set_other xs k j x' start_progress f,
                 get_or-set_other counts k j table [] f,
-                others_keep π l q on.fits tables on.eight stores h.sizes.2 k inside h-k (held_at k inside).places _ _ stores' r table turned j (omega (arith, on.fits.stores)) f,
+                others_keep π l q on.fits tables on.eight stores h.sizes.2 k inside h_k (held_at k inside).places _ _ stores' r table turned j (omega (arith, on.fits.stores)) f,
               )
               z
 
           this : Here stores' (set counts k table) (set xs k x') k (suc n)
-          this = rw (get_or-set_same xs k x' start_progress (omega (arith, h.sizes.0, on.fits.few)), get_or-set_same counts k table [] (omega (arith, h.sizes.1, on.fits.few))) now-here
+          this = rw (get_or-set_same xs k x' start_progress (omega (arith, h.sizes.0, on.fits.few)), get_or-set_same counts k table [] (omega (arith, h.sizes.1, on.fits.few))) now_here
 
-          pub playing-on : Playing stores' (set counts k table) (set xs k a.progress) m a.frame (k + 1)
-          playing-on = rw turn (record {
+          pub playing_on : Playing stores' (set counts k table) (set xs k a.progress) m a.frame (k + 1)
+          playing_on = rw turn (record {
             frames = h.frames;
             upto = omega arith;
             sizes = (
               length-set xs k x' ∙ h.sizes.0,
               length-set counts k table ∙ h.sizes.1,
-              stores_long π l q on.fits tables on.eight stores h.sizes.2 k inside h-k (held_at k inside).places _ _ stores' r table turned ∙ h.sizes.2,
+              stores_long π l q on.fits tables on.eight stores h.sizes.2 k inside h_k (held_at k inside).places _ _ stores' r table turned ∙ h.sizes.2,
             );
             had = λ j g. by j g (ℕ_discrete j k);
             due = λ j g i. other j n i (λ z. omega arith) (h.due j (omega arith) i);
-            taken = next-taken _ (takes-on π q (role k) n x _ _ _ here s _ (held_at k inside).held.rows _ _ x' went);
-            few = omega (arith, h.few, few-left, on.fits.small);
+            taken = next_taken _ (takes_on π q (role k) n x _ _ _ here s _ (held_at k inside).held.rows _ _ x' went);
+            few = omega (arith, h.few, few_left, on.fits.small);
             most = h.most;
-            waits = waits_more n k h.waits (is_waiting r.status) (is-done π q (role k) (suc n) x' _ _ _ now-here) (not_done π q (role k) (suc n) x' _ _ _ now-here);
+            waits = waits_more n k h.waits (is_waiting r.status) (is_done π q (role k) (suc n) x' _ _ _ now_here) (not_done π q (role k) (suc n) x' _ _ _ now_here);
           })
             where
               by : (j : ℕ) → j < k + 1 → Dec (j ≡ k) → Here stores' (set counts k table) (set xs k x') j (suc n)
@@ -264,19 +264,19 @@ module _ (prices : List ℕ) (l : Lent) (q : ℕ) (ps : List Frames.Progress) (t
 
     -- ---- the end of a frame
     module _ (past : N ≤ k) where
-      frame-most : (a : ℕ) → a ≡ max m f.ticks → a ≡ most π q ps (suc n)
+      frame_most : (a : ℕ) → a ≡ max m f.ticks → a ≡ most π q ps (suc n)
       unfolding most
-      frame-most a e =
+      frame_most a e =
           let whole : together π q (take k ps) n ≡ together π q ps n = ap (λ z. together π q z n) (take_all k ps (omega (arith, scripts_count))) in
           omega (arith, h.most, h.taken)
 
       -- all are finished
-      pub playing-out : f.waits ≡ false → (a : ℕ) → a ≡ max m f.ticks → PlayedOut prices l q ps (record { progress = xs; most = a }) stores counts
-      playing-out e a g = record {
+      pub playing_out : f.waits ≡ false → (a : ℕ) → a ≡ max m f.ticks → PlayedOut prices l q ps (record { progress = xs; most = a }) stores counts
+      playing_out e a g = record {
         n = suc n;
         few = omega (arith, h.frames, on.fits.small, suc-mul n q);
         done = none h.waits e;
-        most = frame-most a g;
+        most = frame_most a g;
         long = h.sizes.2;
         each = λ j g. h.had j (omega arith);
       }
@@ -286,9 +286,9 @@ module _ (prices : List ℕ) (l : Lent) (q : ℕ) (ps : List Frames.Progress) (t
           none (one_waits i u g) z j e = absurd (let y : ◌≡◌ {A = ℕ} 0 1 = cc in omega arith)
 
       -- one waits: the next frame
-      pub playing-frame : f.waits ≡ true → (a : ℕ) → a ≡ max m f.ticks → Playing stores counts xs a (new_frame (n + 1)) 0
+      pub playing_frame : f.waits ≡ true → (a : ℕ) → a ≡ max m f.ticks → Playing stores counts xs a (new_frame (n + 1)) 0
       unfolding together
-      playing-frame e a g = record {
+      playing_frame e a g = record {
         frames = one_more_lem h.waits e;
         upto = omega arith;
         sizes = h.sizes;
@@ -296,7 +296,7 @@ module _ (prices : List ℕ) (l : Lent) (q : ℕ) (ps : List Frames.Progress) (t
         due = λ j g i. rw add-one (h.had j (omega arith));
         taken = refl;
         few = omega arith;
-        most = rw add-one (frame-most a g);
+        most = rw add-one (frame_most a g);
         waits = none_waits λ j g. absurd (omega arith);
       }
         where

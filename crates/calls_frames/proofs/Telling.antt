@@ -123,17 +123,17 @@ module _ (π : Prices) (q : ℕ) (p : Frames.Progress) (n : ℕ) (x : Progress) 
         record {
           frame = a.frame ∙ sym frame_is;
           verdict = a.verdict;
-          ending = ap (λ (z : Ran). z.ending) (is-ran a) ∙ sym ending_is;
-          row = ap (λ (z : Ran). z.row) (is-ran a) ∙ sym row_is;
-          ticks = ap (λ (z : Ran). z.ticks) (is-ran a) ∙ sym ticks_are;
-          used = ap (λ (z : Ran). z.used) (is-ran a) ∙ sym used_is;
+          ending = ap (λ (z : Ran). z.ending) (is_ran a) ∙ sym ending_is;
+          row = ap (λ (z : Ran). z.row) (is_ran a) ∙ sym row_is;
+          ticks = ap (λ (z : Ran). z.ticks) (is_ran a) ∙ sym ticks_are;
+          used = ap (λ (z : Ran). z.used) (is_ran a) ∙ sym used_is;
           loops = l.number ∙ sym (ap length counts_are ∙ counts_length c (loop_rows 0 p.script.rows));
           counts = l.counts ∙ sym counts_are;
           rest = l.rest;
         }
       where
-        is-ran : AnsweredBy q x t count counts r → record { ending = r.outcome.ending; row = r.outcome.row; ticks = r.outcome.ticks; used = r.outcome.used } ≡ ran_by (Over e i) m (x.frame * q)
-        is-ran a = a.ran ∙ ap (λ z. ran_by z m (x.frame * q)) status
+        is_ran : AnsweredBy q x t count counts r → record { ending = r.outcome.ending; row = r.outcome.row; ticks = r.outcome.ticks; used = r.outcome.used } ≡ ran_by (Over e i) m (x.frame * q)
+        is_ran a = a.ran ∙ ap (λ z. ran_by z m (x.frame * q)) status
 
   -- it is over
   pub told_one : (file t : List ℕ) (count : ℕ) → HeldAs file p.script count t → (r : code.Played) → AnsweredBy q x t count counts r → length store ≡ length p.script.ranges
@@ -141,13 +141,13 @@ module _ (π : Prices) (q : ℕ) (p : Frames.Progress) (n : ℕ) (x : Progress) 
   unfolding stopped
   told_one file t count held r a size = by m.status refl s.stand
     where
-      no-more-place : {A : Type 0} {z : Place} → P.stand ≡ more z → A
-      no-more-place e = absurd (subst Done e done)
+      no_more_place : {A : Type 0} {z : Place} → P.stand ≡ more z → A
+      no_more_place e = absurd (subst Done e done)
 
       by : (y : Status) → m.status ≡ y → P.stand ≡ stand_by y m store picks c → ToldPlayed r (played_of q P) × ((played_of q P).store ≡ store)
-      by Going e at = no-more-place at
+      by Going e at = no_more_place at
       by (Over Ended i) e at = (told_so Ended i at e file t count held r a, store_is Ended i at size)
-      by (Over Spent i) e at = no-more-place at
+      by (Over Spent i) e at = no_more_place at
       by (Over Ending.Range i) e at = (told_so Ending.Range i at e file t count held r a, store_is Ending.Range i at size)
       by (Over NoPick i) e at = (told_so NoPick i at e file t count held r a, store_is NoPick i at size)
 

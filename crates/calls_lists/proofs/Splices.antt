@@ -70,10 +70,10 @@ module _ {A : Type 0} (lengths : List ℕ) (k : ℕ) (s : Extent) (extent : Exte
     where
       by : (b : Bool) → (T b → j < k) → (T (not b) → k ≤ j) → part_of lengths j result ≡ part_of lengths j xs
       by true f g = splice_before xs ys s.from (s.to - s.from) size fits (total (take j lengths)) (get_or lengths j 0) (omega (arith, sum_before lengths j k (f tt) inside, extent.from))
-      by false f g = splice_after xs ys s.from (s.to - s.from) size fits (total (take j lengths)) (get_or lengths j 0) (omega (arith, sum_before lengths k j (le-ne (g tt)) l, extent.from, extent.to))
+      by false f g = splice_after xs ys s.from (s.to - s.from) size fits (total (take j lengths)) (get_or lengths j 0) (omega (arith, sum_before lengths k j (le_ne (g tt)) l, extent.from, extent.to))
         where
-          le-ne : k ≤ j → k < j
-          le-ne h = go (ℕ_discrete j k)
+          le_ne : k ≤ j → k < j
+          le_ne h = go (ℕ_discrete j k)
             where
               go : Dec (j ≡ k) → k < j
               go (yes e) = absurd (other e)

@@ -134,30 +134,30 @@ module _ {script : Script} {text t : List ℕ} {by : Paced} {table : List (List 
       ticks_are : s.ticks ≡ m.left - r.machine.left
       ticks_are = says.ticks ∙ (λ j. (sym is j).left - left_of_lem r.machine store' picks (tally_of heads counts') r.full r.machine.status j)
 
-      used-are : length s.used ≡ r.machine.used
-      used-are = says.used ∙ omega (arith, ap length (unused_of r.machine store' picks (tally_of heads counts') r.full r.machine.status), length-drop r.machine.used picks, done.used)
+      used_are : length s.used ≡ r.machine.used
+      used_are = says.used ∙ omega (arith, ap length (unused_of r.machine store' picks (tally_of heads counts') r.full r.machine.status), length-drop r.machine.used picks, done.used)
 
-      fired-are : length s.cues ≡ r.fired
-      fired-are = ap length says.cues_are ∙ length-take-le r.fired cues' (omega (arith, done.few, done.long))
+      fired_are : length s.cues ≡ r.fired
+      fired_are = ap length says.cues_are ∙ length-take-le r.fired cues' (omega (arith, done.few, done.long))
 
       counts_are : counts_at_stand s.stand ≡ tally_of heads counts'
       counts_are = says.stand.counts ∙ counts_of_lem r.machine store' picks (tally_of heads counts') (at ns 3) r.full r.machine.status
 
-      pub ticks-fit : r.machine.left ≤ m.left
-      ticks-fit = done.left
+      pub ticks_fit : r.machine.left ≤ m.left
+      ticks_fit = done.left
 
-      pub used-fit : r.machine.used ≤ length picks
-      used-fit = done.used
+      pub used_fit : r.machine.used ≤ length picks
+      used_fit = done.used
 
-      pub ticks-least : m.left ≤ 1_001_000
-      ticks-least = omega (arith, ap (λ (k : Machine). k.left) is, machine_asks.1, g.q, given_most (at ns 0) by.q)
+      pub ticks_least : m.left ≤ 1_001_000
+      ticks_least = omega (arith, ap (λ (k : Machine). k.left) is, machine_asks.1, g.q, given_most (at ns 0) by.q)
 
       module _ (listed : Loops) (heads-listed : HeadCounts (loop_rows 0 (script_in text t by.count)) (tally_of (loop_rows 0 (script_in text t by.count)) counts') listed) where
         told_loops : HeadCounts heads (tally_of heads counts') listed
         told_loops = subst (λ rs. HeadCounts (loop_rows 0 rs) (tally_of (loop_rows 0 rs) counts') listed) (sym g.rows) heads-listed
 
-        pub listed-few : listed.count ≤ 16
-        listed-few = omega (arith, told_loops.number, g.heads, g.asked.few)
+        pub listed_few : listed.count ≤ 16
+        listed_few = omega (arith, told_loops.number, g.heads, g.asked.few)
 
         module _ (rest : Settled) (settled : SettledAs r.full r.machine.status r.machine (at ns 3) rest) (ns' : List ℕ) where
           abbrev standing : Standing
@@ -169,14 +169,14 @@ module _ {script : Script} {text t : List ℕ} {by : Paced} {table : List (List 
               let h = says.stand in
               (a ∙ sym h.status, b ∙ sym h.place, c ∙ sym h.phase, d ∙ sym h.carried)
 
-          numbers-are : WrittenAs standing by.ticks (first_lines table listed.count) listed counts' ns'
+          numbers_are : WrittenAs standing by.ticks (first_lines table listed.count) listed counts' ns'
               → ns' ≡ state_numbers by.prices script (at ns 4 + s.ticks) (at ns 5 + length s.used) s.stand
           unfolding state_numbers
-          numbers-are w =
+          numbers_are w =
               let (a, b, c, d) = kept in
               let lines : first_lines table listed.count ≡ report_lines script = ap (first_lines table) (told_loops.number ∙ g.heads) ∙ g.asked.lines in
               w heads (λ j k. heads_rise script.rows 0 j k) told_loops
-              ∙ (λ i. (a i ∷ b i ∷ c i ∷ d i ∷ min (at ns 4 + sym ticks_are i) (g.asked.ticks i) ∷ min (at ns 5 + sym used-are i) (min (at ns 4 + sym ticks_are i) (g.asked.ticks i)) ∷ replicate 10 0)
+              ∙ (λ i. (a i ∷ b i ∷ c i ∷ d i ∷ min (at ns 4 + sym ticks_are i) (g.asked.ticks i) ∷ min (at ns 5 + sym used_are i) (min (at ns 4 + sym ticks_are i) (g.asked.ticks i)) ∷ replicate 10 0)
               ++ (loop_numbers (lines i) heads (sym counts_are i) ++ replicate (48 - length (loop_numbers (lines i) heads (sym counts_are i))) 0))
 
           pub answers : WrittenAs standing by.ticks (first_lines table listed.count) listed counts' ns' → length store' ≡ length store
@@ -200,14 +200,14 @@ module _ {script : Script} {text t : List ℕ} {by : Paced} {table : List (List 
               row = settled.row ∙ row_of r.machine store' picks (tally_of heads counts') by.prices script (at ns 3) r.full r.machine.status done.over done.spent ∙ sym says.stand.row;
               ticks = sym ticks_are;
               all_ticks = ap (λ z. at ns 4 + z) (sym ticks_are);
-              used = sym used-are;
-              all_used = ap (λ z. at ns 5 + z) (sym used-are);
-              cues = sym fired-are;
+              used = sym used_are;
+              all_used = ap (λ z. at ns 5 + z) (sym used_are);
+              cues = sym fired_are;
               loops = told_loops.number ∙ sym (counts_length (counts_at_stand s.stand) heads);
               counts = told_loops.counts ∙ ap (λ c. counts_of c heads) (sym counts_are);
               rest = told_loops.rest;
             };
             new_store = sym (list_of_store store') ∙ (λ j. store_list (l j) (sym (says.stand.store ∙ store_of_lem r.machine store' picks (tally_of heads counts') (at ns 3) r.full r.machine.status) j));
-            new_state = numbers-are w;
+            new_state = numbers_are w;
             new_cues = cues_over r.fired cues cues' done.few done.long done.rest ∙ ap (λ z. over z cues) (sym says.cues_are);
           }

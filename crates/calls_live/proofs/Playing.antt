@@ -222,8 +222,8 @@ module _ {text : List ℕ} {script : PricedRows} {t : List ℕ} {m : Machine} {s
       over_there (Over Ended i) e f = refl
       over_there (Over Ending.Range i) e f = refl
 
-      pub stays-over : Played script.prices rows m (record { machine = r; fired = 0; full = false }) store store picks counts counts cues cues
-      stays-over = record {
+      pub stays_over : Played script.prices rows m (record { machine = r; fired = 0; full = false }) store store picks counts counts cues cues
+      stays_over = record {
         stop = ap (stop_from script.prices rows (length cues)) goes_from ∙ over_there r.status refl done;
         over = λ _. done;
         spent = λ i e. absurd (unspent i e);
@@ -241,8 +241,8 @@ module _ {text : List ℕ} {script : PricedRows} {t : List ℕ} {m : Machine} {s
       going_is Going e = refl
       going_is (Over e i) q = no_true q
 
-      pub may-go : MayGo text script.prices t script.count r store picks counts
-      may-go = record {
+      pub may_go : MayGo text script.prices t script.count r store picks counts
+      may_go = record {
         script = g.runs;
         price = g.price;
         going = going_is r.status on;
@@ -252,10 +252,10 @@ module _ {text : List ℕ} {script : PricedRows} {t : List ℕ} {m : Machine} {s
         room = room_to_end rows (place_in rows r store picks counts) (omega (arith, size_is g.runs, g.runs.size)) (omega (arith, d.left, g.few)) g.counted;
       }
 
-      pub goes-far : (s : Stopped) (store' : List ℤ) (counts' : List (List ℕ)) (cues cues' : List ℕ) → WentLive script.prices rows r s store store' picks counts counts' cues cues'
+      pub goes_far : (s : Stopped) (store' : List ℤ) (counts' : List (List ℕ)) (cues cues' : List ℕ) → WentLive script.prices rows r s store store' picks counts counts' cues cues'
           → Played script.prices rows m s store store' picks counts counts' cues cues'
       unfolding stop_from
-      goes-far s store' counts' cues cues' w = record {
+      goes_far s store' counts' cues cues' w = record {
         stop = ap (stop_from script.prices rows (length cues)) (goes_from ∙ ap (λ z. by_status z r store picks (tally_of (loop_rows 0 rows) counts)) (going_is r.status on)) ∙ w.stop;
         over = w.over;
         spent = w.spent;

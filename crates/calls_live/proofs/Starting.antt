@@ -84,9 +84,9 @@ module _ (prices : List ℕ) (script : Script) (count : ℕ) (s : Figures) (ls :
 
     module _ (yes : v ≡ Passed) where
       -- by 21
-      pub size-out : (length ns ≡ 64 → ⊥) → (r : Started) → (r.verdict ≡ Refused 21 64) × (r.ticks ≡ 0) × (r.loops ≡ 0) → StartedAs reply ns ns r
+      pub size_out : (length ns ≡ 64 → ⊥) → (r : Started) → (r.verdict ≡ Refused 21 64) × (r.ticks ≡ 0) × (r.loops ≡ 0) → StartedAs reply ns ns r
       unfolding started_by and_then size_verdict
-      size-out f r t = no_start (Refused 21 64) (by_store Passed yes ∙ rw (ne_eqb (length ns) 64 f)) refl r t
+      size_out f r t = no_start (Refused 21 64) (by_store Passed yes ∙ rw (ne_eqb (length ns) 64 f)) refl r t
 
       pub starts : length ns ≡ 64 → (new : List ℕ) → new ≡ replicate 64 0 → StartedAs reply ns new (record { verdict = s.verdict; ticks = s.ticks; loops = s.loops })
       unfolding started_by and_then size_verdict state_started

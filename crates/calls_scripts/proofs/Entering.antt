@@ -83,19 +83,19 @@ module _ (prices : List ℕ) (l : Lent) where
     answered j h = ap (answer_to prices) (part_at_lem j h) ∙ ap (λ x. admitted x (part_of l.store_lengths j l.stores)) (judged_file_lem prices priced (part_of l.file_lengths j l.files))
 
     module _ (k : ℕ) (tables : List ℕ) (each : List Held) (h : Entering k tables each) where
-      pub entering-no : k < N → (t : List ℕ) (e : Entered) → Enters k t e → (q p : ℕ) → e.verdict ≡ Refused q p → readiness prices scratch_size parts ≡ Readiness.refuses q p
-      entering-no inside t e entered q p refusal =
+      pub entering_no : k < N → (t : List ℕ) (e : Entered) → Enters k t e → (q p : ℕ) → e.verdict ≡ Refused q p → readiness prices scratch_size parts ≡ Readiness.refuses q p
+      entering_no inside t e entered q p refusal =
           cast_no prices parts k (omega (arith, count)) (λ j m. answered j (omega arith) ∙ sym (h.enters j m).verdict) q p (answered k inside ∙ sym entered.verdict ∙ refusal)
 
-      pub entering-which : k < N → (t : List ℕ) (e : Entered) → Enters k t e → (q p : ℕ) → e.verdict ≡ Refused q p → k + 1 ≡ refused_script prices parts
-      entering-which inside t e entered q p refusal =
+      pub entering_which : k < N → (t : List ℕ) (e : Entered) → Enters k t e → (q p : ℕ) → e.verdict ≡ Refused q p → k + 1 ≡ refused_script prices parts
+      entering_which inside t e entered q p refusal =
           add-one k ∙ sym (which_no prices parts k (omega (arith, count)) (λ j m. answered j (omega arith) ∙ sym (h.enters j m).verdict) q p (answered k inside ∙ sym entered.verdict ∙ refusal))
 
-      pub entering-no-one : k ≡ N → 0 ≡ refused_script prices parts
-      entering-no-one all = sym (which_none prices parts (λ j m. answered j (omega (arith, count)) ∙ sym (h.enters j (omega (arith, count))).verdict))
+      pub entering_no_one : k ≡ N → 0 ≡ refused_script prices parts
+      entering_no_one all = sym (which_none prices parts (λ j m. answered j (omega (arith, count)) ∙ sym (h.enters j (omega (arith, count))).verdict))
 
-      pub entering-all : k ≡ N → HeldBy Passed prices l tables each
-      entering-all all =
+      pub entering_all : k ≡ N → HeldBy Passed prices l tables each
+      entering_all all =
           let (qs, e) = cast_yes prices parts (λ j m. answered j (omega (arith, count)) ∙ sym (h.enters j (omega (arith, count))).verdict) in (
             qs,
             e,

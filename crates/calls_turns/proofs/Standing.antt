@@ -115,12 +115,12 @@ module _ (π : Prices) (q : ℕ) (p : Frames.Progress) (n : ℕ) where
 
     -- it is finished: the frame takes nothing
     module _ (w : is_waiting x.machine.status ≡ false) where
-      pub is-done : Done (after_frames π q p n).stand
-      is-done = subst Done (sym s.stand) (stand_done x.machine store picks (tally_of heads counts) x.machine.status w)
+      pub is_done : Done (after_frames π q p n).stand
+      is_done = subst Done (sym s.stand) (stand_done x.machine store picks (tally_of heads counts) x.machine.status w)
 
       pub stands_still : Stands π q p (suc n) x store picks counts
       stands_still =
-          let e = settled_at π q p n (suc n) (omega arith) is-done in
+          let e = settled_at π q p n (suc n) (omega arith) is_done in
           record {
             stand = ap (λ (y : Frames.Progress). y.stand) e ∙ s.stand;
             waits = s.waits;
@@ -131,8 +131,8 @@ module _ (π : Prices) (q : ℕ) (p : Frames.Progress) (n : ℕ) where
             room = s.room;
           }
 
-      pub takes-still : ticks_in π q p n ≡ 0
-      takes-still = takes_none q (after_frames π q p n).stand (after_frames π q p (suc n)).stand is-done
+      pub takes_still : ticks_in π q p n ≡ 0
+      takes_still = takes_none q (after_frames π q p n).stand (after_frames π q p (suc n)).stand is_done
 
     -- it waits: it runs on
     module _ (w : is_waiting x.machine.status ≡ true) where
@@ -160,9 +160,9 @@ module _ (π : Prices) (q : ℕ) (p : Frames.Progress) (n : ℕ) where
           room = went.room;
         }
 
-        pub takes-on : ticks_in π q p n ≡ x.machine.left + q - y.machine.left
+        pub takes_on : ticks_in π q p n ≡ x.machine.left + q - y.machine.left
         unfolding takes
-        takes-on =
+        takes_on =
             (λ i. takes q (waits_there i) (stands_there i))
             ∙ ap (λ z. x.machine.left + q - z) (left_standing y.machine store' picks (tally_of heads counts') y.machine.status)
 

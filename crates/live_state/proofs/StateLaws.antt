@@ -220,34 +220,34 @@ module _ {π : Prices} {script : Script} {t : List ℕ} {count total : ℕ} {tab
 
     -- refused by one of the parts, or by none before the last
     module _ (v : Verdict) (head : v ≡ first_no 0 (head_checks π script total ns)) where
-      by-head : (w : Verdict) → v ≡ w → state_verdict π script ns ≡ and_then w (and_then (zeros_to 16 ns 6) (and_then (loops_on table loops ns 0) (zeros_to 64 ns (16 + 3 * loops))))
-      by-head w e = in_parts ∙ ap (λ z. and_then z (and_then (zeros_to 16 ns 6) (and_then (loops_on table loops ns 0) (zeros_to 64 ns (16 + 3 * loops))))) (sym head ∙ e)
+      by_head : (w : Verdict) → v ≡ w → state_verdict π script ns ≡ and_then w (and_then (zeros_to 16 ns 6) (and_then (loops_on table loops ns 0) (zeros_to 64 ns (16 + 3 * loops))))
+      by_head w e = in_parts ∙ ap (λ z. and_then z (and_then (zeros_to 16 ns 6) (and_then (loops_on table loops ns 0) (zeros_to 64 ns (16 + 3 * loops))))) (sym head ∙ e)
 
-      pub head-no : {q p : ℕ} → v ≡ refused q p → v ≡ state_verdict π script ns
+      pub head_no : {q p : ℕ} → v ≡ refused q p → v ≡ state_verdict π script ns
       unfolding and_then
-      head-no {q} {p} e = e ∙ sym (by-head (refused q p) e)
+      head_no {q} {p} e = e ∙ sym (by_head (refused q p) e)
 
       module _ (yes : v ≡ passed) (u : Verdict) (nothing : u ≡ zeros_to 16 ns 6) where
-        by-gap : (w : Verdict) → u ≡ w → state_verdict π script ns ≡ and_then w (and_then (loops_on table loops ns 0) (zeros_to 64 ns (16 + 3 * loops)))
+        by_gap : (w : Verdict) → u ≡ w → state_verdict π script ns ≡ and_then w (and_then (loops_on table loops ns 0) (zeros_to 64 ns (16 + 3 * loops)))
         unfolding and_then
-        by-gap w e = by-head passed yes ∙ ap (λ z. and_then z (and_then (loops_on table loops ns 0) (zeros_to 64 ns (16 + 3 * loops)))) (sym nothing ∙ e)
+        by_gap w e = by_head passed yes ∙ ap (λ z. and_then z (and_then (loops_on table loops ns 0) (zeros_to 64 ns (16 + 3 * loops)))) (sym nothing ∙ e)
 
-        pub gap-no : {q p : ℕ} → u ≡ refused q p → u ≡ state_verdict π script ns
+        pub gap_no : {q p : ℕ} → u ≡ refused q p → u ≡ state_verdict π script ns
         unfolding and_then
-        gap-no {q} {p} e = e ∙ sym (by-gap (refused q p) e)
+        gap_no {q} {p} e = e ∙ sym (by_gap (refused q p) e)
 
         module _ (yes' : u ≡ passed) (x : Verdict) (counts : x ≡ loops_on table loops ns 0) where
           by_loops : (w : Verdict) → x ≡ w → state_verdict π script ns ≡ and_then w (zeros_to 64 ns (16 + 3 * loops))
           unfolding and_then
-          by_loops w e = by-gap passed yes' ∙ ap (λ z. and_then z (zeros_to 64 ns (16 + 3 * loops))) (sym counts ∙ e)
+          by_loops w e = by_gap passed yes' ∙ ap (λ z. and_then z (zeros_to 64 ns (16 + 3 * loops))) (sym counts ∙ e)
 
-          pub counts-no : {q p : ℕ} → x ≡ refused q p → x ≡ state_verdict π script ns
+          pub counts_no : {q p : ℕ} → x ≡ refused q p → x ≡ state_verdict π script ns
           unfolding and_then
-          counts-no {q} {p} e = e ∙ sym (by_loops (refused q p) e)
+          counts_no {q} {p} e = e ∙ sym (by_loops (refused q p) e)
 
-          pub rest-last : x ≡ passed → (y : Verdict) → y ≡ zeros_to 64 ns (16 + 3 * loops) → y ≡ state_verdict π script ns
+          pub rest_last : x ≡ passed → (y : Verdict) → y ≡ zeros_to 64 ns (16 + 3 * loops) → y ≡ state_verdict π script ns
           unfolding and_then
-          rest-last e y rest = rest ∙ sym (by_loops passed e)
+          rest_last e y rest = rest ∙ sym (by_loops passed e)
 
 -- ---- the row
 ends_by : (v h : View) → is_end_number v ≡ true → ends_loop v h ≡ is_loop_row h
@@ -326,15 +326,15 @@ module _ {script : Script} {t : List ℕ} {count : ℕ} (g : RowsIn script t cou
         at_the_end : EndRow (script_rows g.text (rows_of t) count) t ((pairs (script_rows g.text (rows_of t) count) count).head i) i
         at_the_end = g.table.ends i h (ap (λ rs. view_at rs i) (sym g.rows) ∙ end_view (view_at script.rows i) (told ∙ e))
 
-        pub head-below : partner_in (numbers_at t i) < count
-        head-below = omega (arith, at_the_end.below, at_the_end.partner)
+        pub head_below : partner_in (numbers_at t i) < count
+        head_below = omega (arith, at_the_end.below, at_the_end.partner)
 
-        head-is : matching_head script i ≡ partner_in (numbers_at t i)
-        head-is = (λ j. (pairs (g.rows j) (rows_long j)).head i) ∙ sym at_the_end.partner
+        head_is : matching_head script i ≡ partner_in (numbers_at t i)
+        head_is = (λ j. (pairs (g.rows j) (rows_long j)).head i) ∙ sym at_the_end.partner
 
         pub some_end : (p : ℕ) → p ≡ partner_in (numbers_at t i) → (x : Bool) → ((text : List ℕ) → x ≡ is_loop_row (view_of (kind_of text (kind_at (rows_of t) p)))) → x ≡ ends_loop_at script i
         some_end p q x y =
-            y g.text ∙ ap is_loop_row (sym (row_view p (subst (λ z. z < count) (sym q) head-below)) ∙ ap (view_at script.rows) (q ∙ sym head-is))
+            y g.text ∙ ap is_loop_row (sym (row_view p (subst (λ z. z < count) (sym q) head_below)) ∙ ap (view_at script.rows) (q ∙ sym head_is))
             ∙ sym (ends_by (view_at script.rows i) (view_at script.rows (matching_head script i)) (told ∙ e))
 
   pub fits_range : (status i : ℕ) → (status ≡ 0 → ⊥) → (status ≡ 1 → ⊥) → (status ≡ 2 → ⊥) → (status ≡ 3 → ⊥) → i < count → true ≡ row_fits script status i

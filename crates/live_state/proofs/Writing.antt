@@ -98,7 +98,7 @@ module _ (first : List ℕ) (table : List (List ℕ)) (loops : Loops) (counts : 
           = at ∙ sym (get_or-take loops.count loops.counts k no_count h) ∙ ap (λ z. get_or z k no_count) g.counts ∙ count_at c hs k in-hs in
           let turned : turns ≡ c.turns (get_or hs k 0) = e ∙ ap (λ z. get_or z 0 0) (sym (counts_at_lem hs counts r k in-hs (omega arith))) in
           let lined : line_of line ≡ get_or ls k no_line = ap line_of is ∙ sym (line_at table loops.count k no_line h (omega arith)) in
-          let n-long : length so_far ≡ 3 * k = numbers_long (take k ls) (take k hs) c (taken k hs (omega arith) ∙ sym (taken-lines k ls (omega arith))) ∙ ap (λ z. 3 * z) (taken-lines k ls (omega arith)) in
+          let n-long : length so_far ≡ 3 * k = numbers_long (take k ls) (take k hs) c (taken k hs (omega arith) ∙ sym (taken_lines k ls (omega arith))) ∙ ap (λ z. 3 * z) (taken_lines k ls (omega arith)) in
           put (first ++ so_far) (48 - 3 * (k + 1)) (omega (arith, length-append first so_far))
           (now.written hs r g ∙ ap (λ z. (first ++ so_far) ++ replicate z 0) (let w : 48 - 3 * k ≡ suc (suc (suc (48 - 3 * (k + 1)))) = omega arith in w))
           ∙ ap (λ z. z ++ replicate (48 - 3 * (k + 1)) 0)
@@ -109,8 +109,8 @@ module _ (first : List ℕ) (table : List (List ℕ)) (loops : Loops) (counts : 
           taken : (k : ℕ) (l : List ℕ) → k ≤ length l → length (take k l) ≡ k
           taken k l h = length-take-le k l h
 
-          taken-lines : (k : ℕ) (l : List Line) → k ≤ length l → length (take k l) ≡ k
-          taken-lines k l h = length-take-le k l h
+          taken_lines : (k : ℕ) (l : List Line) → k ≤ length l → length (take k l) ≡ k
+          taken_lines k l h = length-take-le k l h
 
   pub writes_all : (front : List ℕ) → first ≡ front → loops.count ≤ k → k ≤ loops.count → (hs : List ℕ) → Rising hs → HeadCounts hs (tally_of hs counts) loops
       → let c : TurnCounts = tally_of hs counts in

@@ -174,22 +174,22 @@ module _ (prices : List ℕ) (scratch : ℕ) (l : Lent) (q : ℕ) (new : List �
       t : ToldPlayed (get_or f.scripts j no_answer) (get_or rs j no_played)
       t = told.each j (omega (arith, number))
 
-      its-frame : (get_or f.scripts j no_answer).frame ≡ g
-      its-frame = t.frame ∙ ap (λ (y : Frames.Played). y.frame) z ∙ alone_frame π (script j) (part j).store (part j).picks (report_ticks π (script j)) g
+      its_frame : (get_or f.scripts j no_answer).frame ≡ g
+      its_frame = t.frame ∙ ap (λ (y : Frames.Played). y.frame) z ∙ alone_frame π (script j) (part j).store (part j).picks (report_ticks π (script j)) g
 
       here : get_or rs j no_played ≡ by_itself j (get_or f.scripts j no_answer).frame
-      here = z ∙ ap (by_itself j) (sym its-frame)
+      here = z ∙ ap (by_itself j) (sym its_frame)
 
-      on-time : OnTime π q (script j) (part j) (get_or f.scripts j no_answer) (part_of l.store_lengths j new)
-      on-time = record {
-        frame = subst (FirstFrame π q (script j) (part j).store (part j).picks) (sym its-frame) first;
-        by_due = omega (arith, its-frame);
+      on_time : OnTime π q (script j) (part j) (get_or f.scripts j no_answer) (part_of l.store_lengths j new)
+      on_time = record {
+        frame = subst (FirstFrame π q (script j) (part j).store (part j).picks) (sym its_frame) first;
+        by_due = omega (arith, its_frame);
         same = subst (ToldPlayed (get_or f.scripts j no_answer)) here t;
         kept = ap (part_of l.store_lengths j) kept ∙ part_stores l.store_lengths rs (omega (arith, number, fit.stores)) long j (omega (arith, number)) ∙ ap (λ (y : Frames.Played). y.store) here;
       }
 
     all_on_time : InTime
-    all_on_time = (ps, accepts, λ j h. let (g, a, b, z) = alone_at as_alone j (omega (arith, count)) in on-time j h g a b z, subst (Greatest (all_alone π q (parts_of l) ps)) (sym told.most) highest)
+    all_on_time = (ps, accepts, λ j h. let (g, a, b, z) = alone_at as_alone j (omega (arith, count)) in on_time j h g a b z, subst (Greatest (all_alone π q (parts_of l) ps)) (sym told.most) highest)
 
   in_time : (r : FramesReply) → frames_reply prices scratch l q ≡ r → Framed r l.stores new f → f.verdict ≡ Passed → InTime
   unfolding stores_after AllInTime

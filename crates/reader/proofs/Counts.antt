@@ -57,19 +57,19 @@ module _ (key s : List ℕ) (l : LineWords) (t : KeyLine key s l) where
       yes : asks_number (pos 0) (pos (nat_abs most)) (words 0) ≡ 0
       yes = (refusal_yes _ _ (sym truly ∙ z)).0
 
-      yes-most : asks_number (pos 0) most (words 0) ≡ 0
-      yes-most = rw true_limit at yes
+      yes_most : asks_number (pos 0) most (words 0) ≡ 0
+      yes_most = rw true_limit at yes
 
       value : number_of (line_word l 0) ≡ number_of (words 0)
-      value = ap number_of (t.word 0 (omega arith)) ∙ cut_number_of (pos 0) most (words 0) below yes-most
+      value = ap number_of (t.word 0 (omega arith)) ∙ cut_number_of (pos 0) most (words 0) below yes_most
 
       -- the number that code has
       pub count_small : (pos 0 ≤ℤ number_of (line_word l 0)) × (number_of (line_word l 0) ≤ℤ pos 1_000_000_000)
-      count_small = let (a, b) = number_yes (pos 0) most (words 0) yes-most in rw value (a, omega ints)
+      count_small = let (a, b) = number_yes (pos 0) most (words 0) yes_most in rw value (a, omega ints)
 
-      pub count-read : (v : ℕ) → v ≡ nat_abs (number_of (line_word l 0)) → CountRead key s (nat_abs most) (CountLine.Count v (l.end + 1))
+      pub count_read : (v : ℕ) → v ≡ nat_abs (number_of (line_word l 0)) → CountRead key s (nat_abs most) (CountLine.Count v (l.end + 1))
       unfolding count_line count_of
-      count-read v e = record {
+      count_read v e = record {
         line = λ p. rw (← truly) (unless_zero q p _ z ∙ (let f : nat_abs (number_of (words 0)) ≡ v = ap nat_abs (sym value) ∙ sym e in rw (f, t.next) refl));
         within = (rw e (rw value (omega (ints, (amount_yes 0 (pos (nat_abs most)) (words 0) yes).1))), t.long);
       }

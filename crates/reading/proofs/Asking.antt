@@ -269,12 +269,12 @@ module _ (vars : ℕ) where
   -- ---- a leaf as code reads it
   pub leaf_steps : (d : ℕ) (a : Sizes) (b : ℕ) (t : List ℕ) → vars ≤ 16 → (eqb b 40 ≡ false) → (q : Parsed) → q ≡ cut_in (atom (b ∷ t)) → word_question vars due d a (b ∷ t) ≡ follow q (λ x r. at_shut d (sizes_from vars d x a) r)
   unfolding word_question act atom
-  leaf_steps d a b t f e q h = rw e (leaf_walk d a (word_of (b ∷ up_to_mark t)) t) ∙ sym (leaf-cut d a (word_of (b ∷ up_to_mark t)) (from_mark t)) ∙ ap (λ p. follow p (λ x r. at_shut d (sizes_from vars d x a) r)) (sym h)
+  leaf_steps d a b t f e q h = rw e (leaf_walk d a (word_of (b ∷ up_to_mark t)) t) ∙ sym (leaf_cut d a (word_of (b ∷ up_to_mark t)) (from_mark t)) ∙ ap (λ p. follow p (λ x r. at_shut d (sizes_from vars d x a) r)) (sym h)
     where
-      leaf-cut : (d : ℕ) (a : Sizes) (w : Word) (s : List ℕ) → follow (cut_in (leaf w s)) (λ x r. at_shut d (sizes_from vars d x a) r) ≡ follow (leaf w s) (λ x r. at_shut d (sizes_from vars d x a) r)
-      leaf-cut d a Missing s = unfold cut_in follow in refl
-      leaf-cut d a (Number z) s = unfold cut_in follow cut_expr sizes_from noted asks_leaves in ap (λ (k : Bool). at_shut d (record { deep = max a.deep d; ops = a.ops; asks = first_refusal a.asks (cond k 0 4) }) s) (cut_limits z)
-      leaf-cut d a (Variable v) s = unfold cut_in follow cut_expr sizes_from noted asks_leaves ceiling in ap (λ (k : Bool). at_shut d (record { deep = max a.deep d; ops = a.ops; asks = first_refusal a.asks (cond k 0 5) }) s) (cut_below v vars f)
-      leaf-cut d a (Compares c) s = unfold cut_in follow in refl
-      leaf-cut d a (Keyword n) s = unfold cut_in follow in refl
-      leaf-cut d a Other s = unfold cut_in follow in refl
+      leaf_cut : (d : ℕ) (a : Sizes) (w : Word) (s : List ℕ) → follow (cut_in (leaf w s)) (λ x r. at_shut d (sizes_from vars d x a) r) ≡ follow (leaf w s) (λ x r. at_shut d (sizes_from vars d x a) r)
+      leaf_cut d a Missing s = unfold cut_in follow in refl
+      leaf_cut d a (Number z) s = unfold cut_in follow cut_expr sizes_from noted asks_leaves in ap (λ (k : Bool). at_shut d (record { deep = max a.deep d; ops = a.ops; asks = first_refusal a.asks (cond k 0 4) }) s) (cut_limits z)
+      leaf_cut d a (Variable v) s = unfold cut_in follow cut_expr sizes_from noted asks_leaves ceiling in ap (λ (k : Bool). at_shut d (record { deep = max a.deep d; ops = a.ops; asks = first_refusal a.asks (cond k 0 5) }) s) (cut_below v vars f)
+      leaf_cut d a (Compares c) s = unfold cut_in follow in refl
+      leaf_cut d a (Keyword n) s = unfold cut_in follow in refl
+      leaf_cut d a Other s = unfold cut_in follow in refl

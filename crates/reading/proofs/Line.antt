@@ -252,10 +252,10 @@ module _ (s : List ℕ) (at : ℕ) (tags : List ℕ) (values : List ℤ) (ends :
 
   -- the line's LF comes next
   pub filled_lf : end < length s → get_or s end 0 ≡ 10 → LineRead s at (record { tags = tags; values = values; ends = ends; end = end })
-  filled_lf l e = filled_read none end (let z : before 10 (drop end s) ≡ 0 = lf-here in omega (arith, z))
+  filled_lf l e = filled_read none end (let z : before 10 (drop end s) ≡ 0 = lf_here in omega (arith, z))
     where
-      lf-here : before 10 (drop end s) ≡ 0
-      lf-here = rw (drop-cons s end 0 l) (unfold before in rw (eq-eqb (get_or s end 0) 10 e))
+      lf_here : before 10 (drop end s) ≡ 0
+      lf_here = rw (drop-cons s end 0 l) (unfold before in rw (eq-eqb (get_or s end 0) 10 e))
 
       none : (k : ℕ) → i ≤ k → k < 8 → (following (drop at s) k ≡ Missing) × (spelling (drop at s) k ≡ [])
       none k h _ =

@@ -144,22 +144,22 @@ module _ (π : Prices) (one : 1 ≤ π.test) (script : Script) (ok : Accepted π
     -- a script after k frames: it has done what k · q ticks allow from the start
     data Stage (k : ℕ) : Progress → Type 0 where
       before : k ≡ 0 → Stage k (beginning script store picks)
-      runs-yet : {m : Place} → Comes (k * q) (more m) → Stage k (record { script = script; picks = picks; stand = more m; frame = k })
-      is-over : {e : Ending} {i : ℕ} {s : State} {c : TurnCounts} {f : ℕ} → 1 ≤ f → f ≤ k → Comes (f * q) (over e i s c)
+      runs_yet : {m : Place} → Comes (k * q) (more m) → Stage k (record { script = script; picks = picks; stand = more m; frame = k })
+      is_over : {e : Ending} {i : ℕ} {s : State} {c : TurnCounts} {f : ℕ} → 1 ≤ f → f ≤ k → Comes (f * q) (over e i s c)
           → Stage k (record { script = script; picks = picks; stand = over e i s c; frame = f })
 
     stage_at : (k n : ℕ) (a : Next) → n ≡ suc k * q → Comes n a → Stage (suc k) (record { script = script; picks = picks; stand = a; frame = suc k })
     stage_at k n a e h = by a (subst (λ m. Comes m a) e h)
       where
         by : (a : Next) → Comes (suc k * q) a → Stage (suc k) (record { script = script; picks = picks; stand = a; frame = suc k })
-        by (more m) h = runs-yet h
-        by (over e i s c) h = is-over {f = suc k} (omega arith) (omega arith) h
+        by (more m) h = runs_yet h
+        by (over e i s c) h = is_over {f = suc k} (omega arith) (omega arith) h
 
     stage_frame : (k : ℕ) (p : Progress) → Stage k p → Stage (suc k) (frame_of π q (suc k) p)
     unfolding frame_from
     stage_frame k _ (before z) = stage_at k (0 + q) _ (omega (arith, suc-mul k q, ap (λ n. n * q) z)) (runs_on_lem π one rows matching_end_lem matching_head_lem fit _)
-    stage_frame k _ (runs-yet {m = m} h) = stage_at k (k * q + q) _ (sym (suc-mul k q)) (resumes π one rows matching_end_lem matching_head_lem fit _ m q h)
-    stage_frame k _ (is-over l m h) = is-over l (omega arith) h
+    stage_frame k _ (runs_yet {m = m} h) = stage_at k (k * q + q) _ (sym (suc-mul k q)) (resumes π one rows matching_end_lem matching_head_lem fit _ m q h)
+    stage_frame k _ (is_over l m h) = is_over l (omega arith) h
 
     stage : (n : ℕ) → Stage n (after_frames π q (beginning script store picks) n)
     unfolding after_frames
@@ -169,9 +169,9 @@ module _ (π : Prices) (one : 1 ≤ π.test) (script : Script) (ok : Accepted π
     -- it stands as its run alone
     stage_stands : (k : ℕ) (p : Progress) → 1 ≤ k → Stage k p → StandsAs π rows (runs (k * q)) (p.frame * q) picks p.stand
     stage_stands k _ l (before z) = absurd (omega arith)
-    stage_stands k _ l (runs-yet (waiting {m = m} {i = i} n r w)) =
+    stage_stands k _ l (runs_yet (waiting {m = m} {i = i} n r w)) =
         (i, w.stop, answered (k * q) (suc n) Spent i _ _ (step_more π one rows matching_end_lem matching_head_lem fit n _ _ r ∙ w.stop))
-    stage_stands k _ l (is-over {e = e} {i = i} {s = s} {c = c} {f = f} first last (finished n r u)) =
+    stage_stands k _ l (is_over {e = e} {i = i} {s = s} {c = c} {f = f} first last (finished n r u)) =
         let a = answered (f * q) n e i s c r in
         (u, subst (λ z. Replies z (f * q) picks e i s c) (sym (grown (f * q) (k * q) (mul-le-mul_right q last) (subst Unspent a.ending u))) a)
 
@@ -179,38 +179,38 @@ module _ (π : Prices) (one : 1 ≤ π.test) (script : Script) (ok : Accepted π
     stage_ticks : (k : ℕ) (p : Progress) → Stage k p → ticks_of q p ≡ (runs (k * q)).ticks
     unfolding ticks_of left_of
     stage_ticks k _ (before z) = let e : k * q ≡ 0 * q = ap (λ n. n * q) z in omega (arith, ticks_most (k * q))
-    stage_ticks zero _ (runs-yet h) = omega (arith, ticks_most (0 * q))
-    stage_ticks (suc k) _ (runs-yet h) = (stage_stands (suc k) _ (omega arith) (runs-yet h)).2.ticks
-    stage_ticks k _ (is-over first last h) = (stage_stands k _ (omega arith) (is-over first last h)).1.ticks
+    stage_ticks zero _ (runs_yet h) = omega (arith, ticks_most (0 * q))
+    stage_ticks (suc k) _ (runs_yet h) = (stage_stands (suc k) _ (omega arith) (runs_yet h)).2.ticks
+    stage_ticks k _ (is_over first last h) = (stage_stands k _ (omega arith) (is_over first last h)).1.ticks
 
     -- the ticks of one frame
     stage_takes : (k : ℕ) (p : Progress) → Stage k p → ticks_of q p + takes q p.stand (frame_of π q (suc k) p).stand ≡ ticks_of q (frame_of π q (suc k) p)
     unfolding frame_from ticks_of takes left_of
     stage_takes k _ (before z) = omega (arith, suc-mul k q, ap (λ n. n * q) z)
-    stage_takes k _ (runs-yet {m = m} h) =
+    stage_takes k _ (runs_yet {m = m} h) =
         let had = pauses_less π one rows matching_end_lem matching_head_lem fit h in
         let got = pauses_less π one rows matching_end_lem matching_head_lem fit (runs_on_lem π one rows matching_end_lem matching_head_lem fit (given q m)) in
         omega (arith, suc-mul k q)
-    stage_takes k _ (is-over first last h) = omega arith
+    stage_takes k _ (is_over first last h) = omega arith
 
     -- what it carries
     stage_carries : (k : ℕ) (p : Progress) → Stage k p → CarriesOn π (length rows) (k * q) p.stand
     unfolding rank
     stage_carries k _ (before z) = record { left = omega arith; counts = λ p. (omega arith, omega arith) }
-    stage_carries k _ (runs-yet (waiting n r w)) =
+    stage_carries k _ (runs_yet (waiting n r w)) =
         let (j, z, l) = steps_room π one rows matching_end_lem matching_head_lem fit n _ _ r blank 0 (above_same blank) in
         record { left = w.carried; counts = with_room _ _ z (omega arith) }
-    stage_carries k _ (is-over first last h) = tt
+    stage_carries k _ (is_over first last h) = tt
 
     -- with T ticks given it is finished, with the answer of its run alone
     stage_done : (k : ℕ) (p : Progress) → 1 ≤ k → report_ticks π script ≤ k * q → Stage k p
         → Done p.stand × (1 ≤ p.frame) × (p.frame ≤ k) × (played_of q p ≡ alone π script store picks (report_ticks π script) p.frame)
     unfolding played_at played_as ticks_of left_of alone
     stage_done k _ l h (before z) = absurd (omega arith)
-    stage_done k _ l h (runs-yet r) = absurd (subst Unspent (sym (stage_stands k _ l (runs-yet r)).2.ending) (enough (k * q) h))
-    stage_done k _ l h (is-over {e = e} {i = i} {s = s} {c = c} {f = f} first last r) =
+    stage_done k _ l h (runs_yet r) = absurd (subst Unspent (sym (stage_stands k _ l (runs_yet r)).2.ending) (enough (k * q) h))
+    stage_done k _ l h (is_over {e = e} {i = i} {s = s} {c = c} {f = f} first last r) =
         let t : ℕ = report_ticks π script in
-        let (u, a) = stage_stands k _ l (is-over first last r) in
+        let (u, a) = stage_stands k _ l (is_over first last r) in
         let b : Replies (runs t) (f * q) picks e i s c
         = subst (λ z. Replies z (f * q) picks e i s c) (agree (k * q) t (subst Unspent a.ending u) (enough t (omega arith))) a in (
           u,
@@ -230,14 +230,14 @@ module _ (π : Prices) (one : 1 ≤ π.test) (script : Script) (ok : Accepted π
     -- not finished before its frame
     stage_first : (k n : ℕ) (p : Progress) → 1 ≤ n → Stage n p → (Done p.stand → p.frame ≡ k) → n < k → (runs (n * q)).ending ≡ Spent
     stage_first k n _ l (before z) f m = absurd (omega arith)
-    stage_first k n _ l (runs-yet r) f m = sym (stage_stands n _ l (runs-yet r)).2.ending
-    stage_first k n _ l (is-over first last r) f m = absurd (omega (arith, f (stage_stands n _ l (is-over first last r)).0))
+    stage_first k n _ l (runs_yet r) f m = sym (stage_stands n _ l (runs_yet r)).2.ending
+    stage_first k n _ l (is_over first last r) f m = absurd (omega (arith, f (stage_stands n _ l (is_over first last r)).0))
 
     -- in its frame it is finished
     stage_last : (k : ℕ) (p : Progress) → Stage k p → Done p.stand → Unspent (runs (p.frame * q)).ending
     stage_last k _ (before z) d = absurd d
-    stage_last k _ (runs-yet h) d = absurd d
-    stage_last k _ (is-over {e = e} {i = i} {s = s} {c = c} {f = f} first last (finished n r u)) d = subst Unspent (answered (f * q) n e i s c r).ending u
+    stage_last k _ (runs_yet h) d = absurd d
+    stage_last k _ (is_over {e = e} {i = i} {s = s} {c = c} {f = f} first last (finished n r u)) d = subst Unspent (answered (f * q) n e i s c r).ending u
 
     abbrev played_for : ℕ → Progress
     played_for n = after_frames π q (beginning script store picks) n

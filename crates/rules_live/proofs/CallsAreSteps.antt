@@ -140,10 +140,10 @@ module _ (π : Prices) (script : Script) (store : List ℤ) (accepts : StartAcce
   limited_start =
       let (rl, _) = accepts.script_accepted.legal.numbers in
       let inside = in_ranges script.ranges store rl accepts.inside.whole accepts.inside.each in
-      record { within = λ w. in-limits (store_of store w) (inside w).least (inside w).most; beyond = λ w g. past_end store w (omega (arith, accepts.inside.whole)) }
+      record { within = λ w. in_limits_lem (store_of store w) (inside w).least (inside w).most; beyond = λ w g. past_end store w (omega (arith, accepts.inside.whole)) }
     where
-      in-limits : (x : ℤ) → of lowest ≼ of x → of x ≼ of highest → T (in_limits x)
-      in-limits x a b = and_in (le_z lowest x) (le_z x highest) (subst T (sym (le_z_yes! lowest x a)) tt) (subst T (sym (le_z_yes! x highest b)) tt)
+      in_limits_lem : (x : ℤ) → of lowest ≼ of x → of x ≼ of highest → T (in_limits x)
+      in_limits_lem x a b = and_in (le_z lowest x) (le_z x highest) (subst T (sym (le_z_yes! lowest x a)) tt) (subst T (sym (le_z_yes! x highest b)) tt)
 
   start_fits : Fits π script (beginning store).stand
   start_fits = record { test = λ e. absurd (let z : ◌≡◌ {A = ℕ} 0 1 = cc in omega arith); counts = record { turns = λ p e. refl; sum = λ p e. refl; most = λ p e. refl }; store = limited_start }
@@ -218,10 +218,10 @@ module _ (π : Prices) (script : Script) (store : List ℤ) (accepts : StartAcce
         ap (stepped_by π script held ns t) (asked_passes π script held ns t.q (asks t.q few))
         ∙ ap (λ a. after_step π script held ns (step_of π script t a)) stands_there
         ∙ (λ i. stepped (step_answer π script (ticks_held i) (used_held i) s) (store_list (length held) (store_at s.stand)) (state_numbers π script (ticks_held i + s.ticks) (used_held i + length s.used) s.stand))
-        ∙ (λ i. stepped (same.answer l.ticks (length l.used) i) (store_list (long-held i) (stores same i)) (numbers same i))
+        ∙ (λ i. stepped (same.answer l.ticks (length l.used) i) (store_list (long_held i) (stores same i)) (numbers same i))
       where
-        long-held : length held ≡ length store
-        long-held = list_length (length store) (store_at l.stand)
+        long_held : length held ≡ length store
+        long_held = list_length (length store) (store_at l.stand)
 
         stores : {s r : Stepped} → SameStep π script s r → store_at s.stand ≡ store_at r.stand
         stores {s} {r} same = sym (store_kept s.stand) ∙ ap store_at same.stand ∙ store_kept r.stand

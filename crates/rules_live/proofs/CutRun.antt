@@ -178,40 +178,40 @@ module _ (d : ℕ) where
 
     module _ (i : ℕ) (test : Test) (body : State → Out) (ih : (s : State) → Later (body s) (body (plus d s))) where
       -- more ticks have more fuel
-      later-iter : (fuel fuel' k : ℕ) (s : State) → fuel ≤ fuel' → Later (iter π i test body fuel k s) (iter π i test body fuel' k (plus d s))
+      later_iter : (fuel fuel' k : ℕ) (s : State) → fuel ≤ fuel' → Later (iter π i test body fuel k s) (iter π i test body fuel' k (plus d s))
       unfolding iter
-      later-iter zero fuel' k s h = was_spent (has_short i (has_iter i π test body k fuel' k (plus d s) (omega arith)))
-      later-iter (suc fuel) zero k s h = absurd (omega arith)
-      later-iter (suc fuel) (suc fuel') k s h =
+      later_iter zero fuel' k s h = was_spent (has_short i (has_iter i π test body k fuel' k (plus d s) (omega arith)))
+      later_iter (suc fuel) zero k s h = absurd (omega arith)
+      later_iter (suc fuel) (suc fuel') k s h =
           later_charge _ i _ s _ _
           (λ t. decide_both Later (holds test t.store)
-          (later_turn i (suc k) _ (ih t) (λ u. later-iter fuel fuel' (suc k) u (omega arith)) (λ u. has_iter i π test body (suc k) fuel' (suc k) u (omega arith))) same_go same_halt)
+          (later_turn i (suc k) _ (ih t) (λ u. later_iter fuel fuel' (suc k) u (omega arith)) (λ u. has_iter i π test body (suc k) fuel' (suc k) u (omega arith))) same_go same_halt)
           (λ t. has_short i (has_tested i k k test (λ u. iter π i test body fuel' (suc k) u) (body t) t (omega arith) (λ u. has_iter i π test body k fuel' (suc k) u (omega arith))))
 
-      later-turning : (form : Form) (s : State) → Later (turning π form i test body s) (turning π form i test body (plus d s))
+      later_turning : (form : Form) (s : State) → Later (turning π form i test body s) (turning π form i test body (plus d s))
       unfolding turning
-      later-turning while s = later-iter _ _ 0 s (omega arith)
-      later-turning hold s = later-iter _ _ 0 s (omega arith)
-      later-turning (for x) s = later-iter _ _ 0 s (omega arith)
-      later-turning do_while s = later_turn i 1 _ (ih s) (λ u. later-iter _ _ 1 u (omega arith)) (λ u. has_iter i π test body 1 _ 1 u (omega arith))
+      later_turning while s = later_iter _ _ 0 s (omega arith)
+      later_turning hold s = later_iter _ _ 0 s (omega arith)
+      later_turning (for x) s = later_iter _ _ 0 s (omega arith)
+      later_turning do_while s = later_turn i 1 _ (ih s) (λ u. later_iter _ _ 1 u (omega arith)) (λ u. has_iter i π test body 1 _ 1 u (omega arith))
 
-      has-turning : (form : Form) (s : State) → Has i 0 (entries_of (turning π form i test body s))
+      has_turning : (form : Form) (s : State) → Has i 0 (entries_of (turning π form i test body s))
       unfolding turning
-      has-turning while s = has_iter i π test body 0 _ 0 s (omega arith)
-      has-turning hold s = has_iter i π test body 0 _ 0 s (omega arith)
-      has-turning (for x) s = has_iter i π test body 0 _ 0 s (omega arith)
-      has-turning do_while s = has_turn i 0 1 _ _ (omega arith) (λ u. has_iter i π test body 0 _ 1 u (omega arith))
+      has_turning while s = has_iter i π test body 0 _ 0 s (omega arith)
+      has_turning hold s = has_iter i π test body 0 _ 0 s (omega arith)
+      has_turning (for x) s = has_iter i π test body 0 _ 0 s (omega arith)
+      has_turning do_while s = has_turn i 0 1 _ _ (omega arith) (λ u. has_iter i π test body 0 _ 1 u (omega arith))
 
-      later-starting : (form : Form) (s : State) → Later (starting π form i test s) (starting π form i test (plus d s))
+      later_starting : (form : Form) (s : State) → Later (starting π form i test s) (starting π form i test (plus d s))
       unfolding starting
-      later-starting while s = same_go
-      later-starting hold s = same_go
-      later-starting (for x) s = later_exec i _ s
-      later-starting do_while s = same_go
+      later_starting while s = same_go
+      later_starting hold s = same_go
+      later_starting (for x) s = later_exec i _ s
+      later_starting do_while s = same_go
 
-      later-enter : (form : Form) (s : State) → Later (enter π form i test body s) (enter π form i test body (plus d s))
+      later_enter : (form : Form) (s : State) → Later (enter π form i test body s) (enter π form i test body (plus d s))
       unfolding enter
-      later-enter form s = later_turn i 0 _ (later-starting form s) (λ t. later-turning form t) (λ t. has-turning form t)
+      later_enter form s = later_turn i 0 _ (later_starting form s) (λ t. later_turning form t) (λ t. has_turning form t)
 
     pub later_run : (b : Block) (s : State) → Later (run π b s) (run π b (plus d s))
     unfolding run
@@ -219,4 +219,4 @@ module _ (d : ℕ) where
     later_run (plain i p rest) s = later_bind _ (later_exec i p s) λ t. later_run rest t
     later_run (pick i e a b rest) s =
         later_bind _ (later_charge _ i _ s _ _ (λ t. later_taken i t.picks t _ _ (λ u. later_run a u) (λ u. later_run b u)) (λ t. none)) λ t. later_run rest t
-    later_run (loop i e form test body rest) s = later_bind _ (later-enter i test _ (λ t. later_run body t) form s) λ t. later_run rest t
+    later_run (loop i e form test body rest) s = later_bind _ (later_enter i test _ (λ t. later_run body t) form s) λ t. later_run rest t

@@ -165,13 +165,13 @@ module _ (π : Prices) (script : Script) (store : List ℤ) (accepts : StartAcce
       goes_so zero = goes_start π script store accepts
       goes_so (suc n) = goes_step π script store accepts n (played n) (lends (played n).used) (goes_so n)
 
-      alike-after : (n : ℕ) → Paired (after_frames π q (Frames.beginning script store picks) (suc n)) (played (suc n)).stand (played (suc n)).used
+      alike_after : (n : ℕ) → Paired (after_frames π q (Frames.beginning script store picks) (suc n)) (played (suc n)).stand (played (suc n)).used
       unfolding after_frames frames_as_steps joined
-      alike-after zero = pair_first (no-lack 0)
-      alike-after (suc n) = pair_step (suc (suc n)) _ (alike-after n) (goes_so (suc n)).can_stand (no-lack (suc n))
+      alike_after zero = pair_first (no-lack 0)
+      alike_after (suc n) = pair_step (suc (suc n)) _ (alike_after n) (goes_so (suc n)).can_stand (no-lack (suc n))
 
-      pub stand-alike : (n : ℕ) → StandAlike (after_frames π q (Frames.beginning script store picks) (suc n)).stand (played (suc n)).stand
-      stand-alike n = by (alike-after n)
+      pub stand_alike : (n : ℕ) → StandAlike (after_frames π q (Frames.beginning script store picks) (suc n)).stand (played (suc n)).stand
+      stand_alike n = by (alike_after n)
         where
           by : {p : Progress} {a : Stand} {u : List ℕ} → Paired p a u → StandAlike p.stand a
           by (paired (placed e)) = at_place
@@ -190,7 +190,7 @@ pub frames_as_steps_lem : FramesAsSteps
 unfolding FramesAsSteps FramesAsAlone
 frames_as_steps_lem π script store accepts picks never q room zero tick fits l = absurd (omega arith)
 frames_as_steps_lem π script store accepts picks never q room (suc n) tick fits l =
-    stand-alike π script store accepts picks q room fits
+    stand_alike π script store accepts picks q room fits
     (λ k lack.
     let p = after_frames π q (Frames.beginning script store picks) (suc k) in
     no_byte_lacks π script store accepts picks never (suc k * q) (p.frame * q) p.stand

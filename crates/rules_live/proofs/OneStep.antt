@@ -186,17 +186,17 @@ module _ (π : Prices) (rows : List RowKind) (matching_end_lem matching_head_lem
       same_cues : {left : ℕ} {rest : List ℕ} {a : ℕ → List ℕ → Next} → cue_of (view_at rows m.row) ≡ [] → Within left rest (done ++ cue_of (view_at rows m.row)) a → Within left rest done a
       same_cues {left} {rest} {a} none h = subst (λ l. Within left rest l a) (ap (λ l. done ++ l) none ∙ append_nil done) h
 
-      no-cues : {left : ℕ} {rest : List ℕ} {a : ℕ → List ℕ → Next} → cue_of (view_at rows m.row) ≡ [] → Within left rest done a → Within left rest (done ++ cue_of (view_at rows m.row)) a
-      no-cues {left} {rest} {a} none h = subst (λ l. Within left rest l a) (sym (ap (λ l. done ++ l) none ∙ append_nil done)) h
+      no_cues : {left : ℕ} {rest : List ℕ} {a : ℕ → List ℕ → Next} → cue_of (view_at rows m.row) ≡ [] → Within left rest done a → Within left rest (done ++ cue_of (view_at rows m.row)) a
+      no_cues {left} {rest} {a} none h = subst (λ l. Within left rest l a) (sym (ap (λ l. done ++ l) none ∙ append_nil done)) h
 
-      still-fit : cue_of (view_at rows m.row) ≡ [] → length (done ++ cue_of (view_at rows m.row)) ≤ room
-      still-fit none = omega (arith, length-append done (cue_of (view_at rows m.row)), ap length none)
+      still_fit : cue_of (view_at rows m.row) ≡ [] → length (done ++ cue_of (view_at rows m.row)) ≤ room
+      still_fit none = omega (arith, length-append done (cue_of (view_at rows m.row)), ap length none)
 
       -- a cue that is not blocked
-      cue-fit : T (not (blocked π rows matching_end_lem matching_head_lem room done m)) → (1 ≤ length (cue_of (view_at rows m.row)) → π.cue ≤ m.now.left)
+      cue_fit : T (not (blocked π rows matching_end_lem matching_head_lem room done m)) → (1 ≤ length (cue_of (view_at rows m.row)) → π.cue ≤ m.now.left)
           → length (done ++ cue_of (view_at rows m.row)) ≤ room
       unfolding blocked
-      cue-fit free-room pays =
+      cue_fit free-room pays =
           by (leb 1 (length (cue_of (view_at rows m.row)))) (leb→le 1 (length (cue_of (view_at rows m.row)))) (nleb→lt 1 (length (cue_of (view_at rows m.row))))
         where
           by : (b : Bool) → (T b → 1 ≤ length (cue_of (view_at rows m.row))) → (T (not b) → length (cue_of (view_at rows m.row)) < 1) → length (done ++ cue_of (view_at rows m.row)) ≤ room
@@ -210,37 +210,37 @@ module _ (π : Prices) (rows : List RowKind) (matching_end_lem matching_head_lem
           by false f g = omega (arith, length-append done (cue_of (view_at rows m.row)), g tt)
 
       -- at a pick whose price is taken
-      asks-for : (i : ℕ) (f : Store) (c : TurnCounts) (left : ℕ) (l : List ℕ) → view_at rows i ≡ is_pick → cue_of (view_at rows m.row) ≡ [] → next_of π rows matching_end_lem matching_head_lem m ≡ picked i (suc (matching_end_lem i)) l (state f left l) c
+      asks_for_lem : (i : ℕ) (f : Store) (c : TurnCounts) (left : ℕ) (l : List ℕ) → view_at rows i ≡ is_pick → cue_of (view_at rows m.row) ≡ [] → next_of π rows matching_end_lem matching_head_lem m ≡ picked i (suc (matching_end_lem i)) l (state f left l) c
           → Within left l done (λ x r. picked i (suc (matching_end_lem i)) r (state f x r) c) → Stopped room (onward π rows matching_end_lem matching_head_lem (suc n) room done m false (next_of π rows matching_end_lem matching_head_lem m))
       unfolding stops_here left_at unused_at reach picked
-      asks-for i f c left [] v none e h = stops_at NoPick i (state f left []) c e (record { within = h; rests = waits_rests v refl; fitting = fit; crowded = tt })
-      asks-for i f c left (b ∷ r) v none e h =
+      asks_for_lem i f c left [] v none e h = stops_at NoPick i (state f left []) c e (record { within = h; rests = waits_rests v refl; fitting = fit; crowded = tt })
+      asks_for_lem i f c left (b ∷ r) v none e h =
           let (w, g) = byte_goes i (suc (matching_end_lem i)) b f c in
-          goes_on (having w left r) (e ∙ g left r (b ∷ r)) (still-fit none) (no-cues none (within_is (λ x r. g x r (b ∷ r)) (within_byte i (suc (matching_end_lem i)) f c b h)))
+          goes_on (having w left r) (e ∙ g left r (b ∷ r)) (still_fit none) (no_cues none (within_is (λ x r. g x r (b ∷ r)) (within_byte i (suc (matching_end_lem i)) f c b h)))
 
       -- once its price is paid
-      onward-paid : (p i : ℕ) (k : State → Next) → p ≤ m.now.left → cue_of (view_at rows i) ≡ cue_of (view_at rows m.row) → next_of π rows matching_end_lem matching_head_lem m ≡ k (state m.now.store (m.now.left - p) m.now.picks)
+      onward_paid : (p i : ℕ) (k : State → Next) → p ≤ m.now.left → cue_of (view_at rows i) ≡ cue_of (view_at rows m.row) → next_of π rows matching_end_lem matching_head_lem m ≡ k (state m.now.store (m.now.left - p) m.now.picks)
           → length (done ++ cue_of (view_at rows m.row)) ≤ room → Within (m.now.left - p) m.now.picks (done ++ cue_of (view_at rows m.row)) (λ x r. k (state m.now.store x r))
           → Paid rows matching_end_lem m.now.store m.tally (cue_of (view_at rows m.row)) i (λ x r. k (state m.now.store x r))
           → Stopped room (onward π rows matching_end_lem matching_head_lem (suc n) room done m false (next_of π rows matching_end_lem matching_head_lem m))
       unfolding stops_here left_at unused_at reach
-      onward-paid p i k l same e f h (moves w z g) = goes_on (having w (m.now.left - p) m.now.picks) (e ∙ g _ _) f (within_is g h)
-      onward-paid p i k l same e f h (leaves none g) =
+      onward_paid p i k l same e f h (moves w z g) = goes_on (having w (m.now.left - p) m.now.picks) (e ∙ g _ _) f (within_is g h)
+      onward_paid p i k l same e f h (leaves none g) =
           stops_at Ending.Range i _ _ (e ∙ g _ _) (record { within = within_is g (same_cues none h); rests = finished_rests tt; fitting = fit; crowded = tt })
-      onward-paid p i k l same e f h (asks v none g) = asks-for i _ _ _ m.now.picks v none (e ∙ g _ _) (within_is g (same_cues none h))
+      onward_paid p i k l same e f h (asks v none g) = asks_for_lem i _ _ _ m.now.picks v none (e ∙ g _ _) (within_is g (same_cues none h))
 
       -- by what the next step is
-      onward-act : Act π fine rows matching_end_lem matching_head_lem m.now.store m.tally m.row (cue_of (view_at rows m.row)) (λ x r. next_of π rows matching_end_lem matching_head_lem (having m x r))
+      onward_act : Act π fine rows matching_end_lem matching_head_lem m.now.store m.tally m.row (cue_of (view_at rows m.row)) (λ x r. next_of π rows matching_end_lem matching_head_lem (having m x r))
           → T (not (blocked π rows matching_end_lem matching_head_lem room done m)) → Stopped room (onward π rows matching_end_lem matching_head_lem (suc n) room done m false (next_of π rows matching_end_lem matching_head_lem m))
       unfolding stops_here left_at unused_at reach
-      onward-act (free none w z e) free-room = goes_on (having w m.now.left m.now.picks) (e _ _) (still-fit none) (no-cues none (within_is e (within_next m here)))
-      onward-act (ends none e) free-room =
+      onward_act (free none w z e) free-room = goes_on (having w m.now.left m.now.picks) (e _ _) (still_fit none) (no_cues none (within_is e (within_next m here)))
+      onward_act (ends none e) free-room =
           stops_at Ended (length rows) _ _ (e _ _) (record { within = within_is e (within_next m here); rests = finished_rests tt; fitting = fit; crowded = tt })
-      onward-act (priced p i k some most same cue-price d e) free-room = by (leb p m.now.left) (leb→le p m.now.left) (nleb→lt p m.now.left)
+      onward_act (priced p i k some most same cue-price d e) free-room = by (leb p m.now.left) (leb→le p m.now.left) (nleb→lt p m.now.left)
         where
           by : (b : Bool) → (T b → p ≤ m.now.left) → (T (not b) → m.now.left < p) → Stopped room (onward π rows matching_end_lem matching_head_lem (suc n) room done m false (next_of π rows matching_end_lem matching_head_lem m))
           by true f g =
-              onward-paid p i k (f tt) same (e _ _ ∙ paid_fits p i _ _ _ _ k (f tt)) (cue-fit free-room λ l. omega (arith, f tt, (cue-price l).0))
+              onward_paid p i k (f tt) same (e _ _ ∙ paid_fits p i _ _ _ _ k (f tt)) (cue_fit free-room λ l. omega (arith, f tt, (cue-price l).0))
               (subst (λ l. Within (m.now.left - p) m.now.picks (done ++ l) (λ x r. k (state m.now.store x r))) same
               (within_paid p i _ _ k _ some (f tt) d (within_is e (within_next m here))))
               d
@@ -254,10 +254,10 @@ module _ (π : Prices) (rows : List RowKind) (matching_end_lem matching_head_lem
               })
 
       -- the list is full
-      onward-full : Act π fine rows matching_end_lem matching_head_lem m.now.store m.tally m.row (cue_of (view_at rows m.row)) (λ x r. next_of π rows matching_end_lem matching_head_lem (having m x r))
+      onward_full : Act π fine rows matching_end_lem matching_head_lem m.now.store m.tally m.row (cue_of (view_at rows m.row)) (λ x r. next_of π rows matching_end_lem matching_head_lem (having m x r))
           → T (blocked π rows matching_end_lem matching_head_lem room done m) → Stopped room (onward π rows matching_end_lem matching_head_lem (suc n) room done m true (next_of π rows matching_end_lem matching_head_lem m))
       unfolding blocked onward left_at unused_at reach
-      onward-full act stop =
+      onward_full act stop =
           let a-cue : 1 ≤ length (cue_of (view_at rows m.row)) = leb→le 1 _ (both (leb 1 (length (cue_of (view_at rows m.row)))) (leb room (length done) && leb π.cue m.now.left) stop).0 in
           let (no_room, pays) = both (leb room (length done)) (leb π.cue m.now.left) (both (leb 1 (length (cue_of (view_at rows m.row)))) (leb room (length done) && leb π.cue m.now.left) stop).1 in
           record { within = here; rests = by act a-cue; fitting = fit; crowded = (leb→le room (length done) no_room, leb→le π.cue m.now.left pays) }
@@ -278,8 +278,8 @@ module _ (π : Prices) (rows : List RowKind) (matching_end_lem matching_head_lem
             → ((w : Place) (more : List ℕ) → rank (length rows) w < n → length more ≤ room → Here w more
             → Stopped room (onward π rows matching_end_lem matching_head_lem n room more w (blocked π rows matching_end_lem matching_head_lem room more w) (next_of π rows matching_end_lem matching_head_lem w)))
             → Stopped room (onward π rows matching_end_lem matching_head_lem (suc n) room done m b (next_of π rows matching_end_lem matching_head_lem m))
-        by true t s ih = onward-full room n done m l f h ih (act_next π fine rows matching_end_lem matching_head_lem m) (t tt)
-        by false t s ih = onward-act room n done m l f h ih (act_next π fine rows matching_end_lem matching_head_lem m) (s tt)
+        by true t s ih = onward_full room n done m l f h ih (act_next π fine rows matching_end_lem matching_head_lem m) (t tt)
+        by false t s ih = onward_act room n done m l f h ih (act_next π fine rows matching_end_lem matching_head_lem m) (s tt)
 
     pub runs_on_lem : (room : ℕ) (m : Place) → Here m [] → Stopped room (runs_on π rows matching_end_lem matching_head_lem room [] m)
     unfolding runs_on

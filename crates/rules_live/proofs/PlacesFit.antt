@@ -107,15 +107,15 @@ module _ (vars : ℕ) (rows : List RowKind) (matching_head_lem : ℕ → ℕ) wh
 
   -- a variable of the script gets a value from −L to L
   limited_put : (f : Store) (v : ℕ) (y : ℤ) → v < vars → T (in_limits y) → Limited f → Limited (put f v y)
-  limited_put f v y l h k = record { within = λ w. by (f w) (eqb w v) (k.within w); beyond = λ w g. past-it w (eqb w v) (eqb→eq w v) g (k.beyond w g) }
+  limited_put f v y l h k = record { within = λ w. by (f w) (eqb w v) (k.within w); beyond = λ w g. past_it w (eqb w v) (eqb→eq w v) g (k.beyond w g) }
     where
       by : (x : ℤ) (b : Bool) → T (in_limits x) → T (in_limits (cond b y x))
       by x true g = h
       by x false g = g
 
-      past-it : (w : ℕ) {x : ℤ} (b : Bool) → (T b → w ≡ v) → vars ≤ w → x ≡ pos 0 → cond b y x ≡ pos 0
-      past-it w true g n e = absurd (omega (arith, g tt))
-      past-it w false g n e = e
+      past_it : (w : ℕ) {x : ℤ} (b : Bool) → (T b → w ≡ v) → vars ≤ w → x ≡ pos 0 → cond b y x ≡ pos 0
+      past_it w true g n e = absurd (omega (arith, g tt))
+      past_it w false g n e = e
 
   -- a plain row's work at row i, then k
   abbrev Below : Plain → Type 0

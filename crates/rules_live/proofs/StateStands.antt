@@ -138,14 +138,14 @@ module _ (π : Prices) (script : Script) where
   stands zero i ph n s ns a b c d k = ((leb→le _ _ b, ltb→lt _ _ d), record { test = test_due i ph c; counts = no_counts ns; store = k })
   stands (suc zero) i ph n s ns a b c d k =
       let (x, y) = both (ltb i (length rows)) (is_pick_row (view_at rows i)) b in
-      ((is-it (view_at rows i) y, ltb→lt _ _ d), (no_counts ns, k))
+      ((is_it (view_at rows i) y, ltb→lt _ _ d), (no_counts ns, k))
     where
-      is-it : (v : View) → T (is_pick_row v) → v ≡ is_pick
-      is-it (is_plain p) h = absurd h
-      is-it is_pick h = refl
-      is-it is_else h = absurd h
-      is-it is_end h = absurd h
-      is-it (is_loop form t last) h = absurd h
+      is_it : (v : View) → T (is_pick_row v) → v ≡ is_pick
+      is_it (is_plain p) h = absurd h
+      is_it is_pick h = refl
+      is_it is_else h = absurd h
+      is_it is_end h = absurd h
+      is_it (is_loop form t last) h = absurd h
   stands (suc (suc zero)) i zero n s ns a b c d k =
       let (x, y) = both (ltb i (length rows)) (is_cue (view_at rows i)) b in
       ((leb→le _ _ y, ltb→lt _ _ d), record { test = λ e. absurd (let z : ◌≡◌ {A = ℕ} 0 1 = cc in omega arith); counts = no_counts ns; store = k })
@@ -159,9 +159,9 @@ module _ (π : Prices) (script : Script) where
   unfolding state_stand state_verdict state_checks head_checks
   passed_stands store ns w e = by (eqb (length ns) state_size) e
     where
-      from-checks : Yes (state_checks π script ns) → CanStand π rows (state_stand script store ns) × Fits (state_stand script store ns)
-      from-checks (some a (some b (some c (some d h)))) = stands (at ns 0) (at ns 1) (at ns 2) (at ns 3) store (drop loops_from ns) a b c d (limited store w)
+      from_checks : Yes (state_checks π script ns) → CanStand π rows (state_stand script store ns) × Fits (state_stand script store ns)
+      from_checks (some a (some b (some c (some d h)))) = stands (at ns 0) (at ns 1) (at ns 2) (at ns 3) store (drop loops_from ns) a b c d (limited store w)
 
       by : (b : Bool) → cond b (first_no 0 (state_checks π script ns)) (refused 21 state_size) ≡ passed → CanStand π rows (state_stand script store ns) × Fits (state_stand script store ns)
-      by true h = from-checks (no_first 0 _ h)
+      by true h = from_checks (no_first 0 _ h)
       by false h = absurd (let z : ◌≡◌ {A = ℕ} 0 1 = cc in omega arith)

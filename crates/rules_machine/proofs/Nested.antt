@@ -170,20 +170,20 @@ module _ (rows : List RowKind) (tree : Block) (whole : build 0 rows ≡ parts (t
       after_pick (alone a b c q z) = (inherited.of_pick _ _ _ _ _ (subst Q q (earlier i l (omega arith)))).0
       after_pick (both j p a b c d f q z) = (inherited.of_pick _ _ _ _ _ (subst Q q (earlier i l (omega arith)))).0
 
-      pick-else : (k : ℕ) → s ≤ k → k < i → end_at rows (suc k) ≡ i → view_at rows i ≡ is_else → PickAt rows k → Q (block_at rows (suc i)) × Q (block_at rows (suc (end_at rows (suc i))))
-      pick-else k a b c v (alone _ _ w _ _) =
+      pick_else : (k : ℕ) → s ≤ k → k < i → end_at rows (suc k) ≡ i → view_at rows i ≡ is_else → PickAt rows k → Q (block_at rows (suc i)) × Q (block_at rows (suc (end_at rows (suc i))))
+      pick_else k a b c v (alone _ _ w _ _) =
           let z : view_at rows i ≡ is_end = ap (view_at rows) (sym c) ∙ w in
           absurd (let y : ◌≡◌ {A = ℕ} 0 1 = cc in omega arith)
-      pick-else k a b c v (both j p _ _ _ _ _ q _) =
+      pick_else k a b c v (both j p _ _ _ _ _ q _) =
           let (_, x, y) = inherited.of_pick _ _ _ _ _ (subst Q q (earlier k a (omega arith))) in
           let z : j ≡ i = sym p ∙ c in
           (subst (λ n. Q (block_at rows (suc n))) z x, subst (λ n. Q (block_at rows (suc (end_at rows (suc n))))) z y)
 
-      after-else : view_at rows i ≡ is_else → Q (block_at rows (suc i)) × Q (block_at rows (suc (end_at rows (suc i))))
-      after-else v =
+      after_else : view_at rows i ≡ is_else → Q (block_at rows (suc i)) × Q (block_at rows (suc (end_at rows (suc i))))
+      after_else v =
           let o = (else_opener i r v).0 in
           let p = else_pick i r v o in
-          pick-else o.row (region.begins i o l m) o.before o.closes v (block_pick rows tree whole o.row (omega (arith, o.before)) p)
+          pick_else o.row (region.begins i o l m) o.before o.closes v (block_pick rows tree whole o.row (omega (arith, o.before)) p)
 
       pick_end : (k : ℕ) → s ≤ k → k < i → end_at rows (suc k) ≡ i → view_at rows i ≡ is_end → PickAt rows k → Q (block_at rows (suc i))
       pick_end k a b c v (alone _ _ _ q _) = subst (λ n. Q (block_at rows (suc n))) c (inherited.of_pick _ _ _ _ _ (subst Q q (earlier k a (omega arith)))).2
@@ -197,21 +197,21 @@ module _ (rows : List RowKind) (tree : Block) (whole : build 0 rows ≡ parts (t
       end_of_lem k a b c (is_plain p) w x = absurd x
       end_of_lem k a b c is_pick w x = pick_end i l m r earlier k a b c v (block_pick rows tree whole k (omega arith) w)
       end_of_lem k a b c is_else w x =
-          subst (λ n. Q (block_at rows (suc n))) c (after-else k a (omega arith) (omega arith) (λ j f g. earlier j f (omega arith)) w).1
+          subst (λ n. Q (block_at rows (suc n))) c (after_else k a (omega arith) (omega arith) (λ j f g. earlier j f (omega arith)) w).1
       end_of_lem k a b c is_end w x = absurd x
       end_of_lem k a b c (is_loop form test last) w x =
           let at = block_loop rows tree whole k (omega arith) form test last w in
           subst (λ n. Q (block_at rows (suc n))) c (inherited.of_loop _ _ _ _ last _ _ (subst Q at.block (earlier k a (omega arith)))).1
 
-      after-end : Q (block_at rows (suc i))
-      after-end = let o = end_opener i r v in end_of_lem o.row (region.begins i o l m) o.before o.closes (view_at rows o.row) refl o.opens
+      after_end : Q (block_at rows (suc i))
+      after_end = let o = end_opener i r v in end_of_lem o.row (region.begins i o l m) o.before o.closes (view_at rows o.row) refl o.opens
 
     -- the row after row i
     after_a_row : (i : ℕ) → s ≤ i → i < e → i < length rows → Earlier i → (w : View) → view_at rows i ≡ w → Q (block_at rows (suc i))
     after_a_row i l m r earlier (is_plain p) w = inherited.of_plain _ _ _ (subst Q (block_plain rows tree whole i r p w).0 (earlier i l (omega arith)))
     after_a_row i l m r earlier is_pick w = after_pick i l m r earlier (block_pick rows tree whole i r w)
-    after_a_row i l m r earlier is_else w = (after-else i l m r earlier w).0
-    after_a_row i l m r earlier is_end w = after-end i l m r earlier w
+    after_a_row i l m r earlier is_else w = (after_else i l m r earlier w).0
+    after_a_row i l m r earlier is_end w = after_end i l m r earlier w
     after_a_row i l m r earlier (is_loop form test last) w =
         (inherited.of_loop _ _ _ _ last _ _ (subst Q (block_loop rows tree whole i r form test last w).block (earlier i l (omega arith)))).0
 

@@ -93,25 +93,25 @@ module _ (rows : List RowKind) (tree : Block) (whole : build 0 rows ≡ parts (t
   -- row j closes row k, the innermost open one
   module _ (j : ℕ) (h : j < length rows) where
     module _ (k : ℕ) (is : List ℕ) (f g : ℕ → ℕ) (l : k < j) (e : end_at rows (suc k) ≡ j) where
-      matching-end-here : Known rows (suc j) (closes_row j (k ∷ is) f g) k
+      matching_end_here : Known rows (suc j) (closes_row j (k ∷ is) f g) k
       unfolding closes_row
-      matching-end-here =
+      matching_end_here =
           let s : put f k j k ≡ j = at_same k j (f k) in
           closed (s ∙ sym e) (ap (put g j k) e ∙ at_same j k (g j)) (omega arith) (omega arith)
 
-      matching-end-known : (i : ℕ) → Known rows j (record { stack = k ∷ is; end = f; head = g }) i → Known rows (suc j) (closes_row j (k ∷ is) f g) i
+      matching_end_known : (i : ℕ) → Known rows j (record { stack = k ∷ is; end = f; head = g }) i → Known rows (suc j) (closes_row j (k ∷ is) f g) i
       unfolding closes_row
-      matching-end-known i (closed a b c d) = by (ℕ_discrete i k)
+      matching_end_known i (closed a b c d) = by (ℕ_discrete i k)
         where
           by : Dec (i ≡ k) → Known rows (suc j) (closes_row j (k ∷ is) f g) i
-          by (yes q) = subst (λ m. Known rows (suc j) (closes_row j (k ∷ is) f g) m) (sym q) matching-end-here
+          by (yes q) = subst (λ m. Known rows (suc j) (closes_row j (k ∷ is) f g) m) (sym q) matching_end_here
           by (no n) =
               let s : put f k j i ≡ f i = at_other i k j (f i) n in
               closed (s ∙ a) (at_other (end_at rows (suc i)) j k (g (end_at rows (suc i))) (λ z. omega arith) ∙ b) (omega arith) (omega arith)
-      matching-end-known i (waits w) = by w refl refl
+      matching_end_known i (waits w) = by w refl refl
         where
           by : {m : ℕ} {ms : List ℕ} → Waits i (m ∷ ms) → m ≡ k → ms ≡ is → Known rows (suc j) (closes_row j (k ∷ is) f g) i
-          by top q r = subst (λ m. Known rows (suc j) (closes_row j (k ∷ is) f g) m) (sym q) matching-end-here
+          by top q r = subst (λ m. Known rows (suc j) (closes_row j (k ∷ is) f g) m) (sym q) matching_end_here
           by (under w) q r = waits (subst (Waits i) r w)
 
     -- an `end` and an `else` at row j
@@ -120,7 +120,7 @@ module _ (rows : List RowKind) (tree : Block) (whole : build 0 rows ≡ parts (t
     unfolding closes_row
     closed_end [] f g (bottom q) known r = absurd (omega arith)
     closed_end (k ∷ is) f g (by_end l m e _ c) known r =
-        record { chain = c; known = with_row j _ (λ i u o. matching-end-known k is f g l e i (known i u o)) (λ o. absurd (subst Opens r o)) }
+        record { chain = c; known = with_row j _ (λ i u o. matching_end_known k is f g l e i (known i u o)) (λ o. absurd (subst Opens r o)) }
     closed_end (k ∷ is) f g (by_else _ _ q _ _ _ _) known r = absurd (let z : ◌≡◌ {A = ℕ} 0 1 = cc in omega arith)
 
     closed_else : (st : List ℕ) (f g : ℕ → ℕ) → Chain rows st j → ((i : ℕ) → i < j → Opens (view_at rows i) → Known rows j (record { stack = st; end = f; head = g }) i)
@@ -129,11 +129,11 @@ module _ (rows : List RowKind) (tree : Block) (whole : build 0 rows ≡ parts (t
     closed_else [] f g (bottom q) known r = absurd (omega arith)
     closed_else (k ∷ is) f g (by_end _ _ _ q _) known r = absurd (let z : ◌≡◌ {A = ℕ} 0 1 = cc in omega arith)
     closed_else (k ∷ is) f g (by_else l e _ l' m' r' c) known r =
-        record { chain = by_end l' m' refl r' c; known = with_row j _ (λ i u o. under-it i (matching-end-known k is f g l e i (known i u o))) (λ o. waits top) }
+        record { chain = by_end l' m' refl r' c; known = with_row j _ (λ i u o. under_it i (matching_end_known k is f g l e i (known i u o))) (λ o. waits top) }
       where
-        under-it : (i : ℕ) → Known rows (suc j) (closes_row j (k ∷ is) f g) i → Known rows (suc j) (push j (closes_row j (k ∷ is) f g)) i
-        under-it i (waits w) = waits (under w)
-        under-it i (closed a b c d) = closed a b c d
+        under_it : (i : ℕ) → Known rows (suc j) (closes_row j (k ∷ is) f g) i → Known rows (suc j) (push j (closes_row j (k ∷ is) f g)) i
+        under_it i (waits w) = waits (under w)
+        under_it i (closed a b c d) = closed a b c d
 
     -- a row more
     pub pair_row_lem : (p : Pairs) → Paired rows j p → (w : View) → view_at rows j ≡ w → Paired rows (suc j) (pair_row w j p)

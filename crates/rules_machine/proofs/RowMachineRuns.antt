@@ -319,27 +319,27 @@ module _ (π : Prices) (rows : List RowKind) (matching_end_lem matching_head_lem
         (does_bind (first s c log told) (λ u es d told'. does_since i j l (kept_refl i d) (rest u d (log ++ es) told'))))
 
     module _ (i : ℕ) (h : i < length rows) (later : (j : ℕ) → i < j → j ≤ length rows → Good j) where
-      sim-plain : (p : Plain) → view_at rows i ≡ is_plain p → Good i
+      sim_plain : (p : Plain) → view_at rows i ≡ is_plain p → Good i
       unfolding run on_row
-      sim-plain p w =
+      sim_plain p w =
           let (b, q) = block_plain rows tree whole i h p w in
           sim_then i (suc i) (omega arith) q (λ s. exec π i p s) (λ s. ap (λ z. run π z s) b)
           (λ s c log told. does_from (row_step_lem i (is_plain p) fresh s c h w) (does_row i c log (bare_exec π i p s) told))
           (later (suc i) (omega arith) (omega arith))
 
-      sim-closed : (block_at rows i ≡ done) × (end_at rows i ≡ i) → Good i
+      sim_closed : (block_at rows i ≡ done) × (end_at rows i ≡ i) → Good i
       unfolding run
-      sim-closed (b, q) s c log told =
+      sim_closed (b, q) s c log told =
           subst (λ k. Does (to k fresh) i c log (to i fresh s c) (run π (block_at rows i) s)) (sym q)
           (subst (λ z. Does (to i fresh) i c log (to i fresh s c) (run π z s)) (sym b) (goes here (told_nil c log told) (kept_refl i c)))
 
       -- a pick whose `else` (or `end`) is row j and whose `end` is row e
-      sim-pick : (j e : ℕ) (a b : Block) → i < j → j ≤ e → e < length rows → view_at rows i ≡ is_pick → matching_end_lem i ≡ j
+      sim_pick : (j e : ℕ) (a b : Block) → i < j → j ≤ e → e < length rows → view_at rows i ≡ is_pick → matching_end_lem i ≡ j
           → block_at rows i ≡ pick i e a b (block_at rows (suc e)) → end_at rows i ≡ end_at rows (suc e)
           → ((s : State) (c : TurnCounts) (log : List Entry) → Tells c log → Does (to (suc e) fresh) i c log (to (suc i) fresh s c) (run π a s))
           → ((s : State) (c : TurnCounts) (log : List Entry) → Tells c log → Does (to (suc e) fresh) i c log (to (suc j) fresh s c) (run π b s)) → Good i
       unfolding run on_row paid charge
-      sim-pick j e a b l l' m r q bl en ha hb =
+      sim_pick j e a b l l' m r q bl en ha hb =
           sim_then i (suc e) (omega arith) en _ (λ s. ap (λ z. run π z s) bl)
           (λ s c log told. does_from (row_step_lem i is_pick fresh s c h r)
           (does_choose (leb π.pick s.left)
@@ -349,25 +349,25 @@ module _ (π : Prices) (rows : List RowKind) (matching_end_lem matching_head_lem
           (later (suc e) (omega arith) (omega arith))
 
       -- a part of a pick, from row k on, and past the pick's `end` e
-      sim-side : (k e : ℕ) → i < k → k ≤ length rows → ((s : State) (c : TurnCounts) → Reach (to (end_at rows k) fresh s c) (to (suc e) fresh s c))
+      sim_side : (k e : ℕ) → i < k → k ≤ length rows → ((s : State) (c : TurnCounts) → Reach (to (end_at rows k) fresh s c) (to (suc e) fresh s c))
           → (s : State) (c : TurnCounts) (log : List Entry) → Tells c log → Does (to (suc e) fresh) i c log (to k fresh s c) (run π (block_at rows k) s)
-      sim-side k e l m f s c log told = does_to (does_since i k (omega arith) (kept_refl i c) (later k l m s c log told)) (λ u d. f u d)
+      sim_side k e l m f s c log told = does_to (does_since i k (omega arith) (kept_refl i c) (later k l m s c log told)) (λ u d. f u d)
 
-      sim-picks : view_at rows i ≡ is_pick → PickAt rows i → Good i
+      sim_picks : view_at rows i ≡ is_pick → PickAt rows i → Good i
       unfolding on_row on_end run
-      sim-picks r (alone l m k bl en) =
+      sim_picks r (alone l m k bl en) =
           let open-it : Opens (view_at rows i) = subst Opens (sym r) tt in
-          sim-pick _ _ _ _ l (omega arith) m r (fit.matching_ends i h open-it) bl en
-          (sim-side (suc i) _ (omega arith) (omega arith) (λ s c. end_step i _ is_pick fresh s c m k (fit.opens i h open-it) r))
+          sim_pick _ _ _ _ l (omega arith) m r (fit.matching_ends i h open-it) bl en
+          (sim_side (suc i) _ (omega arith) (omega arith) (λ s c. end_step i _ is_pick fresh s c m k (fit.opens i h open-it) r))
           (λ s c log told. goes here (told_nil c log told) (kept_refl i c))
-      sim-picks r (both j q l k l' m k' bl en) =
+      sim_picks r (both j q l k l' m k' bl en) =
           let open-it : Opens (view_at rows i) = subst Opens (sym r) tt in
           let open-else : Opens (view_at rows j) = subst Opens (sym k) tt in
           let j-in : j < length rows = omega arith in
-          sim-pick j _ _ _ l (omega arith) m r (fit.matching_ends i h open-it ∙ q) bl en
-          (sim-side (suc i) _ (omega arith) (omega arith) (λ s c. subst (λ z. Reach (to z fresh s c) (to (suc (end_at rows (suc j))) fresh s c)) (sym q)
+          sim_pick j _ _ _ l (omega arith) m r (fit.matching_ends i h open-it ∙ q) bl en
+          (sim_side (suc i) _ (omega arith) (omega arith) (λ s c. subst (λ z. Reach (to z fresh s c) (to (suc (end_at rows (suc j))) fresh s c)) (sym q)
           (subst (λ z. Reach (to j fresh s c) (to (suc z) fresh s c)) (fit.matching_ends j j-in open-else) (row_step_lem j is_else fresh s c j-in k))))
-          (sim-side (suc j) _ (omega arith) (omega arith) (λ s c. end_step j _ is_else fresh s c m k' (fit.opens j j-in open-else) k))
+          (sim_side (suc j) _ (omega arith) (omega arith) (λ s c. end_step j _ is_else fresh s c m k' (fit.opens j j-in open-else) k))
 
       -- a loop, its `end` at row `last_row_lem`
       module _ (form : Form) (t : Test) (last : Last) (w : view_at rows i ≡ is_loop form t last) where
@@ -380,8 +380,8 @@ module _ (π : Prices) (rows : List RowKind) (matching_end_lem matching_head_lem
         open-it : Opens (view_at rows i)
         open-it = subst Opens (sym w) tt
 
-        from-head : (ph : Phase) (s : State) (c : TurnCounts) → Reach (to i ph s c) (on_row π rows matching_end_lem matching_head_lem (is_loop form t last) i ph s c)
-        from-head ph s c = row_step_lem i (is_loop form t last) ph s c h w
+        from_head : (ph : Phase) (s : State) (c : TurnCounts) → Reach (to i ph s c) (on_row π rows matching_end_lem matching_head_lem (is_loop form t last) i ph s c)
+        from_head ph s c = row_step_lem i (is_loop form t last) ph s c h w
 
         from_end : (ph : Phase) (s : State) (c : TurnCounts) → Reach (to last_row_lem ph s c) (on_end π rows matching_end_lem matching_head_lem (is_loop form t last) i last_row_lem ph s c)
         from_end ph s c = end_step i last_row_lem (is_loop form t last) ph s c at_i.in_rows at_i.ends (fit.opens i h open-it) w
@@ -401,58 +401,58 @@ module _ (π : Prices) (rows : List RowKind) (matching_end_lem matching_head_lem
         abbrev Turns : Type 0
         Turns = (s : State) (c : TurnCounts) (log : List Entry) → Tells c log → Does (tests π i last_row_lem t) (suc i) c log (to (suc i) fresh s c) (run π body s)
 
-        sim-loop : ((s : State) (c : TurnCounts) (log : List Entry) → Tells c log → Does (to (suc last_row_lem) fresh) i c log (to i fresh s c) (enter π form i t (λ u. run π body u) s)) → Good i
+        sim_loop : ((s : State) (c : TurnCounts) (log : List Entry) → Tells c log → Does (to (suc last_row_lem) fresh) i c log (to i fresh s c) (enter π form i t (λ u. run π body u) s)) → Good i
         unfolding run
-        sim-loop first =
+        sim_loop first =
             let l = at_i.past in
             let m = at_i.in_rows in
             sim_then i (suc last_row_lem) (omega arith) at_i.last _ (λ s. ap (λ z. run π z s) at_i.block) first (later (suc last_row_lem) (omega arith) (omega arith))
 
         -- from its test on
-        sim-tests : Turns → (k : ℕ) (s : State) (c : TurnCounts) (log : List Entry) → c.turns i ≡ k → Tells c (log ++ entry i k false)
+        sim_tests : Turns → (k : ℕ) (s : State) (c : TurnCounts) (log : List Entry) → c.turns i ≡ k → Tells c (log ++ entry i k false)
             → Does (to (suc last_row_lem) fresh) i c log (tests π i last_row_lem t s c) (iter π i t (λ u. run π body u) (suc s.left) k s)
-        sim-tests ih k s c log q told = sim_iter some-ticks i last_row_lem t body ih (suc s.left) k s c log (omega arith) q told
+        sim_tests ih k s c log q told = sim_iter some-ticks i last_row_lem t body ih (suc s.left) k s c log (omega arith) q told
 
       -- a turn by the body's last row
-      sim-turn : (form : Form) (t : Test) (last : Last) (w : view_at rows i ≡ is_loop form t last) → Turns form t last w
+      sim_turn : (form : Form) (t : Test) (last : Last) (w : view_at rows i ≡ is_loop form t last) → Turns form t last w
       unfolding on_end with_last
-      sim-turn form t no_step w s c log told = does_to (later (suc i) (omega arith) (omega arith) s c log told) (λ u d. reach_trans (from_end form t no_step w fresh u d) (at_a_test form t no_step w u d))
-      sim-turn form t (step_by p) w s c log told =
+      sim_turn form t no_step w s c log told = does_to (later (suc i) (omega arith) (omega arith) s c log told) (λ u d. reach_trans (from_end form t no_step w fresh u d) (at_a_test form t no_step w u d))
+      sim_turn form t (step_by p) w s c log told =
           subst (λ z. Does (tests π i (end_at rows (suc i)) t) (suc i) c log (to (suc i) fresh s c) z) (sym (run_snoc π (block_at rows (suc i)) i p s))
           (does_bind (later (suc i) (omega arith) (omega arith) s c log told)
           (λ u es d told'. does_from (from_end form t (step_by p) w fresh u d)
           (does_to {K = to (end_at rows (suc i)) testing} (does_row (suc i) d (log ++ es) (bare_exec π i p u) told') (λ v e. at_a_test form t (step_by p) w v e))))
 
       -- an entry by the loop's form
-      sim-enter : (form : Form) (t : Test) (last : Last) → view_at rows i ≡ is_loop form t last → Good i
+      sim_enter : (form : Form) (t : Test) (last : Last) → view_at rows i ≡ is_loop form t last → Good i
       unfolding on_row enter starting turning bind closing
-      sim-enter while t last w = sim-loop while t last w λ s c log told.
+      sim_enter while t last w = sim_loop while t last w λ s c log told.
           subst (λ z. Does (to (suc (end_at rows (suc i))) fresh) i c log (to i fresh s c) z) (sym (prepend_none _))
-          (does_from (reach_trans (from-head while t last w fresh s c) (sent while t last w s (begin i c)))
-          (does_since i i (omega arith) (kept_begin i c) (sim-tests while t last w (sim-turn while t last w) 0 s (begin i c) log (begin_turns i c) (told_begun c i _ (told_none c i log told)))))
-      sim-enter hold t last w = sim-loop hold t last w λ s c log told.
+          (does_from (reach_trans (from_head while t last w fresh s c) (sent while t last w s (begin i c)))
+          (does_since i i (omega arith) (kept_begin i c) (sim_tests while t last w (sim_turn while t last w) 0 s (begin i c) log (begin_turns i c) (told_begun c i _ (told_none c i log told)))))
+      sim_enter hold t last w = sim_loop hold t last w λ s c log told.
           subst (λ z. Does (to (suc (end_at rows (suc i))) fresh) i c log (to i fresh s c) z) (sym (prepend_none _))
-          (does_from (reach_trans (from-head hold t last w fresh s c) (sent hold t last w s (begin i c)))
-          (does_since i i (omega arith) (kept_begin i c) (sim-tests hold t last w (sim-turn hold t last w) 0 s (begin i c) log (begin_turns i c) (told_begun c i _ (told_none c i log told)))))
-      sim-enter do_while t last w = sim-loop do_while t last w λ s c log told.
+          (does_from (reach_trans (from_head hold t last w fresh s c) (sent hold t last w s (begin i c)))
+          (does_since i i (omega arith) (kept_begin i c) (sim_tests hold t last w (sim_turn hold t last w) 0 s (begin i c) log (begin_turns i c) (told_begun c i _ (told_none c i log told)))))
+      sim_enter do_while t last w = sim_loop do_while t last w λ s c log told.
           let one : TurnCounts = turn i (begin i c) in
           subst (λ z. Does (to (suc (end_at rows (suc i))) fresh) i c log (to i fresh s c) z) (sym (prepend_none _))
-          (does_from (from-head do_while t last w fresh s c)
+          (does_from (from_head do_while t last w fresh s c)
           (does_since i i (omega arith) (kept_trans i i c (begin i c) one (omega arith) (kept_begin i c) (kept_turn i (begin i c)))
-          (does_part i 1 (sim-turn do_while t last w s one _ (told_turn (begin i c) i 0 log (begin_turns i c) (told_begun c i _ (told_none c i log told)))) (thru_all {Q = λ _. Unit {0}} _ (λ _. tt))
-          (λ u es d _ q told'. sim-tests do_while t last w (sim-turn do_while t last w) 1 u d (log ++ es) (q ∙ turn_turns i (begin i c) ∙ ap suc (begin_turns i c)) told'))))
-      sim-enter (for x) t last w = sim-loop (for x) t last w λ s c log told.
-          does_from (from-head (for x) t last w fresh s c)
+          (does_part i 1 (sim_turn do_while t last w s one _ (told_turn (begin i c) i 0 log (begin_turns i c) (told_begun c i _ (told_none c i log told)))) (thru_all {Q = λ _. Unit {0}} _ (λ _. tt))
+          (λ u es d _ q told'. sim_tests do_while t last w (sim_turn do_while t last w) 1 u d (log ++ es) (q ∙ turn_turns i (begin i c) ∙ ap suc (begin_turns i c)) told'))))
+      sim_enter (for x) t last w = sim_loop (for x) t last w λ s c log told.
+          does_from (from_head (for x) t last w fresh s c)
           (does_part {K = λ u d. to (matching_end_lem i) testing u (begin i d)} i 0 (does_row (suc i) c _ (bare_exec π i _ s) (told_none c i log told)) (thru_all {Q = λ _. Unit {0}} _ (λ _. tt))
           (λ u es d _ q told'. does_from (sent (for x) t last w u (begin i d))
-          (does_since i i (omega arith) (kept_begin i d) (sim-tests (for x) t last w (sim-turn (for x) t last w) 0 u (begin i d) (log ++ es) (begin_turns i d) (told_begun d i _ told')))))
+          (does_since i i (omega arith) (kept_begin i d) (sim_tests (for x) t last w (sim_turn (for x) t last w) 0 u (begin i d) (log ++ es) (begin_turns i d) (told_begun d i _ told')))))
 
-      sim-row : (v : View) → view_at rows i ≡ v → Good i
-      sim-row (is_plain p) w = sim-plain p w
-      sim-row is_pick w = sim-picks w (block_pick rows tree whole i h w)
-      sim-row is_else w = sim-closed (block_else rows tree whole i h w)
-      sim-row is_end w = sim-closed (block_end rows tree whole i h w)
-      sim-row (is_loop form t last) w = sim-enter form t last w
+      sim_row : (v : View) → view_at rows i ≡ v → Good i
+      sim_row (is_plain p) w = sim_plain p w
+      sim_row is_pick w = sim_picks w (block_pick rows tree whole i h w)
+      sim_row is_else w = sim_closed (block_else rows tree whole i h w)
+      sim_row is_end w = sim_closed (block_end rows tree whole i h w)
+      sim_row (is_loop form t last) w = sim_enter form t last w
 
     sim_last : (i : ℕ) → i ≡ length rows → Good i
     unfolding run
@@ -467,7 +467,7 @@ module _ (π : Prices) (rows : List RowKind) (matching_end_lem matching_head_lem
     sim (suc n) i h k = by (ltb i (length rows)) (ltb→lt i (length rows)) (nltb→le i (length rows)) (λ j u v. sim n j v (omega arith))
       where
         by : (b : Bool) → (T b → i < length rows) → (T (not b) → length rows ≤ i) → ((j : ℕ) → i < j → j ≤ length rows → Good j) → Good i
-        by true f g later = sim-row i (f tt) later (view_at rows i) refl
+        by true f g later = sim_row i (f tt) later (view_at rows i) refl
         by false f g later = sim_last i (omega (arith, g tt))
 
 -- ---- the measure falls with each step

@@ -88,27 +88,27 @@ module _ (d : ℕ) where
 
     module _ (i : ℕ) (test : Test) (body : State → Out) (ih : (s : State) → Alike (body s) (body (plus s))) where
       -- more ticks have more fuel
-      alike-iter : (fuel fuel' k : ℕ) (s : State) → fuel ≤ fuel' → Alike (iter π i test body fuel k s) (iter π i test body fuel' k (plus s))
+      alike_iter : (fuel fuel' k : ℕ) (s : State) → fuel ≤ fuel' → Alike (iter π i test body fuel k s) (iter π i test body fuel' k (plus s))
       unfolding iter
-      alike-iter zero fuel' k s h = was_spent
-      alike-iter (suc fuel) zero k s h = absurd (omega arith)
-      alike-iter (suc fuel) (suc fuel') k s h =
+      alike_iter zero fuel' k s h = was_spent
+      alike_iter (suc fuel) zero k s h = absurd (omega arith)
+      alike_iter (suc fuel) (suc fuel') k s h =
           alike_charge _ i _ s _ _ λ t.
-          decide_both Alike (holds test t.store) (alike_bind _ (alike_closing _ (ih t)) (λ u. alike-iter fuel fuel' (suc k) u (omega arith))) same_go same_halt
+          decide_both Alike (holds test t.store) (alike_bind _ (alike_closing _ (ih t)) (λ u. alike_iter fuel fuel' (suc k) u (omega arith))) same_go same_halt
 
-      alike-enter : (form : Form) (s : State) → Alike (enter π form i test body s) (enter π form i test body (plus s))
+      alike_enter : (form : Form) (s : State) → Alike (enter π form i test body s) (enter π form i test body (plus s))
       unfolding enter starting turning
-      alike-enter while s = alike_bind _ (alike_closing _ same_go) λ t. alike-iter _ _ 0 t (omega arith)
-      alike-enter hold s = alike_bind _ (alike_closing _ same_go) λ t. alike-iter _ _ 0 t (omega arith)
-      alike-enter (for x) s = alike_bind _ (alike_closing _ (alike_exec i _ s)) λ t. alike-iter _ _ 0 t (omega arith)
-      alike-enter do_while s = alike_bind _ (alike_closing _ same_go) λ t. alike_bind _ (alike_closing _ (ih t)) (λ u. alike-iter _ _ 1 u (omega arith))
+      alike_enter while s = alike_bind _ (alike_closing _ same_go) λ t. alike_iter _ _ 0 t (omega arith)
+      alike_enter hold s = alike_bind _ (alike_closing _ same_go) λ t. alike_iter _ _ 0 t (omega arith)
+      alike_enter (for x) s = alike_bind _ (alike_closing _ (alike_exec i _ s)) λ t. alike_iter _ _ 0 t (omega arith)
+      alike_enter do_while s = alike_bind _ (alike_closing _ same_go) λ t. alike_bind _ (alike_closing _ (ih t)) (λ u. alike_iter _ _ 1 u (omega arith))
 
     alike_run : (b : Block) (s : State) → Alike (run π b s) (run π b (plus s))
     unfolding run
     alike_run done s = same_go
     alike_run (plain i p rest) s = alike_bind _ (alike_exec i p s) λ t. alike_run rest t
     alike_run (pick i e a b rest) s = alike_bind _ (alike_charge _ i _ s _ _ λ t. alike_taken i t.picks t _ _ (λ u. alike_run a u) (λ u. alike_run b u)) λ t. alike_run rest t
-    alike_run (loop i e form test body rest) s = alike_bind _ (alike-enter i test _ (λ t. alike_run body t) form s) λ t. alike_run rest t
+    alike_run (loop i e form test body rest) s = alike_bind _ (alike_enter i test _ (λ t. alike_run body t) form s) λ t. alike_run rest t
 
 -- ---- a run that is not spent has the same answer with any larger allowance
 same_ticks : (d allowance : ℕ) (picks : List ℕ) (e : Ending) (i : ℕ) (s : State) (es : List Entry)

@@ -233,10 +233,10 @@ module _ (π : Prices) (rows : List RowKind) (tree : Block) (whole : build 0 row
   row_stays (is_plain p) m v i =
       let l = before_end m.row i (λ q. let z : ◌≡◌ {A = ℕ} 0 1 = cc in omega arith) in
       let a : In (suc m.row) = (omega arith, l) in
-      goes_outcome m.tally (exec_keeps m.row p m.now (λ w f. plain-free w f l)) λ u z. on (record { row = inl a; kept = z })
+      goes_outcome m.tally (exec_keeps m.row p m.now (λ w f. plain_free w f l)) λ u z. on (record { row = inl a; kept = z })
     where
-      plain-free : (w : ℕ) → Free w → m.row < end → T (not (sets w p))
-      plain-free w f l = (nor (sets w p) _ (subst (λ t. T (not (assigns w t))) (block_plain rows tree whole m.row (omega (arith, loop_here.in_rows)) p v).0 (free_at w f m.row i))).0
+      plain_free : (w : ℕ) → Free w → m.row < end → T (not (sets w p))
+      plain_free w f l = (nor (sets w p) _ (subst (λ t. T (not (assigns w t))) (block_plain rows tree whole m.row (omega (arith, loop_here.in_rows)) p v).0 (free_at w f m.row i))).0
   row_stays is_pick m v i =
       let l = before_end m.row i (λ q. let z : ◌≡◌ {A = ℕ} 0 1 = cc in omega arith) in
       let (e, c) = inner_closes m.row i l (subst Opens (sym v) tt) in

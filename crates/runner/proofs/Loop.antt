@@ -143,9 +143,9 @@ module _ {text : List ℕ} (π : Prices) (t : List ℕ) (count : ℕ) (picks : L
           ∙ sym (runs_on_is π ready.price rows matching_end_lem matching_head_lem fit now.n start here x i (state_of r store' picks) (tally_of heads counts') now.same (step_is (Over x i) e))
 
       -- it has the counts of the last place
-      still-room : (s : Status) → r.status ≡ s → is_going s ≡ false → Room rows counts'
-      still-room Going e f = absurd (let z : ◌≡◌ {A = ℕ} 0 1 = cc in omega arith)
-      still-room (Over x i) e f =
+      still_room : (s : Status) → r.status ≡ s → is_going s ≡ false → Room rows counts'
+      still_room Going e f = absurd (let z : ◌≡◌ {A = ℕ} 0 1 = cc in omega arith)
+      still_room (Over x i) e f =
           let c : tally_of heads counts' ≡ tally_of heads counts = over_keeps π rows matching_end_lem matching_head_lem here x i (state_of r store' picks) (tally_of heads counts') (step_is (Over x i) e) in
           record {
             long = done.long;
@@ -153,8 +153,8 @@ module _ {text : List ℕ} (π : Prices) (t : List ℕ) (count : ℕ) (picks : L
           }
 
       -- it is over
-      pub is-over : is_going r.status ≡ false → WentOn π rows m₀ r store₀ store' picks counts₀ counts'
-      is-over off = record {
+      pub is_over : is_going r.status ≡ false → WentOn π rows m₀ r store₀ store' picks counts₀ counts'
+      is_over off = record {
         n = suc now.n;
         same = came ∙ sym done.acts.same;
         over = off;
@@ -162,7 +162,7 @@ module _ {text : List ℕ} (π : Prices) (t : List ℕ) (count : ℕ) (picks : L
         waits = λ i e b. let (x, y) = done.acts.rests i e in subst (EndsLoop rows) (sym x) (now.waits (sym y ∙ b));
         left = omega (arith, now.left, done.acts.left);
         used = done.acts.used now.used;
-        room = still-room r.status refl off;
+        room = still_room r.status refl off;
       }
 
     -- what is kept before a test
@@ -173,9 +173,9 @@ module _ {text : List ℕ} (π : Prices) (t : List ℕ) (count : ℕ) (picks : L
           record { long = long; kept = in_keeps (kept _ k.loop.few k.form _ k.last (ap (view_at rows) k.loop.place ∙ k.view)) }
 
       -- and after it, or after a row
-      pub test-limits : (r : Machine) (counts' : List (List ℕ)) (limits' : List ℤ) → m.testing ≡ true → Stepped π rows m r store store picks counts counts'
+      pub test_limits : (r : Machine) (counts' : List (List ℕ)) (limits' : List ℤ) → m.testing ≡ true → Stepped π rows m r store store picks counts counts'
           → TestKept text t m r store limits limits' → is_going r.status ≡ true → LimitsKept rows r.row store limits'
-      test-limits r counts' limits' e done told on =
+      test_limits r counts' limits' e done told on =
           let (n, closed) = ready.script.runs.closed in
           let (tree, whole) = tree_of_lem rows n closed in
           let k = tested (at_a_test e) in
@@ -184,9 +184,9 @@ module _ {text : List ℕ} (π : Prices) (t : List ℕ) (count : ℕ) (picks : L
           (block_loop rows tree whole _ (head_in rows _ k.form _ k.last k.view) k.form _ k.last k.view).past
           (λ f x l v. ap limit_of (sym v ∙ k.view)) told.others (told.own on) kept
 
-      pub row-limits : (r : Machine) (store' : List ℤ) (counts' : List (List ℕ)) → length store' ≡ length store → m.testing ≡ false → Stepped π rows m r store store' picks counts counts'
+      pub row_limits : (r : Machine) (store' : List ℤ) (counts' : List (List ℕ)) → length store' ≡ length store → m.testing ≡ false → Stepped π rows m r store store' picks counts counts'
           → is_going r.status ≡ true → LimitsKept rows r.row store' limits
-      row-limits r store' counts' same e done on =
+      row_limits r store' counts' same e done on =
           let (n, closed) = ready.script.runs.closed in
           let (tree, whole) = tree_of_lem rows n closed in
           after_a_row π rows tree whole ready.script.runs.unchanged here (place_in rows r store' picks counts') store store' limits
@@ -196,7 +196,7 @@ module _ {text : List ℕ} (π : Prices) (t : List ℕ) (count : ℕ) (picks : L
     pub past_end : count ≤ m.row → WentOn π rows m₀ (over_at m m.left Ended count) store₀ store picks counts₀ counts
     past_end l =
         let n = size_of ready.script in
-        is-over (over_at m m.left Ended count) store counts refl
+        is_over (over_at m m.left Ended count) store counts refl
         (record {
           acts = record {
             same = sym (next_past π rows matching_end_lem matching_head_lem m.row _ _ _ (omega arith) ∙ ap (λ k. over Ended k (state_of m store picks) (tally_of heads counts)) n);

@@ -106,12 +106,12 @@ module _ (input : List ℕ) (at : ℕ) (names lengths : List ℕ) (h : NamesKept
       abbrev line : List ℕ
       line = get_or (split lf input) at []
 
-      long-is : get_or lengths at 0 ≡ min 256 (length line)
-      long-is = h.size at free (omega (arith, count_is))
+      long_is : get_or lengths at 0 ≡ min 256 (length line)
+      long_is = h.size at free (omega (arith, count_is))
 
       -- a byte past the 256 that are kept
-      pub kept-past : 256 ≤ get_or lengths at 0 → NamesKept (input ++ (x ∷ [])) at names lengths
-      kept-past full = record {
+      pub kept_past : 256 ≤ get_or lengths at 0 → NamesKept (input ++ (x ∷ [])) at names lengths
+      kept_past full = record {
         long = h.long;
         room = h.room;
         last = omega (arith, h.last, byte_count x input other);
@@ -123,13 +123,13 @@ module _ (input : List ℕ) (at : ℕ) (names lengths : List ℕ) (h : NamesKept
           by_size k l (inl m) = h.size k l (omega (arith, count_is)) ∙ ap (λ z. min 256 (length z)) (sym (byte_before x input other k (omega (arith, count_is))))
           by_size k l (inr e) =
               subst (λ z. get_or lengths z 0 ≡ min 256 (length (get_or (split lf (input ++ (x ∷ []))) z []))) (sym e)
-              (omega (arith, long-is, length-append line (x ∷ []), ap length (byte_last x input other at count_is)))
+              (omega (arith, long_is, length-append line (x ∷ []), ap length (byte_last x input other at count_is)))
 
           by_line : (k : ℕ) → k < 65 → (k < at) ⊎ (k ≡ at) → take (get_or lengths k 0) (drop (256 * k) names) ≡ take 256 (get_or (split lf (input ++ (x ∷ []))) k [])
           by_line k l (inl m) = h.line k l (omega (arith, count_is)) ∙ ap (λ z. take 256 z) (sym (byte_before x input other k (omega (arith, count_is))))
           by_line k l (inr e) =
               subst (λ z. take (get_or lengths z 0) (drop (256 * z) names) ≡ take 256 (get_or (split lf (input ++ (x ∷ []))) z [])) (sym e)
-              (h.line at free (omega (arith, count_is)) ∙ sym (take-append-le 256 line (x ∷ []) (omega (arith, long-is))) ∙ ap (λ z. take 256 z) (sym (byte_last x input other at count_is)))
+              (h.line at free (omega (arith, count_is)) ∙ sym (take-append-le 256 line (x ∷ []) (omega (arith, long_is))) ∙ ap (λ z. take 256 z) (sym (byte_last x input other at count_is)))
 
       -- a byte that is kept, at its place
       pub kept_byte : get_or lengths at 0 < 256 → (p : ℕ) → p ≡ 256 * at + get_or lengths at 0 → NamesKept (input ++ (x ∷ [])) at (set names p x) (set lengths at (get_or lengths at 0 + 1))
@@ -147,20 +147,20 @@ module _ (input : List ℕ) (at : ℕ) (names lengths : List ℕ) (h : NamesKept
           next : List ℕ
           next = set lengths at (get_or lengths at 0 + 1)
 
-          now-is : get_or next at 0 ≡ get_or lengths at 0 + 1
-          now-is = get_or-set_same lengths at (get_or lengths at 0 + 1) 0 (omega (arith, h.room))
+          now_is : get_or next at 0 ≡ get_or lengths at 0 + 1
+          now_is = get_or-set_same lengths at (get_or lengths at 0 + 1) 0 (omega (arith, h.room))
 
           old : (k : ℕ) → k < at → get_or next k 0 ≡ get_or lengths k 0
           old k l = get_or-set_other lengths at k (get_or lengths at 0 + 1) 0 (λ e. omega (arith, e))
 
           whole : length line ≡ get_or lengths at 0
-          whole = omega (arith, long-is)
+          whole = omega (arith, long_is)
 
           by_size : (k : ℕ) → k < 65 → (k < at) ⊎ (k ≡ at) → get_or next k 0 ≡ min 256 (length (get_or (split lf (input ++ (x ∷ []))) k []))
           by_size k l (inl m) = old k m ∙ h.size k l (omega (arith, count_is)) ∙ ap (λ z. min 256 (length z)) (sym (byte_before x input other k (omega (arith, count_is))))
           by_size k l (inr e) =
               subst (λ z. get_or next z 0 ≡ min 256 (length (get_or (split lf (input ++ (x ∷ []))) z []))) (sym e)
-              (omega (arith, now-is, whole, length-append line (x ∷ []), ap length (byte_last x input other at count_is)))
+              (omega (arith, now_is, whole, length-append line (x ∷ []), ap length (byte_last x input other at count_is)))
 
           -- a line before is not touched
           apart : (k m : ℕ) → k < at → m ≤ 256 → take m (drop (256 * k) (set names p x)) ≡ take m (drop (256 * k) names)
@@ -173,7 +173,7 @@ module _ (input : List ℕ) (at : ℕ) (names lengths : List ℕ) (h : NamesKept
               ∙ h.line k l (omega (arith, count_is)) ∙ ap (λ z. take 256 z) (sym (byte_before x input other k (omega (arith, count_is))))
           by_line k l (inr f) =
               subst (λ z. take (get_or next z 0) (drop (256 * z) (set names p x)) ≡ take 256 (get_or (split lf (input ++ (x ∷ []))) z [])) (sym f)
-              (ap (λ z. take z (drop (256 * at) (set names p x))) (now-is ∙ add-one (get_or lengths at 0))
+              (ap (λ z. take z (drop (256 * at) (set names p x))) (now_is ∙ add-one (get_or lengths at 0))
               ∙ ap (λ z. take (suc (get_or lengths at 0)) (drop (256 * at) (set names z x))) e
               ∙ ap (take (suc (get_or lengths at 0))) (drop-set-add (256 * at) names (get_or lengths at 0) x)
               ∙ take-suc-set (drop (256 * at) names) (get_or lengths at 0) x (simp length-drop (omega (arith, h.long)))
@@ -205,11 +205,11 @@ module _ (input : List ℕ) (at : ℕ) (names lengths : List ℕ) (h : NamesKept
 
         by : (c : Bool) → eqb (get_or lengths at 0) 0 ≡ c → length (until_last (split lf input)) ≡ at + cond c 0 1
         by true e = last_none (split lf input) at lines_are (omega (arith, size, eqb-true (get_or lengths at 0) 0 e)) ∙ omega arith
-        by false e = last_named (split lf input) at lines_are (by-pos (length (get_or (split lf input) at [])) (λ z. eqb-false (get_or lengths at 0) 0 e (size ∙ ap (min 256) z)))
+        by false e = last_named (split lf input) at lines_are (by_pos (length (get_or (split lf input) at [])) (λ z. eqb-false (get_or lengths at 0) 0 e (size ∙ ap (min 256) z)))
           where
-            by-pos : (n : ℕ) → (n ≡ 0 → ⊥) → 0 < n
-            by-pos zero f = absurd (f refl)
-            by-pos (suc n) f = omega arith
+            by_pos : (n : ℕ) → (n ≡ 0 → ⊥) → 0 < n
+            by_pos zero f = absurd (f refl)
+            by_pos (suc n) f = omega arith
 
 pub listed_none : (ns : List (List ℕ)) → 64 < length ns → listed ns ≡ 0
 unfolding listed

@@ -211,18 +211,18 @@ module _ (text : List ℕ) (script : List RowKind) (j : ℕ) (p : Pairs) (t : Li
         zero_more = omega arith
 
     module _ (k : Kind) (kind_is : get_or script j End ≡ kind_of text k) (st : Stands k (numbers_at t' j)) where
-      kinds-next : (i : ℕ) → i < suc j → kind_of text (kind_in (numbers_at t' i)) ≡ get_or script i End
-      kinds-next = up_to (λ i. kind_of text (kind_in (numbers_at t' i)) ≡ get_or script i End) j (kinds_kept t' carried) (ap (kind_of text) st.kind ∙ sym kind_is)
+      kinds_next : (i : ℕ) → i < suc j → kind_of text (kind_in (numbers_at t' i)) ≡ get_or script i End
+      kinds_next = up_to (λ i. kind_of text (kind_in (numbers_at t' i)) ≡ get_or script i End) j (kinds_kept t' carried) (ap (kind_of text) st.kind ∙ sym kind_is)
 
-      tests-next : (i : ℕ) → i < suc j → TestOf (kind_in (numbers_at t' i)) (numbers_at t' i)
-      tests-next = up_to (λ i. TestOf (kind_in (numbers_at t' i)) (numbers_at t' i)) j (tests_kept t' carried) (subst (λ x. TestOf x (numbers_at t' j)) (sym st.kind) st.test)
+      tests_next : (i : ℕ) → i < suc j → TestOf (kind_in (numbers_at t' i)) (numbers_at t' i)
+      tests_next = up_to (λ i. TestOf (kind_in (numbers_at t' i)) (numbers_at t' i)) j (tests_kept t' carried) (subst (λ x. TestOf x (numbers_at t' j)) (sym st.kind) st.test)
 
       -- a plain row
-      pub plain-next : (x : Plain) → view_at script j ≡ is_plain x → PairedBy text script (suc j) p t' o
+      pub plain_next : (x : Plain) → view_at script j ≡ is_plain x → PairedBy text script (suc j) p t' o
       unfolding is_loop_row
-      plain-next x w = record {
-        kinds = kinds-next;
-        tests = tests-next;
+      plain_next x w = record {
+        kinds = kinds_next;
+        tests = tests_next;
         stack = b.stack;
         waits = waits_kept;
         loops = loops_kept (ap is_loop_row w);
@@ -233,12 +233,12 @@ module _ (text : List ℕ) (script : List RowKind) (j : ℕ) (p : Pairs) (t : Li
       }
 
       -- a row that begins a block; n loops have begun with it
-      pub push-next : (n : ℕ) → Opens (view_at script j) → n ≡ loops_before script (suc j) → o.depth < length o.heads → o.depth < length o.numbers
+      pub push_next : (n : ℕ) → Opens (view_at script j) → n ≡ loops_before script (suc j) → o.depth < length o.heads → o.depth < length o.numbers
           → PairedBy text script (suc j) (push j p) t' (pushed_on j n o)
       unfolding push
-      push-next n opens more l m = record {
-        kinds = kinds-next;
-        tests = tests-next;
+      push_next n opens more l m = record {
+        kinds = kinds_next;
+        tests = tests_next;
         stack = stack_push o.heads o.depth j l ∙ ap (λ s. j ∷ s) b.stack;
         waits = λ d h. up_to (λ d. Waiting script (suc j) (get_or (set o.heads o.depth j) d 0) (get_or (set o.numbers o.depth o.loops) d 0)) o.depth before here d (omega arith);
         loops = more;
@@ -310,17 +310,17 @@ module _ (text : List ℕ) (script : List RowKind) (j : ℕ) (t t' : List ℕ) (
 
   row_next : (w : View) → view_at script j ≡ w → Did (role_by w) j k o t t' → Room (role_by w) o → PairedBy text script (suc j) (pair_row w j p) t' (open_after (role_by w) j o)
   unfolding pair_row is_loop_row
-  row_next (is_plain x) w d r = plain-next text script j p t o b in_script t' d.only k kind_is d.row x w
+  row_next (is_plain x) w d r = plain_next text script j p t o b in_script t' d.only k kind_is d.row x w
   row_next is_pick w d r =
-      push-next text script j p t o b in_script t' d.only k kind_is d.row o.loops (subst Opens (sym w) tt) (loops_kept text script j p t o b in_script t' d.only (ap is_loop_row w))
+      push_next text script j p t o b in_script t' d.only k kind_is d.row o.loops (subst Opens (sym w) tt) (loops_kept text script j p t o b in_script t' d.only (ap is_loop_row w))
       (omega (arith, eight.heads)) (omega (arith, eight.numbers))
   row_next (is_loop form test last) w d r =
-      push-next text script j p t o b in_script t' d.only k kind_is d.row (o.loops + 1) (subst Opens (sym w) tt) (more_loops (ap is_loop_row w))
+      push_next text script j p t o b in_script t' d.only k kind_is d.row (o.loops + 1) (subst Opens (sym w) tt) (more_loops (ap is_loop_row w))
       (omega (arith, eight.heads, r.0)) (omega (arith, eight.numbers, r.0))
   row_next is_else w (u, c, d) r =
       let q = closed text script j p t o b r u c in
       subst (λ x. PairedBy text script (suc j) (push j x) t' (pushed_on j o.loops (popped_off o))) (closes_is o.heads o.depth j p.stack p.end p.head r b.stack)
-      (push-next text script j (closed_by o j p) u (popped_off o) q in_script t' d.only k kind_is d.row o.loops (subst Opens (sym w) tt)
+      (push_next text script j (closed_by o j p) u (popped_off o) q in_script t' d.only k kind_is d.row o.loops (subst Opens (sym w) tt)
       (loops_kept text script j (closed_by o j p) u (popped_off o) q in_script t' d.only (ap is_loop_row w)) (omega (arith, eight.heads)) (omega (arith, eight.numbers)))
   row_next is_end w (u, c, d, z) r =
       let q = closed text script j p t o b r u c in

@@ -14,14 +14,14 @@ use Rattle.table.proofs.Laws.{row_in}
 use Rattle.analysis_steps.specs.Tree.{block_at, end_at, head_of, form_of, test_of}
 use Rattle.analysis_steps.specs.Sets.{set_of}
 use Rattle.analysis_steps.proofs.Laws.{PickIs, LoopIs}
-use Rattle.analysis_steps.proofs.Walking.{ready, begin, pick_at, loop_at, at-close, at_last}
+use Rattle.analysis_steps.proofs.Walking.{ready, begin, pick_at, loop_at, at_close, at_last}
 use Rattle.analysis_intervals.specs.Env.{env_of, range_of}
 use Rattle.analysis_ranges.specs.Env.{widened_env}
 use Rattle.analysis_ranges.proofs.Loops.{outside_after}
 use Rattle.analysis.specs.Tallies.{LentTally, with_lent, tallied}
 use Rattle.analysis.specs.Fold.{PassedPart, IsBlock}
 use Rattle.analysis.proofs.Folding.{fold_none}
-use Rattle.analysis.proofs.Going.{block_shape, loop_shape_lem, refused_in, closing, restart_walkable, walked_from, Going, room, go_plain, go_block, block_stops, pick_room, pick_first, pick_second, part_by, past_pick_lem, loop_room, loop_refused, body_refused, body-walkable, body-by, past-loop}
+use Rattle.analysis.proofs.Going.{block_shape, loop_shape_lem, refused_in, closing, restart_walkable, walked_from, Going, room, go_plain, go_block, block_stops, pick_room, pick_first, pick_second, part_by, past_pick_lem, loop_room, loop_refused, body_refused, body_walkable, body_by, past_loop_lem}
 use borrow.Fn.Kinds.{In}
 use borrow.Fn.PlainCycle.{Measures, is, falls, and}
 use Rattle.analysis.proofs.walk_loop.Reads as walk_loop
@@ -222,7 +222,7 @@ loop_walk_requires t c κs =
     let e = c.before.before.before.before.before.before.before.before.enter-loop in
     let n = (e.ensures s.args.own.now).whole c.before.before.before.before.before.if1.false in
     let w = s.requires.1.walk in
-    (omega (arith, s.requires.0, s.requires.1.inside, n.lined.next), (body-walkable s.args.script.prices s.args.round (env_of s.args.r.now) (loop_from t s) (loop_is t s refl) e.result n (ready w.ready (omega (arith, s.requires.1.inside))) w.prices w.room, ((e.ensures []).begun c.before.before.before.before.before.if1.false).long))
+    (omega (arith, s.requires.0, s.requires.1.inside, n.lined.next), (body_walkable s.args.script.prices s.args.round (env_of s.args.r.now) (loop_from t s) (loop_is t s refl) e.result n (ready w.ready (omega (arith, s.requires.1.inside))) w.prices w.room, ((e.ensures []).begun c.before.before.before.before.before.if1.false).long))
 
 loop_returns_2 : (t : ℕ) → loop-lts.Need-returns-2 (loop_given t) (loop_at_t t) walk_loop.Post
 loop_returns_2 t c =
@@ -273,8 +273,8 @@ loop_returns_3 t c =
       whole = λ z.
           let u = loop_is t s p.place in
           let n = e.whole l in
-          past-loop a.script.prices a.round (env_of a.r.now) (loop_from t s) u one n
-          (body-by a.script.prices a.round (env_of a.r.now) (loop_from t s) u one n (e.begun l).value p)
+          past_loop_lem a.script.prices a.round (env_of a.r.now) (loop_from t s) u one n
+          (body_by a.script.prices a.round (env_of a.r.now) (loop_from t s) u one n (e.begun l).value p)
           (λ G h. left.closed text G h _ _ _)
           (ap (λ b. (a.t.kept && not (starts v (form_of text k) (test_of text k))) && not b) (x.sets v))
           (record {
@@ -352,7 +352,7 @@ walk_returns t c =
     let k = c.before.before.before.before.before.before.loop.invariant.2 in
     record {
       stopped = λ h. absurd (h k.number);
-      whole = λ z. closing (at-close _ _ _ _ _ (fold_none _ _ _ k.small) k.walk c.before.before.before.if1.true c.before.before.before.before.before.before.before.before.before.before.requires.1.0.ready.built (sym c.before.before.shape_at.ensures ∙ c.enum-told2.given.1)) k.small k.long c.before.before.before.before.before.before.loop.invariant.0;
+      whole = λ z. closing (at_close _ _ _ _ _ (fold_none _ _ _ k.small) k.walk c.before.before.before.if1.true c.before.before.before.before.before.before.before.before.before.before.requires.1.0.ready.built (sym c.before.before.shape_at.ensures ∙ c.enum-told2.given.1)) k.small k.long c.before.before.before.before.before.before.loop.invariant.0;
     }
 
 walk_returns_3 : (t : ℕ) → walk-lts.Need-returns-3 (walk_given t) (walk_at_t t) walk.Post Inv μ

@@ -16,7 +16,7 @@ use Rattle.analysis_steps.proofs.Laws.{PickIs, LoopIs}
 use Rattle.analysis_steps.proofs.Walking.{ready, pick_at, loop_at}
 use Rattle.analysis_steps.proofs.Sets.{clear, no_set}
 use Rattle.analysis_steps.proofs.Stepping.{room, row_room, pick_room, step_stays}
-use Rattle.analysis_steps.proofs.Moving.{Moving, begins, with-plain, with-pick, with-loop, closes, ends}
+use Rattle.analysis_steps.proofs.Moving.{Moving, begins, with_plain, with_pick, with_loop, closes, ends}
 use borrow.Fn.Kinds.{In}
 use borrow.Fn.PlainCycle.{Measures, is, falls, and}
 use Rattle.analysis_steps.proofs.moves_of.Reads as Moves-of
@@ -88,7 +88,7 @@ loop_again t c = λ text r.
     let v = c.before.before.before.before.before.before.before.before.before.before.args.v in
     let p = plain_of text (kind_at (rows_of c.before.before.before.before.before.before.before.before.before.before.args.rows.now) c.before.before.before.before.before.before.before.before.loop.i) in
     let e = ⊎_elim {C = c.if1.step ≡ then s (row_step v p)} (λ w. w.3 ∙ w.2.ensures ∙ ap (then s) (w.1.ensures text)) (λ w. w.1 ∙ sym (step_stays s v p (sym (c.before.sets_it.ensures text) ∙ w.0.left))) c.if1.branch in
-    with-plain _ _ _ _ _ r (c.before.before.before.before.before.before.before.before.loop.invariant text r) c.before.before.before.before.before.before.before.loop-test.true (sym c.before.before.before.before.before.before.shape_at.ensures ∙ c.before.before.before.before.enum_told.given.1) (c.before.before.add_row.ensures text) e
+    with_plain _ _ _ _ _ r (c.before.before.before.before.before.before.before.before.loop.invariant text r) c.before.before.before.before.before.before.before.loop-test.true (sym c.before.before.before.before.before.before.shape_at.ensures ∙ c.before.before.before.before.enum_told.given.1) (c.before.before.add_row.ensures text) e
 
 moves_of_requires : (t : ℕ) → lts.Need-moves-of-requires (given t) (here t) Moves-of.Post Inv μ
 moves_of_requires t c κs = let (text, r) = c.before.before.before.before.before.before.before.requires.1.0 in let k = c.before.before.before.before.before.loop.invariant text r in (search rules, ((text, ready r (search rules)), search rules, k.long))
@@ -115,7 +115,7 @@ loop_less_2 t c = let (text, r) = c.before.before.before.before.before.before.be
 
 loop_again_2 : (t : ℕ) → lts.Need-loop-preserved-2 (given t) (here t) Moves-of.Post Inv μ
 loop_again_2 t c = λ text r.
-    with-pick _ _ _ _ _ r (c.before.before.before.before.before.before.before.before.before.before.before.before.loop.invariant text r) c.before.before.before.before.before.before.before.before.before.before.before.loop-test.true (pick_2 t c.before.before.before text r) (c.before.before.before.before.before.before.Moves-of.ensures text (ready r (search rules))) (c.before.before.before.moves-of2.ensures text (second t c.before.before.before.before.before text r)) (c.before.then2.ensures ∙ ap (then c.before.before.before.before.before.before.before.before.before.before.before.before.loop.step) c.before.before.either.ensures)
+    with_pick _ _ _ _ _ r (c.before.before.before.before.before.before.before.before.before.before.before.before.loop.invariant text r) c.before.before.before.before.before.before.before.before.before.before.before.loop-test.true (pick_2 t c.before.before.before text r) (c.before.before.before.before.before.before.Moves-of.ensures text (ready r (search rules))) (c.before.before.before.moves-of2.ensures text (second t c.before.before.before.before.before text r)) (c.before.then2.ensures ∙ ap (then c.before.before.before.before.before.before.before.before.before.before.before.before.loop.step) c.before.before.either.ensures)
 
 moves_of_requires_3 : (t : ℕ) → lts.Need-moves-of-requires-3 (given t) (here t) Moves-of.Post Inv μ
 moves_of_requires_3 t c κs = let (text, r) = c.before.before.before.before.before.before.before.requires.1.0 in let k = c.before.before.before.before.before.loop.invariant text r in (search rules, ((text, ready r (search rules)), search rules, search rules))
@@ -138,7 +138,7 @@ loop_less_3 t c = let (text, r) = c.before.before.before.before.before.before.be
 loop_again_3 : (t : ℕ) → lts.Need-loop-preserved-3 (given t) (here t) Moves-of.Post Inv μ
 unfolding clear
 loop_again_3 t c = λ text r.
-    with-loop _ _ _ _ _ r (c.before.before.before.before.before.before.before.before.before.before.before.before.before.before.loop.invariant text r) c.before.before.before.before.before.before.before.before.before.before.before.before.before.loop-test.true (loop_1 t c.before.before.before.before.before.before.before.before text r) (sym c.before.before.before.before.before.before.before.before.before.before.before.before.shape_at.ensures ∙ c.before.before.before.before.before.before.before.before.before.before.enum-told3.given.1) (no_set _ refl) (c.before.before.before.before.before.before.before.before.moves-of3.ensures text (ready r (search rules))) (c.before.before.before.before.before.before.add-row2.ensures text) c.before.add-all.ensures c.before.before.before.before.before.has.ensures (c.before.before.before.then3.ensures ∙ ap (then c.before.before.before.before.before.before.before.before.before.before.before.before.before.before.loop.step) c.before.before.before.before.only.ensures)
+    with_loop _ _ _ _ _ r (c.before.before.before.before.before.before.before.before.before.before.before.before.before.before.loop.invariant text r) c.before.before.before.before.before.before.before.before.before.before.before.before.before.loop-test.true (loop_1 t c.before.before.before.before.before.before.before.before text r) (sym c.before.before.before.before.before.before.before.before.before.before.before.before.shape_at.ensures ∙ c.before.before.before.before.before.before.before.before.before.before.enum-told3.given.1) (no_set _ refl) (c.before.before.before.before.before.before.before.before.moves-of3.ensures text (ready r (search rules))) (c.before.before.before.before.before.before.add-row2.ensures text) c.before.add-all.ensures c.before.before.before.before.before.has.ensures (c.before.before.before.then3.ensures ∙ ap (then c.before.before.before.before.before.before.before.before.before.before.before.before.before.before.loop.step) c.before.before.before.before.only.ensures)
 
 returns : (t : ℕ) → lts.Need-returns (given t) (here t) Moves-of.Post Inv μ
 returns t c = λ text r. closes _ _ _ _ _ r (c.before.before.before.before.loop.invariant text r) c.before.before.before.loop-test.true (sym c.before.before.shape_at.ensures ∙ c.enum-told4.given.1)

@@ -16,18 +16,18 @@ use Rattle.analysis_intervals.specs.Wide.{wide_range}
 use Rattle.analysis_turns.specs.Needs.{Countable}
 use Rattle.analysis_turns.proofs.Answers.{countable, turns_few}
 use Rattle.analysis_turns.proofs.MovesLaws.{ranged}
-use Rattle.analysis_turns.proofs.Verdicts.{refused_19, refused_8, refused-9, refused-10, refused-11, refused-12, accepted, not_yes, not_no}
+use Rattle.analysis_turns.proofs.Verdicts.{refused_19, refused_8, refused_9, refused_10, refused_11, refused_12, accepted, not_yes, not_no}
 use Rattle.analysis_turns.proofs.ask.Statement.{statement}
 use Rattle.analysis_turns.proofs.ask.Tie as tie
 
 returns_3 : tie.Need-returns-3
-returns_3 c = refused-9 (trip_of c.before.before.before.before.before.before.args.trip) (not_no c.before.before.before.before.if1.false) (sym c.before.before.before.known.ensures ∙ not_no c.before.before.if2.false) (sym c.before.moving.ensures ∙ not_yes c.if3.true)
+returns_3 c = refused_9 (trip_of c.before.before.before.before.before.before.args.trip) (not_no c.before.before.before.before.if1.false) (sym c.before.before.before.known.ensures ∙ not_no c.before.before.if2.false) (sym c.before.moving.ensures ∙ not_yes c.if3.true)
 
 returns-4 : tie.Need-returns-4
-returns-4 c = refused-10 (trip_of c.before.before.before.before.before.before.before.before.args.trip) (not_no c.before.before.before.before.before.before.if1.false) (sym c.before.before.before.before.before.known.ensures ∙ not_no c.before.before.before.before.if2.false) (sym c.before.before.before.moving.ensures ∙ not_no c.before.before.if3.false) (not_yes c.if4.true)
+returns-4 c = refused_10 (trip_of c.before.before.before.before.before.before.before.before.args.trip) (not_no c.before.before.before.before.before.before.if1.false) (sym c.before.before.before.before.before.known.ensures ∙ not_no c.before.before.before.before.if2.false) (sym c.before.before.before.moving.ensures ∙ not_no c.before.before.if3.false) (not_yes c.if4.true)
 
 returns-5 : tie.Need-returns-5
-returns-5 c = refused-11 (trip_of c.before.before.before.before.before.before.before.before.before.before.args.trip) (not_no c.before.before.before.before.before.before.before.before.if1.false) (sym c.before.before.before.before.before.before.before.known.ensures ∙ not_no c.before.before.before.before.before.before.if2.false) (sym c.before.before.before.before.before.moving.ensures ∙ not_no c.before.before.before.before.if3.false) (not_no c.before.before.if4.false) (sym c.before.suits.ensures ∙ not_yes c.if5.true)
+returns-5 c = refused_11 (trip_of c.before.before.before.before.before.before.before.before.before.before.args.trip) (not_no c.before.before.before.before.before.before.before.before.if1.false) (sym c.before.before.before.before.before.before.before.known.ensures ∙ not_no c.before.before.before.before.before.before.if2.false) (sym c.before.before.before.before.before.moving.ensures ∙ not_no c.before.before.before.before.if3.false) (not_no c.before.before.if4.false) (sym c.before.suits.ensures ∙ not_yes c.if5.true)
 
 -- questions 19 and 8 to 11 have yes
 record Yes (τ : Trip) : Type 0 where
@@ -65,7 +65,7 @@ returns-6 c =
     let y = yes c.before.before.before.before.before.before.before.before in
     let f : SFits w64 c.before.before.before.edge.result = sfits_of c.before.before.before.edge.type-inv in
     let h = rw (to_z-of_z f) at c.before.has-figure.ensures in
-    refused-12 τ y.terms y.known y.moves y.keeps y.suits _ _ _ (first c.before.before) c.before.before.before.before.limit_of_lem.ensures.0 (end c.before.before.before)
+    refused_12 τ y.terms y.known y.moves y.keeps y.suits _ _ _ (first c.before.before) c.before.before.before.before.limit_of_lem.ensures.0 (end c.before.before.before)
     (sym (h ∙ ap (λ s. has_figure τ.step (sort τ.comparison) s (wide_range c.before.before.at_a_test.result) (wide_range c.before.before.before.before.limit_of_lem.result) c.before.before.before.edge.result) c.before.before.before.before.before.start_of_lem.ensures.0) ∙ not_yes c.if6.true)
 
 -- what the turns ask

@@ -13,7 +13,7 @@ use Rattle.calls.specs.Held.{read_script, judged_script, FiguresFound}
 use Rattle.calls.specs.Told.{RanAs}
 use Rattle.calls.proofs.Tables.{four, fine, found_by, may_run}
 use Rattle.calls.proofs.Judging.{ticks_few}
-use Rattle.calls.proofs.Runs.{told_says, ran_no, ran_out, runs-from, ran_all}
+use Rattle.calls.proofs.Runs.{told_says, ran_no, ran_out, runs_from, ran_all}
 use borrow.Author.Rules.{rules}
 use Rattle.calls.proofs.run_script.Statement.{statement}
 use Rattle.calls.proofs.run_script.Tie as tie
@@ -64,7 +64,7 @@ run-accepted-requires c κs =
     let few = ticks_few s.args.prices.now (script s) s.args.script.count f.result _ (found c.before.before.before.before.before.before.before.before.before) z in
     may_run _ _ _ _ s.requires.0
     (fine s.args.prices.now s.requires.1 c.before.before.before.before.before.before.before.before.before.before.prices-of.ensures).test.some
-    (runs-from s.args.prices.now (script s) s.args.script.count f.result _ (found c.before.before.before.before.before.before.before.before.before) s.args.store.now s.args.picks.now s.args.allowance z q.result q.ensures c.before.before.enum-told2.given.1 s.requires.0.legal)
+    (runs_from s.args.prices.now (script s) s.args.script.count f.result _ (found c.before.before.before.before.before.before.before.before.before) s.args.store.now s.args.picks.now s.args.allowance z q.result q.ensures c.before.before.enum-told2.given.1 s.requires.0.legal)
     (omega (arith, c.smaller.ensures))
 
 returns_2 : tie.Need-returns-2

@@ -11,7 +11,7 @@ use Rattle.calls.proofs.Tables.{four}
 use Rattle.calls_lists.specs.Parts.{lent_of}
 use Rattle.calls_turns.specs.declared.AfterTurn.{AfterTurn}
 use Rattle.calls_frames.specs.Playing.{FramesReady, MayPlay}
-use Rattle.calls_frames.proofs.Playing.{Playing, playing_late, countable, playing_start, playing-still, playing-on, playing-frame, playing-out, few-left, ready-to-turn}
+use Rattle.calls_frames.proofs.Playing.{Playing, playing_late, countable, playing_start, playing_still, playing_on, playing_frame, playing_out, few_left, ready_to_turn}
 use borrow.Author.Rules.{rules}
 use Rattle.calls_frames.proofs.play.Statement.{statement}
 use Rattle.calls_frames.proofs.play.Tie as tie
@@ -40,14 +40,14 @@ with-ticks-requires : tie.Need-with-ticks-requires invariant-loop decreases-loop
 with-ticks-requires c κs =
     let l = c.before.before.before.before.before.before.before.before.loop in
     let on = l.invariant.0.4 in
-    omega (arith, few-left _ _ _ _ _ _ on _ _ _ _ _ _ (l.invariant.1 _ _ _ _ on) (omega (arith, c.before.before.before.before.before.before.if1.true, on.number)), on.fits.small)
+    omega (arith, few_left _ _ _ _ _ _ on _ _ _ _ _ _ (l.invariant.1 _ _ _ _ on) (omega (arith, c.before.before.before.before.before.before.if1.true, on.number)), on.fits.small)
 
 turn-requires : tie.Need-turn-requires invariant-loop decreases-loop
 turn-requires c κs =
     let l = c.before.before.before.before.before.before.before.before.before.before.loop in
     let on = l.invariant.0.4 in
     rw (c.before.before.before.before.before.before.before.before.before.before.before.before.before.prices-of.ensures, c.before.with_ticks_lem.ensures)
-    (ready-to-turn _ _ _ _ _ _ on _ _ _ _ _ _ (l.invariant.1 _ _ _ _ on) (omega (arith, c.before.before.before.before.before.before.before.before.if1.true, on.number)) (sym c.before.before.before.before.before.before.waiting.ensures ∙ c.before.before.before.before.before.if2.true))
+    (ready_to_turn _ _ _ _ _ _ on _ _ _ _ _ _ (l.invariant.1 _ _ _ _ on) (omega (arith, c.before.before.before.before.before.before.before.before.if1.true, on.number)) (sym c.before.before.before.before.before.before.waiting.ensures ∙ c.before.before.before.before.before.if2.true))
 
 turn-to-requires : tie.Need-turn-to-requires invariant-loop decreases-loop
 turn-to-requires c κs =
@@ -55,7 +55,7 @@ turn-to-requires c κs =
     let on = l.invariant.0.4 in
     let h = l.invariant.1 _ _ _ _ on in
     let e = ap (λ (z : Machine). z.left) c.before.before.before.with_ticks_lem.ensures in
-    (countable _ _ _ _ _ _ on _ _ _ _ _ _ h, omega (arith, few-left _ _ _ _ _ _ on _ _ _ _ _ _ h (omega (arith, c.before.before.before.before.before.before.before.before.before.before.if1.true, on.number)), on.fits.small), omega (arith, c.before.turn.ensures.went.left, e))
+    (countable _ _ _ _ _ _ on _ _ _ _ _ _ h, omega (arith, few_left _ _ _ _ _ _ on _ _ _ _ _ _ h (omega (arith, c.before.before.before.before.before.before.before.before.before.before.if1.true, on.number)), on.fits.small), omega (arith, c.before.turn.ensures.went.left, e))
 
 -- script k has had the frame
 abbrev Went : tie.Joined2 invariant-loop decreases-loop → Type 0
@@ -76,15 +76,15 @@ went c =
     rw (w.11, w.12, w.13, w.14) (
       ap (λ (z : AfterTurn). z.frame.earlier) w.8.ensures,
       λ fs ss ps roles on.
-          playing-on _ _ _ _ _ _ on _ _ _ _ _ _ (l.invariant.1 _ _ _ _ on) (omega (arith, i, on.number)) (sym e ∙ w.0.taken) w.6.result _ _ (rw (c.before.before.before.before.before.before.before.before.prices-of.ensures, w.4.ensures) at w.6.ensures) w.8.result w.8.ensures,
+          playing_on _ _ _ _ _ _ on _ _ _ _ _ _ (l.invariant.1 _ _ _ _ on) (omega (arith, i, on.number)) (sym e ∙ w.0.taken) w.6.result _ _ (rw (c.before.before.before.before.before.before.before.before.prices-of.ensures, w.4.ensures) at w.6.ensures) w.8.result w.8.ensures,
     ))
-    (λ w. rw (w.1, w.2, w.3, w.4) (refl, λ fs ss ps roles on. playing-still _ _ _ _ _ _ on _ _ _ _ _ _ (l.invariant.1 _ _ _ _ on) (omega (arith, i, on.number)) (sym e ∙ w.0.left)))
+    (λ w. rw (w.1, w.2, w.3, w.4) (refl, λ fs ss ps roles on. playing_still _ _ _ _ _ _ on _ _ _ _ _ _ (l.invariant.1 _ _ _ _ on) (omega (arith, i, on.number)) (sym e ∙ w.0.left)))
     c.if2.branch
 
 returns : tie.Need-returns invariant-loop decreases-loop
 returns c fs ss ps roles on =
     let l = c.before.before.before.before.before.loop in
-    playing-out _ _ _ _ _ _ on _ _ _ _ _ _ (l.invariant.1 _ _ _ _ on) (omega (arith, c.before.before.before.if1.false, on.number)) (not-true _ c.if3.true) _ c.before.before.larger.ensures
+    playing_out _ _ _ _ _ _ on _ _ _ _ _ _ (l.invariant.1 _ _ _ _ on) (omega (arith, c.before.before.before.if1.false, on.number)) (not-true _ c.if3.true) _ c.before.before.larger.ensures
 
 add-new-frame : tie.Need-overflow-add-new-frame invariant-loop decreases-loop
 add-new-frame c = let l = c.before.before.before.before.before.before.loop in let on = l.invariant.0.4 in let h = playing_late _ _ _ _ _ _ on (l.invariant.1 _ _ _ _ on) in search rules
@@ -102,7 +102,7 @@ loop_again_2 c =
     let l = c.before.before.before.before.before.before.before.loop in (
       l.invariant.0,
       λ fs ss ps roles on.
-          rw c.new-frame2.ensures (playing-frame _ _ _ _ _ _ on _ _ _ _ _ _ (l.invariant.1 _ _ _ _ on) (omega (arith, c.before.before.before.before.before.if1.false, on.number)) (not-false _ c.before.before.if3.false) _ c.before.before.before.before.larger.ensures),
+          rw c.new-frame2.ensures (playing_frame _ _ _ _ _ _ on _ _ _ _ _ _ (l.invariant.1 _ _ _ _ on) (omega (arith, c.before.before.before.before.before.if1.false, on.number)) (not-false _ c.before.before.if3.false) _ c.before.before.before.before.larger.ensures),
     )
 
 pub play_spec : {M : Type 1} → statement M

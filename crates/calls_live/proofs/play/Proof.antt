@@ -1,7 +1,7 @@
 -- `calls_live::play` meets its contract. Assumes nothing.
 use mathlib.Core.Path.{refl, sym, ◌∙◌}
 use borrow.Author.Tests.{not-true, not-false}
-use Rattle.calls_live.proofs.Playing.{at_pick, stays-over, may-go, goes-far}
+use Rattle.calls_live.proofs.Playing.{at_pick, stays_over, may_go, goes_far}
 use borrow.Author.Rules.{rules}
 use native.Mathlib.Omega.{arith}
 use Rattle.calls_live.proofs.play.Statement.{statement}
@@ -13,7 +13,7 @@ play_spec =
     (tie.spec
     (λ c κs. let g = c.before.before.before.before.requires in (at_pick g, g.runs.table.size, g.unused))
     (λ c κs. search rules)
-    (λ c. stays-over c.before.before.before.before.before.before.before.requires _ c.before.before.ready.ensures _ (sym c.before.going.ensures ∙ not-true _ c.if1.true))
-    (λ c κs. may-go c.before.before.before.before.before.before.before.before.before.before.requires _ c.before.before.before.before.before.ready.ensures (sym c.before.before.before.before.going.ensures ∙ not-false _ c.before.before.before.if1.false))
+    (λ c. stays_over c.before.before.before.before.before.before.before.requires _ c.before.before.ready.ensures _ (sym c.before.going.ensures ∙ not-true _ c.if1.true))
+    (λ c κs. may_go c.before.before.before.before.before.before.before.before.before.before.requires _ c.before.before.before.before.before.ready.ensures (sym c.before.before.before.before.going.ensures ∙ not-false _ c.before.before.before.if1.false))
     (λ c. search rules) (λ c. search rules)
-    (λ c. goes-far c.before.before.before.before.before.before.before.before.before.before.before.before.before.before.requires _ c.before.before.before.before.before.before.before.before.before.ready.ensures (sym c.before.before.before.before.before.before.before.before.going.ensures ∙ not-false _ c.before.before.before.before.before.before.before.if1.false) _ _ _ _ _ (c.before.before.before.go_on.ensures.live refl)))
+    (λ c. goes_far c.before.before.before.before.before.before.before.before.before.before.before.before.before.before.requires _ c.before.before.before.before.before.before.before.before.before.ready.ensures (sym c.before.before.before.before.before.before.before.before.going.ensures ∙ not-false _ c.before.before.before.before.before.before.before.if1.false) _ _ _ _ _ (c.before.before.before.go_on.ensures.live refl)))

@@ -4,7 +4,7 @@ use lib.ListN.{length}
 use Rattle.rules.specs.Scripts.{Script, script_of}
 use Rattle.calls.specs.Held.{read_script, FiguresFound}
 use Rattle.calls.proofs.Tables.{four, fine, found_by}
-use Rattle.calls_live.proofs.Starting.{start_out, stored_out, size-out, starts}
+use Rattle.calls_live.proofs.Starting.{start_out, stored_out, size_out, starts}
 use borrow.Author.Rules.{rules}
 use native.Mathlib.Omega.{arith}
 use Rattle.calls_live.proofs.start_script.Statement.{statement}
@@ -30,7 +30,7 @@ returns_2 c = let s = c.before.before.before.before.before.before.before.before.
 
 returns_3 : tie.Need-returns-3
 unfolding script_of
-returns_3 c = let s = c.before.before.before.before.before.before.before.before.before.before.before.before.before.before in size-out s.args.prices.now (script s) _ _ _ (found c.before.before.before.before.before.before.before.before) _ _ c.before.before.before.before.before.before.enum-told2.given.1 _ c.before.before.before.before.ask-store.ensures c.before.before.enum-told4.given.1 c.before.if1.true _ c.no-start3.ensures
+returns_3 c = let s = c.before.before.before.before.before.before.before.before.before.before.before.before.before.before in size_out s.args.prices.now (script s) _ _ _ (found c.before.before.before.before.before.before.before.before) _ _ c.before.before.before.before.before.before.enum-told2.given.1 _ c.before.before.before.before.ask-store.ensures c.before.before.enum-told4.given.1 c.before.if1.true _ c.no-start3.ensures
 
 returns-4 : tie.Need-returns-4
 unfolding script_of

@@ -2,7 +2,7 @@
 use mathlib.Core.Path.{◌≡◌, refl, sym, ◌∙◌, ap}
 use lib.ListN.{length}
 use Rattle.run_loops.specs.Loops.{Counted}
-use Rattle.calls_live.proofs.Answering.{sixty_four, machine_asks, counts_asks, few_ticks, may_play, ticks-fit, used-fit, ticks-least, listed-few, answers}
+use Rattle.calls_live.proofs.Answering.{sixty_four, machine_asks, counts_asks, few_ticks, may_play, ticks_fit, used_fit, ticks_least, listed_few, answers}
 use borrow.Author.Rules.{rules}
 use native.Mathlib.Omega.{arith}
 use Rattle.calls_live.proofs.step_on.Statement.{statement}
@@ -36,13 +36,13 @@ step_on_spec =
     (λ c. c.before.before.before.before.before.before.before.before.before.play.ensures.left)
     (λ c.
     let g = c.before.before.before.before.before.before.before.before.before.before.before.before.before.before.before.before.before.before.before.before.before.before.before.before.before.before.requires.1 in
-    let a = ticks-least g _ c.before.before.before.before.before.before.before.before.before.before.before.before.before.before.counts-in.ensures _ c.before.before.before.before.before.before.before.before.before.before.before.before.before.before.before.before.machine-in.ensures _ c.before.before.before.before.before.before.before.before.before.play.result _ _ _ _ c.before.before.before.before.before.before.before.before.before.play.ensures in
+    let a = ticks_least g _ c.before.before.before.before.before.before.before.before.before.before.before.before.before.before.counts-in.ensures _ c.before.before.before.before.before.before.before.before.before.before.before.before.before.before.before.before.machine-in.ensures _ c.before.before.before.before.before.before.before.before.before.play.result _ _ _ _ c.before.before.before.before.before.before.before.before.before.play.ensures in
     omega (arith, (few_ticks g).0))
     (λ c. let g = c.before.before.before.before.before.before.before.before.before.before.before.before.before.before.before.before.before.before.before.before.before.before.before.before.before.before.requires.1 in let k = c.before.before.before.before.before.before.before.before.before.before.before.before.before.before.before.before.before.before.before.before.before.before.before.before.before.before.well-formed.1.1.1.1.1.1.0 in omega (arith, (few_ticks g).1, c.before.before.before.before.before.before.before.before.before.play.ensures.used))
     (λ c κs.
     let g = c.before.before.before.before.before.before.before.before.before.before.before.before.before.before.before.before.before.before.before.before.before.before.before.before.before.before.before.before.requires.1 in (
       size c.before.before.before.before.before.before.before.before.before.before.before.before.before.before.before.before.before.before.before.before.before.before.before.before.before.before.before.before,
-      listed-few g _ c.before.before.before.before.before.before.before.before.before.before.before.before.before.before.before.before.counts-in.ensures _ c.before.before.before.before.before.before.before.before.before.before.before.before.before.before.before.before.before.before.machine-in.ensures _ c.before.before.before.before.before.before.before.before.before.before.before.play.result _ _ _ _ c.before.before.before.before.before.before.before.before.before.before.before.play.ensures _ (c.before.before.before.before.before.before.loops-of.ensures _ (counted c.before.before.before.before.before.before.before.before.before.before.before)),
+      listed_few g _ c.before.before.before.before.before.before.before.before.before.before.before.before.before.before.before.before.counts-in.ensures _ c.before.before.before.before.before.before.before.before.before.before.before.before.before.before.before.before.before.before.machine-in.ensures _ c.before.before.before.before.before.before.before.before.before.before.before.play.result _ _ _ _ c.before.before.before.before.before.before.before.before.before.before.before.play.ensures _ (c.before.before.before.before.before.before.loops-of.ensures _ (counted c.before.before.before.before.before.before.before.before.before.before.before)),
       g.asked.long,
       c.before.before.before.before.before.before.before.before.before.before.before.play.ensures.room.long,
     ))

@@ -7,7 +7,7 @@ use Rattle.calls_lists.specs.Parts.{part_of, lent_of}
 use Rattle.calls_lists.proofs.Extents.{extent_part, extent_within}
 use Rattle.calls_scripts.specs.Held.{table_lengths, EnteredAs}
 use Rattle.calls_scripts.proofs.Tables.{table_size, tables_whole, put_length}
-use Rattle.calls_scripts.proofs.Entering.{Entering, entering_none, entering_more, entering-all, entering-no, entering-which, entering-no-one}
+use Rattle.calls_scripts.proofs.Entering.{Entering, entering_none, entering_more, entering_all, entering_no, entering_which, entering_no_one}
 use borrow.Author.Rules.{rules}
 use Rattle.calls_scripts.proofs.enter_all.Statement.{statement}
 use Rattle.calls_scripts.proofs.enter_all.Tie as tie
@@ -73,8 +73,8 @@ returns c picks =
     let l = c.before.before.before.before.before.before.before.before.before.loop in
     record {
       number = refl;
-      script = entering-which _ _ s.requires.priced s.requires.lengths l.k l.tables l.each (l.invariant.1 picks) c.before.before.before.before.before.before.before.before.loop-test.true _ c.before.before.before.before.before.enter-at.result (entered c.before.before.before.before.before) _ _ c.before.asked.given.1;
-      held = entering-no _ _ s.requires.priced s.requires.lengths l.k l.tables l.each (l.invariant.1 picks) c.before.before.before.before.before.before.before.before.loop-test.true _ c.before.before.before.before.before.enter-at.result (entered c.before.before.before.before.before) _ _ c.before.asked.given.1;
+      script = entering_which _ _ s.requires.priced s.requires.lengths l.k l.tables l.each (l.invariant.1 picks) c.before.before.before.before.before.before.before.before.loop-test.true _ c.before.before.before.before.before.enter-at.result (entered c.before.before.before.before.before) _ _ c.before.asked.given.1;
+      held = entering_no _ _ s.requires.priced s.requires.lengths l.k l.tables l.each (l.invariant.1 picks) c.before.before.before.before.before.before.before.before.loop-test.true _ c.before.before.before.before.before.enter-at.result (entered c.before.before.before.before.before) _ _ c.before.asked.given.1;
     }
 
 returns_2 : tie.Need-returns-2 invariant-loop decreases-loop
@@ -83,8 +83,8 @@ returns_2 c picks =
     let l = c.before.loop in
     record {
       number = refl;
-      script = entering-no-one _ _ s.requires.priced s.requires.lengths l.k l.tables l.each (l.invariant.1 picks) (omega (arith, c.loop-test.false, l.invariant.0));
-      held = entering-all _ _ s.requires.priced s.requires.lengths l.k l.tables l.each (l.invariant.1 picks) (omega (arith, c.loop-test.false, l.invariant.0));
+      script = entering_no_one _ _ s.requires.priced s.requires.lengths l.k l.tables l.each (l.invariant.1 picks) (omega (arith, c.loop-test.false, l.invariant.0));
+      held = entering_all _ _ s.requires.priced s.requires.lengths l.k l.tables l.each (l.invariant.1 picks) (omega (arith, c.loop-test.false, l.invariant.0));
     }
 
 pub enter_all_spec : {M : Type 1} → statement M

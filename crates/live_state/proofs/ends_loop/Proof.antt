@@ -1,6 +1,6 @@
 -- `live_state::ends_loop` meets its contract. Assumes nothing.
 use borrow.Author.Tests.{not-true, not-false}
-use Rattle.live_state.proofs.StateLaws.{no_end, head-below, some_end}
+use Rattle.live_state.proofs.StateLaws.{no_end, head_below, some_end}
 use borrow.Author.Rules.{rules}
 use native.Mathlib.Omega.{arith}
 use Rattle.live_state.proofs.ends_loop.Statement.{statement}
@@ -18,7 +18,7 @@ partner-at-requires c κs = let g = c.before.before.before.before.requires.0.1 i
 is-loop-requires : tie.Need-is-loop-requires
 is-loop-requires c κs =
     let g = c.before.before.before.before.before.requires.0.1 in
-    omega (arith, head-below g _ c.before.before.before.before.before.requires.1 _ c.before.before.before.kind_at.ensures _ c.before.before.is_end.ensures (not-false _ c.before.if1.false), c.partner-at.ensures, g.size, g.table.size)
+    omega (arith, head_below g _ c.before.before.before.before.before.requires.1 _ c.before.before.before.kind_at.ensures _ c.before.before.is_end.ensures (not-false _ c.before.if1.false), c.partner-at.ensures, g.size, g.table.size)
 
 returns_2 : tie.Need-returns-2
 returns_2 c script g =

@@ -57,7 +57,7 @@ act_spec =
     (λ c. let a = c.before.before.before.before.before.before.before.before.args in λ count x. set_done x a.prices a.picks.now 5 (sym c.before.before.before.before.op-at.ensures ∙ c.before.before.before.match.keys6) refl c.before.set-row2.ensures)
     (λ c. search rules)
     (λ c. let a = c.before.before.before.before.before.before.before.before.args in λ count x. set_done x a.prices a.picks.now 6 (sym c.before.before.before.before.op-at.ensures ∙ c.before.before.before.match.keys7) refl c.before.set-row3.ensures)
-    (λ c. let a = c.before.before.before.before.before.before.before.args in λ count x. pick_done x a.prices a.picks.now (sym c.before.before.before.op-at.ensures ∙ c.before.before.match.keys8) c.before.partner-at2.ensures (c.pick-row.ensures _ _))
+    (λ c. let a = c.before.before.before.before.before.before.before.args in λ count x. pick_done x a.prices a.picks.now (sym c.before.before.before.op-at.ensures ∙ c.before.before.match.keys8) c.before.partner-at2.ensures (c.pick_row.ensures _ _))
     (λ c. search rules)
     (λ c. let a = c.before.before.before.before.before.before.before.before.before.args in λ count x. for_done x a.prices a.picks.now 8 (sym c.before.before.before.before.before.op-at.ensures ∙ c.before.before.before.before.match.keys9) refl c.before.for_row_lem.ensures)
     (λ c. search rules)

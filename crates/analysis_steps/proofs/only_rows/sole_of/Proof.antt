@@ -11,7 +11,7 @@ use Rattle.analysis_steps.specs.Tree.{Ready, end_at, head_of}
 use Rattle.analysis_steps.specs.Sets.{set_of}
 use Rattle.analysis_steps.specs.Soles.{sole_from}
 use Rattle.analysis_steps.proofs.Laws.{PickIs, LoopIs}
-use Rattle.analysis_steps.proofs.Walking.{ready, pick_at, loop_at, Walking, begin, plain_row, plain-next, pick-row, loop_row, at-close, at_last}
+use Rattle.analysis_steps.proofs.Walking.{ready, pick_at, loop_at, Walking, begin, plain_row, plain_next, pick_row, loop_row, at_close, at_last}
 use Rattle.analysis_steps.proofs.Sets.{clear, no_set}
 use Rattle.analysis_steps.proofs.Soles.{from_nothing, sole_done, sole_past, sole_here, sole_pick, sole_loop}
 use Rattle.analysis_steps.proofs.only_rows.sole_of.Statement.{statement}
@@ -51,7 +51,7 @@ returns c = λ text p.
     let own = sym (c.before.before.sets_it.ensures text) ∙ c.before.if1.true in
     let r = c.sole-at.ensures text (record { ready = ready p (search rules); inside = c.before.before.before.before.before.before.loop-test.true; own = own; small = c.before.before.before.before.before.before.before.before.before.requires.1 }) in
     record {
-      value = r.value ∙ sym (plain-next _ _ _ _ _ (c.before.before.before.before.before.before.before.loop.invariant.1 text p) c.before.before.before.before.before.before.loop-test.true p.built (sym c.before.before.before.before.before.shape_at.ensures ∙ c.before.before.before.enum_told.given.1) ∙ sole_here _ _ _ _ own _) ∙ from_nothing _ (no_set _ refl) _;
+      value = r.value ∙ sym (plain_next _ _ _ _ _ (c.before.before.before.before.before.before.before.loop.invariant.1 text p) c.before.before.before.before.before.before.loop-test.true p.built (sym c.before.before.before.before.before.shape_at.ensures ∙ c.before.before.before.enum_told.given.1) ∙ sole_here _ _ _ _ own _) ∙ from_nothing _ (no_set _ refl) _;
       small = r.small;
     }
 
@@ -82,7 +82,7 @@ loop_less_2 c = let (text, r) = c.before.before.before.before.before.before.befo
 loop_again_2 : tie.Need-loop-preserved-2 invariant-loop decreases-loop
 loop_again_2 c = let (text₀, r₀) = c.before.before.before.before.before.before.before.before.before.before.before.before.requires.0 in (
   (c.before.moves-of2.ensures text₀ (second c.before.before.before text₀ r₀)).long,
-  λ text r. rw ((c.before.moves-of2.ensures text (second c.before.before.before text r)).sets.value, (c.before.before.before.before.Moves-of.ensures text (ready r (search rules))).sets.value) (pick-row _ _ _ _ _ (c.before.before.before.before.before.before.before.before.before.before.loop.invariant.1 text r) c.before.before.before.before.before.before.before.before.before.loop-test.true r.built (pick_2 c.before text r) (sole_pick _ _ _ _ _ _)),
+  λ text r. rw ((c.before.moves-of2.ensures text (second c.before.before.before text r)).sets.value, (c.before.before.before.before.Moves-of.ensures text (ready r (search rules))).sets.value) (pick_row _ _ _ _ _ (c.before.before.before.before.before.before.before.before.before.before.loop.invariant.1 text r) c.before.before.before.before.before.before.before.before.before.loop-test.true r.built (pick_2 c.before text r) (sole_pick _ _ _ _ _ _)),
 )
 
 moves_of_requires_3 : tie.Need-moves-of-requires-3 invariant-loop decreases-loop
@@ -106,7 +106,7 @@ loop_again_3 c = (
 
 returns_2 : tie.Need-returns-2 invariant-loop decreases-loop
 unfolding clear
-returns_2 c = λ text r. record { value = (at-close _ _ _ _ _ (sole_done _ _) (c.before.before.before.before.loop.invariant.1 text r) c.before.before.before.loop-test.true r.built (sym c.before.before.shape_at.ensures ∙ c.enum-told4.given.1)).value ∙ from_nothing _ (no_set _ refl) _; small = tt }
+returns_2 c = λ text r. record { value = (at_close _ _ _ _ _ (sole_done _ _) (c.before.before.before.before.loop.invariant.1 text r) c.before.before.before.loop-test.true r.built (sym c.before.before.shape_at.ensures ∙ c.enum-told4.given.1)).value ∙ from_nothing _ (no_set _ refl) _; small = tt }
 
 returns_3 : tie.Need-returns-3 invariant-loop decreases-loop
 unfolding clear

@@ -7,7 +7,7 @@ use native.Mathlib.Omega.{arith}
 use Rattle.ints.proofs.Parts.{ints, abs_parts}
 use Rattle.reading.specs.Words.{line_word}
 use Rattle.rules.specs.File.{first_refusal, asks_end, asks_number, number_of}
-use Rattle.reader.proofs.Counts.{count-read, count_wrong, count_small, count_none}
+use Rattle.reader.proofs.Counts.{count_read, count_wrong, count_small, count_none}
 use Rattle.reader.proofs.NextLine.{Keyed, keyed_at, KeyLine, key_line_lem, at_none, last_length}
 use borrow.Author.Rules.{sfits_of, rules}
 use Rattle.reader.proofs.lines.count_line.Statement.{statement}
@@ -38,7 +38,7 @@ add-end c = let h = (line c.before.before.before.before.before.before.before.bef
 
 returns : tie.Need-returns
 returns c = let s = c.before.before.before.before.before.before.before.before.before.before.before.before.before in
-    rw (to_z-of_z (sfits_of c.before.number_of_lem.type-inv)) (count-read _ _ _ (line c.before.before.before.before.before.before.before.before) _ _ s.requires.0 s.requires.1 (asked c.before.before.before) c.before.before.if2.true _ (ap nat_abs (value c.before)))
+    rw (to_z-of_z (sfits_of c.before.number_of_lem.type-inv)) (count_read _ _ _ (line c.before.before.before.before.before.before.before.before) _ _ s.requires.0 s.requires.1 (asked c.before.before.before) c.before.before.if2.true _ (ap nat_abs (value c.before)))
 
 returns_2 : tie.Need-returns-2
 returns_2 c = let s = c.before.before.before.before.before.before.before.before.before.before.before in

@@ -16,7 +16,7 @@ use Rattle.run_actions.specs.States.{is_going, tally_of, over_at}
 use Rattle.run_machine.specs.Steps.{script_in, Runs, Stepped}
 use Rattle.runner.specs.Runs.{place_in, MayGo}
 use Rattle.runner.proofs.Limits.{LimitsKept, none_kept}
-use Rattle.runner.proofs.Loop.{Reached, reached_start, at_row, at_a_test, kept_at, test-limits, row-limits, goes_on, is-over, past_end}
+use Rattle.runner.proofs.Loop.{Reached, reached_start, at_row, at_a_test, kept_at, test_limits, row_limits, goes_on, is_over, past_end}
 use Rattle.runner.proofs.Goes.{put_keeps, full_listed, Firing, firing_start, Stopped, AfterStep, after_going, after_over, after_spent, went_over, went_full, past_fires, row_full, fit_of, test_fires, row_fires}
 use Rattle.runner.specs.Goes.{stood_by}
 use Rattle.runner.proofs.live.go_on.Statement.{statement}
@@ -112,7 +112,7 @@ done c =
       s _ _ at,
       refl,
       k.long,
-      λ g. test-limits _ _ _ _ _ _ _ ready l.m l.store l.counts l.invariant.1 l.limits l.invariant.2 l.invariant.3 _ _ _ w.0.taken (s _ _ at) k g,
+      λ g. test_limits _ _ _ _ _ _ _ ready l.m l.store l.counts l.invariant.1 l.limits l.invariant.2 l.invariant.3 _ _ _ w.0.taken (s _ _ at) k g,
       (λ q. test_fires _ ready.price _ _ _ _ l.m l.store l.counts script _ l.cues l.fired (l.invariant.4 q) _ _ _ (s _ _ at) at.ends.end _ refl),
       l.invariant.5,
       l.invariant.6,
@@ -125,7 +125,7 @@ done c =
       s,
       e,
       l.invariant.2,
-      λ g. row-limits _ _ _ _ _ _ _ ready l.m l.store l.counts l.invariant.1 l.limits l.invariant.2 l.invariant.3 _ _ _ e w.0.left s g,
+      λ g. row_limits _ _ _ _ _ _ _ ready l.m l.store l.counts l.invariant.1 l.limits l.invariant.2 l.invariant.3 _ _ _ e w.0.left s g,
       (λ q. row_fires _ ready.price _ _ _ _ l.m l.store l.counts script _ l.cues l.fired (l.invariant.4 q) _ _ _ s i _ _ _ q w.4.ensures w.7.left _ refl),
       (put_keeps l.cues _ w.4.ensures).0 ∙ l.invariant.5,
       omega (arith, (put_keeps l.cues _ w.4.ensures).1 w.7.left (omega (arith, l.invariant.5, l.invariant.6)), l.invariant.5),
@@ -148,7 +148,7 @@ returns_3 c =
     let d = c.before.before.before in
     let l = d.before.loop in
     let (x, y, _, _, _, _, _) = done d in
-    let e = is-over _ _ _ _ _ _ _ l.invariant.0 l.m l.store l.counts l.invariant.1 d.if1.m d.if1.store d.if1.counts y x (sym c.before.before.going.ensures ∙ not-true _ c.before.if4.true) in
+    let e = is_over _ _ _ _ _ _ _ l.invariant.0 l.m l.store l.counts l.invariant.1 d.if1.m d.if1.store d.if1.counts y x (sym c.before.before.going.ensures ∙ not-true _ c.before.if4.true) in
     record {
       live = λ q. went_over _ _ _ _ _ _ _ _ _ _ c.stopped3.result d.if1.m d.if1.fired c.stopped3.ensures (over_there c q)
           (after_spent _ _ _ _ d.if1.cues d.if1.fired d.if1.m d.if1.store _ _ d.if1.m.status ((done d).4 q))

@@ -2,7 +2,7 @@
 use native.Mathlib.Omega.{arith}
 use borrow.Author.Rules.{rules}
 use borrow.Author.Tests.{ne_eqb}
-use Rattle.season_sheet.proofs.NamesLaws.{kept_full, kept_lf, kept-past, kept_byte}
+use Rattle.season_sheet.proofs.NamesLaws.{kept_full, kept_lf, kept_past, kept_byte}
 use Rattle.season_sheet.proofs.names.push.Statement.{statement}
 use Rattle.season_sheet.proofs.names.push.Tie as tie
 
@@ -20,4 +20,4 @@ push_spec =
     (λ c. search rules) (λ c. search rules) (λ c. search rules) (λ c. search rules) (λ c. search rules) (λ c. search rules) (λ c. search rules)
     (λ c. search rules)
     returns_3
-    (λ c. λ input h. kept-past input _ _ _ h c.before.before.before.if1.false _ (ne_eqb _ _ c.before.before.if2.false) c.if3.false))
+    (λ c. λ input h. kept_past input _ _ _ h c.before.before.before.if1.false _ (ne_eqb _ _ c.before.before.if2.false) c.if3.false))
