@@ -8,25 +8,25 @@ use borrow.Author.Rules.{rules}
 use Rattle.analysis_intervals.proofs.by_step.Statement.{statement}
 use Rattle.analysis_intervals.proofs.by_step.Tie as tie
 
-returns : tie.Need-returns
+returns : tie.Need-returns-then-up
 unfolding by_step lowest highest
-returns c = let f : SFits w32 c.before.before.before.before.args.s.lo = search rules in rw (c.before.before.enum_told.given.1, c.before.if1.true) (simp (to_z-of_z f))
+returns c = let f : SFits w32 c.before.before.before.before.args.s.lo = search rules in rw (c.before.before.enum_told-1.given.1, c.before.if-up.true) (simp (to_z-of_z f))
 
-returns_2 : tie.Need-returns-2
+returns_2 : tie.Need-returns-else-up
 unfolding by_step lowest highest
-returns_2 c = let f : SFits w32 c.before.before.before.before.args.s.hi = search rules in rw (c.before.before.enum_told.given.1, c.before.if1.false) (simp (to_z-of_z f))
+returns_2 c = let f : SFits w32 c.before.before.before.before.args.s.hi = search rules in rw (c.before.before.enum_told-1.given.1, c.before.if-up.false) (simp (to_z-of_z f))
 
-returns_3 : tie.Need-returns-3
+returns_3 : tie.Need-returns-in-Grow
 unfolding by_step lowest highest
-returns_3 c = let f : SFits w32 c.before.before.before.args.s.lo = search rules in rw c.before.enum-told2.given.1 (simp (to_z-of_z f))
+returns_3 c = let f : SFits w32 c.before.before.before.args.s.lo = search rules in rw c.before.enum_told-in-Grow-1.given.1 (simp (to_z-of_z f))
 
-returns-4 : tie.Need-returns-4
+returns-4 : tie.Need-returns-in-Shrink
 unfolding by_step
-returns-4 c = rw c.before.enum-told3.given.1 c.with-zero.ensures
+returns-4 c = rw c.before.enum_told-in-Shrink-1.given.1 c.with_zero.ensures
 
-returns-5 : tie.Need-returns-5
+returns-5 : tie.Need-returns-in-Unknown
 unfolding by_step lowest highest
-returns-5 c = rw c.enum-told4.given.1
+returns-5 c = rw c.enum_told-in-Unknown-1.given.1
 
 pub by_step_spec : {M : Type 1} → statement M
 by_step_spec =

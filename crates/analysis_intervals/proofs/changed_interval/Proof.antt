@@ -19,9 +19,9 @@ returns c =
     let s = c.before.before.before.before.args in
     let f0 : SFits w32 s.s.lo = search rules in
     let f1 : SFits w32 s.s.hi = search rules in
-    let g0 : SFits w32 c.before.before.moved.result = sfits_of c.before.before.moved.type-inv in
-    let g1 : SFits w32 c.moved2.result = sfits_of c.moved2.type-inv in
-    rw (to_z-of_z g0, to_z-of_z g1, c.before.before.moved.ensures, c.moved2.ensures) (simp (to_z-of_z f0, to_z-of_z f1))
+    let g0 : SFits w32 c.before.before.moved.result = sfits_of c.before.before.moved.type_inv in
+    let g1 : SFits w32 c.moved-2.result = sfits_of c.moved-2.type_inv in
+    rw (to_z-of_z g0, to_z-of_z g1, c.before.before.moved.ensures, c.moved-2.ensures) (simp (to_z-of_z f0, to_z-of_z f1))
 
 pub changed_interval_spec : {M : Type 1} → statement M
 changed_interval_spec = tie.close (tie.spec moved-requires moved-requires-2 returns)

@@ -8,6 +8,6 @@ unfolding lowest highest
 chosen_spec =
     tie.close
     (tie.spec
-    (λ c. rw c.if1.true)
-    (λ c. rw (c.before.if1.false, c.if2.true))
-    (λ c. rw (c.before.if1.false, c.if2.false)))
+    (λ c. rw c.if-own.true)
+    (λ c. rw (c.before.if-own.false, c.if-changes.true))
+    (λ c. rw (c.before.if-own.false, c.if-changes.false)))

@@ -8,10 +8,10 @@ use Rattle.analysis_intervals.proofs.Small.{word}
 use Rattle.analysis_intervals.proofs.whole.Statement.{statement}
 use Rattle.analysis_intervals.proofs.whole.Tie as tie
 
-cast-t2 : tie.Need-overflow-cast-t2
+cast-t2 : tie.Need-overflow_cast-result
 cast-t2 c = let f : SFits w32 c.before.before.args.s.lo = search rules in let h = word _ f in search rules
 
-cast-t3 : tie.Need-overflow-cast-t3
+cast-t3 : tie.Need-overflow_cast-result-2
 cast-t3 c = let f : SFits w32 c.before.before.before.before.args.s.hi = search rules in let h = word _ f in search rules
 
 returns : tie.Need-returns

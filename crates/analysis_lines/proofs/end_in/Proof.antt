@@ -8,7 +8,7 @@ use Rattle.analysis_lines.proofs.end_in.Tie as tie
 wide : (c : tie.After-near) → Unshifted 1_099_511_627_776 c.near.result
 wide c = unshifted _ _ (omega ints) (rw c.near.ensures (omega ints))
 
-sub-result : tie.Need-overflow-sub-result
+sub-result : tie.Need-overflow_sub-result
 sub-result c = simp (to_z-of_z (wide c).wide) (wide c).less
 
 returns : tie.Need-returns

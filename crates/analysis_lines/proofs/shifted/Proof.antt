@@ -13,7 +13,7 @@ wide c = let n = neg_parts (pos 512_000_000_000) in let m = neg_parts (pos 1_099
 under : (x : ℕ) → x < 2_199_023_255_552 → min x 2_199_023_255_552 ≡ x
 under x h = omega ints
 
-cast-result : tie.Need-overflow-cast-result
+cast-result : tie.Need-overflow_cast-result
 cast-result c = let h = wide c in simp (to_z-of_z c.ranges.a, to_z-of_z h.more) (h.whole, record { fits = omega ints })
 
 returns : tie.Need-returns

@@ -5,21 +5,21 @@ use Rattle.analysis_lines.specs.Coded.{line_step}
 use Rattle.analysis_lines.proofs.step_in.Statement.{statement}
 use Rattle.analysis_lines.proofs.step_in.Tie as tie
 
-returns : tie.Need-returns
+returns : tie.Need-returns-then-t-eq-ADD
 unfolding line_step
-returns c = rw (to_z-of_z (sfits_of c.before.end-in.type-inv), to_z-of_z (sfits_of c.end-in2.type-inv), eq-eqb _ _ c.before.before.if1.true, c.before.end-in.ensures, c.end-in2.ensures)
+returns c = rw (to_z-of_z (sfits_of c.before.end_in.type_inv), to_z-of_z (sfits_of c.end_in-then-t-eq-ADD.type_inv), eq-eqb _ _ c.before.before.if-t-eq-ADD.true, c.before.end_in.ensures, c.end_in-then-t-eq-ADD.ensures)
 
-returns_2 : tie.Need-returns-2
+returns_2 : tie.Need-returns-then-t-eq-GROW
 unfolding line_step
-returns_2 c = rw (ne_eqb _ _ c.before.if1.false, eq-eqb _ _ c.if2.true)
+returns_2 c = rw (ne_eqb _ _ c.before.if-t-eq-ADD.false, eq-eqb _ _ c.if-t-eq-GROW.true)
 
-returns_3 : tie.Need-returns-3
+returns_3 : tie.Need-returns-then-t-eq-SHRINK
 unfolding line_step
-returns_3 c = rw (ne_eqb _ _ c.before.before.if1.false, ne_eqb _ _ c.before.if2.false, eq-eqb _ _ c.if3.true)
+returns_3 c = rw (ne_eqb _ _ c.before.before.if-t-eq-ADD.false, ne_eqb _ _ c.before.if-t-eq-GROW.false, eq-eqb _ _ c.if-t-eq-SHRINK.true)
 
-returns-4 : tie.Need-returns-4
+returns-4 : tie.Need-returns
 unfolding line_step
-returns-4 c = rw (ne_eqb _ _ c.before.before.if1.false, ne_eqb _ _ c.before.if2.false, ne_eqb _ _ c.if3.false)
+returns-4 c = rw (ne_eqb _ _ c.before.before.if-t-eq-ADD.false, ne_eqb _ _ c.before.if-t-eq-GROW.false, ne_eqb _ _ c.if-t-eq-SHRINK.false)
 
 pub step_in_spec : {M : Type 1} → statement M
 step_in_spec = tie.close (tie.spec (λ c κs. search rules) (λ c κs. search rules) returns returns_2 returns_3 returns-4)

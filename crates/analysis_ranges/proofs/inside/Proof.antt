@@ -10,7 +10,7 @@ returns : tie.Need-returns
 returns c =
     let a = c.before.before.before.before.before.args in
     let x = c.widen.ensures in
-    record { long = x.long; value = x.value ∙ ap (λ mine. widened a.one mine (env_of a.r.now)) c.before.before.inner.ensures }
+    record { long = x.long; value = x.value ∙ ap (λ mine. widened a.one mine (env_of a.r.now)) c.before.before.inner-mine.ensures }
 
 pub inside_spec : {M : Type 1} → statement M
 inside_spec = tie.close (tie.spec (λ c κs. search rules) (λ c κs. search rules) returns)

@@ -9,28 +9,28 @@ use borrow.Author.Rules.{rules}
 use Rattle.analysis_steps.proofs.add_all.Statement.{statement}
 use Rattle.analysis_steps.proofs.add_all.Tie as tie
 
-abbrev invariant-loop : tie.invariant-loop
-invariant-loop set₀ more i₀ set i = Joined set₀ more i set
+abbrev invariant-loop-i : tie.invariant-loop-i
+invariant-loop-i set₀ more i₀ set i = Joined set₀ more i set
 
-abbrev decreases-loop : tie.decreases-loop
-decreases-loop set₀ more i₀ set i = 16 - i
+abbrev decreases-loop-i : tie.decreases-loop-i
+decreases-loop-i set₀ more i₀ set i = 16 - i
 
-loop_holds : tie.Need-loop-init invariant-loop decreases-loop
+loop_holds : tie.Need-loop-i-init invariant-loop-i decreases-loop-i
 loop_holds c = joined_none _ _ c.requires
 
-loop_again : tie.Need-loop-preserved invariant-loop decreases-loop
+loop_again : tie.Need-loop-i-preserved invariant-loop-i decreases-loop-i
 unfolding set_of
-loop_again c = let l = c.before.before.loop in joined_next _ _ l.i l.set (search rules) l.invariant
+loop_again c = let l = c.before.before.loop-i in joined_next _ _ l.i l.set (search rules) l.invariant
 
-returns : tie.Need-returns invariant-loop decreases-loop
-returns c = let l = c.before.loop in let s = c.before.before.args in let e : l.i ≡ 16 = omega (arith, l.invariant.some) in let n : length s.t2 ≡ 16 = search rules in record { long = l.invariant.long; value = joined_all _ _ l.set n (rw e at l.invariant) }
+returns : tie.Need-returns invariant-loop-i decreases-loop-i
+returns c = let l = c.before.loop-i in let s = c.before.before.args in let e : l.i ≡ 16 = omega (arith, l.invariant.some) in let n : length s.t2 ≡ 16 = search rules in record { long = l.invariant.long; value = joined_all _ _ l.set n (rw e at l.invariant) }
 
 pub add_all_spec : {M : Type 1} → statement M
 add_all_spec =
     tie.close
     (tie.spec
-    invariant-loop
-    decreases-loop
+    invariant-loop-i
+    decreases-loop-i
     loop_holds
     (λ c. search rules) (λ c. search rules) (λ c. search rules) (λ c. search rules)
     (λ c. search rules)

@@ -7,6 +7,6 @@ pub first_over_spec : {M : Type 1} → statement M
 first_over_spec =
     tie.close
     (tie.spec
-    (λ c. record { value = λ F h. over_kept _ _ _ F h c.if1.true })
-    (λ c. record { value = λ F h. over_none _ _ _ F h c.before.if1.false c.if2.true })
-    (λ c. record { value = λ F h. over_first _ _ _ F h c.before.if1.false c.if2.false c.before.before.requires.0 }))
+    (λ c. record { value = λ F h. over_kept _ _ _ F h c.if-over-lt256.true })
+    (λ c. record { value = λ F h. over_none _ _ _ F h c.before.if-over-lt256.false c.if-ticks-le-LIMIT.true })
+    (λ c. record { value = λ F h. over_first _ _ _ F h c.before.if-over-lt256.false c.if-ticks-le-LIMIT.false c.before.before.requires.0 }))

@@ -12,6 +12,6 @@ times_spec =
     (tie.spec
     (λ c. let e : c.before.args.b ≡ 0 = omega arith in rw e (omega arith))
     (λ c. search rules)
-    (λ c. let l = (le-div_iff_mul-le {k = c.before.before.args.b} (omega arith)).0 c.if2.true in omega arith)
-    (λ c. let l = (le-div_iff_mul-le {k = c.before.before.args.b} (omega arith)).0 c.if2.true in omega arith)
-    (λ c. let l = (div-lt_iff_lt-mul {k = c.before.before.args.b} (omega arith)).0 c.if2.false in omega arith))
+    (λ c. let l = (le-div_iff_mul-le {k = c.before.before.args.b} (omega arith)).0 c.if-n-b.true in omega arith)
+    (λ c. let l = (le-div_iff_mul-le {k = c.before.before.args.b} (omega arith)).0 c.if-n-b.true in omega arith)
+    (λ c. let l = (div-lt_iff_lt-mul {k = c.before.before.args.b} (omega arith)).0 c.if-n-b.false in omega arith))

@@ -8,26 +8,26 @@ use Rattle.analysis_intervals.proofs.Small.{word, words}
 use Rattle.analysis_turns.proofs.gap.Statement.{statement}
 use Rattle.analysis_turns.proofs.gap.Tie as tie
 
-cast-t3 : tie.Need-overflow-cast-t3
+cast-t3 : tie.Need-overflow_cast-result
 cast-t3 c = let f : SFits w32 c.before.before.args.s.lo = search rules in let h = word _ f in search rules
 
-cast-t4 : tie.Need-overflow-cast-t4
+cast-t4 : tie.Need-overflow_cast-result-2
 cast-t4 c = let f : SFits w32 c.before.before.before.before.args.n.hi = search rules in let h = word _ f in search rules
 
-sub-t5 : tie.Need-overflow-sub-t5
+sub-t5 : tie.Need-overflow_sub-result
 sub-t5 c =
     let s = c.before.before.before.before in
     let f : SFits w32 s.args.s.lo = search rules in
     let g : SFits w32 s.args.n.hi = search rules in
     simp (to_z-of_z f, to_z-of_z g, to_z-of_z (word _ f).a64, to_z-of_z (word _ g).a64) (words _ _ f g).a64
 
-cast-t6 : tie.Need-overflow-cast-t6
+cast-t6 : tie.Need-overflow_cast-result-3
 cast-t6 c = let f : SFits w32 c.before.before.before.before.before.before.args.s.hi = search rules in let h = word _ f in search rules
 
-cast-t7 : tie.Need-overflow-cast-t7
+cast-t7 : tie.Need-overflow_cast-result-4
 cast-t7 c = let f : SFits w32 c.before.before.before.before.before.before.before.before.args.n.lo = search rules in let h = word _ f in search rules
 
-sub-t8 : tie.Need-overflow-sub-t8
+sub-t8 : tie.Need-overflow_sub-result-2
 sub-t8 c =
     let s = c.before.before.before.before.before.before.before.before in
     let f : SFits w32 s.args.s.hi = search rules in

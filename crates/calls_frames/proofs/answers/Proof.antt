@@ -11,41 +11,41 @@ use borrow.Author.Rules.{rules}
 use Rattle.calls_frames.proofs.answers.Statement.{statement}
 use Rattle.calls_frames.proofs.answers.Tie as tie
 
-abbrev invariant-loop : tie.invariant-loop
-invariant-loop all tables q counts progress each list₀ k₀ list k = (k ≤ all.number) × Answering q all tables progress counts k list
+abbrev invariant-loop-k : tie.invariant-loop-k
+invariant-loop-k all tables q counts progress each list₀ k₀ list k = (k ≤ all.number) × Answering q all tables progress counts k list
 
-abbrev decreases-loop : tie.decreases-loop
-decreases-loop all tables q counts progress each list₀ k₀ list k = all.number - k
+abbrev decreases-loop-k : tie.decreases-loop-k
+decreases-loop-k all tables q counts progress each list₀ k₀ list k = all.number - k
 
-loop_holds : tie.Need-loop-init invariant-loop decreases-loop
-loop_holds c = (omega arith, answering_none _ _ _ _ _ _ c.nothing.ensures)
+loop_holds : tie.Need-loop-k-init invariant-loop-k decreases-loop-k
+loop_holds c = (omega arith, answering_none _ _ _ _ _ _ c.nothing-none.ensures)
 
 -- script k is one of 8
-one_of_8 : (c : tie.Then1 invariant-loop decreases-loop) → c.before.before.loop.k < 8
-one_of_8 c = omega (arith, c.if1.true, c.before.before.before.before.before.before.requires.0)
+one_of_8 : (c : tie.In-loop-k invariant-loop-k decreases-loop-k) → c.before.before.loop-k.k < 8
+one_of_8 c = omega (arith, c.loop-k-test.true, c.before.before.before.before.before.before.requires.0)
 
 -- what script k has for its answer
-may_answer : (c : tie.After-p invariant-loop decreases-loop)
+may_answer : (c : tie.After-p-1 invariant-loop-k decreases-loop-k)
     → let a = c.before.before.before.before.before.before.before.before.before.before.args in
-    let k = c.before.before.before.before.before.before.loop.k in
+    let k = c.before.before.before.before.before.before.loop-k.k in
     let h = get_or a.all.each k nobody in
     Inside h.places.table a.tables.now × Answerable a.q (get_or a.t1 k start_progress) (slice_of h.places.table a.tables.now) h.count (get_or a.counts.now k [])
-may_answer c = c.before.before.before.before.before.before.before.before.before.before.requires.1 c.before.before.before.before.before.before.loop.k c.before.before.before.before.if1.true
+may_answer c = c.before.before.before.before.before.before.before.before.before.before.requires.1 c.before.before.before.before.before.before.loop-k.k c.before.before.before.before.loop-k-test.true
 
-loop_again : tie.Need-loop-preserved invariant-loop decreases-loop
+loop_again : tie.Need-loop-k-preserved invariant-loop-k decreases-loop-k
 loop_again c =
-    let l = c.before.before.before.before.before.before.before.before.before.loop in
-    (omega (arith, c.before.before.before.before.before.before.before.if1.true), answering_more _ _ _ _ _ l.k l.list (one_of_8 c.before.before.before.before.before.before.before) l.invariant.1 _ c.answer-of.ensures)
+    let l = c.before.before.before.before.before.before.before.before.before.loop-k in
+    (omega (arith, c.before.before.before.before.before.before.before.loop-k-test.true), answering_more _ _ _ _ _ l.k l.list (one_of_8 c.before.before.before.before.before.before.before) l.invariant.1 _ c.answer_of-a.ensures)
 
-returns : tie.Need-returns invariant-loop decreases-loop
-returns c = let l = c.before.before.loop in answering_all _ _ _ _ _ l.k l.list (omega (arith, c.if1.false, l.invariant.0)) l.invariant.1
+returns : tie.Need-returns invariant-loop-k decreases-loop-k
+returns c = let l = c.before.before.loop-k in answering_all _ _ _ _ _ l.k l.list (omega (arith, c.loop-k-test.false, l.invariant.0)) l.invariant.1
 
 pub answers_spec : {M : Type 1} → statement M
 answers_spec =
     tie.close
     (tie.spec
-    invariant-loop
-    decreases-loop
+    invariant-loop-k
+    decreases-loop-k
     (λ c κs. search rules)
     loop_holds
     (λ c. let h = one_of_8 c in search rules)

@@ -4,7 +4,7 @@ use Rattle.calls_frames.proofs.refusal.Statement.{statement}
 use Rattle.calls_frames.proofs.refusal.Tie as tie
 
 returns : tie.Need-returns
-returns c = rw c.nothing.ensures
+returns c = rw c.nothing-none.ensures
 
 pub refusal_spec : {M : Type 1} → statement M
 refusal_spec = tie.close (tie.spec (λ c κs. search rules) returns)

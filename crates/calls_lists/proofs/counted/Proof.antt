@@ -4,17 +4,17 @@ use borrow.Author.Tests.{le-leb, lt-leb, eq-eqb, ne_eqb}
 use Rattle.calls_lists.proofs.counted.Statement.{statement}
 use Rattle.calls_lists.proofs.counted.Tie as tie
 
-returns : tie.Need-returns
-returns c = rw (lt-leb 1 c.before.args.files c.if1.true)
+returns : tie.Need-returns-then-files-lt1
+returns c = rw (lt-leb 1 c.before.args.files c.if-files-lt1.true)
 
-returns_2 : tie.Need-returns-2
-returns_2 c = rw (le-leb 1 c.before.before.args.files c.before.if1.false, lt-leb c.before.before.args.files 8 c.if2.true)
+returns_2 : tie.Need-returns-then-files-gt8
+returns_2 c = rw (le-leb 1 c.before.before.args.files c.before.if-files-lt1.false, lt-leb c.before.before.args.files 8 c.if-files-gt8.true)
 
-returns_3 : tie.Need-returns-3
-returns_3 c = rw (le-leb 1 c.before.before.before.args.files c.before.before.if1.false, le-leb c.before.before.before.args.files 8 c.before.if2.false, ne_eqb c.before.before.before.args.stores c.before.before.before.args.files (search rules))
+returns_3 : tie.Need-returns-then-stores-files
+returns_3 c = rw (le-leb 1 c.before.before.before.args.files c.before.before.if-files-lt1.false, le-leb c.before.before.before.args.files 8 c.before.if-files-gt8.false, ne_eqb c.before.before.before.args.stores c.before.before.before.args.files (search rules))
 
-returns-4 : tie.Need-returns-4
-returns-4 c = rw (le-leb 1 c.before.before.before.args.files c.before.before.if1.false, le-leb c.before.before.before.args.files 8 c.before.if2.false, eq-eqb c.before.before.before.args.stores c.before.before.before.args.files (search rules))
+returns-4 : tie.Need-returns
+returns-4 c = rw (le-leb 1 c.before.before.before.args.files c.before.before.if-files-lt1.false, le-leb c.before.before.before.args.files 8 c.before.if-files-gt8.false, eq-eqb c.before.before.before.args.stores c.before.before.before.args.files (search rules))
 
 pub counted_spec : {M : Type 1} → statement M
 counted_spec = tie.close (tie.spec returns returns_2 returns_3 returns-4)

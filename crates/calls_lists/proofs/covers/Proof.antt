@@ -11,38 +11,38 @@ use Rattle.calls_lists.proofs.Sums.{sum_next, sum_within, sum_all}
 use Rattle.calls_lists.proofs.covers.Statement.{statement}
 use Rattle.calls_lists.proofs.covers.Tie as tie
 
-abbrev invariant-loop : tie.invariant-loop
-invariant-loop lengths n left₀ i₀ left i = (i ≤ length lengths) × (total (take i lengths) + left ≡ n)
+abbrev invariant-loop-i : tie.invariant-loop-i
+invariant-loop-i lengths n left₀ i₀ left i = (i ≤ length lengths) × (total (take i lengths) + left ≡ n)
 
-abbrev decreases-loop : tie.decreases-loop
-decreases-loop lengths n left₀ i₀ left i = length lengths - i
+abbrev decreases-loop-i : tie.decreases-loop-i
+decreases-loop-i lengths n left₀ i₀ left i = length lengths - i
 
-loop_holds : tie.Need-loop-init invariant-loop decreases-loop
+loop_holds : tie.Need-loop-i-init invariant-loop-i decreases-loop-i
 unfolding total
 loop_holds c = (omega arith, omega arith)
 
-returns : tie.Need-returns invariant-loop decreases-loop
+returns : tie.Need-returns-then-left-next invariant-loop-i decreases-loop-i
 returns c =
     let l = c.before.before.before.before.args.lengths.now in
-    let i = c.before.before.before.loop.i in
-    sym (ne_eqb (total l) c.before.before.before.before.args.n λ (e : total l ≡ c.before.before.before.before.args.n). omega (arith, c.if1.true, c.before.before.before.loop.invariant.1, sum_within l i c.before.before.loop-test.true))
+    let i = c.before.before.before.loop-i.i in
+    sym (ne_eqb (total l) c.before.before.before.before.args.n λ (e : total l ≡ c.before.before.before.before.args.n). omega (arith, c.if-left-next.true, c.before.before.before.loop-i.invariant.1, sum_within l i c.before.before.loop-i-test.true))
 
-loop_again : tie.Need-loop-preserved invariant-loop decreases-loop
+loop_again : tie.Need-loop-i-preserved invariant-loop-i decreases-loop-i
 loop_again c =
     let l = c.before.before.before.before.args.lengths.now in
-    let i = c.before.before.before.loop.i in
-    (omega arith, omega (arith, c.if1.false, c.before.before.before.loop.invariant.1, sum_next l i c.before.before.loop-test.true))
+    let i = c.before.before.before.loop-i.i in
+    (omega arith, omega (arith, c.if-left-next.false, c.before.before.before.loop-i.invariant.1, sum_next l i c.before.before.loop-i-test.true))
 
-returns_2 : tie.Need-returns-2 invariant-loop decreases-loop
+returns_2 : tie.Need-returns invariant-loop-i decreases-loop-i
 returns_2 c =
     let l = c.before.before.args.lengths.now in
     let n = c.before.before.args.n in
-    let e : total l + c.before.loop.left ≡ n = omega (arith, c.before.loop.invariant.1, sum_all l c.before.loop.i c.loop-test.false) in
-    by c.before.loop.left (total l) n e
+    let e : total l + c.before.loop-i.left ≡ n = omega (arith, c.before.loop-i.invariant.1, sum_all l c.before.loop-i.i c.loop-i-test.false) in
+    by c.before.loop-i.left (total l) n e
   where
     by : (a b n : ℕ) → b + a ≡ n → eqb a 0 ≡ eqb b n
     by zero b n e = sym (eq-eqb b n (omega arith))
     by (suc a) b n e = ne_eqb (suc a) 0 (λ (h : suc a ≡ 0). omega arith) ∙ sym (ne_eqb b n (λ (h : b ≡ n). omega arith))
 
 pub covers_spec : {M : Type 1} → statement M
-covers_spec = tie.close (tie.spec invariant-loop decreases-loop loop_holds (λ c. search rules) (λ c. search rules) returns (λ c. search rules) (λ c. search rules) loop_again returns_2)
+covers_spec = tie.close (tie.spec invariant-loop-i decreases-loop-i loop_holds (λ c. search rules) (λ c. search rules) returns (λ c. search rules) (λ c. search rules) loop_again returns_2)

@@ -9,44 +9,44 @@ use Rattle.calls_lists.proofs.Sums.{sum_next, sum_within}
 use Rattle.calls_lists.proofs.part.Statement.{statement}
 use Rattle.calls_lists.proofs.part.Tie as tie
 
-abbrev invariant-loop : tie.invariant-loop
-invariant-loop lengths k from₀ i₀ from i = (i ≤ k) × (from ≡ total (take i lengths))
+abbrev invariant-loop-i : tie.invariant-loop-i
+invariant-loop-i lengths k from₀ i₀ from i = (i ≤ k) × (from ≡ total (take i lengths))
 
-abbrev decreases-loop : tie.decreases-loop
-decreases-loop lengths k from₀ i₀ from i = k - i
+abbrev decreases-loop-i : tie.decreases-loop-i
+decreases-loop-i lengths k from₀ i₀ from i = k - i
 
-loop_holds : tie.Need-loop-init invariant-loop decreases-loop
+loop_holds : tie.Need-loop-i-init invariant-loop-i decreases-loop-i
 unfolding total
 loop_holds c = (omega arith, refl)
 
-add-from : tie.Need-overflow-add-from invariant-loop decreases-loop
-add-from c = let l = c.before.before.before.args.lengths.now in omega (arith, c.before.before.loop.invariant.1, c.before.before.before.requires.1, sum_within l c.before.before.loop.i (omega arith))
+add-from : tie.Need-overflow_add-from invariant-loop-i decreases-loop-i
+add-from c = let l = c.before.before.before.args.lengths.now in omega (arith, c.before.before.loop-i.invariant.1, c.before.before.before.requires.1, sum_within l c.before.before.loop-i.i (omega arith))
 
-loop_again : tie.Need-loop-preserved invariant-loop decreases-loop
+loop_again : tie.Need-loop-i-preserved invariant-loop-i decreases-loop-i
 loop_again c =
     let l = c.before.before.before.args.lengths.now in
-    (omega arith, omega (arith, c.before.before.loop.invariant.1, sum_next l c.before.before.loop.i (omega arith)))
+    (omega arith, omega (arith, c.before.before.loop-i.invariant.1, sum_next l c.before.before.loop-i.i (omega arith)))
 
-add-t12 : tie.Need-overflow-add-t12 invariant-loop decreases-loop
+add-t12 : tie.Need-overflow_add-result invariant-loop-i decreases-loop-i
 add-t12 c =
     let s = c.before.before.before in
     let l = s.args.lengths.now in
-    let e : c.before.before.loop.i ≡ s.args.k = omega arith in
-    omega (arith, c.before.before.loop.invariant.1, ap (λ n. total (take n l)) e, s.requires.1, sum_within l s.args.k s.requires.0)
+    let e : c.before.before.loop-i.i ≡ s.args.k = omega arith in
+    omega (arith, c.before.before.loop-i.invariant.1, ap (λ n. total (take n l)) e, s.requires.1, sum_within l s.args.k s.requires.0)
 
-returns : tie.Need-returns invariant-loop decreases-loop
+returns : tie.Need-returns invariant-loop-i decreases-loop-i
 returns c =
     let s = c.before.before.before in
     let l = s.args.lengths.now in
-    let e : c.before.before.loop.i ≡ s.args.k = omega arith in
-    record { from = c.before.before.loop.invariant.1 ∙ ap (λ n. total (take n l)) e; to = refl }
+    let e : c.before.before.loop-i.i ≡ s.args.k = omega arith in
+    record { from = c.before.before.loop-i.invariant.1 ∙ ap (λ n. total (take n l)) e; to = refl }
 
 pub part_spec : {M : Type 1} → statement M
 part_spec =
     tie.close
     (tie.spec
-    invariant-loop
-    decreases-loop
+    invariant-loop-i
+    decreases-loop-i
     loop_holds
     (λ c. search rules) (λ c. search rules)
     add-from

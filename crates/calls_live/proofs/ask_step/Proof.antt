@@ -5,17 +5,17 @@ use native.Mathlib.Omega.{arith}
 use Rattle.calls_live.proofs.ask_step.Statement.{statement}
 use Rattle.calls_live.proofs.ask_step.Tie as tie
 
-returns : tie.Need-returns
-returns c s g = store_no _ s _ _ _ _ g.vars_are g.few _ c.before.before.ask-store.ensures c.enum_told.given.1
+returns : tie.Need-returns-in-Refused
+returns c s g = store_no _ s _ _ _ _ g.vars_are g.few _ c.before.before.ask_store-stored.ensures c.enum_told-1.given.1
 
-returns_2 : tie.Need-returns-2
-returns_2 c s g = state_no _ s _ _ _ _ g.vars_are g.few _ c.before.before.before.before.before.before.ask-store.ensures c.before.before.before.before.enum-told2.given.1 _ (c.before.before.ask-state.ensures s g.asked) c.enum-told3.given.1
+returns_2 : tie.Need-returns-in-Refused-stated
+returns_2 c s g = state_no _ s _ _ _ _ g.vars_are g.few _ c.before.before.before.before.before.before.ask_store-stored.ensures c.before.before.before.before.enum_told-in_default-1.given.1 _ (c.before.before.ask_state-stated.ensures s g.asked) c.enum_told-in-Refused-stated-1.given.1
 
-returns_3 : tie.Need-returns-3
-returns_3 c s g = ticks_no _ s _ _ _ _ g.vars_are g.few _ c.before.before.before.before.before.before.before.before.ask-store.ensures c.before.before.before.before.before.before.enum-told2.given.1 _ (c.before.before.before.before.ask-state.ensures s g.asked) c.before.before.enum-told4.given.1 c.if1.true
+returns_3 : tie.Need-returns-then-script-gt-MOST_TICKS
+returns_3 c s g = ticks_no _ s _ _ _ _ g.vars_are g.few _ c.before.before.before.before.before.before.before.before.ask_store-stored.ensures c.before.before.before.before.before.before.enum_told-in_default-1.given.1 _ (c.before.before.before.before.ask_state-stated.ensures s g.asked) c.before.before.enum_told-in_default-stated-1.given.1 c.if-script-gt-MOST_TICKS.true
 
-returns-4 : tie.Need-returns-4
-returns-4 c s g = all_yes _ s _ _ _ _ g.vars_are g.few _ c.before.before.before.before.before.before.before.before.ask-store.ensures c.before.before.before.before.before.before.enum-told2.given.1 _ (c.before.before.before.before.ask-state.ensures s g.asked) c.before.before.enum-told4.given.1 c.if1.false
+returns-4 : tie.Need-returns
+returns-4 c s g = all_yes _ s _ _ _ _ g.vars_are g.few _ c.before.before.before.before.before.before.before.before.ask_store-stored.ensures c.before.before.before.before.before.before.enum_told-in_default-1.given.1 _ (c.before.before.before.before.ask_state-stated.ensures s g.asked) c.before.before.enum_told-in_default-stated-1.given.1 c.if-script-gt-MOST_TICKS.false
 
 pub ask_step_spec : {M : Type 1} → statement M
 ask_step_spec =

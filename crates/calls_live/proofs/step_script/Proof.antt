@@ -20,43 +20,43 @@ script s = read_script s.args.text.now s.args.rows.now s.args.turn.script s.args
 full_ranges : (s : tie.Start) → length s.args.ranges ≡ 16
 full_ranges s = search rules
 
-analyse-requires : tie.Need-analyse-requires
+analyse-requires : tie.Need-analyse-figures-requires
 analyse-requires c κs = let s = c.before.before.before.before.before.before.before.before.before in analyse_asks _ _ _ _ s.requires.0 s.requires.1 (search rules)
 
 -- what the analysis found of it
-found : (c : tie.After-analyse) → let s = c.before.before.before.before.before.before.before.before.before.before in AnalysisOf s.args.turn.prices (script s) s.args.turn.script.count c.analyse.result c.analyse.new.1.1.1.1.1.0
-found c = let s = c.before.before.before.before.before.before.before.before.before.before in (c.analyse.ensures s.args.turn.script.vars (s.requires.0.legal, s.requires.0.blank)).0
+found : (c : tie.After-analyse-figures) → let s = c.before.before.before.before.before.before.before.before.before.before in AnalysisOf s.args.turn.prices (script s) s.args.turn.script.count c.analyse-figures.result c.analyse-figures.new.1.1.1.1.1.0
+found c = let s = c.before.before.before.before.before.before.before.before.before.before in (c.analyse-figures.ensures s.args.turn.script.vars (s.requires.0.legal, s.requires.0.blank)).0
 
-returns : tie.Need-returns
+returns : tie.Need-returns-in-Refused
 returns c prices e =
     let s = c.before.before.before.before.before.before.before.before.before.before.before.before.before.before.before in
-    no_step_as (judged_out prices (script s) _ _ _ (found_by _ _ _ _ s.requires.0 prices e _ _ (found c.before.before.before.before.before)) _ _ _ c.before.before.verdict.given.1) c.no_step.ensures
+    no_step_as (judged_out prices (script s) _ _ _ (found_by _ _ _ _ s.requires.0 prices e _ _ (found c.before.before.before.before.before)) _ _ _ c.before.before.verdict-1.given.1) c.no_step.ensures
 
-ask-step-requires : tie.Need-ask-step-requires
-ask-step-requires c κs = let s = c.before.before.before.before.before.before.before.before.before.before.before.before.before.before.before.before in (script s, step_asked s.requires.0 (full_ranges s) s.requires.1 _ _ (found c.before.before.before.before.before.before) c.before.before.before.enum_told.given.1 s.args.turn.q)
+ask-step-requires : tie.Need-ask_step-asked-requires
+ask-step-requires c κs = let s = c.before.before.before.before.before.before.before.before.before.before.before.before.before.before.before.before in (script s, step_asked s.requires.0 (full_ranges s) s.requires.1 _ _ (found c.before.before.before.before.before.before) c.before.before.before.enum_told-1.given.1 s.args.turn.q)
 
-step-on-requires : tie.Need-step-on-requires
+step-on-requires : tie.Need-step_on-requires
 step-on-requires c κs =
     let s = c.before.before.before.before.before.before.before.before.before.before.before.before.before.before.before.before.before.before.before.before.before.before.before in (
       script s,
-      step_ready s.requires.0 (full_ranges s) s.requires.1 _ _ (found c.before.before.before.before.before.before.before.before.before.before.before.before.before) c.before.before.before.before.before.before.before.before.before.before.enum_told.given.1 s.args.turn.q _ _
-          (sym (c.before.before.before.before.before.before.ask-step.ensures (script s) (step_asked s.requires.0 (full_ranges s) s.requires.1 _ _ (found c.before.before.before.before.before.before.before.before.before.before.before.before.before) c.before.before.before.before.before.before.before.before.before.before.enum_told.given.1 s.args.turn.q)) ∙ c.before.before.before.before.enum-told2.given.1),
+      step_ready s.requires.0 (full_ranges s) s.requires.1 _ _ (found c.before.before.before.before.before.before.before.before.before.before.before.before.before) c.before.before.before.before.before.before.before.before.before.before.enum_told-1.given.1 s.args.turn.q _ _
+          (sym (c.before.before.before.before.before.before.ask_step-asked.ensures (script s) (step_asked s.requires.0 (full_ranges s) s.requires.1 _ _ (found c.before.before.before.before.before.before.before.before.before.before.before.before.before) c.before.before.before.before.before.before.before.before.before.before.enum_told-1.given.1 s.args.turn.q)) ∙ c.before.before.before.before.enum_told-in-Passed-1.given.1),
     )
 
-returns_2 : tie.Need-returns-2
+returns_2 : tie.Need-returns-in-Passed
 returns_2 c prices e =
     let s = c.before.before.before.before.before.before.before.before.before.before.before.before.before.before.before.before.before.before.before.before.before.before.before.before.before.before.before.before.before in
-    let z = c.before.before.before.before.before.before.before.before.before.before.before.before.before.before.before.before.enum_told.given.1 in
-    let a = c.before.before.before.before.before.before.before.before.before.before.before.before.ask-step.ensures (script s) (step_asked s.requires.0 (full_ranges s) s.requires.1 _ _ (found c.before.before.before.before.before.before.before.before.before.before.before.before.before.before.before.before.before.before.before) z s.args.turn.q) in
-    step_as (asked_in prices (script s) _ _ _ (found_by _ _ _ _ s.requires.0 prices e _ _ (found c.before.before.before.before.before.before.before.before.before.before.before.before.before.before.before.before.before.before.before)) _ _ _ z _ e _ a c.before.before.before.before.before.before.before.before.before.before.enum-told2.given.1)
-    (c.before.before.before.before.before.step_on.ensures (script s) (step_ready s.requires.0 (full_ranges s) s.requires.1 _ _ (found c.before.before.before.before.before.before.before.before.before.before.before.before.before.before.before.before.before.before.before) z s.args.turn.q _ _ (sym a ∙ c.before.before.before.before.before.before.before.before.before.before.enum-told2.given.1)))
+    let z = c.before.before.before.before.before.before.before.before.before.before.before.before.before.before.before.before.enum_told-1.given.1 in
+    let a = c.before.before.before.before.before.before.before.before.before.before.before.before.ask_step-asked.ensures (script s) (step_asked s.requires.0 (full_ranges s) s.requires.1 _ _ (found c.before.before.before.before.before.before.before.before.before.before.before.before.before.before.before.before.before.before.before) z s.args.turn.q) in
+    step_as (asked_in prices (script s) _ _ _ (found_by _ _ _ _ s.requires.0 prices e _ _ (found c.before.before.before.before.before.before.before.before.before.before.before.before.before.before.before.before.before.before.before)) _ _ _ z _ e _ a c.before.before.before.before.before.before.before.before.before.before.enum_told-in-Passed-1.given.1)
+    (c.before.before.before.before.before.step_on.ensures (script s) (step_ready s.requires.0 (full_ranges s) s.requires.1 _ _ (found c.before.before.before.before.before.before.before.before.before.before.before.before.before.before.before.before.before.before.before) z s.args.turn.q _ _ (sym a ∙ c.before.before.before.before.before.before.before.before.before.before.enum_told-in-Passed-1.given.1)))
 
-returns_3 : tie.Need-returns-3
+returns_3 : tie.Need-returns-in-Refused-asked
 returns_3 c prices e =
     let s = c.before.before.before.before.before.before.before.before.before.before.before.before.before.before.before.before.before.before.before.before.before in
-    let z = c.before.before.before.before.before.before.before.before.enum_told.given.1 in
-    let a = c.before.before.before.before.ask-step.ensures (script s) (step_asked s.requires.0 (full_ranges s) s.requires.1 _ _ (found c.before.before.before.before.before.before.before.before.before.before.before) z s.args.turn.q) in
-    no_step_as (asked_out prices (script s) _ _ _ (found_by _ _ _ _ s.requires.0 prices e _ _ (found c.before.before.before.before.before.before.before.before.before.before.before)) _ _ _ z _ e _ a c.before.before.asked.given.1) c.no-step2.ensures
+    let z = c.before.before.before.before.before.before.before.before.enum_told-1.given.1 in
+    let a = c.before.before.before.before.ask_step-asked.ensures (script s) (step_asked s.requires.0 (full_ranges s) s.requires.1 _ _ (found c.before.before.before.before.before.before.before.before.before.before.before) z s.args.turn.q) in
+    no_step_as (asked_out prices (script s) _ _ _ (found_by _ _ _ _ s.requires.0 prices e _ _ (found c.before.before.before.before.before.before.before.before.before.before.before)) _ _ _ z _ e _ a c.before.before.asked-1.given.1) c.no_step-in-Refused-asked.ensures
 
 pub step_script_spec : {M : Type 1} → statement M
 step_script_spec =

@@ -11,30 +11,30 @@ use borrow.Author.Rules.{rules}
 use Rattle.calls_scripts.proofs.enter.Statement.{statement}
 use Rattle.calls_scripts.proofs.enter.Tie as tie
 
-ask-script-requires : tie.Need-ask-script-requires
+ask-script-requires : tie.Need-ask_script-requires
 ask-script-requires c κs =
     let s = c.before.before.before.before.before.before.before.before.before.before.before in
-    (file_given s.args.prices.now s.args.file.now _ _ _ c.before.before.before.before.before.load.ensures c.before.enum_told.given.1, s.requires.0)
+    (file_given s.args.prices.now s.args.file.now _ _ _ c.before.before.before.before.before.load-l.ensures c.before.enum_told-1.given.1, s.requires.0)
 
-returns : tie.Need-returns
+returns : tie.Need-returns-in-Passed
 returns c =
     let s = c.before.before.before.before.before.before.before.before.before.before.before.before in
     let prices = s.args.prices.now in
     let file = s.args.file.now in
     let store = s.args.store.now in
-    let l = c.before.before.before.before.before.before.load in
-    let z = c.before.before.enum_told.given.1 in
+    let l = c.before.before.before.before.before.before.load-l in
+    let z = c.before.before.enum_told-1.given.1 in
     let g = file_given prices file _ _ _ l.ensures z in
     let r = file_read prices file _ _ _ l.ensures z in
     record {
-      verdict = c.ask-script.ensures ∙ ap (λ j. admitted j store) (sym r);
+      verdict = c.ask_script.ensures ∙ ap (λ j. admitted j store) (sym r);
       held = λ script e. held_as file _ _ _ g script (judged_accepted (prices_of prices) _ script _ g.legal refl (sym r ∙ e)).0;
     }
 
-returns_2 : tie.Need-returns-2
+returns_2 : tie.Need-returns-in-Refused
 returns_2 c =
     let s = c.before.before.before.before.before.before.before.before.before.before.before in
-    let r = file_refused s.args.prices.now s.args.file.now _ _ _ c.before.before.before.before.before.load.ensures c.before.first.given.1 in
+    let r = file_refused s.args.prices.now s.args.file.now _ _ _ c.before.before.before.before.before.load-l.ensures c.before.first-1.given.1 in
     record { verdict = ap (λ j. admitted j s.args.store.now) (sym r); held = λ script e. absurd (let z : ◌≡◌ {A = ℕ} 0 1 = cc (sym r ∙ e) in omega arith) }
 
 pub enter_spec : {M : Type 1} → statement M

@@ -12,26 +12,26 @@ use borrow.Author.Rules.{rules}
 use Rattle.calls_scripts.proofs.enter_all.Statement.{statement}
 use Rattle.calls_scripts.proofs.enter_all.Tie as tie
 
-abbrev invariant-loop : tie.invariant-loop
-invariant-loop files file-lengths stores store-lengths pick-lengths prices tables₀ each₀ number k₀ tables each k =
+abbrev invariant-loop-k : tie.invariant-loop-k
+invariant-loop-k files file-lengths stores store-lengths pick-lengths prices tables₀ each₀ number k₀ tables each k =
     (k ≤ number) × ((picks : List ℕ) → Entering prices (lent_of files file-lengths stores store-lengths picks pick-lengths) k tables each)
 
-abbrev decreases-loop : tie.decreases-loop
-decreases-loop files file-lengths stores store-lengths pick-lengths prices tables₀ each₀ number k₀ tables each k = number - k
+abbrev decreases-loop-k : tie.decreases-loop-k
+decreases-loop-k files file-lengths stores store-lengths pick-lengths prices tables₀ each₀ number k₀ tables each k = number - k
 
-loop_holds : tie.Need-loop-init invariant-loop decreases-loop
+loop_holds : tie.Need-loop-k-init invariant-loop-k decreases-loop-k
 loop_holds c = (omega arith, λ picks. entering_none _ _ _ _ (search rules) c.before.before.before.before.before.before.requires.all_tables)
 
 -- script k is one of 8
-one_of_8 : (c : tie.In-loop invariant-loop decreases-loop) → c.before.loop.k < 8
-one_of_8 c = omega (arith, c.before.before.before.before.before.before.before.before.requires.lengths.few, c.loop-test.true)
+one_of_8 : (c : tie.In-loop-k invariant-loop-k decreases-loop-k) → c.before.loop-k.k < 8
+one_of_8 c = omega (arith, c.before.before.before.before.before.before.before.before.requires.lengths.few, c.loop-k-test.true)
 
-enter-at-requires : tie.Need-enter-at-requires invariant-loop decreases-loop
+enter-at-requires : tie.Need-enter_at-e-requires invariant-loop-k decreases-loop-k
 enter-at-requires c κs =
     let s = c.before.before.before.before.before.before.before.before.before.before in
-    let l = c.before.before.before.loop in
-    let p = c.before.places_of.ensures in
-    let i = c.before.before.loop-test.true in
+    let l = c.before.before.before.loop-k in
+    let p = c.before.places_of-places.ensures in
+    let i = c.before.before.loop-k-test.true in
     let k = one_of_8 c.before.before in
     record {
       priced = s.requires.priced;
@@ -42,59 +42,59 @@ enter-at-requires c κs =
     }
 
 -- script k has entered, by its parts
-entered : (c : tie.After-enter-at invariant-loop decreases-loop)
+entered : (c : tie.After-enter_at-e invariant-loop-k decreases-loop-k)
     → let a = c.before.before.before.before.before.before.before.before.before.before.before.args in
-    let k = c.before.before.before.before.loop.k in
-    EnteredAs a.prices.now (part_of a.file-lengths.now k a.files.now) (part_of a.store-lengths.now k a.stores.now) c.enter-at.ensures.table c.enter-at.result
+    let k = c.before.before.before.before.loop-k.k in
+    EnteredAs a.prices.now (part_of a.file-lengths.now k a.files.now) (part_of a.store-lengths.now k a.stores.now) c.enter_at-e.ensures.table c.enter_at-e.result
 entered c =
     let a = c.before.before.before.before.before.before.before.before.before.before.before.args in
-    let p = c.before.before.places_of.ensures in
-    subst₂ (λ f s. EnteredAs a.prices.now f s c.enter-at.ensures.table c.enter-at.result) (extent_part _ _ _ p.file a.files.now) (extent_part _ _ _ p.store a.stores.now) c.enter-at.ensures.entered
+    let p = c.before.before.places_of-places.ensures in
+    subst₂ (λ f s. EnteredAs a.prices.now f s c.enter_at-e.ensures.table c.enter_at-e.result) (extent_part _ _ _ p.file a.files.now) (extent_part _ _ _ p.store a.stores.now) c.enter_at-e.ensures.entered
 
-loop_again : tie.Need-loop-preserved invariant-loop decreases-loop
+loop_again : tie.Need-loop-k-preserved invariant-loop-k decreases-loop-k
 loop_again c =
-    let l = c.before.before.before.before.before.before.before.before.loop in
-    let p = c.before.before.before.before.before.before.places_of in
-    let e = c.before.before.before.before.enter-at in (
-      omega (arith, c.before.before.before.before.before.before.before.loop-test.true),
+    let l = c.before.before.before.before.before.before.before.before.loop-k in
+    let p = c.before.before.before.before.before.before.places_of-places in
+    let e = c.before.before.before.before.enter_at-e in (
+      omega (arith, c.before.before.before.before.before.before.before.loop-k-test.true),
       λ picks.
-          entering_more _ _ l.k l.tables _ l.each (one_of_8 c.before.before.before.before.before.before.before) (l.invariant.1 picks) p.result p.ensures e.result _ e.ensures.wrote (entered c.before.before.before.before) c.enum_told.given.1,
+          entering_more _ _ l.k l.tables _ l.each (one_of_8 c.before.before.before.before.before.before.before) (l.invariant.1 picks) p.result p.ensures e.result _ e.ensures.wrote (entered c.before.before.before.before) c.enum_told-1.given.1,
     )
 
-same_length : tie.Need-same-length invariant-loop decreases-loop
+same_length : tie.Need-shape_of-tables-in-Refused invariant-loop-k decreases-loop-k
 same_length c =
-    let l = c.before.before.before.before.before.before.before.before.before.loop in
-    let p = c.before.before.before.before.before.before.before.places_of in
-    put_length table_lengths l.k p.result.table p.ensures.table l.tables _ _ (one_of_8 c.before.before.before.before.before.before.before.before) (tables_whole l.tables (l.invariant.1 []).whole) c.before.before.before.before.before.enter-at.ensures.wrote ∙ (l.invariant.1 []).whole ∙ sym c.before.before.before.before.before.before.before.before.before.before.before.before.before.before.before.before.requires.all_tables
+    let l = c.before.before.before.before.before.before.before.before.before.loop-k in
+    let p = c.before.before.before.before.before.before.before.places_of-places in
+    put_length table_lengths l.k p.result.table p.ensures.table l.tables _ _ (one_of_8 c.before.before.before.before.before.before.before.before) (tables_whole l.tables (l.invariant.1 []).whole) c.before.before.before.before.before.enter_at-e.ensures.wrote ∙ (l.invariant.1 []).whole ∙ sym c.before.before.before.before.before.before.before.before.before.before.before.before.before.before.before.before.requires.all_tables
 
-returns : tie.Need-returns invariant-loop decreases-loop
+returns : tie.Need-returns-in-Refused invariant-loop-k decreases-loop-k
 returns c picks =
     let s = c.before.before.before.before.before.before.before.before.before.before.before.before.before.before.before.before in
-    let l = c.before.before.before.before.before.before.before.before.before.loop in
+    let l = c.before.before.before.before.before.before.before.before.before.loop-k in
     record {
       number = refl;
-      script = entering_which _ _ s.requires.priced s.requires.lengths l.k l.tables l.each (l.invariant.1 picks) c.before.before.before.before.before.before.before.before.loop-test.true _ c.before.before.before.before.before.enter-at.result (entered c.before.before.before.before.before) _ _ c.before.asked.given.1;
-      held = entering_no _ _ s.requires.priced s.requires.lengths l.k l.tables l.each (l.invariant.1 picks) c.before.before.before.before.before.before.before.before.loop-test.true _ c.before.before.before.before.before.enter-at.result (entered c.before.before.before.before.before) _ _ c.before.asked.given.1;
+      script = entering_which _ _ s.requires.priced s.requires.lengths l.k l.tables l.each (l.invariant.1 picks) c.before.before.before.before.before.before.before.before.loop-k-test.true _ c.before.before.before.before.before.enter_at-e.result (entered c.before.before.before.before.before) _ _ c.before.asked-1.given.1;
+      held = entering_no _ _ s.requires.priced s.requires.lengths l.k l.tables l.each (l.invariant.1 picks) c.before.before.before.before.before.before.before.before.loop-k-test.true _ c.before.before.before.before.before.enter_at-e.result (entered c.before.before.before.before.before) _ _ c.before.asked-1.given.1;
     }
 
-returns_2 : tie.Need-returns-2 invariant-loop decreases-loop
+returns_2 : tie.Need-returns invariant-loop-k decreases-loop-k
 returns_2 c picks =
     let s = c.before.before.before.before.before.before.before.before in
-    let l = c.before.loop in
+    let l = c.before.loop-k in
     record {
       number = refl;
-      script = entering_no_one _ _ s.requires.priced s.requires.lengths l.k l.tables l.each (l.invariant.1 picks) (omega (arith, c.loop-test.false, l.invariant.0));
-      held = entering_all _ _ s.requires.priced s.requires.lengths l.k l.tables l.each (l.invariant.1 picks) (omega (arith, c.loop-test.false, l.invariant.0));
+      script = entering_no_one _ _ s.requires.priced s.requires.lengths l.k l.tables l.each (l.invariant.1 picks) (omega (arith, c.loop-k-test.false, l.invariant.0));
+      held = entering_all _ _ s.requires.priced s.requires.lengths l.k l.tables l.each (l.invariant.1 picks) (omega (arith, c.loop-k-test.false, l.invariant.0));
     }
 
 pub enter_all_spec : {M : Type 1} → statement M
 enter_all_spec =
     tie.close
     (tie.spec
-    invariant-loop
-    decreases-loop
+    invariant-loop-k
+    decreases-loop-k
     loop_holds
-    (λ c κs. (c.loop-test.true, c.before.before.before.before.before.before.before.before.requires.lengths))
+    (λ c κs. (c.loop-k-test.true, c.before.before.before.before.before.before.before.before.requires.lengths))
     enter-at-requires
     (λ c. search rules)
     (λ c. let h = one_of_8 c.before.before.before.before.before.before.before in search rules)
@@ -106,5 +106,5 @@ enter_all_spec =
     (λ c. let h = one_of_8 c.before.before.before.before.before.before.before.before in search rules)
     same_length
     returns
-    (λ c. (c.before.loop.invariant.1 []).whole ∙ sym c.before.before.before.before.before.before.before.before.requires.all_tables)
+    (λ c. (c.before.loop-k.invariant.1 []).whole ∙ sym c.before.before.before.before.before.before.before.before.requires.all_tables)
     returns_2)

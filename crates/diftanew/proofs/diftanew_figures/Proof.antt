@@ -10,17 +10,17 @@ use Rattle.diftanew.proofs.diftanew_figures.Tie as tie
 abbrev judged : tie.Start → Judged
 judged s = judgement s.args.prices.now s.args.scratch.now s.args.file.now
 
-figures-numbers-requires : tie.Need-figures-numbers-requires
+figures-numbers-requires : tie.Need-figures_numbers-n-requires
 figures-numbers-requires c κs =
     let s = c.before.before.before.before.before.before.before.before in
-    let f = c.before.before.figures in
+    let f = c.before.before.figures-f in
     (few s.args.prices.now _ f.result (judged s) f.ensures.0, sevens s.args.prices.now _ f.result (judged s) f.ensures.0)
 
 returns : tie.Need-returns
 returns c =
     let s = c.before.before.before.before.before.before.before.before.before.before in
-    let f = c.before.before.before.before.figures in
-    (figured s.args.prices.now _ f.result (judged s) f.ensures.0 c.verdict-number.ensures c.before.figures-numbers.ensures, f.ensures.1)
+    let f = c.before.before.before.before.figures-f in
+    (figured s.args.prices.now _ f.result (judged s) f.ensures.0 c.verdict_number.ensures c.before.figures_numbers-n.ensures, f.ensures.1)
 
 pub diftanew_figures_spec : {M : Type 1} → statement M
 diftanew_figures_spec =

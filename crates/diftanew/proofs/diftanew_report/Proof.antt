@@ -5,11 +5,11 @@ use borrow.Author.Rules.{rules}
 use Rattle.diftanew.proofs.diftanew_report.Statement.{statement}
 use Rattle.diftanew.proofs.diftanew_report.Tie as tie
 
-returns : tie.Need-returns
-returns c = let e = c.before.before.before.before.before.before.before.report.ensures in (record { reply = c.before.before.before.before.before.before.before.report.result; reported = e.0; number = ap reply_number (sym c.before.r.given.1); place = ap reply_place (sym c.before.r.given.1) }, e.1)
+returns : tie.Need-returns-in-Accepted
+returns c = let e = c.before.before.before.before.before.before.before.report-r.ensures in (record { reply = c.before.before.before.before.before.before.before.report-r.result; reported = e.0; number = ap reply_number (sym c.before.r-1.given.1); place = ap reply_place (sym c.before.r-1.given.1) }, e.1)
 
-returns_2 : tie.Need-returns-2
-returns_2 c = let e = c.before.before.before.before.before.before.before.report.ensures in (record { reply = c.before.before.before.before.before.before.before.report.result; reported = e.0; number = ap reply_number (sym c.before.r2.given.1); place = ap reply_place (sym c.before.r2.given.1) }, e.1)
+returns_2 : tie.Need-returns-in-Refused
+returns_2 c = let e = c.before.before.before.before.before.before.before.report-r.ensures in (record { reply = c.before.before.before.before.before.before.before.report-r.result; reported = e.0; number = ap reply_number (sym c.before.r-in-Refused-1.given.1); place = ap reply_place (sym c.before.r-in-Refused-1.given.1) }, e.1)
 
 pub diftanew_report_spec : {M : Type 1} → statement M
 diftanew_report_spec =

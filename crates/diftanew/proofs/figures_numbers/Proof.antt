@@ -15,44 +15,44 @@ use Rattle.diftanew.proofs.figures_numbers.Tie as tie
 abbrev head_of : List ℕ → List ℕ
 head_of a = get_or a 0 0 ∷ get_or a 1 0 ∷ get_or a 2 0 ∷ []
 
-abbrev invariant-loop : tie.invariant-loop
-invariant-loop lines loops a₀ k₀ a k = (k ≤ loops) × Lined (head_of a₀) lines k a
+abbrev invariant-loop-k : tie.invariant-loop-k
+invariant-loop-k lines loops a₀ k₀ a k = (k ≤ loops) × Lined (head_of a₀) lines k a
 
-abbrev decreases-loop : tie.decreases-loop
-decreases-loop lines loops a₀ k₀ a k = loops - k
+abbrev decreases-loop-k : tie.decreases-loop-k
+decreases-loop-k lines loops a₀ k₀ a k = loops - k
 
-loop_holds : tie.Need-loop-init invariant-loop decreases-loop
+loop_holds : tie.Need-loop-k-init invariant-loop-k decreases-loop-k
 loop_holds c = (omega arith, lined_none _ _ _ refl refl)
 
-put-line-requires : tie.Need-put-line-requires invariant-loop decreases-loop
+put-line-requires : tie.Need-put_line-requires invariant-loop-k decreases-loop-k
 put-line-requires c κs =
-    let l = c.before.before.before.loop in
-    let i = c.before.before.loop-test.true in
+    let l = c.before.before.before.loop-k in
+    let i = c.before.before.loop-k-test.true in
     let m = c.before.before.before.before.before.requires.0 in
     (omega (arith, i, m), lined_length _ _ l.k l.a (omega (arith, m)) l.invariant.1)
 
-loop_again : tie.Need-loop-preserved invariant-loop decreases-loop
+loop_again : tie.Need-loop-k-preserved invariant-loop-k decreases-loop-k
 loop_again c =
-    let l = c.before.before.before.before.loop in
-    let i = c.before.before.before.loop-test.true in
+    let l = c.before.before.before.before.loop-k in
+    let i = c.before.before.before.loop-k-test.true in
     let m = c.before.before.before.before.before.before.requires.0 in
     let s = c.before.before.before.before.before.before.args in
     let long : length s.t2 ≡ 16 = search rules in
-    (omega (arith, i), rw c.put-line.ensures (lined_more _ _ l.k l.a (omega (arith, i, m)) (omega (arith, i, m)) (c.before.before.before.before.before.before.requires.1 l.k i) l.invariant.1))
+    (omega (arith, i), rw c.put_line.ensures (lined_more _ _ l.k l.a (omega (arith, i, m)) (omega (arith, i, m)) (c.before.before.before.before.before.before.requires.1 l.k i) l.invariant.1))
 
-returns : tie.Need-returns invariant-loop decreases-loop
+returns : tie.Need-returns invariant-loop-k decreases-loop-k
 returns c =
-    let l = c.before.loop in
+    let l = c.before.loop-k in
     let s = c.before.before.before in
-    lined_all _ _ l.k s.args.f.loops l.a (omega (arith, c.loop-test.false, l.invariant.0)) (omega (arith, s.requires.0)) l.invariant.1
-    ∙ ap (λ z. filled 115 (z ∷ s.args.f.vars ∷ s.args.f.loops ∷ in_a_row (take s.args.f.loops s.args.t2))) c.before.before.or-place.ensures
+    lined_all _ _ l.k s.args.f.loops l.a (omega (arith, c.loop-k-test.false, l.invariant.0)) (omega (arith, s.requires.0)) l.invariant.1
+    ∙ ap (λ z. filled 115 (z ∷ s.args.f.vars ∷ s.args.f.loops ∷ in_a_row (take s.args.f.loops s.args.t2))) c.before.before.or_place.ensures
 
 pub figures_numbers_spec : {M : Type 1} → statement M
 figures_numbers_spec =
     tie.close
     (tie.spec
-    invariant-loop
-    decreases-loop
+    invariant-loop-k
+    decreases-loop-k
     (λ c κs. search rules) (λ c. search rules) (λ c. search rules) (λ c. search rules)
     loop_holds
     (λ c. search rules) (λ c. search rules) (λ c. search rules) (λ c. search rules)

@@ -4,13 +4,13 @@ use borrow.Author.Rules.{rules}
 use Rattle.diftanew.proofs.first_number.Statement.{statement}
 use Rattle.diftanew.proofs.first_number.Tie as tie
 
-returns : tie.Need-returns
+returns : tie.Need-returns-in-Passed
 unfolding first_number
-returns c = rw c.before.enum_told.given.1 c.ending-number.ensures
+returns c = rw c.before.enum_told-1.given.1 c.ending_number.ensures
 
-returns_2 : tie.Need-returns-2
+returns_2 : tie.Need-returns-in-Refused
 unfolding first_number
-returns_2 c = rw c.before.verdict.given.1
+returns_2 c = rw c.before.verdict-1.given.1
 
 pub first_number_spec : {M : Type 1} → statement M
 first_number_spec = tie.close (tie.spec (λ c. search rules) (λ c κs. search rules) (λ c. search rules) returns returns_2)

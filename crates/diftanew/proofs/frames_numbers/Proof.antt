@@ -11,52 +11,52 @@ use borrow.Author.Rules.{rules}
 use Rattle.diftanew.proofs.frames_numbers.Statement.{statement}
 use Rattle.diftanew.proofs.frames_numbers.Tie as tie
 
-abbrev invariant-loop : tie.invariant-loop
-invariant-loop f verdict scripts a₀ k₀ a k = (k ≤ 8) × Laid (get_or a₀ 0 0) scripts k a
+abbrev invariant-loop-k : tie.invariant-loop-k
+invariant-loop-k f verdict scripts a₀ k₀ a k = (k ≤ 8) × Laid (get_or a₀ 0 0) scripts k a
 
-abbrev decreases-loop : tie.decreases-loop
-decreases-loop f verdict scripts a₀ k₀ a k = 8 - k
+abbrev decreases-loop-k : tie.decreases-loop-k
+decreases-loop-k f verdict scripts a₀ k₀ a k = 8 - k
 
 -- the scripts are a whole array
 unmapped : {X Y : Type 0} (f : X → Y) (l : List X) (n : ℕ) → length (map f l) ≡ n → length l ≡ n
 unmapped f l n e = sym (length-map l f) ∙ e
 
-eight : (c : tie.After-scripts invariant-loop decreases-loop) → length c.before.args.f.scripts ≡ 8
+eight : (c : tie.After-scripts-1 invariant-loop-k decreases-loop-k) → length c.before.args.f.scripts ≡ 8
 eight c = search (unmapped, rules)
 
-loop_holds : tie.Need-loop-init invariant-loop decreases-loop
-loop_holds c = (omega arith, laid_none c.or-place.result c.before.before.args.f.scripts (eight c.before))
+loop_holds : tie.Need-loop-k-init invariant-loop-k decreases-loop-k
+loop_holds c = (omega arith, laid_none c.or_place.result c.before.before.args.f.scripts (eight c.before))
 
-put-script-requires : tie.Need-put-script-requires invariant-loop decreases-loop
+put-script-requires : tie.Need-put_script-requires invariant-loop-k decreases-loop-k
 put-script-requires c κs =
-    let l = c.before.before.before.loop in
-    let i = c.before.before.loop-test.true in
-    (omega (arith, i), laid_length c.before.before.before.before.or-place.result c.before.before.before.before.before.before.args.f.scripts (eight c.before.before.before.before.before) l.k l.a l.invariant.0 l.invariant.1)
+    let l = c.before.before.before.loop-k in
+    let i = c.before.before.loop-k-test.true in
+    (omega (arith, i), laid_length c.before.before.before.before.or_place.result c.before.before.before.before.before.before.args.f.scripts (eight c.before.before.before.before.before) l.k l.a l.invariant.0 l.invariant.1)
 
-loop_again : tie.Need-loop-preserved invariant-loop decreases-loop
+loop_again : tie.Need-loop-k-preserved invariant-loop-k decreases-loop-k
 loop_again c =
-    let l = c.before.before.before.before.loop in
+    let l = c.before.before.before.before.loop-k in
     let s = c.before.before.before.before.before.before.before in
-    let i = c.before.before.before.loop-test.true in
-    (omega (arith, i), c.put-script.ensures ∙ laid_more c.before.before.before.before.before.or-place.result s.args.f.scripts (eight c.before.before.before.before.before.before) l.k l.a _ i l.invariant.1)
+    let i = c.before.before.before.loop-k-test.true in
+    (omega (arith, i), c.put_script.ensures ∙ laid_more c.before.before.before.before.before.or_place.result s.args.f.scripts (eight c.before.before.before.before.before.before) l.k l.a _ i l.invariant.1)
 
-returns : tie.Need-returns invariant-loop decreases-loop
+returns : tie.Need-returns invariant-loop-k decreases-loop-k
 unfolding frames_numbers
 returns c =
-    let l = c.before.before.loop in
+    let l = c.before.before.loop-k in
     let s = c.before.before.before.before.before in
     let f = s.args.f in
     let all : l.a ≡ most_by f.verdict f.most ∷ all_numbers f.scripts =
-    laid_all c.before.before.before.or-place.result f.scripts (eight c.before.before.before.before) l.k l.a (omega (arith, c.before.loop-test.false, l.invariant.0)) l.invariant.1
-    ∙ ap (λ z. z ∷ all_numbers f.scripts) c.before.before.before.or-place.ensures in
-    rw c.or-script.ensures (ap (λ (z : List ℕ). set z 1 (script_by f.verdict (get_or z 1 0) f.script)) all)
+    laid_all c.before.before.before.or_place.result f.scripts (eight c.before.before.before.before) l.k l.a (omega (arith, c.before.loop-k-test.false, l.invariant.0)) l.invariant.1
+    ∙ ap (λ z. z ∷ all_numbers f.scripts) c.before.before.before.or_place.ensures in
+    rw c.or_script.ensures (ap (λ (z : List ℕ). set z 1 (script_by f.verdict (get_or z 1 0) f.script)) all)
 
 pub frames_numbers_spec : {M : Type 1} → statement M
 frames_numbers_spec =
     tie.close
     (tie.spec
-    invariant-loop
-    decreases-loop
+    invariant-loop-k
+    decreases-loop-k
     (λ c κs. search rules) (λ c. search rules)
     loop_holds
     (λ c. search rules) (λ c. search rules) (λ c. search rules) (λ c. search rules)

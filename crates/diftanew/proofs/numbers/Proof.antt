@@ -8,43 +8,43 @@ use native.Mathlib.Omega.{arith}
 use Rattle.diftanew.proofs.numbers.Statement.{statement}
 use Rattle.diftanew.proofs.numbers.Tie as tie
 
-abbrev invariant-loop : tie.invariant-loop
-invariant-loop loops counts n a₀ k₀ a k = (k ≤ n) × (a ≡ loop_numbers 5 k counts a₀)
+abbrev invariant-loop-k : tie.invariant-loop-k
+invariant-loop-k loops counts n a₀ k₀ a k = (k ≤ n) × (a ≡ loop_numbers 5 k counts a₀)
 
-abbrev decreases-loop : tie.decreases-loop
-decreases-loop loops counts n a₀ k₀ a k = n - k
+abbrev decreases-loop-k : tie.decreases-loop-k
+decreases-loop-k loops counts n a₀ k₀ a k = n - k
 
-loop_holds : tie.Need-loop-init invariant-loop decreases-loop
+loop_holds : tie.Need-loop-k-init invariant-loop-k decreases-loop-k
 unfolding loop_numbers
 loop_holds c = (omega arith, refl)
 
-array-copy-out-c : tie.Need-array-copy-out-c invariant-loop decreases-loop
-array-copy-out-c c = let h = c.before.before.before.at-most-16.ensures in search rules
+array-copy-out-c : tie.Need-bounds-counts-k invariant-loop-k decreases-loop-k
+array-copy-out-c c = let h = c.before.before.before.at_most_16-n.ensures in search rules
 
-array-write-a-6 : tie.Need-array-write-a-6 invariant-loop decreases-loop
-array-write-a-6 c = let h = c.before.before.before.before.at-most-16.ensures in search rules
+array-write-a-6 : tie.Need-bounds-a-k invariant-loop-k decreases-loop-k
+array-write-a-6 c = let h = c.before.before.before.before.at_most_16-n.ensures in search rules
 
-array-write-a-7 : tie.Need-array-write-a-7 invariant-loop decreases-loop
-array-write-a-7 c = let h = c.before.before.before.before.at-most-16.ensures in search rules
+array-write-a-7 : tie.Need-bounds-a-k-in-loop-k invariant-loop-k decreases-loop-k
+array-write-a-7 c = let h = c.before.before.before.before.at_most_16-n.ensures in search rules
 
-array-write-a-8 : tie.Need-array-write-a-8 invariant-loop decreases-loop
-array-write-a-8 c = let h = c.before.before.before.before.at-most-16.ensures in search rules
+array-write-a-8 : tie.Need-bounds-a-k-in-loop-k-2 invariant-loop-k decreases-loop-k
+array-write-a-8 c = let h = c.before.before.before.before.at_most_16-n.ensures in search rules
 
-loop_again : tie.Need-loop-preserved invariant-loop decreases-loop
+loop_again : tie.Need-loop-k-preserved invariant-loop-k decreases-loop-k
 unfolding loop_numbers
-loop_again c = (omega (arith, c.before.loop-test.true), rw (add-one, c.before.before.loop.invariant.1) refl)
+loop_again c = (omega (arith, c.before.loop-k-test.true), rw (add-one, c.before.before.loop-k.invariant.1) refl)
 
-returns : tie.Need-returns invariant-loop decreases-loop
+returns : tie.Need-returns invariant-loop-k decreases-loop-k
 unfolding numbers_of head_numbers
-returns c = let e : c.before.loop.k ≡ min c.before.before.before.before.before.args.o.loops 16 = omega (arith, c.loop-test.false, c.before.loop.invariant.0, c.before.before.before.at-most-16.ensures) in
-    rw (← c.before.before.first_number_lem.ensures, ← e) c.before.loop.invariant.1
+returns c = let e : c.before.loop-k.k ≡ min c.before.before.before.before.before.args.o.loops 16 = omega (arith, c.loop-k-test.false, c.before.loop-k.invariant.0, c.before.before.before.at_most_16-n.ensures) in
+    rw (← c.before.before.first_number_lem.ensures, ← e) c.before.loop-k.invariant.1
 
 pub numbers_spec : {M : Type 1} → statement M
 numbers_spec =
     tie.close
     (tie.spec
-    invariant-loop
-    decreases-loop
+    invariant-loop-k
+    decreases-loop-k
     (λ c κs. search rules) (λ c κs. search rules) (λ c. search rules) (λ c. search rules)
     (λ c. search rules) (λ c. search rules) (λ c. search rules)
     loop_holds

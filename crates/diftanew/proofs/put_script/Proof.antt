@@ -10,51 +10,51 @@ use borrow.Author.Rules.{rules}
 use Rattle.diftanew.proofs.put_script.Statement.{statement}
 use Rattle.diftanew.proofs.put_script.Tie as tie
 
-abbrev invariant-loop : tie.invariant-loop
-invariant-loop at answer₀ n i₀ answer i = (i ≤ 53) × (length answer₀ ≡ 433) × (answer ≡ paste answer₀ (at + 1) n i)
+abbrev invariant-loop-i : tie.invariant-loop-i
+invariant-loop-i at answer₀ n i₀ answer i = (i ≤ 53) × (length answer₀ ≡ 433) × (answer ≡ paste answer₀ (at + 1) n i)
 
-abbrev decreases-loop : tie.decreases-loop
-decreases-loop at answer₀ n i₀ answer i = 53 - i
+abbrev decreases-loop-i : tie.decreases-loop-i
+decreases-loop-i at answer₀ n i₀ answer i = 53 - i
 
 -- the numbers are a whole array
-full : (c : tie.After-numbers invariant-loop decreases-loop) → length c.numbers.result ≡ 53
+full : (c : tie.After-numbers-n invariant-loop-i decreases-loop-i) → length c.numbers-n.result ≡ 53
 full c = search rules
 
 -- the answer with the frame in it
-abbrev with-frame : tie.Start invariant-loop decreases-loop → List ℕ
+abbrev with-frame : tie.Start invariant-loop-i decreases-loop-i → List ℕ
 with-frame s = set s.args.answer.now s.args.at s.args.p.frame
 
-loop_holds : tie.Need-loop-init invariant-loop decreases-loop
-loop_holds c = let s = c.before.before in (omega arith, length-set s.args.answer.now s.args.at s.args.p.frame ∙ s.requires.1, paste-zero (with-frame s) (s.args.at + 1) c.numbers.result)
+loop_holds : tie.Need-loop-i-init invariant-loop-i decreases-loop-i
+loop_holds c = let s = c.before.before in (omega arith, length-set s.args.answer.now s.args.at s.args.p.frame ∙ s.requires.1, paste-zero (with-frame s) (s.args.at + 1) c.numbers-n.result)
 
-element-write-answer : tie.Need-element-write-answer invariant-loop decreases-loop
+element-write-answer : tie.Need-bounds-answer-at invariant-loop-i decreases-loop-i
 element-write-answer c = omega (arith, c.before.before.requires.0)
 
-loop_again : tie.Need-loop-preserved invariant-loop decreases-loop
+loop_again : tie.Need-loop-i-preserved invariant-loop-i decreases-loop-i
 loop_again c =
-    let l = c.before.loop in
+    let l = c.before.loop-i in
     let s = c.before.before.before.before in
-    let n = c.before.before.numbers.result in (
-      omega (arith, c.loop-test.true),
+    let n = c.before.before.numbers-n.result in (
+      omega (arith, c.loop-i-test.true),
       l.invariant.1,
       ap (λ z. set z (s.args.at + 1 + l.i) (get_or n l.i 0)) l.invariant.2
-          ∙ paste-suc (with-frame s) (s.args.at + 1) n l.i 0 (omega (arith, l.invariant.1, s.requires.0, c.loop-test.true)) (omega (arith, full c.before.before, c.loop-test.true))
+          ∙ paste-suc (with-frame s) (s.args.at + 1) n l.i 0 (omega (arith, l.invariant.1, s.requires.0, c.loop-i-test.true)) (omega (arith, full c.before.before, c.loop-i-test.true))
           ∙ ap (paste (with-frame s) (s.args.at + 1) n) (sym (add-one l.i)),
     )
 
-returns : tie.Need-returns invariant-loop decreases-loop
+returns : tie.Need-returns invariant-loop-i decreases-loop-i
 returns c =
-    let l = c.before.loop in
+    let l = c.before.loop-i in
     let s = c.before.before.before.before in
-    let e : l.i ≡ 53 = omega (arith, c.loop-test.false, l.invariant.0) in
-    l.invariant.2 ∙ (λ j. paste (with-frame s) (s.args.at + 1) (c.before.before.numbers.ensures j) (e j))
+    let e : l.i ≡ 53 = omega (arith, c.loop-i-test.false, l.invariant.0) in
+    l.invariant.2 ∙ (λ j. paste (with-frame s) (s.args.at + 1) (c.before.before.numbers-n.ensures j) (e j))
 
 pub put_script_spec : {M : Type 1} → statement M
 put_script_spec =
     tie.close
     (tie.spec
-    invariant-loop
-    decreases-loop
+    invariant-loop-i
+    decreases-loop-i
     (λ c κs. search rules) (λ c. search rules)
     element-write-answer
     loop_holds

@@ -4,8 +4,8 @@ use borrow.Author.Rules.{rules}
 use Rattle.explain.proofs.explain_file.Statement.{statement}
 use Rattle.explain.proofs.explain_file.Tie as tie
 
-explain-priced-requires : tie.Need-explain-priced-requires
-explain-priced-requires c κs = sym c.before.before.ask-prices.ensures ∙ c.enum_told.given.1
+explain-priced-requires : tie.Need-explain_priced-requires
+explain-priced-requires c κs = sym c.before.before.ask_prices-lent.ensures ∙ c.enum_told-1.given.1
 
 pub explain_file_spec : {M : Type 1} → statement M
 explain_file_spec = tie.close (tie.spec (λ c κs. search rules) (λ c. search rules) explain-priced-requires (λ c. search rules) (λ c κs. search rules) (λ c. search rules) (λ c. search rules))

@@ -4,13 +4,13 @@ use Rattle.calls.proofs.Tables.{four, fine, analyse_asks}
 use Rattle.explain.proofs.explain_script.Statement.{statement}
 use Rattle.explain.proofs.explain_script.Tie as tie
 
-prices-of-requires : tie.Need-prices-of-requires
+prices-of-requires : tie.Need-prices_of-by_kind-requires
 prices-of-requires c κs = four _ c.before.before.before.requires.1
 
-explain-rows-requires : tie.Need-explain-rows-requires
+explain-rows-requires : tie.Need-explain_rows-requires
 explain-rows-requires c κs =
     let s = c.before.before.before.before in
-    let a = analyse_asks _ _ _ _ s.requires.0 (fine s.args.prices.now s.requires.1 c.prices-of.ensures) s.requires.1 in
+    let a = analyse_asks _ _ _ _ s.requires.0 (fine s.args.prices.now s.requires.1 c.prices_of-by_kind.ensures) s.requires.1 in
     record { legal = s.requires.0.legal; rows = a.1; held = a.2; few = s.requires.0.few; blank = s.requires.0.blank; prices = a.3; short = a.5; written = a.6 }
 
 pub explain_script_spec : {M : Type 1} → statement M

@@ -10,7 +10,7 @@ use Rattle.expressions.proofs.evaluate.Tie as tie
 returns : tie.Need-returns
 unfolding evaluated
 returns c =
-    let g = c.before.expression in
+    let g = c.before.expression-got in
     let f0 : SFits w32 g.result.lo = search rules in
     let f1 : SFits w32 g.result.hi = search rules in
     rw (to_z-of_z f0, to_z-of_z f1) (passed_value _ _ _ c.before.before.before.requires _ _ g.ensures)

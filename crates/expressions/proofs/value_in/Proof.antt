@@ -10,7 +10,7 @@ use Rattle.expressions.proofs.value_in.Tie as tie
 returns : tie.Need-returns
 unfolding value
 returns c =
-    let g = c.before.expression-run in
+    let g = c.before.expression_run-got in
     let f : SFits w32 g.result.number = search rules in
     rw (to_z-of_z f) (passed_value _ _ _ c.before.before.before.requires _ _ g.ensures)
 

@@ -7,19 +7,19 @@ use native.Mathlib.Omega.{arith}
 use Rattle.frames.proofs.read_scripts.Statement.{statement}
 use Rattle.frames.proofs.read_scripts.Tie as tie
 
-abbrev invariant-loop : tie.invariant-loop
-invariant-loop first scripts files₀ file-lengths₀ picks₀ pick-lengths₀ stores₀ store-lengths₀ file₀ pick₀ value₀ k₀ files file-lengths picks pick-lengths stores store-lengths file pick value k =
+abbrev invariant-loop-k : tie.invariant-loop-k
+invariant-loop-k first scripts files₀ file-lengths₀ picks₀ pick-lengths₀ stores₀ store-lengths₀ file₀ pick₀ value₀ k₀ files file-lengths picks pick-lengths stores store-lengths file pick value k =
     (k ≤ scripts) × (file ≤ 16_385 * k) × (pick ≤ 131_072) × (value ≤ 17 * k) × (length files ≡ length files₀) × (length picks ≡ length picks₀) × (length stores ≡ length stores₀) × (length file-lengths ≡ 8) × (length pick-lengths ≡ 8) × (length store-lengths ≡ 8)
 
-abbrev decreases-loop : tie.decreases-loop
-decreases-loop first scripts files₀ file-lengths₀ picks₀ pick-lengths₀ stores₀ store-lengths₀ file₀ pick₀ value₀ k₀ files file-lengths picks pick-lengths stores store-lengths file pick value k =
+abbrev decreases-loop-k : tie.decreases-loop-k
+decreases-loop-k first scripts files₀ file-lengths₀ picks₀ pick-lengths₀ stores₀ store-lengths₀ file₀ pick₀ value₀ k₀ files file-lengths picks pick-lengths stores store-lengths file pick value k =
     scripts - k
 
-loop_again : tie.Need-loop-preserved invariant-loop decreases-loop
+loop_again : tie.Need-loop-k-preserved invariant-loop-k decreases-loop-k
 loop_again c =
-    let l = c.before.before.before.before.before.before.before.before.before.before.before.before.before.before.before.loop in
-    let h = c.before.before.before.before.before.before.before.before.before.before.read-script.ensures in (
-      omega (arith, c.before.before.before.before.before.before.before.before.before.before.before.before.before.before.loop-test.true),
+    let l = c.before.before.before.before.before.before.before.before.before.before.before.before.before.before.before.loop-k in
+    let h = c.before.before.before.before.before.before.before.before.before.before.read_script-part.ensures in (
+      omega (arith, c.before.before.before.before.before.before.before.before.before.before.before.before.before.before.loop-k-test.true),
       omega (arith, l.invariant.1, h.0, length-take (l.file + 16_385 - l.file) (drop l.file l.files)),
       omega (arith, l.invariant.2, l.invariant.5, c.before.before.before.before.before.before.before.before.before.before.before.before.before.before.before.before.before.before.before.before.before.requires.0.3, h.1, length-take (length l.picks - l.pick) (drop l.pick l.picks), length-drop l.pick l.picks),
       omega (arith, l.invariant.3, h.2, length-take (l.value + 17 - l.value) (drop l.value l.stores)),
@@ -33,7 +33,7 @@ loop_again c =
 
 pub read_scripts_spec : {M : Type 1} → statement M
 read_scripts_spec = tie.close (tie.spec
-    invariant-loop decreases-loop (λ c. search rules) (λ c. search rules) (λ c. search rules) (λ c. search rules) (λ c. search rules)
+    invariant-loop-k decreases-loop-k (λ c. search rules) (λ c. search rules) (λ c. search rules) (λ c. search rules) (λ c. search rules)
     (λ c. search rules) (λ c. search rules) (λ c. search rules) (λ c. search rules) (λ c. search rules) (λ c. search rules)
     (λ c. search rules) (λ c. search rules) (λ c. search rules) (λ c. search rules) (λ c κs. search rules) (λ c κs. search rules)
     (λ c κs. search rules) (λ c. search rules) (λ c. search rules) (λ c κs. search rules) (λ c κs. search rules)

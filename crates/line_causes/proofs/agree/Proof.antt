@@ -10,23 +10,23 @@ use Rattle.line_causes.proofs.Laws.{agree_on, agree_other, agree_short, agree_en
 use Rattle.line_causes.proofs.agree.Statement.{statement}
 use Rattle.line_causes.proofs.agree.Tie as tie
 
-abbrev invariant-loop : tie.invariant-loop
-invariant-loop key s i₀ i = (i ≤ length key) × (agree key s ≡ i + agree (drop i key) (drop i s))
+abbrev invariant-loop-i : tie.invariant-loop-i
+invariant-loop-i key s i₀ i = (i ≤ length key) × (agree key s ≡ i + agree (drop i key) (drop i s))
 
-abbrev decreases-loop : tie.decreases-loop
-decreases-loop key s i₀ i = length key - i
+abbrev decreases-loop-i : tie.decreases-loop-i
+decreases-loop-i key s i₀ i = length key - i
 
-returns : tie.Need-returns invariant-loop decreases-loop
-returns c = sym (c.before.before.loop.invariant.1 ∙ ap (λ n. c.before.before.loop.i + n) (agree_short _ _ _ c.before.loop-test.true c.if1.true) ∙ omega arith)
+returns : tie.Need-returns-then-i-s invariant-loop-i decreases-loop-i
+returns c = sym (c.before.before.loop-i.invariant.1 ∙ ap (λ n. c.before.before.loop-i.i + n) (agree_short _ _ _ c.before.loop-i-test.true c.if-i-s.true) ∙ omega arith)
 
-returns_2 : tie.Need-returns-2 invariant-loop decreases-loop
-returns_2 c = sym (c.before.before.before.before.before.loop.invariant.1 ∙ ap (λ n. c.before.before.before.before.before.loop.i + n) (agree_other _ _ _ c.before.before.before.before.loop-test.true c.before.before.before.if1.false c.if2.true) ∙ omega arith)
+returns_2 : tie.Need-returns-then-s-i invariant-loop-i decreases-loop-i
+returns_2 c = sym (c.before.before.before.before.before.loop-i.invariant.1 ∙ ap (λ n. c.before.before.before.before.before.loop-i.i + n) (agree_other _ _ _ c.before.before.before.before.loop-i-test.true c.before.before.before.if-i-s.false c.if-s-i.true) ∙ omega arith)
 
-loop_again : tie.Need-loop-preserved invariant-loop decreases-loop
-loop_again c = (omega arith, rw add-one (c.before.before.before.before.before.loop.invariant.1 ∙ ap (λ n. c.before.before.before.before.before.loop.i + n) (agree_on _ _ _ c.before.before.before.before.loop-test.true c.before.before.before.if1.false c.if2.false) ∙ omega arith))
+loop_again : tie.Need-loop-i-preserved invariant-loop-i decreases-loop-i
+loop_again c = (omega arith, rw add-one (c.before.before.before.before.before.loop-i.invariant.1 ∙ ap (λ n. c.before.before.before.before.before.loop-i.i + n) (agree_on _ _ _ c.before.before.before.before.loop-i-test.true c.before.before.before.if-i-s.false c.if-s-i.false) ∙ omega arith))
 
-returns_3 : tie.Need-returns-3 invariant-loop decreases-loop
-returns_3 c = sym (c.before.loop.invariant.1 ∙ ap (λ n. c.before.loop.i + n) (agree_end _ _ _ c.loop-test.false) ∙ omega arith)
+returns_3 : tie.Need-returns invariant-loop-i decreases-loop-i
+returns_3 c = sym (c.before.loop-i.invariant.1 ∙ ap (λ n. c.before.loop-i.i + n) (agree_end _ _ _ c.loop-i-test.false) ∙ omega arith)
 
 pub agree_spec : {M : Type 1} → statement M
-agree_spec = tie.close (tie.spec invariant-loop decreases-loop (λ c. search rules) returns (λ c. search rules) (λ c. search rules) returns_2 (λ c. search rules) (λ c. search rules) loop_again returns_3)
+agree_spec = tie.close (tie.spec invariant-loop-i decreases-loop-i (λ c. search rules) returns (λ c. search rules) (λ c. search rules) returns_2 (λ c. search rules) (λ c. search rules) loop_again returns_3)

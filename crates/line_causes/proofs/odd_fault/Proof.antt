@@ -5,17 +5,17 @@ use Rattle.line_causes.specs.Causes.{odd_fault}
 use Rattle.line_causes.proofs.odd_fault.Statement.{statement}
 use Rattle.line_causes.proofs.odd_fault.Tie as tie
 
-returns : tie.Need-returns
+returns : tie.Need-returns-then-b-eq9
 unfolding odd_fault
-returns c = rw (eq-eqb _ _ c.if1.true)
+returns c = rw (eq-eqb _ _ c.if-b-eq9.true)
 
-returns_2 : tie.Need-returns-2
+returns_2 : tie.Need-returns-then-b-eq13
 unfolding odd_fault
-returns_2 c = rw (ne_eqb _ _ c.before.if1.false, eq-eqb _ _ c.if2.true)
+returns_2 c = rw (ne_eqb _ _ c.before.if-b-eq9.false, eq-eqb _ _ c.if-b-eq13.true)
 
-returns_3 : tie.Need-returns-3
+returns_3 : tie.Need-returns
 unfolding odd_fault
-returns_3 c = rw (ne_eqb _ _ c.before.if1.false, ne_eqb _ _ c.if2.false)
+returns_3 c = rw (ne_eqb _ _ c.before.if-b-eq9.false, ne_eqb _ _ c.if-b-eq13.false)
 
 pub odd_fault_spec : {M : Type 1} → statement M
 odd_fault_spec = tie.close (tie.spec returns returns_2 returns_3)

@@ -11,20 +11,20 @@ use Rattle.line_causes.proofs.Laws.{odd_here, odd_on, odd_end}
 use Rattle.line_causes.proofs.to_odd.Statement.{statement}
 use Rattle.line_causes.proofs.to_odd.Tie as tie
 
-abbrev invariant-loop : tie.invariant-loop
-invariant-loop s i₀ i = (i ≤ length s) × (to_odd s ≡ i + to_odd (drop i s))
+abbrev invariant-loop-i : tie.invariant-loop-i
+invariant-loop-i s i₀ i = (i ≤ length s) × (to_odd s ≡ i + to_odd (drop i s))
 
-abbrev decreases-loop : tie.decreases-loop
-decreases-loop s i₀ i = length s - i
+abbrev decreases-loop-i : tie.decreases-loop-i
+decreases-loop-i s i₀ i = length s - i
 
-returns : tie.Need-returns invariant-loop decreases-loop
-returns c = (sym (c.before.before.before.before.loop.invariant.1 ∙ ap (λ n. c.before.before.before.before.loop.i + n) (odd_here _ _ c.before.before.before.loop-test.true (sym c.before.is_plain.ensures ∙ not-true _ c.if1.true)) ∙ omega arith), c.before.before.before.before.loop.invariant.0)
+returns : tie.Need-returns-then-not-is_plain invariant-loop-i decreases-loop-i
+returns c = (sym (c.before.before.before.before.loop-i.invariant.1 ∙ ap (λ n. c.before.before.before.before.loop-i.i + n) (odd_here _ _ c.before.before.before.loop-i-test.true (sym c.before.is_plain.ensures ∙ not-true _ c.if-not-is_plain.true-raw)) ∙ omega arith), c.before.before.before.before.loop-i.invariant.0)
 
-loop_again : tie.Need-loop-preserved invariant-loop decreases-loop
-loop_again c = (omega arith, rw add-one (c.before.before.before.before.loop.invariant.1 ∙ ap (λ n. c.before.before.before.before.loop.i + n) (odd_on _ _ c.before.before.before.loop-test.true (sym c.before.is_plain.ensures ∙ not-false _ c.if1.false)) ∙ omega arith))
+loop_again : tie.Need-loop-i-preserved invariant-loop-i decreases-loop-i
+loop_again c = (omega arith, rw add-one (c.before.before.before.before.loop-i.invariant.1 ∙ ap (λ n. c.before.before.before.before.loop-i.i + n) (odd_on _ _ c.before.before.before.loop-i-test.true (sym c.before.is_plain.ensures ∙ not-false _ c.if-not-is_plain.false-raw)) ∙ omega arith))
 
-returns_2 : tie.Need-returns-2 invariant-loop decreases-loop
-returns_2 c = (sym (c.before.loop.invariant.1 ∙ ap (λ n. c.before.loop.i + n) (odd_end _ _ c.loop-test.false) ∙ omega arith), c.before.loop.invariant.0)
+returns_2 : tie.Need-returns invariant-loop-i decreases-loop-i
+returns_2 c = (sym (c.before.loop-i.invariant.1 ∙ ap (λ n. c.before.loop-i.i + n) (odd_end _ _ c.loop-i-test.false) ∙ omega arith), c.before.loop-i.invariant.0)
 
 pub to_odd_spec : {M : Type 1} → statement M
-to_odd_spec = tie.close (tie.spec invariant-loop decreases-loop (λ c. search rules) (λ c. search rules) (λ c κs. search rules) returns (λ c. search rules) (λ c. search rules) loop_again returns_2)
+to_odd_spec = tie.close (tie.spec invariant-loop-i decreases-loop-i (λ c. search rules) (λ c. search rules) (λ c κs. search rules) returns (λ c. search rules) (λ c. search rules) loop_again returns_2)

@@ -5,13 +5,13 @@ use Rattle.line_causes.specs.Causes.{wanted}
 use Rattle.line_causes.proofs.wanted.Statement.{statement}
 use Rattle.line_causes.proofs.wanted.Tie as tie
 
-returns : tie.Need-returns
+returns : tie.Need-returns-then-k-shape
 unfolding wanted
-returns c = rw (lt-ltb _ _ c.before.if1.true)
+returns c = rw (lt-ltb _ _ c.before.if-k-shape.true)
 
-returns_2 : tie.Need-returns-2
+returns_2 : tie.Need-returns
 unfolding wanted
-returns_2 c = rw (le-ltb _ _ c.if1.false)
+returns_2 c = rw (le-ltb _ _ c.if-k-shape.false)
 
 pub wanted_spec : {M : Type 1} → statement M
 wanted_spec = tie.close (tie.spec (λ c. search rules) returns returns_2)

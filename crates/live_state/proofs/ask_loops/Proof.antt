@@ -7,35 +7,35 @@ use native.Mathlib.Omega.{arith}
 use Rattle.live_state.proofs.ask_loops.Statement.{statement}
 use Rattle.live_state.proofs.ask_loops.Tie as tie
 
-abbrev invariant-loop : tie.invariant-loop
-invariant-loop state lines loops k₀ k = (k ≤ loops) × (loops_on lines loops state 0 ≡ loops_on lines loops state k)
+abbrev invariant-loop-k : tie.invariant-loop-k
+invariant-loop-k state lines loops k₀ k = (k ≤ loops) × (loops_on lines loops state 0 ≡ loops_on lines loops state k)
 
-abbrev decreases-loop : tie.decreases-loop
-decreases-loop state lines loops k₀ k = loops - k
+abbrev decreases-loop-k : tie.decreases-loop-k
+decreases-loop-k state lines loops k₀ k = loops - k
 
-returns : tie.Need-returns invariant-loop decreases-loop
+returns : tie.Need-returns-in-Refused invariant-loop-k decreases-loop-k
 returns c =
     let s = c.before.before.before.before.before.before.before in
-    let l = c.before.before.before.before.before.loop in
-    let a = c.before.before.ask-loop in
-    sym (l.invariant.1 ∙ loops_no s.args.lines.now s.args.loops s.args.state.now l.k c.before.before.before.before.loop-test.true (omega (arith, s.requires.1, s.requires.2)) _ c.before.before.before.line_at.ensures a.result a.ensures c.enum_told.given.1)
+    let l = c.before.before.before.before.before.loop-k in
+    let a = c.before.before.ask_loop-asked in
+    sym (l.invariant.1 ∙ loops_no s.args.lines.now s.args.loops s.args.state.now l.k c.before.before.before.before.loop-k-test.true (omega (arith, s.requires.1, s.requires.2)) _ c.before.before.before.line_at.ensures a.result a.ensures c.enum_told-1.given.1)
 
-loop_again : tie.Need-loop-preserved invariant-loop decreases-loop
+loop_again : tie.Need-loop-k-preserved invariant-loop-k decreases-loop-k
 loop_again c =
     let s = c.before.before.before.before.before.before.before in
-    let l = c.before.before.before.before.before.loop in
-    let a = c.before.before.ask-loop in
-    (omega (arith, c.before.before.before.before.loop-test.true), l.invariant.1 ∙ loops_on_lem s.args.lines.now s.args.loops s.args.state.now l.k c.before.before.before.before.loop-test.true (omega (arith, s.requires.1, s.requires.2)) _ c.before.before.before.line_at.ensures a.result a.ensures c.enum-told2.given.1)
+    let l = c.before.before.before.before.before.loop-k in
+    let a = c.before.before.ask_loop-asked in
+    (omega (arith, c.before.before.before.before.loop-k-test.true), l.invariant.1 ∙ loops_on_lem s.args.lines.now s.args.loops s.args.state.now l.k c.before.before.before.before.loop-k-test.true (omega (arith, s.requires.1, s.requires.2)) _ c.before.before.before.line_at.ensures a.result a.ensures c.enum_told-in_default-1.given.1)
 
-returns_2 : tie.Need-returns-2 invariant-loop decreases-loop
-returns_2 c = let l = c.before.loop in let s = c.before.before.before in sym (l.invariant.1 ∙ loops_all s.args.lines.now s.args.loops s.args.state.now l.k (omega (arith, s.requires.1, s.requires.2)) (omega (arith, c.loop-test.false)))
+returns_2 : tie.Need-returns invariant-loop-k decreases-loop-k
+returns_2 c = let l = c.before.loop-k in let s = c.before.before.before in sym (l.invariant.1 ∙ loops_all s.args.lines.now s.args.loops s.args.state.now l.k (omega (arith, s.requires.1, s.requires.2)) (omega (arith, c.loop-k-test.false)))
 
 pub ask_loops_spec : {M : Type 1} → statement M
 ask_loops_spec =
     tie.close
     (tie.spec
-    invariant-loop
-    decreases-loop
+    invariant-loop-k
+    decreases-loop-k
     (λ c. search rules) (λ c. search rules) (λ c. search rules) (λ c κs. search rules) (λ c κs. search rules) (λ c. search rules)
     returns
     (λ c. search rules) (λ c. search rules) (λ c. search rules)

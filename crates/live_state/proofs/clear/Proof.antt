@@ -9,27 +9,27 @@ use native.Mathlib.Omega.{arith}
 use Rattle.live_state.proofs.clear.Statement.{statement}
 use Rattle.live_state.proofs.clear.Tie as tie
 
-abbrev invariant-loop : tie.invariant-loop
-invariant-loop state₀ j₀ state j = (j ≤ 64) × (length state ≡ 64) × (take j state ≡ replicate j 0)
+abbrev invariant-loop-j : tie.invariant-loop-j
+invariant-loop-j state₀ j₀ state j = (j ≤ 64) × (length state ≡ 64) × (take j state ≡ replicate j 0)
 
-abbrev decreases-loop : tie.decreases-loop
-decreases-loop state₀ j₀ state j = 64 - j
+abbrev decreases-loop-j : tie.decreases-loop-j
+decreases-loop-j state₀ j₀ state j = 64 - j
 
-loop_again : tie.Need-loop-preserved invariant-loop decreases-loop
-loop_again c = let l = c.before.loop in (omega (arith, c.loop-test.true), search rules, zero_next _ l.j c.loop-test.true l.invariant.2)
+loop_again : tie.Need-loop-j-preserved invariant-loop-j decreases-loop-j
+loop_again c = let l = c.before.loop-j in (omega (arith, c.loop-j-test.true), search rules, zero_next _ l.j c.loop-j-test.true l.invariant.2)
 
-returns : tie.Need-returns invariant-loop decreases-loop
+returns : tie.Need-returns invariant-loop-j decreases-loop-j
 returns c =
-    let l = c.before.loop in
-    let e : l.j ≡ 64 = omega (arith, c.loop-test.false) in
-    sym (take_all l.j l.state (omega (arith, c.loop-test.false))) ∙ l.invariant.2 ∙ rw e refl
+    let l = c.before.loop-j in
+    let e : l.j ≡ 64 = omega (arith, c.loop-j-test.false) in
+    sym (take_all l.j l.state (omega (arith, c.loop-j-test.false))) ∙ l.invariant.2 ∙ rw e refl
 
 pub clear_spec : {M : Type 1} → statement M
 clear_spec =
     tie.close
     (tie.spec
-    invariant-loop
-    decreases-loop
+    invariant-loop-j
+    decreases-loop-j
     (λ c. (omega arith, c.requires, refl))
     (λ c. search rules) (λ c. search rules) (λ c. search rules) (λ c. search rules)
     loop_again

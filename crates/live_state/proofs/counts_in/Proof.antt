@@ -9,37 +9,37 @@ use native.Mathlib.Omega.{arith}
 use Rattle.live_state.proofs.counts_in.Statement.{statement}
 use Rattle.live_state.proofs.counts_in.Tie as tie
 
-abbrev invariant-loop : tie.invariant-loop
-invariant-loop state loops counts₀ k₀ counts k = (k ≤ loops) × (length counts ≡ 16) × (take k counts ≡ counts_in k (drop 16 state))
+abbrev invariant-loop-k : tie.invariant-loop-k
+invariant-loop-k state loops counts₀ k₀ counts k = (k ≤ loops) × (length counts ≡ 16) × (take k counts ≡ counts_in k (drop 16 state))
 
-abbrev decreases-loop : tie.decreases-loop
-decreases-loop state loops counts₀ k₀ counts k = loops - k
+abbrev decreases-loop-k : tie.decreases-loop-k
+decreases-loop-k state loops counts₀ k₀ counts k = loops - k
 
-loop_holds : tie.Need-loop-init invariant-loop decreases-loop
+loop_holds : tie.Need-loop-k-init invariant-loop-k decreases-loop-k
 unfolding counts_in
 loop_holds c = (omega arith, refl, refl)
 
-loop_again : tie.Need-loop-preserved invariant-loop decreases-loop
+loop_again : tie.Need-loop-k-preserved invariant-loop-k decreases-loop-k
 loop_again c =
-    let l = c.before.before.before.before.loop in
+    let l = c.before.before.before.before.loop-k in
     let s = c.before.before.before.before.before in
-    (omega (arith, c.before.before.before.loop-test.true), search rules, counts_next s.args.state.now l.k l.counts l.invariant.1 (omega (arith, s.requires.1, c.before.before.before.loop-test.true)) l.invariant.2)
+    (omega (arith, c.before.before.before.loop-k-test.true), search rules, counts_next s.args.state.now l.k l.counts l.invariant.1 (omega (arith, s.requires.1, c.before.before.before.loop-k-test.true)) l.invariant.2)
 
-returns : tie.Need-returns invariant-loop decreases-loop
+returns : tie.Need-returns invariant-loop-k decreases-loop-k
 returns c =
-    let l = c.before.loop in
-    let e : l.k ≡ c.before.before.args.loops = omega (arith, c.loop-test.false) in
+    let l = c.before.loop-k in
+    let e : l.k ≡ c.before.before.args.loops = omega (arith, c.loop-k-test.false) in
     (rw (sym e) l.invariant.2, l.invariant.1)
 
 pub counts_in_spec : {M : Type 1} → statement M
 counts_in_spec =
     tie.close
     (tie.spec
-    invariant-loop
-    decreases-loop
+    invariant-loop-k
+    decreases-loop-k
     loop_holds
     (λ c. search rules) (λ c. search rules) (λ c. search rules) (λ c. search rules) (λ c. search rules) (λ c. search rules) (λ c. search rules) (λ c. search rules)
-    (λ c. c.before.before.before.before.requires.2 _ c.before.before.loop-test.true)
+    (λ c. c.before.before.before.before.requires.2 _ c.before.before.loop-k-test.true)
     (λ c. search rules) (λ c. search rules) (λ c. search rules) (λ c. search rules) (λ c. search rules) (λ c. search rules) (λ c. search rules)
     loop_again
     returns)

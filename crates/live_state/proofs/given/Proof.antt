@@ -7,4 +7,4 @@ use Rattle.live_state.proofs.given.Statement.{statement}
 use Rattle.live_state.proofs.given.Tie as tie
 
 pub given_spec : {M : Type 1} → statement M
-given_spec = tie.close (tie.spec (λ c. sym (given_held _ _ c.if1.true)) (λ c. sym (given_done _ _ c.if1.false)))
+given_spec = tie.close (tie.spec (λ c. sym (given_held _ _ c.if-status-le-FULL.true)) (λ c. sym (given_done _ _ c.if-status-le-FULL.false)))

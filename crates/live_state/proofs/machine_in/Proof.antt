@@ -8,7 +8,7 @@ use Rattle.live_state.proofs.machine_in.Statement.{statement}
 use Rattle.live_state.proofs.machine_in.Tie as tie
 
 returns : tie.Need-returns
-returns c = rw (c.status-in.ensures, c.before.given.ensures) refl
+returns c = rw (c.status_in.ensures, c.before.given.ensures) refl
 
 pub machine_in_spec : {M : Type 1} → statement M
 machine_in_spec =

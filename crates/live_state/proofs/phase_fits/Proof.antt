@@ -9,9 +9,9 @@ pub phase_fits_spec : {M : Type 1} → statement M
 phase_fits_spec =
     tie.close
     (tie.spec
-    (λ c script g. phase_none g _ _ _ c.if1.true)
-    (λ c script g. phase_held g _ _ _ c.before.if1.false c.if2.true)
-    (λ c script g. phase_odd g _ _ _ c.before.before.if1.false c.before.if2.false c.if3.true)
-    (λ c script g. phase_past g _ _ _ c.before.before.if2.false c.before.if3.false c.if4.true)
-    (λ c κs. (c.before.before.before.before.before.requires, omega (arith, c.if4.false)))
-    (λ c script g. phase_at_lem g _ _ _ c.before.before.before.if2.false c.before.before.if3.false (omega (arith, c.before.if4.false)) _ (c.ends_loop_lem.ensures script g)))
+    (λ c script g. phase_none g _ _ _ c.if-due-eq0.true)
+    (λ c script g. phase_held g _ _ _ c.before.if-due-eq0.false c.if-status-ne-GOING.true)
+    (λ c script g. phase_odd g _ _ _ c.before.before.if-due-eq0.false c.before.if-status-ne-GOING.false c.if-due-ne-DUE.true)
+    (λ c script g. phase_past g _ _ _ c.before.before.if-status-ne-GOING.false c.before.if-due-ne-DUE.false c.if-count-i.true)
+    (λ c κs. (c.before.before.before.before.before.requires, omega (arith, c.if-count-i.false)))
+    (λ c script g. phase_at_lem g _ _ _ c.before.before.before.if-status-ne-GOING.false c.before.before.if-due-ne-DUE.false (omega (arith, c.before.if-count-i.false)) _ (c.ends_loop_lem.ensures script g)))

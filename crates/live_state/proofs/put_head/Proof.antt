@@ -8,7 +8,7 @@ use Rattle.live_state.proofs.put_head.Tie as tie
 
 returns : tie.Need-returns
 returns c =
-    rw (c.smaller2.ensures, c.before.due_number_lem.ensures, c.before.before.smaller.ensures, c.before.before.before.before.requires) refl
+    rw (c.smaller.ensures, c.before.due_number_lem.ensures, c.before.before.smaller-spent.ensures, c.before.before.before.before.requires) refl
 
 pub put_head_spec : {M : Type 1} → statement M
 put_head_spec =

@@ -9,7 +9,7 @@ pub status_in_spec : {M : Type 1} → statement M
 status_in_spec =
     tie.close
     (tie.spec
-    (λ c. status_waits _ _ c.if1.true)
-    (λ c. status_going _ _ c.before.if1.false c.if2.true)
-    (λ c. status_ended _ _ c.if3.true)
-    (λ c. status_range _ _ c.before.if2.false c.if3.false))
+    (λ c. status_waits _ _ c.if-status-eq-WAITS.true)
+    (λ c. status_going _ _ c.before.if-status-eq-WAITS.false c.if-status-le-FULL.true)
+    (λ c. status_ended _ _ c.if-status-eq-ENDED.true)
+    (λ c. status_range _ _ c.before.if-status-le-FULL.false c.if-status-eq-ENDED.false))

@@ -10,55 +10,55 @@ use native.Mathlib.Omega.{arith}
 use Rattle.live_state.proofs.write_state.Statement.{statement}
 use Rattle.live_state.proofs.write_state.Tie as tie
 
-abbrev invariant-loop : tie.invariant-loop
-invariant-loop state₀ total lines counts listed many k₀ state k =
+abbrev invariant-loop-k : tie.invariant-loop-k
+invariant-loop-k state₀ total lines counts listed many k₀ state k =
     (k ≤ many) × (length (take 16 state₀) ≡ 16) × Writing (take 16 state₀) lines (record { count = many; counts = listed }) counts k state
 
-abbrev decreases-loop : tie.decreases-loop
-decreases-loop state₀ total lines counts listed many k₀ state k = many - k
+abbrev decreases-loop-k : tie.decreases-loop-k
+decreases-loop-k state₀ total lines counts listed many k₀ state k = many - k
 
 -- the first 16 numbers
 front : (state : List ℕ) (first : List ℕ) → state ≡ first ++ replicate 48 0 → take 16 (first ++ replicate 48 0) ≡ first → take 16 state ≡ first
 front state first e f = ap (take 16) e ∙ f
 
-loop_holds : tie.Need-loop-init invariant-loop decreases-loop
+loop_holds : tie.Need-loop-k-init invariant-loop-k decreases-loop-k
 loop_holds c =
-    let p = c.before.before.before.put-head in
+    let p = c.before.before.before.put_head in
     let f = front _ (head_numbers c.before.before.before.before.before.before.before.before.before.before.args.standing c.before.before.before.before.before.before.before.before.before.before.args.total) p.ensures refl in
     (omega arith, ap length f, writes_none _ _ _ _ _ (p.ensures ∙ ap (λ z. z ++ replicate 48 0) (sym f)) (ap length p.ensures))
 
-put-loop-requires : tie.Need-put-loop-requires invariant-loop decreases-loop
-put-loop-requires c κs = let l = c.before.before.before.before.before.loop in omega (arith, l.invariant.2.long, c.before.before.before.before.loop-test.true, c.before.before.before.before.before.before.before.before.before.before.before.before.before.before.before.before.requires.1)
+put-loop-requires : tie.Need-put_loop-requires invariant-loop-k decreases-loop-k
+put-loop-requires c κs = let l = c.before.before.before.before.before.loop-k in omega (arith, l.invariant.2.long, c.before.before.before.before.loop-k-test.true, c.before.before.before.before.before.before.before.before.before.before.before.before.before.before.before.before.requires.1)
 
-loop_again : tie.Need-loop-preserved invariant-loop decreases-loop
+loop_again : tie.Need-loop-k-preserved invariant-loop-k decreases-loop-k
 loop_again c =
-    let l = c.before.before.before.before.before.before.before.before.loop in
+    let l = c.before.before.before.before.before.before.before.before.loop-k in
     let s = c.before.before.before.before.before.before.before.before.before.before.before.before.before.before.before.before.before.before.before in
-    let h = c.before.before.before.before.before.before.before.loop-test.true in
-    (omega (arith, h), l.invariant.1, writes_more _ _ _ _ l.k l.state l.invariant.2 l.invariant.1 s.requires.1 s.requires.2 s.requires.3 h _ c.before.before.before.before.before.line_at.ensures _ refl _ c.before.before.before.turns-of.ensures _ c.before.before.put-loop.ensures (search rules))
+    let h = c.before.before.before.before.before.before.before.loop-k-test.true in
+    (omega (arith, h), l.invariant.1, writes_more _ _ _ _ l.k l.state l.invariant.2 l.invariant.1 s.requires.1 s.requires.2 s.requires.3 h _ c.before.before.before.before.before.line_at.ensures _ refl _ c.before.before.before.turns_of.ensures _ c.before.before.put_loop.ensures (search rules))
 
-returns : tie.Need-returns invariant-loop decreases-loop
+returns : tie.Need-returns invariant-loop-k decreases-loop-k
 returns c hs r g =
-    let l = c.before.loop in
+    let l = c.before.loop-k in
     let s = c.before.before.before.before.before.before.before.before.before.before.before.before in
-    let f = front _ (head_numbers s.args.standing s.args.total) c.before.before.before.before.before.put-head.ensures refl in
-    writes_all _ _ _ _ l.k l.state l.invariant.2 l.invariant.1 s.requires.1 s.requires.2 s.requires.3 _ f (omega (arith, c.loop-test.false)) l.invariant.0 hs r g
+    let f = front _ (head_numbers s.args.standing s.args.total) c.before.before.before.before.before.put_head.ensures refl in
+    writes_all _ _ _ _ l.k l.state l.invariant.2 l.invariant.1 s.requires.1 s.requires.2 s.requires.3 _ f (omega (arith, c.loop-k-test.false)) l.invariant.0 hs r g
 
 pub write_state_spec : {M : Type 1} → statement M
 write_state_spec =
     tie.close
     (tie.spec
-    invariant-loop
-    decreases-loop
+    invariant-loop-k
+    decreases-loop-k
     (λ c κs. c.before.before.requires.0)
     (λ c κs. c.before.before.before.clear.ensures)
     loop_holds
-    (λ c. omega (arith, c.before.loop-test.true, c.before.before.before.before.before.before.before.before.before.before.before.before.before.requires.1))
-    (λ c. omega (arith, c.before.loop-test.true, c.before.before.before.before.before.before.before.before.before.before.before.before.before.requires.1))
-    (λ c κs. omega (arith, c.before.loop-test.true, c.before.before.before.before.before.before.before.before.before.before.before.before.before.requires.1))
-    (λ c. omega (arith, c.before.before.loop-test.true, c.before.before.before.before.before.before.before.before.before.before.before.before.before.before.requires.1))
-    (λ c. omega (arith, c.before.before.loop-test.true, c.before.before.before.before.before.before.before.before.before.before.before.before.before.before.requires.1))
-    (λ c κs. omega (arith, c.before.before.before.loop-test.true, c.before.before.before.before.before.before.before.before.before.before.before.before.before.before.before.requires.1))
+    (λ c. omega (arith, c.before.loop-k-test.true, c.before.before.before.before.before.before.before.before.before.before.before.before.before.requires.1))
+    (λ c. omega (arith, c.before.loop-k-test.true, c.before.before.before.before.before.before.before.before.before.before.before.before.before.requires.1))
+    (λ c κs. omega (arith, c.before.loop-k-test.true, c.before.before.before.before.before.before.before.before.before.before.before.before.before.requires.1))
+    (λ c. omega (arith, c.before.before.loop-k-test.true, c.before.before.before.before.before.before.before.before.before.before.before.before.before.before.requires.1))
+    (λ c. omega (arith, c.before.before.loop-k-test.true, c.before.before.before.before.before.before.before.before.before.before.before.before.before.before.requires.1))
+    (λ c κs. omega (arith, c.before.before.before.loop-k-test.true, c.before.before.before.before.before.before.before.before.before.before.before.before.before.before.before.requires.1))
     put-loop-requires
     (λ c. search rules) (λ c. search rules)
     loop_again

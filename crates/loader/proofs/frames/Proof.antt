@@ -8,19 +8,19 @@ use Rattle.loader.proofs.Framing.{framed_20, fits, framed_lent, framed_yes, fram
 use Rattle.loader.proofs.frames.Statement.{statement}
 use Rattle.loader.proofs.frames.Tie as tie
 
-returns : tie.Need-returns
-returns c = (framed_call _ _ _ _ _ _ (rw c.refusal.ensures (framed_20 _ _ _ _ (sym c.before.before.fitting.ensures ∙ not-true _ c.before.if1.true))), refl)
+returns : tie.Need-returns-then-not-fits
+returns c = (framed_call _ _ _ _ _ _ (rw c.refusal.ensures (framed_20 _ _ _ _ (sym c.before.before.fitting-fits.ensures ∙ not-true _ c.before.if-not-fits.true-raw))), refl)
 
-run-frames-requires : tie.Need-run-frames-requires
+run-frames-requires : tie.Need-run_frames-requires
 run-frames-requires c κs =
     let a = c.before.before.before.before.before.before.before.before.before.before.before.before.before.before.args in
-    (lent_priced a.prices.now (length a.scratch.now) (sym c.before.before.before.ask-lent.ensures ∙ c.before.enum_told.given.1), fits a.prices.now (length a.scratch.now) _ _ (sym c.before.before.before.before.before.fitting.ensures ∙ not-false _ c.before.before.before.before.if1.false))
+    (lent_priced a.prices.now (length a.scratch.now) (sym c.before.before.before.ask_lent-lent.ensures ∙ c.before.enum_told-1.given.1), fits a.prices.now (length a.scratch.now) _ _ (sym c.before.before.before.before.before.fitting-fits.ensures ∙ not-false _ c.before.before.before.before.if-not-fits.false-raw))
 
-returns_2 : tie.Need-returns-2
-returns_2 c = (framed_call _ _ _ _ _ _ (framed_yes _ _ _ _ (sym c.before.before.before.before.before.before.before.fitting.ensures ∙ not-false _ c.before.before.before.before.before.before.if1.false) (sym c.before.before.before.before.before.ask-lent.ensures ∙ c.before.before.before.enum_told.given.1) _ _ c.before.run-frames.ensures), refl)
+returns_2 : tie.Need-returns-in-Passed
+returns_2 c = (framed_call _ _ _ _ _ _ (framed_yes _ _ _ _ (sym c.before.before.before.before.before.before.before.fitting-fits.ensures ∙ not-false _ c.before.before.before.before.before.before.if-not-fits.false-raw) (sym c.before.before.before.before.before.ask_lent-lent.ensures ∙ c.before.before.before.enum_told-1.given.1) _ _ c.before.run_frames.ensures), refl)
 
-returns_3 : tie.Need-returns-3
-returns_3 c = (framed_call _ _ _ _ _ _ (rw c.refusal2.ensures (framed_lent _ _ _ _ (sym c.before.before.before.before.before.before.fitting.ensures ∙ not-false _ c.before.before.before.before.before.if1.false) _ _ (sym c.before.before.before.before.ask-lent.ensures ∙ c.before.before.lent.given.1))), refl)
+returns_3 : tie.Need-returns-in-Refused
+returns_3 c = (framed_call _ _ _ _ _ _ (rw c.refusal-in-Refused.ensures (framed_lent _ _ _ _ (sym c.before.before.before.before.before.before.fitting-fits.ensures ∙ not-false _ c.before.before.before.before.before.if-not-fits.false-raw) _ _ (sym c.before.before.before.before.ask_lent-lent.ensures ∙ c.before.before.lent-1.given.1))), refl)
 
 pub frames_spec : {M : Type 1} → statement M
 frames_spec =

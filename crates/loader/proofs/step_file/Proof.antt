@@ -7,16 +7,16 @@ use native.Mathlib.Omega.{arith}
 use Rattle.loader.proofs.step_file.Statement.{statement}
 use Rattle.loader.proofs.step_file.Tie as tie
 
-returns : tie.Need-returns
-returns c = let s = c.before.before.before.before.before.before.before.before.before.before.before.before.before.before.before in stepped_no s.args.prices.now _ _ _ (file_refused s.args.prices.now s.args.file.now _ _ _ c.before.before.before.before.before.before.load.ensures c.before.before.verdict.given.1) c.no_step.ensures
+returns : tie.Need-returns-in-Refused
+returns c = let s = c.before.before.before.before.before.before.before.before.before.before.before.before.before.before.before in stepped_no s.args.prices.now _ _ _ (file_refused s.args.prices.now s.args.file.now _ _ _ c.before.before.before.before.before.before.load-l.ensures c.before.before.verdict-1.given.1) c.no_step.ensures
 
-step-script-requires : tie.Need-step-script-requires
-step-script-requires c κs = let s = c.before.before.before.before.before.before.before.before.before.before.before.before.before.before.before.before.before.before in (file_given s.args.prices.now s.args.file.now _ _ _ c.before.before.before.before.before.before.before.before.before.load.ensures c.before.before.before.before.before.enum_told.given.1, fine s.args.prices.now s.requires.0 c.before.before.before.before.prices-of.ensures)
+step-script-requires : tie.Need-step_script-requires
+step-script-requires c κs = let s = c.before.before.before.before.before.before.before.before.before.before.before.before.before.before.before.before.before.before in (file_given s.args.prices.now s.args.file.now _ _ _ c.before.before.before.before.before.before.before.before.before.load-l.ensures c.before.before.before.before.before.enum_told-1.given.1, fine s.args.prices.now s.requires.0 c.before.before.before.before.prices_of-by_kind.ensures)
 
-returns_2 : tie.Need-returns-2
+returns_2 : tie.Need-returns
 returns_2 c =
     let s = c.before.before.before.before.before.before.before.before.before.before.before.before.before.before.before.before.before.before.before.before.before.before.before.before in
-    stepped_same s.args.prices.now _ _ _ (file_read s.args.prices.now s.args.file.now _ _ _ c.before.before.before.before.before.before.before.before.before.before.before.before.before.before.before.load.ensures c.before.before.before.before.before.before.before.before.before.before.before.enum_told.given.1) (c.before.before.before.before.before.step-script.ensures s.args.prices.now c.before.before.before.before.before.before.before.before.before.before.prices-of.ensures)
+    stepped_same s.args.prices.now _ _ _ (file_read s.args.prices.now s.args.file.now _ _ _ c.before.before.before.before.before.before.before.before.before.before.before.before.before.before.before.load-l.ensures c.before.before.before.before.before.before.before.before.before.before.before.enum_told-1.given.1) (c.before.before.before.before.before.step_script.ensures s.args.prices.now c.before.before.before.before.before.before.before.before.before.before.prices_of-by_kind.ensures)
 
 pub step_file_spec : {M : Type 1} → statement M
 step_file_spec =

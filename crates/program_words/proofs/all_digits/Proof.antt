@@ -11,25 +11,25 @@ use Rattle.program_words.proofs.Digits.{digit_not, digit_is}
 use Rattle.program_words.proofs.all_digits.Statement.{statement}
 use Rattle.program_words.proofs.all_digits.Tie as tie
 
-abbrev invariant-loop : tie.invariant-loop
-invariant-loop word i₀ i = all_digits word ≡ all_digits (drop i word)
+abbrev invariant-loop-i : tie.invariant-loop-i
+invariant-loop-i word i₀ i = all_digits word ≡ all_digits (drop i word)
 
-abbrev decreases-loop : tie.decreases-loop
-decreases-loop word i₀ i = length word - i
+abbrev decreases-loop-i : tie.decreases-loop-i
+decreases-loop-i word i₀ i = length word - i
 
-returns : tie.Need-returns invariant-loop decreases-loop
-returns c = sym (c.before.before.before.before.loop.invariant ∙ all_stop _ _ c.before.before.before.loop-test.true (digit_not _ _ c.before.digit.ensures.0 c.if1.true))
+returns : tie.Need-returns-then-d-gt9 invariant-loop-i decreases-loop-i
+returns c = sym (c.before.before.before.before.loop-i.invariant ∙ all_stop _ _ c.before.before.before.loop-i-test.true (digit_not _ _ c.before.digit-d.ensures.0 c.if-d-gt9.true))
 
-loop_again : tie.Need-loop-preserved invariant-loop decreases-loop
-loop_again c = rw add-one (c.before.before.before.before.loop.invariant ∙ all_more _ _ c.before.before.before.loop-test.true (digit_is _ _ c.before.digit.ensures.0 c.if1.false))
+loop_again : tie.Need-loop-i-preserved invariant-loop-i decreases-loop-i
+loop_again c = rw add-one (c.before.before.before.before.loop-i.invariant ∙ all_more _ _ c.before.before.before.loop-i-test.true (digit_is _ _ c.before.digit-d.ensures.0 c.if-d-gt9.false))
 
-returns_2 : tie.Need-returns-2 invariant-loop decreases-loop
-returns_2 c = sym (c.before.loop.invariant ∙ all_end _ _ c.loop-test.false)
+returns_2 : tie.Need-returns invariant-loop-i decreases-loop-i
+returns_2 c = sym (c.before.loop-i.invariant ∙ all_end _ _ c.loop-i-test.false)
 
 pub all_digits_spec : {M : Type 1} → statement M
 all_digits_spec = tie.close (tie.spec
-    invariant-loop
-    decreases-loop
+    invariant-loop-i
+    decreases-loop-i
     (λ c. refl)
     (λ c. search rules) (λ c κs. search rules)
     returns

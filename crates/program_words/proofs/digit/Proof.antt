@@ -5,13 +5,13 @@ use Rattle.program_words.proofs.Digits.{digit_low, digit_high, digit_in}
 use Rattle.program_words.proofs.digit.Statement.{statement}
 use Rattle.program_words.proofs.digit.Tie as tie
 
-returns : tie.Need-returns
-returns c = (digit_low _ c.if1.true, omega arith)
+returns : tie.Need-returns-then-b-lt48
+returns c = (digit_low _ c.if-b-lt48.true, omega arith)
 
-returns_2 : tie.Need-returns-2
-returns_2 c = (digit_high _ c.before.if1.false c.if2.true, omega arith)
+returns_2 : tie.Need-returns-then-b-gt57
+returns_2 c = (digit_high _ c.before.if-b-lt48.false c.if-b-gt57.true, omega arith)
 
-returns_3 : tie.Need-returns-3
+returns_3 : tie.Need-returns
 returns_3 c = (digit_in _ (omega arith) (omega arith), omega arith)
 
 pub digit_spec : {M : Type 1} → statement M

@@ -5,11 +5,11 @@ use Rattle.program_words.proofs.Words.{same_word, other_length}
 use Rattle.program_words.proofs.is_word.Statement.{statement}
 use Rattle.program_words.proofs.is_word.Tie as tie
 
-returns : tie.Need-returns
-returns c = c.starts_with.ensures ∙ same_word _ _ c.before.if1.true
+returns : tie.Need-returns-then-word-one
+returns c = c.starts_with.ensures ∙ same_word _ _ c.before.if-word-one.true
 
-returns_2 : tie.Need-returns-2
-returns_2 c = other_length _ _ c.if1.false
+returns_2 : tie.Need-returns
+returns_2 c = other_length _ _ c.if-word-one.false
 
 pub is_word_spec : {M : Type 1} → statement M
 is_word_spec = tie.close (tie.spec (λ c κs. search rules) returns returns_2)

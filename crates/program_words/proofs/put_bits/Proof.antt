@@ -9,45 +9,45 @@ use Rattle.program_words.proofs.Bits.{Bits, bits_none, bits_stop, bits_more, bit
 use Rattle.program_words.proofs.put_bits.Statement.{statement}
 use Rattle.program_words.proofs.put_bits.Tie as tie
 
-abbrev invariant-loop : tie.invariant-loop
-invariant-loop word bits₀ i₀ bits i = Bits word bits i × (length word ≡ length bits₀)
+abbrev invariant-loop-i : tie.invariant-loop-i
+invariant-loop-i word bits₀ i₀ bits i = Bits word bits i × (length word ≡ length bits₀)
 
-abbrev decreases-loop : tie.decreases-loop
-decreases-loop word bits₀ i₀ bits i = length word - i
+abbrev decreases-loop-i : tie.decreases-loop-i
+decreases-loop-i word bits₀ i₀ bits i = length word - i
 
-loop_holds : tie.Need-loop-init invariant-loop decreases-loop
+loop_holds : tie.Need-loop-i-init invariant-loop-i decreases-loop-i
 loop_holds c = (bits_none _ _ c.before.before.requires, c.before.before.requires)
 
-same_length : tie.Need-same-length invariant-loop decreases-loop
-same_length c = let l = c.before.before.before.before.loop.invariant in l.0.long ∙ l.1
+same_length : tie.Need-shape_of-bits-then-d-gt1 invariant-loop-i decreases-loop-i
+same_length c = let l = c.before.before.before.before.loop-i.invariant in l.0.long ∙ l.1
 
-returns : tie.Need-returns invariant-loop decreases-loop
+returns : tie.Need-returns-then-d-gt1 invariant-loop-i decreases-loop-i
 returns c = (
-  bits_stop _ _ _ c.before.before.before.before.loop.invariant.0 c.before.before.before.loop-test.true _ c.before.digit.ensures.0 c.if1.true,
+  bits_stop _ _ _ c.before.before.before.before.loop-i.invariant.0 c.before.before.before.loop-i-test.true _ c.before.digit-d.ensures.0 c.if-d-gt1.true,
   λ t. absurd (let z : ◌≡◌ {A = ℕ} 0 1 = cc in omega arith),
 )
 
-slice-write-bits : tie.Need-slice-write-bits invariant-loop decreases-loop
-slice-write-bits c = omega (arith, c.before.before.before.before.loop.invariant.0.long)
+slice-write-bits : tie.Need-bounds-bits-i invariant-loop-i decreases-loop-i
+slice-write-bits c = omega (arith, c.before.before.before.before.loop-i.invariant.0.long)
 
-loop_again : tie.Need-loop-preserved invariant-loop decreases-loop
+loop_again : tie.Need-loop-i-preserved invariant-loop-i decreases-loop-i
 loop_again c = (
-  rw add-one (bits_more _ _ _ c.before.before.before.before.loop.invariant.0 c.before.before.before.loop-test.true _ c.before.digit.ensures.0 c.if1.false),
-  c.before.before.before.before.loop.invariant.1,
+  rw add-one (bits_more _ _ _ c.before.before.before.before.loop-i.invariant.0 c.before.before.before.loop-i-test.true _ c.before.digit-d.ensures.0 c.if-d-gt1.false),
+  c.before.before.before.before.loop-i.invariant.1,
 )
 
-same-length-2 : tie.Need-same-length-2 invariant-loop decreases-loop
-same-length-2 c = let l = c.before.loop.invariant in l.0.long ∙ l.1
+same-length-2 : tie.Need-shape_of-bits invariant-loop-i decreases-loop-i
+same-length-2 c = let l = c.before.loop-i.invariant in l.0.long ∙ l.1
 
-returns_2 : tie.Need-returns-2 invariant-loop decreases-loop
-returns_2 c = (bits_good _ _ _ c.before.loop.invariant.0 c.loop-test.false, λ t. bits_all _ _ _ c.before.loop.invariant.0 c.loop-test.false)
+returns_2 : tie.Need-returns invariant-loop-i decreases-loop-i
+returns_2 c = (bits_good _ _ _ c.before.loop-i.invariant.0 c.loop-i-test.false, λ t. bits_all _ _ _ c.before.loop-i.invariant.0 c.loop-i-test.false)
 
 pub put_bits_spec : {M : Type 1} → statement M
 put_bits_spec =
     tie.close
     (tie.spec
-    invariant-loop
-    decreases-loop
+    invariant-loop-i
+    decreases-loop-i
     loop_holds
     (λ c. search rules) (λ c κs. search rules)
     same_length

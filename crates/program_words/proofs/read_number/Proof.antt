@@ -6,17 +6,17 @@ use Rattle.program_words.proofs.Words.{no_number, one_digit, leading_zero, many_
 use Rattle.program_words.proofs.read_number.Statement.{statement}
 use Rattle.program_words.proofs.read_number.Tie as tie
 
-returns : tie.Need-returns
-returns c = no_number _ c.if1.true
+returns : tie.Need-returns-then-word-eq0
+returns c = no_number _ c.if-word-eq0.true
 
-returns_2 : tie.Need-returns-2
-returns_2 c = c.spelled.ensures ∙ one_digit _ c.before.if2.true
+returns_2 : tie.Need-returns-then-word-eq1
+returns_2 c = c.spelled.ensures ∙ one_digit _ c.before.if-word-eq1.true
 
-returns_3 : tie.Need-returns-3
-returns_3 c = leading_zero _ (omega (arith, c.before.before.if2.false, c.before.before.before.if1.false)) c.if3.true
+returns_3 : tie.Need-returns-then-word-eq48
+returns_3 c = leading_zero _ (omega (arith, c.before.before.if-word-eq1.false, c.before.before.before.if-word-eq0.false)) c.if-word-eq48.true
 
-returns-4 : tie.Need-returns-4
-returns-4 c = c.spelled2.ensures ∙ many_digits _ (omega (arith, c.before.before.before.if2.false, c.before.before.before.before.if1.false)) c.before.if3.false
+returns-4 : tie.Need-returns
+returns-4 c = c.spelled-2.ensures ∙ many_digits _ (omega (arith, c.before.before.before.if-word-eq1.false, c.before.before.before.before.if-word-eq0.false)) c.before.if-word-eq48.false
 
 pub read_number_spec : {M : Type 1} → statement M
 read_number_spec = tie.close (tie.spec returns (λ c κs. search rules) returns_2 (λ c. search rules) returns_3 (λ c κs. search rules) returns-4)

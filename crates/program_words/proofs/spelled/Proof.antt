@@ -8,33 +8,33 @@ use Rattle.program_words.proofs.Digits.{Spelling, spelling_none, spelling_stops,
 use Rattle.program_words.proofs.spelled.Statement.{statement}
 use Rattle.program_words.proofs.spelled.Tie as tie
 
-abbrev invariant-loop : tie.invariant-loop
-invariant-loop word n₀ i₀ n i = Spelling word n i × (n ≤ 18_446_744_073_709_551_615)
+abbrev invariant-loop-i : tie.invariant-loop-i
+invariant-loop-i word n₀ i₀ n i = Spelling word n i × (n ≤ 18_446_744_073_709_551_615)
 
-abbrev decreases-loop : tie.decreases-loop
-decreases-loop word n₀ i₀ n i = length word - i
+abbrev decreases-loop-i : tie.decreases-loop-i
+decreases-loop-i word n₀ i₀ n i = length word - i
 
-loop_holds : tie.Need-loop-init invariant-loop decreases-loop
+loop_holds : tie.Need-loop-i-init invariant-loop-i decreases-loop-i
 loop_holds c = (spelling_none _, omega arith)
 
-returns : tie.Need-returns invariant-loop decreases-loop
-returns c = spelling_stops _ _ _ c.before.before.before.before.loop.invariant.0 c.before.before.before.loop-test.true _ c.before.digit.ensures.0 c.if1.true
+returns : tie.Need-returns-then-d-gt9 invariant-loop-i decreases-loop-i
+returns c = spelling_stops _ _ _ c.before.before.before.before.loop-i.invariant.0 c.before.before.before.loop-i-test.true _ c.before.digit-d.ensures.0 c.if-d-gt9.true
 
-returns_2 : tie.Need-returns-2 invariant-loop decreases-loop
-returns_2 c = spelling_past _ _ _ c.before.before.before.before.before.loop.invariant.0 c.before.before.before.before.loop-test.true _ c.before.before.digit.ensures.0 c.before.if1.false (omega arith)
+returns_2 : tie.Need-returns-then-n-d invariant-loop-i decreases-loop-i
+returns_2 c = spelling_past _ _ _ c.before.before.before.before.before.loop-i.invariant.0 c.before.before.before.before.loop-i-test.true _ c.before.before.digit-d.ensures.0 c.before.if-d-gt9.false (omega arith)
 
-loop_again : tie.Need-loop-preserved invariant-loop decreases-loop
-loop_again c = (rw add-one (spelling_more _ _ _ c.before.before.before.before.before.loop.invariant.0 c.before.before.before.before.loop-test.true _ c.before.before.digit.ensures.0 c.before.if1.false), omega arith)
+loop_again : tie.Need-loop-i-preserved invariant-loop-i decreases-loop-i
+loop_again c = (rw add-one (spelling_more _ _ _ c.before.before.before.before.before.loop-i.invariant.0 c.before.before.before.before.loop-i-test.true _ c.before.before.digit-d.ensures.0 c.before.if-d-gt9.false), omega arith)
 
-returns_3 : tie.Need-returns-3 invariant-loop decreases-loop
-returns_3 c = spelling_ends _ _ _ c.before.loop.invariant.0 c.loop-test.false c.before.loop.invariant.1
+returns_3 : tie.Need-returns invariant-loop-i decreases-loop-i
+returns_3 c = spelling_ends _ _ _ c.before.loop-i.invariant.0 c.loop-i-test.false c.before.loop-i.invariant.1
 
 pub spelled_spec : {M : Type 1} → statement M
 spelled_spec =
     tie.close
     (tie.spec
-    invariant-loop
-    decreases-loop
+    invariant-loop-i
+    decreases-loop-i
     loop_holds
     (λ c. search rules) (λ c κs. search rules)
     returns

@@ -16,83 +16,83 @@ use native.Mathlib.Omega.{arith}
 use Rattle.reader.proofs.load.Statement.{statement}
 use Rattle.reader.proofs.load.Tie as tie
 
-abbrev invariant-loop : tie.invariant-loop
-invariant-loop file ranges table head rows₀ blocks₀ next₀ stopped₀ i₀ rows blocks next stopped i = RowsUpto file head.at head.vars head.count rows blocks next i × (stopped ≡ 0)
+abbrev invariant-loop-i : tie.invariant-loop-i
+invariant-loop-i file ranges table head rows₀ blocks₀ next₀ stopped₀ i₀ rows blocks next stopped i = RowsUpto file head.at head.vars head.count rows blocks next i × (stopped ≡ 0)
 
-abbrev decreases-loop : tie.decreases-loop
-decreases-loop file ranges table head rows₀ blocks₀ next₀ stopped₀ i₀ rows blocks next stopped i = head.count - i
+abbrev decreases-loop-i : tie.decreases-loop-i
+decreases-loop-i file ranges table head rows₀ blocks₀ next₀ stopped₀ i₀ rows blocks next stopped i = head.count - i
 
-abbrev invariant-loop2 : tie.invariant-loop2
-invariant-loop2 file ranges table₀ rows next stopped i line end verdict vars count open₀ j₀ table «open» j =
+abbrev invariant-loop-j : tie.invariant-loop-j
+invariant-loop-j file ranges table₀ rows next stopped i line end verdict vars count open₀ j₀ table «open» j =
     ReadAs file (file_script file) (record { verdict = verdict; vars = vars; count = count }) rows ranges × (length rows ≡ 256) × (length table₀ ≡ 1_024) × Filled rows count table «open» j
 
-abbrev decreases-loop2 : tie.decreases-loop2
-decreases-loop2 file ranges table₀ rows next stopped i line end verdict vars count open₀ j₀ table «open» j = count - j
+abbrev decreases-loop-j : tie.decreases-loop-j
+decreases-loop-j file ranges table₀ rows next stopped i line end verdict vars count open₀ j₀ table «open» j = count - j
 
 -- the line that was read
-line : (c : tie.After-row-line invariant-loop decreases-loop invariant-loop2 decreases-loop2) → let n = c.before.before.before.before.before.loop.next in LineRead (drop n c.before.before.before.before.before.before.before.before.before.before.args.file.now) n c.before.before.before.before.before.before.load-head.result.vars c.row_line_lem.result
-line c = rw (part_rest c.before.before.before.before.before.before.before.before.before.before.args.file.now c.before.before.before.before.before.loop.next) at c.row_line_lem.ensures
+line : (c : tie.After-row_line-l invariant-loop-i decreases-loop-i invariant-loop-j decreases-loop-j) → let n = c.before.before.before.before.before.loop-i.next in LineRead (drop n c.before.before.before.before.before.before.before.before.before.before.args.file.now) n c.before.before.before.before.before.before.load_head-head.result.vars c.row_line_lem.result
+line c = rw (part_rest c.before.before.before.before.before.before.before.before.before.before.args.file.now c.before.before.before.before.before.loop-i.next) at c.row_line_lem.ensures
 
-loop_holds : tie.Need-loop-init invariant-loop decreases-loop invariant-loop2 decreases-loop2
-loop_holds c = (rows_none _ _ _ _ _ _ c.load-head.ensures.0.within.start refl, refl)
+loop_holds : tie.Need-loop-i-init invariant-loop-i decreases-loop-i invariant-loop-j decreases-loop-j
+loop_holds c = (rows_none _ _ _ _ _ _ c.load_head-head.ensures.0.within.start refl, refl)
 
-sub-row-line : tie.Need-overflow-sub-row-line invariant-loop decreases-loop invariant-loop2 decreases-loop2
-sub-row-line c = let h = c.before.before.loop.invariant.0.within in search rules
+sub-row-line : tie.Need-slice_bounds-row_line-count invariant-loop-i decreases-loop-i invariant-loop-j decreases-loop-j
+sub-row-line c = let h = c.before.before.loop-i.invariant.0.within in search rules
 
-part-row-line-start : tie.Need-slice-bounds-row-line-start invariant-loop decreases-loop invariant-loop2 decreases-loop2
-part-row-line-start c = let h = c.before.before.loop.invariant.0.within in search rules
+part-row-line-start : tie.Need-slice-bounds-row-line-start invariant-loop-i decreases-loop-i invariant-loop-j decreases-loop-j
+part-row-line-start c = let h = c.before.before.loop-i.invariant.0.within in search rules
 
-cast-row-line : tie.Need-overflow-cast-row-line invariant-loop decreases-loop invariant-loop2 decreases-loop2
-cast-row-line c = let h = c.before.before.before.before.before.load-head.ensures.0.within.vars in search rules
+cast-row-line : tie.Need-overflow_cast-head invariant-loop-i decreases-loop-i invariant-loop-j decreases-loop-j
+cast-row-line c = let h = c.before.before.before.before.before.load_head-head.ensures.0.within.vars in search rules
 
-row-line-requires : tie.Need-row-line-requires invariant-loop decreases-loop invariant-loop2 decreases-loop2
+row-line-requires : tie.Need-row_line-l-requires invariant-loop-i decreases-loop-i invariant-loop-j decreases-loop-j
 row-line-requires c κs =
-    let h = c.before.before.before.before.before.load-head.ensures in
-    let u = c.before.before.before.before.loop.invariant.0 in
-    let t = c.before.before.if1.true in
+    let h = c.before.before.before.before.before.load_head-head.ensures in
+    let u = c.before.before.before.before.loop-i.invariant.0 in
+    let t = c.before.before.loop-i-test.true in
     let file = c.before.before.before.before.before.before.before.before.before.args.file.now in
     let s = h.1 (omega arith) in
-    let next = c.before.before.before.before.loop.next in
+    let next = c.before.before.before.before.loop-i.next in
     (h.0.within.vars, rw (part_rest file next) (omega (arith, length-drop next file, u.within, s)))
 
-nest-row-requires : tie.Need-nest-row-requires invariant-loop decreases-loop invariant-loop2 decreases-loop2
-nest-row-requires c κs = c.before.before.before.before.before.before.before.before.loop.invariant.0.shallow
+nest-row-requires : tie.Need-nest_row-p-requires invariant-loop-i decreases-loop-i invariant-loop-j decreases-loop-j
+nest-row-requires c κs = c.before.before.before.before.before.before.before.before.loop-i.invariant.0.shallow
 
-array-set-from-rows : tie.Need-array-set-from-rows invariant-loop decreases-loop invariant-loop2 decreases-loop2
-array-set-from-rows c = let h = c.before.before.before.before.before.before.before.before.before.before.before.loop.invariant.0.size in let k = c.before.before.before.before.before.before.before.before.before.before.before.before.load-head.ensures.0.within.count in search rules
+array-set-from-rows : tie.Need-bounds-rows-i invariant-loop-i decreases-loop-i invariant-loop-j decreases-loop-j
+array-set-from-rows c = let h = c.before.before.before.before.before.before.before.before.before.before.before.loop-i.invariant.0.size in let k = c.before.before.before.before.before.before.before.before.before.before.before.before.load_head-head.ensures.0.within.count in search rules
 
 -- the line lies within the file
-long : (c : tie.After-nest-row invariant-loop decreases-loop invariant-loop2 decreases-loop2) → c.before.before.before.before.before.before.before.before.before.loop.next + c.before.before.l.given.0.1.0 + 1 ≤ length c.before.before.before.before.before.before.before.before.before.before.before.before.before.before.args.file.now
+long : (c : tie.After-nest_row-p invariant-loop-i decreases-loop-i invariant-loop-j decreases-loop-j) → c.before.before.before.before.before.before.before.before.before.loop-i.next + c.before.before.l-1.given.0.1.0 + 1 ≤ length c.before.before.before.before.before.before.before.before.before.before.before.before.before.before.args.file.now
 long c =
     let l = line c.before.before.before.before in
-    let e = c.before.before.l.given.1 in
-    rows_long _ _ _ _ _ _ _ _ _ c.before.before.before.before.before.before.before.before.before.loop.invariant.0 c.before.before.before.before.before.before.before.if1.true _ (subst (LineRead _ _ _) e l) _ (c.nest-row.ensures.0 _)
+    let e = c.before.before.l-1.given.1 in
+    rows_long _ _ _ _ _ _ _ _ _ c.before.before.before.before.before.before.before.before.before.loop-i.invariant.0 c.before.before.before.before.before.before.before.loop-i-test.true _ (subst (LineRead _ _ _) e l) _ (c.nest_row-p.ensures.0 _)
 
-add-next : tie.Need-overflow-add-next invariant-loop decreases-loop invariant-loop2 decreases-loop2
-add-next c = let h = long c.before.before in let k = c.before.before.before.before.before.before.before.before.before.before.before.before.before.before.before.before.well-formed.0 in search rules
+add-next : tie.Need-overflow_add-next invariant-loop-i decreases-loop-i invariant-loop-j decreases-loop-j
+add-next c = let h = long c.before.before in let k = c.before.before.before.before.before.before.before.before.before.before.before.before.before.before.before.before.well_formed.0 in search rules
 
-add-next-2 : tie.Need-overflow-add-next-2 invariant-loop decreases-loop invariant-loop2 decreases-loop2
-add-next-2 c = let h = long c.before.before in let k = c.before.before.before.before.before.before.before.before.before.before.before.before.before.before.before.before.well-formed.0 in search rules
+add-next-2 : tie.Need-overflow_add-next-in-Read invariant-loop-i decreases-loop-i invariant-loop-j decreases-loop-j
+add-next-2 c = let h = long c.before.before in let k = c.before.before.before.before.before.before.before.before.before.before.before.before.before.before.before.before.well_formed.0 in search rules
 
-loop_again : tie.Need-loop-preserved invariant-loop decreases-loop invariant-loop2 decreases-loop2
+loop_again : tie.Need-loop-i-preserved invariant-loop-i decreases-loop-i invariant-loop-j decreases-loop-j
 loop_again c =
     let l = line c.before.before.before.before.before.before in
-    let e = c.before.before.before.before.l.given.1 in
-    (rows_more _ _ _ _ _ _ _ _ _ c.before.before.before.before.before.before.before.before.before.before.before.loop.invariant.0 c.before.before.before.before.before.before.before.before.before.if1.true _ (subst (LineRead _ _ _) e l) _ (c.before.before.nest-row.ensures.0 _) c.before.before.before.before.before.before.before.before.before.before.before.before.load-head.ensures.0.within.count c.before.if2.false c.before.before.nest-row.ensures.1, c.before.if2.false)
+    let e = c.before.before.before.before.l-1.given.1 in
+    (rows_more _ _ _ _ _ _ _ _ _ c.before.before.before.before.before.before.before.before.before.before.before.loop-i.invariant.0 c.before.before.before.before.before.before.before.before.before.loop-i-test.true _ (subst (LineRead _ _ _) e l) _ (c.before.before.nest_row-p.ensures.0 _) c.before.before.before.before.before.before.before.before.before.before.before.before.load_head-head.ensures.0.within.count c.before.if-stopped-ne0.false c.before.before.nest_row-p.ensures.1, c.before.if-stopped-ne0.false)
 
 -- what the loop has read when it is left
-abbrev Ended : tie.Joined1 invariant-loop decreases-loop invariant-loop2 decreases-loop2 → Type 0
+abbrev Ended : tie.Left-loop-i invariant-loop-i decreases-loop-i invariant-loop-j decreases-loop-j → Type 0
 Ended c =
-    let h = c.before.before.before.load-head.result in
-    let l = c.before.before.loop in
-    RowsRead c.before.before.before.before.before.before.before.args.file.now h.at h.vars h.count (record { number = c.if1.stopped; place = 4 + h.vars + l.i; at = l.next; blocks = l.blocks; rows = l.rows })
+    let h = c.before.before.before.load_head-head.result in
+    let l = c.before.before.loop-i in
+    RowsRead c.before.before.before.before.before.before.before.args.file.now h.at h.vars h.count (record { number = c.loop-i-test.stopped; place = 4 + h.vars + l.i; at = l.next; blocks = l.blocks; rows = l.rows })
 
 -- by its test, by a row that is misplaced, or by a line that is wrong
-ended : (c : tie.Joined1 invariant-loop decreases-loop invariant-loop2 decreases-loop2) → Ended c
+ended : (c : tie.Left-loop-i invariant-loop-i decreases-loop-i invariant-loop-j decreases-loop-j) → Ended c
 ended c =
-    let u = c.before.before.loop.invariant.0 in
+    let u = c.before.before.loop-i.invariant.0 in
     ⊎_elim {C = Ended c}
-    (λ w. rw (w.1, c.before.before.loop.invariant.1) (rows_all _ _ _ _ _ _ _ _ u w.0.left))
+    (λ w. rw (w.1, c.before.before.loop-i.invariant.1) (rows_all _ _ _ _ _ _ _ _ u w.0.left))
     (⊎_elim {C = Ended c}
     (λ w.
     let l = line (record { before = record { before = record { before = record { before = c.before; if1 = w.0 }; row-line-arg = w.1 }; struct-known2 = w.2 }; row_line_lem = w.3 }) in
@@ -101,64 +101,64 @@ ended c =
     (λ w.
     let l = line (record { before = record { before = record { before = record { before = c.before; if1 = w.0 }; row-line-arg = w.1 }; struct-known2 = w.2 }; row_line_lem = w.3 }) in
     rw w.7 (rows_wrong _ _ _ _ _ _ _ _ 0 u w.0.taken _ (subst (LineRead _ _ _) w.5.given.1 l))))
-    c.if1.branch
+    c.loop-i-test.branch
 
-add-line-2 : tie.Need-overflow-add-line-2 invariant-loop decreases-loop invariant-loop2 decreases-loop2
-add-line-2 c = let h = c.before.before.before.before.load-head.ensures.0.within in let k = c.before.before.before.loop.invariant.0.few in search rules
+add-line-2 : tie.Need-overflow_add-line-2 invariant-loop-i decreases-loop-i invariant-loop-j decreases-loop-j
+add-line-2 c = let h = c.before.before.before.before.load_head-head.ensures.0.within in let k = c.before.before.before.loop-i.invariant.0.few in search rules
 
 -- the file is read, once its numbers are known
-read : (c : tie.After-if-read2 invariant-loop decreases-loop invariant-loop2 decreases-loop2)
+read : (c : tie.After-if_read-count invariant-loop-i decreases-loop-i invariant-loop-j decreases-loop-j)
     → let s = c.before.before.before.before.before.before.before.before.before.before.before.before.before.before in
-    let l : Loaded = record { verdict = c.before.before.and_then.result; vars = c.before.if-read.result; count = c.if-read2.result } in
-    ReadAs s.args.file.now (file_script s.args.file.now) l c.before.before.before.before.before.before.before.before.before.loop.rows c.before.before.before.before.before.before.before.before.before.before.load-head.new.1.0
+    let l : Loaded = record { verdict = c.before.before.and_then-verdict.result; vars = c.before.if_read-vars.result; count = c.if_read-count.result } in
+    ReadAs s.args.file.now (file_script s.args.file.now) l c.before.before.before.before.before.before.before.before.before.loop-i.rows c.before.before.before.before.before.before.before.before.before.before.load_head-head.new.1.0
 read c =
     let file = c.before.before.before.before.before.before.before.before.before.before.before.before.before.before.args.file.now in
-    let h = c.before.before.before.before.before.before.before.before.before.before.load-head in
+    let h = c.before.before.before.before.before.before.before.before.before.before.load_head-head in
     let e = ended c.before.before.before.before.before.before.before in
     loads file _ h.result _ _ _ h.ensures.0 (record {
-      script = λ ranges. rw (c.before.before.and_then.ensures, c.before.before.before.ask-rows.ensures) (load_read file ranges h.result _ e);
-      passes = then_passed _ _ _ c.before.before.and_then.ensures;
-      vars = c.before.if-read.ensures;
-      count = c.if-read2.ensures;
-      written = λ z. e.written (rows_passed _ _ _ _ _ _ _ (rw c.before.before.before.ask-rows.ensures at c.before.before.and_then.ensures) z);
-      long = c.before.before.before.before.before.before.before.before.before.loop.invariant.0.size;
+      script = λ ranges. rw (c.before.before.and_then-verdict.ensures, c.before.before.before.ask_rows-later.ensures) (load_read file ranges h.result _ e);
+      passes = then_passed _ _ _ c.before.before.and_then-verdict.ensures;
+      vars = c.before.if_read-vars.ensures;
+      count = c.if_read-count.ensures;
+      written = λ z. e.written (rows_passed _ _ _ _ _ _ _ (rw c.before.before.before.ask_rows-later.ensures at c.before.before.and_then-verdict.ensures) z);
+      long = c.before.before.before.before.before.before.before.before.before.loop-i.invariant.0.size;
     })
 
-loop2-holds : tie.Need-loop2-init invariant-loop decreases-loop invariant-loop2 decreases-loop2
+loop2-holds : tie.Need-loop-j-init invariant-loop-i decreases-loop-i invariant-loop-j decreases-loop-j
 loop2-holds c =
     let r = read c in
-    let n = c.before.before.before.before.before.before.before.before.before.loop.invariant.0.size in
+    let n = c.before.before.before.before.before.before.before.before.before.loop-i.invariant.0.size in
     let t = c.before.before.before.before.before.before.before.before.before.before.before.before.before.before.requires in
     (r, n, t, fill_none _ _ _ n (read_packable _ _ _ _ r _ t) _ _)
 
-array-copy-out-row : tie.Need-array-copy-out-row invariant-loop decreases-loop invariant-loop2 decreases-loop2
-array-copy-out-row c = let l = c.before.loop2.invariant in let h = read_few _ _ _ _ l.0 in search rules
+array-copy-out-row : tie.Need-bounds-rows-j invariant-loop-i decreases-loop-i invariant-loop-j decreases-loop-j
+array-copy-out-row c = let l = c.before.loop-j.invariant in let h = read_few _ _ _ _ l.0 in search rules
 
-put-next-requires : tie.Need-put-next-requires invariant-loop decreases-loop invariant-loop2 decreases-loop2
+put-next-requires : tie.Need-put_next-after-requires invariant-loop-i decreases-loop-i invariant-loop-j decreases-loop-j
 put-next-requires c κs =
-    let (r, n, t, f) = c.before.before.before.loop2.invariant in
-    fill_ready _ _ c.before.before.before.before.before.before.before.before.before.before.before.before.before.before.before.before.before.before.args.table.now n (read_packable _ _ _ _ r _ t) _ _ _ c.before.before.loop2-test.true f
+    let (r, n, t, f) = c.before.before.before.loop-j.invariant in
+    fill_ready _ _ c.before.before.before.before.before.before.before.before.before.before.before.before.before.before.before.before.before.before.args.table.now n (read_packable _ _ _ _ r _ t) _ _ _ c.before.before.loop-j-test.true f
 
-loop2-again : tie.Need-loop2-preserved invariant-loop decreases-loop invariant-loop2 decreases-loop2
+loop2-again : tie.Need-loop-j-preserved invariant-loop-i decreases-loop-i invariant-loop-j decreases-loop-j
 loop2-again c =
-    let (r, n, t, f) = c.before.before.before.before.before.before.loop2.invariant in
-    (r, n, t, fill_more _ _ c.before.before.before.before.before.before.before.before.before.before.before.before.before.before.before.before.before.before.before.before.before.args.table.now n (read_packable _ _ _ _ r _ t) _ _ _ _ _ c.before.before.before.before.before.loop2-test.true f c.before.before.put_next.ensures)
+    let (r, n, t, f) = c.before.before.before.before.before.before.loop-j.invariant in
+    (r, n, t, fill_more _ _ c.before.before.before.before.before.before.before.before.before.before.before.before.before.before.before.before.before.before.before.before.before.args.table.now n (read_packable _ _ _ _ r _ t) _ _ _ _ _ c.before.before.before.before.before.loop-j-test.true f c.before.before.put_next-after.ensures)
 
-returns : tie.Need-returns invariant-loop decreases-loop invariant-loop2 decreases-loop2
+returns : tie.Need-returns invariant-loop-i decreases-loop-i invariant-loop-j decreases-loop-j
 returns c =
-    let l = c.before.loop2 in
+    let l = c.before.loop-j in
     let (r, n, t, f) = l.invariant in
-    let e : l.j ≡ c.before.before.if-read2.result = omega (arith, f.few, c.loop2-test.false) in
+    let e : l.j ≡ c.before.before.if_read-count.result = omega (arith, f.few, c.loop-j-test.false) in
     read_loaded _ _ _ _ r _ (fill_done _ _ c.before.before.before.before.before.before.before.before.before.before.before.before.before.before.before.before.args.table.now _ _ n (read_packable _ _ _ _ r _ t) (rw e at f) _ (read_closes _ _ _ _ r))
 
 pub load_spec : {M : Type 1} → statement M
 load_spec =
     tie.close
     (tie.spec
-    invariant-loop
-    decreases-loop
-    invariant-loop2
-    decreases-loop2
+    invariant-loop-i
+    decreases-loop-i
+    invariant-loop-j
+    decreases-loop-j
     (λ c κs. search rules)
     loop_holds
     sub-row-line
@@ -179,11 +179,11 @@ load_spec =
     (λ c. search rules) (λ c. search rules) (λ c κs. search rules) (λ c κs. search rules)
     (λ c κs. search rules) (λ c κs. search rules)
     loop2-holds
-    (λ c. let l = c.before.loop2.invariant in let h = read_few _ _ _ _ l.0 in search rules)
+    (λ c. let l = c.before.loop-j.invariant in let h = read_few _ _ _ _ l.0 in search rules)
     array-copy-out-row
     put-next-requires
-    (λ c. let l = c.before.before.before.before.before.before.loop2.invariant in omega (arith, read_few _ _ _ _ l.0, c.before.before.before.before.before.loop2-test.true))
-    (λ c. omega (arith, c.before.before.before.before.before.loop2-test.true))
+    (λ c. let l = c.before.before.before.before.before.before.loop-j.invariant in omega (arith, read_few _ _ _ _ l.0, c.before.before.before.before.before.loop-j-test.true))
+    (λ c. omega (arith, c.before.before.before.before.before.loop-j-test.true))
     loop2-again
-    (λ c. let l = c.before.loop2.invariant in let h = l.3.size in let k = l.2 in search rules)
+    (λ c. let l = c.before.loop-j.invariant in let h = l.3.size in let k = l.2 in search rules)
     returns)

@@ -14,13 +14,13 @@ returns c =
     let m = b.before in
     let a = m.before in
     let name = a.before in
-    let e = name.before.both_ends.ensures in
-    loop_spelled _ _ _ _ _ _ _ name.step-name.ensures
-    (a.end-sign.ensures ∙ ap sign e.0)
-    (m.end-size.ensures ∙ ap (λ (z : ℤ). decimal (size z)) e.0)
-    (b.end-sign2.ensures ∙ ap sign e.1)
-    (n.end-size2.ensures ∙ ap (λ (z : ℤ). decimal (size z)) e.1)
-    mark.exact-name.ensures
+    let e = name.before.both_ends-both.ensures in
+    loop_spelled _ _ _ _ _ _ _ name.step_name.ensures
+    (a.end_sign.ensures ∙ ap sign e.0)
+    (m.end_size.ensures ∙ ap (λ (z : ℤ). decimal (size z)) e.0)
+    (b.end_sign-2.ensures ∙ ap sign e.1)
+    (n.end_size-2.ensures ∙ ap (λ (z : ℤ). decimal (size z)) e.1)
+    mark.exact_name.ensures
 
 pub loop_line_spec : {M : Type 1} → statement M
 loop_line_spec = tie.close (tie.spec

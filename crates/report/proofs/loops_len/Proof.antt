@@ -12,33 +12,33 @@ use Rattle.report.proofs.Laws.{taken_loops, loop_taken}
 use Rattle.report.proofs.loops_len.Statement.{statement}
 use Rattle.report.proofs.loops_len.Tie as tie
 
-abbrev invariant-loop : tie.invariant-loop
-invariant-loop lines loops len₀ k₀ len k = Measured 340 (loop_lines (first_lines lines loops)) len k
+abbrev invariant-loop-k : tie.invariant-loop-k
+invariant-loop-k lines loops len₀ k₀ len k = Measured 340 (loop_lines (first_lines lines loops)) len k
 
-abbrev decreases-loop : tie.decreases-loop
-decreases-loop lines loops len₀ k₀ len k = loops - k
+abbrev decreases-loop-k : tie.decreases-loop-k
+decreases-loop-k lines loops len₀ k₀ len k = loops - k
 
 -- how many lines there are
-count : (c : tie.Start invariant-loop decreases-loop) → length (loop_lines (first_lines c.args.lines.now c.args.loops)) ≡ c.args.loops
+count : (c : tie.Start invariant-loop-k decreases-loop-k) → length (loop_lines (first_lines c.args.lines.now c.args.loops)) ≡ c.args.loops
 count c = taken_loops _ _ (lent_room _ _ c.requires)
 
-loop_again : tie.Need-loop-preserved invariant-loop decreases-loop
+loop_again : tie.Need-loop-k-preserved invariant-loop-k decreases-loop-k
 loop_again c =
     let turn = c.before.before.before in
     let pre = turn.before.before.requires in
-    measured_more 340 _ _ _ _ turn.before.loop.invariant (omega (arith, count turn.before.before))
-    (c.line-len.ensures.0 ∙ ap length (c.before.loop-line.ensures ∙ ap (λ l. loop_line (line_of l)) c.before.before.line_at.ensures ∙ loop_taken _ _ (lent_room _ _ pre) _ _ turn.loop-test.true)) c.line-len.ensures.1
+    measured_more 340 _ _ _ _ turn.before.loop-k.invariant (omega (arith, count turn.before.before))
+    (c.line_len-len.ensures.0 ∙ ap length (c.before.loop_line.ensures ∙ ap (λ l. loop_line (line_of l)) c.before.before.line_at-line.ensures ∙ loop_taken _ _ (lent_room _ _ pre) _ _ turn.loop-k-test.true)) c.line_len-len.ensures.1
 
-returns : tie.Need-returns invariant-loop decreases-loop
+returns : tie.Need-returns invariant-loop-k decreases-loop-k
 unfolding loops_text
 returns c =
-    let m = c.before.loop.invariant in
+    let m = c.before.loop-k.invariant in
     (measured_all 340 _ _ _ m (omega (arith, count c.before.before)), omega (arith, m.small, m.within, count c.before.before))
 
 pub loops_len_spec : {M : Type 1} → statement M
 loops_len_spec = tie.close (tie.spec
-    invariant-loop
-    decreases-loop
+    invariant-loop-k
+    decreases-loop-k
     (λ c. measured_none 340 _)
     (λ c κs. search rules) (λ c κs. search rules) (λ c κs. search rules) (λ c. search rules)
     (λ c. search rules) (λ c. search rules)

@@ -14,46 +14,46 @@ use Rattle.report.proofs.Laws.{taken_loops, loop_taken}
 use Rattle.report.proofs.put_loops.Statement.{statement}
 use Rattle.report.proofs.put_loops.Tie as tie
 
-abbrev invariant-loop : tie.invariant-loop
-invariant-loop lines loops buffer₀ at₀ k₀ buffer at k = Writing (loop_lines (first_lines lines loops)) buffer₀ buffer at k
+abbrev invariant-loop-k : tie.invariant-loop-k
+invariant-loop-k lines loops buffer₀ at₀ k₀ buffer at k = Writing (loop_lines (first_lines lines loops)) buffer₀ buffer at k
 
-abbrev decreases-loop : tie.decreases-loop
-decreases-loop lines loops buffer₀ at₀ k₀ buffer at k = loops - k
+abbrev decreases-loop-k : tie.decreases-loop-k
+decreases-loop-k lines loops buffer₀ at₀ k₀ buffer at k = loops - k
 
 -- how many lines there are, and room for all
-count : (c : tie.Start invariant-loop decreases-loop) → length (loop_lines (first_lines c.args.lines.now c.args.loops)) ≡ c.args.loops
+count : (c : tie.Start invariant-loop-k decreases-loop-k) → length (loop_lines (first_lines c.args.lines.now c.args.loops)) ≡ c.args.loops
 count c = taken_loops _ _ (lent_room _ _ c.requires.0)
 
-whole : (c : tie.Start invariant-loop decreases-loop) → length (joined (loop_lines (first_lines c.args.lines.now c.args.loops))) ≤ length c.args.buffer.now
+whole : (c : tie.Start invariant-loop-k decreases-loop-k) → length (joined (loop_lines (first_lines c.args.lines.now c.args.loops))) ≤ length c.args.buffer.now
 unfolding loops_text
 whole c = c.requires.1
 
 -- the next line, and room for it
-line : (c : tie.After-loop-line invariant-loop decreases-loop) →
+line : (c : tie.After-loop_line invariant-loop-k decreases-loop-k) →
     let a = c.before.before.before.before.before.args in
-    joined (piece_texts c.loop-line.result) ≡ get_or (loop_lines (first_lines a.lines.now a.loops)) c.before.before.before.loop.k []
+    joined (piece_texts c.loop_line.result) ≡ get_or (loop_lines (first_lines a.lines.now a.loops)) c.before.before.before.loop-k.k []
 line c =
-    c.loop-line.ensures ∙ ap (λ l. loop_line (line_of l)) c.before.line_at.ensures ∙ loop_taken _ _ (lent_room _ _ c.before.before.before.before.before.requires.0) _ _ c.before.before.loop-test.true
+    c.loop_line.ensures ∙ ap (λ l. loop_line (line_of l)) c.before.line_at-line.ensures ∙ loop_taken _ _ (lent_room _ _ c.before.before.before.before.before.requires.0) _ _ c.before.before.loop-k-test.true
 
-room : (c : tie.After-loop-line invariant-loop decreases-loop) → c.before.before.before.loop.at + length (joined (piece_texts c.loop-line.result)) ≤ length c.before.before.before.loop.buffer
+room : (c : tie.After-loop_line invariant-loop-k decreases-loop-k) → c.before.before.before.loop-k.at + length (joined (piece_texts c.loop_line.result)) ≤ length c.before.before.before.loop-k.buffer
 room c =
     let start = c.before.before.before.before.before in
-    rw (line c) (writing_room _ _ _ _ _ c.before.before.before.loop.invariant (omega (arith, count start)) (whole start))
+    rw (line c) (writing_room _ _ _ _ _ c.before.before.before.loop-k.invariant (omega (arith, count start)) (whole start))
 
-loop_again : tie.Need-loop-preserved invariant-loop decreases-loop
+loop_again : tie.Need-loop-k-preserved invariant-loop-k decreases-loop-k
 loop_again c =
     let l = c.before.before.before.before in
     let start = l.before.before.before.before.before in
-    writing_more _ _ _ _ _ _ _ l.before.before.before.loop.invariant (omega (arith, count start)) (whole start) (rw (line l) at c.before.before.put-line.ensures)
+    writing_more _ _ _ _ _ _ _ l.before.before.before.loop-k.invariant (omega (arith, count start)) (whole start) (rw (line l) at c.before.before.put_line-at.ensures)
 
-returns : tie.Need-returns invariant-loop decreases-loop
+returns : tie.Need-returns invariant-loop-k decreases-loop-k
 unfolding loops_text
-returns c = writing_all _ _ _ _ _ c.before.loop.invariant (omega (arith, count c.before.before.before))
+returns c = writing_all _ _ _ _ _ c.before.loop-k.invariant (omega (arith, count c.before.before.before))
 
 pub put_loops_spec : {M : Type 1} → statement M
 put_loops_spec = tie.close (tie.spec
-    invariant-loop
-    decreases-loop
+    invariant-loop-k
+    decreases-loop-k
     (λ c. writing_none _ _)
     (λ c κs. search rules) (λ c κs. search rules)
     (λ c. omega (arith, room c))
@@ -63,5 +63,5 @@ put_loops_spec = tie.close (tie.spec
     (λ c. omega (arith, room c.before.before.before.before))
     (λ c. search rules) (λ c. search rules)
     loop_again
-    (λ c. c.before.loop.invariant.same)
+    (λ c. c.before.loop-k.invariant.same)
     returns)

@@ -4,20 +4,20 @@ use Rattle.report.proofs.Laws.{Below, below, above, above_size}
 use Rattle.report.proofs.size.Statement.{statement}
 use Rattle.report.proofs.size.Tie as tie
 
-known : (c : tie.Then1) → Below c.before.args.z
-known c = let f = c.before.ranges.z in below _ (simp (to_z-of_z f) at c.if1.true) f
+known : (c : tie.Then-z-lt0) → Below c.before.args.z
+known c = let f = c.before.ranges.z in below _ (simp (to_z-of_z f) at c.if-z-lt0.true) f
 
-cast-result : tie.Need-overflow-cast-result
+cast-result : tie.Need-overflow_cast-result
 cast-result c =
     let k = known c in
     rw (to_z-of_z c.before.ranges.z, to_z-of_z k.up, to_z-of_z k.down, k.is) (tt, record { fits = omega (arith, k.small) })
 
-add-result-2 : tie.Need-overflow-add-result-2
+add-result-2 : tie.Need-overflow_add-result-then-z-lt0
 add-result-2 c =
     let k = known c in
     rw (to_z-of_z c.before.ranges.z, to_z-of_z k.up, to_z-of_z k.down, k.is) (record { fits = omega (arith, k.small) })
 
-returns : tie.Need-returns
+returns : tie.Need-returns-then-z-lt0
 returns c =
     let k = known c in
     rw (to_z-of_z c.before.ranges.z, to_z-of_z k.up, to_z-of_z k.down, k.is) k.whole
@@ -31,5 +31,5 @@ size_spec =
     cast-result
     add-result-2
     returns
-    (λ c. let f = c.before.ranges.z in rw (to_z-of_z f) (above _ (simp (to_z-of_z f) at c.if1.false) f))
-    (λ c. let f = c.before.ranges.z in rw (to_z-of_z f) (above_size _ (simp (to_z-of_z f) at c.if1.false))))
+    (λ c. let f = c.before.ranges.z in rw (to_z-of_z f) (above _ (simp (to_z-of_z f) at c.if-z-lt0.false) f))
+    (λ c. let f = c.before.ranges.z in rw (to_z-of_z f) (above_size _ (simp (to_z-of_z f) at c.if-z-lt0.false))))

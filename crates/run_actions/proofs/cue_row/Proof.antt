@@ -5,11 +5,11 @@ use borrow.Author.Rules.{rules}
 use Rattle.run_actions.proofs.cue_row.Statement.{statement}
 use Rattle.run_actions.proofs.cue_row.Tie as tie
 
-returns : tie.Need-returns
-returns c = λ store picks d n. rw c.ended.ensures (cue_spent c.before.before.args.prices _ _ _ _ _ _ _ false c.before.if1.true)
+returns : tie.Need-returns-then-left-price
+returns c = λ store picks d n. rw c.ended.ensures (cue_spent c.before.before.args.prices _ _ _ _ _ _ _ false c.before.if-left-price.true)
 
-returns_2 : tie.Need-returns-2
-returns_2 c = λ store picks d n. rw c.on.ensures (cue_done c.before.before.before.args.prices _ _ _ _ _ _ _ _ c.before.before.if1.false)
+returns_2 : tie.Need-returns
+returns_2 c = λ store picks d n. rw c.on.ensures (cue_done c.before.before.before.args.prices _ _ _ _ _ _ _ _ c.before.before.if-left-price.false)
 
 pub cue_row_spec : {M : Type 1} → statement M
 cue_row_spec =

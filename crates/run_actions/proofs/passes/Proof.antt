@@ -7,26 +7,26 @@ use Rattle.run_actions.proofs.Order.{bits_of, less_only, by_order}
 use Rattle.run_actions.proofs.passes.Statement.{statement}
 use Rattle.run_actions.proofs.passes.Tie as tie
 
-returns : tie.Need-returns
+returns : tie.Need-returns-then-x-y
 returns c =
     let s = c.before in
     let f = s.ranges in
-    let l = simp (to_z-of_z f.x, to_z-of_z f.y) at c.if1.true in
+    let l = simp (to_z-of_z f.x, to_z-of_z f.y) at c.if-x-y.true in
     (bits_of s.args.code s.requires).less ∙ by_order s.args.x s.args.y (comparison_by s.args.code) _ _ l (less_only s.args.x s.args.y l)
 
-returns_2 : tie.Need-returns-2
+returns_2 : tie.Need-returns-then-x-y-2
 returns_2 c =
     let s = c.before.before in
     let f = s.ranges in
-    let l = simp (to_z-of_z f.x, to_z-of_z f.y) at c.before.if1.false in
-    (bits_of s.args.code s.requires).equal ∙ by_order s.args.x s.args.y (comparison_by s.args.code) _ _ l (eq_z_yes _ _ f.x f.y c.if2.true)
+    let l = simp (to_z-of_z f.x, to_z-of_z f.y) at c.before.if-x-y.false in
+    (bits_of s.args.code s.requires).equal ∙ by_order s.args.x s.args.y (comparison_by s.args.code) _ _ l (eq_z_yes _ _ f.x f.y c.if-x-y-2.true)
 
-returns_3 : tie.Need-returns-3
+returns_3 : tie.Need-returns
 returns_3 c =
     let s = c.before.before in
     let f = s.ranges in
-    let l = simp (to_z-of_z f.x, to_z-of_z f.y) at c.before.if1.false in
-    (bits_of s.args.code s.requires).greater ∙ by_order s.args.x s.args.y (comparison_by s.args.code) _ _ l (eq_z_no _ _ f.x f.y c.if2.false)
+    let l = simp (to_z-of_z f.x, to_z-of_z f.y) at c.before.if-x-y.false in
+    (bits_of s.args.code s.requires).greater ∙ by_order s.args.x s.args.y (comparison_by s.args.code) _ _ l (eq_z_no _ _ f.x f.y c.if-x-y-2.false)
 
 pub passes_spec : {M : Type 1} → statement M
 passes_spec = tie.close (tie.spec returns returns_2 returns_3)

@@ -10,7 +10,7 @@ is_loop_spec =
     tie.close
     (tie.spec
     (λ c κs. search rules) (λ c. search rules) (λ c. search rules) (λ c. search rules) (λ c. search rules)
-    (λ c text. sym (ap loop_shape c.enum_told.given.1) ∙ loop_shape_lem text _ c.before.before.shape_at.ensures)
-    (λ c text. sym (ap loop_shape c.enum-told2.given.1) ∙ loop_shape_lem text _ c.before.before.shape_at.ensures)
-    (λ c text. sym (ap loop_shape c.enum-told3.given.1) ∙ loop_shape_lem text _ c.before.before.shape_at.ensures)
-    (λ c text. sym (ap loop_shape c.enum-told4.given.1) ∙ loop_shape_lem text _ c.before.before.shape_at.ensures))
+    (λ c text. sym (ap loop_shape c.enum_told-1.given.1) ∙ loop_shape_lem text _ c.before.before.shape_at.ensures)
+    (λ c text. sym (ap loop_shape c.enum_told-in-Branch-1.given.1) ∙ loop_shape_lem text _ c.before.before.shape_at.ensures)
+    (λ c text. sym (ap loop_shape c.enum_told-in-Loop-1.given.1) ∙ loop_shape_lem text _ c.before.before.shape_at.ensures)
+    (λ c text. sym (ap loop_shape c.enum_told-in-Close-1.given.1) ∙ loop_shape_lem text _ c.before.before.shape_at.ensures))

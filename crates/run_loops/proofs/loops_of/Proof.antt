@@ -13,78 +13,78 @@ use borrow.Author.Rules.{rules}
 use Rattle.run_loops.proofs.loops_of.Statement.{statement}
 use Rattle.run_loops.proofs.loops_of.Tie as tie
 
-abbrev invariant-loop : tie.invariant-loop
-invariant-loop rows count counts listed₀ k₀ j₀ listed k j =
+abbrev invariant-loop-j : tie.invariant-loop-j
+invariant-loop-j rows count counts listed₀ k₀ j₀ listed k j =
     (j ≤ count) × ((text : List ℕ) → Counted text rows count counts → Listing (script_in text rows count) (tally_of (loop_rows 0 (script_in text rows count)) counts) j k listed)
 
-abbrev decreases-loop : tie.decreases-loop
-decreases-loop rows count counts listed₀ k₀ j₀ listed k j = count - j
+abbrev decreases-loop-j : tie.decreases-loop-j
+decreases-loop-j rows count counts listed₀ k₀ j₀ listed k j = count - j
 
-loop_holds : tie.Need-loop-init invariant-loop decreases-loop
+loop_holds : tie.Need-loop-j-init invariant-loop-j decreases-loop-j
 loop_holds c = (omega arith, λ text g. listing_none _ _)
 
-is-loop-requires : tie.Need-is-loop-requires invariant-loop decreases-loop
-is-loop-requires c κs = let s = c.before.before.before in let g = s.requires.1 in omega (arith, g.table.size, g.size, c.loop-test.true)
+is-loop-requires : tie.Need-is_loop-requires invariant-loop-j decreases-loop-j
+is-loop-requires c κs = let s = c.before.before.before in let g = s.requires.1 in omega (arith, g.table.size, g.size, c.loop-j-test.true)
 
 -- the loop that begins here is one of the 16
-in_counts : (c : tie.Then1 invariant-loop decreases-loop) → let s = c.before.before.before.before.before in (c.before.before.before.loop.k < length (loop_rows 0 (script_in s.requires.0 s.args.rows.now s.args.count))) × (c.before.before.before.loop.k < 16)
+in_counts : (c : tie.Then-is_loop invariant-loop-j decreases-loop-j) → let s = c.before.before.before.before.before in (c.before.before.before.loop-j.k < length (loop_rows 0 (script_in s.requires.0 s.args.rows.now s.args.count))) × (c.before.before.before.loop-j.k < 16)
 in_counts c =
     let s = c.before.before.before.before.before in
-    let l = c.before.before.before.loop in
-    number_in s.requires.1 l.j l.k l.listed (l.invariant.1 s.requires.0 s.requires.1) c.before.before.loop-test.true _ (c.before.is_loop.ensures s.requires.0) c.if1.true
+    let l = c.before.before.before.loop-j in
+    number_in s.requires.1 l.j l.k l.listed (l.invariant.1 s.requires.0 s.requires.1) c.before.before.loop-j-test.true _ (c.before.is_loop.ensures s.requires.0) c.if-is_loop.true
 
-mul-count-of : tie.Need-overflow-mul-count-of invariant-loop decreases-loop
+mul-count-of : tie.Need-offset_bounds-counts-k invariant-loop-j decreases-loop-j
 mul-count-of c = omega (arith, (in_counts c).1)
 
-element-copy-out-count-of : tie.Need-element-copy-out-count-of invariant-loop decreases-loop
+element-copy-out-count-of : tie.Need-bounds-counts-k invariant-loop-j decreases-loop-j
 element-copy-out-count-of c = (in_counts c).1
 
-count-of-requires : tie.Need-count-of-requires invariant-loop decreases-loop
+count-of-requires : tie.Need-count_of-requires invariant-loop-j decreases-loop-j
 count-of-requires c κs = c.before.before.before.before.before.before.requires.1.room.turn _ (in_counts c.before).0
 
-mul-listed : tie.Need-overflow-mul-listed invariant-loop decreases-loop
+mul-listed : tie.Need-offset_bounds-listed-k invariant-loop-j decreases-loop-j
 mul-listed c = omega (arith, (in_counts c.before.before).1)
 
-array-set-from-listed : tie.Need-array-set-from-listed invariant-loop decreases-loop
+array-set-from-listed : tie.Need-bounds-listed-k invariant-loop-j decreases-loop-j
 array-set-from-listed c = (in_counts c.before.before).1
 
-add-k : tie.Need-overflow-add-k invariant-loop decreases-loop
+add-k : tie.Need-overflow_add-k invariant-loop-j decreases-loop-j
 add-k c = omega (arith, (in_counts c.before.before).1)
 
-add-j : tie.Need-overflow-add-j invariant-loop decreases-loop
-add-j c = let s = c.before.before.before.before.before in omega (arith, s.requires.1.size, c.before.before.loop-test.true)
+add-j : tie.Need-overflow_add-j invariant-loop-j decreases-loop-j
+add-j c = let s = c.before.before.before.before.before in omega (arith, s.requires.1.size, c.before.before.loop-j-test.true)
 
 -- row j is listed, or begins no loop
-abbrev Listed : tie.Joined1 invariant-loop decreases-loop → Type 0
+abbrev Listed : tie.Joined-is_loop invariant-loop-j decreases-loop-j → Type 0
 Listed c =
     let a = c.before.before.before.before.before.args in
     (text : List ℕ) → Counted text a.rows.now a.count a.counts.now
-    → Listing (script_in text a.rows.now a.count) (tally_of (loop_rows 0 (script_in text a.rows.now a.count)) a.counts.now) (c.before.before.before.loop.j + 1) c.if1.k c.if1.listed
+    → Listing (script_in text a.rows.now a.count) (tally_of (loop_rows 0 (script_in text a.rows.now a.count)) a.counts.now) (c.before.before.before.loop-j.j + 1) c.if-is_loop.k c.if-is_loop.listed
 
-listed : (c : tie.Joined1 invariant-loop decreases-loop) → Listed c
+listed : (c : tie.Joined-is_loop invariant-loop-j decreases-loop-j) → Listed c
 listed c =
-    let l = c.before.before.before.loop in
-    let i = c.before.before.loop-test.true in
+    let l = c.before.before.before.loop-j in
+    let i = c.before.before.loop-j-test.true in
     let e = c.before.is_loop.ensures in
     ⊎_elim {C = Listed c}
     (λ w text g. rw (w.3, w.4) (one_loop g l.j l.k l.listed (l.invariant.1 text g) i _ (e text) w.0.taken _ w.2.ensures))
     (λ w text g. rw (w.1, w.2) (no_loop_lem g l.j l.k l.listed (l.invariant.1 text g) i _ (e text) w.0.left))
-    c.if1.branch
+    c.if-is_loop.branch
 
-loop_again : tie.Need-loop-preserved invariant-loop decreases-loop
-loop_again c = (omega (arith, c.before.before.loop-test.true), listed c)
+loop_again : tie.Need-loop-j-preserved invariant-loop-j decreases-loop-j
+loop_again c = (omega (arith, c.before.before.loop-j-test.true), listed c)
 
-returns : tie.Need-returns invariant-loop decreases-loop
+returns : tie.Need-returns invariant-loop-j decreases-loop-j
 returns c =
-    let l = c.before.loop in
-    λ text g. listing_all _ _ l.j l.k l.listed (omega (arith, rows_are g, c.loop-test.false)) (l.invariant.1 text g)
+    let l = c.before.loop-j in
+    λ text g. listing_all _ _ l.j l.k l.listed (omega (arith, rows_are g, c.loop-j-test.false)) (l.invariant.1 text g)
 
 pub loops_of_spec : {M : Type 1} → statement M
 loops_of_spec =
     tie.close
     (tie.spec
-    invariant-loop
-    decreases-loop
+    invariant-loop-j
+    decreases-loop-j
     loop_holds
     is-loop-requires
     mul-count-of

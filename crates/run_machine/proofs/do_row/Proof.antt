@@ -10,8 +10,8 @@ use Rattle.run_machine.proofs.do_row.Statement.{statement}
 use Rattle.run_machine.proofs.do_row.Tie as tie
 
 -- the loop's number
-known : (c : tie.After-loop-at) → let a = c.before.before.before.args in c.loop_at.result ≡ loop_of a.rows.now a.m
-known c = let a = c.before.before.before.args in c.loop_at.ensures ∙ ap (λ e. number (numbers_at a.rows.now e) 1) c.before.partner-at.ensures
+known : (c : tie.After-loop_at-k) → let a = c.before.before.before.args in c.loop_at-k.result ≡ loop_of a.rows.now a.m
+known c = let a = c.before.before.before.args in c.loop_at-k.ensures ∙ ap (λ e. number (numbers_at a.rows.now e) 1) c.before.partner_at.ensures
 
 begin-requires : tie.Need-begin-requires
 begin-requires c κs = let s = c.before.before.before.before in subst (λ k. RoomAt k s.args.counts.now) (sym (known c.before)) s.requires.room
@@ -28,7 +28,7 @@ do_row_spec =
     tie.close
     (tie.spec
     (λ c κs. search rules)
-    (λ c κs. rw c.partner-at.ensures c.before.before.requires.end)
+    (λ c κs. rw c.partner_at.ensures c.before.before.requires.end)
     begin-requires
     (λ c κs. c.before.begin.ensures.room)
     (λ c. search rules) (λ c κs. search rules)

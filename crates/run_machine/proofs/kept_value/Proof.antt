@@ -24,23 +24,23 @@ use Rattle.run_machine.proofs.kept_value.Tie as tie
 none_kept : SFits w64 not_kept
 none_kept = omega ints
 
-returns : tie.Need-returns
+returns : tie.Need-returns-then-kept-ne-NOT_KEPT
 returns c =
     let s = c.before.before.before.before in
-    let z = c.before.kept_of in
-    let f : SFits w64 z.result = sfits_of z.type-inv in
-    let n = eq_z_no z.result not_kept f none_kept c.if1.true in
+    let z = c.before.kept_of-kept in
+    let f : SFits w64 z.result = sfits_of z.type_inv in
+    let n = eq_z_no z.result not_kept f none_kept c.if-kept-ne-NOT_KEPT.true in
     rw (to_z-of_z f) (record { read = by s.requires.kept n; still = kept_same s.requires.long s.requires.kept })
   where
     by : Keeps (expr_of c.before.before.before.before.args.text.now (operand_in 2 c.before.before.before.before.args.x)) c.before.before.before.before.args.store.now (kept_of c.before.before.before.before.args.limits.now c.before.before.before.before.args.k)
-        → eq_z c.before.kept_of.result not_kept ≡ false → ReadAs c.before.before.before.before.args.text.now c.before.before.before.before.args.store.now (operand_in 2 c.before.before.before.before.args.x) c.before.kept_of.result
-    by (nothing e) n = no_true (sym n ∙ is_true _ (subst (λ y. T (eq_z y not_kept)) (sym (c.before.kept_of.ensures ∙ e)) (eq_refl not_kept)))
-    by (its_value h e) n = ap result_in c.before.kept_of.ensures ∙ e
+        → eq_z c.before.kept_of-kept.result not_kept ≡ false → ReadAs c.before.before.before.before.args.text.now c.before.before.before.before.args.store.now (operand_in 2 c.before.before.before.before.args.x) c.before.kept_of-kept.result
+    by (nothing e) n = no_true (sym n ∙ is_true _ (subst (λ y. T (eq_z y not_kept)) (sym (c.before.kept_of-kept.ensures ∙ e)) (eq_refl not_kept)))
+    by (its_value h e) n = ap result_in c.before.kept_of-kept.ensures ∙ e
 
-returns_2 : tie.Need-returns-2
+returns_2 : tie.Need-returns
 returns_2 c =
     let s = c.before.before.before.before.before in
-    let f : SFits w64 c.value_of_lem.result = sfits_of c.value_of_lem.type-inv in
+    let f : SFits w64 c.value_of_lem.result = sfits_of c.value_of_lem.type_inv in
     rw (to_z-of_z f)
     (record { read = c.value_of_lem.ensures; still = kept_set c.value_of_lem.result s.requires.loop s.requires.long (its_value (is_composed _ _ _ s.requires.limit) c.value_of_lem.ensures) })
 

@@ -30,69 +30,69 @@ by_bit k x b n e = let z = ne_eqb k 0 n in rw z (by (eqb k 1) (rw z at e))
     by true e = rw e
     by false e = rw e
 
-told : (c : tie.After-limit-is-expression) (b : Bool) → c.limit-is-expression.result ≡ b → let a = c.before.before.before.before.before.before.args in
-    operand_in (cond b 2 1) c.before.before.before.limit-value-at.result ≡ limit_in (numbers_at a.rows.now a.i)
+told : (c : tie.After-limit_is_expression) (b : Bool) → c.limit_is_expression.result ≡ b → let a = c.before.before.before.before.before.before.args in
+    operand_in (cond b 2 1) c.before.before.before.limit_value_at-x.result ≡ limit_in (numbers_at a.rows.now a.i)
 told c b q =
     let a = c.before.before.before.before.before.before.args in
     let e = numbers_at a.rows.now a.i in
-    ap (operand_in (cond b 2 1)) c.before.before.before.limit-value-at.ensures
-    ∙ sym (by_bit (limit_kind_in e) (Code.number e 2) b (λ z. c.before.if1.false (c.before.before.limit-kind-at.ensures ∙ z)) (sym q ∙ c.limit-is-expression.ensures))
+    ap (operand_in (cond b 2 1)) c.before.before.before.limit_value_at-x.ensures
+    ∙ sym (by_bit (limit_kind_in e) (Code.number e 2) b (λ z. c.before.if-limit_kind_at-eq-CONSTANT.false (c.before.before.limit_kind_at.ensures ∙ z)) (sym q ∙ c.limit_is_expression.ensures))
 
-readable : (c : tie.After-limit-is-expression) (b : Bool) → c.limit-is-expression.result ≡ b → let a = c.before.before.before.before.before.before.args in
-    Readable a.text.now (length a.store.now) (operand_in (cond b 2 1) c.before.before.before.limit-value-at.result)
+readable : (c : tie.After-limit_is_expression) (b : Bool) → c.limit_is_expression.result ≡ b → let a = c.before.before.before.before.before.before.args in
+    Readable a.text.now (length a.store.now) (operand_in (cond b 2 1) c.before.before.before.limit_value_at-x.result)
 readable c b q = let s = c.before.before.before.before.before.before in subst (Readable s.args.text.now (length s.args.store.now)) (sym (told c b q)) s.requires.limit
 
-returns : tie.Need-returns
+returns : tie.Need-returns-then-limit_kind_at-eq-CONSTANT
 unfolding value operated expr_of meaning
 returns c =
     let a = c.before.before.before.before.before.before.args in
     let e = numbers_at a.rows.now a.i in
     let z = c.constant in
-    let f : SFits w32 z.result = sfits_of z.type-inv in
-    let k = sym c.before.before.limit-kind-at.ensures ∙ c.before.if1.true in
+    let f : SFits w32 z.result = sfits_of z.type_inv in
+    let k = sym c.before.before.limit_kind_at.ensures ∙ c.before.if-limit_kind_at-eq-CONSTANT.true in
     let p = c.before.before.before.before.before.before.requires in
     rw (to_z-of_z f, to_z-of_z (sfits_widen {w' = w64} tt f))
     (record {
-      read = in_number z.result f ∙ ap number (z.ensures ∙ ap constant_in c.before.before.before.limit-value-at.ensures)
+      read = in_number z.result f ∙ ap number (z.ensures ∙ ap constant_in c.before.before.before.limit_value_at-x.ensures)
           ∙ sym (ap (λ n. value (expr_of a.text.now (operand_in n (Code.number e 2))) (store_of a.store.now)) k);
       still = kept_same p.long p.kept;
     })
 
 -- the loop's number, and what is kept for it
-kept-value-requires : tie.Need-kept-value-requires
+kept-value-requires : tie.Need-kept_value-requires
 kept-value-requires c κs =
     let s = c.before.before.before.before.before.before.before.before.before in
     let a = s.args in
     let n = numbers_at a.rows.now a.i in
     let d = c.before.before.before in
-    let t = told d true c.before.before.if2.true in
+    let t = told d true c.before.before.if-limit_is_expression.true in
     let e = c.before.loop_at.ensures in
     record {
-      limit = readable d true c.before.before.if2.true;
+      limit = readable d true c.before.before.if-limit_is_expression.true;
       loop = subst (λ k. k < 16) (sym e) s.requires.loop;
       long = s.requires.long;
       kept = subst (λ y. Keeps (expr_of a.text.now y) a.store.now (kept_of a.limits.now c.before.loop_at.result)) (sym t)
           (subst (λ k. Keeps (expr_of a.text.now (limit_in n)) a.store.now (kept_of a.limits.now k)) (sym e) s.requires.kept);
     }
 
-returns_2 : tie.Need-returns-2
+returns_2 : tie.Need-returns-then-limit_is_expression
 returns_2 c =
     let a = c.before.before.before.before.before.before.before.before.before.before.args in
-    let z = c.kept-value in
-    let f : SFits w64 z.result = sfits_of z.type-inv in
-    let t = told c.before.before.before.before true c.before.before.before.if2.true in
+    let z = c.kept_value in
+    let f : SFits w64 z.result = sfits_of z.type_inv in
+    let t = told c.before.before.before.before true c.before.before.before.if-limit_is_expression.true in
     rw (to_z-of_z f) (record {
       read = subst (λ x. ReadAs a.text.now a.store.now x z.result) t z.ensures.read;
       still = kept_as (ap (expr_of a.text.now) t) c.before.before.loop_at.ensures z.ensures.still;
     })
 
-returns_3 : tie.Need-returns-3
+returns_3 : tie.Need-returns
 returns_3 c =
     let s = c.before.before.before.before.before.before.before.before in
     let a = s.args in
-    let f : SFits w64 c.value_of_lem.result = sfits_of c.value_of_lem.type-inv in
+    let f : SFits w64 c.value_of_lem.result = sfits_of c.value_of_lem.type_inv in
     rw (to_z-of_z f) (record {
-      read = subst (λ x. ReadAs a.text.now a.store.now x c.value_of_lem.result) (told c.before.before false c.before.if2.false) c.value_of_lem.ensures;
+      read = subst (λ x. ReadAs a.text.now a.store.now x c.value_of_lem.result) (told c.before.before false c.before.if-limit_is_expression.false) c.value_of_lem.ensures;
       still = kept_same s.requires.long s.requires.kept;
     })
 
@@ -101,11 +101,11 @@ limit_of_spec =
     tie.close
     (tie.spec
     (λ c κs. c.before.before.requires.size) (λ c κs. c.before.before.before.requires.size) (λ c κs. search rules)
-    (λ c. let f : SFits w32 c.constant.result = sfits_of c.constant.type-inv in rw (to_z-of_z f) (sfits_widen tt f))
+    (λ c. let f : SFits w32 c.constant.result = sfits_of c.constant.type_inv in rw (to_z-of_z f) (sfits_widen tt f))
     returns
     (λ c κs. c.before.before.before.before.before.requires.size)
     (λ c κs. c.before.before.before.before.before.before.before.requires.size)
     kept-value-requires
     returns_2
-    (λ c κs. readable c.before false c.if2.false)
+    (λ c κs. readable c.before false c.if-limit_is_expression.false)
     returns_3)

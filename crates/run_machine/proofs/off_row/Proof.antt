@@ -19,8 +19,8 @@ returns : tie.Need-returns
 returns c =
     let a = c.before.before.before.before.before.before.before.args in
     let e = row_of a.rows.now a.m in
-    let z = c.before.before.before.before.held in
-    let f : SFits w64 z.result = sfits_of z.type-inv in
+    let z = c.before.before.before.before.held-z in
+    let f : SFits w64 z.result = sfits_of z.type_inv in
     λ picks d. put_plain a.prices a.store.now false refl c.before.before.before.variable_at.ensures refl (off (watched_in e) (comparison_by (comparison_in e)) (against_in e)) z.result _ (λ i w s. refl) z.ensures (simp (to_z-of_z f) at (c.before.put.ensures picks d))
 
 pub off_row_spec : {M : Type 1} → statement M

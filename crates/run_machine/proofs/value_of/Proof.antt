@@ -12,7 +12,7 @@ use borrow.Author.Rules.{rules, sfits_of}
 use Rattle.run_machine.proofs.value_of.Statement.{statement}
 use Rattle.run_machine.proofs.value_of.Tie as tie
 
-value-of-requires : tie.Need-value-of-requires
+value-of-requires : tie.Need-value_of-requires
 value-of-requires c κs =
     let s = c.before.before in
     let q = subst (Readable s.args.text.now (length s.args.store.now)) (sym c.operand.ensures) s.requires in
@@ -21,7 +21,7 @@ value-of-requires c κs =
 returns : tie.Need-returns
 returns c =
     let s = c.before.before.before in
-    let f : SFits w64 c.value_of_lem.result = sfits_of c.value_of_lem.type-inv in
+    let f : SFits w64 c.value_of_lem.result = sfits_of c.value_of_lem.type_inv in
     rw (to_z-of_z f) (c.value_of_lem.ensures ∙ ap (λ x. value (expr_of s.args.text.now x) (store_of s.args.store.now)) c.before.operand.ensures)
 
 pub value_of_spec : {M : Type 1} → statement M

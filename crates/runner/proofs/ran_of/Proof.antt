@@ -3,11 +3,11 @@ use borrow.Author.Rules.{rules}
 use Rattle.runner.proofs.ran_of.Statement.{statement}
 use Rattle.runner.proofs.ran_of.Tie as tie
 
-returns : tie.Need-returns
-returns c = rw c.before.enum_told.given.1
+returns : tie.Need-returns-in-Going
+returns c = rw c.before.enum_told-1.given.1
 
-returns_2 : tie.Need-returns-2
-returns_2 c = rw c.before.before.status.given.1
+returns_2 : tie.Need-returns-in-Over
+returns_2 c = rw c.before.before.status-1.given.1
 
 pub ran_of_spec : {M : Type 1} → statement M
 ran_of_spec = tie.close (tie.spec (λ c. search rules) (λ c. search rules) (λ c. search rules) (λ c. search rules) returns returns_2)

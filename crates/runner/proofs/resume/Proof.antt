@@ -11,4 +11,4 @@ resume_spec =
     (λ c. search rules)
     (λ c κs. c.before.before.before.before.before.before.requires)
     (λ c. search rules)
-    (λ c. c.before.before.before.go_on.ensures.run refl))
+    (λ c. c.before.before.before.go_on-stop.ensures.run refl))

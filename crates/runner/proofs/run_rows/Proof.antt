@@ -4,14 +4,14 @@ use Rattle.runner.proofs.Start.{ready, answers}
 use Rattle.runner.proofs.run_rows.Statement.{statement}
 use Rattle.runner.proofs.run_rows.Tie as tie
 
-resume-requires : tie.Need-resume-requires
+resume-requires : tie.Need-resume-end-requires
 resume-requires c κs = let p = c.before.before.before.before.before.requires in ready _ _ _ _ _ _ p.0 _ p.1
 
 returns : tie.Need-returns
 returns c =
     let p = c.before.before.before.before.before.before.before.before.requires in
-    let e = c.before.before.resume in
-    rw c.ran-of.ensures (answers _ _ _ _ _ _ p.0 _ p.1 e.result _ _ (search rules) e.ensures)
+    let e = c.before.before.resume-end in
+    rw c.ran_of.ensures (answers _ _ _ _ _ _ p.0 _ p.1 e.result _ _ (search rules) e.ensures)
 
 pub run_rows_spec : {M : Type 1} → statement M
 run_rows_spec = tie.close (tie.spec resume-requires (λ c κs. search rules) (λ c. search rules) returns)

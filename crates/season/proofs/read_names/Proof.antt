@@ -5,19 +5,19 @@ use Rattle.season.specs.Listed.{Listed}
 use Rattle.season.proofs.read_names.Statement.{statement}
 use Rattle.season.proofs.read_names.Tie as tie
 
-abbrev invariant-loop : tie.invariant-loop
-invariant-loop names₀ lengths₀ line₀ more₀ failed₀ turns₀ names lengths line more failed turns = Listed line names lengths
+abbrev invariant-loop-turns : tie.invariant-loop-turns
+invariant-loop-turns names₀ lengths₀ line₀ more₀ failed₀ turns₀ names lengths line more failed turns = Listed line names lengths
 
-abbrev decreases-loop : tie.decreases-loop
-decreases-loop names₀ lengths₀ line₀ more₀ failed₀ turns₀ names lengths line more failed turns = turns
+abbrev decreases-loop-turns : tie.decreases-loop-turns
+decreases-loop-turns names₀ lengths₀ line₀ more₀ failed₀ turns₀ names lengths line more failed turns = turns
 
 pub read_names_spec : {M : Type 1} → statement M
 read_names_spec = tie.close (tie.spec
-    invariant-loop
-    decreases-loop
+    invariant-loop-turns
+    decreases-loop-turns
     (λ c κs. search rules)
-    (λ c. ([], c.start.ensures))
+    (λ c. ([], c.start-line.ensures))
     (λ c κs. search rules) (λ c. search rules) (λ c. search rules)
-    (λ c. c.read-block.ensures c.before.before.before.before.before.loop.invariant)
-    (λ c. c.before.before.loop.invariant)
-    (λ c. c.before.loop.invariant))
+    (λ c. c.read_block-list.ensures c.before.before.before.before.before.loop-turns.invariant)
+    (λ c. c.before.before.loop-turns.invariant)
+    (λ c. c.before.loop-turns.invariant))

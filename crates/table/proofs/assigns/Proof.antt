@@ -9,8 +9,8 @@ use mathlib.Core.Path.{refl, ap}
 use Rattle.table.proofs.assigns.Statement.{statement}
 use Rattle.table.proofs.assigns.Tie as tie
 
-returns-5 : tie.Need-returns-5
-returns-5 c = λ text w. rw (kind_is _ _ c.before.before.before.requires c.before.tag_at.ensures refl) (not_assigned text _ _ c.match.keys5 w)
+returns-5 : tie.Need-returns-in_default
+returns-5 c = λ text w. rw (kind_is _ _ c.before.before.before.requires c.before.tag_at.ensures refl) (not_assigned text _ _ c.in_default.keys5 w)
 
 pub assigns_spec : {M : Type 1} → statement M
 unfolding kind_by view_of kind_of sets
@@ -18,8 +18,8 @@ assigns_spec =
     tie.close
     (tie.spec
     (λ c κs. search rules) (λ c. search rules) (λ c. search rules) (λ c. search rules) (λ c. search rules)
-    (λ c. λ text w. ap (λ k. sets w (plain_of text k)) (kind_is c.before.before.before.before.args.rows.now c.before.before.before.before.args.i c.before.before.before.before.requires c.before.before.tag_at.ensures c.enum_told.given.1))
-    (λ c. λ text w. ap (λ k. sets w (plain_of text k)) (kind_is c.before.before.before.before.args.rows.now c.before.before.before.before.args.i c.before.before.before.before.requires c.before.before.tag_at.ensures c.enum-told2.given.1))
-    (λ c. λ text w. ap (λ k. sets w (plain_of text k)) (kind_is c.before.before.before.before.args.rows.now c.before.before.before.before.args.i c.before.before.before.before.requires c.before.before.tag_at.ensures c.enum-told3.given.1))
-    (λ c. λ text w. ap (λ k. sets w (plain_of text k)) (kind_is c.before.before.before.before.args.rows.now c.before.before.before.before.args.i c.before.before.before.before.requires c.before.before.tag_at.ensures c.enum-told4.given.1))
+    (λ c. λ text w. ap (λ k. sets w (plain_of text k)) (kind_is c.before.before.before.before.args.rows.now c.before.before.before.before.args.i c.before.before.before.before.requires c.before.before.tag_at.ensures c.enum_told-1.given.1))
+    (λ c. λ text w. ap (λ k. sets w (plain_of text k)) (kind_is c.before.before.before.before.args.rows.now c.before.before.before.before.args.i c.before.before.before.before.requires c.before.before.tag_at.ensures c.enum_told-in-Move-1.given.1))
+    (λ c. λ text w. ap (λ k. sets w (plain_of text k)) (kind_is c.before.before.before.before.args.rows.now c.before.before.before.before.args.i c.before.before.before.before.requires c.before.before.tag_at.ensures c.enum_told-in-For-1.given.1))
+    (λ c. λ text w. ap (λ k. sets w (plain_of text k)) (kind_is c.before.before.before.before.args.rows.now c.before.before.before.before.args.i c.before.before.before.before.requires c.before.before.tag_at.ensures c.enum_told-in-Off-1.given.1))
     returns-5)

@@ -8,7 +8,7 @@ change_code_spec =
     tie.close
     (tie.spec
     (λ c. search rules) (λ c. search rules) (λ c. search rules) (λ c. search rules)
-    (λ c. record { same = rw c.before.d.given.1; small = omega arith })
-    (λ c. record { same = rw c.before.d2.given.1; small = omega arith })
-    (λ c. record { same = rw c.before.d3.given.1; small = omega arith })
-    (λ c. record { same = rw c.before.d4.given.1; small = omega arith }))
+    (λ c. record { same = rw c.before.d-1.given.1; small = omega arith })
+    (λ c. record { same = rw c.before.d-in-Sub-1.given.1; small = omega arith })
+    (λ c. record { same = rw c.before.d-in-Mul-1.given.1; small = omega arith })
+    (λ c. record { same = rw c.before.d-in-Div-1.given.1; small = omega arith }))

@@ -16,10 +16,10 @@ narrow x h = omega (ints, minus_parts (pos x) (pos 2_147_483_648))
 wide : (x : ℕ) → x < 4_294_967_296 → Unshifted 2_147_483_648 x
 wide x h = unshifted _ _ (omega ints) (omega ints)
 
-sub-result : tie.Need-overflow-sub-result
+sub-result : tie.Need-overflow_sub-result
 sub-result c = let h = wide c.args.x (search rules) in simp (to_z-of_z h.wide) h.less
 
-cast-result-2 : tie.Need-overflow-cast-result-2
+cast-result-2 : tie.Need-overflow_cast-result-2
 cast-result-2 c = let h = wide c.args.x (search rules) in simp (to_z-of_z h.wide, to_z-of_z h.less) (narrow c.args.x (search rules))
 
 returns : tie.Need-returns

@@ -11,16 +11,16 @@ use Rattle.table.proofs.Laws.{not_loop}
 use Rattle.table.proofs.end_op.Statement.{statement}
 use Rattle.table.proofs.end_op.Tie as tie
 
-abbrev head : tie.After-tag-at → List ℕ
+abbrev head : tie.After-tag_at → List ℕ
 head c = let s = c.before.before in numbers_at s.args.rows.now s.args.h
 
 -- the op by the head's tag
-is : (c : tie.After-tag-at) {g : Tag} → c.tag_at.result ≡ g → (text : List ℕ) → end_op (view_of (kind_of text (kind_by g (head c)))) ≡ end_op (view_of (kind_of text (kind_in (head c))))
+is : (c : tie.After-tag_at) {g : Tag} → c.tag_at.result ≡ g → (text : List ℕ) → end_op (view_of (kind_of text (kind_by g (head c)))) ≡ end_op (view_of (kind_of text (kind_in (head c))))
 unfolding kind_in
 is c q text = ap (λ g. end_op (view_of (kind_of text (kind_by g (head c))))) (sym q ∙ c.tag_at.ensures)
 
-returns-5 : tie.Need-returns-5
-returns-5 c = λ text. sym (not_loop text c.before.tag_at.result (head c.before) c.match.keys5) ∙ is c.before refl text
+returns-5 : tie.Need-returns-in_default
+returns-5 c = λ text. sym (not_loop text c.before.tag_at.result (head c.before) c.in_default.keys5) ∙ is c.before refl text
 
 pub end_op_spec : {M : Type 1} → statement M
 unfolding kind_by view_of kind_of
@@ -28,8 +28,8 @@ end_op_spec =
     tie.close
     (tie.spec
     (λ c κs. search rules) (λ c. search rules) (λ c. search rules) (λ c. search rules) (λ c. search rules)
-    (λ c. is c.before.before c.enum_told.given.1)
-    (λ c. is c.before.before c.enum-told2.given.1)
-    (λ c. is c.before.before c.enum-told3.given.1)
-    (λ c. is c.before.before c.enum-told4.given.1)
+    (λ c. is c.before.before c.enum_told-1.given.1)
+    (λ c. is c.before.before c.enum_told-in-Do-1.given.1)
+    (λ c. is c.before.before c.enum_told-in-Hold-1.given.1)
+    (λ c. is c.before.before c.enum_told-in-For-1.given.1)
     returns-5)

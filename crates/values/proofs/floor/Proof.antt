@@ -29,31 +29,31 @@ below z k f h =
     let one = lone y in
     record { more = omega ints; cut = omega ints; less = omega (ints, minus_parts (quot_z y (pos k)) (pos 1)) }
 
-cast-d : tie.Need-overflow-cast-d
+cast-d : tie.Need-overflow_cast-d
 cast-d c = search rules
 
 -- the test
-negative : (c : tie.Then1) → c.before.args.z <ℤ pos 0
-negative c = let f = c.before.ranges.z in let t = simp to_z-of_z at c.if1.true in omega ints
+negative : (c : tie.Then-z-lt0) → c.before.args.z <ℤ pos 0
+negative c = let f = c.before.ranges.z in let t = simp to_z-of_z at c.if-z-lt0.true in omega ints
 
-add_result : tie.Need-overflow-add-result
+add_result : tie.Need-overflow_add-result
 add_result c = let f = c.before.ranges.z in let b = below _ c.before.args.k f (negative c) in simp (to_z-of_z f) b.more
 
-div-result : tie.Need-nonzero-div-result
+div-result : tie.Need-nonzero_div-result
 div-result c =
     let f = c.before.ranges.z in
     let b = below _ c.before.args.k f (negative c) in
     let d = divisor _ c.before.requires.1 in
     (c.before.requires.0, simp (to_z-of_z f, to_z-of_z b.more, to_z-of_z d) b.cut)
 
-sub-result : tie.Need-overflow-sub-result
+sub-result : tie.Need-overflow_sub-result
 sub-result c =
     let f = c.before.ranges.z in
     let b = below _ c.before.args.k f (negative c) in
     let d = divisor _ c.before.requires.1 in
     simp (to_z-of_z f, to_z-of_z b.more, to_z-of_z d, to_z-of_z b.cut) b.less
 
-returns : tie.Need-returns
+returns : tie.Need-returns-then-z-lt0
 returns c =
     let f = c.before.ranges.z in
     let b = below _ c.before.args.k f (negative c) in
@@ -61,19 +61,19 @@ returns c =
     simp (to_z-of_z f, to_z-of_z b.more, to_z-of_z d, to_z-of_z b.cut, to_z-of_z b.less) (floor_cut_below _ _ (negative c))
 
 -- not below 0
-upward : (c : tie.Else1) → pos 0 ≤ℤ c.before.args.z
-upward c = let f = c.before.ranges.z in let t = simp to_z-of_z at c.if1.false in omega ints
+upward : (c : tie.Else-z-lt0) → pos 0 ≤ℤ c.before.args.z
+upward c = let f = c.before.ranges.z in let t = simp to_z-of_z at c.if-z-lt0.false in omega ints
 
 quotient : (z : ℤ) (k : ℕ) → SFits w64 z → pos 0 ≤ℤ z → SFits w64 (quot_z z (pos k))
 quotient z k f h = let b = sfits_both f in omega (ints, quot_near z k)
 
-div-result-2 : tie.Need-nonzero-div-result-2
+div-result-2 : tie.Need-nonzero_div-result-2
 div-result-2 c =
     let f = c.before.ranges.z in
     let d = divisor _ c.before.requires.1 in
     (c.before.requires.0, simp (to_z-of_z f, to_z-of_z d) (quotient _ c.before.args.k f (upward c)))
 
-returns_2 : tie.Need-returns-2
+returns_2 : tie.Need-returns
 returns_2 c =
     let f = c.before.ranges.z in
     let d = divisor _ c.before.requires.1 in

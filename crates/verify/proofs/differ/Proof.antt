@@ -5,13 +5,13 @@ use lib.ListN.{length}
 use Rattle.verify.proofs.differ.Statement.{statement}
 use Rattle.verify.proofs.differ.Tie as tie
 
-abbrev invariant-loop : tie.invariant-loop
-invariant-loop here there both p₀ p = (p.at ≤ both) × (p.line ≤ p.at + 1) × (p.start ≤ p.at) × (both ≤ length here) × (both ≤ length there)
+abbrev invariant-loop-p : tie.invariant-loop-p
+invariant-loop-p here there both p₀ p = (p.at ≤ both) × (p.line ≤ p.at + 1) × (p.start ≤ p.at) × (both ≤ length here) × (both ≤ length there)
 
-abbrev decreases-loop : tie.decreases-loop
-decreases-loop here there both p₀ p = both - p.at
+abbrev decreases-loop-p : tie.decreases-loop-p
+decreases-loop-p here there both p₀ p = both - p.at
 
 pub differ_spec : {M : Type 1} → statement M
 differ_spec = tie.close (tie.spec
-    invariant-loop decreases-loop (λ c κs. search rules) (λ c. search rules) (λ c. search rules) (λ c. search rules) (λ c. search rules)
+    invariant-loop-p decreases-loop-p (λ c κs. search rules) (λ c. search rules) (λ c. search rules) (λ c. search rules) (λ c. search rules)
     (λ c. search rules) (λ c κs. search rules) (λ c. search rules) (λ c. search rules) (λ c. search rules))

@@ -8,12 +8,12 @@ use Rattle.answer_text.proofs.ReportsLaws.{printed_front}
 use Rattle.verify.proofs.verify_report.Statement.{statement}
 use Rattle.verify.proofs.verify_report.Tie as tie
 
-slice-aggregate-compare : tie.Need-slice-aggregate-compare
-slice-aggregate-compare c = sym (length-take-le _ _ (omega (arith, c.before.before.put-report.ensures.short)))
+slice-aggregate-compare : tie.Need-slice_bounds-compare-end
+slice-aggregate-compare c = sym (length-take-le _ _ (omega (arith, c.before.before.put_report-n.ensures.short)))
 
 compare-requires : tie.Need-compare-requires
 compare-requires c κs =
-    let e = c.before.before.put-report.ensures in
+    let e = c.before.before.put_report-n.ensures in
     omega (arith, ap length (printed_front _ _ _ _ e), e.wrote.count, e.short)
 
 pub verify_report_spec : {M : Type 1} → statement M

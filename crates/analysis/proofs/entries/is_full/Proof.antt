@@ -8,20 +8,20 @@ use Rattle.ints.proofs.Parts.{eq_z_yes, eq_z_no, eq_test}
 use Rattle.analysis.proofs.entries.is_full.Statement.{statement}
 use Rattle.analysis.proofs.entries.is_full.Tie as tie
 
-returns : tie.Need-returns
+returns : tie.Need-returns-then-lo
 unfolding lowest highest
 returns c =
     let s = c.before.before.before.args.s in
     let fa : SFits w32 s.lo = search rules in
     let fb : SFits w32 s.hi = search rules in
-    rw (eq_z_yes s.lo lowest fa (sfits_lit tt) c.if1.true) (eq_test fb (sfits_lit tt))
+    rw (eq_z_yes s.lo lowest fa (sfits_lit tt) c.if-lo.true) (eq_test fb (sfits_lit tt))
 
-returns_2 : tie.Need-returns-2
+returns_2 : tie.Need-returns-else-lo
 unfolding lowest highest
 returns_2 c =
     let s = c.before.before.before.args.s in
     let fa : SFits w32 s.lo = search rules in
-    rw (eq_z_no s.lo lowest fa (sfits_lit tt) c.if1.false)
+    rw (eq_z_no s.lo lowest fa (sfits_lit tt) c.if-lo.false)
 
 pub is_full_spec : {M : Type 1} → statement M
 is_full_spec = tie.close (tie.spec returns returns_2)

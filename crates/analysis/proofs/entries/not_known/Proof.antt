@@ -10,49 +10,49 @@ use Rattle.analysis.proofs.Bits.{bit_small, bit_none, bit_more, known_none, know
 use Rattle.analysis.proofs.entries.not_known.Statement.{statement}
 use Rattle.analysis.proofs.entries.not_known.Tie as tie
 
-abbrev invariant-loop : tie.invariant-loop
-invariant-loop r sum₀ bit₀ v₀ sum bit v = (v ≤ 16) × (bit ≡ bit_of v) × (sum ≡ not_known v (env_of r)) × (sum < bit)
+abbrev invariant-loop-v : tie.invariant-loop-v
+invariant-loop-v r sum₀ bit₀ v₀ sum bit v = (v ≤ 16) × (bit ≡ bit_of v) × (sum ≡ not_known v (env_of r)) × (sum < bit)
 
-abbrev decreases-loop : tie.decreases-loop
-decreases-loop r sum₀ bit₀ v₀ sum bit v = 16 - v
+abbrev decreases-loop-v : tie.decreases-loop-v
+decreases-loop-v r sum₀ bit₀ v₀ sum bit v = 16 - v
 
-loop_holds : tie.Need-loop-init invariant-loop decreases-loop
+loop_holds : tie.Need-loop-v-init invariant-loop-v decreases-loop-v
 loop_holds c = (omega arith, bit_none, known_none _, omega arith)
 
 -- what is added is at most the bit, and the bit is small
-bounds : (c : tie.After-part-of invariant-loop decreases-loop) → (c.part_of.result ≤ c.before.before.before.before.loop.bit) × (c.before.before.before.before.loop.bit ≤ 65_536) × (c.before.before.before.before.loop.sum < c.before.before.before.before.loop.bit)
+bounds : (c : tie.After-part_of-sum invariant-loop-v decreases-loop-v) → (c.part_of-sum.result ≤ c.before.before.before.before.loop-v.bit) × (c.before.before.before.before.loop-v.bit ≤ 65_536) × (c.before.before.before.before.loop-v.sum < c.before.before.before.before.loop-v.bit)
 bounds c =
-    let l = c.before.before.before.before.loop in
-    (omega (arith, c.part_of.ensures, part_small c.before.is-full.result l.bit), omega (arith, l.invariant.1, bit_small l.v l.invariant.0), l.invariant.3)
+    let l = c.before.before.before.before.loop-v in
+    (omega (arith, c.part_of-sum.ensures, part_small c.before.is_full.result l.bit), omega (arith, l.invariant.1, bit_small l.v l.invariant.0), l.invariant.3)
 
-add-sum : tie.Need-overflow-add-sum invariant-loop decreases-loop
+add-sum : tie.Need-overflow_add-sum invariant-loop-v decreases-loop-v
 add-sum c = let h = bounds c in omega arith
 
-mul-bit : tie.Need-overflow-mul-bit invariant-loop decreases-loop
+mul-bit : tie.Need-overflow_mul-bit invariant-loop-v decreases-loop-v
 mul-bit c = let h = bounds c in omega arith
 
-loop_again : tie.Need-loop-preserved invariant-loop decreases-loop
+loop_again : tie.Need-loop-v-preserved invariant-loop-v decreases-loop-v
 loop_again c =
-    let l = c.before.before.before.before.loop in
+    let l = c.before.before.before.before.loop-v in
     let ρ = env_of c.before.before.before.before.before.args.r.now in
     let h = bounds c in
-    let t = c.before.before.before.loop-test.true in
-    let full : c.before.is-full.result ≡ is_full (ρ l.v) = c.before.is-full.ensures ∙ ap is_full c.before.before.interval-at.ensures in
-    let part : c.part_of.result ≡ cond (is_full (ρ l.v)) (bit_of l.v) 0 = c.part_of.ensures ∙ (λ j. cond (full j) (l.invariant.1 j) 0) in
+    let t = c.before.before.before.loop-v-test.true in
+    let full : c.before.is_full.result ≡ is_full (ρ l.v) = c.before.is_full.ensures ∙ ap is_full c.before.before.interval_at-s.ensures in
+    let part : c.part_of-sum.result ≡ cond (is_full (ρ l.v)) (bit_of l.v) 0 = c.part_of-sum.ensures ∙ (λ j. cond (full j) (l.invariant.1 j) 0) in
     (omega arith, omega (arith, l.invariant.1, bit_more l.v), omega (arith, l.invariant.2, part, known_more l.v ρ), omega arith)
 
-returns : tie.Need-returns invariant-loop decreases-loop
+returns : tie.Need-returns invariant-loop-v decreases-loop-v
 returns c =
-    let l = c.before.loop in
-    let e : l.v ≡ 16 = omega (arith, c.loop-test.false, l.invariant.0) in
+    let l = c.before.loop-v in
+    let e : l.v ≡ 16 = omega (arith, c.loop-v-test.false, l.invariant.0) in
     l.invariant.2 ∙ ap (λ n. not_known n (env_of c.before.before.args.r.now)) e
 
 pub not_known_spec : {M : Type 1} → statement M
 not_known_spec =
     tie.close
     (tie.spec
-    invariant-loop
-    decreases-loop
+    invariant-loop-v
+    decreases-loop-v
     loop_holds
     (λ c κs. search rules) (λ c κs. search rules) (λ c κs. search rules)
     add-sum

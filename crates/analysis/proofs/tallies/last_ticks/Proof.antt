@@ -9,12 +9,12 @@ use Rattle.analysis.proofs.Laws.{no_last}
 use Rattle.analysis.proofs.tallies.last_ticks.Statement.{statement}
 use Rattle.analysis.proofs.tallies.last_ticks.Tie as tie
 
-returns : tie.Need-returns
+returns : tie.Need-returns-in-For
 unfolding head_of view_of kind_of price
-returns c = λ text. sym (ap (last_ticks text c.before.before.args.prices) c.enum_told.given.1)
+returns c = λ text. sym (ap (last_ticks text c.before.before.args.prices) c.enum_told-1.given.1)
 
-returns_2 : tie.Need-returns-2
-returns_2 c = λ text. no_last text c.before.args.prices c.before.args.kind c.match.keys2
+returns_2 : tie.Need-returns-in_default
+returns_2 c = λ text. no_last text c.before.args.prices c.before.args.kind c.in_default.keys2
 
 pub last_ticks_spec : {M : Type 1} → statement M
 last_ticks_spec = tie.close (tie.spec (λ c. search rules) returns returns_2)

@@ -9,33 +9,33 @@ use Rattle.rules.specs.Ranges.{suits}
 use Rattle.analysis_intervals.proofs.comparisons.suits.Statement.{statement}
 use Rattle.analysis_intervals.proofs.comparisons.suits.Tie as tie
 
-returns : tie.Need-returns
+returns : tie.Need-returns-then-up
 returns c =
-    let fa : SFits w64 c.before.before.step.given.0.0 = sfits_of c.before.known-told.given.0.1 in
-    let u = sym c.before.before.before.before.before.rises.ensures ∙ c.if1.true in
-    rw c.before.before.step.given.1 (simp (to_z-of_z fa) (suits_up _ _ _ u))
+    let fa : SFits w64 c.before.before.step-1.given.0.0 = sfits_of c.before.known_told-1.given.0.1 in
+    let u = sym c.before.before.before.before.before.rises-up.ensures ∙ c.if-up.true in
+    rw c.before.before.step-1.given.1 (simp (to_z-of_z fa) (suits_up _ _ _ u))
 
-returns_2 : tie.Need-returns-2
+returns_2 : tie.Need-returns-then-down
 returns_2 c =
-    let fb : SFits w64 c.before.before.before.step.given.0.1.0 = sfits_of c.before.before.known-told.given.1.0.1 in
-    let d = sym c.before.before.before.before.before.falls.ensures ∙ c.if2.true in
-    rw c.before.before.before.step.given.1 (simp (to_z-of_z fb) (suits_down _ _ _ d))
+    let fb : SFits w64 c.before.before.before.step-1.given.0.1.0 = sfits_of c.before.before.known_told-1.given.1.0.1 in
+    let d = sym c.before.before.before.before.before.falls-down.ensures ∙ c.if-down.true in
+    rw c.before.before.before.step-1.given.1 (simp (to_z-of_z fb) (suits_down _ _ _ d))
 
-returns_3 : tie.Need-returns-3
+returns_3 : tie.Need-returns-else-down
 returns_3 c =
-    let u = sym c.before.before.before.before.before.before.rises.ensures ∙ c.before.if1.false in
-    let d = sym c.before.before.before.before.before.falls.ensures ∙ c.if2.false in
-    rw c.before.before.before.step.given.1 (suits_other _ _ _ u d)
+    let u = sym c.before.before.before.before.before.before.rises-up.ensures ∙ c.before.if-up.false in
+    let d = sym c.before.before.before.before.before.falls-down.ensures ∙ c.if-down.false in
+    rw c.before.before.before.step-1.given.1 (suits_other _ _ _ u d)
 
-returns-4 : tie.Need-returns-4
-returns-4 c = rw c.enum_told.given.1 (c.before.before.before.rises.ensures ∙ suits_grow _ _ _)
+returns-4 : tie.Need-returns-in-Grow
+returns-4 c = rw c.enum_told-1.given.1 (c.before.before.before.rises-up.ensures ∙ suits_grow _ _ _)
 
-returns-5 : tie.Need-returns-5
-returns-5 c = rw c.enum-told2.given.1 (c.before.before.falls.ensures ∙ suits_shrink _ _ _)
+returns-5 : tie.Need-returns-in-Shrink
+returns-5 c = rw c.enum_told-in-Shrink-1.given.1 (c.before.before.falls-down.ensures ∙ suits_shrink _ _ _)
 
-returns-6 : tie.Need-returns-6
+returns-6 : tie.Need-returns-in-Unknown
 unfolding suits
-returns-6 c = rw c.enum-told3.given.1
+returns-6 c = rw c.enum_told-in-Unknown-1.given.1
 
 pub suits_spec : {M : Type 1} → statement M
 suits_spec =

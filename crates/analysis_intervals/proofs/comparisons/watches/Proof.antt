@@ -11,7 +11,7 @@ use Rattle.analysis_intervals.proofs.comparisons.watches.Tie as tie
 returns : tie.Need-returns
 returns c =
     let a = c.before.before.before.before.before.before.before.before.args in
-    rw (c.both4.ensures, c.before.before.before.both2.ensures, c.before.both3.ensures, c.before.before.ordered.ensures, c.before.before.before.before.both.ensures, c.before.before.before.before.before.suits.ensures, c.before.before.before.before.before.before.is-add.ensures, c.before.before.before.before.before.before.before.opposite.ensures)
+    rw (c.both-3.ensures, c.before.before.before.both.ensures, c.before.both-2.ensures, c.before.before.ordered.ensures, c.before.before.before.before.both-fits.ensures, c.before.before.before.before.before.suits.ensures, c.before.before.before.before.before.before.is_add.ensures, c.before.before.before.before.before.before.before.opposite-against.ensures)
     (ap (λ z. not (a.before && a.after) && z) (toward_parts a.step (sort (opposite a.comparison))))
 
 pub watches_spec : {M : Type 1} → statement M

@@ -19,15 +19,15 @@ answer : (c : tie.After-copies) → let a = c.before.before.before.args in (text
     cond c.copies.result (copied a.w a.before) own ≡ cond (not (a.before && a.after) && (is_add st && (moving st && ordered (sort a.comparison)))) (copied a.w a.before) own
 answer c text l =
     let a = c.before.before.before.args in
-    ap (λ t. cond t (copied a.w a.before) own) (c.copies.ensures ∙ ap (λ st. not (a.before && a.after) && (is_add st && (moving st && ordered (sort a.comparison)))) (c.before.body-moves.ensures text l).moves)
+    ap (λ t. cond t (copied a.w a.before) own) (c.copies.ensures ∙ ap (λ st. not (a.before && a.after) && (is_add st && (moving st && ordered (sort a.comparison)))) (c.before.body_moves-body.ensures text l).moves)
 
-returns : tie.Need-returns
+returns : tie.Need-returns-then-copies
 returns c = λ text l.
-    let b = c.before.before.body-moves.ensures text l in
-    record { value = sym (rw c.if1.true) ∙ answer c.before text l; small = c.before.before.before.before.requires.1; moves = (b.moves, ends_more 256 512 (omega arith) c.before.before.body-moves.result.step b.near) }
+    let b = c.before.before.body_moves-body.ensures text l in
+    record { value = sym (rw c.if-copies.true) ∙ answer c.before text l; small = c.before.before.before.before.requires.1; moves = (b.moves, ends_more 256 512 (omega arith) c.before.before.body_moves-body.result.step b.near) }
 
-returns_2 : tie.Need-returns-2
-returns_2 c = λ text l. record { value = sym (rw c.if1.false) ∙ answer c.before text l; small = tt; moves = tt }
+returns_2 : tie.Need-returns
+returns_2 c = λ text l. record { value = sym (rw c.if-copies.false) ∙ answer c.before text l; small = tt; moves = tt }
 
 pub copied_way_spec : {M : Type 1} → statement M
 copied_way_spec = tie.close (tie.spec (λ c κs. search rules) (λ c κs. search rules) returns returns_2)

@@ -6,12 +6,12 @@ use Rattle.analysis_loops.proofs.Heads.{not_held}
 use Rattle.analysis_loops.proofs.ways.is_hold.Statement.{statement}
 use Rattle.analysis_loops.proofs.ways.is_hold.Tie as tie
 
-returns : tie.Need-returns
+returns : tie.Need-returns-in-Hold
 unfolding head_of view_of kind_of
-returns c = λ text. rw c.enum_told.given.1
+returns c = λ text. rw c.enum_told-1.given.1
 
-returns_2 : tie.Need-returns-2
-returns_2 c = λ text. not_held text c.before.args.kind c.match.keys2
+returns_2 : tie.Need-returns-in_default
+returns_2 c = λ text. not_held text c.before.args.kind c.in_default.keys2
 
 pub is_hold_spec : {M : Type 1} → statement M
 is_hold_spec = tie.close (tie.spec (λ c. search rules) returns returns_2)

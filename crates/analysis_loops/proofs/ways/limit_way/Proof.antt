@@ -26,15 +26,15 @@ not_kept_lem body {w} e h = by (assigns w body) (rw e at h)
     by true h = refl
     by false h = sym h
 
-head-of-requires : tie.Need-head-of-requires
-head-of-requires c κs = let (text, p) = c.before.before.requires in rw c.kind_at.ensures (p.loop.ready.fine _ p.loop.inside)
+head-of-requires : tie.Need-head_of-head-requires
+head-of-requires c κs = let (text, p) = c.before.before.requires in rw c.kind_at-kind.ensures (p.loop.ready.fine _ p.loop.inside)
 
 -- the limit is the variable w
-chased : (c : tie.After-limit) → let s = c.before.before.before.before.before.args in let rows = rows_of s.rows.now in (text : List ℕ) → LimitAt text rows s.count s.i s.step → ChaseAt text rows s.count s.i c.before.before.head_of.result s.step c.limit.given.0.0
+chased : (c : tie.In-Variable-2) → let s = c.before.before.before.before.before.args in let rows = rows_of s.rows.now in (text : List ℕ) → LimitAt text rows s.count s.i s.step → ChaseAt text rows s.count s.i c.before.before.head_of-head.result s.step c.limit-1.given.0.0
 unfolding expr_of
 chased c text p =
-    let h = rw c.before.before.before.kind_at.ensures at (c.before.before.head_of.ensures text) in
-    let e = sym h.limit ∙ ap (expr_of text) c.limit.given.1 in
+    let h = rw c.before.before.before.kind_at-kind.ensures at (c.before.before.head_of-head.ensures text) in
+    let e = sym h.limit ∙ ap (expr_of text) c.limit-1.given.1 in
     record {
       loop = p.loop;
       form = p.form;
@@ -42,26 +42,26 @@ chased c text p =
       own = p.own;
       near = p.near;
       sure = p.sure;
-      small = rw c.limit.given.1 at h.fine;
+      small = rw c.limit-1.given.1 at h.fine;
       limit = e;
       changed = not_kept_lem _ e p.changed;
     }
 
-chased-way-requires : tie.Need-chased-way-requires
+chased-way-requires : tie.Need-chased_way-requires
 chased-way-requires c κs = let (text, p) = c.before.before.before.before.before.before.requires in (text, chased c.before text p)
 
-returns : tie.Need-returns
+returns : tie.Need-returns-in-Constant
 unfolding expr_of
 returns c = λ text p.
-    let h = rw c.before.before.before.kind_at.ensures at (c.before.before.head_of.ensures text) in
-    record { value = constant_way _ _ _ p.form (ap known (sym p.own) ∙ p.sure) (sym h.limit ∙ ap (expr_of text) c.enum_told.given.1); small = tt; moves = tt }
+    let h = rw c.before.before.before.kind_at-kind.ensures at (c.before.before.head_of-head.ensures text) in
+    record { value = constant_way _ _ _ p.form (ap known (sym p.own) ∙ p.sure) (sym h.limit ∙ ap (expr_of text) c.enum_told-1.given.1); small = tt; moves = tt }
 
-returns_3 : tie.Need-returns-3
+returns_3 : tie.Need-returns-in-Expression
 unfolding expr_of
 returns_3 c = λ text p.
-    let h = rw c.before.before.before.kind_at.ensures at (c.before.before.head_of.ensures text) in
-    let w = subst (WrittenOperand text) c.enum-told2.given.1 (h.written (p.loop.ready.written _ p.loop.inside)) in
-    record { value = composed_way _ _ _ p.form (ap known (sym p.own) ∙ p.sure) (ap (expr_of text) (sym c.enum-told2.given.1) ∙ h.limit) w.composed; small = tt; moves = tt }
+    let h = rw c.before.before.before.kind_at-kind.ensures at (c.before.before.head_of-head.ensures text) in
+    let w = subst (WrittenOperand text) c.enum_told-in-Expression-1.given.1 (h.written (p.loop.ready.written _ p.loop.inside)) in
+    record { value = composed_way _ _ _ p.form (ap known (sym p.own) ∙ p.sure) (ap (expr_of text) (sym c.enum_told-in-Expression-1.given.1) ∙ h.limit) w.composed; small = tt; moves = tt }
 
 pub limit_way_spec : {M : Type 1} → statement M
 limit_way_spec =
@@ -73,5 +73,5 @@ limit_way_spec =
     chased-way-requires
     (λ c. search rules)
     returns
-    (λ c. λ text p. c.chased-way.ensures text (chased c.before.before text p))
+    (λ c. λ text p. c.chased_way.ensures text (chased c.before.before text p))
     returns_3)

@@ -21,15 +21,15 @@ answer : (c : tie.After-watches) → let a = c.before.before.before.args in (tex
     cond c.watches.result (watched a.w a.comparison a.k a.before) broken ≡ cond (not (a.before && a.after) && toward st (sort (opposite a.comparison))) (watched a.w a.comparison a.k a.before) broken
 answer c text l =
     let a = c.before.before.before.args in
-    ap (λ t. cond t (watched a.w a.comparison a.k a.before) broken) (c.watches.ensures ∙ ap (λ st. not (a.before && a.after) && toward st (sort (opposite a.comparison))) (c.before.body-moves.ensures text l).moves)
+    ap (λ t. cond t (watched a.w a.comparison a.k a.before) broken) (c.watches.ensures ∙ ap (λ st. not (a.before && a.after) && toward st (sort (opposite a.comparison))) (c.before.body_moves-body.ensures text l).moves)
 
-returns : tie.Need-returns
+returns : tie.Need-returns-then-watches
 returns c = λ text l.
-    let b = c.before.before.body-moves.ensures text l in
-    record { value = simp (to_z-of_z c.before.before.before.before.ranges.k) (sym (rw c.if1.true) ∙ answer c.before text l); small = c.before.before.before.before.requires.1; moves = (b.moves, ends_more 256 512 (omega arith) c.before.before.body-moves.result.step b.near) }
+    let b = c.before.before.body_moves-body.ensures text l in
+    record { value = simp (to_z-of_z c.before.before.before.before.ranges.k) (sym (rw c.if-watches.true) ∙ answer c.before text l); small = c.before.before.before.before.requires.1; moves = (b.moves, ends_more 256 512 (omega arith) c.before.before.body_moves-body.result.step b.near) }
 
-returns_2 : tie.Need-returns-2
-returns_2 c = λ text l. record { value = sym (rw c.if1.false) ∙ answer c.before text l; small = tt; moves = tt }
+returns_2 : tie.Need-returns
+returns_2 c = λ text l. record { value = sym (rw c.if-watches.false) ∙ answer c.before text l; small = tt; moves = tt }
 
 pub watched_way_spec : {M : Type 1} → statement M
 watched_way_spec = tie.close (tie.spec (λ c κs. search rules) (λ c κs. search rules) returns returns_2)

@@ -11,36 +11,36 @@ use Rattle.analysis_ranges.proofs.Envs.{up_none, up_put, up_all, join_at, join_f
 use Rattle.analysis_ranges.proofs.transfer.joined.Statement.{statement}
 use Rattle.analysis_ranges.proofs.transfer.joined.Tie as tie
 
-abbrev invariant-loop : tie.invariant-loop
-invariant-loop a b r₀ i₀ r i = (i ≤ 16) × EnvIs r (env_up_to i (join (env_of a) (env_of b)) (env_of a))
+abbrev invariant-loop-i : tie.invariant-loop-i
+invariant-loop-i a b r₀ i₀ r i = (i ≤ 16) × EnvIs r (env_up_to i (join (env_of a) (env_of b)) (env_of a))
 
-abbrev decreases-loop : tie.decreases-loop
-decreases-loop a b r₀ i₀ r i = 16 - i
+abbrev decreases-loop-i : tie.decreases-loop-i
+decreases-loop-i a b r₀ i₀ r i = 16 - i
 
-loop_holds : tie.Need-loop-init invariant-loop decreases-loop
+loop_holds : tie.Need-loop-i-init invariant-loop-i decreases-loop-i
 loop_holds c = (search rules, record { long = search rules; value = sym (up_none _ _) })
 
-loop_again : tie.Need-loop-preserved invariant-loop decreases-loop
+loop_again : tie.Need-loop-i-preserved invariant-loop-i decreases-loop-i
 loop_again c =
-    let k = c.before.before.before.before.before.before.before.before.loop.invariant.1 in
+    let k = c.before.before.before.before.before.before.before.before.loop-i.invariant.1 in
     let p = c.put.ensures in
-    (search rules, record { long = p.long; value = p.value ∙ up_put _ _ _ _ _ k.value (join_at _ _ _ _ _ _ c.before.before.joined-interval.ensures c.before.before.before.before.before.interval-at.ensures c.before.before.before.interval-at2.ensures) })
+    (search rules, record { long = p.long; value = p.value ∙ up_put _ _ _ _ _ k.value (join_at _ _ _ _ _ _ c.before.before.joined_interval-s.ensures c.before.before.before.before.before.interval_at.ensures c.before.before.before.interval_at-in-loop-i.ensures) })
 
-returns : tie.Need-returns invariant-loop decreases-loop
+returns : tie.Need-returns invariant-loop-i decreases-loop-i
 returns c =
     let s = c.before.before.args in
-    let e : c.before.loop.i ≡ 16 = omega arith in
+    let e : c.before.loop-i.i ≡ 16 = omega arith in
     let la : length s.t1 ≡ 16 = search rules in
     let lb : length s.t2 ≡ 16 = search rules in
-    c.before.loop.invariant.1.value ∙ (rw e (up_all _ _ 16 (join_far s.t1 s.t2 la lb)))
+    c.before.loop-i.invariant.1.value ∙ (rw e (up_all _ _ 16 (join_far s.t1 s.t2 la lb)))
 
 pub joined_spec : {M : Type 1} → statement M
 joined_spec = tie.close (tie.spec
-    invariant-loop
-    decreases-loop
+    invariant-loop-i
+    decreases-loop-i
     loop_holds
     (λ c κs. search rules) (λ c κs. search rules) (λ c κs. search rules)
-    (λ c κs. (search rules, c.before.before.before.before.before.before.before.loop.invariant.1.long))
+    (λ c κs. (search rules, c.before.before.before.before.before.before.before.loop-i.invariant.1.long))
     (λ c. search rules) (λ c. search rules)
     loop_again
     returns)

@@ -12,36 +12,36 @@ use Rattle.analysis_ranges.proofs.Widening.{wide_at, wide_far}
 use Rattle.analysis_ranges.proofs.transfer.widen.Statement.{statement}
 use Rattle.analysis_ranges.proofs.transfer.widen.Tie as tie
 
-abbrev invariant-loop : tie.invariant-loop
-invariant-loop r₀ set mine v w₀ r w = (w ≤ 16) × EnvIs r (env_up_to w (widened_env (set_of set) (range_of mine) v (env_of r₀)) (env_of r₀))
+abbrev invariant-loop-w : tie.invariant-loop-w
+invariant-loop-w r₀ set mine v w₀ r w = (w ≤ 16) × EnvIs r (env_up_to w (widened_env (set_of set) (range_of mine) v (env_of r₀)) (env_of r₀))
 
-abbrev decreases-loop : tie.decreases-loop
-decreases-loop r₀ set mine v w₀ r w = 16 - w
+abbrev decreases-loop-w : tie.decreases-loop-w
+decreases-loop-w r₀ set mine v w₀ r w = 16 - w
 
-loop_holds : tie.Need-loop-init invariant-loop decreases-loop
+loop_holds : tie.Need-loop-w-init invariant-loop-w decreases-loop-w
 loop_holds c = (search rules, record { long = c.requires.1; value = sym (up_none _ _) })
 
-loop_again : tie.Need-loop-preserved invariant-loop decreases-loop
+loop_again : tie.Need-loop-w-preserved invariant-loop-w decreases-loop-w
 loop_again c =
-    let k = c.before.before.before.before.before.before.before.loop.invariant.1 in
+    let k = c.before.before.before.before.before.before.before.loop-w.invariant.1 in
     let p = c.put.ensures in
-    let old = c.before.before.before.before.interval-at.ensures ∙ ap (λ ρ. ρ c.before.before.before.before.before.before.before.loop.w) k.value ∙ up_here _ _ _ in
-    (search rules, record { long = p.long; value = p.value ∙ up_put _ _ _ _ _ k.value (wide_at _ _ _ _ _ _ _ _ c.before.before.chosen.ensures old c.before.before.before.has.ensures) })
+    let old = c.before.before.before.before.interval_at-old.ensures ∙ ap (λ ρ. ρ c.before.before.before.before.before.before.before.loop-w.w) k.value ∙ up_here _ _ _ in
+    (search rules, record { long = p.long; value = p.value ∙ up_put _ _ _ _ _ k.value (wide_at _ _ _ _ _ _ _ _ c.before.before.chosen-s.ensures old c.before.before.before.has.ensures) })
 
-returns : tie.Need-returns invariant-loop decreases-loop
+returns : tie.Need-returns invariant-loop-w decreases-loop-w
 returns c =
-    let e : c.before.loop.w ≡ 16 = omega arith in
+    let e : c.before.loop-w.w ≡ 16 = omega arith in
     let l : length c.before.before.args.set ≡ 16 = search rules in
-    let k = c.before.loop.invariant.1 in
+    let k = c.before.loop-w.invariant.1 in
     record { long = k.long; value = k.value ∙ rw e (up_all _ _ 16 (wide_far _ l _ _ c.before.before.requires.0 _)) }
 
 pub widen_spec : {M : Type 1} → statement M
 widen_spec = tie.close (tie.spec
-    invariant-loop
-    decreases-loop
+    invariant-loop-w
+    decreases-loop-w
     loop_holds
     (λ c κs. search rules) (λ c κs. search rules) (λ c κs. search rules)
-    (λ c κs. (search rules, c.before.before.before.before.before.before.loop.invariant.1.long))
+    (λ c κs. (search rules, c.before.before.before.before.before.before.loop-w.invariant.1.long))
     (λ c. search rules) (λ c. search rules)
     loop_again
     returns)

@@ -17,107 +17,107 @@ use Rattle.analysis_steps.proofs.Soles.{from_nothing, sole_done, sole_past, sole
 use Rattle.analysis_steps.proofs.only_rows.sole_of.Statement.{statement}
 use Rattle.analysis_steps.proofs.only_rows.sole_of.Tie as tie
 
-abbrev invariant-loop : tie.invariant-loop
-invariant-loop rows count at v set₀ i₀ set i = (length set ≡ 16) × ((text : List ℕ) → Ready text (rows_of rows) count at → Walking text (rows_of rows) count (sole_from v) at (set_of set₀) i (set_of set))
+abbrev invariant-loop-i : tie.invariant-loop-i
+invariant-loop-i rows count at v set₀ i₀ set i = (length set ≡ 16) × ((text : List ℕ) → Ready text (rows_of rows) count at → Walking text (rows_of rows) count (sole_from v) at (set_of set₀) i (set_of set))
 
-abbrev decreases-loop : tie.decreases-loop
-decreases-loop rows count at v set₀ i₀ set i = count - i
+abbrev decreases-loop-i : tie.decreases-loop-i
+decreases-loop-i rows count at v set₀ i₀ set i = count - i
 
-pick_1 : (c : tie.After-moves-of invariant-loop decreases-loop) → let s = c.before.before.before.before.before.before.before.before.args in let m = c.Moves-of.result.next in (text : List ℕ) → Ready text (rows_of s.rows.now) s.count s.at
-    → PickIs text (rows_of s.rows.now) s.count c.before.before.before.before.before.before.loop.i m (past_else (kind_at (rows_of s.rows.now) m) m) (end_at text (rows_of s.rows.now) s.count (past_else (kind_at (rows_of s.rows.now) m) m))
-pick_1 c text r = pick_at _ _ _ c.before.before.before.before.before.loop-test.true r.built (sym c.before.before.before.before.shape_at.ensures ∙ c.before.before.enum-told2.given.1) (c.Moves-of.ensures text (ready r (search rules))).sets.place refl refl
+pick_1 : (c : tie.After-moves_of-a invariant-loop-i decreases-loop-i) → let s = c.before.before.before.before.before.before.before.before.args in let m = c.Moves-of.result.next in (text : List ℕ) → Ready text (rows_of s.rows.now) s.count s.at
+    → PickIs text (rows_of s.rows.now) s.count c.before.before.before.before.before.before.loop-i.i m (past_else (kind_at (rows_of s.rows.now) m) m) (end_at text (rows_of s.rows.now) s.count (past_else (kind_at (rows_of s.rows.now) m) m))
+pick_1 c text r = pick_at _ _ _ c.before.before.before.before.before.loop-i-test.true r.built (sym c.before.before.before.before.shape_at.ensures ∙ c.before.before.enum_told-in-Branch-1.given.1) (c.Moves-of.ensures text (ready r (search rules))).sets.place refl refl
 
 -- the second part of the pick
-second : (c : tie.After-past-else invariant-loop decreases-loop) → let s = c.before.before.before.before.before.before.before.before.before.args in (text : List ℕ) → Ready text (rows_of s.rows.now) s.count s.at → Ready text (rows_of s.rows.now) s.count c.past-else.result
-second c text r = let k = pick_1 c.before text r in let e = c.past-else.ensures in ready r (search rules)
+second : (c : tie.After-past_else invariant-loop-i decreases-loop-i) → let s = c.before.before.before.before.before.before.before.before.before.args in (text : List ℕ) → Ready text (rows_of s.rows.now) s.count s.at → Ready text (rows_of s.rows.now) s.count c.past_else.result
+second c text r = let k = pick_1 c.before text r in let e = c.past_else.ensures in ready r (search rules)
 
-pick_2 : (c : tie.After-moves-of2 invariant-loop decreases-loop) → let s = c.before.before.before.before.before.before.before.before.before.before.before.args in (text : List ℕ) → Ready text (rows_of s.rows.now) s.count s.at
-    → PickIs text (rows_of s.rows.now) s.count c.before.before.before.before.before.before.before.before.before.loop.i c.before.before.before.Moves-of.result.next c.before.before.past-else.result c.moves-of2.result.next
-pick_2 c text r = pick_at _ _ _ c.before.before.before.before.before.before.before.before.loop-test.true r.built (sym c.before.before.before.before.before.before.before.shape_at.ensures ∙ c.before.before.before.before.before.enum-told2.given.1) (c.before.before.before.Moves-of.ensures text (ready r (search rules))).sets.place c.before.before.past-else.ensures (c.moves-of2.ensures text (second c.before.before text r)).sets.place
+pick_2 : (c : tie.After-moves_of-second invariant-loop-i decreases-loop-i) → let s = c.before.before.before.before.before.before.before.before.before.before.before.args in (text : List ℕ) → Ready text (rows_of s.rows.now) s.count s.at
+    → PickIs text (rows_of s.rows.now) s.count c.before.before.before.before.before.before.before.before.before.loop-i.i c.before.before.before.Moves-of.result.next c.before.before.past_else.result c.moves_of-second.result.next
+pick_2 c text r = pick_at _ _ _ c.before.before.before.before.before.before.before.before.loop-i-test.true r.built (sym c.before.before.before.before.before.before.before.shape_at.ensures ∙ c.before.before.before.before.before.enum_told-in-Branch-1.given.1) (c.before.before.before.Moves-of.ensures text (ready r (search rules))).sets.place c.before.before.past_else.ensures (c.moves_of-second.ensures text (second c.before.before text r)).sets.place
 
-loop_1 : (c : tie.After-moves-of3 invariant-loop decreases-loop) → let s = c.before.before.before.before.before.before.before.before.args in (text : List ℕ) → Ready text (rows_of s.rows.now) s.count s.at
-    → LoopIs text (rows_of s.rows.now) s.count (head_of text (kind_at (rows_of s.rows.now) c.before.before.before.before.before.before.loop.i)) c.before.before.before.before.before.before.loop.i c.moves-of3.result.next
-loop_1 c text r = loop_at _ _ _ c.before.before.before.before.before.loop-test.true r.built (sym c.before.before.before.before.shape_at.ensures ∙ c.before.before.enum-told3.given.1) (c.moves-of3.ensures text (ready r (search rules))).sets.place
+loop_1 : (c : tie.After-moves_of-body invariant-loop-i decreases-loop-i) → let s = c.before.before.before.before.before.before.before.before.args in (text : List ℕ) → Ready text (rows_of s.rows.now) s.count s.at
+    → LoopIs text (rows_of s.rows.now) s.count (head_of text (kind_at (rows_of s.rows.now) c.before.before.before.before.before.before.loop-i.i)) c.before.before.before.before.before.before.loop-i.i c.moves_of-body.result.next
+loop_1 c text r = loop_at _ _ _ c.before.before.before.before.before.loop-i-test.true r.built (sym c.before.before.before.before.shape_at.ensures ∙ c.before.before.enum_told-in-Loop-1.given.1) (c.moves_of-body.ensures text (ready r (search rules))).sets.place
 
-loop_holds : tie.Need-loop-init invariant-loop decreases-loop
+loop_holds : tie.Need-loop-i-init invariant-loop-i decreases-loop-i
 loop_holds c = (search rules, λ text r. begin _ _ _ _ _ r.within)
 
-sole-at-requires : tie.Need-sole-at-requires invariant-loop decreases-loop
-sole-at-requires c κs = let (text, r) = c.before.before.before.before.before.before.before.before.requires.0 in (text, record { ready = ready r (search rules); inside = c.before.before.before.before.before.loop-test.true; own = sym (c.before.sets_it.ensures text) ∙ c.if1.true; small = c.before.before.before.before.before.before.before.before.requires.1 })
+sole-at-requires : tie.Need-sole_at-requires invariant-loop-i decreases-loop-i
+sole-at-requires c κs = let (text, r) = c.before.before.before.before.before.before.before.before.requires.0 in (text, record { ready = ready r (search rules); inside = c.before.before.before.before.before.loop-i-test.true; own = sym (c.before.sets_it.ensures text) ∙ c.if-sets_it.true; small = c.before.before.before.before.before.before.before.before.requires.1 })
 
-returns : tie.Need-returns invariant-loop decreases-loop
+returns : tie.Need-returns-then-sets_it invariant-loop-i decreases-loop-i
 unfolding clear
 returns c = λ text p.
-    let own = sym (c.before.before.sets_it.ensures text) ∙ c.before.if1.true in
-    let r = c.sole-at.ensures text (record { ready = ready p (search rules); inside = c.before.before.before.before.before.before.loop-test.true; own = own; small = c.before.before.before.before.before.before.before.before.before.requires.1 }) in
+    let own = sym (c.before.before.sets_it.ensures text) ∙ c.before.if-sets_it.true in
+    let r = c.sole_at.ensures text (record { ready = ready p (search rules); inside = c.before.before.before.before.before.before.loop-i-test.true; own = own; small = c.before.before.before.before.before.before.before.before.before.requires.1 }) in
     record {
-      value = r.value ∙ sym (plain_next _ _ _ _ _ (c.before.before.before.before.before.before.before.loop.invariant.1 text p) c.before.before.before.before.before.before.loop-test.true p.built (sym c.before.before.before.before.before.shape_at.ensures ∙ c.before.before.before.enum_told.given.1) ∙ sole_here _ _ _ _ own _) ∙ from_nothing _ (no_set _ refl) _;
+      value = r.value ∙ sym (plain_next _ _ _ _ _ (c.before.before.before.before.before.before.before.loop-i.invariant.1 text p) c.before.before.before.before.before.before.loop-i-test.true p.built (sym c.before.before.before.before.before.shape_at.ensures ∙ c.before.before.before.enum_told-1.given.1) ∙ sole_here _ _ _ _ own _) ∙ from_nothing _ (no_set _ refl) _;
       small = r.small;
     }
 
-add_row_requires : tie.Need-add-row-requires invariant-loop decreases-loop
-add_row_requires c κs = let (text, r) = c.before.before.before.before.before.before.before.before.before.requires.0 in (row_in c.before.before.before.before.before.before.before.before.before.args.rows.now _ (search rules), r.fine _ c.before.before.before.before.before.before.loop-test.true, c.before.before.before.before.before.before.before.loop.invariant.0)
+add_row_requires : tie.Need-add_row-requires invariant-loop-i decreases-loop-i
+add_row_requires c κs = let (text, r) = c.before.before.before.before.before.before.before.before.before.requires.0 in (row_in c.before.before.before.before.before.before.before.before.before.args.rows.now _ (search rules), r.fine _ c.before.before.before.before.before.before.loop-i-test.true, c.before.before.before.before.before.before.before.loop-i.invariant.0)
 
-loop_again : tie.Need-loop-preserved invariant-loop decreases-loop
+loop_again : tie.Need-loop-i-preserved-in-Plain invariant-loop-i decreases-loop-i
 loop_again c = (
   (c.add_row.ensures []).long,
-  λ text r. rw (c.add_row.ensures text).value (plain_row _ _ _ _ _ (c.before.before.before.before.before.before.before.before.loop.invariant.1 text r) c.before.before.before.before.before.before.before.loop-test.true r.built (sym c.before.before.before.before.before.before.shape_at.ensures ∙ c.before.before.before.before.enum_told.given.1) (sole_past _ _ _ _ (sym (c.before.before.before.sets_it.ensures text) ∙ c.before.before.if1.false))),
+  λ text r. rw (c.add_row.ensures text).value (plain_row _ _ _ _ _ (c.before.before.before.before.before.before.before.before.loop-i.invariant.1 text r) c.before.before.before.before.before.before.before.loop-i-test.true r.built (sym c.before.before.before.before.before.before.shape_at.ensures ∙ c.before.before.before.before.enum_told-1.given.1) (sole_past _ _ _ _ (sym (c.before.before.before.sets_it.ensures text) ∙ c.before.before.if-sets_it.false))),
 )
 
-moves_of_requires : tie.Need-moves-of-requires invariant-loop decreases-loop
-moves_of_requires c κs = let (text, r) = c.before.before.before.before.before.before.before.requires.0 in ((text, ready r (search rules)), c.before.before.before.before.before.before.before.requires.1, c.before.before.before.before.before.loop.invariant.0)
+moves_of_requires : tie.Need-moves_of-a-requires invariant-loop-i decreases-loop-i
+moves_of_requires c κs = let (text, r) = c.before.before.before.before.before.before.before.requires.0 in ((text, ready r (search rules)), c.before.before.before.before.before.before.before.requires.1, c.before.before.before.before.before.loop-i.invariant.0)
 
-past_else_requires : tie.Need-past-else-requires invariant-loop decreases-loop
+past_else_requires : tie.Need-past_else-requires invariant-loop-i decreases-loop-i
 past_else_requires c κs = let (text, r) = c.before.before.before.before.before.before.before.before.requires.0 in let k = pick_1 c text r in row_in c.before.before.before.before.before.before.before.before.args.rows.now _ (search rules)
 
-moves_of_requires_2 : tie.Need-moves-of-requires-2 invariant-loop decreases-loop
+moves_of_requires_2 : tie.Need-moves_of-second-requires invariant-loop-i decreases-loop-i
 moves_of_requires_2 c κs = let (text, r) = c.before.before.before.before.before.before.before.before.before.before.requires.0 in ((text, second c.before text r), c.before.before.before.before.before.before.before.before.before.before.requires.1, (c.before.before.Moves-of.ensures text (ready r (search rules))).long)
 
-add_i_2 : tie.Need-overflow-add-i-2 invariant-loop decreases-loop
+add_i_2 : tie.Need-overflow_add-i-in-Branch-2 invariant-loop-i decreases-loop-i
 add_i_2 c = let (text, r) = c.before.before.before.before.before.before.before.before.before.before.before.before.requires.0 in let k = pick_2 c.before text r in let f = r.few in search rules
 
-loop_less_2 : tie.Need-loop-smaller-2 invariant-loop decreases-loop
+loop_less_2 : tie.Need-loop-i-smaller-in-Branch invariant-loop-i decreases-loop-i
 loop_less_2 c = let (text, r) = c.before.before.before.before.before.before.before.before.before.before.before.before.requires.0 in let k = pick_2 c.before text r in search rules
 
-loop_again_2 : tie.Need-loop-preserved-2 invariant-loop decreases-loop
+loop_again_2 : tie.Need-loop-i-preserved-in-Branch invariant-loop-i decreases-loop-i
 loop_again_2 c = let (text₀, r₀) = c.before.before.before.before.before.before.before.before.before.before.before.before.requires.0 in (
-  (c.before.moves-of2.ensures text₀ (second c.before.before.before text₀ r₀)).long,
-  λ text r. rw ((c.before.moves-of2.ensures text (second c.before.before.before text r)).sets.value, (c.before.before.before.before.Moves-of.ensures text (ready r (search rules))).sets.value) (pick_row _ _ _ _ _ (c.before.before.before.before.before.before.before.before.before.before.loop.invariant.1 text r) c.before.before.before.before.before.before.before.before.before.loop-test.true r.built (pick_2 c.before text r) (sole_pick _ _ _ _ _ _)),
+  (c.before.moves_of-second.ensures text₀ (second c.before.before.before text₀ r₀)).long,
+  λ text r. rw ((c.before.moves_of-second.ensures text (second c.before.before.before text r)).sets.value, (c.before.before.before.before.Moves-of.ensures text (ready r (search rules))).sets.value) (pick_row _ _ _ _ _ (c.before.before.before.before.before.before.before.before.before.before.loop-i.invariant.1 text r) c.before.before.before.before.before.before.before.before.before.loop-i-test.true r.built (pick_2 c.before text r) (sole_pick _ _ _ _ _ _)),
 )
 
-moves_of_requires_3 : tie.Need-moves-of-requires-3 invariant-loop decreases-loop
-moves_of_requires_3 c κs = let (text, r) = c.before.before.before.before.before.before.before.requires.0 in ((text, ready r (search rules)), c.before.before.before.before.before.before.before.requires.1, c.before.before.before.before.before.loop.invariant.0)
+moves_of_requires_3 : tie.Need-moves_of-body-requires invariant-loop-i decreases-loop-i
+moves_of_requires_3 c κs = let (text, r) = c.before.before.before.before.before.before.before.requires.0 in ((text, ready r (search rules)), c.before.before.before.before.before.before.before.requires.1, c.before.before.before.before.before.loop-i.invariant.0)
 
-add_row_requires_2 : tie.Need-add-row-requires-2 invariant-loop decreases-loop
-add_row_requires_2 c κs = let (text, r) = c.before.before.before.before.before.before.before.before.before.requires.0 in (row_in c.before.before.before.before.before.before.before.before.before.args.rows.now _ (search rules), r.fine _ c.before.before.before.before.before.before.loop-test.true, (c.before.moves-of3.ensures text (ready r (search rules))).long)
+add_row_requires_2 : tie.Need-add_row-requires-in-Loop invariant-loop-i decreases-loop-i
+add_row_requires_2 c κs = let (text, r) = c.before.before.before.before.before.before.before.before.before.requires.0 in (row_in c.before.before.before.before.before.before.before.before.before.args.rows.now _ (search rules), r.fine _ c.before.before.before.before.before.before.loop-i-test.true, (c.before.moves_of-body.ensures text (ready r (search rules))).long)
 
-add_i_3 : tie.Need-overflow-add-i-3 invariant-loop decreases-loop
+add_i_3 : tie.Need-overflow_add-i-in-Loop-2 invariant-loop-i decreases-loop-i
 add_i_3 c = let (text, r) = c.before.before.before.before.before.before.before.before.before.before.before.requires.0 in let k = loop_1 c.before.before.before text r in let f = r.few in search rules
 
-loop_less_3 : tie.Need-loop-smaller-3 invariant-loop decreases-loop
+loop_less_3 : tie.Need-loop-i-smaller invariant-loop-i decreases-loop-i
 loop_less_3 c = let (text, r) = c.before.before.before.before.before.before.before.before.before.before.before.requires.0 in let k = loop_1 c.before.before.before text r in search rules
 
-loop_again_3 : tie.Need-loop-preserved-3 invariant-loop decreases-loop
+loop_again_3 : tie.Need-loop-i-preserved invariant-loop-i decreases-loop-i
 loop_again_3 c = (
-  (c.before.add-row2.ensures []).long,
-  λ text r. rw ((c.before.add-row2.ensures text).value, (c.before.before.before.moves-of3.ensures text (ready r (search rules))).sets.value)
-      (loop_row _ _ _ _ _ (c.before.before.before.before.before.before.before.before.before.loop.invariant.1 text r) c.before.before.before.before.before.before.before.before.loop-test.true r.built (loop_1 c.before.before.before text r) (sole_loop _ _ _ _ _ (sym c.before.before.before.before.before.before.before.shape_at.ensures ∙ c.before.before.before.before.before.enum-told3.given.1) _ _)),
+  (c.before.add_row-in-Loop.ensures []).long,
+  λ text r. rw ((c.before.add_row-in-Loop.ensures text).value, (c.before.before.before.moves_of-body.ensures text (ready r (search rules))).sets.value)
+      (loop_row _ _ _ _ _ (c.before.before.before.before.before.before.before.before.before.loop-i.invariant.1 text r) c.before.before.before.before.before.before.before.before.loop-i-test.true r.built (loop_1 c.before.before.before text r) (sole_loop _ _ _ _ _ (sym c.before.before.before.before.before.before.before.shape_at.ensures ∙ c.before.before.before.before.before.enum_told-in-Loop-1.given.1) _ _)),
 )
 
-returns_2 : tie.Need-returns-2 invariant-loop decreases-loop
+returns_2 : tie.Need-returns-in-Close invariant-loop-i decreases-loop-i
 unfolding clear
-returns_2 c = λ text r. record { value = (at_close _ _ _ _ _ (sole_done _ _) (c.before.before.before.before.loop.invariant.1 text r) c.before.before.before.loop-test.true r.built (sym c.before.before.shape_at.ensures ∙ c.enum-told4.given.1)).value ∙ from_nothing _ (no_set _ refl) _; small = tt }
+returns_2 c = λ text r. record { value = (at_close _ _ _ _ _ (sole_done _ _) (c.before.before.before.before.loop-i.invariant.1 text r) c.before.before.before.loop-i-test.true r.built (sym c.before.before.shape_at.ensures ∙ c.enum_told-in-Close-1.given.1)).value ∙ from_nothing _ (no_set _ refl) _; small = tt }
 
-returns_3 : tie.Need-returns-3 invariant-loop decreases-loop
+returns_3 : tie.Need-returns invariant-loop-i decreases-loop-i
 unfolding clear
-returns_3 c = λ text r. record { value = (at_last _ _ _ _ _ (sole_done _ _) (c.before.loop.invariant.1 text r) r.built c.loop-test.false).value ∙ from_nothing _ (no_set _ refl) _; small = tt }
+returns_3 c = λ text r. record { value = (at_last _ _ _ _ _ (sole_done _ _) (c.before.loop-i.invariant.1 text r) r.built c.loop-i-test.false).value ∙ from_nothing _ (no_set _ refl) _; small = tt }
 
 pub sole_of_spec : {M : Type 1} → statement M
 sole_of_spec =
     tie.close
     (tie.spec
-    invariant-loop
-    decreases-loop
+    invariant-loop-i
+    decreases-loop-i
     loop_holds
     (λ c κs. let (text, r) = c.before.before.before.requires.0 in row_in c.before.before.before.args.rows.now _ (search rules)) (λ c. search rules) (λ c κs. let (text, r) = c.before.before.before.before.before.before.requires.0 in row_in c.before.before.before.before.before.before.args.rows.now _ (search rules))
     sole-at-requires

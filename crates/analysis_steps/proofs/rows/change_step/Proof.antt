@@ -9,36 +9,36 @@ use borrow.Author.Rules.{rules}
 use Rattle.analysis_steps.proofs.rows.change_step.Statement.{statement}
 use Rattle.analysis_steps.proofs.rows.change_step.Tie as tie
 
-sub-x : tie.Need-overflow-sub-x
+sub-x : tie.Need-overflow_sub-x
 sub-x c =
-    let h = rw c.before.change2.given.1 at c.before.before.before.requires in
-    rw (to_z_pos w64 {n = c.before.change2.given.0.0} (omega arith)) (neg_fits _ h)
+    let h = rw c.before.change-in-Sub-1.given.1 at c.before.before.before.requires in
+    rw (to_z_pos w64 {n = c.before.change-in-Sub-1.given.0.0} (omega arith)) (neg_fits _ h)
 
-returns : tie.Need-returns
+returns : tie.Need-returns-in-Add
 unfolding change_step
-returns c = let h = rw c.before.change.given.1 at c.before.before.before.requires in rw c.before.change.given.1 (simp (to_z_pos w64 {n = c.before.change.given.0.0} (omega arith)))
+returns c = let h = rw c.before.change-1.given.1 at c.before.before.before.requires in rw c.before.change-1.given.1 (simp (to_z_pos w64 {n = c.before.change-1.given.0.0} (omega arith)))
 
-returns_2 : tie.Need-returns-2
+returns_2 : tie.Need-returns-in-Sub
 unfolding change_step
 returns_2 c =
-    let h = rw c.before.change2.given.1 at c.before.before.before.requires in
-    rw (c.before.change2.given.1, to_z_pos w64 {n = c.before.change2.given.0.0} (omega arith)) (rw (to_z-of_z (neg_fits c.before.change2.given.0.0 h), neg_is))
+    let h = rw c.before.change-in-Sub-1.given.1 at c.before.before.before.requires in
+    rw (c.before.change-in-Sub-1.given.1, to_z_pos w64 {n = c.before.change-in-Sub-1.given.0.0} (omega arith)) (rw (to_z-of_z (neg_fits c.before.change-in-Sub-1.given.0.0 h), neg_is))
 
-returns_3 : tie.Need-returns-3
+returns_3 : tie.Need-returns-then-c-eq1
 unfolding change_step
-returns_3 c = rw (c.before.before.change3.given.1, eq-eqb _ _ c.if1.true)
+returns_3 c = rw (c.before.before.change-in-Mul-1.given.1, eq-eqb _ _ c.if-c-eq1.true)
 
-returns-4 : tie.Need-returns-4
+returns-4 : tie.Need-returns-else-c-eq1
 unfolding change_step
-returns-4 c = rw (c.before.before.change3.given.1, ne_eqb _ _ c.if1.false)
+returns-4 c = rw (c.before.before.change-in-Mul-1.given.1, ne_eqb _ _ c.if-c-eq1.false)
 
-returns-5 : tie.Need-returns-5
+returns-5 : tie.Need-returns-then-c-eq1-2
 unfolding change_step
-returns-5 c = rw (c.before.before.change4.given.1, eq-eqb _ _ c.if2.true)
+returns-5 c = rw (c.before.before.change-in-Div-1.given.1, eq-eqb _ _ c.if-c-eq1-2.true)
 
-returns-6 : tie.Need-returns-6
+returns-6 : tie.Need-returns-else-c-eq1-2
 unfolding change_step
-returns-6 c = rw (c.before.before.change4.given.1, ne_eqb _ _ c.if2.false)
+returns-6 c = rw (c.before.before.change-in-Div-1.given.1, ne_eqb _ _ c.if-c-eq1-2.false)
 
 pub change_step_spec : {M : Type 1} → statement M
 change_step_spec =

@@ -17,94 +17,94 @@ use Rattle.analysis_ticks.proofs.passes.climbs.Tie as tie
 abbrev term : ℤ → ℤ → ℤ → ℤ → ℕ → ℕ
 term start limit step by i = climb (record { start = start; limit = limit +ℤ by *ℤ pos i; step = step })
 
-abbrev invariant-loop : tie.invariant-loop
-invariant-loop start limit step by count at₀ all₀ i₀ at all i =
+abbrev invariant-loop-i : tie.invariant-loop-i
+invariant-loop-i start limit step by count at₀ all₀ i₀ at all i =
     let f : ℕ → ℕ = term (to_z w64 start) (to_z w64 limit) (to_z w64 step) (to_z w64 by) in
     (i ≤ count) × (to_z w64 at ≡ to_z w64 limit +ℤ to_z w64 by *ℤ pos i) × (all + sum f i (count - i) ≡ sum f 0 count) × (all ≤ i * 3_100_000_000_000_000)
 
-abbrev decreases-loop : tie.decreases-loop
-decreases-loop start limit step by count at₀ all₀ i₀ at all i = count - i
+abbrev decreases-loop-i : tie.decreases-loop-i
+decreases-loop-i start limit step by count at₀ all₀ i₀ at all i = count - i
 
-loop_holds : tie.Need-loop-init invariant-loop decreases-loop
+loop_holds : tie.Need-loop-i-init invariant-loop-i decreases-loop-i
 loop_holds c =
     let a = c.args in
     simp (to_z-of_z c.ranges.start, to_z-of_z c.ranges.limit, to_z-of_z c.ranges.step, to_z-of_z c.ranges.by) (omega arith, limit_first a.limit a.by, sum_first (term a.start a.limit a.step a.by) a.count, omega arith)
 
 -- what is known in a turn: the limit, and those of this pass and the next
-record Turn (s : tie.Start invariant-loop decreases-loop) (at all i : ℕ) : Type 0 where
+record Turn (s : tie.Start invariant-loop-i decreases-loop-i) (at all i : ℕ) : Type 0 where
   here : to_z w64 at ≡ s.args.limit +ℤ s.args.by *ℤ pos i
   sums : all + sum (term s.args.start s.args.limit s.args.step s.args.by) i (s.args.count - i) ≡ sum (term s.args.start s.args.limit s.args.step s.args.by) 0 s.args.count
   few : all ≤ i * 3_100_000_000_000_000
   now : Limit s.args.limit s.args.by i
   next : Limit s.args.limit s.args.by (i + 1)
 
-turn : (c : tie.In-loop invariant-loop decreases-loop) → Turn c.before.before c.before.loop.at c.before.loop.all c.before.loop.i
+turn : (c : tie.In-loop-i invariant-loop-i decreases-loop-i) → Turn c.before.before c.before.loop-i.at-bits c.before.loop-i.all c.before.loop-i.i
 turn c =
     let s = c.before.before in
     let a = s.args in
-    let v = simp (to_z-of_z s.ranges.start, to_z-of_z s.ranges.limit, to_z-of_z s.ranges.step, to_z-of_z s.ranges.by) at c.before.loop.invariant in
+    let v = simp (to_z-of_z s.ranges.start, to_z-of_z s.ranges.limit, to_z-of_z s.ranges.step, to_z-of_z s.ranges.by) at c.before.loop-i.invariant in
     record {
       here = v.1;
       sums = v.2;
       few = v.3;
-      now = limit_at a.limit a.by c.before.loop.i s.requires.1 s.requires.4 (omega (arith, c.loop-test.true, s.requires.5));
-      next = limit_at a.limit a.by (c.before.loop.i + 1) s.requires.1 s.requires.4 (omega (arith, c.loop-test.true, s.requires.5));
+      now = limit_at a.limit a.by c.before.loop-i.i s.requires.1 s.requires.4 (omega (arith, c.loop-i-test.true, s.requires.5));
+      next = limit_at a.limit a.by (c.before.loop-i.i + 1) s.requires.1 s.requires.4 (omega (arith, c.loop-i-test.true, s.requires.5));
     }
 
-climb-requires : tie.Need-climb-requires invariant-loop decreases-loop
+climb-requires : tie.Need-climb-all-requires invariant-loop-i decreases-loop-i
 climb-requires c κs =
     let s = c.before.before in
     let t = turn c in
     simp (to_z-of_z s.ranges.start, to_z-of_z s.ranges.step) (near_far _ s.requires.0, subst (Near 4_000_000) (sym t.here) (far_more _ t.now.near), s.requires.2, s.requires.3)
 
 -- the turns of this pass
-this : (c : tie.After-climb invariant-loop decreases-loop) → let a = c.before.before.before.args in (c.climb.result ≡ term a.start a.limit a.step a.by c.before.before.loop.i) × (c.climb.result ≤ 3_100_000_000_000_000)
+this : (c : tie.After-climb-all invariant-loop-i decreases-loop-i) → let a = c.before.before.before.args in (c.climb-all.result ≡ term a.start a.limit a.step a.by c.before.before.loop-i.i) × (c.climb-all.result ≤ 3_100_000_000_000_000)
 this c =
     let s = c.before.before.before in
     let a = s.args in
     let t = turn c.before in
-    let e = simp (to_z-of_z s.ranges.start, to_z-of_z s.ranges.step) at c.climb.ensures in
-    let z : c.climb.result ≡ term a.start a.limit a.step a.by c.before.before.loop.i = e ∙ ap (λ l. climb (record { start = a.start; limit = l; step = a.step })) t.here in
-    (z, omega (arith, z, term_few (record { start = a.start; limit = a.limit +ℤ a.by *ℤ pos c.before.before.loop.i; step = a.step }) s.requires.0 t.now.near))
+    let e = simp (to_z-of_z s.ranges.start, to_z-of_z s.ranges.step) at c.climb-all.ensures in
+    let z : c.climb-all.result ≡ term a.start a.limit a.step a.by c.before.before.loop-i.i = e ∙ ap (λ l. climb (record { start = a.start; limit = l; step = a.step })) t.here in
+    (z, omega (arith, z, term_few (record { start = a.start; limit = a.limit +ℤ a.by *ℤ pos c.before.before.loop-i.i; step = a.step }) s.requires.0 t.now.near))
 
-add-all : tie.Need-overflow-add-all invariant-loop decreases-loop
-add-all c = let t = turn c.before in omega (arith, t.few, (this c).1, c.before.loop-test.true, c.before.before.before.requires.5)
+add-all : tie.Need-overflow_add-all invariant-loop-i decreases-loop-i
+add-all c = let t = turn c.before in omega (arith, t.few, (this c).1, c.before.loop-i-test.true, c.before.before.before.requires.5)
 
 -- the next limit fits
-fits : (c : tie.After-climb invariant-loop decreases-loop) → SFits w64 (to_z w64 c.before.before.loop.at +ℤ c.before.before.before.args.by)
+fits : (c : tie.After-climb-all invariant-loop-i decreases-loop-i) → SFits w64 (to_z w64 c.before.before.loop-i.at-bits +ℤ c.before.before.before.args.by)
 fits c = let t = turn c.before in rw (t.here, t.now.next) (let n = t.next.near in omega ints)
 
-add_at : tie.Need-overflow-add-at invariant-loop decreases-loop
+add_at : tie.Need-overflow_add-at invariant-loop-i decreases-loop-i
 add_at c = simp (to_z-of_z c.before.before.before.ranges.by) (fits c)
 
-add-i : tie.Need-overflow-add-i invariant-loop decreases-loop
-add-i c = omega (arith, c.before.loop-test.true, c.before.before.before.requires.5)
+add-i : tie.Need-overflow_add-i invariant-loop-i decreases-loop-i
+add-i c = omega (arith, c.before.loop-i-test.true, c.before.before.before.requires.5)
 
-loop-less : tie.Need-loop-smaller invariant-loop decreases-loop
-loop-less c = omega (arith, c.before.loop-test.true)
+loop-less : tie.Need-loop-i-smaller invariant-loop-i decreases-loop-i
+loop-less c = omega (arith, c.before.loop-i-test.true)
 
-loop_again : tie.Need-loop-preserved invariant-loop decreases-loop
+loop_again : tie.Need-loop-i-preserved invariant-loop-i decreases-loop-i
 loop_again c =
     let s = c.before.before.before in
     let a = s.args in
-    let i = c.before.before.loop.i in
+    let i = c.before.before.loop-i.i in
     let t = turn c.before in
     let k = this c in
     simp (to_z-of_z s.ranges.start, to_z-of_z s.ranges.limit, to_z-of_z s.ranges.step, to_z-of_z s.ranges.by, to_z-of_z (fits c)) (
-      omega (arith, c.before.loop-test.true),
+      omega (arith, c.before.loop-i-test.true),
       ap (λ z. z +ℤ a.by) t.here ∙ t.now.next,
-      omega (arith, t.sums, k.0, sum_next (term a.start a.limit a.step a.by) a.count i c.before.loop-test.true),
+      omega (arith, t.sums, k.0, sum_next (term a.start a.limit a.step a.by) a.count i c.before.loop-i-test.true),
       omega (arith, t.few, k.1),
     )
 
-returns : tie.Need-returns invariant-loop decreases-loop
+returns : tie.Need-returns invariant-loop-i decreases-loop-i
 returns c =
     let s = c.before.before in
     let a = s.args in
-    let v = simp (to_z-of_z s.ranges.start, to_z-of_z s.ranges.limit, to_z-of_z s.ranges.step, to_z-of_z s.ranges.by) at c.before.loop.invariant in
+    let v = simp (to_z-of_z s.ranges.start, to_z-of_z s.ranges.limit, to_z-of_z s.ranges.step, to_z-of_z s.ranges.by) at c.before.loop-i.invariant in
     let f : ℕ → ℕ = term a.start a.limit a.step a.by in
-    let z : c.before.loop.all ≡ sum f 0 a.count = omega (arith, v.2, sum_end f a.count c.before.loop.i c.loop-test.false) in
+    let z : c.before.loop-i.all ≡ sum f 0 a.count = omega (arith, v.2, sum_end f a.count c.before.loop-i.i c.loop-i-test.false) in
     z
 
 pub climbs_spec : {M : Type 1} → statement M
-climbs_spec = tie.close (tie.spec invariant-loop decreases-loop loop_holds climb-requires add-all add_at add-i loop-less loop_again returns)
+climbs_spec = tie.close (tie.spec invariant-loop-i decreases-loop-i loop_holds climb-requires add-all add_at add-i loop-less loop_again returns)

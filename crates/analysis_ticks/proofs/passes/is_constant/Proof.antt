@@ -16,17 +16,17 @@ composed (variable w) h = absurd h
 composed (group x) h = refl
 composed (apply o x y) h = refl
 
-returns : tie.Need-returns
+returns : tie.Need-returns-in-Constant
 unfolding expr_of
-returns c = λ text h. rw c.enum_told.given.1
+returns c = λ text h. rw c.enum_told-1.given.1
 
-returns_2 : tie.Need-returns-2
+returns_2 : tie.Need-returns-in-Variable
 unfolding expr_of
-returns_2 c = λ text h. rw c.enum-told2.given.1
+returns_2 c = λ text h. rw c.enum_told-in-Variable-1.given.1
 
-returns_3 : tie.Need-returns-3
+returns_3 : tie.Need-returns-in-Expression
 unfolding expr_of
-returns_3 c = λ text h. rw c.enum-told3.given.1 (composed _ (subst (WrittenOperand text) c.enum-told3.given.1 h).composed)
+returns_3 c = λ text h. rw c.enum_told-in-Expression-1.given.1 (composed _ (subst (WrittenOperand text) c.enum_told-in-Expression-1.given.1 h).composed)
 
 pub is_constant_spec : {M : Type 1} → statement M
 is_constant_spec = tie.close (tie.spec (λ c. search rules) (λ c. search rules) (λ c. search rules) returns returns_2 returns_3)

@@ -30,51 +30,51 @@ distance-requires c κs =
     let fslo : SFits w64 c.before.before.before.args.s.lo = search rules in
     simp (to_z-of_z fnhi, to_z-of_z fslo) (c.before.before.before.requires.3.high, c.before.before.before.requires.2.low)
 
-returns : tie.Need-returns
+returns : tie.Need-returns-then-a-eq1
 unfolding apart
 returns c =
     let fnhi : SFits w64 c.before.before.before.before.args.n.hi = search rules in
     let fslo : SFits w64 c.before.before.before.before.args.s.lo = search rules in
-    rw (c.distance.ensures, eq_z_yes c.before.before.before.before.args.a (pos 1) c.before.before.before.before.ranges.a (sfits_lit tt) c.before.before.before.if1.true) (simp (to_z-of_z fnhi, to_z-of_z fslo))
+    rw (c.distance.ensures, eq_z_yes c.before.before.before.before.args.a (pos 1) c.before.before.before.before.ranges.a (sfits_lit tt) c.before.before.before.if-a-eq1.true) (simp (to_z-of_z fnhi, to_z-of_z fslo))
 
-distance-requires-2 : tie.Need-distance-requires-2
+distance-requires-2 : tie.Need-distance-requires-then-a-eqminus1
 distance-requires-2 c κs =
     let fshi : SFits w64 c.before.before.before.before.args.s.hi = search rules in
     let fnlo : SFits w64 c.before.before.before.before.args.n.lo = search rules in
     simp (to_z-of_z fshi, to_z-of_z fnlo) (c.before.before.before.before.requires.2.high, c.before.before.before.before.requires.3.low)
 
-returns_2 : tie.Need-returns-2
+returns_2 : tie.Need-returns-then-a-eqminus1
 unfolding apart
 returns_2 c =
     let fshi : SFits w64 c.before.before.before.before.before.args.s.hi = search rules in
     let fnlo : SFits w64 c.before.before.before.before.before.args.n.lo = search rules in
     let m : SFits w64 (negsuc 0) = omega ints in
-    rw (c.distance2.ensures, eq_z_no c.before.before.before.before.before.args.a (pos 1) c.before.before.before.before.before.ranges.a (sfits_lit tt) c.before.before.before.before.if1.false, eq_z_yes c.before.before.before.before.before.args.a (negsuc 0) c.before.before.before.before.before.ranges.a m c.before.before.before.if2.true) (simp (to_z-of_z fshi, to_z-of_z fnlo))
+    rw (c.distance-then-a-eqminus1.ensures, eq_z_no c.before.before.before.before.before.args.a (pos 1) c.before.before.before.before.before.ranges.a (sfits_lit tt) c.before.before.before.before.if-a-eq1.false, eq_z_yes c.before.before.before.before.before.args.a (negsuc 0) c.before.before.before.before.before.ranges.a m c.before.before.before.if-a-eqminus1.true) (simp (to_z-of_z fshi, to_z-of_z fnlo))
 
-distance-requires-3 : tie.Need-distance-requires-3
+distance-requires-3 : tie.Need-distance-requires-2
 distance-requires-3 c κs =
     let fnlo : SFits w64 c.before.before.before.before.args.n.lo = search rules in
     let fslo : SFits w64 c.before.before.before.before.args.s.lo = search rules in
     simp (to_z-of_z fnlo, to_z-of_z fslo) (c.before.before.before.before.requires.3.low, c.before.before.before.before.requires.2.low)
 
-distance-requires-4 : tie.Need-distance-requires-4
+distance-requires-4 : tie.Need-distance-requires-3
 distance-requires-4 c κs = rw (to_z-of_z c.before.before.before.before.before.ranges.a) (c.before.before.before.before.before.requires.0, near_none)
 
-div-result : tie.Need-nonzero-div-result
+div-result : tie.Need-nonzero_div-result
 div-result c =
     let s = c.before.before.before.before.before.before in
-    let e : c.distance4.result ≡ nat_abs s.args.a = c.distance4.ensures ∙ (rw (to_z-of_z s.ranges.a) (abs_of s.args.a)) in
+    let e : c.distance-3.result ≡ nat_abs s.args.a = c.distance-3.ensures ∙ (rw (to_z-of_z s.ranges.a) (abs_of s.args.a)) in
     rw e (some s.args.a s.requires.1)
 
-returns_3 : tie.Need-returns-3
+returns_3 : tie.Need-returns
 unfolding apart
 returns_3 c =
     let s = c.before.before.before.before.before.before in
     let fnlo : SFits w64 c.before.before.before.before.before.before.args.n.lo = search rules in
     let fslo : SFits w64 c.before.before.before.before.before.before.args.s.lo = search rules in
     let m : SFits w64 (negsuc 0) = omega ints in
-    let e : c.distance4.result ≡ nat_abs s.args.a = c.distance4.ensures ∙ (rw (to_z-of_z s.ranges.a) (abs_of s.args.a)) in
-    rw (e, c.before.distance3.ensures, eq_z_no c.before.before.before.before.before.before.args.a (pos 1) c.before.before.before.before.before.before.ranges.a (sfits_lit tt) c.before.before.before.before.before.if1.false, eq_z_no s.args.a (negsuc 0) s.ranges.a m c.before.before.before.before.if2.false) (simp (to_z-of_z fnlo, to_z-of_z fslo))
+    let e : c.distance-3.result ≡ nat_abs s.args.a = c.distance-3.ensures ∙ (rw (to_z-of_z s.ranges.a) (abs_of s.args.a)) in
+    rw (e, c.before.distance-2.ensures, eq_z_no c.before.before.before.before.before.before.args.a (pos 1) c.before.before.before.before.before.before.ranges.a (sfits_lit tt) c.before.before.before.before.before.if-a-eq1.false, eq_z_no s.args.a (negsuc 0) s.ranges.a m c.before.before.before.before.if-a-eqminus1.false) (simp (to_z-of_z fnlo, to_z-of_z fslo))
 
 pub apart_spec : {M : Type 1} → statement M
 apart_spec =

@@ -14,39 +14,39 @@ use Rattle.analysis_turns.proofs.figures.has_figure.Tie as tie
 meets-requires : tie.Need-meets-requires
 meets-requires c κs =
     let s = c.before.before.before.before.before.before.before in
-    let fa : SFits w64 c.before.before.before.before.step.given.0.0 = sfits_of c.before.before.before.known-told.given.0.1 in
-    let fb : SFits w64 c.before.before.before.before.step.given.0.1.0 = sfits_of c.before.before.before.known-told.given.1.0.1 in
-    let p = rw c.before.before.before.before.step.given.1 at s.requires.0 in
-    let m = rw c.before.before.before.before.step.given.1 at s.requires.1 in
-    let b = rw c.before.before.before.before.step.given.1 at s.requires.2 in
-    rw (to_z-of_z fa) (near_step _ p.0, not_still _ _ m (eq_z_yes _ _ fa fb c.if2.true), b, s.requires.3)
+    let fa : SFits w64 c.before.before.before.before.step-1.given.0.0 = sfits_of c.before.before.before.known_told-1.given.0.1 in
+    let fb : SFits w64 c.before.before.before.before.step-1.given.0.1.0 = sfits_of c.before.before.before.known_told-1.given.1.0.1 in
+    let p = rw c.before.before.before.before.step-1.given.1 at s.requires.0 in
+    let m = rw c.before.before.before.before.step-1.given.1 at s.requires.1 in
+    let b = rw c.before.before.before.before.step-1.given.1 at s.requires.2 in
+    rw (to_z-of_z fa) (near_step _ p.0, not_still _ _ m (eq_z_yes _ _ fa fb c.if-a-b.true), b, s.requires.3)
 
-returns : tie.Need-returns
+returns : tie.Need-returns-then-a-b
 returns c =
-    let fa : SFits w64 c.before.before.before.before.before.step.given.0.0 = sfits_of c.before.before.before.before.known-told.given.0.1 in
-    let fb : SFits w64 c.before.before.before.before.before.step.given.0.1.0 = sfits_of c.before.before.before.before.known-told.given.1.0.1 in
-    rw (c.before.before.before.before.before.step.given.1, c.meets.ensures, to_z-of_z fa) (add_even _ _ _ _ _ _ _ (sym c.before.before.before.is_differ_lem.ensures ∙ c.before.before.if1.true) (eq_z_yes _ _ fa fb c.before.if2.true))
+    let fa : SFits w64 c.before.before.before.before.before.step-1.given.0.0 = sfits_of c.before.before.before.before.known_told-1.given.0.1 in
+    let fb : SFits w64 c.before.before.before.before.before.step-1.given.0.1.0 = sfits_of c.before.before.before.before.known_told-1.given.1.0.1 in
+    rw (c.before.before.before.before.before.step-1.given.1, c.meets.ensures, to_z-of_z fa) (add_even _ _ _ _ _ _ _ (sym c.before.before.before.is_differ_lem.ensures ∙ c.before.before.if-is_differ.true) (eq_z_yes _ _ fa fb c.before.if-a-b.true))
 
-returns_2 : tie.Need-returns-2
+returns_2 : tie.Need-returns-else-a-b
 returns_2 c =
-    let fa : SFits w64 c.before.before.before.before.step.given.0.0 = sfits_of c.before.before.before.known-told.given.0.1 in
-    let fb : SFits w64 c.before.before.before.before.step.given.0.1.0 = sfits_of c.before.before.before.known-told.given.1.0.1 in
-    rw c.before.before.before.before.step.given.1 (add_uneven _ _ _ _ _ _ _ (sym c.before.before.is_differ_lem.ensures ∙ c.before.if1.true) (eq_z_no _ _ fa fb c.if2.false))
+    let fa : SFits w64 c.before.before.before.before.step-1.given.0.0 = sfits_of c.before.before.before.known_told-1.given.0.1 in
+    let fb : SFits w64 c.before.before.before.before.step-1.given.0.1.0 = sfits_of c.before.before.before.known_told-1.given.1.0.1 in
+    rw c.before.before.before.before.step-1.given.1 (add_uneven _ _ _ _ _ _ _ (sym c.before.before.is_differ_lem.ensures ∙ c.before.if-is_differ.true) (eq_z_no _ _ fa fb c.if-a-b.false))
 
-returns_3 : tie.Need-returns-3
-returns_3 c = rw c.before.before.before.step.given.1 (add_other _ _ _ _ _ _ _ (sym c.before.is_differ_lem.ensures ∙ c.if1.false))
+returns_3 : tie.Need-returns-else-is_differ
+returns_3 c = rw c.before.before.before.step-1.given.1 (add_other _ _ _ _ _ _ _ (sym c.before.is_differ_lem.ensures ∙ c.if-is_differ.false))
 
-returns-4 : tie.Need-returns-4
+returns-4 : tie.Need-returns-in-Grow
 unfolding has_figure
-returns-4 c = let f : SFits w64 c.before.before.before.args.s.lo = search rules in rw c.enum_told.given.1 (simp (to_z-of_z f))
+returns-4 c = let f : SFits w64 c.before.before.before.args.s.lo = search rules in rw c.enum_told-1.given.1 (simp (to_z-of_z f))
 
-returns-5 : tie.Need-returns-5
+returns-5 : tie.Need-returns-in-Shrink
 unfolding has_figure
-returns-5 c = rw c.enum-told2.given.1 (simp (to_z-of_z c.before.before.before.ranges.e))
+returns-5 c = rw c.enum_told-in-Shrink-1.given.1 (simp (to_z-of_z c.before.before.before.ranges.e))
 
-returns-6 : tie.Need-returns-6
+returns-6 : tie.Need-returns-in-Unknown
 unfolding has_figure
-returns-6 c = rw c.enum-told3.given.1
+returns-6 c = rw c.enum_told-in-Unknown-1.given.1
 
 pub has_figure_spec : {M : Type 1} → statement M
 has_figure_spec =

@@ -8,11 +8,11 @@ use Rattle.rules.specs.Turns.{powers}
 use Rattle.analysis_turns.proofs.figures.powers.Statement.{statement}
 use Rattle.analysis_turns.proofs.figures.powers.Tie as tie
 
-abbrev invariant-loop : tie.invariant-loop
-invariant-loop t e f at₀ k₀ at k = (powers (suc e) t e f ≡ k + powers (suc e - k) at e f) × (k < at)
+abbrev invariant-loop-at : tie.invariant-loop-at
+invariant-loop-at t e f at₀ k₀ at k = (powers (suc e) t e f ≡ k + powers (suc e - k) at e f) × (k < at)
 
-abbrev decreases-loop : tie.decreases-loop
-decreases-loop t e f at₀ k₀ at k = suc e - k
+abbrev decreases-loop-at : tie.decreases-loop-at
+decreases-loop-at t e f at₀ k₀ at k = suc e - k
 
 -- a number past e counts no more
 over : (n at e f : ℕ) → e < at → powers n at e f ≡ 0
@@ -34,28 +34,28 @@ pub record Turn (e f at k : ℕ) : Type 0 where
   pub twice : at * 2 ≤ at * f
   pub fits : at * f ≤ 5_000_000_000 * 2_000_000_001
 
-in_turn : (c : tie.In-loop invariant-loop decreases-loop) → Turn c.before.before.args.e c.before.before.args.f c.before.loop.at c.before.loop.k
+in_turn : (c : tie.In-loop-at invariant-loop-at decreases-loop-at) → Turn c.before.before.args.e c.before.before.args.f c.before.loop-at.at c.before.loop-at.k
 in_turn c =
-    let l : c.before.loop.at ≤ 5_000_000_000 = omega arith in
-    record { twice = mul-le-mul_left c.before.loop.at c.before.before.requires.2; fits = mul-le-mul l c.before.before.requires.3 }
+    let l : c.before.loop-at.at ≤ 5_000_000_000 = omega arith in
+    record { twice = mul-le-mul_left c.before.loop-at.at c.before.before.requires.2; fits = mul-le-mul l c.before.before.requires.3 }
 
-loop_holds : tie.Need-loop-init invariant-loop decreases-loop
+loop_holds : tie.Need-loop-at-init invariant-loop-at decreases-loop-at
 loop_holds c = (first _ _ _, omega arith)
 
-mul_at : tie.Need-overflow-mul-at invariant-loop decreases-loop
+mul_at : tie.Need-overflow_mul-at invariant-loop-at decreases-loop-at
 mul_at c = let h = in_turn c in omega arith
 
-add-k : tie.Need-overflow-add-k invariant-loop decreases-loop
+add-k : tie.Need-overflow_add-k invariant-loop-at decreases-loop-at
 add-k c = omega arith
 
-loop-less : tie.Need-loop-smaller invariant-loop decreases-loop
+loop-less : tie.Need-loop-at-smaller invariant-loop-at decreases-loop-at
 loop-less c = omega arith
 
-loop_again : tie.Need-loop-preserved invariant-loop decreases-loop
-loop_again c = let h = in_turn c in (c.before.loop.invariant.0 ∙ more _ _ _ _ c.loop-test.true c.before.loop.invariant.1, omega arith)
+loop_again : tie.Need-loop-at-preserved invariant-loop-at decreases-loop-at
+loop_again c = let h = in_turn c in (c.before.loop-at.invariant.0 ∙ more _ _ _ _ c.loop-at-test.true c.before.loop-at.invariant.1, omega arith)
 
-returns : tie.Need-returns invariant-loop decreases-loop
-returns c = omega (arith, c.before.loop.invariant.0, over (suc c.before.before.args.e - c.before.loop.k) c.before.loop.at c.before.before.args.e c.before.before.args.f c.loop-test.false)
+returns : tie.Need-returns invariant-loop-at decreases-loop-at
+returns c = omega (arith, c.before.loop-at.invariant.0, over (suc c.before.before.args.e - c.before.loop-at.k) c.before.loop-at.at c.before.before.args.e c.before.before.args.f c.loop-at-test.false)
 
 pub powers_spec : {M : Type 1} → statement M
-powers_spec = tie.close (tie.spec invariant-loop decreases-loop loop_holds mul_at add-k loop-less loop_again returns)
+powers_spec = tie.close (tie.spec invariant-loop-at decreases-loop-at loop_holds mul_at add-k loop-less loop_again returns)

@@ -6,22 +6,22 @@ use borrow.Author.Rules.{rules}
 use Rattle.analysis_turns.proofs.figures.share.Statement.{statement}
 use Rattle.analysis_turns.proofs.figures.share.Tie as tie
 
-returns : tie.Need-returns
+returns : tie.Need-returns-then-a-d
 returns c =
     let f0 : SFits w64 c.before.before.before.before.before.args.s.lo = search rules in
     let f1 : SFits w64 c.before.before.before.before.before.args.s.hi = search rules in
     let f2 : SFits w64 c.before.before.before.before.before.args.n.lo = search rules in
     let f3 : SFits w64 c.before.before.before.before.before.args.n.hi = search rules in
-    let t = simp (to_z-of_z f0, to_z-of_z f3) at c.if1.true in
+    let t = simp (to_z-of_z f0, to_z-of_z f3) at c.if-a-d.true in
     simp (to_z-of_z f1, to_z-of_z f2, t)
 
-returns_2 : tie.Need-returns-2
+returns_2 : tie.Need-returns-else-a-d
 returns_2 c =
     let f0 : SFits w64 c.before.before.before.before.before.args.s.lo = search rules in
     let f1 : SFits w64 c.before.before.before.before.before.args.s.hi = search rules in
     let f2 : SFits w64 c.before.before.before.before.before.args.n.lo = search rules in
     let f3 : SFits w64 c.before.before.before.before.before.args.n.hi = search rules in
-    let t = simp (to_z-of_z f0, to_z-of_z f3) at c.if1.false in
+    let t = simp (to_z-of_z f0, to_z-of_z f3) at c.if-a-d.false in
     simp t
 
 pub share_spec : {M : Type 1} → statement M

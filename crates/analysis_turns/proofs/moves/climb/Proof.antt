@@ -7,17 +7,17 @@ use Rattle.rules.specs.Turns.{climb}
 use Rattle.analysis_turns.proofs.moves.climb.Statement.{statement}
 use Rattle.analysis_turns.proofs.moves.climb.Tie as tie
 
-from-zero-requires : tie.Need-from-zero-requires
+from-zero-requires : tie.Need-from_zero-requires
 from-zero-requires c κs = search rules
 
-by-one-requires : tie.Need-by-one-requires
+by-one-requires : tie.Need-by_one-last-requires
 by-one-requires c κs = rw c.from_zero_lem.ensures (c.before.requires.2, c.before.requires.3)
 
 returns : tie.Need-returns
 unfolding climb
 returns c =
-    let f : SFits w64 c.before.before.by_one.result.limit = search rules in
-    rw (c.turns-to.ensures, to_z-of_z f, c.before.before.by_one.ensures, c.before.before.before.from_zero_lem.ensures)
+    let f : SFits w64 c.before.before.by_one-last.result.limit = search rules in
+    rw (c.turns_to.ensures, to_z-of_z f, c.before.before.by_one-last.ensures, c.before.before.before.from_zero_lem.ensures)
 
 pub climb_spec : {M : Type 1} → statement M
 climb_spec = tie.close (tie.spec from-zero-requires by-one-requires (λ c κs. search rules) returns)

@@ -18,7 +18,7 @@ record Fit (l : AddLoop) : Type 0 where
 fit : (l : AddLoop) → Near 4_000_000 l.start × Near 4_000_000 l.limit → Fit l
 fit l (s, e) = record { start = omega ints; limit = omega ints; way = omega (ints, minus_parts l.limit l.start) }
 
-sub-t2 : tie.Need-overflow-sub-t2
+sub-t2 : tie.Need-overflow_sub-result
 sub-t2 c = let h = fit c.before.before.args.l c.before.before.requires in simp (to_z-of_z h.start, to_z-of_z h.limit) h.way
 
 returns : tie.Need-returns

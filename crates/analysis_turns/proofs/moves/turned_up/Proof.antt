@@ -12,7 +12,7 @@ use Rattle.analysis_turns.proofs.moves.turned_up.Tie as tie
 fit : (z : ℤ) → Near 1024 z → SFits w64 z × SFits w64 (neg_ℤ z)
 fit z h = (omega ints, omega (ints, neg_parts z))
 
-sub-t2 : tie.Need-overflow-sub-t2
+sub-t2 : tie.Need-overflow_sub-result
 sub-t2 c = let h = fit c.before.before.args.l.step c.before.before.requires in simp (to_z-of_z h.0, +ℤ_idl) h.1
 
 returns : tie.Need-returns

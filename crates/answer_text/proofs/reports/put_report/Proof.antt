@@ -4,16 +4,16 @@ use Rattle.answer_text.proofs.ReportsLaws.{accepted_printed, refused_printed, re
 use Rattle.answer_text.proofs.reports.put_report.Statement.{statement}
 use Rattle.answer_text.proofs.reports.put_report.Tie as tie
 
-returns : tie.Need-returns
+returns : tie.Need-returns-in-Accepted
 returns c =
     let s = c.before.before.before.before.before.before.before.before.before.before.before.before in
-    accepted_printed s.args.prices.now s.args.file.now s.args.out.now _ s.requires _ (rw c.before.reply.given.1 at c.before.before.before.before.before.before.report.ensures.0)
+    accepted_printed s.args.prices.now s.args.file.now s.args.out.now _ s.requires _ (rw c.before.reply-1.given.1 at c.before.before.before.before.before.before.report-reply.ensures.0)
 
-returns_2 : tie.Need-returns-2
+returns_2 : tie.Need-returns-in-Refused
 returns_2 c =
     let s = c.before.before.before.before.before.before.before.before.before.before.before.before.before.before.before.before in
-    let e = refused_printed s.args.prices.now s.args.file.now s.args.out.now _ s.requires _ _ (rw c.before.before.before.before.before.reply2.given.1 at c.before.before.before.before.before.before.before.before.before.before.report.ensures.0) in
-    refusal_printed _ _ _ _ _ _ _ e.0 e.1 c.before.before.put-refusal.ensures
+    let e = refused_printed s.args.prices.now s.args.file.now s.args.out.now _ s.requires _ _ (rw c.before.before.before.before.before.reply-in-Refused-1.given.1 at c.before.before.before.before.before.before.before.before.before.before.report-reply.ensures.0) in
+    refusal_printed _ _ _ _ _ _ _ e.0 e.1 c.before.before.put_refusal.ensures
 
 pub put_report_spec : {M : Type 1} → statement M
 put_report_spec = tie.close (tie.spec

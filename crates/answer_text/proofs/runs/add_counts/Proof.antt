@@ -6,24 +6,24 @@ use Rattle.answer_text.proofs.RunsLaws.{Counting, counting_none, counting_more, 
 use Rattle.answer_text.proofs.runs.add_counts.Statement.{statement}
 use Rattle.answer_text.proofs.runs.add_counts.Tie as tie
 
-abbrev invariant-loop : tie.invariant-loop
-invariant-loop loops at out₀ counts end₀ i₀ out end i = (i ≤ loops) × Counting counts at out₀ out end i
+abbrev invariant-loop-i : tie.invariant-loop-i
+invariant-loop-i loops at out₀ counts end₀ i₀ out end i = (i ≤ loops) × Counting counts at out₀ out end i
 
-abbrev decreases-loop : tie.decreases-loop
-decreases-loop loops at out₀ counts end₀ i₀ out end i = loops - i
+abbrev decreases-loop-i : tie.decreases-loop-i
+decreases-loop-i loops at out₀ counts end₀ i₀ out end i = loops - i
 
-returns : tie.Need-returns invariant-loop decreases-loop
-returns c = (counting_all _ _ _ _ _ _ _ c.before.loop.invariant.0 c.loop-test.false c.before.loop.invariant.1, omega (arith, c.before.loop.invariant.0, c.before.loop.invariant.1.small, c.before.before.before.requires.0))
+returns : tie.Need-returns invariant-loop-i decreases-loop-i
+returns c = (counting_all _ _ _ _ _ _ _ c.before.loop-i.invariant.0 c.loop-i-test.false c.before.loop-i.invariant.1, omega (arith, c.before.loop-i.invariant.0, c.before.loop-i.invariant.1.small, c.before.before.before.requires.0))
 
 pub add_counts_spec : {M : Type 1} → statement M
 add_counts_spec = tie.close (tie.spec
-    invariant-loop
-    decreases-loop
+    invariant-loop-i
+    decreases-loop-i
     (λ c. (omega arith, counting_none _ _ _))
     (λ c. search rules) (λ c. search rules)
-    (λ c κs. omega (arith, c.before.before.before.loop.invariant.1.small, c.before.before.before.loop.invariant.1.adds.long, c.before.before.loop-test.true, c.before.before.before.before.before.requires.0, c.before.before.before.before.before.requires.1))
+    (λ c κs. omega (arith, c.before.before.before.loop-i.invariant.1.small, c.before.before.before.loop-i.invariant.1.adds.long, c.before.before.loop-i-test.true, c.before.before.before.before.before.requires.0, c.before.before.before.before.before.requires.1))
     (λ c. search rules)
     (λ c. search rules)
-    (λ c. (omega (arith, c.before.before.before.before.before.loop-test.true), counting_more _ _ _ _ _ _ _ _ _ c.before.before.before.before.before.before.loop.invariant.1 (search rules) c.before.before.add-count.ensures.0 c.before.before.add-count.ensures.1))
-    (λ c. c.before.loop.invariant.1.adds.long)
+    (λ c. (omega (arith, c.before.before.before.before.before.loop-i-test.true), counting_more _ _ _ _ _ _ _ _ _ c.before.before.before.before.before.before.loop-i.invariant.1 (search rules) c.before.before.add_count-end.ensures.0 c.before.before.add_count-end.ensures.1))
+    (λ c. c.before.loop-i.invariant.1.adds.long)
     returns)

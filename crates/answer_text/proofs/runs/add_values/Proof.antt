@@ -13,27 +13,27 @@ use Rattle.answer_text.proofs.RunsLaws.{Listing, listing_none, listing_more, lis
 use Rattle.answer_text.proofs.runs.add_values.Statement.{statement}
 use Rattle.answer_text.proofs.runs.add_values.Tie as tie
 
-abbrev invariant-loop : tie.invariant-loop
-invariant-loop store at out₀ end₀ i₀ out end i = Listing value_text 22 store at out₀ out end i
+abbrev invariant-loop-i : tie.invariant-loop-i
+invariant-loop-i store at out₀ end₀ i₀ out end i = Listing value_text 22 store at out₀ out end i
 
-abbrev decreases-loop : tie.decreases-loop
-decreases-loop store at out₀ end₀ i₀ out end i = length store - i
+abbrev decreases-loop-i : tie.decreases-loop-i
+decreases-loop-i store at out₀ end₀ i₀ out end i = length store - i
 
-loop_again : tie.Need-loop-preserved invariant-loop decreases-loop
+loop_again : tie.Need-loop-i-preserved invariant-loop-i decreases-loop-i
 loop_again c =
-    let g : SFits w32 (get_or c.before.before.before.before.before.before.before.before.before.args.store.now c.before.before.before.before.before.before.before.loop.i (pos 0)) = search rules in
-    listing_more _ _ _ _ _ _ _ _ _ _ (pos 0) _ c.before.before.before.before.before.before.before.loop.invariant c.before.before.before.before.before.before.loop-test.true c.before.before.before.before.before.is-first.ensures (simp (to_z-of_z g) at c.before.before.add-value.ensures.0) c.before.before.add-value.ensures.1
+    let g : SFits w32 (get_or c.before.before.before.before.before.before.before.before.before.args.store.now c.before.before.before.before.before.before.before.loop-i.i (pos 0)) = search rules in
+    listing_more _ _ _ _ _ _ _ _ _ _ (pos 0) _ c.before.before.before.before.before.before.before.loop-i.invariant c.before.before.before.before.before.before.loop-i-test.true c.before.before.before.before.before.is_first-first.ensures (simp (to_z-of_z g) at c.before.before.add_value-end.ensures.0) c.before.before.add_value-end.ensures.1
 
 pub add_values_spec : {M : Type 1} → statement M
 add_values_spec = tie.close (tie.spec
-    invariant-loop
-    decreases-loop
+    invariant-loop-i
+    decreases-loop-i
     (λ c. listing_none _ _ _ _ _)
     (λ c κs. search rules)
     (λ c. search rules) (λ c. search rules)
-    (λ c κs. omega (arith, c.before.before.before.before.loop.invariant.small, c.before.before.before.before.loop.invariant.adds.long, c.before.before.before.loop-test.true, c.before.before.before.before.before.before.requires.0, c.before.before.before.before.before.before.requires.1))
+    (λ c κs. omega (arith, c.before.before.before.before.loop-i.invariant.small, c.before.before.before.before.loop-i.invariant.adds.long, c.before.before.before.loop-i-test.true, c.before.before.before.before.before.before.requires.0, c.before.before.before.before.before.before.requires.1))
     (λ c. search rules)
     (λ c. search rules)
     loop_again
-    (λ c. c.before.loop.invariant.adds.long)
-    (λ c. (listing_all _ _ _ _ _ _ _ _ c.before.loop.invariant c.loop-test.false, omega (arith, c.before.loop.invariant.small, c.before.loop.invariant.within, c.before.before.before.requires.0))))
+    (λ c. c.before.loop-i.invariant.adds.long)
+    (λ c. (listing_all _ _ _ _ _ _ _ _ c.before.loop-i.invariant c.loop-i-test.false, omega (arith, c.before.loop-i.invariant.small, c.before.loop-i.invariant.within, c.before.before.before.requires.0))))

@@ -9,20 +9,20 @@ use Rattle.answer_text.proofs.StepTexts.{going_word_lem, waits_word_lem, full_wo
 use Rattle.answer_text.proofs.steps.add_status.Statement.{statement}
 use Rattle.answer_text.proofs.steps.add_status.Tie as tie
 
-returns : tie.Need-returns
-returns c = (adds_is (ap (λ w. w ++ decimal c.before.before.before.before.before.before.before.args.row) (going_word_lem _ c.before.before.before.before.before.if1.true)) c.before.before.add-number.ensures.0, omega (arith, c.before.before.add-number.ensures.1))
+returns : tie.Need-returns-then-status-eq-GOING
+returns c = (adds_is (ap (λ w. w ++ decimal c.before.before.before.before.before.before.before.args.row) (going_word_lem _ c.before.before.before.before.before.if-status-eq-GOING.true)) c.before.before.add_number.ensures.0, omega (arith, c.before.before.add_number.ensures.1))
 
-returns_2 : tie.Need-returns-2
-returns_2 c = (adds_is (ap (λ w. w ++ decimal c.before.before.before.before.before.before.before.before.args.row) (waits_word_lem _ c.before.before.before.before.before.if2.true)) c.before.before.add-number2.ensures.0, omega (arith, c.before.before.add-number2.ensures.1))
+returns_2 : tie.Need-returns-then-status-eq-WAITS
+returns_2 c = (adds_is (ap (λ w. w ++ decimal c.before.before.before.before.before.before.before.before.args.row) (waits_word_lem _ c.before.before.before.before.before.if-status-eq-WAITS.true)) c.before.before.add_number-then-status-eq-WAITS.ensures.0, omega (arith, c.before.before.add_number-then-status-eq-WAITS.ensures.1))
 
-returns_3 : tie.Need-returns-3
-returns_3 c = (adds_is (ap (λ w. w ++ decimal c.before.before.before.before.before.before.before.before.before.args.row) (full_word_lem _ c.before.before.before.before.before.if3.true)) c.before.before.add-number3.ensures.0, omega (arith, c.before.before.add-number3.ensures.1))
+returns_3 : tie.Need-returns-then-status-eq-FULL
+returns_3 c = (adds_is (ap (λ w. w ++ decimal c.before.before.before.before.before.before.before.before.before.args.row) (full_word_lem _ c.before.before.before.before.before.if-status-eq-FULL.true)) c.before.before.add_number-then-status-eq-FULL.ensures.0, omega (arith, c.before.before.add_number-then-status-eq-FULL.ensures.1))
 
-returns-4 : tie.Need-returns-4
-returns-4 c = (adds_is (ap (λ w. w ++ decimal c.before.before.before.before.before.before.before.before.before.before.args.row) (ended_word_lem _ c.before.before.before.before.before.if4.true)) c.before.before.add-number4.ensures.0, omega (arith, c.before.before.add-number4.ensures.1))
+returns-4 : tie.Need-returns-then-status-eq-ENDED
+returns-4 c = (adds_is (ap (λ w. w ++ decimal c.before.before.before.before.before.before.before.before.before.before.args.row) (ended_word_lem _ c.before.before.before.before.before.if-status-eq-ENDED.true)) c.before.before.add_number-then-status-eq-ENDED.ensures.0, omega (arith, c.before.before.add_number-then-status-eq-ENDED.ensures.1))
 
-returns-5 : tie.Need-returns-5
-returns-5 c = (adds_is (ap (λ w. w ++ decimal c.before.before.before.before.before.before.before.before.before.before.args.row) (range_word_lem _ c.before.before.before.before.before.before.before.before.if1.false c.before.before.before.before.before.before.before.if2.false c.before.before.before.before.before.before.if3.false c.before.before.before.before.before.if4.false)) c.before.before.add-number5.ensures.0, omega (arith, c.before.before.add-number5.ensures.1))
+returns-5 : tie.Need-returns
+returns-5 c = (adds_is (ap (λ w. w ++ decimal c.before.before.before.before.before.before.before.before.before.before.args.row) (range_word_lem _ c.before.before.before.before.before.before.before.before.if-status-eq-GOING.false c.before.before.before.before.before.before.before.if-status-eq-WAITS.false c.before.before.before.before.before.before.if-status-eq-FULL.false c.before.before.before.before.before.if-status-eq-ENDED.false)) c.before.before.add_number-2.ensures.0, omega (arith, c.before.before.add_number-2.ensures.1))
 
 pub add_status_spec : {M : Type 1} → statement M
 add_status_spec = tie.close (tie.spec

@@ -5,7 +5,7 @@ use Rattle.answer_text.proofs.steps.ending_of.Tie as tie
 
 pub ending_of_spec : {M : Type 1} → statement M
 ending_of_spec = tie.close (tie.spec
-    (λ c. ending_ended _ c.if1.true)
-    (λ c. ending_range _ c.if2.true)
-    (λ c. ending_waits _ c.if3.true)
-    (λ c. ending_spent _ c.before.before.if1.false c.before.if2.false c.if3.false))
+    (λ c. ending_ended _ c.if-status-eq-ENDED.true)
+    (λ c. ending_range _ c.if-status-eq-RANGE.true)
+    (λ c. ending_waits _ c.if-status-eq-WAITS.true)
+    (λ c. ending_spent _ c.before.before.if-status-eq-ENDED.false c.before.if-status-eq-RANGE.false c.if-status-eq-WAITS.false))

@@ -8,8 +8,8 @@ use Rattle.answer_text.proofs.steps.put_cue.Tie as tie
 
 returns : tie.Need-returns
 returns c =
-    let a = c.before.before.add-three.ensures in
-    let short : c.before.before.add-three.result ≤ 67 = omega (arith, a.1) in
+    let a = c.before.before.add_three.ensures in
+    let short : c.before.before.add_three.result ≤ 67 = omega (arith, a.1) in
     (adds_whole _ _ _ _ (omega (arith, a.0.count, c.before.before.before.before.before.before.requires, short)) a.0, short)
 
 pub put_cue_spec : {M : Type 1} → statement M

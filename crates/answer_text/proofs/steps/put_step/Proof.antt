@@ -11,13 +11,13 @@ use Rattle.answer_text.proofs.StepTexts.{step_passed}
 use Rattle.answer_text.proofs.steps.put_step.Statement.{statement}
 use Rattle.answer_text.proofs.steps.put_step.Tie as tie
 
-returns : tie.Need-returns
-returns c = (wrote_is (step_passed _ _ _ _ c.before.before.before.before.before.enum_told.given.1) c.before.before.put_done.ensures.0, c.before.before.put_done.ensures.1)
+returns : tie.Need-returns-in-Passed
+returns c = (wrote_is (step_passed _ _ _ _ c.before.before.before.before.before.enum_told-1.given.1) c.before.before.put_done.ensures.0, c.before.before.put_done.ensures.1)
 
-returns_2 : tie.Need-returns-2
+returns_2 : tie.Need-returns-in-Refused
 unfolding step_text_by
 returns_2 c =
-    rw c.before.before.before.before.before.verdict.given.1 (c.before.before.put-refusal.ensures, omega (arith, c.before.before.put-refusal.ensures.count, refusal_room c.before.before.before.before.before.verdict.given.0.0 c.before.before.before.before.before.verdict.given.0.1.0, simp (refusal_line, length-append) at c.before.before.put-refusal.ensures.count))
+    rw c.before.before.before.before.before.verdict-1.given.1 (c.before.before.put_refusal.ensures, omega (arith, c.before.before.put_refusal.ensures.count, refusal_room c.before.before.before.before.before.verdict-1.given.0.0 c.before.before.before.before.before.verdict-1.given.0.1.0, simp (refusal_line, length-append) at c.before.before.put_refusal.ensures.count))
 
 pub put_step_spec : {M : Type 1} → statement M
 put_step_spec = tie.close (tie.spec

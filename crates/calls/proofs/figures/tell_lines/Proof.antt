@@ -10,32 +10,32 @@ use Rattle.calls.proofs.Laws.{Telling, tells_none, tells_all, line_kept, tells_m
 use Rattle.calls.proofs.figures.tell_lines.Statement.{statement}
 use Rattle.calls.proofs.figures.tell_lines.Tie as tie
 
-abbrev invariant-loop : tie.invariant-loop
-invariant-loop old loops k₀ new k = (k ≤ loops) × Telling k old new
+abbrev invariant-loop-k : tie.invariant-loop-k
+invariant-loop-k old loops k₀ new k = (k ≤ loops) × Telling k old new
 
-abbrev decreases-loop : tie.decreases-loop
-decreases-loop old loops k₀ new k = loops - k
+abbrev decreases-loop-k : tie.decreases-loop-k
+decreases-loop-k old loops k₀ new k = loops - k
 
-loop_again : tie.Need-loop-preserved invariant-loop decreases-loop
+loop_again : tie.Need-loop-k-preserved invariant-loop-k decreases-loop-k
 loop_again c =
     let s = c.before.before.before.before.before in
-    let l = c.before.before.before.before.loop in
-    let k = c.before.before.before.loop-test.true in
-    let line = c.before.line_at.ensures ∙ line_kept (omega (arith, s.requires.0)) s.requires.1 l.invariant.1 in
-    (omega arith, tells_more _ (omega (arith, s.requires.0)) s.requires.1 (c.line-numbers.ensures ∙ ap (λ z. line_numbers (line_of z)) line) l.invariant.1)
+    let l = c.before.before.before.before.loop-k in
+    let k = c.before.before.before.loop-k-test.true in
+    let line = c.before.line_at-line.ensures ∙ line_kept (omega (arith, s.requires.0)) s.requires.1 l.invariant.1 in
+    (omega arith, tells_more _ (omega (arith, s.requires.0)) s.requires.1 (c.line_numbers-numbers.ensures ∙ ap (λ z. line_numbers (line_of z)) line) l.invariant.1)
 
 pub tell_lines_spec : {M : Type 1} → statement M
 tell_lines_spec =
     tie.close
     (tie.spec
-    invariant-loop
-    decreases-loop
+    invariant-loop-k
+    decreases-loop-k
     (λ c. (omega arith, tells_none c.requires.1))
-    (λ c κs. omega (arith, c.before.loop-test.true, c.before.before.before.requires.0))
+    (λ c κs. omega (arith, c.before.loop-k-test.true, c.before.before.before.requires.0))
     (λ c κs. search rules)
-    (λ c. let k = c.before.before.before.loop-test.true in let n = c.before.before.before.before.before.requires.0 in search rules)
-    (λ c. let k = c.before.before.before.loop-test.true in let n = c.before.before.before.before.before.requires.0 in let m = c.before.before.before.before.loop.invariant.1.long in search rules)
-    (λ c. let k = c.before.before.before.loop-test.true in let n = c.before.before.before.before.before.requires.0 in search rules)
-    (λ c. let k = c.before.before.before.loop-test.true in omega arith)
+    (λ c. let k = c.before.before.before.loop-k-test.true in let n = c.before.before.before.before.before.requires.0 in search rules)
+    (λ c. let k = c.before.before.before.loop-k-test.true in let n = c.before.before.before.before.before.requires.0 in let m = c.before.before.before.before.loop-k.invariant.1.long in search rules)
+    (λ c. let k = c.before.before.before.loop-k-test.true in let n = c.before.before.before.before.before.requires.0 in search rules)
+    (λ c. let k = c.before.before.before.loop-k-test.true in omega arith)
     loop_again
-    (λ c. tells_all (omega (arith, c.loop-test.false, c.before.loop.invariant.0)) c.before.loop.invariant.1))
+    (λ c. tells_all (omega (arith, c.loop-k-test.false, c.before.loop-k.invariant.0)) c.before.loop-k.invariant.1))

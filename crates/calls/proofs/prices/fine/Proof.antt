@@ -3,11 +3,11 @@ use borrow.Author.Tests.{le-leb, lt-leb}
 use Rattle.calls.proofs.prices.fine.Statement.{statement}
 use Rattle.calls.proofs.prices.fine.Tie as tie
 
-returns : tie.Need-returns
-returns c = rw (le-leb 1 c.before.args.price c.if1.true)
+returns : tie.Need-returns-then-price-ge1
+returns c = rw (le-leb 1 c.before.args.price c.if-price-ge1.true)
 
-returns_2 : tie.Need-returns-2
-returns_2 c = rw (lt-leb 1 c.before.args.price c.if1.false)
+returns_2 : tie.Need-returns-else-price-ge1
+returns_2 c = rw (lt-leb 1 c.before.args.price c.if-price-ge1.false)
 
 pub fine_spec : {M : Type 1} → statement M
 fine_spec = tie.close (tie.spec returns returns_2)

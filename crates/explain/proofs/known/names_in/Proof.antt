@@ -5,11 +5,11 @@ use lib.ListN.{length}
 use Rattle.explain.proofs.known.names_in.Statement.{statement}
 use Rattle.explain.proofs.known.names_in.Tie as tie
 
-abbrev invariant-loop : tie.invariant-loop
-invariant-loop word v i₀ i = Unit {0}
+abbrev invariant-loop-i : tie.invariant-loop-i
+invariant-loop-i word v i₀ i = Unit {0}
 
-abbrev decreases-loop : tie.decreases-loop
-decreases-loop word v i₀ i = length word - i
+abbrev decreases-loop-i : tie.decreases-loop-i
+decreases-loop-i word v i₀ i = length word - i
 
 pub names_in_spec : {M : Type 1} → statement M
-names_in_spec = tie.close (tie.spec invariant-loop decreases-loop (λ c. search rules) (λ c. search rules) (λ c. search rules) (λ c κs. search rules) (λ c. search rules) (λ c. search rules) (λ c. search rules) (λ c. search rules) (λ c. search rules))
+names_in_spec = tie.close (tie.spec invariant-loop-i decreases-loop-i (λ c. search rules) (λ c. search rules) (λ c. search rules) (λ c κs. search rules) (λ c. search rules) (λ c. search rules) (λ c. search rules) (λ c. search rules) (λ c. search rules))

@@ -4,11 +4,11 @@ use Prim.Native.Nat.{◌-◌}
 use Rattle.explain.proofs.known.print_unknown.Statement.{statement}
 use Rattle.explain.proofs.known.print_unknown.Tie as tie
 
-abbrev invariant-loop : tie.invariant-loop
-invariant-loop file rows head end sum ranges rest₀ v₀ rest v = Unit {0}
+abbrev invariant-loop-v : tie.invariant-loop-v
+invariant-loop-v file rows head end sum ranges rest₀ v₀ rest v = Unit {0}
 
-abbrev decreases-loop : tie.decreases-loop
-decreases-loop file rows head end sum ranges rest₀ v₀ rest v = 16 - v
+abbrev decreases-loop-v : tie.decreases-loop-v
+decreases-loop-v file rows head end sum ranges rest₀ v₀ rest v = 16 - v
 
 pub print_unknown_spec : {M : Type 1} → statement M
-print_unknown_spec = tie.close (tie.spec invariant-loop decreases-loop (λ c. search rules) (λ c κs. search rules) (λ c. search rules) (λ c. search rules) (λ c. search rules) (λ c κs. search rules) (λ c. search rules) (λ c. search rules) (λ c. search rules) (λ c. search rules))
+print_unknown_spec = tie.close (tie.spec invariant-loop-v decreases-loop-v (λ c. search rules) (λ c κs. search rules) (λ c. search rules) (λ c. search rules) (λ c. search rules) (λ c κs. search rules) (λ c. search rules) (λ c. search rules) (λ c. search rules) (λ c. search rules))

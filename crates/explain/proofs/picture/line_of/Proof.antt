@@ -4,15 +4,15 @@ use Prim.Native.Nat.{◌-◌}
 use Rattle.explain.proofs.picture.line_of.Statement.{statement}
 use Rattle.explain.proofs.picture.line_of.Tie as tie
 
-abbrev invariant-loop : tie.invariant-loop
-invariant-loop numbers lines number n i₀ i = Unit {0}
+abbrev invariant-loop-i : tie.invariant-loop-i
+invariant-loop-i numbers lines number n i₀ i = Unit {0}
 
-abbrev decreases-loop : tie.decreases-loop
-decreases-loop numbers lines number n i₀ i = n - i
+abbrev decreases-loop-i : tie.decreases-loop-i
+decreases-loop-i numbers lines number n i₀ i = n - i
 
 pub line_of_spec : {M : Type 1} → statement M
 line_of_spec = tie.close (tie.spec
-    invariant-loop
-    decreases-loop
+    invariant-loop-i
+    decreases-loop-i
     (λ c κs. search rules) (λ c. search rules) (λ c. search rules) (λ c. search rules) (λ c. search rules) (λ c. search rules)
     (λ c. search rules) (λ c. search rules) (λ c. search rules))

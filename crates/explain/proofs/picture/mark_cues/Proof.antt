@@ -6,18 +6,18 @@ use lib.ListN.{length}
 use Rattle.explain.proofs.picture.mark_cues.Statement.{statement}
 use Rattle.explain.proofs.picture.mark_cues.Tie as tie
 
-abbrev invariant-loop : tie.invariant-loop
-invariant-loop file prices picks store₀ state₀ scale numbers₀ marks₀ at₀ lines₀ turns₀ store state numbers marks at lines turns =
+abbrev invariant-loop-turns : tie.invariant-loop-turns
+invariant-loop-turns file prices picks store₀ state₀ scale numbers₀ marks₀ at₀ lines₀ turns₀ store state numbers marks at lines turns =
     (length state ≡ 64) × (length state₀ ≡ 64) × (length store ≡ length store₀) × (length numbers ≡ length numbers₀)
     × (length marks ≡ length marks₀) × (at.used ≤ length picks) × (at.due ≤ 1)
 
-abbrev decreases-loop : tie.decreases-loop
-decreases-loop file prices picks store₀ state₀ scale numbers₀ marks₀ at₀ lines₀ turns₀ store state numbers marks at lines turns = turns
+abbrev decreases-loop-turns : tie.decreases-loop-turns
+decreases-loop-turns file prices picks store₀ state₀ scale numbers₀ marks₀ at₀ lines₀ turns₀ store state numbers marks at lines turns = turns
 
 pub mark_cues_spec : {M : Type 1} → statement M
 mark_cues_spec = tie.close (tie.spec
-    invariant-loop
-    decreases-loop
+    invariant-loop-turns
+    decreases-loop-turns
     (λ c. search rules) (λ c κs. search rules) (λ c κs. search rules) (λ c. search rules) (λ c. search rules) (λ c. search rules)
     (λ c. search rules) (λ c. search rules) (λ c. search rules) (λ c. search rules) (λ c. search rules)
     (λ c. search rules) (λ c. search rules) (λ c. search rules) (λ c. search rules) (λ c. search rules))

@@ -4,15 +4,15 @@ use Prim.Native.Nat.{◌-◌}
 use Rattle.explain.proofs.picture.print_lines.Statement.{statement}
 use Rattle.explain.proofs.picture.print_lines.Tie as tie
 
-abbrev invariant-loop : tie.invariant-loop
-invariant-loop numbers lines marks columns n i₀ i = Unit {0}
+abbrev invariant-loop-i : tie.invariant-loop-i
+invariant-loop-i numbers lines marks columns n i₀ i = Unit {0}
 
-abbrev decreases-loop : tie.decreases-loop
-decreases-loop numbers lines marks columns n i₀ i = n - i
+abbrev decreases-loop-i : tie.decreases-loop-i
+decreases-loop-i numbers lines marks columns n i₀ i = n - i
 
 pub print_lines_spec : {M : Type 1} → statement M
 print_lines_spec = tie.close (tie.spec
-    invariant-loop
-    decreases-loop
+    invariant-loop-i
+    decreases-loop-i
     (λ c κs. search rules) (λ c κs. search rules) (λ c. search rules) (λ c. search rules) (λ c. search rules) (λ c κs. search rules)
     (λ c. search rules) (λ c. search rules) (λ c. search rules) (λ c. search rules))

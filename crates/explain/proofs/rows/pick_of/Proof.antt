@@ -4,11 +4,11 @@ use Prim.Native.Nat.{◌-◌, ◌≤◌}
 use Rattle.explain.proofs.rows.pick_of.Statement.{statement}
 use Rattle.explain.proofs.rows.pick_of.Tie as tie
 
-abbrev invariant-loop : tie.invariant-loop
-invariant-loop rows p i₀ i = i ≤ p
+abbrev invariant-loop-i : tie.invariant-loop-i
+invariant-loop-i rows p i₀ i = i ≤ p
 
-abbrev decreases-loop : tie.decreases-loop
-decreases-loop rows p i₀ i = p - i
+abbrev decreases-loop-i : tie.decreases-loop-i
+decreases-loop-i rows p i₀ i = p - i
 
 pub pick_of_spec : {M : Type 1} → statement M
-pick_of_spec = tie.close (tie.spec invariant-loop decreases-loop (λ c. search rules) (λ c κs. search rules) (λ c κs. search rules) (λ c. search rules) (λ c. search rules) (λ c. search rules) (λ c. search rules) (λ c. search rules))
+pick_of_spec = tie.close (tie.spec invariant-loop-i decreases-loop-i (λ c. search rules) (λ c κs. search rules) (λ c κs. search rules) (λ c. search rules) (λ c. search rules) (λ c. search rules) (λ c. search rules) (λ c. search rules))

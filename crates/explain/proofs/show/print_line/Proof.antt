@@ -7,22 +7,22 @@ use Rattle.explain_margin.specs.declared.place.LinePlace.TheVariants.{At}
 use Rattle.explain.proofs.show.print_line.Statement.{statement}
 use Rattle.explain.proofs.show.print_line.Tie as tie
 
-stands : (c : tie.After-known-told) → StandsIn c.before.before.before.before.before.args.file.now (At c.before.line.given.0.0 c.before.line.given.0.1.0)
-stands c = subst (StandsIn _) c.before.line.given.1 c.before.before.before.Line-of.ensures.1
+stands : (c : tie.In-At) → StandsIn c.before.before.before.before.before.args.file.now (At c.before.line-1.given.0.0 c.before.line-1.given.0.1.0)
+stands c = subst (StandsIn _) c.before.line-1.given.1 c.before.before.before.Line-of.ensures.1
 
-sub-smaller-size : tie.Need-sub-smaller-size
+sub-smaller-size : tie.Need-overflow_sub-end
 sub-smaller-size c = omega (arith, (stands c).0)
 
-add-from : tie.Need-add-from
+add-from : tie.Need-overflow_add-from
 add-from c = let h = stands c.before in record { fits = omega (arith, h.0, h.1) }
 
-sub-print-wrapped : tie.Need-sub-print-wrapped
+sub-print-wrapped : tie.Need-slice_bounds-print_wrapped-count
 sub-print-wrapped c = omega (arith, (stands c.before).0)
 
-part-print-wrapped-start : tie.Need-part-print-wrapped-start
+part-print-wrapped-start : tie.Need-slice_bounds-print_wrapped-start
 part-print-wrapped-start c = omega (arith, (stands c.before).0)
 
-part-print-wrapped-end : tie.Need-part-print-wrapped-end
+part-print-wrapped-end : tie.Need-slice_bounds-print_wrapped-end
 part-print-wrapped-end c = omega (arith, (stands c.before).1)
 
 pub print_line_spec : {M : Type 1} → statement M

@@ -4,7 +4,7 @@ use Rattle.rules.proofs.LongestReport.{decimal_short}
 use Rattle.explain.proofs.show.print_right.Statement.{statement}
 use Rattle.explain.proofs.show.print_right.Tie as tie
 
-put-number-requires : tie.Need-put-number-requires
+put-number-requires : tie.Need-put_number-k-requires
 put-number-requires c κs = decimal_short c.before.before.args.n
 
 pub print_right_spec : {M : Type 1} → statement M

@@ -5,11 +5,11 @@ use borrow.Author.Rules.{rules}
 use Rattle.explain.proofs.show.print_wrapped.Statement.{statement}
 use Rattle.explain.proofs.show.print_wrapped.Tie as tie
 
-abbrev invariant-loop : tie.invariant-loop
-invariant-loop text column width at₀ t8 t9 at = at ≤ length text
+abbrev invariant-loop-at : tie.invariant-loop-at
+invariant-loop-at text column width at₀ t8 t9 at = at ≤ length text
 
-abbrev decreases-loop : tie.decreases-loop
-decreases-loop text column width at₀ t8 t9 at = length text - at
+abbrev decreases-loop-at : tie.decreases-loop-at
+decreases-loop-at text column width at₀ t8 t9 at = length text - at
 
 pub print_wrapped_spec : {M : Type 1} → statement M
-print_wrapped_spec = tie.close (tie.spec invariant-loop decreases-loop (λ c κs. search rules) (λ c. search rules) (λ c. search rules) (λ c κs. search rules) (λ c κs. search rules) (λ c κs. search rules) (λ c. search rules) (λ c. search rules) (λ c. search rules) (λ c κs. search rules) (λ c. search rules) (λ c. search rules) (λ c. search rules) (λ c κs. search rules) (λ c. search rules))
+print_wrapped_spec = tie.close (tie.spec invariant-loop-at decreases-loop-at (λ c κs. search rules) (λ c. search rules) (λ c. search rules) (λ c κs. search rules) (λ c κs. search rules) (λ c κs. search rules) (λ c. search rules) (λ c. search rules) (λ c. search rules) (λ c κs. search rules) (λ c. search rules) (λ c. search rules) (λ c. search rules) (λ c κs. search rules) (λ c. search rules))

@@ -4,11 +4,11 @@ use Prim.Native.Nat.{◌-◌}
 use Rattle.explain.proofs.terms.block_round.Statement.{statement}
 use Rattle.explain.proofs.terms.block_round.Tie as tie
 
-abbrev invariant-loop : tie.invariant-loop
-invariant-loop rows from r i₀ i = Unit {0}
+abbrev invariant-loop-i : tie.invariant-loop-i
+invariant-loop-i rows from r i₀ i = Unit {0}
 
-abbrev decreases-loop : tie.decreases-loop
-decreases-loop rows from r i₀ i = r - i
+abbrev decreases-loop-i : tie.decreases-loop-i
+decreases-loop-i rows from r i₀ i = r - i
 
 pub block_round_spec : {M : Type 1} → statement M
-block_round_spec = tie.close (tie.spec invariant-loop decreases-loop (λ c. search rules) (λ c κs. search rules) (λ c. search rules) (λ c. search rules) (λ c. search rules) (λ c. search rules) (λ c. search rules))
+block_round_spec = tie.close (tie.spec invariant-loop-i decreases-loop-i (λ c. search rules) (λ c κs. search rules) (λ c. search rules) (λ c. search rules) (λ c. search rules) (λ c. search rules) (λ c. search rules))

@@ -4,11 +4,11 @@ use Prim.Native.Nat.{◌-◌}
 use Rattle.explain.proofs.terms.print_moves.Statement.{statement}
 use Rattle.explain.proofs.terms.print_moves.Tie as tie
 
-abbrev invariant-loop : tie.invariant-loop
-invariant-loop rows from end v i₀ t6 i = Unit {0}
+abbrev invariant-loop-i : tie.invariant-loop-i
+invariant-loop-i rows from end v i₀ t6 i = Unit {0}
 
-abbrev decreases-loop : tie.decreases-loop
-decreases-loop rows from end v i₀ t6 i = end - i
+abbrev decreases-loop-i : tie.decreases-loop-i
+decreases-loop-i rows from end v i₀ t6 i = end - i
 
 pub print_moves_spec : {M : Type 1} → statement M
-print_moves_spec = tie.close (tie.spec invariant-loop decreases-loop (λ c. search rules) (λ c κs. search rules) (λ c. search rules) (λ c κs. search rules) (λ c κs. search rules) (λ c. search rules) (λ c. search rules) (λ c. search rules) (λ c. search rules))
+print_moves_spec = tie.close (tie.spec invariant-loop-i decreases-loop-i (λ c. search rules) (λ c κs. search rules) (λ c. search rules) (λ c κs. search rules) (λ c κs. search rules) (λ c. search rules) (λ c. search rules) (λ c. search rules) (λ c. search rules))

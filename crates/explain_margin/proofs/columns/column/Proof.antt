@@ -5,15 +5,15 @@ use Rattle.rules.proofs.LongestReport.{decimal_short}
 use Rattle.explain_margin.proofs.columns.column.Statement.{statement}
 use Rattle.explain_margin.proofs.columns.column.Tie as tie
 
-put-number-requires : tie.Need-put-number-requires
+put-number-requires : tie.Need-put_number-n-requires
 put-number-requires c κs = decimal_short c.before.before.args.greatest
 
-returns : tie.Need-returns
-returns c = record { width = omega (arith, c.before.before.put-number.ensures.count); narrow = omega arith }
+returns : tie.Need-returns-then-n-lt-HEADING
+returns c = record { width = omega (arith, c.before.before.put_number-n.ensures.count); narrow = omega arith }
 
-returns_2 : tie.Need-returns-2
+returns_2 : tie.Need-returns-else-n-lt-HEADING
 returns_2 c =
-    let n = c.before.before.put-number.ensures.count in
+    let n = c.before.before.put_number-n.ensures.count in
     record { width = omega (arith, n); narrow = omega (arith, n, decimal_short c.before.before.before.before.before.args.greatest) }
 
 pub column_spec : {M : Type 1} → statement M

@@ -9,26 +9,26 @@ use Rattle.explain_margin.proofs.Laws.{most_more, most_none}
 use Rattle.explain_margin.proofs.figures.greatest.Statement.{statement}
 use Rattle.explain_margin.proofs.figures.greatest.Tie as tie
 
-abbrev invariant-loop : tie.invariant-loop
-invariant-loop figures column most₀ i₀ most i = (i ≤ 256) × (max most (most_in column (drop i figures)) ≡ most_in column figures)
+abbrev invariant-loop-i : tie.invariant-loop-i
+invariant-loop-i figures column most₀ i₀ most i = (i ≤ 256) × (max most (most_in column (drop i figures)) ≡ most_in column figures)
 
-abbrev decreases-loop : tie.decreases-loop
-decreases-loop figures column most₀ i₀ most i = 256 - i
+abbrev decreases-loop-i : tie.decreases-loop-i
+decreases-loop-i figures column most₀ i₀ most i = 256 - i
 
-loop_holds : tie.Need-loop-init invariant-loop decreases-loop
+loop_holds : tie.Need-loop-i-init invariant-loop-i decreases-loop-i
 loop_holds c = (omega arith, omega arith)
 
-loop_again : tie.Need-loop-preserved invariant-loop decreases-loop
+loop_again : tie.Need-loop-i-preserved invariant-loop-i decreases-loop-i
 loop_again c =
     let s = c.before.before.before.before in
-    let l = c.before.before.before.loop in
-    (omega arith, rw c.larger.ensures (most_more s.args.column s.args.figures.now l.i l.most (omega arith) ∙ l.invariant.1))
+    let l = c.before.before.before.loop-i in
+    (omega arith, rw c.larger-most.ensures (most_more s.args.column s.args.figures.now l.i l.most (omega arith) ∙ l.invariant.1))
 
-returns : tie.Need-returns invariant-loop decreases-loop
+returns : tie.Need-returns invariant-loop-i decreases-loop-i
 returns c =
     let s = c.before.before in
-    let l = c.before.loop in
+    let l = c.before.loop-i in
     sym (most_none s.args.column s.args.figures.now l.i l.most (omega arith)) ∙ l.invariant.1
 
 pub greatest_spec : {M : Type 1} → statement M
-greatest_spec = tie.close (tie.spec invariant-loop decreases-loop loop_holds (λ c. search rules) (λ c. search rules) (λ c. search rules) (λ c. search rules) (λ c κs. search rules) (λ c. search rules) (λ c. search rules) loop_again returns)
+greatest_spec = tie.close (tie.spec invariant-loop-i decreases-loop-i loop_holds (λ c. search rules) (λ c. search rules) (λ c. search rules) (λ c. search rules) (λ c κs. search rules) (λ c. search rules) (λ c. search rules) loop_again returns)

@@ -5,10 +5,10 @@ use lib.Seq.{set_out}
 use Rattle.explain_margin.proofs.figures.put_line.Statement.{statement}
 use Rattle.explain_margin.proofs.figures.put_line.Tie as tie
 
-returns : tie.Need-returns
-returns c = (rw c.exact-or-most.ensures, search rules)
+returns : tie.Need-returns-then-row-lt256
+returns c = (rw c.exact_or_most.ensures, search rules)
 
-returns_2 : tie.Need-returns-2
+returns_2 : tie.Need-returns-else-row-lt256
 returns_2 c = (sym (set_out _ _ _ (search rules)), search rules)
 
 pub put_line_spec : {M : Type 1} → statement M

@@ -11,30 +11,30 @@ use Rattle.explain_margin.proofs.Laws.{put_more, put_none}
 use Rattle.explain_margin.proofs.figures.put_lines.Statement.{statement}
 use Rattle.explain_margin.proofs.figures.put_lines.Tie as tie
 
-abbrev invariant-loop : tie.invariant-loop
-invariant-loop lines loops figures₀ k₀ figures k = (k ≤ loops) × (length figures ≡ 256) × (put_lines (drop k (take loops (lines_in lines))) figures ≡ put_lines (take loops (lines_in lines)) figures₀)
+abbrev invariant-loop-k : tie.invariant-loop-k
+invariant-loop-k lines loops figures₀ k₀ figures k = (k ≤ loops) × (length figures ≡ 256) × (put_lines (drop k (take loops (lines_in lines))) figures ≡ put_lines (take loops (lines_in lines)) figures₀)
 
-abbrev decreases-loop : tie.decreases-loop
-decreases-loop lines loops figures₀ k₀ figures k = loops - k
+abbrev decreases-loop-k : tie.decreases-loop-k
+decreases-loop-k lines loops figures₀ k₀ figures k = loops - k
 
-loop_holds : tie.Need-loop-init invariant-loop decreases-loop
+loop_holds : tie.Need-loop-k-init invariant-loop-k decreases-loop-k
 loop_holds c = (omega arith, c.requires.2, refl)
 
-loop_again : tie.Need-loop-preserved invariant-loop decreases-loop
+loop_again : tie.Need-loop-k-preserved invariant-loop-k decreases-loop-k
 loop_again c =
     let s = c.before.before.before.before.before in
-    let l = c.before.before.before.before.loop in
-    let p = c.put-line.ensures in (
+    let l = c.before.before.before.before.loop-k in
+    let p = c.put_line.ensures in (
       omega arith,
       p.1,
-      ap (put_lines _) p.0 ∙ put_more (lines_in s.args.lines.now) s.args.loops l.k l.figures c.before.before.line_at.result (line_in []) (omega arith) (omega (arith, length-map s.args.lines.now line_in, s.requires.1)) c.before.before.line_at.ensures ∙ l.invariant.2,
+      ap (put_lines _) p.0 ∙ put_more (lines_in s.args.lines.now) s.args.loops l.k l.figures c.before.before.line_at-line.result (line_in []) (omega arith) (omega (arith, length-map s.args.lines.now line_in, s.requires.1)) c.before.before.line_at-line.ensures ∙ l.invariant.2,
     )
 
-returns : tie.Need-returns invariant-loop decreases-loop
+returns : tie.Need-returns invariant-loop-k decreases-loop-k
 returns c =
     let s = c.before.before in
-    let l = c.before.loop in
+    let l = c.before.loop-k in
     (sym (put_none (lines_in s.args.lines.now) s.args.loops l.k l.figures (omega arith)) ∙ l.invariant.2, l.invariant.1)
 
 pub put_lines_spec : {M : Type 1} → statement M
-put_lines_spec = tie.close (tie.spec invariant-loop decreases-loop loop_holds (λ c κs. search rules) (λ c κs. search rules) (λ c. search rules) (λ c. search rules) loop_again returns)
+put_lines_spec = tie.close (tie.spec invariant-loop-k decreases-loop-k loop_holds (λ c κs. search rules) (λ c κs. search rules) (λ c. search rules) (λ c. search rules) loop_again returns)

@@ -10,11 +10,11 @@ use Rattle.explain_margin.specs.Figures.{ticks_beside, put_ticks}
 use Rattle.explain_margin.proofs.figures.put_ticks.Statement.{statement}
 use Rattle.explain_margin.proofs.figures.put_ticks.Tie as tie
 
-abbrev invariant-loop : tie.invariant-loop
-invariant-loop own figures₀ i₀ figures i = (i ≤ 256) × (length figures ≡ 256) × (figures ≡ put_ticks own i figures₀)
+abbrev invariant-loop-i : tie.invariant-loop-i
+invariant-loop-i own figures₀ i₀ figures i = (i ≤ 256) × (length figures ≡ 256) × (figures ≡ put_ticks own i figures₀)
 
-abbrev decreases-loop : tie.decreases-loop
-decreases-loop own figures₀ i₀ figures i = 256 - i
+abbrev decreases-loop-i : tie.decreases-loop-i
+decreases-loop-i own figures₀ i₀ figures i = 256 - i
 
 none : (own : List ℕ) (t : List (List ℕ)) → t ≡ put_ticks own 0 t
 unfolding put_ticks
@@ -25,19 +25,19 @@ more : (own : List ℕ) (i : ℕ) (t u : List (List ℕ)) → u ≡ put_ticks ow
 unfolding put_ticks
 more own i t u h = rw (add-one, h)
 
-loop_holds : tie.Need-loop-init invariant-loop decreases-loop
+loop_holds : tie.Need-loop-i-init invariant-loop-i decreases-loop-i
 loop_holds c = (omega arith, c.requires.1, none _ _)
 
-put-own-requires : tie.Need-put-own-requires invariant-loop decreases-loop
-put-own-requires c κs = (search rules, c.before.before.before.loop.invariant.1)
+put-own-requires : tie.Need-put_own-requires invariant-loop-i decreases-loop-i
+put-own-requires c κs = (search rules, c.before.before.before.loop-i.invariant.1)
 
-loop_again : tie.Need-loop-preserved invariant-loop decreases-loop
-loop_again c = (omega (arith, c.before.before.before.loop-test.true), c.put-own.ensures.1, c.put-own.ensures.0 ∙ more _ c.before.before.before.before.loop.i _ c.before.before.before.before.loop.figures c.before.before.before.before.loop.invariant.2)
+loop_again : tie.Need-loop-i-preserved invariant-loop-i decreases-loop-i
+loop_again c = (omega (arith, c.before.before.before.loop-i-test.true), c.put_own.ensures.1, c.put_own.ensures.0 ∙ more _ c.before.before.before.before.loop-i.i _ c.before.before.before.before.loop-i.figures c.before.before.before.before.loop-i.invariant.2)
 
-returns : tie.Need-returns invariant-loop decreases-loop
+returns : tie.Need-returns invariant-loop-i decreases-loop-i
 returns c =
-    let e : c.before.loop.i ≡ 256 = omega (arith, c.loop-test.false, c.before.loop.invariant.0) in
-    (c.before.loop.invariant.2 ∙ ap (λ n. put_ticks c.before.before.args.own.now n c.before.before.args.figures.now) e, c.before.loop.invariant.1)
+    let e : c.before.loop-i.i ≡ 256 = omega (arith, c.loop-i-test.false, c.before.loop-i.invariant.0) in
+    (c.before.loop-i.invariant.2 ∙ ap (λ n. put_ticks c.before.before.args.own.now n c.before.before.args.figures.now) e, c.before.loop-i.invariant.1)
 
 pub put_ticks_spec : {M : Type 1} → statement M
-put_ticks_spec = tie.close (tie.spec invariant-loop decreases-loop loop_holds (λ c. search rules) (λ c. search rules) put-own-requires (λ c. search rules) (λ c. search rules) loop_again returns)
+put_ticks_spec = tie.close (tie.spec invariant-loop-i decreases-loop-i loop_holds (λ c. search rules) (λ c. search rules) put-own-requires (λ c. search rules) (λ c. search rules) loop_again returns)

@@ -5,23 +5,23 @@ use borrow.Author.Tests.{eq-eqb, ne_eqb}
 use Rattle.explain_margin.proofs.place.place_of.Statement.{statement}
 use Rattle.explain_margin.proofs.place.place_of.Tie as tie
 
-returns : tie.Need-returns
-returns c = rw (sym c.before.between.ensures ∙ c.if1.true)
+returns : tie.Need-returns-then-between
+returns c = rw (sym c.before.between.ensures ∙ c.if-between.true)
 
-returns_2 : tie.Need-returns-2
-returns_2 c = rw (sym c.before.before.between.ensures ∙ c.before.if1.false, eq-eqb _ _ c.if2.true)
+returns_2 : tie.Need-returns-then-number-eq17
+returns_2 c = rw (sym c.before.before.between.ensures ∙ c.before.if-between.false, eq-eqb _ _ c.if-number-eq17.true)
 
-returns_3 : tie.Need-returns-3
+returns_3 : tie.Need-returns-then-between-2
 returns_3 c =
-    rw (sym c.before.before.before.before.between.ensures ∙ c.before.before.before.if1.false, ne_eqb _ _ c.before.before.if2.false, sym c.before.between2.ensures ∙ c.if3.true)
+    rw (sym c.before.before.before.before.between.ensures ∙ c.before.before.before.if-between.false, ne_eqb _ _ c.before.before.if-number-eq17.false, sym c.before.between-2.ensures ∙ c.if-between-2.true)
 
-returns-4 : tie.Need-returns-4
+returns-4 : tie.Need-returns-then-number-eq19
 returns-4 c =
-    rw (sym c.before.before.before.before.before.between.ensures ∙ c.before.before.before.before.if1.false, ne_eqb _ _ c.before.before.before.if2.false, sym c.before.before.between2.ensures ∙ c.before.if3.false, eq-eqb _ _ c.if4.true)
+    rw (sym c.before.before.before.before.before.between.ensures ∙ c.before.before.before.before.if-between.false, ne_eqb _ _ c.before.before.before.if-number-eq17.false, sym c.before.before.between-2.ensures ∙ c.before.if-between-2.false, eq-eqb _ _ c.if-number-eq19.true)
 
-returns-5 : tie.Need-returns-5
+returns-5 : tie.Need-returns
 returns-5 c =
-    rw (sym c.before.before.before.before.before.between.ensures ∙ c.before.before.before.before.if1.false, ne_eqb _ _ c.before.before.before.if2.false, sym c.before.before.between2.ensures ∙ c.before.if3.false, ne_eqb _ _ c.if4.false)
+    rw (sym c.before.before.before.before.before.between.ensures ∙ c.before.before.before.before.if-between.false, ne_eqb _ _ c.before.before.before.if-number-eq17.false, sym c.before.before.between-2.ensures ∙ c.before.if-between-2.false, ne_eqb _ _ c.if-number-eq19.false)
 
 pub place_of_spec : {M : Type 1} → statement M
 place_of_spec = tie.close (tie.spec (λ c κs. search rules) returns returns_2 (λ c κs. search rules) returns_3 returns-4 returns-5)

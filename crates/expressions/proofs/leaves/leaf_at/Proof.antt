@@ -8,13 +8,13 @@ pub leaf_at_spec : {M : Type 1} → statement M
 leaf_at_spec =
     tie.close
     (tie.spec
-    (λ c. leaf_past _ _ c.if1.true)
+    (λ c. leaf_past _ _ c.if-at-s.true)
     (λ c. search rules) (λ c. search rules) (λ c κs. search rules)
-    (λ c κs. c.whole-at.ensures.small)
-    (λ c. rw c.leaf-of.ensures (leaf_variable _ _ c.before.before.before.before.if1.false c.before.before.if2.true _ (rw add-one at c.before.whole-at.ensures)))
+    (λ c κs. c.whole_at.ensures.small)
+    (λ c. rw c.leaf_of.ensures (leaf_variable _ _ c.before.before.before.before.if-at-s.false c.before.before.if-b-eq118.true _ (rw add-one at c.before.whole_at.ensures)))
     (λ c. search rules) (λ c κs. search rules)
-    (λ c κs. c.whole-at2.ensures.small)
-    (λ c. rw c.leaf-of2.ensures (leaf_negative _ _ c.before.before.before.before.before.if1.false c.before.before.if3.true _ (rw add-one at c.before.whole-at2.ensures)))
+    (λ c κs. c.whole_at-then-b-eq45.ensures.small)
+    (λ c. rw c.leaf_of-then-b-eq45.ensures (leaf_negative _ _ c.before.before.before.before.before.if-at-s.false c.before.before.if-b-eq45.true _ (rw add-one at c.before.whole_at-then-b-eq45.ensures)))
     (λ c κs. search rules)
-    (λ c κs. c.whole-at3.ensures.small)
-    (λ c. rw c.leaf-of3.ensures (leaf_other _ _ c.before.before.before.before.before.if1.false c.before.before.if3.false c.before.before.before.if2.false _ c.before.whole-at3.ensures)))
+    (λ c κs. c.whole_at-2.ensures.small)
+    (λ c. rw c.leaf_of-2.ensures (leaf_other _ _ c.before.before.before.before.before.if-at-s.false c.before.before.if-b-eq45.false c.before.before.before.if-b-eq118.false _ c.before.whole_at-2.ensures)))

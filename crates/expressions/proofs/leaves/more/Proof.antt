@@ -4,7 +4,7 @@ use borrow.Author.Rules.{rules}
 use Rattle.expressions.proofs.leaves.more.Statement.{statement}
 use Rattle.expressions.proofs.leaves.more.Tie as tie
 
-sub-next : tie.Need-overflow-sub-next
+sub-next : tie.Need-overflow_sub-next
 sub-next c = omega (arith, digit_low c.args.b c.requires.1)
 
 pub more_spec : {M : Type 1} → statement M

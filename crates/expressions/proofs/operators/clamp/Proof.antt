@@ -8,35 +8,35 @@ use Rattle.ints.proofs.Parts.{ints, clamp_parts}
 use Rattle.expressions.proofs.operators.clamp.Statement.{statement}
 use Rattle.expressions.proofs.operators.clamp.Tie as tie
 
-sub-if1 : tie.Need-overflow-sub-if1
+sub-if1 : tie.Need-overflow_sub-t-2
 sub-if1 c = search rules
 
-returns : tie.Need-returns
+returns : tie.Need-returns-then-s
 unfolding lowest highest
 returns c =
-    let t = simp (to_z-of_z c.before.ranges.s) at c.if1.true in
+    let t = simp (to_z-of_z c.before.ranges.s) at c.if-s.true in
     omega (ints, clamp_parts lowest highest c.before.args.s)
 
-returns_2 : tie.Need-returns-2
+returns_2 : tie.Need-returns-then-s-gt-L
 unfolding lowest highest
 returns_2 c =
-    let t = simp (to_z-of_z c.before.before.ranges.s) at c.if2.true in
+    let t = simp (to_z-of_z c.before.before.ranges.s) at c.if-s-gt-L.true in
     omega (ints, clamp_parts lowest highest c.before.before.args.s)
 
-inside : (c : tie.Else2) → SFits w32 c.before.before.args.s
+inside : (c : tie.Else-s-gt-L) → SFits w32 c.before.before.args.s
 inside c =
-    let t = simp (to_z-of_z c.before.before.ranges.s) at c.before.if1.false in
-    let u = simp (to_z-of_z c.before.before.ranges.s) at c.if2.false in
+    let t = simp (to_z-of_z c.before.before.ranges.s) at c.before.if-s.false in
+    let u = simp (to_z-of_z c.before.before.ranges.s) at c.if-s-gt-L.false in
     omega ints
 
-cast-result : tie.Need-overflow-cast-result
+cast-result : tie.Need-overflow_cast-result
 cast-result c = let h = inside c in search rules
 
-returns_3 : tie.Need-returns-3
+returns_3 : tie.Need-returns
 unfolding lowest highest
 returns_3 c =
-    let t = simp (to_z-of_z c.before.before.ranges.s) at c.before.if1.false in
-    let u = simp (to_z-of_z c.before.before.ranges.s) at c.if2.false in
+    let t = simp (to_z-of_z c.before.before.ranges.s) at c.before.if-s.false in
+    let u = simp (to_z-of_z c.before.before.ranges.s) at c.if-s-gt-L.false in
     simp (to_z-of_z c.before.before.ranges.s, to_z-of_z (inside c)) (omega (ints, clamp_parts lowest highest c.before.before.args.s))
 
 pub clamp_spec : {M : Type 1} → statement M

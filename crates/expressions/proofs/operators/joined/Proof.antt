@@ -11,11 +11,11 @@ use Rattle.expressions.specs.Operators.{joined_by, operator_of}
 use Rattle.expressions.proofs.operators.joined.Statement.{statement}
 use Rattle.expressions.proofs.operators.joined.Tie as tie
 
-returns : tie.Need-returns
+returns : tie.Need-returns-then-op-eq-FIRST
 unfolding joined_by
-returns c = (rw (eq-eqb _ _ c.if1.true), refl)
+returns c = (rw (eq-eqb _ _ c.if-op-eq-FIRST.true), refl)
 
-returns_2 : tie.Need-returns-2
+returns_2 : tie.Need-returns
 unfolding joined_by combined least largest
 returns_2 c =
     let e = c.before.before.before.before.before.before.before.before.before.before.before.before.before.before.before.before.before.before.before.before.before.before.before in
@@ -24,29 +24,29 @@ returns_2 c =
     let f1 : SFits w32 s.a.hi = search rules in
     let f2 : SFits w32 s.b.lo = search rules in
     let f3 : SFits w32 s.b.hi = search rules in
-    let h = c.before.before.before.before.held in
+    let h = c.before.before.before.before.held-v in
     let g0 : SFits w32 h.result.lo = search rules in
     let g1 : SFits w32 h.result.hi = search rules in
-    let higher3 = c.before.before.before.before.before.higher3 in
-    let higher3-fits : SFits w64 higher3.result = sfits_of higher3.type-inv in
-    let higher2 = c.before.before.before.before.before.before.higher2 in
-    let higher2-fits : SFits w64 higher2.result = sfits_of higher2.type-inv in
+    let higher3 = c.before.before.before.before.before.higher-3 in
+    let higher3-fits : SFits w64 higher3.result = sfits_of higher3.type_inv in
+    let higher2 = c.before.before.before.before.before.before.higher-2 in
+    let higher2-fits : SFits w64 higher2.result = sfits_of higher2.type_inv in
     let higher = c.before.before.before.before.before.before.before.higher in
-    let higher-fits : SFits w64 higher.result = sfits_of higher.type-inv in
-    let lower3 = c.before.before.before.before.before.before.before.before.lower3 in
-    let lower3-fits : SFits w64 lower3.result = sfits_of lower3.type-inv in
-    let lower2 = c.before.before.before.before.before.before.before.before.before.lower2 in
-    let lower2-fits : SFits w64 lower2.result = sfits_of lower2.type-inv in
+    let higher-fits : SFits w64 higher.result = sfits_of higher.type_inv in
+    let lower3 = c.before.before.before.before.before.before.before.before.lower-3 in
+    let lower3-fits : SFits w64 lower3.result = sfits_of lower3.type_inv in
+    let lower2 = c.before.before.before.before.before.before.before.before.before.lower-2 in
+    let lower2-fits : SFits w64 lower2.result = sfits_of lower2.type_inv in
     let lower = c.before.before.before.before.before.before.before.before.before.before.lower in
-    let lower-fits : SFits w64 lower.result = sfits_of lower.type-inv in
-    let operate4 = c.before.before.before.before.before.before.before.before.before.before.before.operate4 in
-    let operate4-fits : SFits w64 operate4.result = sfits_of operate4.type-inv in
-    let operate3 = c.before.before.before.before.before.before.before.before.before.before.before.before.before.before.operate3 in
-    let operate3-fits : SFits w64 operate3.result = sfits_of operate3.type-inv in
-    let operate2 = c.before.before.before.before.before.before.before.before.before.before.before.before.before.before.before.before.before.operate2 in
-    let operate2-fits : SFits w64 operate2.result = sfits_of operate2.type-inv in
-    let operate1 = c.before.before.before.before.before.before.before.before.before.before.before.before.before.before.before.before.before.before.before.before.operate in
-    let operate1-fits : SFits w64 operate1.result = sfits_of operate1.type-inv in
+    let lower-fits : SFits w64 lower.result = sfits_of lower.type_inv in
+    let operate4 = c.before.before.before.before.before.before.before.before.before.before.before.operate-s in
+    let operate4-fits : SFits w64 operate4.result = sfits_of operate4.type_inv in
+    let operate3 = c.before.before.before.before.before.before.before.before.before.before.before.before.before.before.operate-r in
+    let operate3-fits : SFits w64 operate3.result = sfits_of operate3.type_inv in
+    let operate2 = c.before.before.before.before.before.before.before.before.before.before.before.before.before.before.before.before.before.operate-q in
+    let operate2-fits : SFits w64 operate2.result = sfits_of operate2.type_inv in
+    let operate1 = c.before.before.before.before.before.before.before.before.before.before.before.before.before.before.before.before.before.before.before.before.operate-p in
+    let operate1-fits : SFits w64 operate1.result = sfits_of operate1.type_inv in
     let e1 : operate1.result ≡ operate (operator_of s.op) s.a.lo s.b.lo = simp (to_z-of_z f0, to_z-of_z f2) at operate1.ensures in
     let e2 : operate2.result ≡ operate (operator_of s.op) s.a.lo s.b.hi = simp (to_z-of_z f0, to_z-of_z f3) at operate2.ensures in
     let e3 : operate3.result ≡ operate (operator_of s.op) s.a.hi s.b.lo = simp (to_z-of_z f1, to_z-of_z f2) at operate3.ensures in
@@ -58,7 +58,7 @@ returns_2 c =
     let m2 : higher2.result ≡ max_z operate3.result operate4.result = simp (to_z-of_z operate3-fits, to_z-of_z operate4-fits) at higher2.ensures in
     let m3 : higher3.result ≡ max_z higher.result higher2.result = simp (to_z-of_z higher-fits, to_z-of_z higher2-fits) at higher3.ensures in
     let v : h.result ≡ clamped lower3.result higher3.result = simp (to_z-of_z lower3-fits, to_z-of_z higher3-fits) at h.ensures in
-    (rw (ne_eqb _ _ e.if1.false, to_z-of_z g0, to_z-of_z g1, v, l3, l1, l2, m3, m1, m2, e1, e2, e3, e4), refl)
+    (rw (ne_eqb _ _ e.if-op-eq-FIRST.false, to_z-of_z g0, to_z-of_z g1, v, l3, l1, l2, m3, m1, m2, e1, e2, e3, e4), refl)
 
 pub joined_spec : {M : Type 1} → statement M
 joined_spec = tie.close (tie.spec returns (λ c κs. search rules) (λ c κs. search rules) (λ c κs. search rules) (λ c κs. search rules) (λ c κs. search rules) (λ c κs. search rules) (λ c κs. search rules) (λ c κs. search rules) (λ c κs. search rules) (λ c κs. search rules) (λ c κs. search rules) returns_2)

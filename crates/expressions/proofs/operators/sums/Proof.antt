@@ -5,4 +5,4 @@ use Rattle.expressions.proofs.operators.sums.Tie as tie
 
 pub sums_spec : {M : Type 1} → statement M
 unfolding is_sum
-sums_spec = tie.close (tie.spec (λ c. rw (eq-eqb _ _ c.if1.true)) (λ c. rw (ne_eqb _ _ c.if1.false)))
+sums_spec = tie.close (tie.spec (λ c. rw (eq-eqb _ _ c.if-b-eq43.true)) (λ c. rw (ne_eqb _ _ c.if-b-eq43.false)))

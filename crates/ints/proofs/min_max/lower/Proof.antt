@@ -7,4 +7,4 @@ use Rattle.ints.proofs.min_max.lower.Tie as tie
 pub lower_spec : {M : Type 1} → statement M
 lower_spec =
     tie.close
-    (tie.spec (λ c. (by_le true c.before.ranges.a c.before.ranges.b c.if1.true).0) (λ c. (by_le false c.before.ranges.a c.before.ranges.b c.if1.false).0))
+    (tie.spec (λ c. (by_le true c.before.ranges.a c.before.ranges.b c.if-a-b.true).0) (λ c. (by_le false c.before.ranges.a c.before.ranges.b c.if-a-b.false).0))

@@ -5,13 +5,13 @@ use Rattle.line_causes.specs.Shapes.{is_bare}
 use Rattle.line_causes.proofs.shapes.is_bare.Statement.{statement}
 use Rattle.line_causes.proofs.shapes.is_bare.Tie as tie
 
-returns : tie.Need-returns
+returns : tie.Need-returns-then-is_word
 unfolding is_bare
-returns c = rw (sym c.before.is_IsWord.ensures ∙ c.if1.true) c.if1.true
+returns c = rw (sym c.before.is_IsWord.ensures ∙ c.if-is_word.true) c.if-is_word.true
 
-returns_2 : tie.Need-returns-2
+returns_2 : tie.Need-returns-else-is_word
 unfolding is_bare
-returns_2 c = rw (sym c.before.before.before.before.is_IsWord.ensures ∙ c.before.before.before.if1.false) c.is-either.ensures
+returns_2 c = rw (sym c.before.before.before.before.is_IsWord.ensures ∙ c.before.before.before.if-is_word.false) c.is_either.ensures
 
 pub is_bare_spec : {M : Type 1} → statement M
 is_bare_spec = tie.close (tie.spec (λ c. search rules) (λ c κs. search rules) (λ c. search rules) (λ c. search rules) (λ c κs. search rules) returns returns_2)

@@ -6,15 +6,15 @@ use lib.ListN.{length}
 use Rattle.program_parts.proofs.input.read_line.Statement.{statement}
 use Rattle.program_parts.proofs.input.read_line.Tie as tie
 
-abbrev invariant-loop : tie.invariant-loop
-invariant-loop buffer₀ n₀ buffer n = length buffer ≡ length buffer₀
+abbrev invariant-loop-n : tie.invariant-loop-n
+invariant-loop-n buffer₀ n₀ buffer n = length buffer ≡ length buffer₀
 
-abbrev decreases-loop : tie.decreases-loop
-decreases-loop buffer₀ n₀ buffer n = 18_446_744_073_709_551_615 - n
+abbrev decreases-loop-n : tie.decreases-loop-n
+decreases-loop-n buffer₀ n₀ buffer n = 18_446_744_073_709_551_615 - n
 
 pub read_line_spec : {M : Type 1} → statement M
 read_line_spec = tie.close (tie.spec
-    invariant-loop
-    decreases-loop
+    invariant-loop-n
+    decreases-loop-n
     (λ c. search rules) (λ c κs. search rules) (λ c. search rules) (λ c. search rules) (λ c κs. search rules) (λ c. search rules)
     (λ c. search rules) (λ c. search rules) (λ c. search rules) (λ c. search rules) (λ c. search rules) (λ c. search rules))

@@ -6,11 +6,11 @@ use Rattle.program_words.proofs.Prices.{lent_within}
 use Rattle.program_parts.proofs.lines.priced_line.Statement.{statement}
 use Rattle.program_parts.proofs.lines.priced_line.Tie as tie
 
-array-share-prefix-prices : tie.Need-array-share-prefix-prices
-array-share-prefix-prices c = lent_within _ _ _ _ _ c.before.before.before.before.before.lend-prices.ensures c.before.before.lent.given.1
+array-share-prefix-prices : tie.Need-slice_bounds-prices-end
+array-share-prefix-prices c = lent_within _ _ _ _ _ c.before.before.before.before.before.lend_prices-lent.ensures c.before.before.lent-1.given.1
 
-slice-aggregate-run-line-2 : tie.Need-slice-aggregate-run-line-2
-slice-aggregate-run-line-2 c = sym (length-take-le _ _ (lent_within _ _ _ _ _ c.before.before.before.before.before.before.lend-prices.ensures c.before.before.before.lent.given.1))
+slice-aggregate-run-line-2 : tie.Need-slice_bounds-run_line-end-in-Count-2
+slice-aggregate-run-line-2 c = sym (length-take-le _ _ (lent_within _ _ _ _ _ c.before.before.before.before.before.before.lend_prices-lent.ensures c.before.before.before.lent-1.given.1))
 
 pub priced_line_spec : {M : Type 1} → statement M
 priced_line_spec = tie.close (tie.spec

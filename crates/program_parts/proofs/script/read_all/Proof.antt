@@ -9,65 +9,65 @@ use lib.Seq.{length-take-le}
 use Rattle.program_parts.proofs.script.read_all.Statement.{statement}
 use Rattle.program_parts.proofs.script.read_all.Tie as tie
 
-abbrev invariant-loop : tie.invariant-loop
-invariant-loop fd buffer₀ at₀ failed₀ buffer at failed = (at ≤ length buffer) × (length buffer ≡ length buffer₀)
+abbrev invariant-loop-at : tie.invariant-loop-at
+invariant-loop-at fd buffer₀ at₀ failed₀ buffer at failed = (at ≤ length buffer) × (length buffer ≡ length buffer₀)
 
-abbrev decreases-loop : tie.decreases-loop
-decreases-loop fd buffer₀ at₀ failed₀ buffer at failed = length buffer - at
+abbrev decreases-loop-at : tie.decreases-loop-at
+decreases-loop-at fd buffer₀ at₀ failed₀ buffer at failed = length buffer - at
 
 -- the buffer after a read is as long as before, and what was read ends within it
-abbrev after : (c : tie.After-buffer invariant-loop decreases-loop) → ℕ
+abbrev after : (c : tie.After-buffer-1 invariant-loop-at decreases-loop-at) → ℕ
 after c =
-    let l = c.before.before.before.before.loop in
+    let l = c.before.before.before.before.loop-at in
     length (put_mid l.at (length l.buffer - l.at) l.buffer c.before.read_Some.new.1.0)
 
-size : (c : tie.After-buffer invariant-loop decreases-loop) → after c ≡ length c.before.before.before.before.loop.buffer
+size : (c : tie.After-buffer-1 invariant-loop-at decreases-loop-at) → after c ≡ length c.before.before.before.before.loop-at.buffer
 size c =
-    let l = c.before.before.before.before.loop in
-    same_len_mid l.at (length l.buffer - l.at) l.buffer c.before.read_Some.new.1.0 c.buffer.given.0
+    let l = c.before.before.before.before.loop-at in
+    same_len_mid l.at (length l.buffer - l.at) l.buffer c.before.read_Some.new.1.0 c.buffer-1.given.0
 
-room : (c : tie.After-buffer invariant-loop decreases-loop) → c.before.before.before.before.loop.at + c.before.read_Some.result.length ≤ length c.before.before.before.before.loop.buffer
+room : (c : tie.After-buffer-1 invariant-loop-at decreases-loop-at) → c.before.before.before.before.loop-at.at + c.before.read_Some.result.length ≤ length c.before.before.before.before.loop-at.buffer
 room c =
-    let l = c.before.before.before.before.loop in
+    let l = c.before.before.before.before.loop-at in
     let d = length-drop l.at l.buffer in
     let t = length-take-le (length l.buffer - l.at) (drop l.at l.buffer) (omega (arith, d)) in
-    omega (arith, c.before.read_Some.ensures.0, c.buffer.given, t, l.invariant.0)
+    omega (arith, c.before.read_Some.ensures.0, c.buffer-1.given, t, l.invariant.0)
 
-add_at : tie.Need-overflow-add-at invariant-loop decreases-loop
+add_at : tie.Need-overflow_add-at invariant-loop-at decreases-loop-at
 add_at c = let h = room c.before.before in search rules
 
-loop-less : tie.Need-loop-smaller invariant-loop decreases-loop
+loop-less : tie.Need-loop-at-smaller invariant-loop-at decreases-loop-at
 loop-less c = omega (arith, room c.before.before, size c.before.before)
 
-loop_again : tie.Need-loop-preserved invariant-loop decreases-loop
+loop_again : tie.Need-loop-at-preserved invariant-loop-at decreases-loop-at
 loop_again c =
     let b = c.before.before in
-    (omega (arith, room b, size b), size b ∙ b.before.before.before.before.loop.invariant.1)
+    (omega (arith, room b, size b), size b ∙ b.before.before.before.before.loop-at.invariant.1)
 
-same-length-2 : tie.Need-same-length-2 invariant-loop decreases-loop
-same-length-2 c = let b = c.before.before in size b ∙ b.before.before.before.before.loop.invariant.1
+same-length-2 : tie.Need-shape_of-buffer-then-n-eq0 invariant-loop-at decreases-loop-at
+same-length-2 c = let b = c.before.before in size b ∙ b.before.before.before.before.loop-at.invariant.1
 
-returns : tie.Need-returns invariant-loop decreases-loop
-returns c = let h = c.before.loop.invariant.0 in (h, sym (length-take-le _ _ h))
+returns : tie.Need-returns-after-loop-at invariant-loop-at decreases-loop-at
+returns c = let h = c.before.loop-at.invariant.0 in (h, sym (length-take-le _ _ h))
 
-returns_2 : tie.Need-returns-2 invariant-loop decreases-loop
+returns_2 : tie.Need-returns-then-n-eq0 invariant-loop-at decreases-loop-at
 returns_2 c =
     let b = c.before.before in
-    let h : b.before.before.before.before.loop.at ≤ after b = omega (arith, size b, b.before.before.before.before.loop.invariant.0) in
+    let h : b.before.before.before.before.loop-at.at ≤ after b = omega (arith, size b, b.before.before.before.before.loop-at.invariant.0) in
     (h, sym (length-take-le _ _ h))
 
 pub read_all_spec : {M : Type 1} → statement M
 read_all_spec =
     tie.close
     (tie.spec
-    invariant-loop
-    decreases-loop
+    invariant-loop-at
+    decreases-loop-at
     (λ c. search rules) (λ c. search rules) (λ c. search rules) (λ c. search rules)
     (λ c κs. search rules)
     add_at
     loop-less
     loop_again
-    (λ c. c.before.loop.invariant.1)
+    (λ c. c.before.loop-at.invariant.1)
     returns
     same-length-2
     returns_2)

@@ -8,14 +8,14 @@ use lib.Seq.{length-take-le}
 use Rattle.program_parts.proofs.wrong.put_shown.Statement.{statement}
 use Rattle.program_parts.proofs.wrong.put_shown.Tie as tie
 
-abbrev invariant-loop : tie.invariant-loop
-invariant-loop word text₀ n i₀ text i = (n ≤ length word) × (n ≤ length text₀) × (length text ≡ length text₀)
+abbrev invariant-loop-i : tie.invariant-loop-i
+invariant-loop-i word text₀ n i₀ text i = (n ≤ length word) × (n ≤ length text₀) × (length text ≡ length text₀)
 
-abbrev decreases-loop : tie.decreases-loop
-decreases-loop word text₀ n i₀ text i = n - i
+abbrev decreases-loop-i : tie.decreases-loop-i
+decreases-loop-i word text₀ n i₀ text i = n - i
 
 pub put_shown_spec : {M : Type 1} → statement M
 put_shown_spec = tie.close (tie.spec
-    invariant-loop decreases-loop (λ c κs. search rules) (λ c. search rules) (λ c. search rules) (λ c κs. search rules) (λ c. search rules)
+    invariant-loop-i decreases-loop-i (λ c κs. search rules) (λ c. search rules) (λ c. search rules) (λ c κs. search rules) (λ c. search rules)
     (λ c. search rules) (λ c. search rules) (λ c. search rules) (λ c. search rules)
     (λ c. (omega arith, sym (length-take-le _ _ (omega arith)))))

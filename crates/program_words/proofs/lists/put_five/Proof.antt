@@ -10,11 +10,11 @@ returns : tie.Need-returns
 returns c =
     let s = c.before.before.before.before.before.before.before.before.before.before.before in
     five_put s.args.values.now s.requires.0 s.args.prices.now s.requires.1 _ _ _ _ _
-    (back _ _ c.before.before.before.before.before.before.before.before.before.as-price-arg.given c.before.before.before.before.before.before.before.before.as-price.ensures)
-    (back _ _ c.before.before.before.before.before.before.before.as-price-arg2.given c.before.before.before.before.before.before.as-price2.ensures)
-    (back _ _ c.before.before.before.before.before.as-price-arg3.given c.before.before.before.before.as-price3.ensures)
-    (back _ _ c.before.before.before.as-price-arg4.given c.before.before.as-price4.ensures)
-    (back _ _ c.before.as-price-arg5.given c.as-price5.ensures)
+    (back _ _ c.before.before.before.before.before.before.before.before.before.as_price-arg-1.given c.before.before.before.before.before.before.before.before.as_price.ensures)
+    (back _ _ c.before.before.before.before.before.before.before.as_price-arg-2-1.given c.before.before.before.before.before.before.as_price-2.ensures)
+    (back _ _ c.before.before.before.before.before.as_price-arg-3-1.given c.before.before.before.before.as_price-3.ensures)
+    (back _ _ c.before.before.before.as_price-arg-4-1.given c.before.before.as_price-4.ensures)
+    (back _ _ c.before.as_price-arg-5-1.given c.as_price-5.ensures)
 
 pub put_five_spec : {M : Type 1} → statement M
 put_five_spec = tie.close (tie.spec

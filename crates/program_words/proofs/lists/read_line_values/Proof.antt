@@ -7,17 +7,17 @@ use Rattle.program_words.proofs.ListWords.{read_as, read_none, line_none, line_c
 use Rattle.program_words.proofs.lists.read_line_values.Statement.{statement}
 use Rattle.program_words.proofs.lists.read_line_values.Tie as tie
 
-returns : tie.Need-returns
-returns c = read_none _ _ (line_none _ c.if1.true)
+returns : tie.Need-returns-then-words-eq0
+returns c = read_none _ _ (line_none _ c.if-words-eq0.true)
 
-slice-aggregate-read-values : tie.Need-slice-aggregate-read-values
+slice-aggregate-read-values : tie.Need-slice_bounds-read_values-end
 slice-aggregate-read-values c = sym (length-take-le _ _ (omega arith))
 
-returns_2 : tie.Need-returns-2
-returns_2 c = let r = c.before.read-values.ensures in read_as _ _ _ _ _ (line_cut _ c.before.before.before.before.before.before.if1.false c.before.before.before.before.if2.true) r.0 r.1
+returns_2 : tie.Need-returns-then-words-last-eq32
+returns_2 c = let r = c.before.read_values.ensures in read_as _ _ _ _ _ (line_cut _ c.before.before.before.before.before.before.if-words-eq0.false c.before.before.before.before.if-words-last-eq32.true) r.0 r.1
 
-returns_3 : tie.Need-returns-3
-returns_3 c = let r = c.before.read-values2.ensures in read_as _ _ _ _ _ (line_whole _ c.before.before.before.before.before.if1.false c.before.before.before.if2.false) r.0 r.1
+returns_3 : tie.Need-returns
+returns_3 c = let r = c.before.read_values-2.ensures in read_as _ _ _ _ _ (line_whole _ c.before.before.before.before.before.if-words-eq0.false c.before.before.before.if-words-last-eq32.false) r.0 r.1
 
 pub read_line_values_spec : {M : Type 1} → statement M
 read_line_values_spec =

@@ -9,70 +9,70 @@ use Rattle.program_words.proofs.ListsLaws.{ValuesRead, values_start, values_size
 use Rattle.program_words.proofs.lists.read_values.Statement.{statement}
 use Rattle.program_words.proofs.lists.read_values.Tie as tie
 
-abbrev invariant-loop : tie.invariant-loop
-invariant-loop list separator store₀ at₀ count₀ store at count = ValuesRead separator list store₀ store at count
+abbrev invariant-loop-separator : tie.invariant-loop-separator
+invariant-loop-separator list separator store₀ at₀ count₀ store at count = ValuesRead separator list store₀ store at count
 
-abbrev decreases-loop : tie.decreases-loop
-decreases-loop list separator store₀ at₀ count₀ store at count = length list + 1 - at
+abbrev decreases-loop-separator : tie.decreases-loop-separator
+decreases-loop-separator list separator store₀ at₀ count₀ store at count = length list + 1 - at
 
-loop_holds : tie.Need-loop-init invariant-loop decreases-loop
+loop_holds : tie.Need-loop-separator-init invariant-loop-separator decreases-loop-separator
 loop_holds c = values_start _ _ _
 
 -- where the word ends
-ends : (c : tie.After-position invariant-loop decreases-loop) → c.before.before.loop.at + c.position.result ≤ length c.before.before.before.before.args.list.now
+ends : (c : tie.After-position invariant-loop-separator decreases-loop-separator) → c.before.before.loop-separator.at + c.position.result ≤ length c.before.before.before.before.args.list.now
 ends c =
-    let l = c.before.before.loop in
+    let l = c.before.before.loop-separator in
     (piece_within _ c.before.before.before.before.args.list.now l.at _ l.invariant.within (ap (λ n. l.at + n) c.position.ensures)).1
 
-add-end : tie.Need-overflow-add-end invariant-loop decreases-loop
+add-end : tie.Need-overflow_add-end invariant-loop-separator decreases-loop-separator
 add-end c = let h = ends c in search rules
 
-part-keep-value-end : tie.Need-slice-bounds-keep-value-end invariant-loop decreases-loop
+part-keep-value-end : tie.Need-slice-bounds-keep-value-end invariant-loop-separator decreases-loop-separator
 part-keep-value-end c = let h = ends c in search rules
 
-same_length : tie.Need-same-length invariant-loop decreases-loop
+same_length : tie.Need-shape_of-store-then-not-keep_value invariant-loop-separator decreases-loop-separator
 same_length c =
-    let l = c.before.before.before.before.before.before.before.loop in
-    values_size _ _ _ _ l.at l.count l.invariant _ (ap (λ n. l.at + n) c.before.before.before.before.before.position.ensures) _ c.before.before.keep-value.ensures.1
+    let l = c.before.before.before.before.before.before.before.loop-separator in
+    values_size _ _ _ _ l.at l.count l.invariant _ (ap (λ n. l.at + n) c.before.before.before.before.before.position.ensures) _ c.before.before.keep_value.ensures.1
 
-returns : tie.Need-returns invariant-loop decreases-loop
+returns : tie.Need-returns-then-not-keep_value invariant-loop-separator decreases-loop-separator
 returns c =
-    let l = c.before.before.before.before.before.before.before.loop in
-    values_wrong _ _ _ _ l.at l.count l.invariant _ (ap (λ n. l.at + n) c.before.before.before.before.before.position.ensures) _ c.before.before.keep-value.ensures.1
-    (sym c.before.before.keep-value.ensures.0 ∙ not-true _ c.if1.true)
+    let l = c.before.before.before.before.before.before.before.loop-separator in
+    values_wrong _ _ _ _ l.at l.count l.invariant _ (ap (λ n. l.at + n) c.before.before.before.before.before.position.ensures) _ c.before.before.keep_value.ensures.1
+    (sym c.before.before.keep_value.ensures.0 ∙ not-true _ c.if-not-keep_value.true-raw)
 
-add-count : tie.Need-overflow-add-count invariant-loop decreases-loop
+add-count : tie.Need-overflow_add-count invariant-loop-separator decreases-loop-separator
 add-count c = let h = ends c.before.before.before.before.before in search rules
 
-same-length-2 : tie.Need-same-length-2 invariant-loop decreases-loop
+same-length-2 : tie.Need-shape_of-store-then-end-list invariant-loop-separator decreases-loop-separator
 same-length-2 c =
-    let l = c.before.before.before.before.before.before.before.before.loop in
-    values_size _ _ _ _ l.at l.count l.invariant _ (ap (λ n. l.at + n) c.before.before.before.before.before.before.position.ensures) _ c.before.before.before.keep-value.ensures.1
+    let l = c.before.before.before.before.before.before.before.before.loop-separator in
+    values_size _ _ _ _ l.at l.count l.invariant _ (ap (λ n. l.at + n) c.before.before.before.before.before.before.position.ensures) _ c.before.before.before.keep_value.ensures.1
 
-returns_2 : tie.Need-returns-2 invariant-loop decreases-loop
+returns_2 : tie.Need-returns-then-end-list invariant-loop-separator decreases-loop-separator
 returns_2 c =
-    let l = c.before.before.before.before.before.before.before.before.loop in
-    values_last _ _ _ _ l.at l.count l.invariant _ (ap (λ n. l.at + n) c.before.before.before.before.before.before.position.ensures) _ c.before.before.before.keep-value.ensures.1
-    (sym c.before.before.before.keep-value.ensures.0 ∙ not-false _ c.before.if1.false) c.if2.true
+    let l = c.before.before.before.before.before.before.before.before.loop-separator in
+    values_last _ _ _ _ l.at l.count l.invariant _ (ap (λ n. l.at + n) c.before.before.before.before.before.before.position.ensures) _ c.before.before.before.keep_value.ensures.1
+    (sym c.before.before.before.keep_value.ensures.0 ∙ not-false _ c.before.if-not-keep_value.false-raw) c.if-end-list.true
 
-add_at : tie.Need-overflow-add-at invariant-loop decreases-loop
+add_at : tie.Need-overflow_add-at invariant-loop-separator decreases-loop-separator
 add_at c = let h = ends c.before.before.before.before.before.before in search rules
 
-loop-less : tie.Need-loop-smaller invariant-loop decreases-loop
+loop-less : tie.Need-loop-separator-smaller invariant-loop-separator decreases-loop-separator
 loop-less c = let h = ends c.before.before.before.before.before.before in search rules
 
-loop_again : tie.Need-loop-preserved invariant-loop decreases-loop
+loop_again : tie.Need-loop-separator-preserved invariant-loop-separator decreases-loop-separator
 loop_again c =
-    let l = c.before.before.before.before.before.before.before.before.loop in
-    values_more _ _ _ _ l.at l.count l.invariant _ (ap (λ n. l.at + n) c.before.before.before.before.before.before.position.ensures) _ c.before.before.before.keep-value.ensures.1
-    (sym c.before.before.before.keep-value.ensures.0 ∙ not-false _ c.before.if1.false) c.if2.false
+    let l = c.before.before.before.before.before.before.before.before.loop-separator in
+    values_more _ _ _ _ l.at l.count l.invariant _ (ap (λ n. l.at + n) c.before.before.before.before.before.before.position.ensures) _ c.before.before.before.keep_value.ensures.1
+    (sym c.before.before.before.keep_value.ensures.0 ∙ not-false _ c.before.if-not-keep_value.false-raw) c.if-end-list.false
 
 pub read_values_spec : {M : Type 1} → statement M
 read_values_spec =
     tie.close
     (tie.spec
-    invariant-loop
-    decreases-loop
+    invariant-loop-separator
+    decreases-loop-separator
     loop_holds
     (λ c. search rules) (λ c. search rules) (λ c. search rules) (λ c κs. search rules)
     add-end

@@ -8,22 +8,22 @@ use Rattle.program_words.proofs.Drawn.{Drawing, drawing_none, drawing_more, draw
 use Rattle.program_words.proofs.picks.put_drawn.Statement.{statement}
 use Rattle.program_words.proofs.picks.put_drawn.Tie as tie
 
-abbrev invariant-loop : tie.invariant-loop
-invariant-loop seed picks₀ x₀ i₀ picks x i = Drawing seed (length picks₀) picks i x
+abbrev invariant-loop-i : tie.invariant-loop-i
+invariant-loop-i seed picks₀ x₀ i₀ picks x i = Drawing seed (length picks₀) picks i x
 
-abbrev decreases-loop : tie.decreases-loop
-decreases-loop seed picks₀ x₀ i₀ picks x i = length picks₀ - i
+abbrev decreases-loop-i : tie.decreases-loop-i
+decreases-loop-i seed picks₀ x₀ i₀ picks x i = length picks₀ - i
 
 pub put_drawn_spec : {M : Type 1} → statement M
 put_drawn_spec = tie.close (tie.spec
-    invariant-loop
-    decreases-loop
+    invariant-loop-i
+    decreases-loop-i
     (λ c. drawing_none _ _ _ refl (omega arith))
-    (λ c κs. c.before.loop.invariant.small)
+    (λ c κs. c.before.loop-i.invariant.small)
     (λ c. omega (arith, c.next_Drawn.ensures.1))
-    (λ c. omega (arith, c.before.loop-test.true))
+    (λ c. omega (arith, c.before.loop-i-test.true))
     (λ c. search rules)
-    (λ c. omega (arith, c.before.loop-test.true, c.before.before.loop.invariant.long))
-    (λ c. drawing_more _ _ _ _ _ _ c.before.before.loop.invariant (omega (arith, c.before.loop-test.true, c.before.before.loop.invariant.long)) c.next_Drawn.ensures.0 c.next_Drawn.ensures.1)
-    (λ c. c.before.loop.invariant.long)
-    (λ c. drawing_all _ _ _ _ _ c.before.loop.invariant (omega (arith, c.loop-test.false, c.before.loop.invariant.long))))
+    (λ c. omega (arith, c.before.loop-i-test.true, c.before.before.loop-i.invariant.long))
+    (λ c. drawing_more _ _ _ _ _ _ c.before.before.loop-i.invariant (omega (arith, c.before.loop-i-test.true, c.before.before.loop-i.invariant.long)) c.next_Drawn.ensures.0 c.next_Drawn.ensures.1)
+    (λ c. c.before.loop-i.invariant.long)
+    (λ c. drawing_all _ _ _ _ _ c.before.loop-i.invariant (omega (arith, c.loop-i-test.false, c.before.loop-i.invariant.long))))

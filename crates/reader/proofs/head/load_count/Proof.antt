@@ -8,26 +8,26 @@ use borrow.Author.Rules.{rules}
 use Rattle.reader.proofs.head.load_count.Statement.{statement}
 use Rattle.reader.proofs.head.load_count.Tie as tie
 
-count-line-requires : tie.Need-count-line-requires
+count-line-requires : tie.Need-count_line-c-requires
 unfolding clean
 count-line-requires c κs = (search rules, search rules, refl)
 
 -- the line that was read
-line : (c : tie.After-count-line) → CountRead rows_key (drop c.before.before.before.before.args.at c.before.before.before.before.args.file.now) 256 c.count_line_lem.result
+line : (c : tie.After-count_line-c) → CountRead rows_key (drop c.before.before.before.before.args.at c.before.before.before.before.args.file.now) 256 c.count_line_lem.result
 line c = rw (part_rest c.before.before.before.before.args.file.now c.before.before.before.before.args.at) at c.count_line_lem.ensures
 
-add-t17 : tie.Need-overflow-add-t17
+add-t17 : tie.Need-overflow_add-result
 add-t17 c =
-    let w = (subst (CountRead _ _ _) c.before.c.given.1 (line c.before.before.before)).within in
+    let w = (subst (CountRead _ _ _) c.before.c-1.given.1 (line c.before.before.before)).within in
     let l = length-drop c.before.before.before.before.before.before.before.args.at c.before.before.before.before.before.before.before.args.file.now in
     let h = c.before.before.before.before.before.before.before.requires in
     search rules
 
-returns : tie.Need-returns
-returns c = count_says _ _ _ _ _ (subst (CountRead _ _ _) c.before.c.given.1 (line c.before.before.before)) c.before.before.before.before.before.before.before.requires.0 c.before.before.before.before.before.before.before.requires.1
+returns : tie.Need-returns-in-Count
+returns c = count_says _ _ _ _ _ (subst (CountRead _ _ _) c.before.c-1.given.1 (line c.before.before.before)) c.before.before.before.before.before.before.before.requires.0 c.before.before.before.before.before.before.before.requires.1
 
-returns_2 : tie.Need-returns-2
-returns_2 c = count_refused _ _ _ _ _ c.refused.ensures (subst (CountRead _ _ _) c.before.before.c2.given.1 (line c.before.before.before.before))
+returns_2 : tie.Need-returns-in-Wrong
+returns_2 c = count_refused _ _ _ _ _ c.refused.ensures (subst (CountRead _ _ _) c.before.before.c-in-Wrong-1.given.1 (line c.before.before.before.before))
 
 pub load_count_spec : {M : Type 1} → statement M
 load_count_spec =

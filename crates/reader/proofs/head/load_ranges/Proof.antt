@@ -3,14 +3,14 @@ use borrow.Author.Rules.{rules}
 use Rattle.reader.proofs.head.load_ranges.Statement.{statement}
 use Rattle.reader.proofs.head.load_ranges.Tie as tie
 
-load-count-requires : tie.Need-load-count-requires
-load-count-requires c κs = (until_within c.before.before.before.read-ranges.ensures c.before.r.given.1, c.before.before.before.before.before.before.requires.1)
+load-count-requires : tie.Need-load_count-requires
+load-count-requires c κs = (until_within c.before.before.before.read_ranges-r.ensures c.before.r-1.given.1, c.before.before.before.before.before.before.requires.1)
 
-returns : tie.Need-returns
-returns c = ranges_then c.before.before.before.before.read-ranges.ensures c.before.before.r.given.1 c.load-count.ensures
+returns : tie.Need-returns-in-Until
+returns c = ranges_then c.before.before.before.before.read_ranges-r.ensures c.before.before.r-1.given.1 c.load_count.ensures
 
-returns_2 : tie.Need-returns-2
-returns_2 c = ranges_refused c.before.before.before.before.read-ranges.ensures c.before.before.r2.given.1 c.refused.ensures
+returns_2 : tie.Need-returns-in-Refused
+returns_2 c = ranges_refused c.before.before.before.before.read_ranges-r.ensures c.before.before.r-in-Refused-1.given.1 c.refused.ensures
 
 pub load_ranges_spec : {M : Type 1} → statement M
 load_ranges_spec =

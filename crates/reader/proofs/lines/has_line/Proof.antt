@@ -9,16 +9,16 @@ use native.Mathlib.Omega.{arith}
 use Rattle.reader.proofs.lines.has_line.Statement.{statement}
 use Rattle.reader.proofs.lines.has_line.Tie as tie
 
-returns : tie.Need-returns
+returns : tie.Need-returns-then-n-eq0
 returns c = let s = c.before.before.args.rest.now in
-    sym (le-ltb (before 10 s) (length s) (omega (arith, c.if1.true)))
+    sym (le-ltb (before 10 s) (length s) (omega (arith, c.if-n-eq0.true)))
 
-returns_2 : tie.Need-returns-2
+returns_2 : tie.Need-returns-then-rest-n-eq10
 returns_2 c = let s = c.before.before.before.before.args.rest.now in
-    let h = c.before.before.if1.false in
-    sym (lt-ltb (before 10 s) (length s) (omega (arith, h, found_line s (length s - 1) (omega (arith, h)) c.if2.true)))
+    let h = c.before.before.if-n-eq0.false in
+    sym (lt-ltb (before 10 s) (length s) (omega (arith, h, found_line s (length s - 1) (omega (arith, h)) c.if-rest-n-eq10.true)))
 
-returns_3 : tie.Need-returns-3
+returns_3 : tie.Need-returns
 returns_3 c = rw c.position.ensures
 
 pub has_line_spec : {M : Type 1} → statement M

@@ -7,18 +7,18 @@ use Rattle.reader.proofs.NestingLaws.{loop_opens, loop_deep, too_many}
 use Rattle.reader.proofs.nesting.open_loop.Statement.{statement}
 use Rattle.reader.proofs.nesting.open_loop.Tie as tie
 
-returns : tie.Need-returns
+returns : tie.Need-returns-then-loops-lt-MOST_LOOPS
 unfolding nested_of nest_of
 returns c =
     let b = c.before.before.before.args.b in
     let l : length b.kinds ≡ 8 = search rules in
     (loop_opens b.depth b.loops b.kinds (search rules) (search rules) l, search rules)
 
-returns_2 : tie.Need-returns-2
+returns_2 : tie.Need-returns-then-depth-lt-DEEPEST
 unfolding nested_of nest_of
 returns_2 c = let b = c.before.before.before.args.b in (too_many b.depth b.loops b.kinds (search rules), search rules)
 
-returns_3 : tie.Need-returns-3
+returns_3 : tie.Need-returns
 unfolding nested_of nest_of
 returns_3 c = let b = c.before.before.args.b in (loop_deep b.depth b.loops b.kinds (search rules), search rules)
 

@@ -7,14 +7,14 @@ use Rattle.reader.proofs.NestingLaws.{pick_opens, pick_deep}
 use Rattle.reader.proofs.nesting.open_pick.Statement.{statement}
 use Rattle.reader.proofs.nesting.open_pick.Tie as tie
 
-returns : tie.Need-returns
+returns : tie.Need-returns-then-depth-lt-DEEPEST
 unfolding nested_of nest_of
 returns c =
     let b = c.before.before.args.b in
     let l : length b.kinds ≡ 8 = search rules in
     (pick_opens b.depth b.loops b.kinds (search rules) l, search rules)
 
-returns_2 : tie.Need-returns-2
+returns_2 : tie.Need-returns
 unfolding nested_of nest_of
 returns_2 c = let b = c.before.before.args.b in (pick_deep b.depth b.loops b.kinds (search rules), search rules)
 

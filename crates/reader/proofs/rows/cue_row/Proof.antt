@@ -13,21 +13,21 @@ use Rattle.reader.proofs.rows.cue_row.Statement.{statement}
 use Rattle.reader.proofs.rows.cue_row.Tie as tie
 
 -- the words' questions
-asked : (c : tie.After-first-refusal) → let a = c.before.before.before.before.before.args in let w = line_word a.line in
-    c.first-refusal.result ≡ first_refusal (asks_number (pos 0) (pos 9_999) (w 1)) (asks_end (w 2))
-asked c = rw (c.first-refusal.ensures, c.before.asks-end.ensures, c.before.before.word2.ensures, c.before.before.before.asks-number.ensures, c.before.before.before.before.word.ensures)
+asked : (c : tie.After-first_refusal-q) → let a = c.before.before.before.before.before.args in let w = line_word a.line in
+    c.first_refusal-q.result ≡ first_refusal (asks_number (pos 0) (pos 9_999) (w 1)) (asks_end (w 2))
+asked c = rw (c.first_refusal-q.ensures, c.before.asks_end.ensures, c.before.before.word.ensures, c.before.before.before.asks_number.ensures, c.before.before.before.before.word-n.ensures)
 
 amount-requires : tie.Need-amount-requires
 unfolding highest
-amount-requires c κs = number_wider (pos 0) (pos 9_999) (pos 0) highest c.before.before.before.before.before.word.result (omega ints) (omega ints) (rw c.before.before.before.before.before.word.ensures (refusal_yes _ _ (sym (asked c.before) ∙ c.if1.true)).0)
+amount-requires c κs = number_wider (pos 0) (pos 9_999) (pos 0) highest c.before.before.before.before.before.word-n.result (omega ints) (omega ints) (rw c.before.before.before.before.before.word-n.ensures (refusal_yes _ _ (sym (asked c.before) ∙ c.if-q-eq0.true)).0)
 
-returns : tie.Need-returns
+returns : tie.Need-returns-then-q-eq0
 unfolding cue_row kind_of
-returns c = λ vars s base. line_read s base _ _ _ _ (asked c.before.before) _ c.before.if1.true λ file d. (rw (c.amount.ensures, c.before.before.before.before.before.before.word.ensures), tt)
+returns c = λ vars s base. line_read s base _ _ _ _ (asked c.before.before) _ c.before.if-q-eq0.true λ file d. (rw (c.amount.ensures, c.before.before.before.before.before.before.word-n.ensures), tt)
 
-returns_2 : tie.Need-returns-2
+returns_2 : tie.Need-returns
 unfolding cue_row
-returns_2 c = λ vars s base. line_wrong s base _ _ _ _ (asked c.before) c.if1.false
+returns_2 c = λ vars s base. line_wrong s base _ _ _ _ (asked c.before) c.if-q-eq0.false
 
 pub cue_row_spec : {M : Type 1} → statement M
 cue_row_spec =

@@ -10,25 +10,25 @@ use Rattle.reader.proofs.rows.off_row.Statement.{statement}
 use Rattle.reader.proofs.rows.off_row.Tie as tie
 
 -- the words' questions
-asked : (c : tie.After-first-refusal4) → let a = c.before.before.before.before.before.before.before.before.before.before.before.before.before.before.args in let w = line_word a.line in
-    c.first-refusal4.result ≡ first_refusal (asks_variable a.vars (w 1)) (first_refusal (asks_variable a.vars (w 2)) (first_refusal (asks_ordered (w 3)) (first_refusal (asks_number lowest highest (w 4)) (asks_end (w 5)))))
+asked : (c : tie.After-first_refusal-q) → let a = c.before.before.before.before.before.before.before.before.before.before.before.before.before.before.args in let w = line_word a.line in
+    c.first_refusal-q.result ≡ first_refusal (asks_variable a.vars (w 1)) (first_refusal (asks_variable a.vars (w 2)) (first_refusal (asks_ordered (w 3)) (first_refusal (asks_number lowest highest (w 4)) (asks_end (w 5)))))
 unfolding lowest highest
-asked c = rw (c.first-refusal4.ensures, c.before.asks-variable2.ensures, c.before.before.first-refusal3.ensures, c.before.before.before.asks-variable.ensures, c.before.before.before.before.first-refusal2.ensures, c.before.before.before.before.before.asks-ordered.ensures, c.before.before.before.before.before.before.first-refusal.ensures, c.before.before.before.before.before.before.before.asks-end.ensures, c.before.before.before.before.before.before.before.before.word5.ensures, c.before.before.before.before.before.before.before.before.before.asks-number.ensures, c.before.before.before.before.before.before.before.before.before.before.word4.ensures, c.before.before.before.before.before.before.before.before.before.before.before.word3.ensures, c.before.before.before.before.before.before.before.before.before.before.before.before.word2.ensures, c.before.before.before.before.before.before.before.before.before.before.before.before.before.word.ensures)
+asked c = rw (c.first_refusal-q.ensures, c.before.asks_variable-2.ensures, c.before.before.first_refusal-rest.ensures, c.before.before.before.asks_variable.ensures, c.before.before.before.before.first_refusal-test.ensures, c.before.before.before.before.before.asks_ordered.ensures, c.before.before.before.before.before.before.first_refusal-last.ensures, c.before.before.before.before.before.before.before.asks_end.ensures, c.before.before.before.before.before.before.before.before.word.ensures, c.before.before.before.before.before.before.before.before.before.asks_number-number.ensures, c.before.before.before.before.before.before.before.before.before.before.word-k.ensures, c.before.before.before.before.before.before.before.before.before.before.before.word-o.ensures, c.before.before.before.before.before.before.before.before.before.before.before.before.word-w.ensures, c.before.before.before.before.before.before.before.before.before.before.before.before.before.word-v.ensures)
 
-variable-of-requires : tie.Need-variable-of-requires
-variable-of-requires c κs = (_, c.before.before.before.before.before.before.before.before.before.before.before.before.before.before.before.requires, rw c.before.before.before.before.before.before.before.before.before.before.before.before.before.before.word.ensures (four_yes _ _ _ _ _ _ (asked c.before) c.if1.true).0)
+variable-of-requires : tie.Need-variable_of-flag-requires
+variable-of-requires c κs = (_, c.before.before.before.before.before.before.before.before.before.before.before.before.before.before.before.requires, rw c.before.before.before.before.before.before.before.before.before.before.before.before.before.before.word-v.ensures (four_yes _ _ _ _ _ _ (asked c.before) c.if-q-eq0.true).0)
 
-variable-of-requires-2 : tie.Need-variable-of-requires-2
-variable-of-requires-2 c κs = (_, c.before.before.before.before.before.before.before.before.before.before.before.before.before.before.before.before.requires, rw c.before.before.before.before.before.before.before.before.before.before.before.before.before.before.word2.ensures (four_yes _ _ _ _ _ _ (asked c.before.before) c.before.if1.true).1)
+variable-of-requires-2 : tie.Need-variable_of-watched-requires
+variable-of-requires-2 c κs = (_, c.before.before.before.before.before.before.before.before.before.before.before.before.before.before.before.before.requires, rw c.before.before.before.before.before.before.before.before.before.before.before.before.before.before.word-w.ensures (four_yes _ _ _ _ _ _ (asked c.before.before) c.before.if-q-eq0.true).1)
 
-returns : tie.Need-returns
+returns : tie.Need-returns-then-q-eq0
 unfolding off_row kind_of
-returns c = λ s base. line_read s base _ _ _ _ (asked c.before.before.before.before.before) _ c.before.before.before.before.if1.true λ file d.
-    (rw (to_z-of_z (sfits_of c.number_of_lem.type-inv), c.number_of_lem.ensures, c.before.comparison_of_lem.ensures, c.before.before.variable-of2.ensures, c.before.before.before.variable_of_lem.ensures, c.before.before.before.before.before.before.before.before.before.before.before.before.before.before.before.word4.ensures, c.before.before.before.before.before.before.before.before.before.before.before.before.before.before.before.before.word3.ensures, c.before.before.before.before.before.before.before.before.before.before.before.before.before.before.before.before.before.word2.ensures, c.before.before.before.before.before.before.before.before.before.before.before.before.before.before.before.before.before.before.word.ensures), tt)
+returns c = λ s base. line_read s base _ _ _ _ (asked c.before.before.before.before.before) _ c.before.before.before.before.if-q-eq0.true λ file d.
+    (rw (to_z-of_z (sfits_of c.number_of_lem.type_inv), c.number_of_lem.ensures, c.before.comparison_of_lem.ensures, c.before.before.variable_of-watched.ensures, c.before.before.before.variable_of_lem.ensures, c.before.before.before.before.before.before.before.before.before.before.before.before.before.before.before.word-k.ensures, c.before.before.before.before.before.before.before.before.before.before.before.before.before.before.before.before.word-o.ensures, c.before.before.before.before.before.before.before.before.before.before.before.before.before.before.before.before.before.word-w.ensures, c.before.before.before.before.before.before.before.before.before.before.before.before.before.before.before.before.before.before.word-v.ensures), tt)
 
-returns_2 : tie.Need-returns-2
+returns_2 : tie.Need-returns
 unfolding off_row
-returns_2 c = λ s base. line_wrong s base _ _ _ _ (asked c.before) c.if1.false
+returns_2 c = λ s base. line_wrong s base _ _ _ _ (asked c.before) c.if-q-eq0.false
 
 pub off_row_spec : {M : Type 1} → statement M
 off_row_spec =

@@ -20,26 +20,26 @@ refusal_two zero q t f g e = absurd (f refl)
 refusal_two (suc p) zero t f g e = absurd (g refl)
 refusal_two (suc p) (suc q) t f g e = rw e
 
-returns : tie.Need-returns
+returns : tie.Need-returns-then-p-eq0
 unfolding first_refusal
-returns c = rw c.if1.true
+returns c = rw c.if-p-eq0.true
 
-returns_2 : tie.Need-returns-2
-returns_2 c = rw c.if2.true (sym (refusal_left _))
+returns_2 : tie.Need-returns-then-q-eq0
+returns_2 c = rw c.if-q-eq0.true (sym (refusal_left _))
 
-returns_3 : tie.Need-returns-3
+returns_3 : tie.Need-returns-then-turn
 returns_3 c =
     let a = c.before.before.before.before.before.args in
-    let h = c.if3.true in
-    let k : turn_of a.p ≤ turn_of a.q = omega (arith, c.before.before.turn.ensures, c.before.turn2.ensures) in
-    refusal_two _ _ true c.before.before.before.before.if1.false c.before.before.before.if2.false (le-leb _ _ k)
+    let h = c.if-turn.true in
+    let k : turn_of a.p ≤ turn_of a.q = omega (arith, c.before.before.turn.ensures, c.before.turn-2.ensures) in
+    refusal_two _ _ true c.before.before.before.before.if-p-eq0.false c.before.before.before.if-q-eq0.false (le-leb _ _ k)
 
-returns-4 : tie.Need-returns-4
+returns-4 : tie.Need-returns-else-turn
 returns-4 c =
     let a = c.before.before.before.before.before.args in
-    let h = c.if3.false in
-    let k : turn_of a.q < turn_of a.p = omega (arith, c.before.before.turn.ensures, c.before.turn2.ensures) in
-    refusal_two _ _ false c.before.before.before.before.if1.false c.before.before.before.if2.false (lt-leb _ _ k)
+    let h = c.if-turn.false in
+    let k : turn_of a.q < turn_of a.p = omega (arith, c.before.before.turn.ensures, c.before.turn-2.ensures) in
+    refusal_two _ _ false c.before.before.before.before.if-p-eq0.false c.before.before.before.if-q-eq0.false (lt-leb _ _ k)
 
 pub first_refusal_spec : {M : Type 1} → statement M
 first_refusal_spec = tie.close (tie.spec returns returns_2 (λ c κs. search rules) (λ c κs. search rules) returns_3 returns-4)

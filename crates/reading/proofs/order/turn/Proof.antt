@@ -6,4 +6,4 @@ use Rattle.reading.proofs.order.turn.Tie as tie
 
 pub turn_spec : {M : Type 1} → statement M
 unfolding turn_of
-turn_spec = tie.close (tie.spec (λ c. rw (eq-eqb _ _ c.if1.true)) (λ c. search rules) (λ c. rw (ne_eqb _ _ c.if1.false)))
+turn_spec = tie.close (tie.spec (λ c. rw (eq-eqb _ _ c.if-q-eq17.true)) (λ c. search rules) (λ c. rw (ne_eqb _ _ c.if-q-eq17.false)))

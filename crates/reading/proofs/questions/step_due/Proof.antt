@@ -9,24 +9,24 @@ use Rattle.reading.proofs.Scanning.{opened, no_leaf, leafed}
 use Rattle.reading.proofs.questions.step_due.Statement.{statement}
 use Rattle.reading.proofs.questions.step_due.Tie as tie
 
-returns : tie.Need-returns
-returns c = let p = c.before.before.before.before.requires in rw (add-one, add-one) (opened _ _ _ p.2 p.1 c.before.if1.true)
+returns : tie.Need-returns-then-word-at-eq40
+returns c = let p = c.before.before.before.before.requires in rw (add-one, add-one) (opened _ _ _ p.2 p.1 c.before.if-word-at-eq40.true)
 
-returns_2 : tie.Need-returns-2
-returns_2 c = let p = c.before.before.before.before.before.requires in no_leaf _ _ _ p.2 p.0 p.1 c.before.before.if1.false _ c.before.leaf-at.ensures c.if2.true
+returns_2 : tie.Need-returns-then-tag-eq-NEITHER
+returns_2 c = let p = c.before.before.before.before.before.requires in no_leaf _ _ _ p.2 p.0 p.1 c.before.before.if-word-at-eq40.false _ c.before.leaf_at-leaf.ensures c.if-tag-eq-NEITHER.true
 
-asks-leaf-requires : tie.Need-asks-leaf-requires
+asks-leaf-requires : tie.Need-asks_leaf-requires
 asks-leaf-requires c κs =
-    let l = c.before.before.before.leaf-at in
+    let l = c.before.before.before.leaf_at-leaf in
     let f : SFits w32 l.result.value = search rules in
     rw (to_z-of_z f) l.ensures.index
 
-returns_3 : tie.Need-returns-3
+returns_3 : tie.Need-returns
 returns_3 c =
     let p = c.before.before.before.before.before.before.before.before.before.requires in
-    let l = c.before.before.before.before.before.leaf-at in
+    let l = c.before.before.before.before.before.leaf_at-leaf in
     let f : SFits w32 l.result.value = search rules in
-    leafed _ _ _ p.2 p.0 p.1 c.before.before.before.before.before.before.if1.false _ l.ensures c.before.before.before.before.if2.false _ _ c.before.before.before.larger-size.ensures (c.first-refusal.ensures ∙ ap (λ q. first_refusal c.before.before.before.before.before.before.before.before.before.args.c.asks q) (simp (to_z-of_z f) at c.before.asks-leaf.ensures))
+    leafed _ _ _ p.2 p.0 p.1 c.before.before.before.before.before.before.if-word-at-eq40.false _ l.ensures c.before.before.before.before.if-tag-eq-NEITHER.false _ _ c.before.before.before.larger_size.ensures (c.first_refusal.ensures ∙ ap (λ q. first_refusal c.before.before.before.before.before.before.before.before.before.args.c.asks q) (simp (to_z-of_z f) at c.before.asks_leaf.ensures))
 
 pub step_due_spec : {M : Type 1} → statement M
 step_due_spec =

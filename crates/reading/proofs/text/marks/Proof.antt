@@ -3,13 +3,13 @@ use Rattle.reading.specs.Words.{marks}
 use Rattle.reading.proofs.text.marks.Statement.{statement}
 use Rattle.reading.proofs.text.marks.Tie as tie
 
-returns : tie.Need-returns
+returns : tie.Need-returns-then-b-eq118
 unfolding marks
-returns c = rw (eq-eqb _ _ c.if1.true)
+returns c = rw (eq-eqb _ _ c.if-b-eq118.true)
 
-returns_2 : tie.Need-returns-2
+returns_2 : tie.Need-returns
 unfolding marks
-returns_2 c = rw (ne_eqb _ _ c.if1.false)
+returns_2 c = rw (ne_eqb _ _ c.if-b-eq118.false)
 
 pub marks_spec : {M : Type 1} → statement M
 marks_spec = tie.close (tie.spec returns returns_2)

@@ -5,11 +5,11 @@ use borrow.Author.Rules.{rules}
 use Rattle.reading.proofs.text.plain_word.Statement.{statement}
 use Rattle.reading.proofs.text.plain_word.Tie as tie
 
-returns : tie.Need-returns
+returns : tie.Need-returns-then-s-gt5
 unfolding keywords word_at word_in
-returns c = plain_long _ c.if1.true
+returns c = plain_long _ c.if-s-gt5.true
 
-returns_2 : tie.Need-returns-2
+returns_2 : tie.Need-returns
 returns_2 c = c.keyword.ensures ∙ plain_packed _ _ c.before.packed.ensures
 
 pub plain_word_spec : {M : Type 1} → statement M

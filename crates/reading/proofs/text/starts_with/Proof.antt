@@ -9,36 +9,36 @@ use native.Mathlib.Omega.{arith}
 use Rattle.reading.proofs.text.starts_with.Statement.{statement}
 use Rattle.reading.proofs.text.starts_with.Tie as tie
 
-abbrev invariant-loop : tie.invariant-loop
-invariant-loop s key i₀ i = (length key ≤ length s) × (i ≤ length key) × (starts_with key s ≡ starts_with (drop i key) (drop i s))
+abbrev invariant-loop-i : tie.invariant-loop-i
+invariant-loop-i s key i₀ i = (length key ≤ length s) × (i ≤ length key) × (starts_with key s ≡ starts_with (drop i key) (drop i s))
 
-abbrev decreases-loop : tie.decreases-loop
-decreases-loop s key i₀ i = length key - i
+abbrev decreases-loop-i : tie.decreases-loop-i
+decreases-loop-i s key i₀ i = length key - i
 
-returns : tie.Need-returns invariant-loop decreases-loop
-returns c = sym (starts_short _ _ c.if1.true)
+returns : tie.Need-returns-then-s-key invariant-loop-i decreases-loop-i
+returns c = sym (starts_short _ _ c.if-s-key.true)
 
-returns_2 : tie.Need-returns-2 invariant-loop decreases-loop
+returns_2 : tie.Need-returns-then-s-i invariant-loop-i decreases-loop-i
 returns_2 c = let test = c.before.before.before in
-    let inv = test.before.loop.invariant in
-    let h : test.before.loop.i < length test.before.before.before.args.s.now = omega arith in
-    sym (inv.2 ∙ starts_other _ _ _ test.loop-test.true h c.if2.true)
+    let inv = test.before.loop-i.invariant in
+    let h : test.before.loop-i.i < length test.before.before.before.args.s.now = omega arith in
+    sym (inv.2 ∙ starts_other _ _ _ test.loop-i-test.true h c.if-s-i.true)
 
-loop_again : tie.Need-loop-preserved invariant-loop decreases-loop
+loop_again : tie.Need-loop-i-preserved invariant-loop-i decreases-loop-i
 loop_again c = let test = c.before.before.before in
-    let inv = test.before.loop.invariant in
-    let h : test.before.loop.i < length test.before.before.before.args.s.now = omega arith in
-    (inv.0, omega arith, rw add-one (inv.2 ∙ starts_same _ _ _ test.loop-test.true h c.if2.false))
+    let inv = test.before.loop-i.invariant in
+    let h : test.before.loop-i.i < length test.before.before.before.args.s.now = omega arith in
+    (inv.0, omega arith, rw add-one (inv.2 ∙ starts_same _ _ _ test.loop-i-test.true h c.if-s-i.false))
 
-returns_3 : tie.Need-returns-3 invariant-loop decreases-loop
-returns_3 c = sym (c.before.loop.invariant.2 ∙ starts_end _ _ _ c.loop-test.false)
+returns_3 : tie.Need-returns invariant-loop-i decreases-loop-i
+returns_3 c = sym (c.before.loop-i.invariant.2 ∙ starts_end _ _ _ c.loop-i-test.false)
 
 pub starts_with_spec : {M : Type 1} → statement M
 starts_with_spec =
     tie.close
     (tie.spec
-    invariant-loop
-    decreases-loop
+    invariant-loop-i
+    decreases-loop-i
     returns
     (λ c. search rules) (λ c. search rules) (λ c. search rules)
     returns_2

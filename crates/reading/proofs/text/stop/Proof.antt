@@ -9,32 +9,32 @@ use native.Mathlib.Omega.{arith}
 use Rattle.reading.proofs.text.stop.Statement.{statement}
 use Rattle.reading.proofs.text.stop.Tie as tie
 
-abbrev invariant-loop : tie.invariant-loop
-invariant-loop s i₀ i = (i ≤ length s) × (stop s ≡ i + stop (drop i s))
+abbrev invariant-loop-i : tie.invariant-loop-i
+invariant-loop-i s i₀ i = (i ≤ length s) × (stop s ≡ i + stop (drop i s))
 
-abbrev decreases-loop : tie.decreases-loop
-decreases-loop s i₀ i = length s - i
+abbrev decreases-loop-i : tie.decreases-loop-i
+decreases-loop-i s i₀ i = length s - i
 
-returns : tie.Need-returns invariant-loop decreases-loop
+returns : tie.Need-returns-then-stops invariant-loop-i decreases-loop-i
 returns c = let l = c.before.before.before.before in
-    let e = stop_here _ _ c.before.before.before.loop-test.true (sym c.before.stops.ensures ∙ c.if1.true) in
-    sym (l.loop.invariant.1 ∙ ap (λ n. l.loop.i + n) e ∙ omega arith)
+    let e = stop_here _ _ c.before.before.before.loop-i-test.true (sym c.before.stops.ensures ∙ c.if-stops.true) in
+    sym (l.loop-i.invariant.1 ∙ ap (λ n. l.loop-i.i + n) e ∙ omega arith)
 
-loop_again : tie.Need-loop-preserved invariant-loop decreases-loop
+loop_again : tie.Need-loop-i-preserved invariant-loop-i decreases-loop-i
 loop_again c = let l = c.before.before.before.before in
-    let e = stop_on _ _ c.before.before.before.loop-test.true (sym c.before.stops.ensures ∙ c.if1.false) in
-    rw (add-one l.loop.i) (c.before.before.before.loop-test.true, l.loop.invariant.1 ∙ ap (λ n. l.loop.i + n) e ∙ omega arith)
+    let e = stop_on _ _ c.before.before.before.loop-i-test.true (sym c.before.stops.ensures ∙ c.if-stops.false) in
+    rw (add-one l.loop-i.i) (c.before.before.before.loop-i-test.true, l.loop-i.invariant.1 ∙ ap (λ n. l.loop-i.i + n) e ∙ omega arith)
 
-returns_2 : tie.Need-returns-2 invariant-loop decreases-loop
-returns_2 c = let e = stop_end _ _ c.loop-test.false in
-    sym (c.before.loop.invariant.1 ∙ ap (λ n. c.before.loop.i + n) e ∙ omega arith)
+returns_2 : tie.Need-returns invariant-loop-i decreases-loop-i
+returns_2 c = let e = stop_end _ _ c.loop-i-test.false in
+    sym (c.before.loop-i.invariant.1 ∙ ap (λ n. c.before.loop-i.i + n) e ∙ omega arith)
 
 pub stop_spec : {M : Type 1} → statement M
 stop_spec =
     tie.close
     (tie.spec
-    invariant-loop
-    decreases-loop
+    invariant-loop-i
+    decreases-loop-i
     (λ c. search rules) (λ c. search rules) (λ c κs. search rules)
     returns
     (λ c. search rules) (λ c. search rules)

@@ -11,8 +11,8 @@ asks_change_spec =
     (tie.spec
     (λ c. search rules) (λ c κs. search rules) (λ c. search rules) (λ c κs. search rules) (λ c. search rules) (λ c κs. search rules) (λ c. search rules)
     (λ c κs. search rules)
-    (λ c. rw c.before.enum_told.given.1 c.asks-number.ensures)
-    (λ c. rw c.before.enum-told2.given.1 c.asks-number2.ensures)
-    (λ c. rw c.before.enum-told3.given.1 c.asks-number3.ensures)
-    (λ c. rw c.before.enum-told4.given.1 c.asks-number4.ensures)
-    (λ c. (no_change c.before.args.name c.before.args.w c.match.keys5).0))
+    (λ c. rw c.before.enum_told-1.given.1 c.asks_number.ensures)
+    (λ c. rw c.before.enum_told-in-Sub-1.given.1 c.asks_number-in-Sub.ensures)
+    (λ c. rw c.before.enum_told-in-Mul-1.given.1 c.asks_number-in-Mul.ensures)
+    (λ c. rw c.before.enum_told-in-Div-1.given.1 c.asks_number-in-Div.ensures)
+    (λ c. (no_change c.before.args.name c.before.args.w c.in_default.keys5).0))

@@ -6,13 +6,13 @@ use borrow.Author.Rules.{rules}
 use Rattle.reading.proofs.words.asks_number.Statement.{statement}
 use Rattle.reading.proofs.words.asks_number.Tie as tie
 
-returns : tie.Need-returns
-returns c = let f : SFits w32 c.before.before.w.given.0.0 = search rules in
+returns : tie.Need-returns-in-Number
+returns c = let f : SFits w32 c.before.before.w-1.given.0.0 = search rules in
     let s = c.before.before.before.before.ranges in
-    rw c.before.before.w.given.1 (simp (to_z-of_z s.lo, to_z-of_z s.hi, to_z-of_z f) at c.inside.ensures)
+    rw c.before.before.w-1.given.1 (simp (to_z-of_z s.lo, to_z-of_z s.hi, to_z-of_z f) at c.inside.ensures)
 
-returns_2 : tie.Need-returns-2
-returns_2 c = (no_number c.before.args.w c.match.keys2).0 _ _
+returns_2 : tie.Need-returns-in_default
+returns_2 c = (no_number c.before.args.w c.in_default.keys2).0 _ _
 
 pub asks_number_spec : {M : Type 1} → statement M
 asks_number_spec =

@@ -6,16 +6,16 @@ use borrow.Author.Rules.{rules}
 use Rattle.reading.proofs.words.asks_one.Statement.{statement}
 use Rattle.reading.proofs.words.asks_one.Tie as tie
 
-returns : tie.Need-returns
-returns c = let f : SFits w32 c.before.before.before.w.given.0.0 = search rules in
-    rw c.before.before.before.w.given.1 (one_yes c.before.before.before.w.given.0.0 _ (simp (to_z-of_z f) at c.before.inside.ensures) c.if1.true)
+returns : tie.Need-returns-then-inside-eq0
+returns c = let f : SFits w32 c.before.before.before.w-1.given.0.0 = search rules in
+    rw c.before.before.before.w-1.given.1 (one_yes c.before.before.before.w-1.given.0.0 _ (simp (to_z-of_z f) at c.before.inside.ensures) c.if-inside-eq0.true)
 
-returns_2 : tie.Need-returns-2
-returns_2 c = let f : SFits w32 c.before.before.before.w.given.0.0 = search rules in
-    rw c.before.before.before.w.given.1 (one_no c.before.before.before.w.given.0.0 _ (simp (to_z-of_z f) at c.before.inside.ensures) c.if1.false)
+returns_2 : tie.Need-returns-else-inside-eq0
+returns_2 c = let f : SFits w32 c.before.before.before.w-1.given.0.0 = search rules in
+    rw c.before.before.before.w-1.given.1 (one_no c.before.before.before.w-1.given.0.0 _ (simp (to_z-of_z f) at c.before.inside.ensures) c.if-inside-eq0.false)
 
-returns_3 : tie.Need-returns-3
-returns_3 c = (no_number c.before.args.w c.match.keys2).1
+returns_3 : tie.Need-returns-in_default
+returns_3 c = (no_number c.before.args.w c.in_default.keys2).1
 
 pub asks_one_spec : {M : Type 1} → statement M
 asks_one_spec =

@@ -3,11 +3,11 @@ use borrow.Author.Rules.{rules}
 use Rattle.reading.proofs.words.asks_variable.Statement.{statement}
 use Rattle.reading.proofs.words.asks_variable.Tie as tie
 
-returns : tie.Need-returns
-returns c = rw c.before.before.w.given.1 c.below.ensures
+returns : tie.Need-returns-in-Variable
+returns c = rw c.before.before.w-1.given.1 c.below.ensures
 
-returns_2 : tie.Need-returns-2
-returns_2 c = (no_variable c.before.args.w c.match.keys2).0 _
+returns_2 : tie.Need-returns-in_default
+returns_2 c = (no_variable c.before.args.w c.in_default.keys2).0 _
 
 pub asks_variable_spec : {M : Type 1} → statement M
 asks_variable_spec =

@@ -11,11 +11,11 @@ change_of_spec =
     tie.close
     (tie.spec
     (λ c. search rules) (λ c κs. search rules) (λ c. search rules) (λ c κs. search rules) (λ c. search rules)
-    (λ c κs. number_wider (pos 1) highest (pos 0) highest c.before.before.args.w (omega ints) (omega ints) (rw c.enum-told3.given.1 at c.before.before.requires))
+    (λ c κs. number_wider (pos 1) highest (pos 0) highest c.before.before.args.w (omega ints) (omega ints) (rw c.enum_told-in-Mul-1.given.1 at c.before.before.requires))
     (λ c. search rules)
-    (λ c κs. number_wider (pos 1) highest (pos 0) highest c.before.before.args.w (omega ints) (omega ints) (rw c.enum-told4.given.1 at c.before.before.requires))
-    (λ c. rw (c.before.enum_told.given.1, c.amount.ensures))
-    (λ c. rw (c.before.enum-told2.given.1, c.amount2.ensures))
-    (λ c. rw (c.before.enum-told3.given.1, c.amount3.ensures))
-    (λ c. rw (c.before.enum-told4.given.1, c.amount4.ensures))
-    (λ c. (no_change c.before.args.name c.before.args.w c.match.keys5).1))
+    (λ c κs. number_wider (pos 1) highest (pos 0) highest c.before.before.args.w (omega ints) (omega ints) (rw c.enum_told-in-Div-1.given.1 at c.before.before.requires))
+    (λ c. rw (c.before.enum_told-1.given.1, c.amount.ensures))
+    (λ c. rw (c.before.enum_told-in-Sub-1.given.1, c.amount-in-Sub.ensures))
+    (λ c. rw (c.before.enum_told-in-Mul-1.given.1, c.amount-in-Mul.ensures))
+    (λ c. rw (c.before.enum_told-in-Div-1.given.1, c.amount-in-Div.ensures))
+    (λ c. (no_change c.before.args.name c.before.args.w c.in_default.keys5).1))

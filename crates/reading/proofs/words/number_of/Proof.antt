@@ -4,11 +4,11 @@ use borrow.Author.Rules.{rules}
 use Rattle.reading.proofs.words.number_of.Statement.{statement}
 use Rattle.reading.proofs.words.number_of.Tie as tie
 
-returns : tie.Need-returns
-returns c = rw c.before.w.given.1 (to_z-of_z (search rules))
+returns : tie.Need-returns-in-Number
+returns c = rw c.before.w-1.given.1 (to_z-of_z (search rules))
 
-returns_2 : tie.Need-returns-2
-returns_2 c = (no_number c.before.args.w c.match.keys2).2
+returns_2 : tie.Need-returns-in_default
+returns_2 c = (no_number c.before.args.w c.in_default.keys2).2
 
 pub number_of_spec : {M : Type 1} → statement M
 number_of_spec =

@@ -4,11 +4,11 @@ use borrow.Author.Rules.{rules}
 use Rattle.reading.proofs.words.variable_of.Statement.{statement}
 use Rattle.reading.proofs.words.variable_of.Tie as tie
 
-cast-result : tie.Need-overflow-cast-result
-cast-result c = omega (arith, small_variable _ _ c.before.before.before.requires.1 (rw c.before.w.given.1 at c.before.before.before.requires.2))
+cast-result : tie.Need-overflow_cast-result
+cast-result c = omega (arith, small_variable _ _ c.before.before.before.requires.1 (rw c.before.w-1.given.1 at c.before.before.before.requires.2))
 
-returns_2 : tie.Need-returns-2
-returns_2 c = (no_variable c.before.args.w c.match.keys2).1
+returns_2 : tie.Need-returns-in_default
+returns_2 c = (no_variable c.before.args.w c.in_default.keys2).1
 
 pub variable_of_spec : {M : Type 1} → statement M
 variable_of_spec =

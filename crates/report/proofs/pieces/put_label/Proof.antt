@@ -5,7 +5,7 @@ use Rattle.report.proofs.PiecesLaws.{wrote_copy}
 use Rattle.report.proofs.pieces.put_label.Statement.{statement}
 use Rattle.report.proofs.pieces.put_label.Tie as tie
 
-slice-aggregate-copy : tie.Need-slice-aggregate-copy
+slice-aggregate-copy : tie.Need-slice_bounds-copy-end
 slice-aggregate-copy c = rw length-take (omega arith)
 
 copy-requires : tie.Need-copy-requires
@@ -15,7 +15,7 @@ returns : tie.Need-returns
 returns c =
     let call = c.before.before in
     let len = call.before.before.before in
-    wrote_copy _ _ _ _ _ (rw (← len.label-len.ensures.0) at len.before.letters.ensures) call.copy.ensures.0 call.copy.ensures.1
+    wrote_copy _ _ _ _ _ (rw (← len.label_len-len.ensures.0) at len.before.letters-text.ensures) call.copy.ensures.0 call.copy.ensures.1
 
 pub put_label_spec : {M : Type 1} → statement M
 put_label_spec = tie.close (tie.spec

@@ -9,31 +9,31 @@ use Rattle.report.proofs.PiecesLaws.{Writing, writing_none, writing_room, writin
 use Rattle.report.proofs.pieces.put_line.Statement.{statement}
 use Rattle.report.proofs.pieces.put_line.Tie as tie
 
-abbrev invariant-loop : tie.invariant-loop
-invariant-loop out₀ pieces at₀ i₀ out at i = Writing (piece_texts pieces) out₀ out at i
+abbrev invariant-loop-i : tie.invariant-loop-i
+invariant-loop-i out₀ pieces at₀ i₀ out at i = Writing (piece_texts pieces) out₀ out at i
 
-abbrev decreases-loop : tie.decreases-loop
-decreases-loop out₀ pieces at₀ i₀ out at i = 17 - i
+abbrev decreases-loop-i : tie.decreases-loop-i
+decreases-loop-i out₀ pieces at₀ i₀ out at i = 17 - i
 
 -- 17 texts
-count : (c : tie.Start invariant-loop decreases-loop) → length (piece_texts c.args.t1) ≡ 17
+count : (c : tie.Start invariant-loop-i decreases-loop-i) → length (piece_texts c.args.t1) ≡ 17
 count c = pieces_count c.args.t1 ∙ omega arith
 
 -- room for the next piece
-room : (c : tie.In-loop invariant-loop decreases-loop) →
-    c.before.loop.at + length (piece_text (get_or c.before.before.before.args.t1 c.before.loop.i Nothing)) ≤ length c.before.loop.out
-room c = rw piece_at at (writing_room _ _ _ _ _ c.before.loop.invariant (omega (arith, count c.before.before.before)) c.before.before.before.requires)
+room : (c : tie.In-loop-i invariant-loop-i decreases-loop-i) →
+    c.before.loop-i.at + length (piece_text (get_or c.before.before.before.args.t1 c.before.loop-i.i Nothing)) ≤ length c.before.loop-i.out
+room c = rw piece_at at (writing_room _ _ _ _ _ c.before.loop-i.invariant (omega (arith, count c.before.before.before)) c.before.before.before.requires)
 
-loop_again : tie.Need-loop-preserved invariant-loop decreases-loop
+loop_again : tie.Need-loop-i-preserved invariant-loop-i decreases-loop-i
 loop_again c =
     let turn = c.before.before.before.before.before in
     let start = turn.before.before.before in
-    writing_more _ _ _ _ _ _ _ turn.before.loop.invariant (omega (arith, count start)) start.requires (rw (← piece_at start.args.t1 turn.before.loop.i) at c.before.before.put-piece.ensures)
+    writing_more _ _ _ _ _ _ _ turn.before.loop-i.invariant (omega (arith, count start)) start.requires (rw (← piece_at start.args.t1 turn.before.loop-i.i) at c.before.before.put_piece-at.ensures)
 
 pub put_line_spec : {M : Type 1} → statement M
 put_line_spec = tie.close (tie.spec
-    invariant-loop
-    decreases-loop
+    invariant-loop-i
+    decreases-loop-i
     (λ c. writing_none _ _)
     (λ c. search rules) (λ c. search rules)
     (λ c. omega (arith, room c.before))
@@ -43,5 +43,5 @@ put_line_spec = tie.close (tie.spec
     (λ c. omega (arith, room c.before.before.before.before.before))
     (λ c. search rules) (λ c. search rules)
     loop_again
-    (λ c. c.before.loop.invariant.same)
-    (λ c. writing_all _ _ _ _ _ c.before.loop.invariant (omega (arith, count c.before.before.before))))
+    (λ c. c.before.loop-i.invariant.same)
+    (λ c. writing_all _ _ _ _ _ c.before.loop-i.invariant (omega (arith, count c.before.before.before))))

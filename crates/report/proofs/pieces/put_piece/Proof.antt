@@ -9,8 +9,8 @@ use Rattle.report.proofs.PiecesLaws.{wrote_nothing}
 use Rattle.report.proofs.pieces.put_piece.Statement.{statement}
 use Rattle.report.proofs.pieces.put_piece.Tie as tie
 
-returns : tie.Need-returns
-returns c = rw c.enum_told.given.1 (wrote_nothing _)
+returns : tie.Need-returns-in-Nothing
+returns c = rw c.enum_told-1.given.1 (wrote_nothing _)
 
 pub put_piece_spec : {M : Type 1} → statement M
 unfolding decimal
@@ -18,11 +18,11 @@ put_piece_spec =
     tie.close
     (tie.spec
     (λ c. search rules) (λ c. search rules)
-    (λ c κs. omega (arith, ap (λ (p : Piece). length (piece_text p)) c.before.before.piece.given.1))
+    (λ c κs. omega (arith, ap (λ (p : Piece). length (piece_text p)) c.before.before.piece-1.given.1))
     (λ c. search rules)
-    (λ c κs. omega (arith, ap (λ (p : Piece). length (piece_text p)) c.before.before.piece2.given.1))
+    (λ c κs. omega (arith, ap (λ (p : Piece). length (piece_text p)) c.before.before.piece-in-Number-1.given.1))
     returns
     (λ c. search rules)
-    (λ c. rw c.before.before.before.before.before.piece.given.1 c.before.before.put-label.ensures)
+    (λ c. rw c.before.before.before.before.before.piece-1.given.1 c.before.before.put_label.ensures)
     (λ c. search rules)
-    (λ c. rw c.before.before.before.before.before.piece2.given.1 c.before.before.put-digits.ensures))
+    (λ c. rw c.before.before.before.before.before.piece-in-Number-1.given.1 c.before.before.put_digits.ensures))

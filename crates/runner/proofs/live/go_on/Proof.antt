@@ -22,42 +22,42 @@ use Rattle.runner.specs.Goes.{stood_by}
 use Rattle.runner.proofs.live.go_on.Statement.{statement}
 use Rattle.runner.proofs.live.go_on.Tie as tie
 
-abbrev invariant-loop : tie.invariant-loop
-invariant-loop text rows from store₀ picks counts₀ cues₀ prices count m₀ limits₀ fired₀ store counts cues m limits fired =
+abbrev invariant-loop-m : tie.invariant-loop-m
+invariant-loop-m text rows from store₀ picks counts₀ cues₀ prices count m₀ limits₀ fired₀ store counts cues m limits fired =
     (ready : MayGo text prices rows count m₀ store₀ picks counts₀) × Reached prices rows count picks m₀ store₀ counts₀ ready m store counts
     × (length limits ≡ 16) × LimitsKept (script_in text rows count) m.row store limits
     × (from.listed ≡ true → Firing prices (script_in text rows count) (place_in (script_in text rows count) m₀ store₀ picks counts₀) (place_in (script_in text rows count) m store picks counts) cues₀ cues fired)
     × (length cues ≡ length cues₀) × (fired ≤ length cues₀)
 
-abbrev decreases-loop : tie.decreases-loop
-decreases-loop text rows from store₀ picks counts₀ cues₀ prices count m₀ limits₀ fired₀ store counts cues m limits fired =
+abbrev decreases-loop-m : tie.decreases-loop-m
+decreases-loop-m text rows from store₀ picks counts₀ cues₀ prices count m₀ limits₀ fired₀ store counts cues m limits fired =
     rank (length (script_in text rows count)) (place_in (script_in text rows count) m store picks counts)
 
-loop_holds : tie.Need-loop-init invariant-loop decreases-loop
+loop_holds : tie.Need-loop-m-init invariant-loop-m decreases-loop-m
 loop_holds c = let p = c.before.before.before.before.before.before.requires in (p, reached_start _ _ _ _ _ _ _ p, refl, none_kept _ p.script.table.few _ _, (λ _. firing_start _ _ _ _), refl, omega arith)
 
-test-row-requires : tie.Need-test-row-requires invariant-loop decreases-loop
+test-row-requires : tie.Need-test_row-m-requires invariant-loop-m decreases-loop-m
 test-row-requires c κs =
-    let l = c.before.before.before.before.loop in
-    let e = c.before.before.before.if1.true in
+    let l = c.before.before.before.before.loop-m in
+    let e = c.before.before.before.if-m.true in
     (_, at_a_test _ _ _ _ _ _ _ l.invariant.0 l.m l.store l.counts l.invariant.1 e, kept_at _ _ _ _ _ _ _ l.invariant.0 l.m l.store l.counts l.invariant.1 l.limits l.invariant.2 l.invariant.3 e)
 
-put-cue-requires : tie.Need-put-cue-requires invariant-loop decreases-loop
+put-cue-requires : tie.Need-put_cue-put-requires invariant-loop-m decreases-loop-m
 put-cue-requires c κs =
-    let l = c.before.before.before.before.loop in
+    let l = c.before.before.before.before.loop-m in
     let r = l.invariant.0.script in
-    (omega (arith, c.before.if2.false, r.size, r.table.size), omega (arith, l.invariant.5, l.invariant.6))
+    (omega (arith, c.before.if-count-m.false, r.size, r.table.size), omega (arith, l.invariant.5, l.invariant.6))
 
-act-requires : tie.Need-act-requires invariant-loop decreases-loop
+act-requires : tie.Need-act-m-requires invariant-loop-m decreases-loop-m
 act-requires c κs =
-    let l = c.before.before.before.before.before.before.before.before.before.before.loop in
-    (_, at_row _ _ _ _ _ _ _ l.invariant.0 l.m l.store l.counts l.invariant.1 c.before.before.before.before.before.before.before.before.before.if1.false (omega (arith, c.before.before.before.before.before.before.before.if2.false)))
+    let l = c.before.before.before.before.before.before.before.before.before.before.loop-m in
+    (_, at_row _ _ _ _ _ _ _ l.invariant.0 l.m l.store l.counts l.invariant.1 c.before.before.before.before.before.before.before.before.before.if-m.false (omega (arith, c.before.before.before.before.before.before.before.if-count-m.false)))
 
 -- past the last row
-returns : tie.Need-returns invariant-loop decreases-loop
+returns : tie.Need-returns-then-count-m invariant-loop-m decreases-loop-m
 returns c =
-    let l = c.before.before.before.before.before.loop in
-    let p = c.before.before.if2.true in
+    let l = c.before.before.before.before.before.loop-m in
+    let p = c.before.before.if-count-m.true in
     let e = past_end _ _ _ _ _ _ _ l.invariant.0 l.m l.store l.counts l.invariant.1 p in
     record {
       live = λ q. went_over _ _ _ _ _ _ _ _ _ _ c.stopped.result _ _ (rw (sym c.before.over.ensures) c.stopped.ensures)
@@ -68,40 +68,40 @@ returns c =
     }
 
 -- the list is full
-returns_2 : tie.Need-returns-2 invariant-loop decreases-loop
+returns_2 : tie.Need-returns-then-put invariant-loop-m decreases-loop-m
 returns_2 c =
-    let l = c.before.before.before.before.before.before.before.before.before.before.loop in
+    let l = c.before.before.before.before.before.before.before.before.before.before.loop-m in
     let ready = l.invariant.0 in
-    let e = c.before.before.before.before.before.before.before.before.before.if1.false in
+    let e = c.before.before.before.before.before.before.before.before.before.if-m.false in
     let count = c.before.before.before.before.before.before.before.before.before.before.before.before.before.before.before.before.before.args.script.count in
-    let i : l.m.row < count = omega (arith, c.before.before.before.before.before.before.before.if2.false) in
+    let i : l.m.row < count = omega (arith, c.before.before.before.before.before.before.before.if-count-m.false) in
     let at = at_row _ _ _ _ _ _ _ ready l.m l.store l.counts l.invariant.1 e i in
-    let put = c.before.before.before.before.before.put-cue.ensures in
-    let full = c.before.before.if3.true in
+    let put = c.before.before.before.before.before.put_cue-put.ensures in
+    let full = c.before.before.if-put.true in
     record {
-      live = λ q. went_full _ _ _ _ _ _ _ _ _ _ c.stopped2.result (over_at l.m l.m.left Ended count) l.fired (rw (sym c.before.over2.ensures) c.stopped2.ensures)
+      live = λ q. went_full _ _ _ _ _ _ _ _ _ _ c.stopped-then-put.result (over_at l.m l.m.left Ended count) l.fired (rw (sym c.before.over-then-put.ensures) c.stopped-then-put.ensures)
           (row_full _ ready.price ready.script (fit_of ready.script) _ l.m l.store _ l.counts i _ l.cues _ l.fired _ _ (l.invariant.4 q) q put full)
           e count refl l.invariant.1.left l.invariant.1.used at.room;
       run = λ q. no_true (sym q ∙ full_listed put full);
     }
 
 -- the test or the row is one step
-abbrev Done : tie.Joined1 invariant-loop decreases-loop → Type 0
+abbrev Done : tie.Joined-m invariant-loop-m decreases-loop-m → Type 0
 Done c =
-    let l = c.before.loop in
+    let l = c.before.loop-m in
     let a = c.before.before.before.before.before.before.before.before.args in
     let rows = script_in a.text.now a.rows.now a.script.count in
-    Stepped a.script.prices rows l.m c.if1.m l.store c.if1.store a.picks.now l.counts c.if1.counts
-    × (length c.if1.store ≡ length l.store)
-    × (length c.if1.limits ≡ 16)
-    × (is_going c.if1.m.status ≡ true → LimitsKept rows c.if1.m.row c.if1.store c.if1.limits)
-    × (a.from.listed ≡ true → AfterStep a.script.prices rows (place_in rows a.from.machine a.store.now a.picks.now a.counts.now) a.cues.now c.if1.cues c.if1.fired
-    c.if1.m c.if1.store a.picks.now (tally_of (loop_rows 0 rows) c.if1.counts) c.if1.m.status)
-    × (length c.if1.cues ≡ length a.cues.now) × (c.if1.fired ≤ length a.cues.now)
+    Stepped a.script.prices rows l.m c.if-m.m l.store c.if-m.store a.picks.now l.counts c.if-m.counts
+    × (length c.if-m.store ≡ length l.store)
+    × (length c.if-m.limits ≡ 16)
+    × (is_going c.if-m.m.status ≡ true → LimitsKept rows c.if-m.m.row c.if-m.store c.if-m.limits)
+    × (a.from.listed ≡ true → AfterStep a.script.prices rows (place_in rows a.from.machine a.store.now a.picks.now a.counts.now) a.cues.now c.if-m.cues c.if-m.fired
+    c.if-m.m c.if-m.store a.picks.now (tally_of (loop_rows 0 rows) c.if-m.counts) c.if-m.m.status)
+    × (length c.if-m.cues ≡ length a.cues.now) × (c.if-m.fired ≤ length a.cues.now)
 
-done : (c : tie.Joined1 invariant-loop decreases-loop) → Done c
+done : (c : tie.Joined-m invariant-loop-m decreases-loop-m) → Done c
 done c =
-    let l = c.before.loop in
+    let l = c.before.loop-m in
     let ready = l.invariant.0 in
     let script = subst (Runs _ _ _) (sym l.invariant.1.vars) ready.script in
     ⊎_elim {C = Done c}
@@ -130,76 +130,76 @@ done c =
       (put_keeps l.cues _ w.4.ensures).0 ∙ l.invariant.5,
       omega (arith, (put_keeps l.cues _ w.4.ensures).1 w.7.left (omega (arith, l.invariant.5, l.invariant.6)), l.invariant.5),
     ))
-    c.if1.branch
+    c.if-m.branch
 
 -- over
-over_there : (c : tie.After-stopped3 invariant-loop decreases-loop)
+over_there : (c : tie.After-stopped-then-not-going invariant-loop-m decreases-loop-m)
     → let d = c.before.before.before in
     let a = c.before.before.before.before.before.before.before.before.before.before.before.args in
     let rows = script_in a.text.now a.rows.now a.script.count in
-    a.from.listed ≡ true → Stopped a.script.prices rows (place_in rows a.from.machine a.store.now a.picks.now a.counts.now) a.cues.now d.if1.cues d.if1.fired
-    (stood_by false d.if1.m.status d.if1.m d.if1.store a.picks.now (tally_of (loop_rows 0 rows) d.if1.counts))
+    a.from.listed ≡ true → Stopped a.script.prices rows (place_in rows a.from.machine a.store.now a.picks.now a.counts.now) a.cues.now d.if-m.cues d.if-m.fired
+    (stood_by false d.if-m.m.status d.if-m.m d.if-m.store a.picks.now (tally_of (loop_rows 0 rows) d.if-m.counts))
 over_there c q =
     let d = c.before.before.before in
-    after_over _ _ _ _ d.if1.cues d.if1.fired d.if1.m d.if1.store _ _ d.if1.m.status (sym c.before.before.going.ensures ∙ not-true _ c.before.if4.true) ((done d).4 q)
+    after_over _ _ _ _ d.if-m.cues d.if-m.fired d.if-m.m d.if-m.store _ _ d.if-m.m.status (sym c.before.before.going.ensures ∙ not-true _ c.before.if-not-going.true-raw) ((done d).4 q)
 
-returns_3 : tie.Need-returns-3 invariant-loop decreases-loop
+returns_3 : tie.Need-returns-then-not-going invariant-loop-m decreases-loop-m
 returns_3 c =
     let d = c.before.before.before in
-    let l = d.before.loop in
+    let l = d.before.loop-m in
     let (x, y, _, _, _, _, _) = done d in
-    let e = is_over _ _ _ _ _ _ _ l.invariant.0 l.m l.store l.counts l.invariant.1 d.if1.m d.if1.store d.if1.counts y x (sym c.before.before.going.ensures ∙ not-true _ c.before.if4.true) in
+    let e = is_over _ _ _ _ _ _ _ l.invariant.0 l.m l.store l.counts l.invariant.1 d.if-m.m d.if-m.store d.if-m.counts y x (sym c.before.before.going.ensures ∙ not-true _ c.before.if-not-going.true-raw) in
     record {
-      live = λ q. went_over _ _ _ _ _ _ _ _ _ _ c.stopped3.result d.if1.m d.if1.fired c.stopped3.ensures (over_there c q)
-          (after_spent _ _ _ _ d.if1.cues d.if1.fired d.if1.m d.if1.store _ _ d.if1.m.status ((done d).4 q))
+      live = λ q. went_over _ _ _ _ _ _ _ _ _ _ c.stopped-then-not-going.result d.if-m.m d.if-m.fired c.stopped-then-not-going.ensures (over_there c q)
+          (after_spent _ _ _ _ d.if-m.cues d.if-m.fired d.if-m.m d.if-m.store _ _ d.if-m.m.status ((done d).4 q))
           e;
-      run = λ _. rw c.stopped3.ensures.0 e;
+      run = λ _. rw c.stopped-then-not-going.ensures.0 e;
     }
 
 -- it goes on from there, with a lower rank
-again : (c : tie.Else4 invariant-loop decreases-loop)
+again : (c : tie.Else-not-going invariant-loop-m decreases-loop-m)
     → let d = c.before.before in
-    let l = d.before.loop in
+    let l = d.before.loop-m in
     let a = c.before.before.before.before.before.before.before.before.before.before.args in
     let rows = script_in a.text.now a.rows.now a.script.count in
-    Reached a.script.prices a.rows.now a.script.count a.picks.now a.from.machine a.store.now a.counts.now l.invariant.0 d.if1.m d.if1.store d.if1.counts
-    × (rank (length rows) (place_in rows d.if1.m d.if1.store a.picks.now d.if1.counts) < rank (length rows) (place_in rows l.m l.store a.picks.now l.counts))
+    Reached a.script.prices a.rows.now a.script.count a.picks.now a.from.machine a.store.now a.counts.now l.invariant.0 d.if-m.m d.if-m.store d.if-m.counts
+    × (rank (length rows) (place_in rows d.if-m.m d.if-m.store a.picks.now d.if-m.counts) < rank (length rows) (place_in rows l.m l.store a.picks.now l.counts))
 again c =
     let d = c.before.before in
-    let l = d.before.loop in
+    let l = d.before.loop-m in
     let (x, y, _, _, _, _, _) = done d in
-    goes_on _ _ _ _ _ _ _ l.invariant.0 l.m l.store l.counts l.invariant.1 d.if1.m d.if1.store d.if1.counts y x (sym c.before.going.ensures ∙ not-false _ c.if4.false)
+    goes_on _ _ _ _ _ _ _ l.invariant.0 l.m l.store l.counts l.invariant.1 d.if-m.m d.if-m.store d.if-m.counts y x (sym c.before.going.ensures ∙ not-false _ c.if-not-going.false-raw)
 
-loop_again : tie.Need-loop-preserved invariant-loop decreases-loop
+loop_again : tie.Need-loop-m-preserved invariant-loop-m decreases-loop-m
 loop_again c =
     let d = c.before.before in
     let (_, _, y, z, f, g, h) = done d in
-    let on = sym c.before.going.ensures ∙ not-false _ c.if4.false in
-    (d.before.loop.invariant.0, (again c).0, y, z on, (λ q. after_going _ _ _ _ d.if1.cues d.if1.fired d.if1.m d.if1.store _ _ d.if1.m.status on (f q)), g, h)
+    let on = sym c.before.going.ensures ∙ not-false _ c.if-not-going.false-raw in
+    (d.before.loop-m.invariant.0, (again c).0, y, z on, (λ q. after_going _ _ _ _ d.if-m.cues d.if-m.fired d.if-m.m d.if-m.store _ _ d.if-m.m.status on (f q)), g, h)
 
 pub go_on_spec : {M : Type 1} → statement M
 go_on_spec =
     tie.close
     (tie.spec
-    invariant-loop
-    decreases-loop
+    invariant-loop-m
+    decreases-loop-m
     loop_holds
     test-row-requires
     (λ c κs. search rules)
     (λ c κs. search rules)
-    (λ c. c.before.before.before.before.before.loop.invariant.1.vars)
-    (λ c. c.before.before.before.before.before.loop.invariant.5)
+    (λ c. c.before.before.before.before.before.loop-m.invariant.1.vars)
+    (λ c. c.before.before.before.before.before.loop-m.invariant.5)
     returns
     put-cue-requires
     (λ c κs. search rules)
     (λ c κs. search rules)
-    (λ c. c.before.before.before.before.before.before.before.before.before.before.loop.invariant.1.vars)
+    (λ c. c.before.before.before.before.before.before.before.before.before.before.loop-m.invariant.1.vars)
     (λ c. search rules)
     returns_2
     act-requires
     (λ c κs. search rules)
     (λ c κs. search rules)
-    (λ c. (done c.before.before.before).1 ∙ c.before.before.before.before.loop.invariant.1.vars)
+    (λ c. (done c.before.before.before).1 ∙ c.before.before.before.before.loop-m.invariant.1.vars)
     (λ c. (done c.before.before.before).5)
     returns_3
     (λ c. (again c).1)

@@ -17,54 +17,54 @@ use Rattle.season_sheet.proofs.CuesLaws.{cues_next}
 use Rattle.season_sheet.proofs.cues.put_cues.Statement.{statement}
 use Rattle.season_sheet.proofs.cues.put_cues.Tie as tie
 
-abbrev invariant-loop : tie.invariant-loop
-invariant-loop rows count out₀ at₀ j₀ out at j = (j ≤ count) × (at ≤ j) × (length out ≡ length out₀) × ((text : List ℕ) → Wrote (cues_of (take j (script_rows text (rows_of rows) count))) out₀ out at)
+abbrev invariant-loop-j : tie.invariant-loop-j
+invariant-loop-j rows count out₀ at₀ j₀ out at j = (j ≤ count) × (at ≤ j) × (length out ≡ length out₀) × ((text : List ℕ) → Wrote (cues_of (take j (script_rows text (rows_of rows) count))) out₀ out at)
 
-abbrev decreases-loop : tie.decreases-loop
-decreases-loop rows count out₀ at₀ j₀ out at j = count - j
+abbrev decreases-loop-j : tie.decreases-loop-j
+decreases-loop-j rows count out₀ at₀ j₀ out at j = count - j
 
 -- the rows are as many as counted
-size : (s : tie.Start invariant-loop decreases-loop) (text : List ℕ) → length (script_rows text (rows_of s.args.rows.now) s.args.count) ≡ s.args.count
+size : (s : tie.Start invariant-loop-j decreases-loop-j) (text : List ℕ) → length (script_rows text (rows_of s.args.rows.now) s.args.count) ≡ s.args.count
 size s text = let t = s.args.rows.now in kinds_first text s.args.count (rows_of t) (omega (arith, s.requires.0, s.requires.2, rows_length t))
 
-loop_holds : tie.Need-loop-init invariant-loop decreases-loop
+loop_holds : tie.Need-loop-j-init invariant-loop-j decreases-loop-j
 unfolding cues_of
 loop_holds c = (omega arith, omega arith, refl, λ text. wrote_nothing _)
 
-kind-at-requires : tie.Need-kind-at-requires invariant-loop decreases-loop
-kind-at-requires c κs = let s = c.before.before.before.before in omega (arith, s.requires.0, s.requires.2, c.loop-test.true)
+kind-at-requires : tie.Need-kind_at-kind-requires invariant-loop-j decreases-loop-j
+kind-at-requires c κs = let s = c.before.before.before.before in omega (arith, s.requires.0, s.requires.2, c.loop-j-test.true)
 
-put-cue-requires : tie.Need-put-cue-requires invariant-loop decreases-loop
-put-cue-requires c κs = let l = c.before.before.before.loop in omega (arith, l.invariant.1, l.invariant.2, c.before.before.loop-test.true, c.before.before.before.before.before.before.requires.1)
+put-cue-requires : tie.Need-put_cue-at-requires invariant-loop-j decreases-loop-j
+put-cue-requires c κs = let l = c.before.before.before.loop-j in omega (arith, l.invariant.1, l.invariant.2, c.before.before.loop-j-test.true, c.before.before.before.before.before.before.requires.1)
 
-loop_again : tie.Need-loop-preserved invariant-loop decreases-loop
+loop_again : tie.Need-loop-j-preserved invariant-loop-j decreases-loop-j
 loop_again c =
     let s = c.before.before.before.before.before.before.before.before.before in
     let t = s.args.rows.now in
-    let l = c.before.before.before.before.before.before.loop in
-    let i = c.before.before.before.before.before.loop-test.true in
-    let p = c.before.before.put-cue in (
+    let l = c.before.before.before.before.before.before.loop-j in
+    let i = c.before.before.before.before.before.loop-j-test.true in
+    let p = c.before.before.put_cue-at in (
       omega arith,
       omega (arith, p.ensures.1, l.invariant.1),
       search rules,
-      λ text. rw (cues_next (script_rows text (rows_of t) s.args.count) l.j (omega (arith, size s text)), kind_of_lem text s.args.count (rows_of t) l.j i, ← c.before.before.before.before.kind_at.ensures)
+      λ text. rw (cues_next (script_rows text (rows_of t) s.args.count) l.j (omega (arith, size s text)), kind_of_lem text s.args.count (rows_of t) l.j i, ← c.before.before.before.before.kind_at-kind.ensures)
           (p.ensures.0 text _ _ (l.invariant.3 text) (omega (arith, (l.invariant.3 text).count, l.invariant.1, s.requires.1))),
     )
 
-returns : tie.Need-returns invariant-loop decreases-loop
+returns : tie.Need-returns invariant-loop-j decreases-loop-j
 returns c =
     let s = c.before.before.before.before in
-    let l = c.before.loop in
-    (λ text. rw (take_all l.j (script_rows text (rows_of s.args.rows.now) s.args.count) (omega (arith, size s text, c.loop-test.false))) at (l.invariant.3 text), omega (arith, l.invariant.0, l.invariant.1))
+    let l = c.before.loop-j in
+    (λ text. rw (take_all l.j (script_rows text (rows_of s.args.rows.now) s.args.count) (omega (arith, size s text, c.loop-j-test.false))) at (l.invariant.3 text), omega (arith, l.invariant.0, l.invariant.1))
 
 pub put_cues_spec : {M : Type 1} → statement M
 put_cues_spec = tie.close (tie.spec
-    invariant-loop
-    decreases-loop
+    invariant-loop-j
+    decreases-loop-j
     loop_holds
     kind-at-requires
     put-cue-requires
     (λ c. search rules) (λ c. search rules)
     loop_again
-    (λ c. c.before.loop.invariant.2)
+    (λ c. c.before.loop-j.invariant.2)
     returns)

@@ -7,18 +7,18 @@ use Rattle.season_sheet.proofs.NamesLaws.{too_many, names_are, listed_none, list
 use Rattle.season_sheet.proofs.names.count.Statement.{statement}
 use Rattle.season_sheet.proofs.names.count.Tie as tie
 
-returns : tie.Need-returns
-returns c = (λ input names h. sym (too_many input _ _ _ h c.if1.true), omega arith)
+returns : tie.Need-returns-then-at-ge-LINES
+returns c = (λ input names h. sym (too_many input _ _ _ h c.if-at-ge-LINES.true), omega arith)
 
-returns_2 : tie.Need-returns-2
-returns_2 c = (λ input names h. sym (listed_none (names_of input) (omega (arith, names_are input _ _ _ h c.before.before.before.if1.false, c.before.filled.ensures.0, c.if2.true))), omega arith)
+returns_2 : tie.Need-returns-then-n-gt-MOST
+returns_2 c = (λ input names h. sym (listed_none (names_of input) (omega (arith, names_are input _ _ _ h c.before.before.before.if-at-ge-LINES.false, c.before.filled.ensures.0, c.if-n-gt-MOST.true))), omega arith)
 
-returns_3 : tie.Need-returns-3
+returns_3 : tie.Need-returns
 returns_3 c = (
   λ input names h.
-      let n = names_are input _ _ _ h c.before.before.before.if1.false in
-      omega (arith, listed_all (names_of input) (omega (arith, n, c.before.filled.ensures.0, c.if2.false)), n, c.before.filled.ensures.0),
-  c.if2.false,
+      let n = names_are input _ _ _ h c.before.before.before.if-at-ge-LINES.false in
+      omega (arith, listed_all (names_of input) (omega (arith, n, c.before.filled.ensures.0, c.if-n-gt-MOST.false)), n, c.before.filled.ensures.0),
+  c.if-n-gt-MOST.false,
 )
 
 pub count_spec : {M : Type 1} → statement M

@@ -9,24 +9,24 @@ use Rattle.season_sheet.proofs.NamesLaws.{zero_here, zero_later, zero_none}
 use Rattle.season_sheet.proofs.names.holds_zero.Statement.{statement}
 use Rattle.season_sheet.proofs.names.holds_zero.Tie as tie
 
-abbrev invariant-loop : tie.invariant-loop
-invariant-loop name i₀ i = holds_zero name ≡ holds_zero (drop i name)
+abbrev invariant-loop-i : tie.invariant-loop-i
+invariant-loop-i name i₀ i = holds_zero name ≡ holds_zero (drop i name)
 
-abbrev decreases-loop : tie.decreases-loop
-decreases-loop name i₀ i = length name - i
+abbrev decreases-loop-i : tie.decreases-loop-i
+decreases-loop-i name i₀ i = length name - i
 
-returns : tie.Need-returns invariant-loop decreases-loop
+returns : tie.Need-returns-then-name-i-eq0 invariant-loop-i decreases-loop-i
 returns c =
     let l = c.before.before.before in
-    sym (l.loop.invariant ∙ zero_here _ _ c.before.before.loop-test.true c.if1.true)
+    sym (l.loop-i.invariant ∙ zero_here _ _ c.before.before.loop-i-test.true c.if-name-i-eq0.true)
 
-loop_again : tie.Need-loop-preserved invariant-loop decreases-loop
+loop_again : tie.Need-loop-i-preserved invariant-loop-i decreases-loop-i
 loop_again c =
     let l = c.before.before.before in
-    rw add-one (l.loop.invariant ∙ zero_later _ _ c.before.before.loop-test.true c.if1.false)
+    rw add-one (l.loop-i.invariant ∙ zero_later _ _ c.before.before.loop-i-test.true c.if-name-i-eq0.false)
 
-returns_2 : tie.Need-returns-2 invariant-loop decreases-loop
-returns_2 c = sym (c.before.loop.invariant ∙ zero_none _ _ c.loop-test.false)
+returns_2 : tie.Need-returns invariant-loop-i decreases-loop-i
+returns_2 c = sym (c.before.loop-i.invariant ∙ zero_none _ _ c.loop-i-test.false)
 
 pub holds_zero_spec : {M : Type 1} → statement M
-holds_zero_spec = tie.close (tie.spec invariant-loop decreases-loop (λ c. refl) (λ c. search rules) returns (λ c. search rules) (λ c. search rules) loop_again returns_2)
+holds_zero_spec = tie.close (tie.spec invariant-loop-i decreases-loop-i (λ c. refl) (λ c. search rules) returns (λ c. search rules) (λ c. search rules) loop_again returns_2)

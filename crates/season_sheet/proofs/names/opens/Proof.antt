@@ -9,7 +9,7 @@ pub opens_spec : {M : Type 1} → statement M
 opens_spec =
     tie.close
     (tie.spec
-    (λ c. empty_shut _ c.if1.true)
-    (λ c. sym (long_shut _ c.if2.true))
+    (λ c. empty_shut _ c.if-name-eq0.true)
+    (λ c. sym (long_shut _ c.if-name-gt-LONGEST.true))
     (λ c κs. search rules)
-    (λ c. short_opens _ c.before.before.if1.false c.before.if2.false c.holds_zero_lem.ensures))
+    (λ c. short_opens _ c.before.before.if-name-eq0.false c.before.if-name-gt-LONGEST.false c.holds_zero_lem.ensures))

@@ -10,24 +10,24 @@ use Rattle.season_sheet.specs.Kept.{NamesKept}
 use Rattle.season_sheet.proofs.names.push_all.Statement.{statement}
 use Rattle.season_sheet.proofs.names.push_all.Tie as tie
 
-abbrev invariant-loop : tie.invariant-loop
-invariant-loop at block names₀ lengths₀ line₀ i₀ names lengths line i = (i ≤ length block) × ((input : List ℕ) → NamesKept input at names₀ lengths₀ → NamesKept (input ++ take i block) line names lengths)
+abbrev invariant-loop-i : tie.invariant-loop-i
+invariant-loop-i at block names₀ lengths₀ line₀ i₀ names lengths line i = (i ≤ length block) × ((input : List ℕ) → NamesKept input at names₀ lengths₀ → NamesKept (input ++ take i block) line names lengths)
 
-abbrev decreases-loop : tie.decreases-loop
-decreases-loop at block names₀ lengths₀ line₀ i₀ names lengths line i = length block - i
+abbrev decreases-loop-i : tie.decreases-loop-i
+decreases-loop-i at block names₀ lengths₀ line₀ i₀ names lengths line i = length block - i
 
-loop_holds : tie.Need-loop-init invariant-loop decreases-loop
+loop_holds : tie.Need-loop-i-init invariant-loop-i decreases-loop-i
 loop_holds c = (omega arith, λ input h. rw append_nil h)
 
-loop_again : tie.Need-loop-preserved invariant-loop decreases-loop
+loop_again : tie.Need-loop-i-preserved invariant-loop-i decreases-loop-i
 loop_again c =
     let l = c.before.before.before.before.before in
     let block = l.before.before.args.block.now in
-    let i = l.loop.i in
-    (omega arith, λ input h. rw (add-one i, take-suc block i 0 c.before.before.before.before.loop-test.true, ← append_assoc) (c.push.ensures _ (l.loop.invariant.1 input h)))
+    let i = l.loop-i.i in
+    (omega arith, λ input h. rw (add-one i, take-suc block i 0 c.before.before.before.before.loop-i-test.true, ← append_assoc) (c.push-line.ensures _ (l.loop-i.invariant.1 input h)))
 
-returns : tie.Need-returns invariant-loop decreases-loop
-returns c = λ input h. rw (take_all c.before.loop.i c.before.before.before.args.block.now c.loop-test.false) at (c.before.loop.invariant.1 input h)
+returns : tie.Need-returns invariant-loop-i decreases-loop-i
+returns c = λ input h. rw (take_all c.before.loop-i.i c.before.before.before.args.block.now c.loop-i-test.false) at (c.before.loop-i.invariant.1 input h)
 
 pub push_all_spec : {M : Type 1} → statement M
-push_all_spec = tie.close (tie.spec invariant-loop decreases-loop loop_holds (λ c. search rules) (λ c κs. search rules) (λ c. search rules) (λ c. search rules) loop_again returns)
+push_all_spec = tie.close (tie.spec invariant-loop-i decreases-loop-i loop_holds (λ c. search rules) (λ c κs. search rules) (λ c. search rules) (λ c. search rules) loop_again returns)

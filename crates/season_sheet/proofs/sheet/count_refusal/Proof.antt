@@ -5,16 +5,16 @@ use Rattle.season_sheet.proofs.SheetLaws.{counted, not_counted}
 use Rattle.season_sheet.proofs.sheet.count_refusal.Statement.{statement}
 use Rattle.season_sheet.proofs.sheet.count_refusal.Tie as tie
 
-returns : tie.Need-returns
-returns c = counted _ _ c.before.before.requires.0 c.before.if1.true
+returns : tie.Need-returns-then-q-lt21
+returns c = counted _ _ c.before.before.requires.0 c.before.if-q-lt21.true
 
-returns_2 : tie.Need-returns-2
-returns_2 c = not_counted _ _ c.before.requires.0 c.if1.false
+returns_2 : tie.Need-returns-else-q-lt21
+returns_2 c = not_counted _ _ c.before.requires.0 c.if-q-lt21.false
 
 pub count_refusal_spec : {M : Type 1} → statement M
 count_refusal_spec = tie.close (tie.spec
     (λ c. search rules) (λ c. search rules)
-    (λ c. omega (arith, c.before.before.requires.1 c.before.before.args.number c.before.if1.true))
+    (λ c. omega (arith, c.before.before.requires.1 c.before.before.args.number c.before.if-q-lt21.true))
     (λ c. search rules) (λ c. search rules)
     returns
     returns_2)

@@ -8,30 +8,30 @@ use Rattle.season_sheet.proofs.Texts.{Numbering, numbering_none, numbering_more,
 use Rattle.season_sheet.proofs.sheet.put_numbers.Statement.{statement}
 use Rattle.season_sheet.proofs.sheet.put_numbers.Tie as tie
 
-abbrev invariant-loop : tie.invariant-loop
-invariant-loop counts out₀ at₀ q₀ out at q = Numbering (λ k. get_or counts k 0) out₀ out at q
+abbrev invariant-loop-q : tie.invariant-loop-q
+invariant-loop-q counts out₀ at₀ q₀ out at q = Numbering (λ k. get_or counts k 0) out₀ out at q
 
-abbrev decreases-loop : tie.decreases-loop
-decreases-loop counts out₀ at₀ q₀ out at q = 21 - q
+abbrev decreases-loop-q : tie.decreases-loop-q
+decreases-loop-q counts out₀ at₀ q₀ out at q = 21 - q
 
-loop_again : tie.Need-loop-preserved invariant-loop decreases-loop
-loop_again c = numbering_more _ _ _ _ _ _ _ c.before.before.before.before.before.before.loop.invariant c.before.before.before.before.before.loop-test.true c.before.before.before.before.before.before.before.before.requires c.before.before.put-met.ensures
+loop_again : tie.Need-loop-q-preserved invariant-loop-q decreases-loop-q
+loop_again c = numbering_more _ _ _ _ _ _ _ c.before.before.before.before.before.before.loop-q.invariant c.before.before.before.before.before.loop-q-test.true c.before.before.before.before.before.before.before.before.requires c.before.before.put_met-at.ensures
 
-returns : tie.Need-returns invariant-loop decreases-loop
-returns c = (numbering_all _ _ _ _ _ c.before.loop.invariant c.loop-test.false, omega (arith, c.before.loop.invariant.small, c.before.loop.invariant.within))
+returns : tie.Need-returns invariant-loop-q decreases-loop-q
+returns c = (numbering_all _ _ _ _ _ c.before.loop-q.invariant c.loop-q-test.false, omega (arith, c.before.loop-q.invariant.small, c.before.loop-q.invariant.within))
 
 pub put_numbers_spec : {M : Type 1} → statement M
 put_numbers_spec = tie.close (tie.spec
-    invariant-loop
-    decreases-loop
+    invariant-loop-q
+    decreases-loop-q
     (λ c. numbering_none _ _)
     (λ c. search rules) (λ c. search rules)
-    (λ c. omega (arith, c.before.before.loop.invariant.small, c.before.before.loop.invariant.same, c.before.before.before.before.requires))
-    (λ c. omega (arith, c.before.before.loop.invariant.small, c.before.before.loop.invariant.same, c.before.before.before.before.requires))
+    (λ c. omega (arith, c.before.before.loop-q.invariant.small, c.before.before.loop-q.invariant.same, c.before.before.before.before.requires))
+    (λ c. omega (arith, c.before.before.loop-q.invariant.small, c.before.before.loop-q.invariant.same, c.before.before.before.before.requires))
     (λ c. search rules)
-    (λ c κs. simp (part_rest, length-drop) (omega (arith, c.before.before.before.loop.invariant.small, c.before.before.before.loop.invariant.same, c.before.before.before.before.before.requires)))
-    (λ c. omega (arith, c.before.before.before.before.before.before.loop.invariant.small, c.before.before.before.before.before.before.before.before.requires, c.before.before.put-met.ensures.count, (numbering_more _ _ _ _ _ _ _ c.before.before.before.before.before.before.loop.invariant c.before.before.before.before.before.loop-test.true c.before.before.before.before.before.before.before.before.requires c.before.before.put-met.ensures).small))
+    (λ c κs. simp (part_rest, length-drop) (omega (arith, c.before.before.before.loop-q.invariant.small, c.before.before.before.loop-q.invariant.same, c.before.before.before.before.before.requires)))
+    (λ c. omega (arith, c.before.before.before.before.before.before.loop-q.invariant.small, c.before.before.before.before.before.before.before.before.requires, c.before.before.put_met-at.ensures.count, (numbering_more _ _ _ _ _ _ _ c.before.before.before.before.before.before.loop-q.invariant c.before.before.before.before.before.loop-q-test.true c.before.before.before.before.before.before.before.before.requires c.before.before.put_met-at.ensures).small))
     (λ c. search rules) (λ c. search rules)
     loop_again
-    (λ c. c.before.loop.invariant.same)
+    (λ c. c.before.loop-q.invariant.same)
     returns)

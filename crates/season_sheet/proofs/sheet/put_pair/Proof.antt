@@ -13,21 +13,21 @@ use Rattle.season_sheet.proofs.sheet.put_pair.Tie as tie
 room : (c : tie.Start) → length (c.args.first.now ++ decimal c.args.x) + length (key_line c.args.second.now c.args.y) ≤ length c.args.out.now
 room c = rw (length-append (c.args.first.now ++ decimal c.args.x)) at c.requires
 
-same_length : tie.Need-same-length
+same_length : tie.Need-shape_of-out
 same_length c =
-    let w = wrote_then _ _ _ _ _ _ _ c.before.before.before.before.before.before.put-number.ensures c.before.before.put-entry.ensures in
+    let w = wrote_then _ _ _ _ _ _ _ c.before.before.before.before.before.before.put_number-at.ensures c.before.before.put_entry.ensures in
     wrote_length _ _ _ _ (rw (length-append (c.before.before.before.before.before.before.before.before.before.before.before.args.first.now ++ decimal c.before.before.before.before.before.before.before.before.before.before.before.args.x)) (room c.before.before.before.before.before.before.before.before.before.before.before)) w
 
 returns : tie.Need-returns
-returns c = wrote_then _ _ _ _ _ _ _ c.before.before.before.before.before.before.put-number.ensures c.before.before.put-entry.ensures
+returns c = wrote_then _ _ _ _ _ _ _ c.before.before.before.before.before.before.put_number-at.ensures c.before.before.put_entry.ensures
 
 pub put_pair_spec : {M : Type 1} → statement M
 put_pair_spec = tie.close (tie.spec
     (λ c κs. omega (arith, room c.before.before.before.before))
-    (λ c. omega (arith, room c.before.before.before.before.before.before.before, c.before.before.put-number.ensures.count))
-    (λ c. omega (arith, room c.before.before.before.before.before.before.before, c.before.before.put-number.ensures.count))
+    (λ c. omega (arith, room c.before.before.before.before.before.before.before, c.before.before.put_number-at.ensures.count))
+    (λ c. omega (arith, room c.before.before.before.before.before.before.before, c.before.before.put_number-at.ensures.count))
     (λ c. search rules)
-    (λ c κs. simp (part_rest, length-drop) (omega (arith, room c.before.before.before.before.before.before.before.before, c.before.before.before.put-number.ensures.count)))
-    (λ c. omega (arith, room c.before.before.before.before.before.before.before.before.before.before.before, c.before.before.before.before.before.before.put-number.ensures.count, c.before.before.put-entry.ensures.count))
+    (λ c κs. simp (part_rest, length-drop) (omega (arith, room c.before.before.before.before.before.before.before.before, c.before.before.before.put_number-at.ensures.count)))
+    (λ c. omega (arith, room c.before.before.before.before.before.before.before.before.before.before.before, c.before.before.before.before.before.before.put_number-at.ensures.count, c.before.before.put_entry.ensures.count))
     same_length
     returns)
