@@ -117,20 +117,20 @@ pick_walk_requires t c κs =
     let s = c.before.before.before.before.before.before.before.before.before.before.before in
     let u = pick_is t c.before.before.before.before.before.before.before.before.before.before.before refl refl refl in
     let h = pick_room s.args.script.prices s.args.round (env_of s.args.r.now) (pick_from t s) u s.requires.1.walk.room in
-    (omega (arith, s.requires.0, s.requires.1.inside, (c.before.before.before.restarted-begun.ensures [] []).next), (restart_walkable (ready s.requires.1.walk.ready (omega (arith, s.requires.1.inside))) s.requires.1.walk.prices c.before.before.before.before.before.branch-part.ensures.1 (c.before.before.before.restarted-begun.ensures _ _) s.requires.1.walk.long (omega arith) (omega arith), s.requires.1.long))
+    (omega (arith, s.requires.0, s.requires.1.inside, (c.before.before.before.restarted.ensures [] []).next), (restart_walkable (ready s.requires.1.walk.ready (omega (arith, s.requires.1.inside))) s.requires.1.walk.prices c.before.before.before.before.before.branch.ensures.1 (c.before.before.before.restarted.ensures _ _) s.requires.1.walk.long (omega arith) (omega arith), s.requires.1.long))
 
 pick_returns : (t : ℕ) → pick-lts.Need-returns (pick_given t) (pick_at_t t) walk-pick.Post
 pick_returns t c =
     let s = c.before.before.before.before.before.before.before.before.before.before.before.before.before.before.before.before in
     record {
-      stopped = λ h. pick_first s.args.script.prices s.args.round (env_of s.args.r.now) (pick_from t s) (pick_is t s refl refl refl) _ _ (refused_in (walked_from (c.before.before.before.before.before.before.before.before.restarted-begun.ensures [] []).next c.before.before.before.before.walk-a.ensures) h);
-      whole = λ z. absurd (c.if-a-ne0.true z);
+      stopped = λ h. pick_first s.args.script.prices s.args.round (env_of s.args.r.now) (pick_from t s) (pick_is t s refl refl refl) _ _ (refused_in (walked_from (c.before.before.before.before.before.before.before.before.restarted.ensures [] []).next c.before.before.before.before.walk.ensures) h);
+      whole = λ z. absurd (c.if1.true z);
     }
 
 -- the pick, once its first part is walked, and its first part
-pick_1 : (t : ℕ) (c : pick-lts.Else1 (pick_given t) (pick_at_t t) walk-pick.Post) {q e : ℕ} → let a = c.before.before.before.before.before.before.before.before.before.before.before.before.before.before.before.before.args in let rows = rows_of a.rows.now in let m = c.before.before.before.before.walk-a.result.next in q ≡ past_else (kind_at rows m) m → e ≡ end_at a.text.now rows a.script.count q
+pick_1 : (t : ℕ) (c : pick-lts.Else1 (pick_given t) (pick_at_t t) walk-pick.Post) {q e : ℕ} → let a = c.before.before.before.before.before.before.before.before.before.before.before.before.before.before.before.before.args in let rows = rows_of a.rows.now in let m = c.before.before.before.before.walk.result.next in q ≡ past_else (kind_at rows m) m → e ≡ end_at a.text.now rows a.script.count q
     → PickIs a.text.now rows a.script.count a.t.next m q e
-pick_1 t c = pick_is t c.before.before.before.before.before.before.before.before.before.before.before.before.before.before.before.before ((walked_from (c.before.before.before.before.before.before.before.before.restarted-begun.ensures [] []).next c.before.before.before.before.walk-a.ensures).whole c.if-a-ne0.false).place
+pick_1 t c = pick_is t c.before.before.before.before.before.before.before.before.before.before.before.before.before.before.before.before ((walked_from (c.before.before.before.before.before.before.before.before.restarted.ensures [] []).next c.before.before.before.before.walk.ensures).whole c.if1.false).place
 
 pick_past_else_requires : (t : ℕ) → pick-lts.Need-past-else-requires (pick_given t) (pick_at_t t) walk-pick.Post
 pick_past_else_requires t c κs = let k = pick_1 t c refl refl in let f = c.before.before.before.before.before.before.before.before.before.before.before.before.before.before.before.before.requires.1.walk.ready.reach in row_in c.before.before.before.before.before.before.before.before.before.before.before.before.before.before.before.before.args.rows.now _ (omega arith)
@@ -138,32 +138,32 @@ pick_past_else_requires t c κs = let k = pick_1 t c refl refl in let f = c.befo
 pick_walk_requires_2 : (t : ℕ) → pick-lts.Need-walk-requires-2 (pick_given t) (pick_at_t t) walk-pick.Post
 pick_walk_requires_2 t c κs =
     let s = c.before.before.before.before.before.before.before.before.before.before.before.before.before.before.before.before.before.before.before.before.before in
-    let u = pick_1 t c.before.before.before.before.before c.before.before.before.before.past_else.ensures refl in
+    let u = pick_1 t c.before.before.before.before.before c.before.before.before.before.past-else.ensures refl in
     let h = pick_room s.args.script.prices s.args.round (env_of s.args.r.now) (pick_from t s) u s.requires.1.walk.room in
-    let p = (walked_from (c.before.before.before.before.before.before.before.before.before.before.before.before.before.restarted-begun.ensures [] []).next c.before.before.before.before.before.before.before.before.before.walk-a.ensures).whole c.before.before.before.before.before.if-a-ne0.false in
-    let n = (part_by s.args.script.prices s.args.round (env_of s.args.r.now) (pick_from t s) u c.before.before.before.before.before.before.before.before.before.before.before.before.before.before.before.branch-part.ensures.0 (c.before.before.before.before.before.before.before.before.before.before.before.before.before.restarted-begun.ensures _ _) p).count in
-    (omega (arith, s.requires.0, s.requires.1.inside, u.first, u.second, u.last, (c.before.before.before.restarted-again.ensures [] []).next), (restart_walkable (ready s.requires.1.walk.ready u.some) s.requires.1.walk.prices c.before.before.before.before.before.before.before.before.before.before.before.before.before.before.before.branch-part.ensures.1 (c.before.before.before.restarted-again.ensures _ _) p.long (omega arith) (omega arith), s.requires.1.long))
+    let p = (walked_from (c.before.before.before.before.before.before.before.before.before.before.before.before.before.restarted.ensures [] []).next c.before.before.before.before.before.before.before.before.before.walk.ensures).whole c.before.before.before.before.before.if1.false in
+    let n = (part_by s.args.script.prices s.args.round (env_of s.args.r.now) (pick_from t s) u c.before.before.before.before.before.before.before.before.before.before.before.before.before.before.before.branch.ensures.0 (c.before.before.before.before.before.before.before.before.before.before.before.before.before.restarted.ensures _ _) p).count in
+    (omega (arith, s.requires.0, s.requires.1.inside, u.first, u.second, u.last, (c.before.before.before.restarted2.ensures [] []).next), (restart_walkable (ready s.requires.1.walk.ready u.some) s.requires.1.walk.prices c.before.before.before.before.before.before.before.before.before.before.before.before.before.before.before.branch.ensures.1 (c.before.before.before.restarted2.ensures _ _) p.long (omega arith) (omega arith), s.requires.1.long))
 
 pick_returns_2 : (t : ℕ) → pick-lts.Need-returns-2 (pick_given t) (pick_at_t t) walk-pick.Post
 pick_returns_2 t c =
     let s = c.before.before.before.before.before.before.before.before.before.before.before.before.before.before.before.before.before.before.before.before.before.before.before.before.before.before in
-    let u = pick_1 t c.before.before.before.before.before.before.before.before.before.before c.before.before.before.before.before.before.before.before.before.past_else.ensures refl in
-    let n = part_by s.args.script.prices s.args.round (env_of s.args.r.now) (pick_from t s) u c.before.before.before.before.before.before.before.before.before.before.before.before.before.before.before.before.before.before.before.before.branch-part.ensures.0 (c.before.before.before.before.before.before.before.before.before.before.before.before.before.before.before.before.before.before.restarted-begun.ensures _ _) ((walked_from (c.before.before.before.before.before.before.before.before.before.before.before.before.before.before.before.before.before.before.restarted-begun.ensures [] []).next c.before.before.before.before.before.before.before.before.before.before.before.before.before.before.walk-a.ensures).whole c.before.before.before.before.before.before.before.before.before.before.if-a-ne0.false) in
+    let u = pick_1 t c.before.before.before.before.before.before.before.before.before.before c.before.before.before.before.before.before.before.before.before.past-else.ensures refl in
+    let n = part_by s.args.script.prices s.args.round (env_of s.args.r.now) (pick_from t s) u c.before.before.before.before.before.before.before.before.before.before.before.before.before.before.before.before.before.before.before.before.branch.ensures.0 (c.before.before.before.before.before.before.before.before.before.before.before.before.before.before.before.before.before.before.restarted.ensures _ _) ((walked_from (c.before.before.before.before.before.before.before.before.before.before.before.before.before.before.before.before.before.before.restarted.ensures [] []).next c.before.before.before.before.before.before.before.before.before.before.before.before.before.before.walk.ensures).whole c.before.before.before.before.before.before.before.before.before.before.if1.false) in
     record {
-      stopped = λ h. pick_second s.args.script.prices s.args.round (env_of s.args.r.now) (pick_from t s) u _ _ n.verdict (refused_in (walked_from (c.before.before.before.before.before.before.before.before.restarted-again.ensures [] []).next c.before.before.before.before.walk-b.ensures) h);
-      whole = λ z. absurd (c.if-b-ne0.true z);
+      stopped = λ h. pick_second s.args.script.prices s.args.round (env_of s.args.r.now) (pick_from t s) u _ _ n.verdict (refused_in (walked_from (c.before.before.before.before.before.before.before.before.restarted2.ensures [] []).next c.before.before.before.before.walk2.ensures) h);
+      whole = λ z. absurd (c.if2.true z);
     }
 
 -- the pick, once both are
-pick_2 : (t : ℕ) (c : pick-lts.Else2 (pick_given t) (pick_at_t t) walk-pick.Post) → let a = c.before.before.before.before.before.before.before.before.before.before.before.before.before.before.before.before.before.before.before.before.before.before.before.before.before.before.args in PickIs a.text.now (rows_of a.rows.now) a.script.count a.t.next c.before.before.before.before.before.before.before.before.before.before.before.before.before.before.walk-a.result.next c.before.before.before.before.before.before.before.before.before.past_else.result c.before.before.before.before.walk-b.result.next
-pick_2 t c = pick_1 t c.before.before.before.before.before.before.before.before.before.before c.before.before.before.before.before.before.before.before.before.past_else.ensures ((walked_from (c.before.before.before.before.before.before.before.before.restarted-again.ensures [] []).next c.before.before.before.before.walk-b.ensures).whole c.if-b-ne0.false).place
+pick_2 : (t : ℕ) (c : pick-lts.Else2 (pick_given t) (pick_at_t t) walk-pick.Post) → let a = c.before.before.before.before.before.before.before.before.before.before.before.before.before.before.before.before.before.before.before.before.before.before.before.before.before.before.args in PickIs a.text.now (rows_of a.rows.now) a.script.count a.t.next c.before.before.before.before.before.before.before.before.before.before.before.before.before.before.walk.result.next c.before.before.before.before.before.before.before.before.before.past-else.result c.before.before.before.before.walk2.result.next
+pick_2 t c = pick_1 t c.before.before.before.before.before.before.before.before.before.before c.before.before.before.before.before.before.before.before.before.past-else.ensures ((walked_from (c.before.before.before.before.before.before.before.before.restarted2.ensures [] []).next c.before.before.before.before.walk2.ensures).whole c.if2.false).place
 
 pick_leave_pick_requires : (t : ℕ) → pick-lts.Need-leave-pick-requires (pick_given t) (pick_at_t t) walk-pick.Post
 pick_leave_pick_requires t c κs =
     let w = c.before.before.before.before.before.before.before.before.before.before.before.before.before.before.before.before.before.before.before.before.before.before.before.before.before.before.before.before.before.requires.1.walk in
     let u = pick_2 t c.before.before.before in
     let f = w.ready.few in
-    (w.prices.pick.small, omega arith, w.small, (c.before.before.before.before.before.before.before.before.before.before.before.before.before.before.before.before.before.walk-a.ensures.whole c.before.before.before.before.before.before.before.before.before.before.before.before.before.if-a-ne0.false).small, (c.before.before.before.before.before.before.before.walk-b.ensures.whole c.before.before.before.if-b-ne0.false).small)
+    (w.prices.pick.small, omega arith, w.small, (c.before.before.before.before.before.before.before.before.before.before.before.before.before.before.before.before.before.walk.ensures.whole c.before.before.before.before.before.before.before.before.before.before.before.before.before.if1.false).small, (c.before.before.before.before.before.before.before.walk2.ensures.whole c.before.before.before.if2.false).small)
 
 pick_returns_3 : (t : ℕ) → pick-lts.Need-returns-3 (pick_given t) (pick_at_t t) walk-pick.Post
 pick_returns_3 t c =
@@ -172,19 +172,19 @@ pick_returns_3 t c =
     let π = s.args.script.prices in
     let ρ = env_of s.args.r.now in
     let x = pick_from t s in
-    let q = c.before.before.before.before.before.before.before.before.before.before.before.before.before.before.before.before.before.before.before.before.before.before.before.before.before.before.branch-part.ensures.0 in
+    let q = c.before.before.before.before.before.before.before.before.before.before.before.before.before.before.before.before.before.before.before.before.before.before.before.before.before.before.branch.ensures.0 in
     record {
-      stopped = λ h. absurd (h (c.before.before.leave_pick.ensures [] [] []).number);
+      stopped = λ h. absurd (h (c.before.before.leave-pick.ensures [] [] []).number);
       whole = λ z.
           past_pick_lem π s.args.round ρ x u
-          (part_by π s.args.round ρ x u q (c.before.before.before.before.before.before.before.before.before.before.before.before.before.before.before.before.before.before.before.before.before.before.before.before.restarted-begun.ensures _ _) ((walked_from (c.before.before.before.before.before.before.before.before.before.before.before.before.before.before.before.before.before.before.before.before.before.before.before.before.restarted-begun.ensures [] []).next c.before.before.before.before.before.before.before.before.before.before.before.before.before.before.before.before.before.before.before.before.walk-a.ensures).whole c.before.before.before.before.before.before.before.before.before.before.before.before.before.before.before.before.if-a-ne0.false))
-          (part_by π s.args.round ρ x u q (c.before.before.before.before.before.before.before.before.before.before.before.before.before.before.restarted-again.ensures _ _) ((walked_from (c.before.before.before.before.before.before.before.before.before.before.before.before.before.before.restarted-again.ensures [] []).next c.before.before.before.before.before.before.before.before.before.before.walk-b.ensures).whole c.before.before.before.before.before.before.if-b-ne0.false))
-          (c.before.before.leave_pick.ensures _ _ _)
-          (record { long = search rules; value = c.before.before.before.before.before.joined-x.ensures });
+          (part_by π s.args.round ρ x u q (c.before.before.before.before.before.before.before.before.before.before.before.before.before.before.before.before.before.before.before.before.before.before.before.before.restarted.ensures _ _) ((walked_from (c.before.before.before.before.before.before.before.before.before.before.before.before.before.before.before.before.before.before.before.before.before.before.before.before.restarted.ensures [] []).next c.before.before.before.before.before.before.before.before.before.before.before.before.before.before.before.before.before.before.before.before.walk.ensures).whole c.before.before.before.before.before.before.before.before.before.before.before.before.before.before.before.before.if1.false))
+          (part_by π s.args.round ρ x u q (c.before.before.before.before.before.before.before.before.before.before.before.before.before.before.restarted2.ensures _ _) ((walked_from (c.before.before.before.before.before.before.before.before.before.before.before.before.before.before.restarted2.ensures [] []).next c.before.before.before.before.before.before.before.before.before.before.walk2.ensures).whole c.before.before.before.before.before.before.if2.false))
+          (c.before.before.leave-pick.ensures _ _ _)
+          (record { long = search rules; value = c.before.before.before.before.before.joined.ensures });
     }
 
 pick_same_length_3 : (t : ℕ) → pick-lts.Need-same-length-3 (pick_given t) (pick_at_t t) walk-pick.Post
-pick_same_length_3 t c = let a = c.before.before.before.before.before.before.before.before.before.before.before.before.before.before.before.before.before.before.before.own-1 in search rules
+pick_same_length_3 t c = let a = c.before.before.before.before.before.before.before.before.before.before.before.before.before.before.before.before.before.before.before.own in search rules
 
 pick_branch_requires : (t : ℕ) → pick-lts.Need-branch-requires (pick_given t) (pick_at_t t) walk-pick.Post
 pick_branch_requires t c κs = c.before.before.before.before.before.requires.1.walk.fine
@@ -212,42 +212,42 @@ loop_returns : (t : ℕ) → loop-lts.Need-returns (loop_given t) (loop_at_t t) 
 loop_returns t c =
     let s = c.before.before.before.before.before.before.before.before.before.before.before in
     record {
-      stopped = λ h. loop_refused s.args.script.prices s.args.round (env_of s.args.r.now) (loop_from t s) (loop_is t s refl) _ _ ((c.before.before.before.enter_loop-entered.ensures s.args.own.now).stopped h);
-      whole = λ z. absurd (c.if-a-ne0.true z);
+      stopped = λ h. loop_refused s.args.script.prices s.args.round (env_of s.args.r.now) (loop_from t s) (loop_is t s refl) _ _ ((c.before.before.before.enter-loop.ensures s.args.own.now).stopped h);
+      whole = λ z. absurd (c.if1.true z);
     }
 
 loop_walk_requires : (t : ℕ) → loop-lts.Need-walk-requires (loop_given t) (loop_at_t t) walk_loop.Post
 loop_walk_requires t c κs =
     let s = c.before.before.before.before.before.before.before.before.before.before.before.before.before.before.before.before in
-    let e = c.before.before.before.before.before.before.before.before.enter_loop-entered in
-    let n = (e.ensures s.args.own.now).whole c.before.before.before.before.before.if-a-ne0.false in
+    let e = c.before.before.before.before.before.before.before.before.enter-loop in
+    let n = (e.ensures s.args.own.now).whole c.before.before.before.before.before.if1.false in
     let w = s.requires.1.walk in
-    (omega (arith, s.requires.0, s.requires.1.inside, n.lined.next), (body_walkable s.args.script.prices s.args.round (env_of s.args.r.now) (loop_from t s) (loop_is t s refl) e.result n (ready w.ready (omega (arith, s.requires.1.inside))) w.prices w.room, ((e.ensures []).begun c.before.before.before.before.before.if-a-ne0.false).long))
+    (omega (arith, s.requires.0, s.requires.1.inside, n.lined.next), (body_walkable s.args.script.prices s.args.round (env_of s.args.r.now) (loop_from t s) (loop_is t s refl) e.result n (ready w.ready (omega (arith, s.requires.1.inside))) w.prices w.room, ((e.ensures []).begun c.before.before.before.before.before.if1.false).long))
 
 loop_returns_2 : (t : ℕ) → loop-lts.Need-returns-2 (loop_given t) (loop_at_t t) walk_loop.Post
 loop_returns_2 t c =
     let s = c.before.before.before.before.before.before.before.before.before.before.before.before.before.before.before.before.before.before.before.before.before in
-    let e = c.before.before.before.before.before.before.before.before.before.before.before.before.before.enter_loop-entered.ensures s.args.own.now in
-    let l = c.before.before.before.before.before.before.before.before.before.before.if-a-ne0.false in
+    let e = c.before.before.before.before.before.before.before.before.before.before.before.before.before.enter-loop.ensures s.args.own.now in
+    let l = c.before.before.before.before.before.before.before.before.before.before.if1.false in
     let a = s.args in
     let rows = rows_of a.rows.now in
     record {
       stopped = λ h.
           body_refused a.script.prices a.round (env_of a.r.now) (loop_from t s) (loop_is t s refl) _ _ (e.whole l).verdict
-          (sym (ap (λ ρ. loops_verdict ρ (block_at a.text.now rows a.script.count (a.t.next + 1))) (e.begun l).value) ∙ refused_in (walked_from (e.whole l).lined.next c.before.before.before.before.walk-a.ensures) h);
-      whole = λ z. absurd (c.if-b-ne0.true z);
+          (sym (ap (λ ρ. loops_verdict ρ (block_at a.text.now rows a.script.count (a.t.next + 1))) (e.begun l).value) ∙ refused_in (walked_from (e.whole l).lined.next c.before.before.before.before.walk.ensures) h);
+      whole = λ z. absurd (c.if2.true z);
     }
 
 -- its body, once it is walked
-loop_body : (t : ℕ) (c : loop-lts.Else2 (loop_given t) (loop_at_t t) walk_loop.Post) → let a = c.before.before.before.before.before.before.before.before.before.before.before.before.before.before.before.before.before.before.before.before.before.args in let e = c.before.before.before.before.before.before.before.before.before.before.before.before.before.enter_loop-entered in
-    PassedPart a.text.now a.script.prices (rows_of a.rows.now) a.script.count (a.t.next + 1) (env_of e.new.1.1.1.1.1.1.1.0) e.result.round (with_lent e.result.first e.new.1.1.1.1.1.0 a.own.now) c.before.before.before.before.walk-a.new.1.1.1.1.1.1.1.0 (with_lent c.before.before.before.before.walk-a.result c.before.before.before.before.walk-a.new.1.1.1.1.0 c.before.before.before.before.walk-a.new.1.1.1.1.1.0)
-loop_body t c = (walked_from ((c.before.before.before.before.before.before.before.before.before.before.before.before.before.enter_loop-entered.ensures c.before.before.before.before.before.before.before.before.before.before.before.before.before.before.before.before.before.before.before.before.before.args.own.now).whole c.before.before.before.before.before.before.before.before.before.before.if-a-ne0.false).lined.next c.before.before.before.before.walk-a.ensures).whole c.if-b-ne0.false
+loop_body : (t : ℕ) (c : loop-lts.Else2 (loop_given t) (loop_at_t t) walk_loop.Post) → let a = c.before.before.before.before.before.before.before.before.before.before.before.before.before.before.before.before.before.before.before.before.before.args in let e = c.before.before.before.before.before.before.before.before.before.before.before.before.before.enter-loop in
+    PassedPart a.text.now a.script.prices (rows_of a.rows.now) a.script.count (a.t.next + 1) (env_of e.new.1.1.1.1.1.1.1.0) e.result.round (with_lent e.result.first e.new.1.1.1.1.1.0 a.own.now) c.before.before.before.before.walk.new.1.1.1.1.1.1.1.0 (with_lent c.before.before.before.before.walk.result c.before.before.before.before.walk.new.1.1.1.1.0 c.before.before.before.before.walk.new.1.1.1.1.1.0)
+loop_body t c = (walked_from ((c.before.before.before.before.before.before.before.before.before.before.before.before.before.enter-loop.ensures c.before.before.before.before.before.before.before.before.before.before.before.before.before.before.before.before.before.before.before.before.before.args.own.now).whole c.before.before.before.before.before.before.before.before.before.before.if1.false).lined.next c.before.before.before.before.walk.ensures).whole c.if2.false
 
 loop_leave_loop_requires : (t : ℕ) → loop-lts.Need-leave-loop-requires (loop_given t) (loop_at_t t) walk_loop.Post
 loop_leave_loop_requires t c κs =
     let s = c.before.before.before.before.before.before.before.before.before.before.before.before.before.before.before.before.before.before.before.before.before.before.before in
-    let e = c.before.before.before.before.before.before.before.before.before.before.before.before.before.before.before.enter_loop-entered.ensures [] in
-    let l = c.before.before.before.before.before.before.before.before.before.before.before.before.if-a-ne0.false in
+    let e = c.before.before.before.before.before.before.before.before.before.before.before.before.before.before.before.enter-loop.ensures [] in
+    let l = c.before.before.before.before.before.before.before.before.before.before.before.before.if1.false in
     let w = s.requires.1.walk in
     let n = e.whole l in
     let p = loop_body t c.before.before in
@@ -258,18 +258,18 @@ loop_leave_loop_requires t c κs =
 loop_returns_3 : (t : ℕ) → loop-lts.Need-returns-3 (loop_given t) (loop_at_t t) walk_loop.Post
 loop_returns_3 t c =
     let s = c.before.before.before.before.before.before.before.before.before.before.before.before.before.before.before.before.before.before.before.before.before.before.before.before.before.before.before.before.before.before in
-    let e = c.before.before.before.before.before.before.before.before.before.before.before.before.before.before.before.before.before.before.before.before.before.before.enter_loop-entered.ensures s.args.own.now in
-    let one = c.before.before.before.before.before.before.before.before.before.before.before.before.before.before.before.before.before.before.before.before.before.before.enter_loop-entered.result in
-    let l = c.before.before.before.before.before.before.before.before.before.before.before.before.before.before.before.before.before.before.before.if-a-ne0.false in
+    let e = c.before.before.before.before.before.before.before.before.before.before.before.before.before.before.before.before.before.before.before.before.before.before.enter-loop.ensures s.args.own.now in
+    let one = c.before.before.before.before.before.before.before.before.before.before.before.before.before.before.before.before.before.before.before.before.before.before.enter-loop.result in
+    let l = c.before.before.before.before.before.before.before.before.before.before.before.before.before.before.before.before.before.before.before.if1.false in
     let a = s.args in
     let x = e.exit in
     let k = kind_at (rows_of a.rows.now) a.t.next in
     let text = a.text.now in
     let v = a.round.v in
-    let left = c.before.before.before.before.before.before.leave_loop-left.ensures in
+    let left = c.before.before.before.before.before.before.leave-loop.ensures in
     let p = loop_body t c.before.before.before.before.before.before.before.before.before in
     record {
-      stopped = λ h. absurd (h (left.closed text c.before.before.before.before.before.before.before.before.before.before.before.before.before.walk-a.result.spent (omega (arith, p.small)) [] [] []).number);
+      stopped = λ h. absurd (h (left.closed text c.before.before.before.before.before.before.before.before.before.before.before.before.before.walk.result.spent (omega (arith, p.small)) [] [] []).number);
       whole = λ z.
           let u = loop_is t s p.place in
           let n = e.whole l in
@@ -281,8 +281,8 @@ loop_returns_3 t c =
             long = left.env.long;
             value = left.env.value ∙ ap (widened_env (set_of one.exit.set) (range_of one.exit.mine) one.exit.tested) (e.begun l).value ∙ outside_after (form_of text k) _ (test_of text k) _ x.sets x.mine x.tested;
           })
-          (λ h. c.before.before.before.before.before.before.before.before.before.before.before.before.before.before.before.before.before.before.before.before.before.before.before.before.before.to_note-unknown.ensures (let o = c.before.before.before.before.before.before.before.before.before.before.before.before.own-1 in let o2 = c.before.before.before.before.before.own-2-1 in search rules))
-          c.before.before.put_own.ensures;
+          (λ h. c.before.before.before.before.before.before.before.before.before.before.before.before.before.before.before.before.before.before.before.before.before.before.before.before.before.to-note.ensures (let o = c.before.before.before.before.before.before.before.before.before.before.before.before.own in let o2 = c.before.before.before.before.before.own2 in search rules))
+          c.before.before.put-own.ensures;
     }
 
 -- ---- a pick or a loop
@@ -292,13 +292,13 @@ block_shape_at_requires t c κs = let a = c.before.before.before.requires.1.0 in
 block_walk_pick_requires : (t : ℕ) → block-lts.Need-walk-pick-requires (block_given t) (block_at_t t) walk_block.Post
 block_walk_pick_requires t c κs =
     let a = c.before.before.before.before.before.before.before.before.before.requires.1.0 in
-    (omega (arith, c.before.before.before.before.before.before.before.before.before.requires.0), record { walk = a.walk; inside = a.inside; is = sym c.before.before.before.before.before.shape_at.ensures ∙ c.before.before.before.enum_told-1.given.1; long = a.long })
+    (omega (arith, c.before.before.before.before.before.before.before.before.before.requires.0), record { walk = a.walk; inside = a.inside; is = sym c.before.before.before.before.before.shape_at.ensures ∙ c.before.before.before.enum_told.given.1; long = a.long })
 
 block_walk_loop_requires : (t : ℕ) → block-lts.Need-walk-loop-requires (block_given t) (block_at_t t) walk_block.Post
 block_walk_loop_requires t c κs =
     let a = c.before.before.before.before.before.before.before.before.requires.1.0 in
     let e = c.before.before.before.before.shape_at.ensures in
-    (omega (arith, c.before.before.before.before.before.before.before.before.requires.0), record { walk = a.walk; inside = a.inside; is = sym e ∙ loop_shape_lem _ c.before.before.before.in_default.keys2 (subst IsBlock (sym e) c.before.before.before.before.before.before.before.before.requires.1.1); long = a.long })
+    (omega (arith, c.before.before.before.before.before.before.before.before.requires.0), record { walk = a.walk; inside = a.inside; is = sym e ∙ loop_shape_lem _ c.before.before.before.match.keys2 (subst IsBlock (sym e) c.before.before.before.before.before.before.before.before.requires.1.1); long = a.long })
 
 -- ---- the walk
 abbrev Inv : walk-lts.invariant-loop
@@ -312,59 +312,59 @@ walk_loop_holds : (t : ℕ) → walk-lts.Need-loop-init (walk_given t) (walk_at_
 walk_loop_holds t c = let w = c.before.before.before.requires.1.0 in (search rules, refl, record { walk = begin _ _ _ _ _ w.ready.within; number = w.number; small = w.small; long = w.long })
 
 walk_step_row_requires : (t : ℕ) → walk-lts.Need-step-row-requires (walk_given t) (walk_at_t t) walk.Post Inv μ
-walk_step_row_requires t c κs = let k = c.before.before.before.before.before.before.before.before.before.before.before.requires.1.0.ready in let l = c.before.before.before.before.if-a-ne0.true in (row_in c.before.before.before.before.before.before.before.before.before.before.before.args.rows.now _ (search rules), k.fine _ l, sym c.before.before.before.shape_at.ensures ∙ c.before.enum_told-1.given.1, c.before.before.before.before.before.before.before.loop-t.invariant.0, k.written _ l)
+walk_step_row_requires t c κs = let k = c.before.before.before.before.before.before.before.before.before.before.before.requires.1.0.ready in let l = c.before.before.before.before.if1.true in (row_in c.before.before.before.before.before.before.before.before.before.before.before.args.rows.now _ (search rules), k.fine _ l, sym c.before.before.before.shape_at.ensures ∙ c.before.enum_told.given.1, c.before.before.before.before.before.before.before.loop.invariant.0, k.written _ l)
 
 walk_past_row_requires : (t : ℕ) → walk-lts.Need-past-row-requires (walk_given t) (walk_at_t t) walk.Post Inv μ
-walk_past_row_requires t c κs = let w = c.before.before.before.before.before.before.before.before.before.before.before.before.requires.1.0 in ((row_in c.before.before.before.before.before.before.before.before.before.before.before.before.args.rows.now _ (search rules), sym c.before.before.before.before.shape_at.ensures ∙ c.before.before.enum_told-1.given.1), w.prices, w.fine, c.before.before.before.before.before.before.before.before.loop-t.invariant.2.small)
+walk_past_row_requires t c κs = let w = c.before.before.before.before.before.before.before.before.before.before.before.before.requires.1.0 in ((row_in c.before.before.before.before.before.before.before.before.before.before.before.before.args.rows.now _ (search rules), sym c.before.before.before.before.shape_at.ensures ∙ c.before.before.enum_told.given.1), w.prices, w.fine, c.before.before.before.before.before.before.before.before.loop.invariant.2.small)
 
 walk_loop_less : (t : ℕ) → walk-lts.Need-loop-smaller (walk_given t) (walk_at_t t) walk.Post Inv μ
-walk_loop_less t c = let e = (c.past_row-t.ensures [] [] []).next in let l = c.before.before.before.before.before.before.if-a-ne0.true in search rules
+walk_loop_less t c = let e = (c.past_row.ensures [] [] []).next in let l = c.before.before.before.before.before.before.if1.true in search rules
 
 walk_loop_again : (t : ℕ) → walk-lts.Need-loop-preserved (walk_given t) (walk_at_t t) walk.Post Inv μ
-walk_loop_again t c = (c.before.step_row.ensures.long, c.before.before.before.before.before.before.before.before.before.loop-t.invariant.1, go_plain c.before.before.before.before.before.before.before.before.before.loop-t.invariant.2 c.before.before.before.before.before.before.if-a-ne0.true c.before.before.before.before.before.before.before.before.before.before.before.before.before.requires.1.0.ready.built (sym c.before.before.before.before.before.shape_at.ensures ∙ c.before.before.before.enum_told-1.given.1) c.before.step_row.ensures.value (c.past_row-t.ensures _ _ _))
+walk_loop_again t c = (c.before.step_row.ensures.long, c.before.before.before.before.before.before.before.before.before.loop.invariant.1, go_plain c.before.before.before.before.before.before.before.before.before.loop.invariant.2 c.before.before.before.before.before.before.if1.true c.before.before.before.before.before.before.before.before.before.before.before.before.before.requires.1.0.ready.built (sym c.before.before.before.before.before.shape_at.ensures ∙ c.before.before.before.enum_told.given.1) c.before.step_row.ensures.value (c.past_row.ensures _ _ _))
 
 walk_walk_block_requires : (t : ℕ) → walk-lts.Need-walk-block-requires (walk_given t) (walk_at_t t) walk.Post Inv μ
 walk_walk_block_requires t c κs =
     let w = c.before.before.before.before.before.before.before.before.before.before.before.before.requires.1.0 in
-    let k = c.before.before.before.before.before.before.before.before.loop-t.invariant.2 in
-    let l = c.before.before.before.before.before.if-a-ne0.true in (
+    let k = c.before.before.before.before.before.before.before.before.loop.invariant.2 in
+    let l = c.before.before.before.before.before.if1.true in (
       omega (arith, c.before.before.before.before.before.before.before.before.before.before.before.before.requires.0, k.walk.low),
       (
-        record { walk = record { ready = ready w.ready k.walk.high; prices = w.prices; number = k.number; small = k.small; fine = w.fine; room = omega (arith, room k, w.room); long = k.long }; inside = l; is = refl; long = c.before.before.before.before.before.before.before.before.loop-t.invariant.0 },
-        subst IsBlock c.before.before.before.before.shape_at.ensures (block_shape _ c.before.before.before.in_default.keys3),
+        record { walk = record { ready = ready w.ready k.walk.high; prices = w.prices; number = k.number; small = k.small; fine = w.fine; room = omega (arith, room k, w.room); long = k.long }; inside = l; is = refl; long = c.before.before.before.before.before.before.before.before.loop.invariant.0 },
+        subst IsBlock c.before.before.before.before.shape_at.ensures (block_shape _ c.before.before.before.match.keys3),
       ),
     )
 
 walk_returns_2 : (t : ℕ) → walk-lts.Need-returns-2 (walk_given t) (walk_at_t t) walk.Post Inv μ
 walk_returns_2 t c = record {
-  stopped = λ h. block_stops c.before.before.before.before.before.before.before.before.before.before.before.before.before.loop-t.invariant.2 _ _ (c.before.before.before.before.walk_block-t.ensures.stopped h);
-  whole = λ z. absurd (c.if-b-ne0.true z);
+  stopped = λ h. block_stops c.before.before.before.before.before.before.before.before.before.before.before.before.before.loop.invariant.2 _ _ (c.before.before.before.before.walk_block.ensures.stopped h);
+  whole = λ z. absurd (c.if2.true z);
 }
 
 walk_loop_less_2 : (t : ℕ) → walk-lts.Need-loop-smaller-2 (walk_given t) (walk_at_t t) walk.Post Inv μ
-walk_loop_less_2 t c = let p = c.before.before.before.before.walk_block-t.ensures.whole c.if-b-ne0.false in let l = c.before.before.before.before.before.before.before.before.before.before.if-a-ne0.true in search rules
+walk_loop_less_2 t c = let p = c.before.before.before.before.walk_block.ensures.whole c.if2.false in let l = c.before.before.before.before.before.before.before.before.before.before.if1.true in search rules
 
 walk_loop_again_2 : (t : ℕ) → walk-lts.Need-loop-preserved-2 (walk_given t) (walk_at_t t) walk.Post Inv μ
-walk_loop_again_2 t c = let p = c.before.before.before.before.walk_block-t.ensures.whole c.if-b-ne0.false in (p.env_long, search rules, go_block c.before.before.before.before.before.before.before.before.before.before.before.before.before.loop-t.invariant.2 c.if-b-ne0.false p)
+walk_loop_again_2 t c = let p = c.before.before.before.before.walk_block.ensures.whole c.if2.false in (p.env_long, search rules, go_block c.before.before.before.before.before.before.before.before.before.before.before.before.before.loop.invariant.2 c.if2.false p)
 
 walk_returns : (t : ℕ) → walk-lts.Need-returns (walk_given t) (walk_at_t t) walk.Post Inv μ
 walk_returns t c =
-    let k = c.before.before.before.before.before.before.loop-t.invariant.2 in
+    let k = c.before.before.before.before.before.before.loop.invariant.2 in
     record {
       stopped = λ h. absurd (h k.number);
-      whole = λ z. closing (at_close _ _ _ _ _ (fold_none _ _ _ k.small) k.walk c.before.before.before.if-a-ne0.true c.before.before.before.before.before.before.before.before.before.before.requires.1.0.ready.built (sym c.before.before.shape_at.ensures ∙ c.enum_told-in-Close-1.given.1)) k.small k.long c.before.before.before.before.before.before.loop-t.invariant.0;
+      whole = λ z. closing (at_close _ _ _ _ _ (fold_none _ _ _ k.small) k.walk c.before.before.before.if1.true c.before.before.before.before.before.before.before.before.before.before.requires.1.0.ready.built (sym c.before.before.shape_at.ensures ∙ c.enum-told2.given.1)) k.small k.long c.before.before.before.before.before.before.loop.invariant.0;
     }
 
 walk_returns_3 : (t : ℕ) → walk-lts.Need-returns-3 (walk_given t) (walk_at_t t) walk.Post Inv μ
 walk_returns_3 t c =
-    let k = c.before.before.before.loop-t.invariant.2 in
+    let k = c.before.before.before.loop.invariant.2 in
     record {
       stopped = λ h. absurd (h k.number);
-      whole = λ z. closing (at_last _ _ _ _ _ (fold_none _ _ _ k.small) k.walk c.before.before.before.before.before.before.before.requires.1.0.ready.built c.if-a-ne0.false) k.small k.long c.before.before.before.loop-t.invariant.0;
+      whole = λ z. closing (at_last _ _ _ _ _ (fold_none _ _ _ k.small) k.walk c.before.before.before.before.before.before.before.requires.1.0.ready.built c.if1.false) k.small k.long c.before.before.before.loop.invariant.0;
     }
 
 walk_shape_at_requires : (t : ℕ) → walk-lts.Need-shape-at-requires (walk_given t) (walk_at_t t) walk.Post Inv μ
-walk_shape_at_requires t c κs = let l = c.if-a-ne0.true in row_in c.before.before.before.before.before.before.before.args.rows.now _ (search rules)
+walk_shape_at_requires t c κs = let l = c.if1.true in row_in c.before.before.before.before.before.before.before.args.rows.now _ (search rules)
 
 pub +walk-walk-block-walk-loop-walk-pick-spec : {M : Type 1} → statement M
 +walk-walk-block-walk-loop-walk-pick-spec = close μ-walk μ-walk-block μ-walk-loop μ-walk-pick
@@ -397,7 +397,7 @@ pub +walk-walk-block-walk-loop-walk-pick-spec : {M : Type 1} → statement M
     (block_walk_pick_requires t)
     (block_walk_loop_requires t)
     (λ c. search rules)
-    (λ c. c.before.before.walk_pick.ensures)
+    (λ c. c.before.before.walk-pick.ensures)
     (λ c. search rules)
     (λ c. c.before.before.walk_loop.ensures))
     (λ t. loop-lts.spec (loop_given t)

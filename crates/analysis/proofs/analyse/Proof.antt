@@ -39,17 +39,17 @@ walk-requires c κs =
     )
 
 -- the answer, from its ticks and its number of lines
-answer : (c : tie.After-first_no-verdict) → let a = c.before.before.before.before.before.before.before.before.before.before.args in let f = c.first_no_lem.result in let t = c.before.before.before.walk-t.result in
+answer : (c : tie.After-first_no-verdict) → let a = c.args in let f = c.first_no-verdict.result in let t = c.walk-t.result in
     (n : ℕ) → (f ≡ passed → n ≡ t.spent) → (k : ℕ) → (f ≡ passed → k ≡ t.loops) → ((f ≡ passed → ⊥) → (n ≡ 0) × (k ≡ 0))
-    → FoundOf a.prices a.text.now a.ranges (rows_of a.rows.now) a.count (record { verdict = f; ticks = n; loops = k }) c.before.before.before.walk-t.new.1.1.1.1.0 a.own.now c.before.before.before.walk-t.new.1.1.1.1.1.0
+    → FoundOf a.prices a.text.now a.ranges (rows_of a.rows.now) a.count (record { verdict = f; ticks = n; loops = k }) c.walk-t.new.1.1.1.1.0 a.own.now c.walk-t.new.1.1.1.1.1.0
 unfolding lines_of over_of
 answer c n u k v free vars l =
     let s = c.before.before.before.before.before.before.before.before.before.before in
     let a = s.args in
     let rows = rows_of a.rows.now in
-    let f = c.first_no_lem in (
-      result a.prices s.requires.3 a.text.now a.ranges vars rows a.count l.0 s.requires.1 (all s) l.1 _ c.before.before.before.walk-t.result _ refl c.before.before.before.walk-t.ensures f.result f.ensures n u k v free,
-      own_put a.prices s.requires.3 a.text.now a.ranges vars rows a.count l.0 s.requires.1 (all s) l.1 _ c.before.before.before.walk-t.result _ refl c.before.before.before.walk-t.ensures f.result f.ensures,
+    let f = c.first_no-verdict in (
+      result a.prices s.requires.3 a.text.now a.ranges vars rows a.count l.0 s.requires.1 (all s) l.1 _ c.walk-t.result _ refl c.walk-t.ensures f.result f.ensures n u k v free,
+      own_put a.prices s.requires.3 a.text.now a.ranges vars rows a.count l.0 s.requires.1 (all s) l.1 _ c.walk-t.result _ refl c.walk-t.ensures f.result f.ensures,
     )
 
 pub analyse_spec : {M : Type 1} → statement M
@@ -58,6 +58,6 @@ analyse_spec =
     (tie.spec
     walk-requires
     (λ c κs. search rules) (λ c. search rules) (λ c. search rules) (λ c. search rules)
-    (λ c. answer c.before.before _ (λ _. refl) _ (λ _. refl) (λ h. absurd (h c.enum_told-1.given.1)))
+    (λ c. answer c.before _ (λ _. refl) _ (λ _. refl) (λ h. absurd (h c.in-Passed.is)))
     (λ c. search rules)
-    (λ c. answer c.before.before _ (not_both c.enum_told-in-Refused-1.given.1) _ (not_both c.enum_told-in-Refused-1.given.1) (λ _. (refl, refl))))
+    (λ c. answer c.before _ (not_both c.in-Refused.is) _ (not_both c.in-Refused.is) (λ _. (refl, refl))))

@@ -12,8 +12,8 @@ use Rattle.analysis_intervals.proofs.bounds.Tie as tie
 returns : tie.Need-returns-in-Constant
 unfolding bounds meaning expr_of
 returns c =
-    let f : SFits w32 c.before.x-1.given.0.0 = sfits_of c.known_told-1.given.0.1 in
-    rw c.before.x-1.given.1 (simp (to_z-of_z f))
+    let f : SFits w32 c.in-Constant.k = sfits_of c.in-Constant.known_told-1-own.given.0.1 in
+    rw c.in-Constant.is (simp (to_z-of_z f))
 
 pub bounds_spec : {M : Type 1} → statement M
 unfolding bounds meaning expr_of
@@ -21,9 +21,9 @@ bounds_spec =
     tie.close
     (tie.spec
     (λ c. search rules) (λ c. search rules)
-    (λ c κs. let h = rw c.before.x-in-Variable-1.given.1 at c.before.before.before.before.requires in h.0)
+    (λ c κs. let h = rw c.in-Variable.is at c.requires in h.0)
     (λ c. search rules)
-    (λ c κs. let h = rw c.before.x-in-Expression-1.given.1 at c.before.before.before.before.requires in (h.1, h.2))
+    (λ c κs. let h = rw c.in-Expression.is at c.requires in (h.1, h.2))
     returns
-    (λ c. rw c.before.before.x-in-Variable-1.given.1 c.interval_at.ensures)
-    (λ c. rw c.before.before.x-in-Expression-1.given.1 c.word_bounds.ensures))
+    (λ c. rw c.in-Variable.is c.interval_at.ensures)
+    (λ c. rw c.in-Expression.is c.word_bounds.ensures))

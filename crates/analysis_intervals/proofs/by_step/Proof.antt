@@ -10,23 +10,23 @@ use Rattle.analysis_intervals.proofs.by_step.Tie as tie
 
 returns : tie.Need-returns-then-up
 unfolding by_step lowest highest
-returns c = let f : SFits w32 c.before.before.before.before.args.s.lo = search rules in rw (c.before.before.enum_told-1.given.1, c.before.if-up.true) (simp (to_z-of_z f))
+returns c = let f : SFits w32 c.args.s.lo = search rules in rw (c.in-Add.is, c.if-up.true) (simp (to_z-of_z f))
 
 returns_2 : tie.Need-returns-else-up
 unfolding by_step lowest highest
-returns_2 c = let f : SFits w32 c.before.before.before.before.args.s.hi = search rules in rw (c.before.before.enum_told-1.given.1, c.before.if-up.false) (simp (to_z-of_z f))
+returns_2 c = let f : SFits w32 c.args.s.hi = search rules in rw (c.in-Add.is, c.if-up.false) (simp (to_z-of_z f))
 
 returns_3 : tie.Need-returns-in-Grow
 unfolding by_step lowest highest
-returns_3 c = let f : SFits w32 c.before.before.before.args.s.lo = search rules in rw c.before.enum_told-in-Grow-1.given.1 (simp (to_z-of_z f))
+returns_3 c = let f : SFits w32 c.args.s.lo = search rules in rw c.in-Grow.is (simp (to_z-of_z f))
 
 returns-4 : tie.Need-returns-in-Shrink
 unfolding by_step
-returns-4 c = rw c.before.enum_told-in-Shrink-1.given.1 c.with_zero.ensures
+returns-4 c = rw c.in-Shrink.is c.with_zero.ensures
 
 returns-5 : tie.Need-returns-in-Unknown
 unfolding by_step lowest highest
-returns-5 c = rw c.enum_told-in-Unknown-1.given.1
+returns-5 c = rw c.in-Unknown.is
 
 pub by_step_spec : {M : Type 1} → statement M
 by_step_spec =

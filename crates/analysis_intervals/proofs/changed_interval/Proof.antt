@@ -16,12 +16,12 @@ moved-requires-2 c κs = search rules
 returns : tie.Need-returns
 unfolding changed_range
 returns c =
-    let s = c.before.before.before.before.args in
+    let s = c.args in
     let f0 : SFits w32 s.s.lo = search rules in
     let f1 : SFits w32 s.s.hi = search rules in
-    let g0 : SFits w32 c.before.before.moved.result = sfits_of c.before.before.moved.type_inv in
+    let g0 : SFits w32 c.moved.result = sfits_of c.moved.type_inv in
     let g1 : SFits w32 c.moved-2.result = sfits_of c.moved-2.type_inv in
-    rw (to_z-of_z g0, to_z-of_z g1, c.before.before.moved.ensures, c.moved-2.ensures) (simp (to_z-of_z f0, to_z-of_z f1))
+    rw (to_z-of_z g0, to_z-of_z g1, c.moved.ensures, c.moved-2.ensures) (simp (to_z-of_z f0, to_z-of_z f1))
 
 pub changed_interval_spec : {M : Type 1} → statement M
 changed_interval_spec = tie.close (tie.spec moved-requires moved-requires-2 returns)

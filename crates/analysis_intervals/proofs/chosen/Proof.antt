@@ -9,5 +9,5 @@ chosen_spec =
     tie.close
     (tie.spec
     (λ c. rw c.if-own.true)
-    (λ c. rw (c.before.if-own.false, c.if-changes.true))
-    (λ c. rw (c.before.if-own.false, c.if-changes.false)))
+    (λ c. rw (c.if-own.false, c.if-changes.true))
+    (λ c. rw (c.if-own.false, c.if-changes.false)))

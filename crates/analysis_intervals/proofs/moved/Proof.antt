@@ -23,9 +23,9 @@ changed-requires c κs = limits c.args.change c.requires
 
 returns : tie.Need-returns
 returns c =
-    let f : SFits w64 c.before.changed.result = sfits_of c.before.changed.type_inv in
-    let x : SFits w32 c.before.before.args.x = c.before.before.ranges.x in
-    rw (to_z-of_z (sfits_of c.clamp.type_inv), c.clamp.ensures) (simp (to_z-of_z f) (rw c.before.changed.ensures (simp (to_z-of_z x))))
+    let f : SFits w64 c.changed.result = sfits_of c.changed.type_inv in
+    let x : SFits w32 c.args.x = c.ranges.x in
+    rw (to_z-of_z (sfits_of c.clamp.type_inv), c.clamp.ensures) (simp (to_z-of_z f) (rw c.changed.ensures (simp (to_z-of_z x))))
 
 pub moved_spec : {M : Type 1} → statement M
 moved_spec = tie.close (tie.spec changed-requires (λ c κs. search rules) returns)

@@ -8,8 +8,8 @@ use Rattle.analysis_intervals.proofs.single.Tie as tie
 
 returns : tie.Need-returns
 returns c =
-    let fa : SFits w32 c.before.before.args.s.lo = search rules in
-    let fb : SFits w32 c.before.before.args.s.hi = search rules in
+    let fa : SFits w32 c.args.s.lo = search rules in
+    let fb : SFits w32 c.args.s.hi = search rules in
     eq_test fa fb
 
 pub single_spec : {M : Type 1} → statement M

@@ -7,7 +7,7 @@ use Rattle.analysis_lines.proofs.line_at.Tie as tie
 
 returns : tie.Need-returns
 unfolding line_in
-returns c = rw (get_or-map line_in _ _ [], c.step_in_lem.ensures)
+returns c = rw (get_or-map line_in _ _ [], c.step_in.ensures)
 
 pub line_at_spec : {M : Type 1} → statement M
 line_at_spec = tie.close (tie.spec (λ c. search rules) (λ c. search rules) (λ c. search rules) (λ c. search rules) (λ c. search rules) (λ c. search rules) (λ c κs. search rules) (λ c. search rules) (λ c. search rules) (λ c. search rules) returns)

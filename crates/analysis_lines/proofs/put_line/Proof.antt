@@ -6,7 +6,7 @@ use Rattle.analysis_lines.proofs.put_line.Tie as tie
 
 returns : tie.Need-returns
 unfolding line_in
-returns c = (rw (lines_set, c.step_code-s.ensures, c.before.flag-exact.ensures), search rules)
+returns c = (rw (lines_set, c.step_code-s.ensures, c.flag-exact.ensures), search rules)
 
 pub put_line_spec : {M : Type 1} → statement M
 put_line_spec = tie.close (tie.spec (λ c κs. search rules) (λ c κs. search rules) (λ c. search rules) (λ c. search rules) returns)

@@ -8,9 +8,9 @@ use Rattle.analysis_ranges.proofs.inside.Tie as tie
 
 returns : tie.Need-returns
 returns c =
-    let a = c.before.before.before.before.before.args in
+    let a = c.args in
     let x = c.widen.ensures in
-    record { long = x.long; value = x.value ∙ ap (λ mine. widened a.one mine (env_of a.r.now)) c.before.before.inner-mine.ensures }
+    record { long = x.long; value = x.value ∙ ap (λ mine. widened a.one mine (env_of a.r.now)) c.inner-mine.ensures }
 
 pub inside_spec : {M : Type 1} → statement M
 inside_spec = tie.close (tie.spec (λ c κs. search rules) (λ c κs. search rules) returns)

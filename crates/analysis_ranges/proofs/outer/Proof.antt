@@ -11,6 +11,6 @@ outer_spec =
     tie.close
     (tie.spec
     (λ c. search rules) (λ c κs. search rules) (λ c. search rules) (λ c. search rules)
-    (λ c. rw c.before.enum_told-1.given.1 c.outside_interval.ensures)
-    (λ c. rw c.enum_told-in-Other-1.given.1)
-    (λ c. rw c.enum_told-in-Difference-1.given.1))
+    (λ c. rw c.in-Own.is c.outside_interval.ensures)
+    (λ c. rw c.in-Other.is)
+    (λ c. rw c.in-Difference.is))

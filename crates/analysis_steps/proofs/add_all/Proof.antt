@@ -20,10 +20,10 @@ loop_holds c = joined_none _ _ c.requires
 
 loop_again : tie.Need-loop-i-preserved invariant-loop-i decreases-loop-i
 unfolding set_of
-loop_again c = let l = c.before.before.loop-i in joined_next _ _ l.i l.set (search rules) l.invariant
+loop_again c = let l = c.loop-i in joined_next _ _ l.i l.set (search rules) l.invariant
 
 returns : tie.Need-returns invariant-loop-i decreases-loop-i
-returns c = let l = c.before.loop-i in let s = c.before.before.args in let e : l.i ≡ 16 = omega (arith, l.invariant.some) in let n : length s.t2 ≡ 16 = search rules in record { long = l.invariant.long; value = joined_all _ _ l.set n (rw e at l.invariant) }
+returns c = let l = c.loop-i in let s = c.args in let e : l.i ≡ 16 = omega (arith, l.invariant.some) in let n : length s.t2 ≡ 16 = search rules in record { long = l.invariant.long; value = joined_all _ _ l.set n (rw e at l.invariant) }
 
 pub add_all_spec : {M : Type 1} → statement M
 add_all_spec =

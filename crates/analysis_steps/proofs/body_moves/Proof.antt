@@ -13,20 +13,20 @@ use Rattle.analysis_steps.proofs.body_moves.Tie as tie
 
 then_requires : tie.Need-then-requires
 then_requires c κs =
-    let (text, l) = c.before.before.before.before.before.before.requires.0 in
-    (near_room l.ready.few (c.before.before.before.Moves-of.ensures text (ready l.ready (search rules))), rw (c.row_step_lem.ensures text) (row_room c.before.before.before.before.before.before.args.v text (kind_at (rows_of c.before.before.before.before.before.before.args.rows.now) c.before.before.before.before.before.before.args.i) (l.ready.fine _ l.inside)))
+    let (text, l) = c.requires.0 in
+    (near_room l.ready.few (c.moves_of-body.ensures text (ready l.ready (search rules))), rw (c.row_step.ensures text) (row_room c.args.v text (kind_at (rows_of c.args.rows.now) c.args.i) (l.ready.fine _ l.inside)))
 
 returns : tie.Need-returns
 unfolding clear
-returns c = λ text l. body_of l (no_set _ refl) (c.before.before.before.before.Moves-of.ensures text (ready l.ready (search rules))) (c.before.before.add_row.ensures text) (c.then.ensures ∙ ap (then c.before.before.before.before.Moves-of.result.step) (c.before.row_step_lem.ensures text))
+returns c = λ text l. body_of l (no_set _ refl) (c.moves_of-body.ensures text (ready l.ready (search rules))) (c.add_row.ensures text) (c.then.ensures ∙ ap (then c.moves_of-body.result.step) (c.row_step.ensures text))
 
 pub body_moves_spec : {M : Type 1} → statement M
 body_moves_spec =
     tie.close
     (tie.spec
-    (λ c. let (text, l) = c.before.requires.0 in search rules)
-    (λ c κs. let (text, l) = c.before.before.requires.0 in ((text, ready l.ready (search rules)), search rules, search rules))
-    (λ c κs. let (text, l) = c.before.before.before.before.requires.0 in (row_in c.before.before.before.before.args.rows.now _ (search rules), l.ready.fine _ l.inside, (c.before.Moves-of.ensures text (ready l.ready (search rules))).long))
-    (λ c κs. let (text, l) = c.before.before.before.before.before.requires.0 in (row_in c.before.before.before.before.before.args.rows.now _ (search rules), l.ready.fine _ l.inside))
+    (λ c. let (text, l) = c.requires.0 in search rules)
+    (λ c κs. let (text, l) = c.requires.0 in ((text, ready l.ready (search rules)), search rules, search rules))
+    (λ c κs. let (text, l) = c.requires.0 in (row_in c.args.rows.now _ (search rules), l.ready.fine _ l.inside, (c.moves_of-body.ensures text (ready l.ready (search rules))).long))
+    (λ c κs. let (text, l) = c.requires.0 in (row_in c.args.rows.now _ (search rules), l.ready.fine _ l.inside))
     then_requires
     returns)

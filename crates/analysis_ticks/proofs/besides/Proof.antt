@@ -14,6 +14,6 @@ besides_spec =
     tie.close
     (tie.spec
     (λ c. search rules) (λ c. search rules) (λ c. search rules)
-    (λ c. λ text. sym (ap (λ k. once c.before.before.args.prices (form_of text k)) c.enum_told-1.given.1))
-    (λ c. λ text. sym (ap (λ k. once c.before.before.before.args.prices (form_of text k)) c.before.enum_told-in-For-1.given.1))
-    (λ c. λ text. once_one c.before.args.prices text c.before.args.kind c.in_default.keys3))
+    (λ c. λ text. sym (ap (λ k. once c.args.prices (form_of text k)) c.in-Do.is))
+    (λ c. λ text. sym (ap (λ k. once c.args.prices (form_of text k)) c.in-For.is))
+    (λ c. λ text. once_one c.args.prices text c.args.kind c.in_default.in_default-own.keys3))

@@ -8,5 +8,5 @@ first_over_spec =
     tie.close
     (tie.spec
     (λ c. record { value = λ F h. over_kept _ _ _ F h c.if-over-lt256.true })
-    (λ c. record { value = λ F h. over_none _ _ _ F h c.before.if-over-lt256.false c.if-ticks-le-LIMIT.true })
-    (λ c. record { value = λ F h. over_first _ _ _ F h c.before.if-over-lt256.false c.if-ticks-le-LIMIT.false c.before.before.requires.0 }))
+    (λ c. record { value = λ F h. over_none _ _ _ F h c.if-over-lt256.false c.if-ticks-le-LIMIT.true })
+    (λ c. record { value = λ F h. over_first _ _ _ F h c.if-over-lt256.false c.if-ticks-le-LIMIT.false c.requires.0 }))

@@ -21,13 +21,13 @@ use Rattle.analysis_turns.proofs.ask.Statement.{statement}
 use Rattle.analysis_turns.proofs.ask.Tie as tie
 
 returns_3 : tie.Need-returns-then-not-moves
-returns_3 c = refused_9 (trip_of c.before.before.before.before.before.before.args.trip) (not_no c.before.before.before.before.if-not-trip.false) (sym c.before.before.before.known.ensures ∙ not_no c.before.before.if-not-known.false-raw) (sym c.before.moving-moves.ensures ∙ not_yes c.if-not-moves.true-raw)
+returns_3 c = refused_9 (trip_of c.args.trip) (not_no c.if-not-trip.false) (sym c.known.ensures ∙ not_no c.if-not-known.false-raw) (sym c.moving-moves.ensures ∙ not_yes c.if-not-moves.true-raw)
 
 returns-4 : tie.Need-returns-then-not-trip-2
-returns-4 c = refused_10 (trip_of c.before.before.before.before.before.before.before.before.args.trip) (not_no c.before.before.before.before.before.before.if-not-trip.false) (sym c.before.before.before.before.before.known.ensures ∙ not_no c.before.before.before.before.if-not-known.false-raw) (sym c.before.before.before.moving-moves.ensures ∙ not_no c.before.before.if-not-moves.false-raw) (not_yes c.if-not-trip-2.true)
+returns-4 c = refused_10 (trip_of c.args.trip) (not_no c.if-not-trip.false) (sym c.known.ensures ∙ not_no c.if-not-known.false-raw) (sym c.moving-moves.ensures ∙ not_no c.if-not-moves.false-raw) (not_yes c.if-not-trip-2.true)
 
 returns-5 : tie.Need-returns-then-not-suits
-returns-5 c = refused_11 (trip_of c.before.before.before.before.before.before.before.before.before.before.args.trip) (not_no c.before.before.before.before.before.before.before.before.if-not-trip.false) (sym c.before.before.before.before.before.before.before.known.ensures ∙ not_no c.before.before.before.before.before.before.if-not-known.false-raw) (sym c.before.before.before.before.before.moving-moves.ensures ∙ not_no c.before.before.before.before.if-not-moves.false-raw) (not_no c.before.before.if-not-trip-2.false) (sym c.before.suits.ensures ∙ not_yes c.if-not-suits.true-raw)
+returns-5 c = refused_11 (trip_of c.args.trip) (not_no c.if-not-trip.false) (sym c.known.ensures ∙ not_no c.if-not-known.false-raw) (sym c.moving-moves.ensures ∙ not_no c.if-not-moves.false-raw) (not_no c.if-not-trip-2.false) (sym c.suits.ensures ∙ not_yes c.if-not-suits.true-raw)
 
 -- questions 19 and 8 to 11 have yes
 record Yes (τ : Trip) : Type 0 where
@@ -37,81 +37,81 @@ record Yes (τ : Trip) : Type 0 where
   keeps : τ.keeps ≡ true
   suits : suits τ.step (sort τ.comparison) ≡ true
 
-yes : (c : tie.Else-not-suits) → Yes (trip_of c.before.before.before.before.before.before.before.before.before.before.args.trip)
+yes : (c : tie.Else-not-suits) → Yes (trip_of c.args.trip)
 yes c = record {
-  terms = not_no c.before.before.before.before.before.before.before.before.if-not-trip.false;
-  known = sym c.before.before.before.before.before.before.before.known.ensures ∙ not_no c.before.before.before.before.before.before.if-not-known.false-raw;
-  moves = sym c.before.before.before.before.before.moving-moves.ensures ∙ not_no c.before.before.before.before.if-not-moves.false-raw;
-  keeps = not_no c.before.before.if-not-trip-2.false;
-  suits = sym c.before.suits.ensures ∙ not_no c.if-not-suits.false-raw;
+  terms = not_no c.if-not-trip.false;
+  known = sym c.known.ensures ∙ not_no c.if-not-known.false-raw;
+  moves = sym c.moving-moves.ensures ∙ not_no c.if-not-moves.false-raw;
+  keeps = not_no c.if-not-trip-2.false;
+  suits = sym c.suits.ensures ∙ not_no c.if-not-suits.false-raw;
 }
 
 at-test-requires : tie.Need-at_test-r-requires
-at-test-requires c κs = (c.before.before.before.before.before.before.before.before.before.before.before.before.before.before.before.requires, (yes c.before.before.before.before.before).moves, c.before.before.start_of_lem.ensures.1)
+at-test-requires c κs = (c.requires, (yes c.before.before.before.before.before).moves, c.start_of-start.ensures.1)
 
 has-figure-requires : tie.Need-has_figure-requires
-has-figure-requires c κs = (c.before.before.before.before.before.before.before.before.before.before.before.before.before.before.before.before.requires, (yes c.before.before.before.before.before.before).moves, c.at_a_test.ensures.1, ranged _ c.before.before.limit_of_lem.ensures.1)
+has-figure-requires c κs = (c.requires, (yes c.before.before.before.before.before.before).moves, c.at_a_test.ensures.1, ranged _ c.limit_of-limit.ensures.1)
 
 -- what the first test sees, the limit's end, and the answer to question 12 are the trip's
-first : (c : tie.After-at_test-r) → wide_range c.at_a_test.result ≡ first_of (trip_of c.before.before.before.before.before.before.before.before.before.before.before.before.before.before.before.before.args.trip)
-first c = let t = c.before.before.before.before.before.before.before.before.before.before.before.before.before.before.before.before.args.trip in c.at_a_test.ensures.0 ∙ ap (at_test t.moved t.step) c.before.before.before.start_of_lem.ensures.0
+first : (c : tie.After-at_test-r) → wide_range c.at_a_test.result ≡ first_of (trip_of c.args.trip)
+first c = let t = c.args.trip in c.at_a_test.ensures.0 ∙ ap (at_test t.moved t.step) c.start_of-start.ensures.0
 
-end : (c : tie.After-edge-e) → c.edge-e.result ≡ edge_of (trip_of c.before.before.before.before.before.before.before.before.before.before.before.before.before.before.before.args.trip)
-end c = c.edge-e.ensures.0 ∙ ap (edge c.before.before.before.before.before.before.before.before.before.before.before.before.before.before.before.args.trip.comparison) c.before.limit_of_lem.ensures.0
+end : (c : tie.After-edge-e) → c.edge-e.result ≡ edge_of (trip_of c.args.trip)
+end c = c.edge-e.ensures.0 ∙ ap (edge c.args.trip.comparison) c.limit_of-limit.ensures.0
 
 returns-6 : tie.Need-returns-then-not-has_figure
 returns-6 c =
-    let τ = trip_of c.before.before.before.before.before.before.before.before.before.before.before.before.before.before.before.before.before.before.args.trip in
+    let τ = trip_of c.args.trip in
     let y = yes c.before.before.before.before.before.before.before.before in
-    let f : SFits w64 c.before.before.before.edge-e.result = sfits_of c.before.before.before.edge-e.type_inv in
-    let h = rw (to_z-of_z f) at c.before.has_figure.ensures in
-    refused_12 τ y.terms y.known y.moves y.keeps y.suits _ _ _ (first c.before.before) c.before.before.before.before.limit_of_lem.ensures.0 (end c.before.before.before)
-    (sym (h ∙ ap (λ s. has_figure τ.step (sort τ.comparison) s (wide_range c.before.before.at_a_test.result) (wide_range c.before.before.before.before.limit_of_lem.result) c.before.before.before.edge-e.result) c.before.before.before.before.before.start_of_lem.ensures.0) ∙ not_yes c.if-not-has_figure.true-raw)
+    let f : SFits w64 c.edge-e.result = sfits_of c.edge-e.type_inv in
+    let h = rw (to_z-of_z f) at c.has_figure.ensures in
+    refused_12 τ y.terms y.known y.moves y.keeps y.suits _ _ _ (first c.before.before) c.limit_of-limit.ensures.0 (end c.before.before.before)
+    (sym (h ∙ ap (λ s. has_figure τ.step (sort τ.comparison) s (wide_range c.before.before.at_a_test.result) (wide_range c.limit_of-limit.result) c.edge-e.result) c.start_of-start.ensures.0) ∙ not_yes c.if-not-has_figure.true-raw)
 
 -- what the turns ask
-counted : (c : tie.Else-not-has_figure) → let t = c.before.before.before.before.before.before.before.before.before.before.before.before.before.before.before.before.before.before.args.trip in Countable t.step (sort t.comparison) c.before.before.at_a_test.result c.before.before.before.before.limit_of_lem.result c.before.before.before.edge-e.result
+counted : (c : tie.Else-not-has_figure) → let t = c.args.trip in Countable t.step (sort t.comparison) c.before.before.at_a_test.result c.limit_of-limit.result c.edge-e.result
 counted c =
-    let t = c.before.before.before.before.before.before.before.before.before.before.before.before.before.before.before.before.before.before.args.trip in
+    let t = c.args.trip in
     let y = yes c.before.before.before.before.before.before.before.before in
-    let f : SFits w64 c.before.before.before.edge-e.result = sfits_of c.before.before.before.edge-e.type_inv in
-    let h = rw (to_z-of_z f) at c.before.has_figure.ensures in
-    countable t.moved t.step (sort t.comparison) _ _ _ _ c.before.before.before.before.before.before.before.before.before.before.before.before.before.before.before.before.before.before.requires c.before.before.before.edge-e.ensures.1 (ranged _ c.before.before.before.before.limit_of_lem.ensures.1) c.before.before.at_a_test.ensures.0 c.before.before.at_a_test.ensures.1 y.moves y.suits (sym h ∙ not_no c.if-not-has_figure.false-raw)
+    let f : SFits w64 c.edge-e.result = sfits_of c.edge-e.type_inv in
+    let h = rw (to_z-of_z f) at c.has_figure.ensures in
+    countable t.moved t.step (sort t.comparison) _ _ _ _ c.requires c.edge-e.ensures.1 (ranged _ c.limit_of-limit.ensures.1) c.before.before.at_a_test.ensures.0 c.before.before.at_a_test.ensures.1 y.moves y.suits (sym h ∙ not_no c.if-not-has_figure.false-raw)
 
 while-turns-requires : tie.Need-while_turns-more-requires
-while-turns-requires c κs = let f : SFits w64 c.before.before.before.edge-e.result = sfits_of c.before.before.before.edge-e.type_inv in rw (to_z-of_z f) (counted c)
+while-turns-requires c κs = let f : SFits w64 c.edge-e.result = sfits_of c.edge-e.type_inv in rw (to_z-of_z f) (counted c)
 
 led-requires : tie.Need-led-requires
 led-requires c κs =
-    let t = c.before.before.before.before.before.before.before.before.before.before.before.before.before.before.before.before.before.before.before.args.trip in
-    let f : SFits w64 c.before.before.before.before.edge-e.result = sfits_of c.before.before.before.before.edge-e.type_inv in
+    let t = c.args.trip in
+    let f : SFits w64 c.edge-e.result = sfits_of c.edge-e.type_inv in
     let e = rw (to_z-of_z f) at c.while_turns-more.ensures in
-    omega (arith, turns_few t.step (sort t.comparison) c.before.before.before.at_a_test.result c.before.before.before.before.before.limit_of_lem.result c.before.before.before.before.edge-e.result (counted c.before))
+    omega (arith, turns_few t.step (sort t.comparison) c.before.before.before.at_a_test.result c.limit_of-limit.result c.edge-e.result (counted c.before))
 
 returns-7 : tie.Need-returns
 returns-7 c =
-    let τ = trip_of c.before.before.before.before.before.before.before.before.before.before.before.before.before.before.before.before.before.before.before.before.args.trip in
+    let τ = trip_of c.args.trip in
     let y = yes c.before.before.before.before.before.before.before.before.before.before in
-    let f : SFits w64 c.before.before.before.before.before.edge-e.result = sfits_of c.before.before.before.before.before.edge-e.type_inv in
-    let h = rw (to_z-of_z f) at c.before.before.before.has_figure.ensures in
-    let k = rw (to_z-of_z f) at c.before.while_turns-more.ensures in
+    let f : SFits w64 c.edge-e.result = sfits_of c.edge-e.type_inv in
+    let h = rw (to_z-of_z f) at c.has_figure.ensures in
+    let k = rw (to_z-of_z f) at c.while_turns-more.ensures in
     let l = rw (to_z-of_z f) at c.led.ensures in
-    accepted τ y.terms y.known y.moves y.keeps y.suits _ _ _ (first c.before.before.before.before) c.before.before.before.before.before.before.limit_of_lem.ensures.0 (end c.before.before.before.before.before)
-    (sym (h ∙ ap (λ s. has_figure τ.step (sort τ.comparison) s (wide_range c.before.before.before.before.at_a_test.result) (wide_range c.before.before.before.before.before.before.limit_of_lem.result) c.before.before.before.before.before.edge-e.result) c.before.before.before.before.before.before.before.start_of_lem.ensures.0) ∙ not_no c.before.before.if-not-has_figure.false-raw) _ k _ l
+    accepted τ y.terms y.known y.moves y.keeps y.suits _ _ _ (first c.before.before.before.before) c.limit_of-limit.ensures.0 (end c.before.before.before.before.before)
+    (sym (h ∙ ap (λ s. has_figure τ.step (sort τ.comparison) s (wide_range c.before.before.before.before.at_a_test.result) (wide_range c.limit_of-limit.result) c.edge-e.result) c.start_of-start.ensures.0) ∙ not_no c.if-not-has_figure.false-raw) _ k _ l
 
 pub ask_spec : {M : Type 1} → statement M
 ask_spec =
     tie.close
     (tie.spec
-    (λ c. refused_19 (trip_of c.before.before.args.trip) (not_yes c.if-not-trip.true))
+    (λ c. refused_19 (trip_of c.args.trip) (not_yes c.if-not-trip.true))
     (λ c κs. search rules)
-    (λ c. refused_8 (trip_of c.before.before.before.before.args.trip) (not_no c.before.before.if-not-trip.false) (sym c.before.known.ensures ∙ not_yes c.if-not-known.true-raw))
+    (λ c. refused_8 (trip_of c.args.trip) (not_no c.if-not-trip.false) (sym c.known.ensures ∙ not_yes c.if-not-known.true-raw))
     (λ c κs. search rules)
     returns_3
     returns-4
     (λ c κs. search rules)
     returns-5
     (λ c κs. search rules) (λ c κs. search rules)
-    (λ c κs. c.limit_of_lem.ensures.1)
+    (λ c κs. c.limit_of-limit.ensures.1)
     at-test-requires
     has-figure-requires
     returns-6

@@ -9,10 +9,10 @@ use Rattle.analysis_turns.proofs.gap.Statement.{statement}
 use Rattle.analysis_turns.proofs.gap.Tie as tie
 
 cast-t3 : tie.Need-overflow_cast-result
-cast-t3 c = let f : SFits w32 c.before.before.args.s.lo = search rules in let h = word _ f in search rules
+cast-t3 c = let f : SFits w32 c.args.s.lo = search rules in let h = word _ f in search rules
 
 cast-t4 : tie.Need-overflow_cast-result-2
-cast-t4 c = let f : SFits w32 c.before.before.before.before.args.n.hi = search rules in let h = word _ f in search rules
+cast-t4 c = let f : SFits w32 c.args.n.hi = search rules in let h = word _ f in search rules
 
 sub-t5 : tie.Need-overflow_sub-result
 sub-t5 c =
@@ -22,10 +22,10 @@ sub-t5 c =
     simp (to_z-of_z f, to_z-of_z g, to_z-of_z (word _ f).a64, to_z-of_z (word _ g).a64) (words _ _ f g).a64
 
 cast-t6 : tie.Need-overflow_cast-result-3
-cast-t6 c = let f : SFits w32 c.before.before.before.before.before.before.args.s.hi = search rules in let h = word _ f in search rules
+cast-t6 c = let f : SFits w32 c.args.s.hi = search rules in let h = word _ f in search rules
 
 cast-t7 : tie.Need-overflow_cast-result-4
-cast-t7 c = let f : SFits w32 c.before.before.before.before.before.before.before.before.args.n.lo = search rules in let h = word _ f in search rules
+cast-t7 c = let f : SFits w32 c.args.n.lo = search rules in let h = word _ f in search rules
 
 sub-t8 : tie.Need-overflow_sub-result-2
 sub-t8 c =

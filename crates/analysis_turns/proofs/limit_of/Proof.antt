@@ -15,6 +15,6 @@ limit_of_spec =
     tie.close
     (tie.spec
     (λ c. search rules) (λ c κs. search rules) (λ c. search rules) (λ c κs. search rules) (λ c. search rules)
-    (λ c. rw c.before.enum_told-1.given.1 c.whole.ensures)
-    (λ c. rw c.before.enum_told-in-Other-1.given.1 c.whole-in-Other.ensures)
-    (λ c. rw c.enum_told-in-Difference-1.given.1 (refl, record { low = none; high = none })))
+    (λ c. rw c.in-Own.is c.whole.ensures)
+    (λ c. rw c.in-Other.is c.whole-in-Other.ensures)
+    (λ c. rw c.in-Difference.is (refl, record { low = none; high = none })))

@@ -8,6 +8,6 @@ start_of_spec =
     tie.close
     (tie.spec
     (λ c. search rules) (λ c κs. search rules) (λ c. search rules) (λ c κs. search rules) (λ c. search rules) (λ c κs. search rules)
-    (λ c. rw c.before.enum_told-1.given.1 c.whole.ensures)
-    (λ c. rw c.before.enum_told-in-Other-1.given.1 c.whole-in-Other.ensures)
-    (λ c. rw c.before.enum_told-in-Difference-1.given.1 c.gap.ensures))
+    (λ c. rw c.in-Own.is c.whole.ensures)
+    (λ c. rw c.in-Other.is c.whole-in-Other.ensures)
+    (λ c. rw c.in-Difference.is c.gap.ensures))

@@ -30,15 +30,15 @@ loop_holds : tie.Need-loop-i-init invariant-loop-i decreases-loop-i
 loop_holds c = (search rules, from_start _ _ _)
 
 returns : tie.Need-returns-then-i-store invariant-loop-i decreases-loop-i
-returns c = sym (c.before.before.loop-i.invariant.1 ∙ from_missing _ _ _ (enough c.before.before.before) _ (search rules) (search rules))
+returns c = sym (c.loop-i.invariant.1 ∙ from_missing _ _ _ (enough c.before.before.before) _ (search rules) (search rules))
 
 -- what the test of index i says
 said : (b : tie.After-between-fine invariant-loop-i decreases-loop-i) →
-    b.between-fine.result ≡ (le_z (pair_range (get_or b.before.before.before.before.before.before.before.args.ranges.now b.before.before.before.before.before.before.loop-i.i [])).lo (get_or b.before.before.before.before.before.before.before.args.store.now b.before.before.before.before.before.before.loop-i.i (pos 0))
-    && le_z (get_or b.before.before.before.before.before.before.before.args.store.now b.before.before.before.before.before.before.loop-i.i (pos 0)) (pair_range (get_or b.before.before.before.before.before.before.before.args.ranges.now b.before.before.before.before.before.before.loop-i.i [])).hi)
+    b.between-fine.result ≡ (le_z (pair_range (get_or b.args.ranges.now b.loop-i.i [])).lo (get_or b.args.store.now b.loop-i.i (pos 0))
+    && le_z (get_or b.args.store.now b.loop-i.i (pos 0)) (pair_range (get_or b.args.ranges.now b.loop-i.i [])).hi)
 said b =
-    let a = b.before.before.before.before.before.before.before.args in
-    let i = b.before.before.before.before.before.before.loop-i.i in
+    let a = b.args in
+    let i = b.loop-i.i in
     let f : SFits w32 (get_or (get_or a.ranges.now i []) 0 (pos 0)) = search rules in
     let g : SFits w32 (get_or a.store.now i (pos 0)) = search rules in
     let h : SFits w32 (get_or (get_or a.ranges.now i []) 1 (pos 0)) = search rules in
@@ -46,25 +46,25 @@ said b =
 
 returns_2 : tie.Need-returns-then-not-fine invariant-loop-i decreases-loop-i
 returns_2 c =
-    let l = c.before.before.before.before.before.before.before.loop-i in
-    let a = c.before.before.before.before.before.before.before.before.args in
-    sym (l.invariant.1 ∙ from_wrong a.ranges.now a.vars a.store.now (enough c.before.before.before.before.before.before.before.before) l.i (search rules) (search rules) c.before.between-fine.result (said c.before) c.if-not-fine.true-raw)
+    let l = c.loop-i in
+    let a = c.args in
+    sym (l.invariant.1 ∙ from_wrong a.ranges.now a.vars a.store.now (enough c.before.before.before.before.before.before.before.before) l.i (search rules) (search rules) c.between-fine.result (said c.before) c.if-not-fine.true-raw)
 
 loop_again : tie.Need-loop-i-preserved invariant-loop-i decreases-loop-i
 loop_again c =
-    let l = c.before.before.before.before.before.before.before.loop-i in
-    let a = c.before.before.before.before.before.before.before.before.args in
-    (search rules, l.invariant.1 ∙ from_next a.ranges.now a.vars a.store.now (enough c.before.before.before.before.before.before.before.before) l.i (search rules) (search rules) c.before.between-fine.result (said c.before) c.if-not-fine.false-raw)
+    let l = c.loop-i in
+    let a = c.args in
+    (search rules, l.invariant.1 ∙ from_next a.ranges.now a.vars a.store.now (enough c.before.before.before.before.before.before.before.before) l.i (search rules) (search rules) c.between-fine.result (said c.before) c.if-not-fine.false-raw)
 
 returns_3 : tie.Need-returns-then-vars-store invariant-loop-i decreases-loop-i
 returns_3 c =
-    let a = c.before.before.before.args in
-    let l = c.before.before.loop-i in
+    let a = c.args in
+    let l = c.loop-i in
     let e : l.i ≡ a.vars = omega arith in
     sym (l.invariant.1 ∙ rw e (from_extra a.ranges.now a.vars a.store.now (enough c.before.before.before) a.vars (omega arith) (search rules)))
 
 returns-4 : tie.Need-returns invariant-loop-i decreases-loop-i
-returns-4 c = sym (c.before.before.loop-i.invariant.1 ∙ from_end _ _ _ (enough c.before.before.before) _ (search rules) (search rules))
+returns-4 c = sym (c.loop-i.invariant.1 ∙ from_end _ _ _ (enough c.before.before.before) _ (search rules) (search rules))
 
 pub ask_store_spec : {M : Type 1} → statement M
 ask_store_spec =

@@ -11,7 +11,7 @@ returns : tie.Need-returns
 returns c =
     let s = c.before.before.before.before.before.before in
     let g = s.requires.0 in
-    (_, (c.before.analyse.ensures s.args.script.vars (g.legal, g.blank)).0)
+    (_, (c.analyse.ensures s.args.script.vars (g.legal, g.blank)).0)
 
 pub figures_of_spec : {M : Type 1} → statement M
 figures_of_spec = tie.close (tie.spec (λ c. search rules) analyse-requires returns)

@@ -11,11 +11,11 @@ use Rattle.calls.proofs.run_accepted.Statement.{statement}
 use Rattle.calls.proofs.run_accepted.Tie as tie
 
 run-rows-requires : tie.Need-run_rows-ran-requires
-run-rows-requires c κs = (c.before.before.before.before.before.requires, cleared)
+run-rows-requires c κs = (c.requires, cleared)
 
 -- the counts of the run
 counted : (c : tie.After-run_rows-ran) → let s = c.before.before.before.before.before.before in Counted s.args.text.now s.args.rows.now s.args.count c.run_rows-ran.new.1.1.1.1.1.1.1.0
-counted c = let g = c.before.before.before.before.before.before.requires.script in record { size = g.size; table = g.table; room = c.run_rows-ran.ensures.room }
+counted c = let g = c.requires.script in record { size = g.size; table = g.table; room = c.run_rows-ran.ensures.room }
 
 loops-of-requires : tie.Need-loops_of-loops-requires
 loops-of-requires c κs = (_, counted c.before.before)
@@ -24,8 +24,8 @@ returns : tie.Need-returns
 unfolding store_after
 returns c =
     let s = c.before.before.before.before.before.before.before.before.before.before in
-    let r = c.before.before.before.before.run_rows-ran in
-    let l = c.before.loops_of-loops in
+    let r = c.run_rows-ran in
+    let l = c.loops_of-loops in
     let t = r.ensures.told in
     let h = l.ensures s.args.text.now (counted c.before.before.before.before) in
     let a = run_of s.args.prices (script_in s.args.text.now s.args.rows.now s.args.count) s.args.store.now s.args.picks.now s.args.allowance in

@@ -21,24 +21,24 @@ loop_holds : tie.Need-loop-k-init invariant-loop-k decreases-loop-k
 loop_holds c = (omega arith, answering_none _ _ _ _ _ _ c.nothing-none.ensures)
 
 -- script k is one of 8
-one_of_8 : (c : tie.In-loop-k invariant-loop-k decreases-loop-k) → c.before.before.loop-k.k < 8
-one_of_8 c = omega (arith, c.loop-k-test.true, c.before.before.before.before.before.before.requires.0)
+one_of_8 : (c : tie.In-loop-k invariant-loop-k decreases-loop-k) → c.loop-k.k < 8
+one_of_8 c = omega (arith, c.loop-k-test.true, c.requires.0)
 
 -- what script k has for its answer
 may_answer : (c : tie.After-p-1 invariant-loop-k decreases-loop-k)
-    → let a = c.before.before.before.before.before.before.before.before.before.before.args in
-    let k = c.before.before.before.before.before.before.loop-k.k in
+    → let a = c.args in
+    let k = c.loop-k.k in
     let h = get_or a.all.each k nobody in
     Inside h.places.table a.tables.now × Answerable a.q (get_or a.t1 k start_progress) (slice_of h.places.table a.tables.now) h.count (get_or a.counts.now k [])
-may_answer c = c.before.before.before.before.before.before.before.before.before.before.requires.1 c.before.before.before.before.before.before.loop-k.k c.before.before.before.before.loop-k-test.true
+may_answer c = c.requires.1 c.loop-k.k c.loop-k-test.true
 
 loop_again : tie.Need-loop-k-preserved invariant-loop-k decreases-loop-k
 loop_again c =
-    let l = c.before.before.before.before.before.before.before.before.before.loop-k in
-    (omega (arith, c.before.before.before.before.before.before.before.loop-k-test.true), answering_more _ _ _ _ _ l.k l.list (one_of_8 c.before.before.before.before.before.before.before) l.invariant.1 _ c.answer_of-a.ensures)
+    let l = c.loop-k in
+    (omega (arith, c.loop-k-test.true), answering_more _ _ _ _ _ l.k l.list (one_of_8 c.before.before.before.before.before.before.before) l.invariant.1 _ c.answer_of-a.ensures)
 
 returns : tie.Need-returns invariant-loop-k decreases-loop-k
-returns c = let l = c.before.before.loop-k in answering_all _ _ _ _ _ l.k l.list (omega (arith, c.loop-k-test.false, l.invariant.0)) l.invariant.1
+returns c = let l = c.loop-k in answering_all _ _ _ _ _ l.k l.list (omega (arith, c.loop-k-test.false, l.invariant.0)) l.invariant.1
 
 pub answers_spec : {M : Type 1} → statement M
 answers_spec =

@@ -27,71 +27,71 @@ decreases-loop-k files tables stores₀ picks all prices q counts₀ by_kind eac
     (1_000_000_000_001 - frame.earlier) * 16 + (8 - k)
 
 prices-of-requires : tie.Need-prices_of-by_kind-requires invariant-loop-k decreases-loop-k
-prices-of-requires c κs = four _ c.before.before.before.before.requires.0.4.priced
+prices-of-requires c κs = four _ c.requires.0.4.priced
 
 loop_holds : tie.Need-loop-k-init invariant-loop-k decreases-loop-k
 loop_holds c = let s = c.before.before.before.before.before.before.before in (s.requires.0, λ fs ss ps roles on. rw c.new_frame-frame.ensures (playing_start _ _ _ _ _ _ on _ s.requires.1))
 
 -- script k is one of 8
-one_of_8 : (c : tie.Then-k-all invariant-loop-k decreases-loop-k) → c.before.before.loop-k.k < 8
-one_of_8 c = let on = c.before.before.loop-k.invariant.0.4 in omega (arith, c.if-k-all.true, on.number, on.fits.few)
+one_of_8 : (c : tie.Then-k-all invariant-loop-k decreases-loop-k) → c.loop-k.k < 8
+one_of_8 c = let on = c.loop-k.invariant.0.4 in omega (arith, c.if-k-all.true, on.number, on.fits.few)
 
 with-ticks-requires : tie.Need-with_ticks-requires invariant-loop-k decreases-loop-k
 with-ticks-requires c κs =
-    let l = c.before.before.before.before.before.before.before.before.loop-k in
+    let l = c.loop-k in
     let on = l.invariant.0.4 in
-    omega (arith, few_left _ _ _ _ _ _ on _ _ _ _ _ _ (l.invariant.1 _ _ _ _ on) (omega (arith, c.before.before.before.before.before.before.if-k-all.true, on.number)), on.fits.small)
+    omega (arith, few_left _ _ _ _ _ _ on _ _ _ _ _ _ (l.invariant.1 _ _ _ _ on) (omega (arith, c.if-k-all.true, on.number)), on.fits.small)
 
 turn-requires : tie.Need-turn-to-requires invariant-loop-k decreases-loop-k
 turn-requires c κs =
-    let l = c.before.before.before.before.before.before.before.before.before.before.loop-k in
+    let l = c.loop-k in
     let on = l.invariant.0.4 in
-    rw (c.before.before.before.before.before.before.before.before.before.before.before.before.before.prices_of-by_kind.ensures, c.before.with_ticks_lem.ensures)
-    (ready_to_turn _ _ _ _ _ _ on _ _ _ _ _ _ (l.invariant.1 _ _ _ _ on) (omega (arith, c.before.before.before.before.before.before.before.before.if-k-all.true, on.number)) (sym c.before.before.before.before.before.before.waiting.ensures ∙ c.before.before.before.before.before.if-waiting.true))
+    rw (c.prices_of-by_kind.ensures, c.with_ticks.ensures)
+    (ready_to_turn _ _ _ _ _ _ on _ _ _ _ _ _ (l.invariant.1 _ _ _ _ on) (omega (arith, c.if-k-all.true, on.number)) (sym c.waiting.ensures ∙ c.if-waiting.true))
 
 turn-to-requires : tie.Need-turn_to-t-requires invariant-loop-k decreases-loop-k
 turn-to-requires c κs =
-    let l = c.before.before.before.before.before.before.before.before.before.before.before.before.loop-k in
+    let l = c.loop-k in
     let on = l.invariant.0.4 in
     let h = l.invariant.1 _ _ _ _ on in
-    let e = ap (λ (z : Machine). z.left) c.before.before.before.with_ticks_lem.ensures in
-    (countable _ _ _ _ _ _ on _ _ _ _ _ _ h, omega (arith, few_left _ _ _ _ _ _ on _ _ _ _ _ _ h (omega (arith, c.before.before.before.before.before.before.before.before.before.before.if-k-all.true, on.number)), on.fits.small), omega (arith, c.before.turn-to.ensures.went.left, e))
+    let e = ap (λ (z : Machine). z.left) c.with_ticks.ensures in
+    (countable _ _ _ _ _ _ on _ _ _ _ _ _ h, omega (arith, few_left _ _ _ _ _ _ on _ _ _ _ _ _ h (omega (arith, c.if-k-all.true, on.number)), on.fits.small), omega (arith, c.turn-to.ensures.went.left, e))
 
 -- script k has had the frame
 abbrev Went : tie.Joined-waiting invariant-loop-k decreases-loop-k → Type 0
 Went c =
-    let l = c.before.before.before.before.before.loop-k in
-    let a = c.before.before.before.before.before.before.before.before.before.before.before.before.before.args in
+    let l = c.loop-k in
+    let a = c.args in
     (c.if-waiting.frame.earlier ≡ l.frame.earlier)
     × ((fs ss ps : List ℕ) (roles : List Frames.Progress) (on : FramesReady a.prices.now (lent_of a.files.now fs a.stores.now ss a.picks.now ps) a.q roles a.tables.now a.all)
     → Playing a.prices.now (lent_of a.files.now fs a.stores.now ss a.picks.now ps) a.q roles a.tables.now a.all on c.if-waiting.stores c.if-waiting.counts c.if-waiting.progress l.most c.if-waiting.frame (l.k + 1))
 
 went : (c : tie.Joined-waiting invariant-loop-k decreases-loop-k) → Went c
 went c =
-    let l = c.before.before.before.before.before.loop-k in
-    let i = c.before.before.before.if-k-all.true in
-    let e = c.before.waiting.ensures in
+    let l = c.loop-k in
+    let i = c.if-k-all.true in
+    let e = c.waiting.ensures in
     ⊎_elim {C = Went c}
     (λ w.
     rw (w.11, w.12, w.13, w.14) (
       ap (λ (z : AfterTurn). z.frame.earlier) w.8.ensures,
       λ fs ss ps roles on.
-          playing_on _ _ _ _ _ _ on _ _ _ _ _ _ (l.invariant.1 _ _ _ _ on) (omega (arith, i, on.number)) (sym e ∙ w.0.taken) w.6.result _ _ (rw (c.before.before.before.before.before.before.before.before.prices_of-by_kind.ensures, w.4.ensures) at w.6.ensures) w.8.result w.8.ensures,
+          playing_on _ _ _ _ _ _ on _ _ _ _ _ _ (l.invariant.1 _ _ _ _ on) (omega (arith, i, on.number)) (sym e ∙ w.0.taken) w.6.result _ _ (rw (c.prices_of-by_kind.ensures, w.4.ensures) at w.6.ensures) w.8.result w.8.ensures,
     ))
     (λ w. rw (w.1, w.2, w.3, w.4) (refl, λ fs ss ps roles on. playing_still _ _ _ _ _ _ on _ _ _ _ _ _ (l.invariant.1 _ _ _ _ on) (omega (arith, i, on.number)) (sym e ∙ w.0.left)))
     c.if-waiting.branch
 
 returns : tie.Need-returns-then-not-frame invariant-loop-k decreases-loop-k
 returns c fs ss ps roles on =
-    let l = c.before.before.before.before.before.loop-k in
-    playing_out _ _ _ _ _ _ on _ _ _ _ _ _ (l.invariant.1 _ _ _ _ on) (omega (arith, c.before.before.before.if-k-all.false, on.number)) (not-true _ c.if-not-frame.true) _ c.before.before.larger-most.ensures
+    let l = c.loop-k in
+    playing_out _ _ _ _ _ _ on _ _ _ _ _ _ (l.invariant.1 _ _ _ _ on) (omega (arith, c.if-k-all.false, on.number)) (not-true _ c.if-not-frame.true) _ c.larger-most.ensures
 
 add-new-frame : tie.Need-overflow_add-frame invariant-loop-k decreases-loop-k
-add-new-frame c = let l = c.before.before.before.before.before.before.loop-k in let on = l.invariant.0.4 in let h = playing_late _ _ _ _ _ _ on (l.invariant.1 _ _ _ _ on) in search rules
+add-new-frame c = let l = c.loop-k in let on = l.invariant.0.4 in let h = playing_late _ _ _ _ _ _ on (l.invariant.1 _ _ _ _ on) in search rules
 
 loop_less_2 : tie.Need-loop-k-smaller invariant-loop-k decreases-loop-k
 loop_less_2 c =
-    let l = c.before.before.before.before.before.before.before.loop-k in
+    let l = c.loop-k in
     let on = l.invariant.0.4 in
     let p = l.invariant.1 _ _ _ _ on in
     let h = playing_late _ _ _ _ _ _ on p in
@@ -99,10 +99,10 @@ loop_less_2 c =
 
 loop_again_2 : tie.Need-loop-k-preserved invariant-loop-k decreases-loop-k
 loop_again_2 c =
-    let l = c.before.before.before.before.before.before.before.loop-k in (
+    let l = c.loop-k in (
       l.invariant.0,
       λ fs ss ps roles on.
-          rw c.new_frame-frame-else-k-all.ensures (playing_frame _ _ _ _ _ _ on _ _ _ _ _ _ (l.invariant.1 _ _ _ _ on) (omega (arith, c.before.before.before.before.before.if-k-all.false, on.number)) (not-false _ c.before.before.if-not-frame.false) _ c.before.before.before.before.larger-most.ensures),
+          rw c.new_frame-frame-else-k-all.ensures (playing_frame _ _ _ _ _ _ on _ _ _ _ _ _ (l.invariant.1 _ _ _ _ on) (omega (arith, c.if-k-all.false, on.number)) (not-false _ c.if-not-frame.false) _ c.larger-most.ensures),
     )
 
 pub play_spec : {M : Type 1} → statement M
@@ -128,9 +128,9 @@ play_spec =
     (λ c. one_of_8 c.before.before.before.before.before.before.before.before.before.before.before.before)
     (λ c. let h = one_of_8 c.before.before.before in search rules)
     (λ c. let h = one_of_8 c.before.before.before in omega (arith, (went c).0))
-    (λ c. (c.before.before.before.before.before.loop-k.invariant.0, (went c).1))
+    (λ c. (c.loop-k.invariant.0, (went c).1))
     (λ c κs. search rules)
-    (λ c. let l = c.before.before.before.before.before.loop-k in let on = l.invariant.0.4 in (l.invariant.1 _ _ _ _ on).sizes.2)
+    (λ c. let l = c.loop-k in let on = l.invariant.0.4 in (l.invariant.1 _ _ _ _ on).sizes.2)
     returns
     add-new-frame
     (λ c κs. search rules)

@@ -11,27 +11,27 @@ use Rattle.calls_frames.proofs.run_frames.Tie as tie
 
 -- all scripts may play
 ready : (c : tie.After-tables-in-Passed-1)
-    → let a = c.before.before.before.before.before.before.before.before.before.before.before.before.before.args in
-    let e = c.before.before.before.before.enter_all-all in
+    → let a = c.args in
+    let e = c.enter_all-all in
     (roles : List Frames.Progress) × FramesReady a.prices.now (lent_of a.files.now a.file-lengths.now a.stores.now a.store-lengths.now a.picks.now a.pick-lengths.now) a.q roles e.new.1.1.1.1.1.1.0 e.result
 ready c =
     let s = c.before.before.before.before.before.before.before.before.before.before.before.before.before in
-    let e = c.before.before.before.before.enter_all-all in
-    may_play _ _ _ s.requires.0 s.requires.1 _ _ (e.ensures s.args.picks.now) c.before.enum_told-1.given.1 e.auto.1.1.1.1.1.1.0
+    let e = c.enter_all-all in
+    may_play _ _ _ s.requires.0 s.requires.1 _ _ (e.ensures s.args.picks.now) c.in-Passed.is e.auto.1.1.1.1.1.1.0
 
 play-held-requires : tie.Need-play_held-requires
-play-held-requires c κs = let a = c.before.before.before.before.before.before.before.before.before.before.before.before.before.before.args in let (roles, on) = ready c.before in (a.file-lengths.now, a.store-lengths.now, a.pick-lengths.now, roles, on)
+play-held-requires c κs = let a = c.args in let (roles, on) = ready c.before in (a.file-lengths.now, a.store-lengths.now, a.pick-lengths.now, roles, on)
 
 returns : tie.Need-returns-in-Passed
 returns c =
     let (roles, on) = ready c.before.before.before in
-    let p = c.before.play_held.ensures in
-    record { framed = rw on.ready (p.0 _ _ _ roles on); script = p.1 ∙ (c.before.before.before.before.before.before.before.enter_all-all.ensures _).script }
+    let p = c.play_held.ensures in
+    record { framed = rw on.ready (p.0 _ _ _ roles on); script = p.1 ∙ (c.enter_all-all.ensures _).script }
 
 returns_2 : tie.Need-returns-in-Refused
 returns_2 c =
     let s = c.before.before.before.before.before.before.before.before.before.before.before.before.before.before in
-    rw c.refusal.ensures (no_play _ _ _ s.requires.0 s.requires.1 _ _ (c.before.before.before.before.before.enter_all-all.ensures _) _ _ c.before.before.verdict-1.given.1)
+    rw c.refusal.ensures (no_play _ _ _ s.requires.0 s.requires.1 _ _ (c.enter_all-all.ensures _) _ _ c.in-Refused.is)
 
 pub run_frames_spec : {M : Type 1} → statement M
 run_frames_spec =

@@ -23,22 +23,22 @@ loop_holds c = (omega arith, omega arith)
 
 returns : tie.Need-returns-then-left-next invariant-loop-i decreases-loop-i
 returns c =
-    let l = c.before.before.before.before.args.lengths.now in
-    let i = c.before.before.before.loop-i.i in
-    sym (ne_eqb (total l) c.before.before.before.before.args.n λ (e : total l ≡ c.before.before.before.before.args.n). omega (arith, c.if-left-next.true, c.before.before.before.loop-i.invariant.1, sum_within l i c.before.before.loop-i-test.true))
+    let l = c.args.lengths.now in
+    let i = c.loop-i.i in
+    sym (ne_eqb (total l) c.args.n λ (e : total l ≡ c.args.n). omega (arith, c.if-left-next.true, c.loop-i.invariant.1, sum_within l i c.loop-i-test.true))
 
 loop_again : tie.Need-loop-i-preserved invariant-loop-i decreases-loop-i
 loop_again c =
-    let l = c.before.before.before.before.args.lengths.now in
-    let i = c.before.before.before.loop-i.i in
-    (omega arith, omega (arith, c.if-left-next.false, c.before.before.before.loop-i.invariant.1, sum_next l i c.before.before.loop-i-test.true))
+    let l = c.args.lengths.now in
+    let i = c.loop-i.i in
+    (omega arith, omega (arith, c.if-left-next.false, c.loop-i.invariant.1, sum_next l i c.loop-i-test.true))
 
 returns_2 : tie.Need-returns invariant-loop-i decreases-loop-i
 returns_2 c =
-    let l = c.before.before.args.lengths.now in
-    let n = c.before.before.args.n in
-    let e : total l + c.before.loop-i.left ≡ n = omega (arith, c.before.loop-i.invariant.1, sum_all l c.before.loop-i.i c.loop-i-test.false) in
-    by c.before.loop-i.left (total l) n e
+    let l = c.args.lengths.now in
+    let n = c.args.n in
+    let e : total l + c.loop-i.left ≡ n = omega (arith, c.loop-i.invariant.1, sum_all l c.loop-i.i c.loop-i-test.false) in
+    by c.loop-i.left (total l) n e
   where
     by : (a b n : ℕ) → b + a ≡ n → eqb a 0 ≡ eqb b n
     by zero b n e = sym (eq-eqb b n (omega arith))

@@ -20,26 +20,26 @@ unfolding total
 loop_holds c = (omega arith, refl)
 
 add-from : tie.Need-overflow_add-from invariant-loop-i decreases-loop-i
-add-from c = let l = c.before.before.before.args.lengths.now in omega (arith, c.before.before.loop-i.invariant.1, c.before.before.before.requires.1, sum_within l c.before.before.loop-i.i (omega arith))
+add-from c = let l = c.args.lengths.now in omega (arith, c.loop-i.invariant.1, c.requires.1, sum_within l c.loop-i.i (omega arith))
 
 loop_again : tie.Need-loop-i-preserved invariant-loop-i decreases-loop-i
 loop_again c =
-    let l = c.before.before.before.args.lengths.now in
-    (omega arith, omega (arith, c.before.before.loop-i.invariant.1, sum_next l c.before.before.loop-i.i (omega arith)))
+    let l = c.args.lengths.now in
+    (omega arith, omega (arith, c.loop-i.invariant.1, sum_next l c.loop-i.i (omega arith)))
 
 add-t12 : tie.Need-overflow_add-result invariant-loop-i decreases-loop-i
 add-t12 c =
     let s = c.before.before.before in
     let l = s.args.lengths.now in
-    let e : c.before.before.loop-i.i ≡ s.args.k = omega arith in
-    omega (arith, c.before.before.loop-i.invariant.1, ap (λ n. total (take n l)) e, s.requires.1, sum_within l s.args.k s.requires.0)
+    let e : c.loop-i.i ≡ s.args.k = omega arith in
+    omega (arith, c.loop-i.invariant.1, ap (λ n. total (take n l)) e, s.requires.1, sum_within l s.args.k s.requires.0)
 
 returns : tie.Need-returns invariant-loop-i decreases-loop-i
 returns c =
     let s = c.before.before.before in
     let l = s.args.lengths.now in
-    let e : c.before.before.loop-i.i ≡ s.args.k = omega arith in
-    record { from = c.before.before.loop-i.invariant.1 ∙ ap (λ n. total (take n l)) e; to = refl }
+    let e : c.loop-i.i ≡ s.args.k = omega arith in
+    record { from = c.loop-i.invariant.1 ∙ ap (λ n. total (take n l)) e; to = refl }
 
 pub part_spec : {M : Type 1} → statement M
 part_spec =

@@ -6,26 +6,26 @@ use Rattle.calls_live.proofs.ask_step.Statement.{statement}
 use Rattle.calls_live.proofs.ask_step.Tie as tie
 
 returns : tie.Need-returns-in-Refused
-returns c s g = store_no _ s _ _ _ _ g.vars_are g.few _ c.before.before.ask_store-stored.ensures c.enum_told-1.given.1
+returns c s g = store_no _ s _ _ _ _ g.vars_are g.few _ c.ask_store-stored.ensures c.in-Refused.is
 
 returns_2 : tie.Need-returns-in-Refused-stated
-returns_2 c s g = state_no _ s _ _ _ _ g.vars_are g.few _ c.before.before.before.before.before.before.ask_store-stored.ensures c.before.before.before.before.enum_told-in_default-1.given.1 _ (c.before.before.ask_state-stated.ensures s g.asked) c.enum_told-in-Refused-stated-1.given.1
+returns_2 c s g = state_no _ s _ _ _ _ g.vars_are g.few _ c.ask_store-stored.ensures c.in_default.is _ (c.ask_state-stated.ensures s g.asked) c.in-Refused-stated.is
 
 returns_3 : tie.Need-returns-then-script-gt-MOST_TICKS
-returns_3 c s g = ticks_no _ s _ _ _ _ g.vars_are g.few _ c.before.before.before.before.before.before.before.before.ask_store-stored.ensures c.before.before.before.before.before.before.enum_told-in_default-1.given.1 _ (c.before.before.before.before.ask_state-stated.ensures s g.asked) c.before.before.enum_told-in_default-stated-1.given.1 c.if-script-gt-MOST_TICKS.true
+returns_3 c s g = ticks_no _ s _ _ _ _ g.vars_are g.few _ c.ask_store-stored.ensures c.in_default.is _ (c.ask_state-stated.ensures s g.asked) c.in_default-stated.is c.if-script-gt-MOST_TICKS.true
 
 returns-4 : tie.Need-returns
-returns-4 c s g = all_yes _ s _ _ _ _ g.vars_are g.few _ c.before.before.before.before.before.before.before.before.ask_store-stored.ensures c.before.before.before.before.before.before.enum_told-in_default-1.given.1 _ (c.before.before.before.before.ask_state-stated.ensures s g.asked) c.before.before.enum_told-in_default-stated-1.given.1 c.if-script-gt-MOST_TICKS.false
+returns-4 c s g = all_yes _ s _ _ _ _ g.vars_are g.few _ c.ask_store-stored.ensures c.in_default.is _ (c.ask_state-stated.ensures s g.asked) c.in_default-stated.is c.if-script-gt-MOST_TICKS.false
 
 pub ask_step_spec : {M : Type 1} → statement M
 ask_step_spec =
     tie.close
     (tie.spec
-    (λ c κs. let g = c.before.before.before.requires.1 in (g.few, search rules))
+    (λ c κs. let g = c.requires.1 in (g.few, search rules))
     (λ c. search rules)
     returns
     (λ c. search rules)
-    (λ c κs. let g = c.before.before.before.before.before.before.before.requires in (g.0, g.1.asked))
+    (λ c κs. let g = c.requires in (g.0, g.1.asked))
     (λ c. search rules)
     returns_2
     (λ c. search rules)

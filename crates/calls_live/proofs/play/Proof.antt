@@ -11,9 +11,9 @@ pub play_spec : {M : Type 1} → statement M
 play_spec =
     tie.close
     (tie.spec
-    (λ c κs. let g = c.before.before.before.before.requires in (at_pick g, g.runs.table.size, g.unused))
+    (λ c κs. let g = c.requires in (at_pick g, g.runs.table.size, g.unused))
     (λ c κs. search rules)
-    (λ c. stays_over c.before.before.before.before.before.before.before.requires _ c.before.before.ready-m.ensures _ (sym c.before.going.ensures ∙ not-true _ c.if-not-going.true-raw))
-    (λ c κs. may_go c.before.before.before.before.before.before.before.before.before.before.requires _ c.before.before.before.before.before.ready-m.ensures (sym c.before.before.before.before.going.ensures ∙ not-false _ c.before.before.before.if-not-going.false-raw))
+    (λ c. stays_over c.requires _ c.ready-m.ensures _ (sym c.going.ensures ∙ not-true _ c.if-not-going.true-raw))
+    (λ c κs. may_go c.requires _ c.ready-m.ensures (sym c.going.ensures ∙ not-false _ c.if-not-going.false-raw))
     (λ c. search rules) (λ c. search rules)
-    (λ c. goes_far c.before.before.before.before.before.before.before.before.before.before.before.before.before.before.requires _ c.before.before.before.before.before.before.before.before.before.ready-m.ensures (sym c.before.before.before.before.before.before.before.before.going.ensures ∙ not-false _ c.before.before.before.before.before.before.before.if-not-going.false-raw) _ _ _ _ _ (c.before.before.before.go_on.ensures.live refl)))
+    (λ c. goes_far c.requires _ c.ready-m.ensures (sym c.going.ensures ∙ not-false _ c.if-not-going.false-raw) _ _ _ _ _ (c.go_on.ensures.live refl)))

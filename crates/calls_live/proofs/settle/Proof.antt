@@ -10,7 +10,7 @@ settle_spec =
     tie.close
     (tie.spec
     (λ c κs. search rules)
-    (λ c. rw c.before.if-stop.true (settled_full _ _ _ _ c.smaller.ensures))
+    (λ c. rw c.if-stop.true (settled_full _ _ _ _ c.smaller.ensures))
     (λ c. search rules) (λ c κs. search rules) (λ c. search rules)
-    (λ c. settled_so c.before.before.before.before.if-stop.false c.before.before.status-1.given.1 c.settle_by.ensures)
-    (λ c. settled_so c.before.before.if-stop.false c.enum_told-1.given.1 (settled_going _ _)))
+    (λ c. settled_so c.if-stop.false c.in-Over.is c.settle_by.ensures)
+    (λ c. settled_so c.if-stop.false c.in-Going.is (settled_going _ _)))

@@ -10,7 +10,7 @@ settle_by_spec =
     tie.close
     (tie.spec
     (λ c. search rules) (λ c. search rules) (λ c κs. search rules) (λ c. search rules) (λ c. search rules)
-    (λ c. rw c.enum_told-1.given.1 (settled_spent _ _ _))
-    (λ c. rw c.before.enum_told-in-NoPick-1.given.1 (settled_waits _ _ _ _ c.smaller.ensures))
-    (λ c. rw c.enum_told-in-Ended-1.given.1 (settled_ended _ _ _))
-    (λ c. rw c.enum_told-in-Range-1.given.1 (settled_range _ _ _)))
+    (λ c. rw c.in-Spent.is (settled_spent _ _ _))
+    (λ c. rw c.in-NoPick.is (settled_waits _ _ _ _ c.smaller.ensures))
+    (λ c. rw c.in-Ended.is (settled_ended _ _ _))
+    (λ c. rw c.in-Range.is (settled_range _ _ _)))

@@ -19,37 +19,37 @@ full_ranges s = search rules
 
 -- what the analysis found of it
 found : (c : tie.After-figures_of-figures) → let s = c.before.before.before.before.before.before in FiguresFound s.args.prices.now (script s) s.args.script.count c.figures_of-figures.result c.figures_of-figures.ensures.0
-found c = let s = c.before.before.before.before.before.before in found_by _ _ _ _ s.requires.0 s.args.prices.now c.before.prices_of.ensures c.figures_of-figures.result _ c.figures_of-figures.ensures.1
+found c = let s = c.before.before.before.before.before.before in found_by _ _ _ _ s.requires.0 s.args.prices.now c.prices_of.ensures c.figures_of-figures.result _ c.figures_of-figures.ensures.1
 
 returns : tie.Need-returns-in-Refused
-returns c = let s = c.before.before.before.before.before.before.before.before.before in start_out s.args.prices.now (script s) _ _ _ (found c.before.before.before) _ _ c.before.enum_told-1.given.1 _ c.no_start.ensures
+returns c = let s = c.before.before.before.before.before.before.before.before in start_out s.args.prices.now (script s) _ _ _ (found c.before.before) _ _ c.in-Refused.is _ c.no_start.ensures
 
 returns_2 : tie.Need-returns-in-Refused-stored
 unfolding script_of
-returns_2 c = let s = c.before.before.before.before.before.before.before.before.before.before.before.before.before in stored_out s.args.prices.now (script s) _ _ _ (found c.before.before.before.before.before.before.before) _ _ c.before.before.before.before.before.enum_told-in_default-1.given.1 _ c.before.before.before.ask_store-stored.ensures c.before.enum_told-in-Refused-stored-1.given.1 _ c.no_start-in-Refused-stored.ensures
+returns_2 c = let s = c.before.before.before.before.before.before.before.before.before.before.before in stored_out s.args.prices.now (script s) _ _ _ (found c.before.before.before.before.before) _ _ c.in_default.is _ c.ask_store-stored.ensures c.in-Refused-stored.is _ c.no_start-in-Refused-stored.ensures
 
 returns_3 : tie.Need-returns-then-state-ne-STATE
 unfolding script_of
-returns_3 c = let s = c.before.before.before.before.before.before.before.before.before.before.before.before.before.before in size_out s.args.prices.now (script s) _ _ _ (found c.before.before.before.before.before.before.before.before) _ _ c.before.before.before.before.before.before.enum_told-in_default-1.given.1 _ c.before.before.before.before.ask_store-stored.ensures c.before.before.enum_told-in_default-stored-1.given.1 c.before.if-state-ne-STATE.true _ c.no_start-then-state-ne-STATE.ensures
+returns_3 c = let s = c.before.before.before.before.before.before.before.before.before.before.before.before in size_out s.args.prices.now (script s) _ _ _ (found c.before.before.before.before.before.before) _ _ c.in_default.is _ c.ask_store-stored.ensures c.in_default-stored.is c.if-state-ne-STATE.true _ c.no_start-then-state-ne-STATE.ensures
 
 returns-4 : tie.Need-returns
 unfolding script_of
-returns-4 c = let s = c.before.before.before.before.before.before.before.before.before.before.before.before.before.before.before.before.before in starts s.args.prices.now (script s) _ _ _ (found c.before.before.before.before.before.before.before.before.before.before.before) _ _ c.before.before.before.before.before.before.before.before.before.enum_told-in_default-1.given.1 _ c.before.before.before.before.before.before.before.ask_store-stored.ensures c.before.before.before.before.before.enum_told-in_default-stored-1.given.1 c.before.before.before.before.if-state-ne-STATE.false _ c.before.before.clear.ensures
+returns-4 c = let s = c.before.before.before.before.before.before.before.before.before.before.before.before.before.before.before in starts s.args.prices.now (script s) _ _ _ (found c.before.before.before.before.before.before.before.before.before) _ _ c.in_default.is _ c.ask_store-stored.ensures c.in_default-stored.is c.if-state-ne-STATE.false _ c.clear.ensures
 
 pub start_script_spec : {M : Type 1} → statement M
 start_script_spec =
     tie.close
     (tie.spec
-    (λ c κs. four _ c.before.before.before.before.requires.1)
+    (λ c κs. four _ c.requires.1)
     (λ c κs. let s = c.before.before.before.before.before in (s.requires.0, fine s.args.prices.now s.requires.1 c.prices_of.ensures))
     (λ c. search rules) (λ c κs. search rules)
     returns
     (λ c. search rules)
-    (λ c κs. (c.before.before.before.before.before.before.before.before.before.requires.0.few, full_ranges c.before.before.before.before.before.before.before.before.before))
+    (λ c κs. (c.requires.0.few, full_ranges c.before.before.before.before.before.before.before.before))
     (λ c. search rules) (λ c κs. search rules)
     returns_2
     (λ c. search rules) (λ c κs. search rules)
     returns_3
-    (λ c κs. c.before.if-state-ne-STATE.false)
+    (λ c κs. c.if-state-ne-STATE.false)
     (λ c. search rules)
     returns-4)

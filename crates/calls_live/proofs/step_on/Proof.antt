@@ -14,12 +14,12 @@ size s = sixty_four s.requires.1
 
 -- the counts of the loops
 counted : (c : tie.After-play-stop) → let s = c.before.before.before.before.before.before.before.before.before.before.before.before.before.before.before.before.before in Counted s.args.text.now s.args.rows.now s.args.script.count c.play-stop.new.1.1.1.1.1.1.0
-counted c = let g = c.before.before.before.before.before.before.before.before.before.before.before.before.before.before.before.before.before.requires.1 in record { size = g.runs.size; table = g.runs.table; room = c.play-stop.ensures.room }
+counted c = let g = c.requires.1 in record { size = g.runs.size; table = g.runs.table; room = c.play-stop.ensures.room }
 
 returns : tie.Need-returns
 returns c s g =
-    answers g _ c.before.before.before.before.before.before.before.before.before.before.before.before.before.before.before.before.before.before.before.before.counts_in-counts.ensures _ c.before.before.before.before.before.before.before.before.before.before.before.before.before.before.before.before.before.before.before.before.before.before.machine_in-from.ensures _ c.before.before.before.before.before.before.before.before.before.before.before.before.before.before.before.play-stop.result _ _ _ _ c.before.before.before.before.before.before.before.before.before.before.before.before.before.before.before.play-stop.ensures c.before.before.before.before.before.before.before.before.before.before.loops_of-listed.result
-    (c.before.before.before.before.before.before.before.before.before.before.loops_of-listed.ensures _ (counted c.before.before.before.before.before.before.before.before.before.before.before.before.before.before.before)) c.before.before.before.before.before.before.before.before.before.settle-rest.result c.before.before.before.before.before.before.before.before.before.settle-rest.ensures _ c.before.before.before.write_state.ensures (search rules)
+    answers g _ c.counts_in-counts.ensures _ c.machine_in-from.ensures _ c.play-stop.result _ _ _ _ c.play-stop.ensures c.loops_of-listed.result
+    (c.loops_of-listed.ensures _ (counted c.before.before.before.before.before.before.before.before.before.before.before.before.before.before.before)) c.settle-rest.result c.settle-rest.ensures _ c.write_state.ensures (search rules)
 
 pub step_on_spec : {M : Type 1} → statement M
 step_on_spec =
@@ -28,23 +28,23 @@ step_on_spec =
     (λ c. omega (arith, size c.before.before.before.before.before.before))
     (λ c. omega (arith, size c.before.before.before.before.before.before.before))
     (λ c. omega (arith, size c.before.before.before.before.before.before.before.before))
-    (λ c κs. machine_asks c.before.before.before.before.before.before.before.before.before.requires.1)
-    (λ c κs. counts_asks c.before.before.before.before.before.before.before.before.before.before.before.requires.1)
-    (λ c κs. may_play c.before.before.before.before.before.before.before.before.before.before.before.before.before.before.before.before.requires.1 _ c.before.before.before.before.counts_in-counts.ensures _ c.before.before.before.before.before.before.machine_in-from.ensures _)
+    (λ c κs. machine_asks c.requires.1)
+    (λ c κs. counts_asks c.requires.1)
+    (λ c κs. may_play c.requires.1 _ c.counts_in-counts.ensures _ c.machine_in-from.ensures _)
     (λ c κs. (_, counted c.before.before.before.before))
     (λ c κs. search rules)
-    (λ c. c.before.before.before.before.before.before.before.before.before.play-stop.ensures.left)
+    (λ c. c.play-stop.ensures.left)
     (λ c.
     let g = c.before.before.before.before.before.before.before.before.before.before.before.before.before.before.before.before.before.before.before.before.before.before.before.before.before.before.requires.1 in
-    let a = ticks_least g _ c.before.before.before.before.before.before.before.before.before.before.before.before.before.before.counts_in-counts.ensures _ c.before.before.before.before.before.before.before.before.before.before.before.before.before.before.before.before.machine_in-from.ensures _ c.before.before.before.before.before.before.before.before.before.play-stop.result _ _ _ _ c.before.before.before.before.before.before.before.before.before.play-stop.ensures in
+    let a = ticks_least g _ c.before.before.before.before.before.before.before.before.before.before.before.before.before.before.counts-in.ensures _ c.before.before.before.before.before.before.before.before.before.before.before.before.before.before.before.before.machine-in.ensures _ c.before.before.before.before.before.before.before.before.before.play.result _ _ _ _ c.before.before.before.before.before.before.before.before.before.play.ensures in
     omega (arith, (few_ticks g).0))
-    (λ c. let g = c.before.before.before.before.before.before.before.before.before.before.before.before.before.before.before.before.before.before.before.before.before.before.before.before.before.before.requires.1 in let k = c.before.before.before.before.before.before.before.before.before.before.before.before.before.before.before.before.before.before.before.before.before.before.before.before.before.before.well_formed.1.1.1.1.1.1.0 in omega (arith, (few_ticks g).1, c.before.before.before.before.before.before.before.before.before.play-stop.ensures.used))
+    (λ c. let g = c.requires.1 in let k = c.well_formed.1.1.1.1.1.1.0 in omega (arith, (few_ticks g).1, c.play-stop.ensures.used))
     (λ c κs.
     let g = c.before.before.before.before.before.before.before.before.before.before.before.before.before.before.before.before.before.before.before.before.before.before.before.before.before.before.before.before.requires.1 in (
       size c.before.before.before.before.before.before.before.before.before.before.before.before.before.before.before.before.before.before.before.before.before.before.before.before.before.before.before.before,
-      listed_few g _ c.before.before.before.before.before.before.before.before.before.before.before.before.before.before.before.before.counts_in-counts.ensures _ c.before.before.before.before.before.before.before.before.before.before.before.before.before.before.before.before.before.before.machine_in-from.ensures _ c.before.before.before.before.before.before.before.before.before.before.before.play-stop.result _ _ _ _ c.before.before.before.before.before.before.before.before.before.before.before.play-stop.ensures _ (c.before.before.before.before.before.before.loops_of-listed.ensures _ (counted c.before.before.before.before.before.before.before.before.before.before.before)),
+      listed_few g _ c.before.before.before.before.before.before.before.before.before.before.before.before.before.before.before.before.counts-in.ensures _ c.before.before.before.before.before.before.before.before.before.before.before.before.before.before.before.before.before.before.machine-in.ensures _ c.before.before.before.before.before.before.before.before.before.before.before.play.result _ _ _ _ c.before.before.before.before.before.before.before.before.before.before.before.play.ensures _ (c.before.before.before.before.before.before.loops-of.ensures _ (counted c.before.before.before.before.before.before.before.before.before.before.before)),
       g.asked.long,
-      c.before.before.before.before.before.before.before.before.before.before.before.play-stop.ensures.room.long,
+      c.before.before.before.before.before.before.before.before.before.before.before.play.ensures.room.long,
     ))
     (λ c. search rules) (λ c. search rules) (λ c. search rules)
     returns)

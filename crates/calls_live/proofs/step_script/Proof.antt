@@ -29,34 +29,34 @@ found c = let s = c.before.before.before.before.before.before.before.before.befo
 
 returns : tie.Need-returns-in-Refused
 returns c prices e =
-    let s = c.before.before.before.before.before.before.before.before.before.before.before.before.before.before.before in
-    no_step_as (judged_out prices (script s) _ _ _ (found_by _ _ _ _ s.requires.0 prices e _ _ (found c.before.before.before.before.before)) _ _ _ c.before.before.verdict-1.given.1) c.no_step.ensures
+    let s = c.before.before.before.before.before.before.before.before.before.before.before.before.before in
+    no_step_as (judged_out prices (script s) _ _ _ (found_by _ _ _ _ s.requires.0 prices e _ _ (found c.before.before.before)) _ _ _ c.in-Refused.is) c.no_step.ensures
 
 ask-step-requires : tie.Need-ask_step-asked-requires
-ask-step-requires c κs = let s = c.before.before.before.before.before.before.before.before.before.before.before.before.before.before.before.before in (script s, step_asked s.requires.0 (full_ranges s) s.requires.1 _ _ (found c.before.before.before.before.before.before) c.before.before.before.enum_told-1.given.1 s.args.turn.q)
+ask-step-requires c κs = let s = c.before.before.before.before.before.before.before.before.before.before.before.before.before.before.before.before in (script s, step_asked s.requires.0 (full_ranges s) s.requires.1 _ _ (found c.before.before.before.before.before) c.in_default.is s.args.turn.q)
 
 step-on-requires : tie.Need-step_on-requires
 step-on-requires c κs =
     let s = c.before.before.before.before.before.before.before.before.before.before.before.before.before.before.before.before.before.before.before.before.before.before.before in (
       script s,
-      step_ready s.requires.0 (full_ranges s) s.requires.1 _ _ (found c.before.before.before.before.before.before.before.before.before.before.before.before.before) c.before.before.before.before.before.before.before.before.before.before.enum_told-1.given.1 s.args.turn.q _ _
-          (sym (c.before.before.before.before.before.before.ask_step-asked.ensures (script s) (step_asked s.requires.0 (full_ranges s) s.requires.1 _ _ (found c.before.before.before.before.before.before.before.before.before.before.before.before.before) c.before.before.before.before.before.before.before.before.before.before.enum_told-1.given.1 s.args.turn.q)) ∙ c.before.before.before.before.enum_told-in-Passed-1.given.1),
+      step_ready s.requires.0 (full_ranges s) s.requires.1 _ _ (found c.before.before.before.before.before.before.before.before.before.before.before) c.in_default.is s.args.turn.q _ _
+          (sym (c.ask_step-asked.ensures (script s) (step_asked s.requires.0 (full_ranges s) s.requires.1 _ _ (found c.before.before.before.before.before.before.before.before.before.before.before) c.in_default.is s.args.turn.q)) ∙ c.in-Passed.is),
     )
 
 returns_2 : tie.Need-returns-in-Passed
 returns_2 c prices e =
     let s = c.before.before.before.before.before.before.before.before.before.before.before.before.before.before.before.before.before.before.before.before.before.before.before.before.before.before.before.before.before in
-    let z = c.before.before.before.before.before.before.before.before.before.before.before.before.before.before.before.before.enum_told-1.given.1 in
-    let a = c.before.before.before.before.before.before.before.before.before.before.before.before.ask_step-asked.ensures (script s) (step_asked s.requires.0 (full_ranges s) s.requires.1 _ _ (found c.before.before.before.before.before.before.before.before.before.before.before.before.before.before.before.before.before.before.before) z s.args.turn.q) in
-    step_as (asked_in prices (script s) _ _ _ (found_by _ _ _ _ s.requires.0 prices e _ _ (found c.before.before.before.before.before.before.before.before.before.before.before.before.before.before.before.before.before.before.before)) _ _ _ z _ e _ a c.before.before.before.before.before.before.before.before.before.before.enum_told-in-Passed-1.given.1)
-    (c.before.before.before.before.before.step_on.ensures (script s) (step_ready s.requires.0 (full_ranges s) s.requires.1 _ _ (found c.before.before.before.before.before.before.before.before.before.before.before.before.before.before.before.before.before.before.before) z s.args.turn.q _ _ (sym a ∙ c.before.before.before.before.before.before.before.before.before.before.enum_told-in-Passed-1.given.1)))
+    let z = c.in_default.is in
+    let a = c.ask_step-asked.ensures (script s) (step_asked s.requires.0 (full_ranges s) s.requires.1 _ _ (found c.before.before.before.before.before.before.before.before.before.before.before.before.before.before.before.before.before) z s.args.turn.q) in
+    step_as (asked_in prices (script s) _ _ _ (found_by _ _ _ _ s.requires.0 prices e _ _ (found c.before.before.before.before.before.before.before.before.before.before.before.before.before.before.before.before.before)) _ _ _ z _ e _ a c.in-Passed.is)
+    (c.step_on.ensures (script s) (step_ready s.requires.0 (full_ranges s) s.requires.1 _ _ (found c.before.before.before.before.before.before.before.before.before.before.before.before.before.before.before.before.before) z s.args.turn.q _ _ (sym a ∙ c.in-Passed.is)))
 
 returns_3 : tie.Need-returns-in-Refused-asked
 returns_3 c prices e =
     let s = c.before.before.before.before.before.before.before.before.before.before.before.before.before.before.before.before.before.before.before.before.before in
-    let z = c.before.before.before.before.before.before.before.before.enum_told-1.given.1 in
-    let a = c.before.before.before.before.ask_step-asked.ensures (script s) (step_asked s.requires.0 (full_ranges s) s.requires.1 _ _ (found c.before.before.before.before.before.before.before.before.before.before.before) z s.args.turn.q) in
-    no_step_as (asked_out prices (script s) _ _ _ (found_by _ _ _ _ s.requires.0 prices e _ _ (found c.before.before.before.before.before.before.before.before.before.before.before)) _ _ _ z _ e _ a c.before.before.asked-1.given.1) c.no_step-in-Refused-asked.ensures
+    let z = c.in_default.is in
+    let a = c.ask_step-asked.ensures (script s) (step_asked s.requires.0 (full_ranges s) s.requires.1 _ _ (found c.before.before.before.before.before.before.before.before) z s.args.turn.q) in
+    no_step_as (asked_out prices (script s) _ _ _ (found_by _ _ _ _ s.requires.0 prices e _ _ (found c.before.before.before.before.before.before.before.before)) _ _ _ z _ e _ a c.in-Refused-asked.is) c.no_step-in-Refused-asked.ensures
 
 pub step_script_spec : {M : Type 1} → statement M
 step_script_spec =

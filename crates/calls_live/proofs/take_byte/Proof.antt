@@ -10,10 +10,10 @@ pub take_byte_spec : {M : Type 1} → statement M
 take_byte_spec =
     tie.close
     (tie.spec
-    (λ c. no_byte _ _ _ c.if-picks-eq0.true c.before.before.before.requires.2)
-    (λ c κs. let p = c.before.before.before.requires in omega (arith, p.0.row, p.1))
-    (λ c. let p = c.before.before.before.before.requires in omega (arith, p.0.partner, c.partner_at-other.ensures))
-    (λ c. omega (arith, c.before.before.if-picks-eq0.false))
-    (λ c. let p = c.before.before.before.before.before.requires in omega (arith, p.0.row))
+    (λ c. no_byte _ _ _ c.if-picks-eq0.true c.requires.2)
+    (λ c κs. let p = c.requires in omega (arith, p.0.row, p.1))
+    (λ c. let p = c.requires in omega (arith, p.0.partner, c.partner_at-other.ensures))
+    (λ c. omega (arith, c.if-picks-eq0.false))
+    (λ c. let p = c.requires in omega (arith, p.0.row))
     (λ c κs. search rules)
-    (λ c. one_byte _ _ _ c.before.before.before.if-picks-eq0.false _ (rw (sym c.before.before.partner_at-other.ensures) c.branch-picks.ensures)))
+    (λ c. one_byte _ _ _ c.if-picks-eq0.false _ (rw (sym c.partner_at-other.ensures) c.branch-picks.ensures)))

@@ -14,7 +14,7 @@ use Rattle.calls_scripts.proofs.enter.Tie as tie
 ask-script-requires : tie.Need-ask_script-requires
 ask-script-requires c κs =
     let s = c.before.before.before.before.before.before.before.before.before.before.before in
-    (file_given s.args.prices.now s.args.file.now _ _ _ c.before.before.before.before.before.load-l.ensures c.before.enum_told-1.given.1, s.requires.0)
+    (file_given s.args.prices.now s.args.file.now _ _ _ c.load-l.ensures c.in-Passed.is, s.requires.0)
 
 returns : tie.Need-returns-in-Passed
 returns c =
@@ -22,8 +22,8 @@ returns c =
     let prices = s.args.prices.now in
     let file = s.args.file.now in
     let store = s.args.store.now in
-    let l = c.before.before.before.before.before.before.load-l in
-    let z = c.before.before.enum_told-1.given.1 in
+    let l = c.load-l in
+    let z = c.in-Passed.is in
     let g = file_given prices file _ _ _ l.ensures z in
     let r = file_read prices file _ _ _ l.ensures z in
     record {
@@ -33,8 +33,8 @@ returns c =
 
 returns_2 : tie.Need-returns-in-Refused
 returns_2 c =
-    let s = c.before.before.before.before.before.before.before.before.before.before.before in
-    let r = file_refused s.args.prices.now s.args.file.now _ _ _ c.before.before.before.before.before.load-l.ensures c.before.first-1.given.1 in
+    let s = c.before.before.before.before.before.before.before.before.before in
+    let r = file_refused s.args.prices.now s.args.file.now _ _ _ c.load-l.ensures c.in-Refused.is in
     record { verdict = ap (λ j. admitted j s.args.store.now) (sym r); held = λ script e. absurd (let z : ◌≡◌ {A = ℕ} 0 1 = cc (sym r ∙ e) in omega arith) }
 
 pub enter_spec : {M : Type 1} → statement M

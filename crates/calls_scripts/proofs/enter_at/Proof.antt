@@ -8,7 +8,7 @@ use Rattle.calls_scripts.proofs.enter_at.Tie as tie
 returns : tie.Need-returns
 returns c =
     let s = c.before.before.before.before.before.before.before.before.before.before.before.before in
-    let e = c.before.before.enter in
+    let e = c.enter in
     record {
       table = e.new.1.1.1.0;
       wrote = record { size = e.auto.1.1.1.0 ∙ slice_length s.args.tables.now s.args.places.table s.requires.table; all = refl };

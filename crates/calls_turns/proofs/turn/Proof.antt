@@ -8,7 +8,7 @@ use Rattle.calls_turns.proofs.turn.Tie as tie
 returns : tie.Need-returns
 returns c =
     let s = c.before.before.before.before.before.before.before.before.before.before.before.before.before.before.before in
-    let e = c.before.resume in
+    let e = c.resume in
     record {
       store = e.new.1.1.1.1.1.0;
       wrote = record { size = e.auto.1.1.1.1.1.0 ∙ slice_length s.args.stores.now s.args.script.places.store s.requires.store; all = refl };

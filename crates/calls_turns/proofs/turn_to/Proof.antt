@@ -5,7 +5,7 @@ use Rattle.calls_turns.proofs.turn_to.Statement.{statement}
 use Rattle.calls_turns.proofs.turn_to.Tie as tie
 
 returns : tie.Need-returns
-returns c = rw (c.either-waits.ensures, c.before.waiting.ensures) refl
+returns c = rw (c.either-waits.ensures, c.waiting.ensures) refl
 
 pub turn_to_spec : {M : Type 1} → statement M
 turn_to_spec = tie.close (tie.spec (λ c. search rules) (λ c. search rules) (λ c. search rules) (λ c. search rules) (λ c κs. search rules) (λ c κs. search rules) returns)

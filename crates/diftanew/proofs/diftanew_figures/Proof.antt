@@ -13,14 +13,14 @@ judged s = judgement s.args.prices.now s.args.scratch.now s.args.file.now
 figures-numbers-requires : tie.Need-figures_numbers-n-requires
 figures-numbers-requires c κs =
     let s = c.before.before.before.before.before.before.before.before in
-    let f = c.before.before.figures-f in
+    let f = c.figures-f in
     (few s.args.prices.now _ f.result (judged s) f.ensures.0, sevens s.args.prices.now _ f.result (judged s) f.ensures.0)
 
 returns : tie.Need-returns
 returns c =
     let s = c.before.before.before.before.before.before.before.before.before.before in
-    let f = c.before.before.before.before.figures-f in
-    (figured s.args.prices.now _ f.result (judged s) f.ensures.0 c.verdict_number.ensures c.before.figures_numbers-n.ensures, f.ensures.1)
+    let f = c.figures-f in
+    (figured s.args.prices.now _ f.result (judged s) f.ensures.0 c.verdict_number.ensures c.figures_numbers-n.ensures, f.ensures.1)
 
 pub diftanew_figures_spec : {M : Type 1} → statement M
 diftanew_figures_spec =

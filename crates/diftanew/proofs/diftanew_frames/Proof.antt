@@ -5,8 +5,8 @@ use Rattle.diftanew.proofs.diftanew_frames.Tie as tie
 
 returns : tie.Need-returns
 returns c =
-    let e = c.before.before.before.before.before.frames-f in
-    (record { frames = e.result; framed = e.ensures.0; number = c.verdict_number.ensures; numbers = c.before.frames_numbers-n.ensures }, e.ensures.1)
+    let e = c.frames-f in
+    (record { frames = e.result; framed = e.ensures.0; number = c.verdict_number.ensures; numbers = c.frames_numbers-n.ensures }, e.ensures.1)
 
 pub diftanew_frames_spec : {M : Type 1} → statement M
 diftanew_frames_spec =

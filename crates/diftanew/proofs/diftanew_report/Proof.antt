@@ -6,10 +6,10 @@ use Rattle.diftanew.proofs.diftanew_report.Statement.{statement}
 use Rattle.diftanew.proofs.diftanew_report.Tie as tie
 
 returns : tie.Need-returns-in-Accepted
-returns c = let e = c.before.before.before.before.before.before.before.report-r.ensures in (record { reply = c.before.before.before.before.before.before.before.report-r.result; reported = e.0; number = ap reply_number (sym c.before.r-1.given.1); place = ap reply_place (sym c.before.r-1.given.1) }, e.1)
+returns c = let e = c.report-r.ensures in (record { reply = c.report-r.result; reported = e.0; number = ap reply_number (sym c.in-Accepted.is); place = ap reply_place (sym c.in-Accepted.is) }, e.1)
 
 returns_2 : tie.Need-returns-in-Refused
-returns_2 c = let e = c.before.before.before.before.before.before.before.report-r.ensures in (record { reply = c.before.before.before.before.before.before.before.report-r.result; reported = e.0; number = ap reply_number (sym c.before.r-in-Refused-1.given.1); place = ap reply_place (sym c.before.r-in-Refused-1.given.1) }, e.1)
+returns_2 c = let e = c.report-r.ensures in (record { reply = c.report-r.result; reported = e.0; number = ap reply_number (sym c.in-Refused.is); place = ap reply_place (sym c.in-Refused.is) }, e.1)
 
 pub diftanew_report_spec : {M : Type 1} → statement M
 diftanew_report_spec =

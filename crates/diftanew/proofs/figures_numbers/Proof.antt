@@ -26,26 +26,26 @@ loop_holds c = (omega arith, lined_none _ _ _ refl refl)
 
 put-line-requires : tie.Need-put_line-requires invariant-loop-k decreases-loop-k
 put-line-requires c κs =
-    let l = c.before.before.before.loop-k in
-    let i = c.before.before.loop-k-test.true in
-    let m = c.before.before.before.before.before.requires.0 in
+    let l = c.loop-k in
+    let i = c.loop-k-test.true in
+    let m = c.requires.0 in
     (omega (arith, i, m), lined_length _ _ l.k l.a (omega (arith, m)) l.invariant.1)
 
 loop_again : tie.Need-loop-k-preserved invariant-loop-k decreases-loop-k
 loop_again c =
-    let l = c.before.before.before.before.loop-k in
-    let i = c.before.before.before.loop-k-test.true in
-    let m = c.before.before.before.before.before.before.requires.0 in
-    let s = c.before.before.before.before.before.before.args in
+    let l = c.loop-k in
+    let i = c.loop-k-test.true in
+    let m = c.requires.0 in
+    let s = c.args in
     let long : length s.t2 ≡ 16 = search rules in
-    (omega (arith, i), rw c.put_line.ensures (lined_more _ _ l.k l.a (omega (arith, i, m)) (omega (arith, i, m)) (c.before.before.before.before.before.before.requires.1 l.k i) l.invariant.1))
+    (omega (arith, i), rw c.put_line.ensures (lined_more _ _ l.k l.a (omega (arith, i, m)) (omega (arith, i, m)) (c.requires.1 l.k i) l.invariant.1))
 
 returns : tie.Need-returns invariant-loop-k decreases-loop-k
 returns c =
-    let l = c.before.loop-k in
+    let l = c.loop-k in
     let s = c.before.before.before in
     lined_all _ _ l.k s.args.f.loops l.a (omega (arith, c.loop-k-test.false, l.invariant.0)) (omega (arith, s.requires.0)) l.invariant.1
-    ∙ ap (λ z. filled 115 (z ∷ s.args.f.vars ∷ s.args.f.loops ∷ in_a_row (take s.args.f.loops s.args.t2))) c.before.before.or_place.ensures
+    ∙ ap (λ z. filled 115 (z ∷ s.args.f.vars ∷ s.args.f.loops ∷ in_a_row (take s.args.f.loops s.args.t2))) c.or_place.ensures
 
 pub figures_numbers_spec : {M : Type 1} → statement M
 figures_numbers_spec =

@@ -23,11 +23,11 @@ loop_holds : tie.Need-loop-i-init invariant-loop-i decreases-loop-i
 loop_holds c = (omega arith, c.requires.1, paste-zero c.args.answer.now c.args.at c.args.t1)
 
 element-write-answer : tie.Need-bounds-answer-at invariant-loop-i decreases-loop-i
-element-write-answer c = omega (arith, c.before.before.requires.0)
+element-write-answer c = omega (arith, c.requires.0)
 
 loop_again : tie.Need-loop-i-preserved invariant-loop-i decreases-loop-i
 loop_again c =
-    let l = c.before.loop-i in
+    let l = c.loop-i in
     let s = c.before.before in (
       omega (arith, c.loop-i-test.true),
       l.invariant.1,
@@ -38,7 +38,7 @@ loop_again c =
 
 returns : tie.Need-returns invariant-loop-i decreases-loop-i
 returns c =
-    let l = c.before.loop-i in
+    let l = c.loop-i in
     let s = c.before.before in
     let e : l.i ≡ 7 = omega (arith, c.loop-i-test.false, l.invariant.0) in
     l.invariant.2 ∙ ap (paste s.args.answer.now s.args.at s.args.t1) e

@@ -19,25 +19,25 @@ unfolding loop_numbers
 loop_holds c = (omega arith, refl)
 
 array-copy-out-c : tie.Need-bounds-counts-k invariant-loop-k decreases-loop-k
-array-copy-out-c c = let h = c.before.before.before.at_most_16-n.ensures in search rules
+array-copy-out-c c = let h = c.at_most_16-n.ensures in search rules
 
 array-write-a-9 : tie.Need-bounds-a-k invariant-loop-k decreases-loop-k
-array-write-a-9 c = let h = c.before.before.before.before.at_most_16-n.ensures in search rules
+array-write-a-9 c = let h = c.at_most_16-n.ensures in search rules
 
 array-write-a-10 : tie.Need-bounds-a-k-in-loop-k invariant-loop-k decreases-loop-k
-array-write-a-10 c = let h = c.before.before.before.before.at_most_16-n.ensures in search rules
+array-write-a-10 c = let h = c.at_most_16-n.ensures in search rules
 
 array-write-a-11 : tie.Need-bounds-a-k-in-loop-k-2 invariant-loop-k decreases-loop-k
-array-write-a-11 c = let h = c.before.before.before.before.at_most_16-n.ensures in search rules
+array-write-a-11 c = let h = c.at_most_16-n.ensures in search rules
 
 loop_again : tie.Need-loop-k-preserved invariant-loop-k decreases-loop-k
 unfolding loop_numbers
-loop_again c = (omega (arith, c.before.loop-k-test.true), rw (add-one, c.before.before.loop-k.invariant.1) refl)
+loop_again c = (omega (arith, c.loop-k-test.true), rw (add-one, c.loop-k.invariant.1) refl)
 
 returns : tie.Need-returns invariant-loop-k decreases-loop-k
 unfolding step_numbers step_head
-returns c = let e : c.before.loop-k.k ≡ min c.before.before.before.before.before.args.s.loops 16 = omega (arith, c.loop-k-test.false, c.before.loop-k.invariant.0, c.before.before.before.at_most_16-n.ensures) in
-    rw (← c.before.before.or_place.ensures, ← e) c.before.loop-k.invariant.1
+returns c = let e : c.loop-k.k ≡ min c.args.s.loops 16 = omega (arith, c.loop-k-test.false, c.loop-k.invariant.0, c.at_most_16-n.ensures) in
+    rw (← c.or_place.ensures, ← e) c.loop-k.invariant.1
 
 pub step_numbers_spec : {M : Type 1} → statement M
 step_numbers_spec =

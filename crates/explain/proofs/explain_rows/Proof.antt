@@ -5,14 +5,14 @@ use Rattle.explain.proofs.explain_rows.Tie as tie
 
 analyse-requires : tie.Need-analyse-found-requires
 analyse-requires c κs =
-    let p = c.before.before.before.before.requires in
+    let p = c.requires in
     ((_, (p.legal, p.blank)), p.rows, p.held, p.prices, search rules, p.short, p.written)
 
 put-lines-requires : tie.Need-put_lines-requires
 put-lines-requires c κs =
-    let s = c.before.before.before.before.before.before.before.before.before.before in
-    let z = c.before.before.enum_told-1.given.1 in
-    let k = (c.before.before.before.before.before.analyse-found.ensures s.args.vars (s.requires.legal, s.requires.blank)).0 in
+    let s = c.before.before.before.before.before.before.before.before.before in
+    let z = c.in_default.is in
+    let k = (c.analyse-found.ensures s.args.vars (s.requires.legal, s.requires.blank)).0 in
     (k.loops z, k.long z, search rules)
 
 pub explain_rows_spec : {M : Type 1} → statement M

@@ -5,7 +5,7 @@ use Rattle.explain.proofs.explain_script.Statement.{statement}
 use Rattle.explain.proofs.explain_script.Tie as tie
 
 prices-of-requires : tie.Need-prices_of-by_kind-requires
-prices-of-requires c κs = four _ c.before.before.before.requires.1
+prices-of-requires c κs = four _ c.requires.1
 
 explain-rows-requires : tie.Need-explain_rows-requires
 explain-rows-requires c κs =

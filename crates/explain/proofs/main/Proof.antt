@@ -7,7 +7,7 @@ use Rattle.explain.proofs.main.Statement.{statement}
 use Rattle.explain.proofs.main.Tie as tie
 
 slice-aggregate-explain-words : tie.Need-slice_bounds-explain_words-end
-slice-aggregate-explain-words c = sym (length-take-le _ _ (omega (arith, c.before.before.before.read_prices-read.ensures)))
+slice-aggregate-explain-words c = sym (length-take-le _ _ (omega (arith, c.read_prices-read.ensures)))
 
 pub main_spec : {M : Type 1} → statement M
 main_spec = tie.close (tie.spec (λ c κs. search rules) (λ c κs. search rules) (λ c κs. search rules) (λ c. search rules) (λ c. search rules) (λ c κs. search rules) (λ c. search rules) slice-aggregate-explain-words (λ c κs. search rules) (λ c. search rules) (λ c. search rules))

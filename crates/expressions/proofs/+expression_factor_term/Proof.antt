@@ -81,47 +81,47 @@ abbrev term-μ : term-lts.decreases-loop
 term-μ text at los his got₀ op₀ from₀ got op from = length text - from
 
 expression_term_requires : (t : ℕ) → expression-lts.Need-term-requires (expression_given t) (expression_at t) expression.Post expression_inv expression-μ
-expression_term_requires t c κs = let p = c.before.before.requires.0 in (omega (arith, p, c.loop-got.invariant.from), search rules)
+expression_term_requires t c κs = let p = c.before.before.requires.0 in (omega (arith, p, c.loop.invariant.from), search rules)
 
 expression_returns : (t : ℕ) → expression-lts.Need-returns (expression_given t) (expression_at t) expression.Post expression_inv expression-μ
-expression_returns t c = stops _ _ _ _ _ _ _ (reads _ _ _ _ _ _ _ c.before.before.before.loop-got.invariant c.before.before.term-part.ensures c.before.joined-got.ensures) (end_term _ _ c.if-next-text.true)
+expression_returns t c = stops _ _ _ _ _ _ _ (reads _ _ _ _ _ _ _ c.before.before.before.loop.invariant c.before.before.term.ensures c.before.joined.ensures) (end_term _ _ c.if1.true)
 
 expression_loop_less : (t : ℕ) → expression-lts.Need-loop-smaller (expression_given t) (expression_at t) expression.Post expression_inv expression-μ
-expression_loop_less t c = let i = c.before.before.before.before.before.term-part.ensures.from in omega (arith, i, c.before.before.before.before.joined-got.ensures.1, c.before.before.before.if-next-text.false)
+expression_loop_less t c = let i = c.before.before.before.before.before.term.ensures.from in omega (arith, i, c.before.before.before.before.joined.ensures.1, c.before.before.before.if1.false)
 
 expression_loop_again : (t : ℕ) → expression-lts.Need-loop-preserved (expression_given t) (expression_at t) expression.Post expression_inv expression-μ
-expression_loop_again t c = let s = sym c.before.sums.ensures ∙ c.if-text-next-ne42.true in rw add-one (goes _ _ _ _ _ _ _ (reads _ _ _ _ _ _ _ c.before.before.before.before.before.before.loop-got.invariant c.before.before.before.before.before.term-part.ensures c.before.before.before.before.joined-got.ensures) _ (sums_later _ s) (more_term _ _ c.before.before.before.if-next-text.false s))
+expression_loop_again t c = let s = sym c.before.sums.ensures ∙ c.if2.true in rw add-one (goes _ _ _ _ _ _ _ (reads _ _ _ _ _ _ _ c.before.before.before.before.before.before.loop.invariant c.before.before.before.before.before.term.ensures c.before.before.before.before.joined.ensures) _ (sums_later _ s) (more_term _ _ c.before.before.before.if1.false s))
 
 expression_returns_2 : (t : ℕ) → expression-lts.Need-returns-2 (expression_given t) (expression_at t) expression.Post expression_inv expression-μ
-expression_returns_2 t c = stops _ _ _ _ _ _ _ (reads _ _ _ _ _ _ _ c.before.before.before.before.before.before.loop-got.invariant c.before.before.before.before.before.term-part.ensures c.before.before.before.before.joined-got.ensures) (no_term _ _ c.before.before.before.if-next-text.false (sym c.before.sums.ensures ∙ c.if-text-next-ne42.false))
+expression_returns_2 t c = stops _ _ _ _ _ _ _ (reads _ _ _ _ _ _ _ c.before.before.before.before.before.before.loop.invariant c.before.before.before.before.before.term.ensures c.before.before.before.before.joined.ensures) (no_term _ _ c.before.before.before.if1.false (sym c.before.sums.ensures ∙ c.if2.false))
 
 factor_expression_requires : (t : ℕ) → factor-lts.Need-expression-requires (factor_given t) (factor_at t) factor.Post
-factor_expression_requires t c κs = let p = c.before.before.before.before.requires.0 in (omega (arith, p, c.before.before.if-next-text.true), search rules)
+factor_expression_requires t c κs = let p = c.before.before.before.before.requires.0 in (omega (arith, p, c.before.before.if1.true), search rules)
 
 factor_returns : (t : ℕ) → factor-lts.Need-returns (factor_given t) (factor_at t) factor.Post
 factor_returns t c =
-    let f0 : SFits w32 c.before.before.expression-got.result.lo = search rules in
-    let f1 : SFits w32 c.before.before.expression-got.result.hi = search rules in
-    rw (to_z-of_z f0, to_z-of_z f1, c.before.shut.ensures) (factor_group _ _ _ _ c.before.before.before.before.before.if-next-text.true c.before.before.before.if-text-next-ne42.true (rw add-one at c.before.before.expression-got.ensures))
+    let f0 : SFits w32 c.before.before.expression.result.lo = search rules in
+    let f1 : SFits w32 c.before.before.expression.result.hi = search rules in
+    rw (to_z-of_z f0, to_z-of_z f1, c.before.shut.ensures) (factor_group _ _ _ _ c.before.before.before.before.before.if1.true c.before.before.before.if2.true (rw add-one at c.before.before.expression.ensures))
 
 factor_returns_2 : (t : ℕ) → factor-lts.Need-returns-2 (factor_given t) (factor_at t) factor.Post
-factor_returns_2 t c = factor_atom _ _ _ _ (⊎_elim (λ w l e. w.2.left e) (λ w l e. absurd (omega (arith, l, w.left))) c.before.if-next-text.branch) c.operand.ensures
+factor_returns_2 t c = factor_atom _ _ _ _ (⊎_elim (λ w l e. w.2.left e) (λ w l e. absurd (omega (arith, l, w.left))) c.before.if1.branch) c.operand.ensures
 
 term_factor_requires : (t : ℕ) → term-lts.Need-factor-requires (term_given t) (term_at t) term.Post term_inv term-μ
-term_factor_requires t c κs = let p = c.before.before.requires.0 in (omega (arith, p, c.loop-got.invariant.from), search rules)
+term_factor_requires t c κs = let p = c.before.before.requires.0 in (omega (arith, p, c.loop.invariant.from), search rules)
 
 term_returns : (t : ℕ) → term-lts.Need-returns (term_given t) (term_at t) term.Post term_inv term-μ
-term_returns t c = stops _ _ _ _ _ _ _ (reads _ _ _ _ _ _ _ c.before.before.before.loop-got.invariant c.before.before.factor-part.ensures c.before.joined-got.ensures) (end_factor _ _ c.if-next-text.true)
+term_returns t c = stops _ _ _ _ _ _ _ (reads _ _ _ _ _ _ _ c.before.before.before.loop.invariant c.before.before.factor.ensures c.before.joined.ensures) (end_factor _ _ c.if1.true)
 
 term_returns_2 : (t : ℕ) → term-lts.Need-returns-2 (term_given t) (term_at t) term.Post term_inv term-μ
-term_returns_2 t c = stops _ _ _ _ _ _ _ (reads _ _ _ _ _ _ _ c.before.before.before.before.before.loop-got.invariant c.before.before.before.before.factor-part.ensures c.before.before.before.joined-got.ensures) (no_factor _ _ c.before.before.if-next-text.false c.if-text-next-ne42.true)
+term_returns_2 t c = stops _ _ _ _ _ _ _ (reads _ _ _ _ _ _ _ c.before.before.before.before.before.loop.invariant c.before.before.before.before.factor.ensures c.before.before.before.joined.ensures) (no_factor _ _ c.before.before.if1.false c.if2.true)
 
 term_loop_less : (t : ℕ) → term-lts.Need-loop-smaller (term_given t) (term_at t) term.Post term_inv term-μ
-term_loop_less t c = let i = c.before.before.before.before.factor-part.ensures.from in omega (arith, i, c.before.before.before.joined-got.ensures.1, c.before.before.if-next-text.false)
+term_loop_less t c = let i = c.before.before.before.before.factor.ensures.from in omega (arith, i, c.before.before.before.joined.ensures.1, c.before.before.if1.false)
 
 term_loop_again : (t : ℕ) → term-lts.Need-loop-preserved (term_given t) (term_at t) term.Post term_inv term-μ
 unfolding operator_of
-term_loop_again t c = rw add-one (goes _ _ _ _ _ _ _ (reads _ _ _ _ _ _ _ c.before.before.before.before.before.loop-got.invariant c.before.before.before.before.factor-part.ensures c.before.before.before.joined-got.ensures) 42 refl (more_factor _ _ c.before.before.if-next-text.false c.if-text-next-ne42.false))
+term_loop_again t c = rw add-one (goes _ _ _ _ _ _ _ (reads _ _ _ _ _ _ _ c.before.before.before.before.before.loop.invariant c.before.before.before.before.factor.ensures c.before.before.before.joined.ensures) 42 refl (more_factor _ _ c.before.before.if1.false c.if2.false))
 
 pub +expression-factor-term-spec : {M : Type 1} → statement M
 +expression-factor-term-spec = close μ-expression μ-factor μ-term

@@ -82,46 +82,46 @@ abbrev term_run-μ : term-run-lts.decreases-loop
 term_run-μ text at store got₀ op₀ from₀ got op from = length text - from
 
 expression_run_term_run_requires : (t : ℕ) → expression-run-lts.Need-term-run-requires (expression_run_given t) (expression_run_at t) expression-run.Post expression_run_inv expression_run-μ
-expression_run_term_run_requires t c κs = let p = c.before.before.requires.0 in (omega (arith, p, c.loop-got.invariant.from), search rules)
+expression_run_term_run_requires t c κs = let p = c.before.before.requires.0 in (omega (arith, p, c.loop.invariant.from), search rules)
 
 expression_run_returns : (t : ℕ) → expression-run-lts.Need-returns (expression_run_given t) (expression_run_at t) expression-run.Post expression_run_inv expression_run-μ
-expression_run_returns t c = stops _ _ _ _ _ _ _ (reads _ _ _ _ _ _ _ c.before.before.before.loop-got.invariant c.before.before.term_run-part.ensures c.before.joined_run-got.ensures) (end_term _ _ c.if-next-text.true)
+expression_run_returns t c = stops _ _ _ _ _ _ _ (reads _ _ _ _ _ _ _ c.before.before.before.loop.invariant c.before.before.term-run.ensures c.before.joined-run.ensures) (end_term _ _ c.if1.true)
 
 expression_run_loop_less : (t : ℕ) → expression-run-lts.Need-loop-smaller (expression_run_given t) (expression_run_at t) expression-run.Post expression_run_inv expression_run-μ
-expression_run_loop_less t c = let i = c.before.before.before.before.before.term_run-part.ensures.from in omega (arith, i, c.before.before.before.before.joined_run-got.ensures.1, c.before.before.before.if-next-text.false)
+expression_run_loop_less t c = let i = c.before.before.before.before.before.term-run.ensures.from in omega (arith, i, c.before.before.before.before.joined-run.ensures.1, c.before.before.before.if1.false)
 
 expression_run_loop_again : (t : ℕ) → expression-run-lts.Need-loop-preserved (expression_run_given t) (expression_run_at t) expression-run.Post expression_run_inv expression_run-μ
-expression_run_loop_again t c = let s = sym c.before.sums.ensures ∙ c.if-text-next-ne42.true in rw add-one (goes _ _ _ _ _ _ _ (reads _ _ _ _ _ _ _ c.before.before.before.before.before.before.loop-got.invariant c.before.before.before.before.before.term_run-part.ensures c.before.before.before.before.joined_run-got.ensures) _ (sums_later _ s) (more_term _ _ c.before.before.before.if-next-text.false s))
+expression_run_loop_again t c = let s = sym c.before.sums.ensures ∙ c.if2.true in rw add-one (goes _ _ _ _ _ _ _ (reads _ _ _ _ _ _ _ c.before.before.before.before.before.before.loop.invariant c.before.before.before.before.before.term-run.ensures c.before.before.before.before.joined-run.ensures) _ (sums_later _ s) (more_term _ _ c.before.before.before.if1.false s))
 
 expression_run_returns_2 : (t : ℕ) → expression-run-lts.Need-returns-2 (expression_run_given t) (expression_run_at t) expression-run.Post expression_run_inv expression_run-μ
-expression_run_returns_2 t c = stops _ _ _ _ _ _ _ (reads _ _ _ _ _ _ _ c.before.before.before.before.before.before.loop-got.invariant c.before.before.before.before.before.term_run-part.ensures c.before.before.before.before.joined_run-got.ensures) (no_term _ _ c.before.before.before.if-next-text.false (sym c.before.sums.ensures ∙ c.if-text-next-ne42.false))
+expression_run_returns_2 t c = stops _ _ _ _ _ _ _ (reads _ _ _ _ _ _ _ c.before.before.before.before.before.before.loop.invariant c.before.before.before.before.before.term-run.ensures c.before.before.before.before.joined-run.ensures) (no_term _ _ c.before.before.before.if1.false (sym c.before.sums.ensures ∙ c.if2.false))
 
 factor_run_expression_run_requires : (t : ℕ) → factor-run-lts.Need-expression-run-requires (factor_run_given t) (factor_run_at t) factor-run.Post
-factor_run_expression_run_requires t c κs = let p = c.before.before.before.before.requires.0 in (omega (arith, p, c.before.before.if-next-text.true), search rules)
+factor_run_expression_run_requires t c κs = let p = c.before.before.before.before.requires.0 in (omega (arith, p, c.before.before.if1.true), search rules)
 
 factor_run_returns : (t : ℕ) → factor-run-lts.Need-returns (factor_run_given t) (factor_run_at t) factor-run.Post
 factor_run_returns t c =
-    let f0 : SFits w32 c.before.before.expression_run-got.result.number = search rules in
-    rw (to_z-of_z f0, c.before.shut.ensures) (factor_group _ _ _ _ c.before.before.before.before.before.if-next-text.true c.before.before.before.if-text-next-ne42.true (rw add-one at c.before.before.expression_run-got.ensures))
+    let f0 : SFits w32 c.before.before.expression-run.result.number = search rules in
+    rw (to_z-of_z f0, c.before.shut.ensures) (factor_group _ _ _ _ c.before.before.before.before.before.if1.true c.before.before.before.if2.true (rw add-one at c.before.before.expression-run.ensures))
 
 factor_run_returns_2 : (t : ℕ) → factor-run-lts.Need-returns-2 (factor_run_given t) (factor_run_at t) factor-run.Post
-factor_run_returns_2 t c = factor_atom _ _ _ _ (⊎_elim (λ w l e. w.2.left e) (λ w l e. absurd (omega (arith, l, w.left))) c.before.if-next-text.branch) c.operand_run.ensures
+factor_run_returns_2 t c = factor_atom _ _ _ _ (⊎_elim (λ w l e. w.2.left e) (λ w l e. absurd (omega (arith, l, w.left))) c.before.if1.branch) c.operand-run.ensures
 
 term_run_factor_run_requires : (t : ℕ) → term-run-lts.Need-factor-run-requires (term_run_given t) (term_run_at t) term-run.Post term_run_inv term_run-μ
-term_run_factor_run_requires t c κs = let p = c.before.before.requires.0 in (omega (arith, p, c.loop-got.invariant.from), search rules)
+term_run_factor_run_requires t c κs = let p = c.before.before.requires.0 in (omega (arith, p, c.loop.invariant.from), search rules)
 
 term_run_returns : (t : ℕ) → term-run-lts.Need-returns (term_run_given t) (term_run_at t) term-run.Post term_run_inv term_run-μ
-term_run_returns t c = stops _ _ _ _ _ _ _ (reads _ _ _ _ _ _ _ c.before.before.before.loop-got.invariant c.before.before.factor_run-part.ensures c.before.joined_run-got.ensures) (end_factor _ _ c.if-next-text.true)
+term_run_returns t c = stops _ _ _ _ _ _ _ (reads _ _ _ _ _ _ _ c.before.before.before.loop.invariant c.before.before.factor-run.ensures c.before.joined-run.ensures) (end_factor _ _ c.if1.true)
 
 term_run_returns_2 : (t : ℕ) → term-run-lts.Need-returns-2 (term_run_given t) (term_run_at t) term-run.Post term_run_inv term_run-μ
-term_run_returns_2 t c = stops _ _ _ _ _ _ _ (reads _ _ _ _ _ _ _ c.before.before.before.before.before.loop-got.invariant c.before.before.before.before.factor_run-part.ensures c.before.before.before.joined_run-got.ensures) (no_factor _ _ c.before.before.if-next-text.false c.if-text-next-ne42.true)
+term_run_returns_2 t c = stops _ _ _ _ _ _ _ (reads _ _ _ _ _ _ _ c.before.before.before.before.before.loop.invariant c.before.before.before.before.factor-run.ensures c.before.before.before.joined-run.ensures) (no_factor _ _ c.before.before.if1.false c.if2.true)
 
 term_run_loop_less : (t : ℕ) → term-run-lts.Need-loop-smaller (term_run_given t) (term_run_at t) term-run.Post term_run_inv term_run-μ
-term_run_loop_less t c = let i = c.before.before.before.before.factor_run-part.ensures.from in omega (arith, i, c.before.before.before.joined_run-got.ensures.1, c.before.before.if-next-text.false)
+term_run_loop_less t c = let i = c.before.before.before.before.factor-run.ensures.from in omega (arith, i, c.before.before.before.joined-run.ensures.1, c.before.before.if1.false)
 
 term_run_loop_again : (t : ℕ) → term-run-lts.Need-loop-preserved (term_run_given t) (term_run_at t) term-run.Post term_run_inv term_run-μ
 unfolding operator_of
-term_run_loop_again t c = rw add-one (goes _ _ _ _ _ _ _ (reads _ _ _ _ _ _ _ c.before.before.before.before.before.loop-got.invariant c.before.before.before.before.factor_run-part.ensures c.before.before.before.joined_run-got.ensures) 42 refl (more_factor _ _ c.before.before.if-next-text.false c.if-text-next-ne42.false))
+term_run_loop_again t c = rw add-one (goes _ _ _ _ _ _ _ (reads _ _ _ _ _ _ _ c.before.before.before.before.before.loop.invariant c.before.before.before.before.factor-run.ensures c.before.before.before.joined-run.ensures) 42 refl (more_factor _ _ c.before.before.if1.false c.if2.false))
 
 pub +expression-run-factor-run-term-run-spec : {M : Type 1} → statement M
 +expression-run-factor-run-term-run-spec = close μ-expression-run μ-factor-run μ-term-run

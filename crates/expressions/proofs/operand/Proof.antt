@@ -10,7 +10,7 @@ use Rattle.expressions.proofs.operand.Tie as tie
 
 cast-w : tie.Need-overflow_cast-w
 cast-w c =
-    let l = c.before.before.before.leaf_at-leaf in
+    let l = c.leaf_at-leaf in
     let f : SFits w32 l.result.value = search rules in
     let i = l.ensures.index c.if-leaf-eq-VARIABLE.true in
     rw (to_z-of_z f) (omega (ints, i), record { fits = omega (ints, i, abs_parts l.result.value) })
@@ -18,15 +18,15 @@ cast-w c =
 returns : tie.Need-returns-then-leaf-eq-VARIABLE
 unfolding values_of
 returns c =
-    let l = c.before.before.before.before.before.leaf_at-leaf in
+    let l = c.leaf_at-leaf in
     let f : SFits w32 l.result.value = search rules in
-    let g0 : SFits w32 c.before.entry.result = sfits_of c.before.entry.type_inv in
+    let g0 : SFits w32 c.entry.result = sfits_of c.entry.type_inv in
     let g1 : SFits w32 c.entry-then-leaf-eq-VARIABLE.result = sfits_of c.entry-then-leaf-eq-VARIABLE.type_inv in
-    rw (to_z-of_z g0, to_z-of_z g1, c.before.entry.ensures, c.entry-then-leaf-eq-VARIABLE.ensures) (simp (to_z-of_z f) (operand_variable _ _ _ _ _ l.ensures c.before.before.if-leaf-eq-VARIABLE.true))
+    rw (to_z-of_z g0, to_z-of_z g1, c.entry.ensures, c.entry-then-leaf-eq-VARIABLE.ensures) (simp (to_z-of_z f) (operand_variable _ _ _ _ _ l.ensures c.if-leaf-eq-VARIABLE.true))
 
 returns_2 : tie.Need-returns
 returns_2 c =
-    let l = c.before.before.before.leaf_at-leaf in
+    let l = c.leaf_at-leaf in
     let f : SFits w32 l.result.value = search rules in
     rw (to_z-of_z f) (operand_constant _ _ _ _ _ l.ensures c.if-leaf-eq-VARIABLE.false)
 

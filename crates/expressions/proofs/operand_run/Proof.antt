@@ -11,32 +11,32 @@ use Rattle.expressions.proofs.operand_run.Statement.{statement}
 use Rattle.expressions.proofs.operand_run.Tie as tie
 
 returns : tie.Need-returns-then-at-text
-returns c = rw c.number_run.ensures (no_leaf _ _ _ _ _ (leaf_past _ _ c.before.if-at-text.true))
+returns c = rw c.number_run.ensures (no_leaf _ _ _ _ _ (leaf_past _ _ c.if-at-text.true))
 
 returns_2 : tie.Need-returns-then-b-eq118
 returns_2 c =
-    let d = c.before.before.before.digits_at-d in
+    let d = c.digits_at-d in
     let (g, w) = digits_whole _ _ d.result (rw add-one at d.ensures) in
-    let e : SFits w32 c.before.entry.result = sfits_of c.before.entry.type_inv in
-    rw (c.number_run-then-b-eq118.ensures, to_z-of_z e, c.before.entry.ensures) (variable_gives _ _ _ _ _ (leaf_variable _ _ c.before.before.before.before.before.before.if-at-text.false c.before.before.before.before.if-b-eq118.true _ w))
+    let e : SFits w32 c.entry.result = sfits_of c.entry.type_inv in
+    rw (c.number_run-then-b-eq118.ensures, to_z-of_z e, c.entry.ensures) (variable_gives _ _ _ _ _ (leaf_variable _ _ c.if-at-text.false c.if-b-eq118.true _ w))
 
 sub-number-run : tie.Need-overflow_sub-value
-sub-number-run c = let h = digits_small _ _ _ c.before.digits_at-d-then-b-eq45.ensures in rw (minus_is _ h) (minus_fits _ h)
+sub-number-run c = let h = digits_small _ _ _ c.digits_at-d-then-b-eq45.ensures in rw (minus_is _ h) (minus_fits _ h)
 
 returns_3 : tie.Need-returns-then-b-eq45
 returns_3 c =
-    let d = c.before.before.digits_at-d-then-b-eq45 in
+    let d = c.digits_at-d-then-b-eq45 in
     let h = digits_small _ _ _ d.ensures in
     let (g, w) = digits_whole _ _ d.result (rw add-one at d.ensures) in
-    rw (c.number_run-then-b-eq45.ensures, minus_is _ h, to_z-of_z (minus_fits _ h)) (negative_gives _ _ _ _ _ (leaf_negative _ _ c.before.before.before.before.before.before.if-at-text.false c.before.before.before.if-b-eq45.true _ w))
+    rw (c.number_run-then-b-eq45.ensures, minus_is _ h, to_z-of_z (minus_fits _ h)) (negative_gives _ _ _ _ _ (leaf_negative _ _ c.if-at-text.false c.if-b-eq45.true _ w))
 
 returns-4 : tie.Need-returns
 returns-4 c =
-    let d = c.before.before.digits_at-d-2 in
+    let d = c.digits_at-d-2 in
     let h = digits_small _ _ _ d.ensures in
     let (g, w) = digits_whole _ _ d.result d.ensures in
     rw (c.number_run-2.ensures, to_z_pos w32 d.result.value (omega (arith, h)))
-    (constant_gives _ _ _ _ _ (leaf_other _ _ c.before.before.before.before.before.before.if-at-text.false c.before.before.before.if-b-eq45.false c.before.before.before.before.if-b-eq118.false _ w))
+    (constant_gives _ _ _ _ _ (leaf_other _ _ c.if-at-text.false c.if-b-eq45.false c.if-b-eq118.false _ w))
 
 pub operand_run_spec : {M : Type 1} → statement M
 operand_run_spec =
@@ -48,11 +48,11 @@ operand_run_spec =
     (λ c κs. search rules) (λ c κs. search rules)
     returns_2
     (λ c. search rules) (λ c κs. search rules)
-    (λ c. let h = digits_small _ _ _ c.before.digits_at-d-then-b-eq45.ensures in search rules)
+    (λ c. let h = digits_small _ _ _ c.digits_at-d-then-b-eq45.ensures in search rules)
     sub-number-run
     (λ c κs. search rules)
     returns_3
     (λ c κs. search rules)
-    (λ c. let h = digits_small _ _ _ c.before.digits_at-d-2.ensures in search rules)
+    (λ c. let h = digits_small _ _ _ c.digits_at-d-2.ensures in search rules)
     (λ c κs. search rules)
     returns-4)

@@ -7,10 +7,10 @@ use Rattle.frames.proofs.read_prices.Statement.{statement}
 use Rattle.frames.proofs.read_prices.Tie as tie
 
 array-share-prefix-prices : tie.Need-slice_bounds-prices-end
-array-share-prefix-prices c = lent_within _ _ _ _ _ c.before.before.before.before.lend_prices-lent.ensures c.before.lent-1.given.1
+array-share-prefix-prices c = lent_within _ _ _ _ _ c.lend_prices-lent.ensures c.in-Count.is
 
 slice-aggregate-read-q-2 : tie.Need-slice_bounds-read_q-end-in-Count
-slice-aggregate-read-q-2 c = sym (length-take-le _ _ (lent_within _ _ _ _ _ c.before.before.before.before.before.lend_prices-lent.ensures c.before.before.lent-1.given.1))
+slice-aggregate-read-q-2 c = sym (length-take-le _ _ (lent_within _ _ _ _ _ c.lend_prices-lent.ensures c.in-Count.is))
 
 pub read_prices_spec : {M : Type 1} → statement M
 read_prices_spec = tie.close (tie.spec

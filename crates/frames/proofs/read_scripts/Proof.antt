@@ -17,11 +17,11 @@ decreases-loop-k first scripts files₀ file-lengths₀ picks₀ pick-lengths₀
 
 loop_again : tie.Need-loop-k-preserved invariant-loop-k decreases-loop-k
 loop_again c =
-    let l = c.before.before.before.before.before.before.before.before.before.before.before.before.before.before.before.loop-k in
-    let h = c.before.before.before.before.before.before.before.before.before.before.read_script-part.ensures in (
-      omega (arith, c.before.before.before.before.before.before.before.before.before.before.before.before.before.before.loop-k-test.true),
+    let l = c.loop-k in
+    let h = c.read_script-part.ensures in (
+      omega (arith, c.loop-k-test.true),
       omega (arith, l.invariant.1, h.0, length-take (l.file + 16_385 - l.file) (drop l.file l.files)),
-      omega (arith, l.invariant.2, l.invariant.5, c.before.before.before.before.before.before.before.before.before.before.before.before.before.before.before.before.before.before.before.before.before.requires.0.3, h.1, length-take (length l.picks - l.pick) (drop l.pick l.picks), length-drop l.pick l.picks),
+      omega (arith, l.invariant.2, l.invariant.5, c.requires.0.3, h.1, length-take (length l.picks - l.pick) (drop l.pick l.picks), length-drop l.pick l.picks),
       omega (arith, l.invariant.3, h.2, length-take (l.value + 17 - l.value) (drop l.value l.stores)),
       search rules,
       search rules,

@@ -17,16 +17,16 @@ abbrev decreases-loop-i : tie.decreases-loop-i
 decreases-loop-i key s i₀ i = length key - i
 
 returns : tie.Need-returns-then-i-s invariant-loop-i decreases-loop-i
-returns c = sym (c.before.before.loop-i.invariant.1 ∙ ap (λ n. c.before.before.loop-i.i + n) (agree_short _ _ _ c.before.loop-i-test.true c.if-i-s.true) ∙ omega arith)
+returns c = sym (c.loop-i.invariant.1 ∙ ap (λ n. c.loop-i.i + n) (agree_short _ _ _ c.loop-i-test.true c.if-i-s.true) ∙ omega arith)
 
 returns_2 : tie.Need-returns-then-s-i invariant-loop-i decreases-loop-i
-returns_2 c = sym (c.before.before.before.before.before.loop-i.invariant.1 ∙ ap (λ n. c.before.before.before.before.before.loop-i.i + n) (agree_other _ _ _ c.before.before.before.before.loop-i-test.true c.before.before.before.if-i-s.false c.if-s-i.true) ∙ omega arith)
+returns_2 c = sym (c.loop-i.invariant.1 ∙ ap (λ n. c.loop-i.i + n) (agree_other _ _ _ c.loop-i-test.true c.if-i-s.false c.if-s-i.true) ∙ omega arith)
 
 loop_again : tie.Need-loop-i-preserved invariant-loop-i decreases-loop-i
-loop_again c = (omega arith, rw add-one (c.before.before.before.before.before.loop-i.invariant.1 ∙ ap (λ n. c.before.before.before.before.before.loop-i.i + n) (agree_on _ _ _ c.before.before.before.before.loop-i-test.true c.before.before.before.if-i-s.false c.if-s-i.false) ∙ omega arith))
+loop_again c = (omega arith, rw add-one (c.loop-i.invariant.1 ∙ ap (λ n. c.loop-i.i + n) (agree_on _ _ _ c.loop-i-test.true c.if-i-s.false c.if-s-i.false) ∙ omega arith))
 
 returns_3 : tie.Need-returns invariant-loop-i decreases-loop-i
-returns_3 c = sym (c.before.loop-i.invariant.1 ∙ ap (λ n. c.before.loop-i.i + n) (agree_end _ _ _ c.loop-i-test.false) ∙ omega arith)
+returns_3 c = sym (c.loop-i.invariant.1 ∙ ap (λ n. c.loop-i.i + n) (agree_end _ _ _ c.loop-i-test.false) ∙ omega arith)
 
 pub agree_spec : {M : Type 1} → statement M
 agree_spec = tie.close (tie.spec invariant-loop-i decreases-loop-i (λ c. search rules) returns (λ c. search rules) (λ c. search rules) returns_2 (λ c. search rules) (λ c. search rules) loop_again returns_3)

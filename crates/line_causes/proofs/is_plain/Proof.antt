@@ -7,11 +7,11 @@ use Rattle.line_causes.proofs.is_plain.Tie as tie
 
 returns : tie.Need-returns-then-b-ge33
 unfolding is_plain
-returns c = rw (le-leb 33 c.before.args.b c.if-b-ge33.true)
+returns c = rw (le-leb 33 c.args.b c.if-b-ge33.true)
 
 returns_2 : tie.Need-returns-else-b-ge33
 unfolding is_plain
-returns_2 c = rw (lt-leb 33 c.before.args.b c.if-b-ge33.false)
+returns_2 c = rw (lt-leb 33 c.args.b c.if-b-ge33.false)
 
 pub is_plain_spec : {M : Type 1} → statement M
 is_plain_spec = tie.close (tie.spec returns returns_2)

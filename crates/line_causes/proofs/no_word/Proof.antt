@@ -6,11 +6,11 @@ use Rattle.line_causes.proofs.no_word.Tie as tie
 
 returns : tie.Need-returns-then-last
 unfolding no_word
-returns c = rw c.before.if-last.true c.caused.ensures
+returns c = rw c.if-last.true c.caused.ensures
 
 returns_2 : tie.Need-returns
 unfolding no_word
-returns_2 c = rw c.before.if-last.false c.caused-2.ensures
+returns_2 c = rw c.if-last.false c.caused-2.ensures
 
 pub no_word_spec : {M : Type 1} → statement M
 no_word_spec = tie.close (tie.spec (λ c. search rules) (λ c κs. search rules) returns (λ c κs. search rules) returns_2)

@@ -11,11 +11,11 @@ returns c = rw (eq-eqb _ _ c.if-b-eq9.true)
 
 returns_2 : tie.Need-returns-then-b-eq13
 unfolding odd_fault
-returns_2 c = rw (ne_eqb _ _ c.before.if-b-eq9.false, eq-eqb _ _ c.if-b-eq13.true)
+returns_2 c = rw (ne_eqb _ _ c.if-b-eq9.false, eq-eqb _ _ c.if-b-eq13.true)
 
 returns_3 : tie.Need-returns
 unfolding odd_fault
-returns_3 c = rw (ne_eqb _ _ c.before.if-b-eq9.false, ne_eqb _ _ c.if-b-eq13.false)
+returns_3 c = rw (ne_eqb _ _ c.if-b-eq9.false, ne_eqb _ _ c.if-b-eq13.false)
 
 pub odd_fault_spec : {M : Type 1} → statement M
 odd_fault_spec = tie.close (tie.spec returns returns_2 returns_3)

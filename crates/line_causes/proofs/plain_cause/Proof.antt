@@ -8,19 +8,19 @@ use Rattle.line_causes.proofs.plain_cause.Tie as tie
 
 returns : tie.Need-returns-then-is_comment
 unfolding plain_cause
-returns c = rw (sym c.before.before.is_comment.ensures ∙ c.before.if-is_comment.true) c.caused.ensures
+returns c = rw (sym c.is_comment.ensures ∙ c.if-is_comment.true) c.caused.ensures
 
 returns_2 : tie.Need-returns-then-w-eq-NOTHING
 unfolding plain_cause
-returns_2 c = rw (sym c.before.before.before.is_comment.ensures ∙ c.before.before.if-is_comment.false, eq-eqb _ _ c.before.if-w-eq-NOTHING.true) c.caused-then-w-eq-NOTHING.ensures
+returns_2 c = rw (sym c.is_comment.ensures ∙ c.if-is_comment.false, eq-eqb _ _ c.if-w-eq-NOTHING.true) c.caused-then-w-eq-NOTHING.ensures
 
 returns_3 : tie.Need-returns-then-takes_number
 unfolding plain_cause
-returns_3 c = rw (sym c.before.before.before.before.before.is_comment.ensures ∙ c.before.before.before.before.if-is_comment.false, ne_eqb _ _ c.before.before.before.if-w-eq-NOTHING.false, sym c.before.before.takes_number.ensures ∙ c.before.if-takes_number.true) c.number_cause.ensures
+returns_3 c = rw (sym c.is_comment.ensures ∙ c.if-is_comment.false, ne_eqb _ _ c.if-w-eq-NOTHING.false, sym c.takes_number.ensures ∙ c.if-takes_number.true) c.number_cause.ensures
 
 returns-4 : tie.Need-returns
 unfolding plain_cause
-returns-4 c = rw (sym c.before.before.before.before.before.is_comment.ensures ∙ c.before.before.before.before.if-is_comment.false, ne_eqb _ _ c.before.before.before.if-w-eq-NOTHING.false, sym c.before.before.takes_number.ensures ∙ c.before.if-takes_number.false) c.caused-2.ensures
+returns-4 c = rw (sym c.is_comment.ensures ∙ c.if-is_comment.false, ne_eqb _ _ c.if-w-eq-NOTHING.false, sym c.takes_number.ensures ∙ c.if-takes_number.false) c.caused-2.ensures
 
 pub plain_cause_spec : {M : Type 1} → statement M
 plain_cause_spec = tie.close (tie.spec (λ c κs. search rules) (λ c κs. search rules) returns (λ c κs. search rules) returns_2 (λ c κs. search rules) (λ c κs. search rules) returns_3 (λ c κs. search rules) returns-4)

@@ -7,7 +7,7 @@ use Rattle.line_causes.proofs.wanted.Tie as tie
 
 returns : tie.Need-returns-then-k-shape
 unfolding wanted
-returns c = rw (lt-ltb _ _ c.before.if-k-shape.true)
+returns c = rw (lt-ltb _ _ c.if-k-shape.true)
 
 returns_2 : tie.Need-returns
 unfolding wanted

@@ -9,11 +9,11 @@ use Rattle.line_causes.proofs.words_cause.Tie as tie
 
 returns : tie.Need-returns-then-line-from
 unfolding words_cause
-returns c = rw (eq-eqb _ _ c.before.before.if-line-from.true, ← c.before.wanted.ensures) c.caused.ensures
+returns c = rw (eq-eqb _ _ c.if-line-from.true, ← c.wanted.ensures) c.caused.ensures
 
 returns_2 : tie.Need-returns
 unfolding words_cause
-returns_2 c = rw (ne_eqb _ _ c.before.if-line-from.false) c.cause_in.ensures
+returns_2 c = rw (ne_eqb _ _ c.if-line-from.false) c.cause_in.ensures
 
 pub words_cause_spec : {M : Type 1} → statement M
 words_cause_spec = tie.close (tie.spec (λ c κs. search rules) (λ c κs. search rules) returns (λ c κs. search rules) returns_2)

@@ -9,14 +9,14 @@ use Rattle.live.proofs.take_off.Tie as tie
 
 copy-requires-2 : tie.Need-copy-requires
 copy-requires-2 c κs =
-    let h = simp (length-take, length-drop) at c.before.before.before.copy-n.ensures.0 in
-    simp length-take (omega (arith, h, c.before.before.before.before.before.before.before.before.requires.0, c.before.before.before.before.before.before.before.before.requires.1, c.before.before.before.before.before.before.before.before.requires.2))
+    let h = simp (length-take, length-drop) at c.copy-n.ensures.count in
+    simp length-take (omega (arith, h, c.requires.0, c.requires.1, c.requires.2))
 
 returns : tie.Need-returns
 returns c =
-    let h = simp (length-take, length-drop) at c.before.before.before.before.before.before.copy-n.ensures.0 in
-    let g = simp length-take at c.before.before.copy.ensures.0 in
-    omega (arith, h, g, c.before.before.before.before.before.before.before.before.before.before.before.requires.0, c.before.before.before.before.before.before.before.before.before.before.before.requires.1, c.before.before.before.before.before.before.before.before.before.before.before.requires.2)
+    let h = simp (length-take, length-drop) at c.copy-n.ensures.count in
+    let g = simp length-take at c.copy.ensures.count in
+    omega (arith, h, g, c.requires.0, c.requires.1, c.requires.2)
 
 pub take_off_spec : {M : Type 1} → statement M
 take_off_spec = tie.close (tie.spec

@@ -15,16 +15,16 @@ decreases-loop-j state from to j₀ j = to - j
 
 returns : tie.Need-returns-then-state-j-ne0 invariant-loop-j decreases-loop-j
 returns c =
-    let l = c.before.before.before.before.loop-j in
-    c.no.ensures ∙ sym (l.invariant.2 ∙ zeros_no _ _ l.j c.before.before.before.loop-j-test.true c.before.before.before.before.before.before.requires.1 c.before.if-state-j-ne0.true)
+    let l = c.loop-j in
+    c.no.ensures ∙ sym (l.invariant.2 ∙ zeros_no _ _ l.j c.loop-j-test.true c.requires.1 c.if-state-j-ne0.true)
 
 loop_again : tie.Need-loop-j-preserved invariant-loop-j decreases-loop-j
 loop_again c =
-    let l = c.before.before.before.loop-j in
-    (search rules, search rules, l.invariant.2 ∙ zeros_on _ _ l.j c.before.before.loop-j-test.true c.before.before.before.before.before.requires.1 c.if-state-j-ne0.false)
+    let l = c.loop-j in
+    (search rules, search rules, l.invariant.2 ∙ zeros_on _ _ l.j c.loop-j-test.true c.requires.1 c.if-state-j-ne0.false)
 
 returns_2 : tie.Need-returns invariant-loop-j decreases-loop-j
-returns_2 c = let l = c.before.loop-j in sym (l.invariant.2 ∙ zeros_all _ _ l.j (omega (arith, c.loop-j-test.false)))
+returns_2 c = let l = c.loop-j in sym (l.invariant.2 ∙ zeros_all _ _ l.j (omega (arith, c.loop-j-test.false)))
 
 pub ask_zeros_spec : {M : Type 1} → statement M
 ask_zeros_spec =

@@ -16,11 +16,11 @@ abbrev decreases-loop-j : tie.decreases-loop-j
 decreases-loop-j state₀ j₀ state j = 64 - j
 
 loop_again : tie.Need-loop-j-preserved invariant-loop-j decreases-loop-j
-loop_again c = let l = c.before.loop-j in (omega (arith, c.loop-j-test.true), search rules, zero_next _ l.j c.loop-j-test.true l.invariant.2)
+loop_again c = let l = c.loop-j in (omega (arith, c.loop-j-test.true), search rules, zero_next _ l.j c.loop-j-test.true l.invariant.2)
 
 returns : tie.Need-returns invariant-loop-j decreases-loop-j
 returns c =
-    let l = c.before.loop-j in
+    let l = c.loop-j in
     let e : l.j ≡ 64 = omega (arith, c.loop-j-test.false) in
     sym (take_all l.j l.state (omega (arith, c.loop-j-test.false))) ∙ l.invariant.2 ∙ rw e refl
 

@@ -21,14 +21,14 @@ loop_holds c = (omega arith, refl, refl)
 
 loop_again : tie.Need-loop-k-preserved invariant-loop-k decreases-loop-k
 loop_again c =
-    let l = c.before.before.before.before.loop-k in
+    let l = c.loop-k in
     let s = c.before.before.before.before.before in
-    (omega (arith, c.before.before.before.loop-k-test.true), search rules, counts_next s.args.state.now l.k l.counts l.invariant.1 (omega (arith, s.requires.1, c.before.before.before.loop-k-test.true)) l.invariant.2)
+    (omega (arith, c.loop-k-test.true), search rules, counts_next s.args.state.now l.k l.counts l.invariant.1 (omega (arith, s.requires.1, c.loop-k-test.true)) l.invariant.2)
 
 returns : tie.Need-returns invariant-loop-k decreases-loop-k
 returns c =
-    let l = c.before.loop-k in
-    let e : l.k ≡ c.before.before.args.loops = omega (arith, c.loop-k-test.false) in
+    let l = c.loop-k in
+    let e : l.k ≡ c.args.loops = omega (arith, c.loop-k-test.false) in
     (rw (sym e) l.invariant.2, l.invariant.1)
 
 pub counts_in_spec : {M : Type 1} → statement M
@@ -39,7 +39,7 @@ counts_in_spec =
     decreases-loop-k
     loop_holds
     (λ c. search rules) (λ c. search rules) (λ c. search rules) (λ c. search rules) (λ c. search rules) (λ c. search rules) (λ c. search rules) (λ c. search rules)
-    (λ c. c.before.before.before.before.requires.2 _ c.before.before.loop-k-test.true)
+    (λ c. c.requires.2 _ c.loop-k-test.true)
     (λ c. search rules) (λ c. search rules) (λ c. search rules) (λ c. search rules) (λ c. search rules) (λ c. search rules) (λ c. search rules)
     loop_again
     returns)

@@ -9,6 +9,6 @@ pub most_fit_spec : {M : Type 1} → statement M
 most_fit_spec =
     tie.close
     (tie.spec
-    (λ c. rw (le-leb _ _ c.before.if-turns-most.true, le-leb _ _ c.if-most-all.true))
-    (λ c. rw (le-leb _ _ c.before.if-turns-most.true, lt-leb _ _ c.if-most-all.false))
+    (λ c. rw (le-leb _ _ c.if-turns-most.true, le-leb _ _ c.if-most-all.true))
+    (λ c. rw (le-leb _ _ c.if-turns-most.true, lt-leb _ _ c.if-most-all.false))
     (λ c. rw (lt-leb _ _ c.if-turns-most.false)))

@@ -10,8 +10,8 @@ phase_fits_spec =
     tie.close
     (tie.spec
     (λ c script g. phase_none g _ _ _ c.if-due-eq0.true)
-    (λ c script g. phase_held g _ _ _ c.before.if-due-eq0.false c.if-status-ne-GOING.true)
-    (λ c script g. phase_odd g _ _ _ c.before.before.if-due-eq0.false c.before.if-status-ne-GOING.false c.if-due-ne-DUE.true)
-    (λ c script g. phase_past g _ _ _ c.before.before.if-status-ne-GOING.false c.before.if-due-ne-DUE.false c.if-count-i.true)
-    (λ c κs. (c.before.before.before.before.before.requires, omega (arith, c.if-count-i.false)))
-    (λ c script g. phase_at_lem g _ _ _ c.before.before.before.if-status-ne-GOING.false c.before.before.if-due-ne-DUE.false (omega (arith, c.before.if-count-i.false)) _ (c.ends_loop_lem.ensures script g)))
+    (λ c script g. phase_held g _ _ _ c.if-due-eq0.false c.if-status-ne-GOING.true)
+    (λ c script g. phase_odd g _ _ _ c.if-due-eq0.false c.if-status-ne-GOING.false c.if-due-ne-DUE.true)
+    (λ c script g. phase_past g _ _ _ c.if-status-ne-GOING.false c.if-due-ne-DUE.false c.if-count-i.true)
+    (λ c κs. (c.requires, omega (arith, c.if-count-i.false)))
+    (λ c script g. phase_at_lem g _ _ _ c.if-status-ne-GOING.false c.if-due-ne-DUE.false (omega (arith, c.if-count-i.false)) _ (c.ends_loop.ensures script g)))

@@ -8,17 +8,17 @@ use Rattle.live_state.proofs.put_head.Tie as tie
 
 returns : tie.Need-returns
 returns c =
-    rw (c.smaller.ensures, c.before.due_number_lem.ensures, c.before.before.smaller-spent.ensures, c.before.before.before.before.requires) refl
+    rw (c.smaller.ensures, c.due_number.ensures, c.smaller-spent.ensures, c.requires) refl
 
 pub put_head_spec : {M : Type 1} → statement M
 put_head_spec =
     tie.close
     (tie.spec
     (λ c κs. search rules)
-    (λ c. omega (arith, ap length c.before.before.requires)) (λ c. simp length-set (omega (arith, ap length c.before.before.requires)))
+    (λ c. omega (arith, ap length c.requires)) (λ c. simp length-set (omega (arith, ap length c.requires)))
     (λ c κs. search rules)
-    (λ c. simp length-set (omega (arith, ap length c.before.before.before.requires))) (λ c. simp length-set (omega (arith, ap length c.before.before.before.requires))) (λ c. simp length-set (omega (arith, ap length c.before.before.before.requires)))
+    (λ c. simp length-set (omega (arith, ap length c.requires))) (λ c. simp length-set (omega (arith, ap length c.requires))) (λ c. simp length-set (omega (arith, ap length c.requires)))
     (λ c κs. search rules)
-    (λ c. simp length-set (omega (arith, ap length c.before.before.before.before.requires)))
+    (λ c. simp length-set (omega (arith, ap length c.requires)))
     (λ c. search rules)
     returns)

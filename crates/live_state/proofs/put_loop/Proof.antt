@@ -9,8 +9,8 @@ use Rattle.live_state.proofs.put_loop.Tie as tie
 
 returns : tie.Need-returns
 returns c xs n l e =
-    rw (c.smaller-2.ensures, c.before.smaller-most.ensures, c.before.before.smaller.ensures, c.before.before.before.smaller-all.ensures)
-    (three_put c.before.before.before.before.before.args.j c.before.before.before.before.before.args.state.now _ _ _ xs n l e)
+    rw (c.smaller-2.ensures, c.smaller-most.ensures, c.smaller.ensures, c.smaller-all.ensures)
+    (three_put c.args.j c.args.state.now _ _ _ xs n l e)
 
 pub put_loop_spec : {M : Type 1} → statement M
 put_loop_spec =

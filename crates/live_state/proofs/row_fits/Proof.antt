@@ -12,16 +12,16 @@ returns_2 : tie.Need-returns-then-status-eq-ENDED
 returns_2 c script g = fits_ended g _ _ c.if-status-eq-ENDED.true
 
 returns_3 : tie.Need-returns-then-count-i
-returns_3 c script g = fits_past g _ _ c.before.before.if-status-eq-GOING.false c.before.if-status-eq-ENDED.false c.if-count-i.true
+returns_3 c script g = fits_past g _ _ c.if-status-eq-GOING.false c.if-status-eq-ENDED.false c.if-count-i.true
 
 returns-4 : tie.Need-returns-then-status-eq-WAITS
-returns-4 c script g = fits_waits g _ (omega (arith, c.before.before.before.if-count-i.false)) _ c.before.kind_at.ensures _ _ c.before.before.if-status-eq-WAITS.true c.is_pick.ensures
+returns-4 c script g = fits_waits g _ (omega (arith, c.if-count-i.false)) _ c.kind_at.ensures _ _ c.if-status-eq-WAITS.true c.is_pick.ensures
 
 returns-5 : tie.Need-returns-then-status-eq-FULL
-returns-5 c script g = fits_full g _ (omega (arith, c.before.before.before.before.if-count-i.false)) _ c.before.kind_at-then-status-eq-FULL.ensures _ _ c.before.before.if-status-eq-FULL.true c.is_cue.ensures
+returns-5 c script g = fits_full g _ (omega (arith, c.if-count-i.false)) _ c.kind_at-then-status-eq-FULL.ensures _ _ c.if-status-eq-FULL.true c.is_cue.ensures
 
 returns-6 : tie.Need-returns
-returns-6 c script g = fits_range g _ _ c.before.before.before.before.if-status-eq-GOING.false c.before.if-status-eq-WAITS.false c.if-status-eq-FULL.false c.before.before.before.if-status-eq-ENDED.false (omega (arith, c.before.before.if-count-i.false))
+returns-6 c script g = fits_range g _ _ c.if-status-eq-GOING.false c.if-status-eq-WAITS.false c.if-status-eq-FULL.false c.if-status-eq-ENDED.false (omega (arith, c.if-count-i.false))
 
 pub row_fits_spec : {M : Type 1} → statement M
 row_fits_spec =

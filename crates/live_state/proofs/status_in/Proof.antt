@@ -10,6 +10,6 @@ status_in_spec =
     tie.close
     (tie.spec
     (λ c. status_waits _ _ c.if-status-eq-WAITS.true)
-    (λ c. status_going _ _ c.before.if-status-eq-WAITS.false c.if-status-le-FULL.true)
+    (λ c. status_going _ _ c.if-status-eq-WAITS.false c.if-status-le-FULL.true)
     (λ c. status_ended _ _ c.if-status-eq-ENDED.true)
-    (λ c. status_range _ _ c.before.if-status-le-FULL.false c.if-status-eq-ENDED.false))
+    (λ c. status_range _ _ c.if-status-le-FULL.false c.if-status-eq-ENDED.false))

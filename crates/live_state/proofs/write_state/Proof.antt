@@ -23,25 +23,25 @@ front state first e f = ap (take 16) e ∙ f
 
 loop_holds : tie.Need-loop-k-init invariant-loop-k decreases-loop-k
 loop_holds c =
-    let p = c.before.before.before.put_head in
-    let f = front _ (head_numbers c.before.before.before.before.before.before.before.before.before.before.args.standing c.before.before.before.before.before.before.before.before.before.before.args.total) p.ensures refl in
+    let p = c.put_head in
+    let f = front _ (head_numbers c.args.standing c.args.total) p.ensures refl in
     (omega arith, ap length f, writes_none _ _ _ _ _ (p.ensures ∙ ap (λ z. z ++ replicate 48 0) (sym f)) (ap length p.ensures))
 
 put-loop-requires : tie.Need-put_loop-requires invariant-loop-k decreases-loop-k
-put-loop-requires c κs = let l = c.before.before.before.before.before.loop-k in omega (arith, l.invariant.2.long, c.before.before.before.before.loop-k-test.true, c.before.before.before.before.before.before.before.before.before.before.before.before.before.before.before.before.requires.1)
+put-loop-requires c κs = let l = c.loop-k in omega (arith, l.invariant.2.long, c.loop-k-test.true, c.requires.1)
 
 loop_again : tie.Need-loop-k-preserved invariant-loop-k decreases-loop-k
 loop_again c =
-    let l = c.before.before.before.before.before.before.before.before.loop-k in
+    let l = c.loop-k in
     let s = c.before.before.before.before.before.before.before.before.before.before.before.before.before.before.before.before.before.before.before in
-    let h = c.before.before.before.before.before.before.before.loop-k-test.true in
-    (omega (arith, h), l.invariant.1, writes_more _ _ _ _ l.k l.state l.invariant.2 l.invariant.1 s.requires.1 s.requires.2 s.requires.3 h _ c.before.before.before.before.before.line_at.ensures _ refl _ c.before.before.before.turns_of.ensures _ c.before.before.put_loop.ensures (search rules))
+    let h = c.loop-k-test.true in
+    (omega (arith, h), l.invariant.1, writes_more _ _ _ _ l.k l.state l.invariant.2 l.invariant.1 s.requires.1 s.requires.2 s.requires.3 h _ c.line_at.ensures _ refl _ c.turns_of.ensures _ c.put_loop.ensures (search rules))
 
 returns : tie.Need-returns invariant-loop-k decreases-loop-k
 returns c hs r g =
-    let l = c.before.loop-k in
+    let l = c.loop-k in
     let s = c.before.before.before.before.before.before.before.before.before.before.before.before in
-    let f = front _ (head_numbers s.args.standing s.args.total) c.before.before.before.before.before.put_head.ensures refl in
+    let f = front _ (head_numbers s.args.standing s.args.total) c.put_head.ensures refl in
     writes_all _ _ _ _ l.k l.state l.invariant.2 l.invariant.1 s.requires.1 s.requires.2 s.requires.3 _ f (omega (arith, c.loop-k-test.false)) l.invariant.0 hs r g
 
 pub write_state_spec : {M : Type 1} → statement M
@@ -50,15 +50,15 @@ write_state_spec =
     (tie.spec
     invariant-loop-k
     decreases-loop-k
-    (λ c κs. c.before.before.requires.0)
-    (λ c κs. c.before.before.before.clear.ensures)
+    (λ c κs. c.requires.0)
+    (λ c κs. c.clear.ensures)
     loop_holds
-    (λ c. omega (arith, c.before.loop-k-test.true, c.before.before.before.before.before.before.before.before.before.before.before.before.before.requires.1))
-    (λ c. omega (arith, c.before.loop-k-test.true, c.before.before.before.before.before.before.before.before.before.before.before.before.before.requires.1))
-    (λ c κs. omega (arith, c.before.loop-k-test.true, c.before.before.before.before.before.before.before.before.before.before.before.before.before.requires.1))
-    (λ c. omega (arith, c.before.before.loop-k-test.true, c.before.before.before.before.before.before.before.before.before.before.before.before.before.before.requires.1))
-    (λ c. omega (arith, c.before.before.loop-k-test.true, c.before.before.before.before.before.before.before.before.before.before.before.before.before.before.requires.1))
-    (λ c κs. omega (arith, c.before.before.before.loop-k-test.true, c.before.before.before.before.before.before.before.before.before.before.before.before.before.before.before.requires.1))
+    (λ c. omega (arith, c.loop-k-test.true, c.requires.1))
+    (λ c. omega (arith, c.loop-k-test.true, c.requires.1))
+    (λ c κs. omega (arith, c.loop-k-test.true, c.requires.1))
+    (λ c. omega (arith, c.loop-k-test.true, c.requires.1))
+    (λ c. omega (arith, c.loop-k-test.true, c.requires.1))
+    (λ c κs. omega (arith, c.loop-k-test.true, c.requires.1))
     put-loop-requires
     (λ c. search rules) (λ c. search rules)
     loop_again

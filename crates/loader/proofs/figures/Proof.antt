@@ -10,33 +10,33 @@ use Rattle.loader.proofs.figures.Tie as tie
 -- the questions 1 and 16 have yes
 slice-relend-prefix-figures-file : tie.Need-slice_bounds-figures_file-end
 slice-relend-prefix-figures-file c =
-    let s = c.before.before.before.before.before.before in
-    omega (arith, lent_room s.args.prices.now (length s.args.scratch.now) (sym c.before.before.ask_lent-lent.ensures ∙ c.enum_told-1.given.1))
+    let s = c.before.before.before.before.before in
+    omega (arith, lent_room s.args.prices.now (length s.args.scratch.now) (sym c.ask_lent-lent.ensures ∙ c.in-Passed.is))
 
 slice-aggregate-figures-file : tie.Need-slice_bounds-figures_file-end-in-Passed
 slice-aggregate-figures-file c =
-    let s = c.before.before.before.before.before.before.before in
-    simp length-take (omega (arith, lent_room s.args.prices.now (length s.args.scratch.now) (sym c.before.before.before.ask_lent-lent.ensures ∙ c.before.enum_told-1.given.1)))
+    let s = c.before.before.before.before.before.before in
+    simp length-take (omega (arith, lent_room s.args.prices.now (length s.args.scratch.now) (sym c.ask_lent-lent.ensures ∙ c.in-Passed.is)))
 
 figures-file-requires : tie.Need-figures_file-requires
 figures-file-requires c κs =
-    let s = c.before.before.before.before.before.before.before.before in
-    let e = sym c.before.before.before.before.ask_lent-lent.ensures ∙ c.before.before.enum_told-1.given.1 in
+    let s = c.before.before.before.before.before.before.before in
+    let e = sym c.ask_lent-lent.ensures ∙ c.in-Passed.is in
     (lent_priced s.args.prices.now (length s.args.scratch.now) e, simp length-take (omega (arith, lent_room s.args.prices.now (length s.args.scratch.now) e)))
 
 returns : tie.Need-returns-in-Passed
 returns c =
-    let s = c.before.before.before.before.before.before.before.before.before.before.before in
-    let f = c.before.before.figures_file in
-    let e = sym c.before.before.before.before.before.before.before.ask_lent-lent.ensures ∙ c.before.before.before.before.before.enum_told-1.given.1 in
+    let s = c.before.before.before.before.before.before.before.before.before.before in
+    let f = c.figures_file in
+    let e = sym c.ask_lent-lent.ensures ∙ c.in-Passed.is in
     let long : length f.new.1.1.0 ≡ 1_024 = f.auto.1.1.0 ∙ simp length-take (omega (arith, lent_room s.args.prices.now (length s.args.scratch.now) e)) in
     (figured_same _ _ _ (lent_yes _ _ e s.args.file.now) f.ensures, scratch_kept s.args.prices.now f.new.1.1.0 s.args.scratch.now long e)
 
 returns_2 : tie.Need-returns-in-Refused
 returns_2 c =
-    let s = c.before.before.before.before.before.before.before in
-    let z = c.before.enum_told-in-Refused-1.given.1 in
-    (rw c.no_figures.ensures (figured_no _ _ (lent_no _ _ s.args.file.now (sym c.before.before.before.ask_lent-lent.ensures ∙ z)) z), scratch_same)
+    let s = c.before.before.before.before.before.before in
+    let z = c.in-Refused.is in
+    (rw c.no_figures.ensures (figured_no _ _ (lent_no _ _ s.args.file.now (sym c.ask_lent-lent.ensures ∙ z)) z), scratch_same)
 
 pub figures_spec : {M : Type 1} → statement M
 figures_spec =

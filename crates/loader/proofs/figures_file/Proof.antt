@@ -9,18 +9,18 @@ use Rattle.loader.proofs.figures_file.Tie as tie
 figures-script-requires : tie.Need-figures_script-requires
 figures-script-requires c κs =
     let s = c.before.before.before.before.before.before.before.before.before.before.before.before.before in
-    (file_given s.args.prices.now s.args.file.now _ _ _ c.before.before.before.before.before.before.load-l.ensures c.before.before.enum_told-1.given.1, s.requires.0, refl)
+    (file_given s.args.prices.now s.args.file.now _ _ _ c.load-l.ensures c.in-Passed.is, s.requires.0, refl)
 
 returns : tie.Need-returns-in-Passed
 returns c =
     let s = c.before.before.before.before.before.before.before.before.before.before.before.before.before.before in
-    figured_same _ _ _ (file_read s.args.prices.now s.args.file.now _ _ _ c.before.before.before.before.before.before.before.load-l.ensures c.before.before.before.enum_told-1.given.1) c.figures_script.ensures
+    figured_same _ _ _ (file_read s.args.prices.now s.args.file.now _ _ _ c.load-l.ensures c.in-Passed.is) c.figures_script.ensures
 
 returns_2 : tie.Need-returns-in-Refused
 returns_2 c =
-    let s = c.before.before.before.before.before.before.before.before.before.before.before.before in
-    let z = c.before.enum_told-in-Refused-1.given.1 in
-    rw c.no_figures.ensures (figured_no _ _ (file_refused s.args.prices.now s.args.file.now _ _ _ c.before.before.before.before.before.load-l.ensures z) z)
+    let s = c.before.before.before.before.before.before.before.before.before.before.before in
+    let z = c.in-Refused.is in
+    rw c.no_figures.ensures (figured_no _ _ (file_refused s.args.prices.now s.args.file.now _ _ _ c.load-l.ensures z) z)
 
 pub figures_file_spec : {M : Type 1} → statement M
 figures_file_spec =

@@ -9,18 +9,18 @@ use Rattle.loader.proofs.frames.Statement.{statement}
 use Rattle.loader.proofs.frames.Tie as tie
 
 returns : tie.Need-returns-then-not-fits
-returns c = (framed_call _ _ _ _ _ _ (rw c.refusal.ensures (framed_20 _ _ _ _ (sym c.before.before.fitting-fits.ensures ∙ not-true _ c.before.if-not-fits.true-raw))), refl)
+returns c = (framed_call _ _ _ _ _ _ (rw c.refusal.ensures (framed_20 _ _ _ _ (sym c.fitting-fits.ensures ∙ not-true _ c.if-not-fits.true-raw))), refl)
 
 run-frames-requires : tie.Need-run_frames-requires
 run-frames-requires c κs =
-    let a = c.before.before.before.before.before.before.before.before.before.before.before.before.before.before.args in
-    (lent_priced a.prices.now (length a.scratch.now) (sym c.before.before.before.ask_lent-lent.ensures ∙ c.before.enum_told-1.given.1), fits a.prices.now (length a.scratch.now) _ _ (sym c.before.before.before.before.before.fitting-fits.ensures ∙ not-false _ c.before.before.before.before.if-not-fits.false-raw))
+    let a = c.args in
+    (lent_priced a.prices.now (length a.scratch.now) (sym c.ask_lent-lent.ensures ∙ c.in-Passed.is), fits a.prices.now (length a.scratch.now) _ _ (sym c.fitting-fits.ensures ∙ not-false _ c.if-not-fits.false-raw))
 
 returns_2 : tie.Need-returns-in-Passed
-returns_2 c = (framed_call _ _ _ _ _ _ (framed_yes _ _ _ _ (sym c.before.before.before.before.before.before.before.fitting-fits.ensures ∙ not-false _ c.before.before.before.before.before.before.if-not-fits.false-raw) (sym c.before.before.before.before.before.ask_lent-lent.ensures ∙ c.before.before.before.enum_told-1.given.1) _ _ c.before.run_frames.ensures), refl)
+returns_2 c = (framed_call _ _ _ _ _ _ (framed_yes _ _ _ _ (sym c.fitting-fits.ensures ∙ not-false _ c.if-not-fits.false-raw) (sym c.ask_lent-lent.ensures ∙ c.in-Passed.is) _ _ c.run_frames.ensures), refl)
 
 returns_3 : tie.Need-returns-in-Refused
-returns_3 c = (framed_call _ _ _ _ _ _ (rw c.refusal-in-Refused.ensures (framed_lent _ _ _ _ (sym c.before.before.before.before.before.before.fitting-fits.ensures ∙ not-false _ c.before.before.before.before.before.if-not-fits.false-raw) _ _ (sym c.before.before.before.before.ask_lent-lent.ensures ∙ c.before.before.lent-1.given.1))), refl)
+returns_3 c = (framed_call _ _ _ _ _ _ (rw c.refusal-in-Refused.ensures (framed_lent _ _ _ _ (sym c.fitting-fits.ensures ∙ not-false _ c.if-not-fits.false-raw) _ _ (sym c.ask_lent-lent.ensures ∙ c.in-Refused.is))), refl)
 
 pub frames_spec : {M : Type 1} → statement M
 frames_spec =

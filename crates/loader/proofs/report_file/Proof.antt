@@ -8,15 +8,15 @@ use Rattle.loader.proofs.report_file.Tie as tie
 measure-script-requires : tie.Need-measure_script-measured-requires
 measure-script-requires c κs =
     let s = c.before.before.before.before.before.before.before.before.before.before.before.before.before in
-    (file_given s.args.prices.now s.args.file.now _ _ _ c.before.before.before.before.before.before.load-l.ensures c.before.before.enum_told-1.given.1, s.requires.0)
+    (file_given s.args.prices.now s.args.file.now _ _ _ c.load-l.ensures c.in-Passed.is, s.requires.0)
 
 returns : tie.Need-returns-in-Passed
 returns c =
     let s = c.before.before.before.before.before.before.before.before.before.before.before.before.before.before.before.before in
-    reported_as (file_read s.args.prices.now s.args.file.now _ _ _ c.before.before.before.before.before.before.before.before.before.load-l.ensures c.before.before.before.before.before.enum_told-1.given.1) c.before.before.measure_script-measured.ensures
+    reported_as (file_read s.args.prices.now s.args.file.now _ _ _ c.load-l.ensures c.in-Passed.is) c.measure_script-measured.ensures
 
 returns_2 : tie.Need-returns-in-Refused
-returns_2 c = let s = c.before.before.before.before.before.before.before.before.before.before.before.before in reported_no (file_refused s.args.prices.now s.args.file.now _ _ _ c.before.before.before.before.before.load-l.ensures c.before.verdict-1.given.1)
+returns_2 c = let s = c.before.before.before.before.before.before.before.before.before.before in reported_no (file_refused s.args.prices.now s.args.file.now _ _ _ c.load-l.ensures c.in-Refused.is)
 
 pub report_file_spec : {M : Type 1} → statement M
 report_file_spec =

@@ -8,15 +8,15 @@ use Rattle.loader.proofs.run_file.Tie as tie
 run-script-requires : tie.Need-run_script-requires
 run-script-requires c κs =
     let s = c.before.before.before.before.before.before.before.before.before.before.before.before.before in
-    (file_given s.args.prices.now s.args.file.now _ _ _ c.before.before.before.before.before.before.load-l.ensures c.before.before.enum_told-1.given.1, s.requires.0)
+    (file_given s.args.prices.now s.args.file.now _ _ _ c.load-l.ensures c.in-Passed.is, s.requires.0)
 
 returns : tie.Need-returns-in-Passed
 returns c =
     let s = c.before.before.before.before.before.before.before.before.before.before.before.before.before.before.before in
-    ran_same _ _ _ (file_read s.args.prices.now s.args.file.now _ _ _ c.before.before.before.before.before.before.before.before.load-l.ensures c.before.before.before.before.enum_told-1.given.1) c.before.run_script.ensures.0
+    ran_same _ _ _ (file_read s.args.prices.now s.args.file.now _ _ _ c.load-l.ensures c.in-Passed.is) c.run_script.ensures.run
 
 returns_2 : tie.Need-returns-in-Refused
-returns_2 c = let s = c.before.before.before.before.before.before.before.before.before.before.before.before.before in ran_no _ _ _ (file_refused s.args.prices.now s.args.file.now _ _ _ c.before.before.before.before.before.before.load-l.ensures c.before.before.verdict-1.given.1) c.refusal.ensures
+returns_2 c = let s = c.before.before.before.before.before.before.before.before.before.before.before in ran_no _ _ _ (file_refused s.args.prices.now s.args.file.now _ _ _ c.load-l.ensures c.in-Refused.is) c.refusal.ensures
 
 pub run_file_spec : {M : Type 1} → statement M
 run_file_spec =

@@ -7,16 +7,16 @@ use Rattle.loader.proofs.start_file.Statement.{statement}
 use Rattle.loader.proofs.start_file.Tie as tie
 
 start-script-requires : tie.Need-start_script-requires
-start-script-requires c κs = let s = c.before.before.before.before.before.before.before.before.before.before.before.before.before in (file_given s.args.prices.now s.args.file.now _ _ _ c.before.before.before.before.before.before.load-l.ensures c.before.before.enum_told-1.given.1, s.requires.0)
+start-script-requires c κs = let s = c.before.before.before.before.before.before.before.before.before.before.before.before.before in (file_given s.args.prices.now s.args.file.now _ _ _ c.load-l.ensures c.in-Passed.is, s.requires.0)
 
 returns : tie.Need-returns-in-Passed
-returns c = let s = c.before.before.before.before.before.before.before.before.before.before.before.before.before.before.before.before in started_same _ _ _ (file_read s.args.prices.now s.args.file.now _ _ _ c.before.before.before.before.before.before.before.before.before.load-l.ensures c.before.before.before.before.before.enum_told-1.given.1) c.before.before.start_script.ensures
+returns c = let s = c.before.before.before.before.before.before.before.before.before.before.before.before.before.before.before.before in started_same _ _ _ (file_read s.args.prices.now s.args.file.now _ _ _ c.load-l.ensures c.in-Passed.is) c.start_script.ensures
 
 returns_2 : tie.Need-returns-in-Refused
 returns_2 c =
-    let s = c.before.before.before.before.before.before.before.before.before.before.before.before in
-    let z = c.before.enum_told-in-Refused-1.given.1 in
-    started_no s.args.prices.now _ _ (file_refused s.args.prices.now s.args.file.now _ _ _ c.before.before.before.before.before.load-l.ensures z) z c.no_start.ensures
+    let s = c.before.before.before.before.before.before.before.before.before.before.before in
+    let z = c.in-Refused.is in
+    started_no s.args.prices.now _ _ (file_refused s.args.prices.now s.args.file.now _ _ _ c.load-l.ensures z) z c.no_start.ensures
 
 pub start_file_spec : {M : Type 1} → statement M
 start_file_spec =

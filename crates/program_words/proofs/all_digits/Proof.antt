@@ -18,13 +18,13 @@ abbrev decreases-loop-i : tie.decreases-loop-i
 decreases-loop-i word i₀ i = length word - i
 
 returns : tie.Need-returns-then-d-gt9 invariant-loop-i decreases-loop-i
-returns c = sym (c.before.before.before.before.loop-i.invariant ∙ all_stop _ _ c.before.before.before.loop-i-test.true (digit_not _ _ c.before.digit-d.ensures.0 c.if-d-gt9.true))
+returns c = sym (c.loop-i.invariant ∙ all_stop _ _ c.loop-i-test.true (digit_not _ _ c.digit-d.ensures.0 c.if-d-gt9.true))
 
 loop_again : tie.Need-loop-i-preserved invariant-loop-i decreases-loop-i
-loop_again c = rw add-one (c.before.before.before.before.loop-i.invariant ∙ all_more _ _ c.before.before.before.loop-i-test.true (digit_is _ _ c.before.digit-d.ensures.0 c.if-d-gt9.false))
+loop_again c = rw add-one (c.loop-i.invariant ∙ all_more _ _ c.loop-i-test.true (digit_is _ _ c.digit-d.ensures.0 c.if-d-gt9.false))
 
 returns_2 : tie.Need-returns invariant-loop-i decreases-loop-i
-returns_2 c = sym (c.before.loop-i.invariant ∙ all_end _ _ c.loop-i-test.false)
+returns_2 c = sym (c.loop-i.invariant ∙ all_end _ _ c.loop-i-test.false)
 
 pub all_digits_spec : {M : Type 1} → statement M
 all_digits_spec = tie.close (tie.spec

@@ -9,7 +9,7 @@ returns : tie.Need-returns-then-b-lt48
 returns c = (digit_low _ c.if-b-lt48.true, omega arith)
 
 returns_2 : tie.Need-returns-then-b-gt57
-returns_2 c = (digit_high _ c.before.if-b-lt48.false c.if-b-gt57.true, omega arith)
+returns_2 c = (digit_high _ c.if-b-lt48.false c.if-b-gt57.true, omega arith)
 
 returns_3 : tie.Need-returns
 returns_3 c = (digit_in _ (omega arith) (omega arith), omega arith)

@@ -22,10 +22,10 @@ kept : (m : ℕ) → m ≤ 2_147_483_648 → to_z w32 (of_z w32 (to_z w64 (of_z 
 kept m h = rw (wide m h, to_z-of_z (narrow m h).1, to_z-of_z (narrow m h).0) (+ℤ_idl (neg_ℤ (pos m)))
 
 returns : tie.Need-returns-then-m-eq0
-returns c = rw (c.before.before.n-1.given.1, c.if-m-eq0.true)
+returns c = rw (c.in-Is.is, c.if-m-eq0.true)
 
 returns_2 : tie.Need-returns-then-m-gt2147483648
-returns_2 c = rw (c.before.before.before.n-1.given.1, ne_eqb _ 0 c.before.if-m-eq0.false, lt-leb _ 2_147_483_648 c.if-m-gt2147483648.true)
+returns_2 c = rw (c.in-Is.is, ne_eqb _ 0 c.if-m-eq0.false, lt-leb _ 2_147_483_648 c.if-m-gt2147483648.true)
 
 sub-t6 : tie.Need-overflow_sub-result
 sub-t6 c = rw (wide _ c.if-m-gt2147483648.false) (narrow _ c.if-m-gt2147483648.false).1
@@ -34,7 +34,7 @@ cast-t7 : tie.Need-overflow_cast-result-in-Is
 cast-t7 c = rw (wide _ c.if-m-gt2147483648.false, to_z-of_z (narrow _ c.if-m-gt2147483648.false).1) (narrow _ c.if-m-gt2147483648.false).0
 
 returns_3 : tie.Need-returns-else-m-gt2147483648
-returns_3 c = rw (c.before.before.before.n-1.given.1, ne_eqb _ 0 c.before.if-m-eq0.false, le-leb _ 2_147_483_648 c.if-m-gt2147483648.false) (ap Is (kept _ c.if-m-gt2147483648.false))
+returns_3 c = rw (c.in-Is.is, ne_eqb _ 0 c.if-m-eq0.false, le-leb _ 2_147_483_648 c.if-m-gt2147483648.false) (ap Is (kept _ c.if-m-gt2147483648.false))
 
 pub downward_spec : {M : Type 1} → statement M
 downward_spec = tie.close (tie.spec (λ c. search rules) returns returns_2 (λ c. search rules) sub-t6 cast-t7 (λ c. search rules) returns_3 (λ c. search rules))

@@ -6,7 +6,7 @@ use Rattle.program_words.proofs.is_word.Statement.{statement}
 use Rattle.program_words.proofs.is_word.Tie as tie
 
 returns : tie.Need-returns-then-word-one
-returns c = c.starts_with.ensures ∙ same_word _ _ c.before.if-word-one.true
+returns c = c.starts_with.ensures ∙ same_word _ _ c.if-word-one.true
 
 returns_2 : tie.Need-returns
 returns_2 c = other_length _ _ c.if-word-one.false

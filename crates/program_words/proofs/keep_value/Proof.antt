@@ -11,19 +11,19 @@ use Rattle.program_words.proofs.keep_value.Tie as tie
 
 returns : tie.Need-returns-then-at-store
 returns c =
-    let e = sym c.before.before.v-1.given.1 ∙ c.before.before.before.before.read_value-v.ensures in
-    let f : SFits w32 c.before.before.v-1.given.0.0 = search rules in
-    (ap is_value e, simp (to_z-of_z f) (ap (λ v. kept_in v c.before.before.before.before.before.before.args.store.now c.before.before.before.before.before.before.args.at) e))
+    let e = sym c.in-Is.is ∙ c.read_value-v.ensures in
+    let f : SFits w32 c.in-Is.x = search rules in
+    (ap is_value e, simp (to_z-of_z f) (ap (λ v. kept_in v c.args.store.now c.args.at) e))
 
 returns_2 : tie.Need-returns-else-at-store
 returns_2 c =
-    let e = sym c.before.before.v-1.given.1 ∙ c.before.before.before.before.read_value-v.ensures in
-    (ap is_value e, set_past _ _ _ c.if-at-store.false ∙ ap (λ v. kept_in v c.before.before.before.before.before.before.args.store.now c.before.before.before.before.before.before.args.at) e)
+    let e = sym c.in-Is.is ∙ c.read_value-v.ensures in
+    (ap is_value e, set_past _ _ _ c.if-at-store.false ∙ ap (λ v. kept_in v c.args.store.now c.args.at) e)
 
 returns_3 : tie.Need-returns-in-Malformed
 returns_3 c =
-    let e = sym c.enum_told-1.given.1 ∙ c.before.before.read_value-v.ensures in
-    (ap is_value e, ap (λ v. kept_in v c.before.before.before.before.args.store.now c.before.before.before.before.args.at) e)
+    let e = sym c.in-Malformed.is ∙ c.read_value-v.ensures in
+    (ap is_value e, ap (λ v. kept_in v c.args.store.now c.args.at) e)
 
 pub keep_value_spec : {M : Type 1} → statement M
 keep_value_spec =

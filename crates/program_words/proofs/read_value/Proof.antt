@@ -12,13 +12,13 @@ returns c = no_value _ c.if-word-eq0.true
 
 returns_2 : tie.Need-returns-then-word-eq45
 returns_2 c =
-    c.downward.ensures ∙ ap downward_of (c.before.read_number.ensures ∙ ap number_in (simp part_rest))
-    ∙ below_zero _ (omega (arith, c.before.before.before.before.before.if-word-eq0.false)) c.before.before.before.if-word-eq45.true
+    c.downward.ensures ∙ ap downward_of (c.read_number.ensures ∙ ap number_in (simp part_rest))
+    ∙ below_zero _ (omega (arith, c.if-word-eq0.false)) c.if-word-eq45.true
 
 returns_3 : tie.Need-returns
 returns_3 c =
-    c.upward.ensures ∙ ap upward_of c.before.read_number-2.ensures
-    ∙ from_zero_lem _ (omega (arith, c.before.before.before.before.if-word-eq0.false)) c.before.before.if-word-eq45.false
+    c.upward.ensures ∙ ap upward_of c.read_number-2.ensures
+    ∙ from_zero_lem _ (omega (arith, c.if-word-eq0.false)) c.if-word-eq45.false
 
 pub read_value_spec : {M : Type 1} → statement M
 read_value_spec =

@@ -18,16 +18,16 @@ loop_holds : tie.Need-loop-i-init invariant-loop-i decreases-loop-i
 loop_holds c = (spelling_none _, omega arith)
 
 returns : tie.Need-returns-then-d-gt9 invariant-loop-i decreases-loop-i
-returns c = spelling_stops _ _ _ c.before.before.before.before.loop-i.invariant.0 c.before.before.before.loop-i-test.true _ c.before.digit-d.ensures.0 c.if-d-gt9.true
+returns c = spelling_stops _ _ _ c.loop-i.invariant.0 c.loop-i-test.true _ c.digit-d.ensures.0 c.if-d-gt9.true
 
 returns_2 : tie.Need-returns-then-n-d invariant-loop-i decreases-loop-i
-returns_2 c = spelling_past _ _ _ c.before.before.before.before.before.loop-i.invariant.0 c.before.before.before.before.loop-i-test.true _ c.before.before.digit-d.ensures.0 c.before.if-d-gt9.false (omega arith)
+returns_2 c = spelling_past _ _ _ c.loop-i.invariant.0 c.loop-i-test.true _ c.digit-d.ensures.0 c.if-d-gt9.false (omega arith)
 
 loop_again : tie.Need-loop-i-preserved invariant-loop-i decreases-loop-i
-loop_again c = (rw add-one (spelling_more _ _ _ c.before.before.before.before.before.loop-i.invariant.0 c.before.before.before.before.loop-i-test.true _ c.before.before.digit-d.ensures.0 c.before.if-d-gt9.false), omega arith)
+loop_again c = (rw add-one (spelling_more _ _ _ c.loop-i.invariant.0 c.loop-i-test.true _ c.digit-d.ensures.0 c.if-d-gt9.false), omega arith)
 
 returns_3 : tie.Need-returns invariant-loop-i decreases-loop-i
-returns_3 c = spelling_ends _ _ _ c.before.loop-i.invariant.0 c.loop-i-test.false c.before.loop-i.invariant.1
+returns_3 c = spelling_ends _ _ _ c.loop-i.invariant.0 c.loop-i-test.false c.loop-i.invariant.1
 
 pub spelled_spec : {M : Type 1} → statement M
 spelled_spec =

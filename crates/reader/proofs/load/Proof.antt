@@ -30,69 +30,69 @@ abbrev decreases-loop-j : tie.decreases-loop-j
 decreases-loop-j file ranges table₀ rows next stopped i line end verdict vars count open₀ j₀ table «open» j = count - j
 
 -- the line that was read
-line : (c : tie.After-row_line-l invariant-loop-i decreases-loop-i invariant-loop-j decreases-loop-j) → let n = c.before.before.before.before.before.loop-i.next in LineRead (drop n c.before.before.before.before.before.before.before.before.before.before.args.file.now) n c.before.before.before.before.before.before.load_head-head.result.vars c.row_line_lem.result
-line c = rw (part_rest c.before.before.before.before.before.before.before.before.before.before.args.file.now c.before.before.before.before.before.loop-i.next) at c.row_line_lem.ensures
+line : (c : tie.After-row_line-l invariant-loop-i decreases-loop-i invariant-loop-j decreases-loop-j) → let n = c.loop-i.next in LineRead (drop n c.args.file.now) n c.load_head-head.result.vars c.row_line-l.result
+line c = rw (part_rest c.args.file.now c.loop-i.next) at c.row_line-l.ensures
 
 loop_holds : tie.Need-loop-i-init invariant-loop-i decreases-loop-i invariant-loop-j decreases-loop-j
 loop_holds c = (rows_none _ _ _ _ _ _ c.load_head-head.ensures.0.within.start refl, refl)
 
 sub-row-line : tie.Need-slice_bounds-row_line-count invariant-loop-i decreases-loop-i invariant-loop-j decreases-loop-j
-sub-row-line c = let h = c.before.before.loop-i.invariant.0.within in search rules
+sub-row-line c = let h = c.loop-i.invariant.0.within in search rules
 
 part-row-line-start : tie.Need-slice-bounds-row-line-start invariant-loop-i decreases-loop-i invariant-loop-j decreases-loop-j
-part-row-line-start c = let h = c.before.before.loop-i.invariant.0.within in search rules
+part-row-line-start c = let h = c.before.before.loop.invariant.0.within in search rules
 
 cast-row-line : tie.Need-overflow_cast-head invariant-loop-i decreases-loop-i invariant-loop-j decreases-loop-j
-cast-row-line c = let h = c.before.before.before.before.before.load_head-head.ensures.0.within.vars in search rules
+cast-row-line c = let h = c.load_head-head.ensures.0.within.vars in search rules
 
 row-line-requires : tie.Need-row_line-l-requires invariant-loop-i decreases-loop-i invariant-loop-j decreases-loop-j
 row-line-requires c κs =
-    let h = c.before.before.before.before.before.load_head-head.ensures in
-    let u = c.before.before.before.before.loop-i.invariant.0 in
-    let t = c.before.before.loop-i-test.true in
-    let file = c.before.before.before.before.before.before.before.before.before.args.file.now in
+    let h = c.load_head-head.ensures in
+    let u = c.loop-i.invariant.0 in
+    let t = c.loop-i-test.true in
+    let file = c.args.file.now in
     let s = h.1 (omega arith) in
-    let next = c.before.before.before.before.loop-i.next in
+    let next = c.loop-i.next in
     (h.0.within.vars, rw (part_rest file next) (omega (arith, length-drop next file, u.within, s)))
 
 nest-row-requires : tie.Need-nest_row-p-requires invariant-loop-i decreases-loop-i invariant-loop-j decreases-loop-j
-nest-row-requires c κs = c.before.before.before.before.before.before.before.before.loop-i.invariant.0.shallow
+nest-row-requires c κs = c.loop-i.invariant.0.shallow
 
 array-set-from-rows : tie.Need-bounds-rows-i invariant-loop-i decreases-loop-i invariant-loop-j decreases-loop-j
-array-set-from-rows c = let h = c.before.before.before.before.before.before.before.before.before.before.before.loop-i.invariant.0.size in let k = c.before.before.before.before.before.before.before.before.before.before.before.before.load_head-head.ensures.0.within.count in search rules
+array-set-from-rows c = let h = c.loop-i.invariant.0.size in let k = c.load_head-head.ensures.0.within.count in search rules
 
 -- the line lies within the file
-long : (c : tie.After-nest_row-p invariant-loop-i decreases-loop-i invariant-loop-j decreases-loop-j) → c.before.before.before.before.before.before.before.before.before.loop-i.next + c.before.before.l-1.given.0.1.0 + 1 ≤ length c.before.before.before.before.before.before.before.before.before.before.before.before.before.before.args.file.now
+long : (c : tie.After-nest_row-p invariant-loop-i decreases-loop-i invariant-loop-j decreases-loop-j) → c.loop-i.next + c.in-Read.end + 1 ≤ length c.args.file.now
 long c =
-    let l = line c.before.before.before.before in
-    let e = c.before.before.l-1.given.1 in
-    rows_long _ _ _ _ _ _ _ _ _ c.before.before.before.before.before.before.before.before.before.loop-i.invariant.0 c.before.before.before.before.before.before.before.loop-i-test.true _ (subst (LineRead _ _ _) e l) _ (c.nest_row-p.ensures.0 _)
+    let l = line c.before.before in
+    let e = c.in-Read.is in
+    rows_long _ _ _ _ _ _ _ _ _ c.loop-i.invariant.0 c.loop-i-test.true _ (subst (LineRead _ _ _) e l) _ (c.nest_row-p.ensures.0 _)
 
 add-next : tie.Need-overflow_add-next invariant-loop-i decreases-loop-i invariant-loop-j decreases-loop-j
-add-next c = let h = long c.before.before in let k = c.before.before.before.before.before.before.before.before.before.before.before.before.before.before.before.before.well_formed.0 in search rules
+add-next c = let h = long c.before.before in let k = c.well_formed.0 in search rules
 
 add-next-2 : tie.Need-overflow_add-next-in-Read invariant-loop-i decreases-loop-i invariant-loop-j decreases-loop-j
-add-next-2 c = let h = long c.before.before in let k = c.before.before.before.before.before.before.before.before.before.before.before.before.before.before.before.before.well_formed.0 in search rules
+add-next-2 c = let h = long c.before.before in let k = c.well_formed.0 in search rules
 
 loop_again : tie.Need-loop-i-preserved invariant-loop-i decreases-loop-i invariant-loop-j decreases-loop-j
 loop_again c =
-    let l = line c.before.before.before.before.before.before in
-    let e = c.before.before.before.before.l-1.given.1 in
-    (rows_more _ _ _ _ _ _ _ _ _ c.before.before.before.before.before.before.before.before.before.before.before.loop-i.invariant.0 c.before.before.before.before.before.before.before.before.before.loop-i-test.true _ (subst (LineRead _ _ _) e l) _ (c.before.before.nest_row-p.ensures.0 _) c.before.before.before.before.before.before.before.before.before.before.before.before.load_head-head.ensures.0.within.count c.before.if-stopped-ne0.false c.before.before.nest_row-p.ensures.1, c.before.if-stopped-ne0.false)
+    let l = line c.before.before.before.before in
+    let e = c.in-Read.is in
+    (rows_more _ _ _ _ _ _ _ _ _ c.loop-i.invariant.0 c.loop-i-test.true _ (subst (LineRead _ _ _) e l) _ (c.nest_row-p.ensures.0 _) c.load_head-head.ensures.0.within.count c.if-stopped-ne0.false c.nest_row-p.ensures.1, c.if-stopped-ne0.false)
 
 -- what the loop has read when it is left
 abbrev Ended : tie.Left-loop-i invariant-loop-i decreases-loop-i invariant-loop-j decreases-loop-j → Type 0
 Ended c =
-    let h = c.before.before.before.load_head-head.result in
-    let l = c.before.before.loop-i in
-    RowsRead c.before.before.before.before.before.before.before.args.file.now h.at h.vars h.count (record { number = c.loop-i-test.stopped; place = 4 + h.vars + l.i; at = l.next; blocks = l.blocks; rows = l.rows })
+    let h = c.load_head-head.result in
+    let l = c.loop-i in
+    RowsRead c.args.file.now h.at h.vars h.count (record { number = c.loop-i-test.stopped; place = 4 + h.vars + l.i; at = l.next; blocks = l.blocks; rows = l.rows })
 
 -- by its test, by a row that is misplaced, or by a line that is wrong
 ended : (c : tie.Left-loop-i invariant-loop-i decreases-loop-i invariant-loop-j decreases-loop-j) → Ended c
 ended c =
-    let u = c.before.before.loop-i.invariant.0 in
+    let u = c.loop-i.invariant.0 in
     ⊎_elim {C = Ended c}
-    (λ w. rw (w.1, c.before.before.loop-i.invariant.1) (rows_all _ _ _ _ _ _ _ _ u w.0.left))
+    (λ w. rw (w.1, c.loop-i.invariant.1) (rows_all _ _ _ _ _ _ _ _ u w.0.left))
     (⊎_elim {C = Ended c}
     (λ w.
     let l = line (record { before = record { before = record { before = record { before = c.before; if1 = w.0 }; row-line-arg = w.1 }; struct-known2 = w.2 }; row_line_lem = w.3 }) in
@@ -104,52 +104,52 @@ ended c =
     c.loop-i-test.branch
 
 add-line-2 : tie.Need-overflow_add-line-2 invariant-loop-i decreases-loop-i invariant-loop-j decreases-loop-j
-add-line-2 c = let h = c.before.before.before.before.load_head-head.ensures.0.within in let k = c.before.before.before.loop-i.invariant.0.few in search rules
+add-line-2 c = let h = c.load_head-head.ensures.0.within in let k = c.loop-i.invariant.0.few in search rules
 
 -- the file is read, once its numbers are known
 read : (c : tie.After-if_read-count invariant-loop-i decreases-loop-i invariant-loop-j decreases-loop-j)
     → let s = c.before.before.before.before.before.before.before.before.before.before.before.before.before.before in
-    let l : Loaded = record { verdict = c.before.before.and_then-verdict.result; vars = c.before.if_read-vars.result; count = c.if_read-count.result } in
-    ReadAs s.args.file.now (file_script s.args.file.now) l c.before.before.before.before.before.before.before.before.before.loop-i.rows c.before.before.before.before.before.before.before.before.before.before.load_head-head.new.1.0
+    let l : Loaded = record { verdict = c.and_then-verdict.result; vars = c.if_read-vars.result; count = c.if_read-count.result } in
+    ReadAs s.args.file.now (file_script s.args.file.now) l c.loop-i.rows c.load_head-head.new.1.0
 read c =
-    let file = c.before.before.before.before.before.before.before.before.before.before.before.before.before.before.args.file.now in
-    let h = c.before.before.before.before.before.before.before.before.before.before.load_head-head in
+    let file = c.args.file.now in
+    let h = c.load_head-head in
     let e = ended c.before.before.before.before.before.before.before in
     loads file _ h.result _ _ _ h.ensures.0 (record {
-      script = λ ranges. rw (c.before.before.and_then-verdict.ensures, c.before.before.before.ask_rows-later.ensures) (load_read file ranges h.result _ e);
-      passes = then_passed _ _ _ c.before.before.and_then-verdict.ensures;
-      vars = c.before.if_read-vars.ensures;
+      script = λ ranges. rw (c.and_then-verdict.ensures, c.ask_rows-later.ensures) (load_read file ranges h.result _ e);
+      passes = then_passed _ _ _ c.and_then-verdict.ensures;
+      vars = c.if_read-vars.ensures;
       count = c.if_read-count.ensures;
-      written = λ z. e.written (rows_passed _ _ _ _ _ _ _ (rw c.before.before.before.ask_rows-later.ensures at c.before.before.and_then-verdict.ensures) z);
-      long = c.before.before.before.before.before.before.before.before.before.loop-i.invariant.0.size;
+      written = λ z. e.written (rows_passed _ _ _ _ _ _ _ (rw c.ask_rows-later.ensures at c.and_then-verdict.ensures) z);
+      long = c.loop-i.invariant.0.size;
     })
 
 loop2-holds : tie.Need-loop-j-init invariant-loop-i decreases-loop-i invariant-loop-j decreases-loop-j
 loop2-holds c =
     let r = read c in
-    let n = c.before.before.before.before.before.before.before.before.before.loop-i.invariant.0.size in
-    let t = c.before.before.before.before.before.before.before.before.before.before.before.before.before.before.requires in
+    let n = c.loop-i.invariant.0.size in
+    let t = c.requires in
     (r, n, t, fill_none _ _ _ n (read_packable _ _ _ _ r _ t) _ _)
 
 array-copy-out-row : tie.Need-bounds-rows-j invariant-loop-i decreases-loop-i invariant-loop-j decreases-loop-j
-array-copy-out-row c = let l = c.before.loop-j.invariant in let h = read_few _ _ _ _ l.0 in search rules
+array-copy-out-row c = let l = c.loop-j.invariant in let h = read_few _ _ _ _ l.0 in search rules
 
 put-next-requires : tie.Need-put_next-after-requires invariant-loop-i decreases-loop-i invariant-loop-j decreases-loop-j
 put-next-requires c κs =
-    let (r, n, t, f) = c.before.before.before.loop-j.invariant in
-    fill_ready _ _ c.before.before.before.before.before.before.before.before.before.before.before.before.before.before.before.before.before.before.args.table.now n (read_packable _ _ _ _ r _ t) _ _ _ c.before.before.loop-j-test.true f
+    let (r, n, t, f) = c.loop-j.invariant in
+    fill_ready _ _ c.args.table.now n (read_packable _ _ _ _ r _ t) _ _ _ c.loop-j-test.true f
 
 loop2-again : tie.Need-loop-j-preserved invariant-loop-i decreases-loop-i invariant-loop-j decreases-loop-j
 loop2-again c =
-    let (r, n, t, f) = c.before.before.before.before.before.before.loop-j.invariant in
-    (r, n, t, fill_more _ _ c.before.before.before.before.before.before.before.before.before.before.before.before.before.before.before.before.before.before.before.before.before.args.table.now n (read_packable _ _ _ _ r _ t) _ _ _ _ _ c.before.before.before.before.before.loop-j-test.true f c.before.before.put_next-after.ensures)
+    let (r, n, t, f) = c.loop-j.invariant in
+    (r, n, t, fill_more _ _ c.args.table.now n (read_packable _ _ _ _ r _ t) _ _ _ _ _ c.loop-j-test.true f c.put_next-after.ensures)
 
 returns : tie.Need-returns invariant-loop-i decreases-loop-i invariant-loop-j decreases-loop-j
 returns c =
-    let l = c.before.loop-j in
+    let l = c.loop-j in
     let (r, n, t, f) = l.invariant in
-    let e : l.j ≡ c.before.before.if_read-count.result = omega (arith, f.few, c.loop-j-test.false) in
-    read_loaded _ _ _ _ r _ (fill_done _ _ c.before.before.before.before.before.before.before.before.before.before.before.before.before.before.before.before.args.table.now _ _ n (read_packable _ _ _ _ r _ t) (rw e at f) _ (read_closes _ _ _ _ r))
+    let e : l.j ≡ c.if_read-count.result = omega (arith, f.few, c.loop-j-test.false) in
+    read_loaded _ _ _ _ r _ (fill_done _ _ c.args.table.now _ _ n (read_packable _ _ _ _ r _ t) (rw e at f) _ (read_closes _ _ _ _ r))
 
 pub load_spec : {M : Type 1} → statement M
 load_spec =
@@ -179,11 +179,11 @@ load_spec =
     (λ c. search rules) (λ c. search rules) (λ c κs. search rules) (λ c κs. search rules)
     (λ c κs. search rules) (λ c κs. search rules)
     loop2-holds
-    (λ c. let l = c.before.loop-j.invariant in let h = read_few _ _ _ _ l.0 in search rules)
+    (λ c. let l = c.loop-j.invariant in let h = read_few _ _ _ _ l.0 in search rules)
     array-copy-out-row
     put-next-requires
-    (λ c. let l = c.before.before.before.before.before.before.loop-j.invariant in omega (arith, read_few _ _ _ _ l.0, c.before.before.before.before.before.loop-j-test.true))
-    (λ c. omega (arith, c.before.before.before.before.before.loop-j-test.true))
+    (λ c. let l = c.loop-j.invariant in omega (arith, read_few _ _ _ _ l.0, c.loop-j-test.true))
+    (λ c. omega (arith, c.loop-j-test.true))
     loop2-again
-    (λ c. let l = c.before.loop-j.invariant in let h = l.3.size in let k = l.2 in search rules)
+    (λ c. let l = c.loop-j.invariant in let h = l.3.size in let k = l.2 in search rules)
     returns)

@@ -10,9 +10,9 @@ use Rattle.report.proofs.both_ends.Tie as tie
 returns : tie.Need-returns-in-Add
 unfolding first_end second_end
 returns c =
-    let f : SFits w64 c.before.step-1.given.0.0 = search rules in
-    let g : SFits w64 c.before.step-1.given.0.1.0 = search rules in
-    rw c.before.step-1.given.1 (to_z-of_z f, to_z-of_z g)
+    let f : SFits w64 c.in-Add.a = search rules in
+    let g : SFits w64 c.in-Add.b = search rules in
+    rw c.in-Add.is (to_z-of_z f, to_z-of_z g)
 
 pub both_ends_spec : {M : Type 1} → statement M
 unfolding first_end second_end
@@ -21,6 +21,6 @@ both_ends_spec =
     (tie.spec
     (λ c. search rules) (λ c. search rules) (λ c. search rules) (λ c. search rules)
     returns
-    (λ c. rw c.before.step-in-Grow-1.given.1 (refl, refl))
-    (λ c. rw c.before.step-in-Shrink-1.given.1 (refl, refl))
-    (λ c. rw c.enum_told-1.given.1 (refl, refl)))
+    (λ c. rw c.in-Grow.is (refl, refl))
+    (λ c. rw c.in-Shrink.is (refl, refl))
+    (λ c. rw c.in-Unknown.is (refl, refl)))

@@ -9,17 +9,17 @@ use Rattle.report.proofs.end_sign.Tie as tie
 
 returns : tie.Need-returns-then-z-lt0
 returns c =
-    let f : SFits w64 c.before.before.end-1.given.0.0 = search rules in
-    rw c.before.before.end-1.given.1 (below_sign _ (simp (to_z-of_z f) at c.if-z-lt0.true))
+    let f : SFits w64 c.in-Change.z = search rules in
+    rw c.in-Change.is (below_sign _ (simp (to_z-of_z f) at c.if-z-lt0.true))
 
 returns_2 : tie.Need-returns-else-z-lt0
 returns_2 c =
-    let f : SFits w64 c.before.before.end-1.given.0.0 = search rules in
-    rw c.before.before.end-1.given.1 (above_sign _ (simp (to_z-of_z f) at c.if-z-lt0.false))
+    let f : SFits w64 c.in-Change.z = search rules in
+    rw c.in-Change.is (above_sign _ (simp (to_z-of_z f) at c.if-z-lt0.false))
 
 returns_3 : tie.Need-returns-in-Factor
 unfolding sign
-returns_3 c = rw c.enum_told-1.given.1
+returns_3 c = rw c.in-Factor.is
 
 pub end_sign_spec : {M : Type 1} → statement M
 end_sign_spec = tie.close (tie.spec (λ c. search rules) returns (λ c. search rules) returns_2 returns_3)

@@ -9,9 +9,9 @@ use Rattle.report.proofs.head_len.Tie as tie
 returns : tie.Need-returns
 unfolding head_text
 returns c =
-    let a = c.before.before.before.args in
+    let a = c.args in
     let l = three_length (key_line report_key 1) (key_line rows_key a.rows) (key_line loops_key a.loops) in
-    (omega (arith, l, c.key_len-3.ensures.0, c.before.key_len-2.ensures.0, c.before.before.key_len.ensures.0), omega arith)
+    (omega (arith, l, c.key_len-3.ensures.0, c.key_len-2.ensures.0, c.key_len.ensures.0), omega arith)
 
 pub head_len_spec : {M : Type 1} → statement M
 head_len_spec = tie.close (tie.spec (λ c κs. search rules) (λ c κs. search rules) (λ c. search rules) (λ c κs. search rules) (λ c. search rules) returns)

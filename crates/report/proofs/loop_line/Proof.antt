@@ -14,7 +14,7 @@ returns c =
     let m = b.before in
     let a = m.before in
     let name = a.before in
-    let e = name.before.both_ends-both.ensures in
+    let e = name.both_ends-both.ensures in
     loop_spelled _ _ _ _ _ _ _ name.step_name.ensures
     (a.end_sign.ensures ∙ ap sign e.0)
     (m.end_size.ensures ∙ ap (λ (z : ℤ). decimal (size z)) e.0)

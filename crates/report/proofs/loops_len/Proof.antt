@@ -25,14 +25,14 @@ count c = taken_loops _ _ (lent_room _ _ c.requires)
 loop_again : tie.Need-loop-k-preserved invariant-loop-k decreases-loop-k
 loop_again c =
     let turn = c.before.before.before in
-    let pre = turn.before.before.requires in
-    measured_more 340 _ _ _ _ turn.before.loop-k.invariant (omega (arith, count turn.before.before))
-    (c.line_len-len.ensures.0 ∙ ap length (c.before.loop_line.ensures ∙ ap (λ l. loop_line (line_of l)) c.before.before.line_at-line.ensures ∙ loop_taken _ _ (lent_room _ _ pre) _ _ turn.loop-k-test.true)) c.line_len-len.ensures.1
+    let pre = turn.requires in
+    measured_more 340 _ _ _ _ turn.loop-k.invariant (omega (arith, count turn.before.before))
+    (c.line_len-len.ensures.0 ∙ ap length (c.loop_line.ensures ∙ ap (λ l. loop_line (line_of l)) c.line_at-line.ensures ∙ loop_taken _ _ (lent_room _ _ pre) _ _ turn.loop-k-test.true)) c.line_len-len.ensures.1
 
 returns : tie.Need-returns invariant-loop-k decreases-loop-k
 unfolding loops_text
 returns c =
-    let m = c.before.loop-k.invariant in
+    let m = c.loop-k.invariant in
     (measured_all 340 _ _ _ m (omega (arith, count c.before.before)), omega (arith, m.small, m.within, count c.before.before))
 
 pub loops_len_spec : {M : Type 1} → statement M

@@ -16,20 +16,20 @@ room c = c.requires
 
 returns : tie.Need-returns
 unfolding head_text
-returns c = writing_all _ _ _ _ _ (third_written _ _ _ _ (room c.before.before.before.before.before.before.before.before.before.before.before.before.before) _ _ _ _ _ _ c.before.before.before.before.before.before.before.before.before.before.put_key-a.ensures c.before.before.before.before.before.before.put_key.ensures c.before.before.put_key-2.ensures) (omega arith)
+returns c = writing_all _ _ _ _ _ (third_written _ _ _ _ (room c.before.before.before.before.before.before.before.before.before.before.before.before.before) _ _ _ _ _ _ c.put_key-a.ensures c.put_key.ensures c.put_key-2.ensures) (omega arith)
 
 pub put_head_spec : {M : Type 1} → statement M
 put_head_spec = tie.close (tie.spec
-    (λ c κs. first_room _ _ _ c.before.before.args.buffer.now (room c.before.before))
-    (λ c. omega (arith, second_room _ _ _ _ (room c.before.before.before.before.before) _ _ c.before.before.put_key-a.ensures))
-    (λ c. omega (arith, second_room _ _ _ _ (room c.before.before.before.before.before) _ _ c.before.before.put_key-a.ensures))
+    (λ c κs. first_room _ _ _ c.args.buffer.now (room c.before.before))
+    (λ c. omega (arith, second_room _ _ _ _ (room c.before.before.before.before.before) _ _ c.put_key-a.ensures))
+    (λ c. omega (arith, second_room _ _ _ _ (room c.before.before.before.before.before) _ _ c.put_key-a.ensures))
     (λ c. search rules)
-    (λ c κs. simp (part_rest, length-drop) (omega (arith, second_room _ _ _ _ (room c.before.before.before.before.before.before) _ _ c.before.before.before.put_key-a.ensures)))
-    (λ c. omega (arith, third_room _ _ _ _ (room c.before.before.before.before.before.before.before.before.before) _ _ _ _ c.before.before.before.before.before.before.put_key-a.ensures c.before.before.put_key.ensures))
-    (λ c. omega (arith, third_room _ _ _ _ (room c.before.before.before.before.before.before.before.before.before) _ _ _ _ c.before.before.before.before.before.before.put_key-a.ensures c.before.before.put_key.ensures))
-    (λ c. omega (arith, third_room _ _ _ _ (room c.before.before.before.before.before.before.before.before.before) _ _ _ _ c.before.before.before.before.before.before.put_key-a.ensures c.before.before.put_key.ensures))
+    (λ c κs. simp (part_rest, length-drop) (omega (arith, second_room _ _ _ _ (room c.before.before.before.before.before.before) _ _ c.put_key-a.ensures)))
+    (λ c. omega (arith, third_room _ _ _ _ (room c.before.before.before.before.before.before.before.before.before) _ _ _ _ c.put_key-a.ensures c.put_key.ensures))
+    (λ c. omega (arith, third_room _ _ _ _ (room c.before.before.before.before.before.before.before.before.before) _ _ _ _ c.put_key-a.ensures c.put_key.ensures))
+    (λ c. omega (arith, third_room _ _ _ _ (room c.before.before.before.before.before.before.before.before.before) _ _ _ _ c.put_key-a.ensures c.put_key.ensures))
     (λ c. search rules)
-    (λ c κs. simp (part_rest, length-drop) (omega (arith, third_room _ _ _ _ (room c.before.before.before.before.before.before.before.before.before.before) _ _ _ _ c.before.before.before.before.before.before.before.put_key-a.ensures c.before.before.before.put_key.ensures)))
-    (λ c. omega (arith, third_room _ _ _ _ (room c.before.before.before.before.before.before.before.before.before.before.before.before.before) _ _ _ _ c.before.before.before.before.before.before.before.before.before.before.put_key-a.ensures c.before.before.before.before.before.before.put_key.ensures, c.before.before.put_key-2.ensures.count))
-    (λ c. (third_written _ _ _ _ (room c.before.before.before.before.before.before.before.before.before.before.before.before.before) _ _ _ _ _ _ c.before.before.before.before.before.before.before.before.before.before.put_key-a.ensures c.before.before.before.before.before.before.put_key.ensures c.before.before.put_key-2.ensures).same)
+    (λ c κs. simp (part_rest, length-drop) (omega (arith, third_room _ _ _ _ (room c.before.before.before.before.before.before.before.before.before.before) _ _ _ _ c.put_key-a.ensures c.put_key.ensures)))
+    (λ c. omega (arith, third_room _ _ _ _ (room c.before.before.before.before.before.before.before.before.before.before.before.before.before) _ _ _ _ c.put_key-a.ensures c.put_key.ensures, c.put_key-2.ensures.count))
+    (λ c. (third_written _ _ _ _ (room c.before.before.before.before.before.before.before.before.before.before.before.before.before) _ _ _ _ _ _ c.put_key-a.ensures c.put_key.ensures c.put_key-2.ensures).same)
     returns)

@@ -19,20 +19,20 @@ room c = rw (report_parts _ _ (lent_room _ _ c.requires.0) c.args.rows c.args.ti
 returns : tie.Need-returns
 returns c =
     let s = c.before.before.before.before.before.before.before.before.before.before.before.before.before in
-    rw (report_parts _ _ (lent_room _ _ s.requires.0) s.args.rows s.args.ticks) (writing_all _ _ _ _ _ (third_written _ _ _ _ (room c.before.before.before.before.before.before.before.before.before.before.before.before.before) _ _ _ _ _ _ c.before.before.before.before.before.before.before.before.before.before.put_head-a.ensures c.before.before.before.before.before.before.put_loops.ensures c.before.before.put_key.ensures) (omega arith))
+    rw (report_parts _ _ (lent_room _ _ s.requires.0) s.args.rows s.args.ticks) (writing_all _ _ _ _ _ (third_written _ _ _ _ (room c.before.before.before.before.before.before.before.before.before.before.before.before.before) _ _ _ _ _ _ c.put_head-a.ensures c.put_loops.ensures c.put_key.ensures) (omega arith))
 
 pub put_lines_spec : {M : Type 1} → statement M
 put_lines_spec = tie.close (tie.spec
-    (λ c κs. first_room _ _ _ c.before.before.args.buffer.now (room c.before.before))
-    (λ c. omega (arith, second_room _ _ _ _ (room c.before.before.before.before.before) _ _ c.before.before.put_head-a.ensures))
-    (λ c. omega (arith, second_room _ _ _ _ (room c.before.before.before.before.before) _ _ c.before.before.put_head-a.ensures))
+    (λ c κs. first_room _ _ _ c.args.buffer.now (room c.before.before))
+    (λ c. omega (arith, second_room _ _ _ _ (room c.before.before.before.before.before) _ _ c.put_head-a.ensures))
+    (λ c. omega (arith, second_room _ _ _ _ (room c.before.before.before.before.before) _ _ c.put_head-a.ensures))
     (λ c. search rules)
-    (λ c κs. (search rules, simp (part_rest, length-drop) (omega (arith, second_room _ _ _ _ (room c.before.before.before.before.before.before) _ _ c.before.before.before.put_head-a.ensures))))
-    (λ c. omega (arith, third_room _ _ _ _ (room c.before.before.before.before.before.before.before.before.before) _ _ _ _ c.before.before.before.before.before.before.put_head-a.ensures c.before.before.put_loops.ensures))
-    (λ c. omega (arith, third_room _ _ _ _ (room c.before.before.before.before.before.before.before.before.before) _ _ _ _ c.before.before.before.before.before.before.put_head-a.ensures c.before.before.put_loops.ensures))
-    (λ c. omega (arith, third_room _ _ _ _ (room c.before.before.before.before.before.before.before.before.before) _ _ _ _ c.before.before.before.before.before.before.put_head-a.ensures c.before.before.put_loops.ensures))
+    (λ c κs. (search rules, simp (part_rest, length-drop) (omega (arith, second_room _ _ _ _ (room c.before.before.before.before.before.before) _ _ c.put_head-a.ensures))))
+    (λ c. omega (arith, third_room _ _ _ _ (room c.before.before.before.before.before.before.before.before.before) _ _ _ _ c.put_head-a.ensures c.put_loops.ensures))
+    (λ c. omega (arith, third_room _ _ _ _ (room c.before.before.before.before.before.before.before.before.before) _ _ _ _ c.put_head-a.ensures c.put_loops.ensures))
+    (λ c. omega (arith, third_room _ _ _ _ (room c.before.before.before.before.before.before.before.before.before) _ _ _ _ c.put_head-a.ensures c.put_loops.ensures))
     (λ c. search rules)
-    (λ c κs. simp (part_rest, length-drop) (omega (arith, third_room _ _ _ _ (room c.before.before.before.before.before.before.before.before.before.before) _ _ _ _ c.before.before.before.before.before.before.before.put_head-a.ensures c.before.before.before.put_loops.ensures)))
-    (λ c. omega (arith, third_room _ _ _ _ (room c.before.before.before.before.before.before.before.before.before.before.before.before.before) _ _ _ _ c.before.before.before.before.before.before.before.before.before.before.put_head-a.ensures c.before.before.before.before.before.before.put_loops.ensures, c.before.before.put_key.ensures.count))
-    (λ c. (third_written _ _ _ _ (room c.before.before.before.before.before.before.before.before.before.before.before.before.before) _ _ _ _ _ _ c.before.before.before.before.before.before.before.before.before.before.put_head-a.ensures c.before.before.before.before.before.before.put_loops.ensures c.before.before.put_key.ensures).same)
+    (λ c κs. simp (part_rest, length-drop) (omega (arith, third_room _ _ _ _ (room c.before.before.before.before.before.before.before.before.before.before) _ _ _ _ c.put_head-a.ensures c.put_loops.ensures)))
+    (λ c. omega (arith, third_room _ _ _ _ (room c.before.before.before.before.before.before.before.before.before.before.before.before.before) _ _ _ _ c.put_head-a.ensures c.put_loops.ensures, c.put_key.ensures.count))
+    (λ c. (third_written _ _ _ _ (room c.before.before.before.before.before.before.before.before.before.before.before.before.before) _ _ _ _ _ _ c.put_head-a.ensures c.put_loops.ensures c.put_key.ensures).same)
     returns)

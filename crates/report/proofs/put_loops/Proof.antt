@@ -30,25 +30,25 @@ whole c = c.requires.1
 
 -- the next line, and room for it
 line : (c : tie.After-loop_line invariant-loop-k decreases-loop-k) →
-    let a = c.before.before.before.before.before.args in
-    joined (piece_texts c.loop_line.result) ≡ get_or (loop_lines (first_lines a.lines.now a.loops)) c.before.before.before.loop-k.k []
+    let a = c.args in
+    joined (piece_texts c.loop_line.result) ≡ get_or (loop_lines (first_lines a.lines.now a.loops)) c.loop-k.k []
 line c =
-    c.loop_line.ensures ∙ ap (λ l. loop_line (line_of l)) c.before.line_at-line.ensures ∙ loop_taken _ _ (lent_room _ _ c.before.before.before.before.before.requires.0) _ _ c.before.before.loop-k-test.true
+    c.loop_line.ensures ∙ ap (λ l. loop_line (line_of l)) c.line_at-line.ensures ∙ loop_taken _ _ (lent_room _ _ c.requires.0) _ _ c.loop-k-test.true
 
-room : (c : tie.After-loop_line invariant-loop-k decreases-loop-k) → c.before.before.before.loop-k.at + length (joined (piece_texts c.loop_line.result)) ≤ length c.before.before.before.loop-k.buffer
+room : (c : tie.After-loop_line invariant-loop-k decreases-loop-k) → c.loop-k.at + length (joined (piece_texts c.loop_line.result)) ≤ length c.loop-k.buffer
 room c =
     let start = c.before.before.before.before.before in
-    rw (line c) (writing_room _ _ _ _ _ c.before.before.before.loop-k.invariant (omega (arith, count start)) (whole start))
+    rw (line c) (writing_room _ _ _ _ _ c.loop-k.invariant (omega (arith, count start)) (whole start))
 
 loop_again : tie.Need-loop-k-preserved invariant-loop-k decreases-loop-k
 loop_again c =
     let l = c.before.before.before.before in
     let start = l.before.before.before.before.before in
-    writing_more _ _ _ _ _ _ _ l.before.before.before.loop-k.invariant (omega (arith, count start)) (whole start) (rw (line l) at c.before.before.put_line-at.ensures)
+    writing_more _ _ _ _ _ _ _ l.loop-k.invariant (omega (arith, count start)) (whole start) (rw (line l) at c.put_line-at.ensures)
 
 returns : tie.Need-returns invariant-loop-k decreases-loop-k
 unfolding loops_text
-returns c = writing_all _ _ _ _ _ c.before.loop-k.invariant (omega (arith, count c.before.before.before))
+returns c = writing_all _ _ _ _ _ c.loop-k.invariant (omega (arith, count c.before.before.before))
 
 pub put_loops_spec : {M : Type 1} → statement M
 put_loops_spec = tie.close (tie.spec
@@ -63,5 +63,5 @@ put_loops_spec = tie.close (tie.spec
     (λ c. omega (arith, room c.before.before.before.before))
     (λ c. search rules) (λ c. search rules)
     loop_again
-    (λ c. c.before.loop-k.invariant.same)
+    (λ c. c.loop-k.invariant.same)
     returns)

@@ -15,7 +15,7 @@ returns c =
     let s = c.before.before.before in
     let a = s.args in
     let l = ap length (report_parts (lines_in a.lines.now) a.loops (lent_room _ _ s.requires) a.rows a.ticks) ∙ three_length (head_text a.rows a.loops) (loops_text (lines_in a.lines.now) a.loops) (key_line ticks_key a.ticks) in
-    omega (arith, l, c.key_len.ensures.0, c.before.loops_len.ensures.0, c.before.before.head_len.ensures.0)
+    omega (arith, l, c.key_len.ensures.0, c.loops_len.ensures.0, c.head_len.ensures.0)
 
 pub report_len_spec : {M : Type 1} → statement M
 report_len_spec = tie.close (tie.spec (λ c κs. search rules) (λ c κs. search rules) (λ c. search rules) (λ c κs. search rules) (λ c. search rules) returns)

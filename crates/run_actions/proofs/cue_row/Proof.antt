@@ -6,10 +6,10 @@ use Rattle.run_actions.proofs.cue_row.Statement.{statement}
 use Rattle.run_actions.proofs.cue_row.Tie as tie
 
 returns : tie.Need-returns-then-left-price
-returns c = λ store picks d n. rw c.ended.ensures (cue_spent c.before.before.args.prices _ _ _ _ _ _ _ false c.before.if-left-price.true)
+returns c = λ store picks d n. rw c.ended.ensures (cue_spent c.args.prices _ _ _ _ _ _ _ false c.if-left-price.true)
 
 returns_2 : tie.Need-returns
-returns_2 c = λ store picks d n. rw c.on.ensures (cue_done c.before.before.before.args.prices _ _ _ _ _ _ _ _ c.before.before.if-left-price.false)
+returns_2 c = λ store picks d n. rw c.on.ensures (cue_done c.args.prices _ _ _ _ _ _ _ _ c.if-left-price.false)
 
 pub cue_row_spec : {M : Type 1} → statement M
 cue_row_spec =

@@ -6,19 +6,19 @@ use Rattle.run_actions.proofs.pick_row.Statement.{statement}
 use Rattle.run_actions.proofs.pick_row.Tie as tie
 
 returns : tie.Need-returns-then-left-price
-returns c = λ store d. rw c.stopped.ensures (pick_spent c.before.before.before.before.args.prices _ _ _ _ _ _ c.before.if-left-price.true)
+returns c = λ store d. rw c.stopped.ensures (pick_spent c.args.prices _ _ _ _ _ _ c.if-left-price.true)
 
 shared-slice-read-branch : tie.Need-bounds-picks-used
-shared-slice-read-branch c = (c.before.before.before.after_byte-after.ensures.taken c.before.if-used-after.true).0
+shared-slice-read-branch c = (c.after_byte-after.ensures.taken c.if-used-after.true).0
 
 returns_2 : tie.Need-returns-then-used-after
 returns_2 c =
-    let at = c.before.before.before.before.before.before.args.m.row in
-    let (byte, one) = c.before.before.before.before.after_byte-after.ensures.taken c.before.before.if-used-after.true in
-    λ store d. pick_one c.before.before.before.before.before.before.args.prices _ _ _ _ _ _ _ _ c.before.before.before.if-left-price.false byte one (rw (← add-one at) c.branch-picks.ensures)
+    let at = c.args.m.row in
+    let (byte, one) = c.after_byte-after.ensures.taken c.if-used-after.true in
+    λ store d. pick_one c.args.prices _ _ _ _ _ _ _ _ c.if-left-price.false byte one (rw (← add-one at) c.branch-picks.ensures)
 
 returns_3 : tie.Need-returns-else-used-after
-returns_3 c = λ store d. rw c.stopped-else-used-after.ensures (pick_none c.before.before.before.before.before.args.prices _ _ _ _ _ _ c.before.before.if-left-price.false (c.before.before.before.after_byte-after.ensures.none c.before.if-used-after.false).0)
+returns_3 c = λ store d. rw c.stopped-else-used-after.ensures (pick_none c.args.prices _ _ _ _ _ _ c.if-left-price.false (c.after_byte-after.ensures.none c.if-used-after.false).0)
 
 pub pick_row_spec : {M : Type 1} → statement M
 pick_row_spec =

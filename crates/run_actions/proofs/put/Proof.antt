@@ -11,26 +11,26 @@ use Rattle.run_actions.proofs.put.Statement.{statement}
 use Rattle.run_actions.proofs.put.Tie as tie
 
 returns : tie.Need-returns-then-left-price
-returns c = λ picks d. rw c.ended.ensures (put_spent _ _ _ _ _ _ _ _ _ c.before.before.args.testing c.before.if-left-price.true)
+returns c = λ picks d. rw c.ended.ensures (put_spent _ _ _ _ _ _ _ _ _ c.args.testing c.if-left-price.true)
 
 returns_2 : tie.Need-returns-then-not-within
 returns_2 c =
     let s = c.before.before.before.before in
     let f = s.ranges.z in
-    let no : in_limits s.args.z ≡ false = simp (to_z-of_z f) at (sym c.before.before.within.ensures ∙ not-true _ c.before.if-not-within.true-raw) in
-    λ picks d. rw c.ended-then-not-within.ensures (put_range _ _ _ _ _ _ _ _ _ s.args.testing c.before.before.before.if-left-price.false no)
+    let no : in_limits s.args.z ≡ false = simp (to_z-of_z f) at (sym c.within.ensures ∙ not-true _ c.if-not-within.true-raw) in
+    λ picks d. rw c.ended-then-not-within.ensures (put_range _ _ _ _ _ _ _ _ _ s.args.testing c.if-left-price.false no)
 
 cast-store : tie.Need-overflow_cast-store
 cast-store c =
-    let f = c.before.before.before.ranges.z in
-    rw (to_z-of_z f) (limits_fit _ (simp (to_z-of_z f) at (sym c.before.within.ensures ∙ not-false _ c.if-not-within.false-raw)))
+    let f = c.ranges.z in
+    rw (to_z-of_z f) (limits_fit _ (simp (to_z-of_z f) at (sym c.within.ensures ∙ not-false _ c.if-not-within.false-raw)))
 
 returns_3 : tie.Need-returns
 returns_3 c =
     let s = c.before.before.before.before in
     let f = s.ranges.z in
-    let yes : in_limits s.args.z ≡ true = simp (to_z-of_z f) at (sym c.before.before.within.ensures ∙ not-false _ c.before.if-not-within.false-raw) in
-    λ picks d. rw (c.on.ensures, to_z-of_z f, to_z-of_z (limits_fit _ yes)) (put_done _ s.args.store.now _ _ _ _ _ _ _ s.args.testing c.before.before.before.if-left-price.false yes s.requires)
+    let yes : in_limits s.args.z ≡ true = simp (to_z-of_z f) at (sym c.within.ensures ∙ not-false _ c.if-not-within.false-raw) in
+    λ picks d. rw (c.on.ensures, to_z-of_z f, to_z-of_z (limits_fit _ yes)) (put_done _ s.args.store.now _ _ _ _ _ _ _ s.args.testing c.if-left-price.false yes s.requires)
 
 pub put_spec : {M : Type 1} → statement M
 put_spec =

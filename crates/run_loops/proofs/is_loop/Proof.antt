@@ -10,7 +10,7 @@ is_loop_spec =
     tie.close
     (tie.spec
     (λ c κs. search rules) (λ c. search rules) (λ c. search rules) (λ c. search rules) (λ c. search rules)
-    (λ c text. sym (ap loop_shape c.enum_told-1.given.1) ∙ loop_shape_lem text _ c.before.before.shape_at.ensures)
-    (λ c text. sym (ap loop_shape c.enum_told-in-Branch-1.given.1) ∙ loop_shape_lem text _ c.before.before.shape_at.ensures)
-    (λ c text. sym (ap loop_shape c.enum_told-in-Loop-1.given.1) ∙ loop_shape_lem text _ c.before.before.shape_at.ensures)
-    (λ c text. sym (ap loop_shape c.enum_told-in-Close-1.given.1) ∙ loop_shape_lem text _ c.before.before.shape_at.ensures))
+    (λ c text. sym (ap loop_shape c.in-Plain.is) ∙ loop_shape_lem text _ c.shape_at.ensures)
+    (λ c text. sym (ap loop_shape c.in-Branch.is) ∙ loop_shape_lem text _ c.shape_at.ensures)
+    (λ c text. sym (ap loop_shape c.in-Loop.is) ∙ loop_shape_lem text _ c.shape_at.ensures)
+    (λ c text. sym (ap loop_shape c.in-Close.is) ∙ loop_shape_lem text _ c.shape_at.ensures))

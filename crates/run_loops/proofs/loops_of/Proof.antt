@@ -27,11 +27,11 @@ is-loop-requires : tie.Need-is_loop-requires invariant-loop-j decreases-loop-j
 is-loop-requires c κs = let s = c.before.before.before in let g = s.requires.1 in omega (arith, g.table.size, g.size, c.loop-j-test.true)
 
 -- the loop that begins here is one of the 16
-in_counts : (c : tie.Then-is_loop invariant-loop-j decreases-loop-j) → let s = c.before.before.before.before.before in (c.before.before.before.loop-j.k < length (loop_rows 0 (script_in s.requires.0 s.args.rows.now s.args.count))) × (c.before.before.before.loop-j.k < 16)
+in_counts : (c : tie.Then-is_loop invariant-loop-j decreases-loop-j) → let s = c.before.before.before.before.before in (c.loop-j.k < length (loop_rows 0 (script_in s.requires.0 s.args.rows.now s.args.count))) × (c.loop-j.k < 16)
 in_counts c =
     let s = c.before.before.before.before.before in
-    let l = c.before.before.before.loop-j in
-    number_in s.requires.1 l.j l.k l.listed (l.invariant.1 s.requires.0 s.requires.1) c.before.before.loop-j-test.true _ (c.before.is_loop.ensures s.requires.0) c.if-is_loop.true
+    let l = c.loop-j in
+    number_in s.requires.1 l.j l.k l.listed (l.invariant.1 s.requires.0 s.requires.1) c.loop-j-test.true _ (c.is_loop.ensures s.requires.0) c.if-is_loop.true
 
 mul-count-of : tie.Need-offset_bounds-counts-k invariant-loop-j decreases-loop-j
 mul-count-of c = omega (arith, (in_counts c).1)
@@ -40,7 +40,7 @@ element-copy-out-count-of : tie.Need-bounds-counts-k invariant-loop-j decreases-
 element-copy-out-count-of c = (in_counts c).1
 
 count-of-requires : tie.Need-count_of-requires invariant-loop-j decreases-loop-j
-count-of-requires c κs = c.before.before.before.before.before.before.requires.1.room.turn _ (in_counts c.before).0
+count-of-requires c κs = c.requires.1.room.turn _ (in_counts c.before).0
 
 mul-listed : tie.Need-offset_bounds-listed-k invariant-loop-j decreases-loop-j
 mul-listed c = omega (arith, (in_counts c.before.before).1)
@@ -52,31 +52,31 @@ add-k : tie.Need-overflow_add-k invariant-loop-j decreases-loop-j
 add-k c = omega (arith, (in_counts c.before.before).1)
 
 add-j : tie.Need-overflow_add-j invariant-loop-j decreases-loop-j
-add-j c = let s = c.before.before.before.before.before in omega (arith, s.requires.1.size, c.before.before.loop-j-test.true)
+add-j c = let s = c.before.before.before.before.before in omega (arith, s.requires.1.size, c.loop-j-test.true)
 
 -- row j is listed, or begins no loop
 abbrev Listed : tie.Joined-is_loop invariant-loop-j decreases-loop-j → Type 0
 Listed c =
-    let a = c.before.before.before.before.before.args in
+    let a = c.args in
     (text : List ℕ) → Counted text a.rows.now a.count a.counts.now
-    → Listing (script_in text a.rows.now a.count) (tally_of (loop_rows 0 (script_in text a.rows.now a.count)) a.counts.now) (c.before.before.before.loop-j.j + 1) c.if-is_loop.k c.if-is_loop.listed
+    → Listing (script_in text a.rows.now a.count) (tally_of (loop_rows 0 (script_in text a.rows.now a.count)) a.counts.now) (c.loop-j.j + 1) c.if-is_loop.k c.if-is_loop.listed
 
 listed : (c : tie.Joined-is_loop invariant-loop-j decreases-loop-j) → Listed c
 listed c =
-    let l = c.before.before.before.loop-j in
-    let i = c.before.before.loop-j-test.true in
-    let e = c.before.is_loop.ensures in
+    let l = c.loop-j in
+    let i = c.loop-j-test.true in
+    let e = c.is_loop.ensures in
     ⊎_elim {C = Listed c}
     (λ w text g. rw (w.3, w.4) (one_loop g l.j l.k l.listed (l.invariant.1 text g) i _ (e text) w.0.taken _ w.2.ensures))
     (λ w text g. rw (w.1, w.2) (no_loop_lem g l.j l.k l.listed (l.invariant.1 text g) i _ (e text) w.0.left))
     c.if-is_loop.branch
 
 loop_again : tie.Need-loop-j-preserved invariant-loop-j decreases-loop-j
-loop_again c = (omega (arith, c.before.before.loop-j-test.true), listed c)
+loop_again c = (omega (arith, c.loop-j-test.true), listed c)
 
 returns : tie.Need-returns invariant-loop-j decreases-loop-j
 returns c =
-    let l = c.before.loop-j in
+    let l = c.loop-j in
     λ text g. listing_all _ _ l.j l.k l.listed (omega (arith, rows_are g, c.loop-j-test.false)) (l.invariant.1 text g)
 
 pub loops_of_spec : {M : Type 1} → statement M

@@ -10,8 +10,8 @@ use Rattle.run_machine.proofs.do_row.Statement.{statement}
 use Rattle.run_machine.proofs.do_row.Tie as tie
 
 -- the loop's number
-known : (c : tie.After-loop_at-k) → let a = c.before.before.before.args in c.loop_at-k.result ≡ loop_of a.rows.now a.m
-known c = let a = c.before.before.before.args in c.loop_at-k.ensures ∙ ap (λ e. number (numbers_at a.rows.now e) 1) c.before.partner_at.ensures
+known : (c : tie.After-loop_at-k) → let a = c.args in c.loop_at-k.result ≡ loop_of a.rows.now a.m
+known c = let a = c.args in c.loop_at-k.ensures ∙ ap (λ e. number (numbers_at a.rows.now e) 1) c.partner_at.ensures
 
 begin-requires : tie.Need-begin-requires
 begin-requires c κs = let s = c.before.before.before.before in subst (λ k. RoomAt k s.args.counts.now) (sym (known c.before)) s.requires.room
@@ -19,8 +19,8 @@ begin-requires c κs = let s = c.before.before.before.before in subst (λ k. Roo
 returns : tie.Need-returns
 returns c =
     let k = known c.before.before.before.before.before.before in
-    let b = rw k at c.before.before.before.before.begin.ensures in
-    let t = rw k at c.before.before.count_turn.ensures in
+    let b = rw k at c.begin.ensures in
+    let t = rw k at c.count_turn.ensures in
     record { long = t.long; machine = c.on.ensures; same = λ heads r l. t.same heads r l ∙ ap (turn (get_or heads _ 0)) (b.same heads r l) }
 
 pub do_row_spec : {M : Type 1} → statement M
@@ -28,8 +28,8 @@ do_row_spec =
     tie.close
     (tie.spec
     (λ c κs. search rules)
-    (λ c κs. rw c.partner_at.ensures c.before.before.requires.end)
+    (λ c κs. rw c.partner_at.ensures c.requires.end)
     begin-requires
-    (λ c κs. c.before.begin.ensures.room)
+    (λ c κs. c.begin.ensures.room)
     (λ c. search rules) (λ c κs. search rules)
     returns)

@@ -21,51 +21,51 @@ use Rattle.run_machine.proofs.for_row.Tie as tie
 value-of-requires : tie.Need-value_of-z-requires
 value-of-requires c κs =
     let s = c.before.before.before.before.before in
-    subst (λ x. Readable s.args.text.now (length s.args.store.now) (operand_in s.args.kind x)) (sym c.before.start_at.ensures) s.requires.start.operand
+    subst (λ x. Readable s.args.text.now (length s.args.store.now) (operand_in s.args.kind x)) (sym c.start_at.ensures) s.requires.start.operand
 
 put-requires : tie.Need-put-n-requires
-put-requires c κs = let s = c.before.before.before.before.before.before.before.before in rw c.before.variable_at.ensures s.requires.start.row.variable
+put-requires c κs = let s = c.before.before.before.before.before.before.before.before in rw c.variable_at.ensures s.requires.start.row.variable
 
 loop-at-requires : tie.Need-loop_at-requires
-loop-at-requires c κs = let s = c.before.before.before.before.before.before.before.before.before.before.before.before in rw c.before.before.before.before.before.before.before.before.before.partner_at-e.ensures s.requires.loop.end
+loop-at-requires c κs = let s = c.before.before.before.before.before.before.before.before.before.before.before.before in rw c.partner_at-e.ensures s.requires.loop.end
 
 -- the loop's number
-known : (c : tie.After-loop_at) → let a = c.before.before.before.before.before.before.before.before.before.before.before.before.before.args in c.loop_at.result ≡ loop_of a.rows.now a.m
-known c = let a = c.before.before.before.before.before.before.before.before.before.before.before.before.before.args in c.loop_at.ensures ∙ ap (λ e. number (numbers_at a.rows.now e) 1) c.before.before.before.before.before.before.before.before.before.before.partner_at-e.ensures
+known : (c : tie.After-loop_at) → let a = c.args in c.loop_at.result ≡ loop_of a.rows.now a.m
+known c = let a = c.args in c.loop_at.ensures ∙ ap (λ e. number (numbers_at a.rows.now e) 1) c.partner_at-e.ensures
 
 begin-requires : tie.Need-begin-requires
 begin-requires c κs = let s = c.before.before.before.before.before.before.before.before.before.before.before.before.before.before in subst (λ k. RoomAt k s.args.counts.now) (sym (known c.before)) s.requires.loop.room
 
 returns : tie.Need-returns-then-going
 returns c =
-    let a = c.before.before.before.before.before.before.before.before.before.before.before.before.before.before.before.args in
-    let z = c.before.before.before.before.before.before.before.before.before.value_of_lem in
+    let a = c.args in
+    let z = c.value_of-z in
     let f : SFits w64 z.result = sfits_of z.type_inv in
     let e = row_of a.rows.now a.m in
     let x = operand_in a.kind (number e 1) in
-    let y = z.ensures ∙ ap (λ n. value (expr_of a.text.now (operand_in a.kind n)) (store_of a.store.now)) c.before.before.before.before.before.before.before.before.before.before.before.start_at.ensures in
+    let y = z.ensures ∙ ap (λ n. value (expr_of a.text.now (operand_in a.kind n)) (store_of a.store.now)) c.start_at.ensures in
     let b = rw (known c.before.before) at c.begin.ensures in
     record {
       long = b.long;
       acts = λ picks heads r l.
           let o = exec a.prices a.m.row (set_of a.text.now a.kind e) (state_of a.m a.store.now picks) in
           acts_as (sym (b.same heads r l)) refl
-          (for_begins _ _ _ _ _ _ (partner_in e) o (sym c.before.before.before.before.going.ensures ∙ c.before.before.before.if-going.true) (put_value a.prices a.store.now true refl c.before.before.before.before.before.before.before.before.variable_at.ensures c.before.before.before.before.before.before.before.before.before.before.before.before.partner_at-e.ensures z.result (expr_of a.text.now x) y (simp (to_z-of_z f) at (c.before.before.before.before.before.before.put-n.ensures picks (begin (get_or heads (loop_of a.rows.now a.m) 0) (tally_of heads a.counts.now))))));
+          (for_begins _ _ _ _ _ _ (partner_in e) o (sym c.going.ensures ∙ c.if-going.true) (put_value a.prices a.store.now true refl c.variable_at.ensures c.partner_at-e.ensures z.result (expr_of a.text.now x) y (simp (to_z-of_z f) at (c.put-n.ensures picks (begin (get_or heads (loop_of a.rows.now a.m) 0) (tally_of heads a.counts.now))))));
     }
 
 returns_2 : tie.Need-returns-else-going
 returns_2 c =
-    let a = c.before.before.before.before.before.before.before.before.before.before.before.before.args in
-    let z = c.before.before.before.before.before.before.value_of_lem in
+    let a = c.args in
+    let z = c.value_of-z in
     let f : SFits w64 z.result = sfits_of z.type_inv in
     let e = row_of a.rows.now a.m in
     let x = operand_in a.kind (number e 1) in
-    let y = z.ensures ∙ ap (λ n. value (expr_of a.text.now (operand_in a.kind n)) (store_of a.store.now)) c.before.before.before.before.before.before.before.before.start_at.ensures in
+    let y = z.ensures ∙ ap (λ n. value (expr_of a.text.now (operand_in a.kind n)) (store_of a.store.now)) c.start_at.ensures in
     record {
-      long = c.before.before.before.before.before.before.before.before.before.before.before.before.requires.loop.room.long;
+      long = c.requires.loop.room.long;
       acts = λ picks heads r l.
           let o = exec a.prices a.m.row (set_of a.text.now a.kind e) (state_of a.m a.store.now picks) in
-          for_stops _ _ _ _ _ _ (partner_in e) o (sym c.before.going.ensures ∙ c.if-going.false) (put_value a.prices a.store.now true refl c.before.before.before.before.before.variable_at.ensures c.before.before.before.before.before.before.before.before.before.partner_at-e.ensures z.result (expr_of a.text.now x) y (simp (to_z-of_z f) at (c.before.before.before.put-n.ensures picks (tally_of heads a.counts.now))));
+          for_stops _ _ _ _ _ _ (partner_in e) o (sym c.going.ensures ∙ c.if-going.false) (put_value a.prices a.store.now true refl c.variable_at.ensures c.partner_at-e.ensures z.result (expr_of a.text.now x) y (simp (to_z-of_z f) at (c.put-n.ensures picks (tally_of heads a.counts.now))));
     }
 
 pub for_row_spec : {M : Type 1} → statement M

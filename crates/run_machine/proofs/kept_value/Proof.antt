@@ -27,30 +27,30 @@ none_kept = omega ints
 returns : tie.Need-returns-then-kept-ne-NOT_KEPT
 returns c =
     let s = c.before.before.before.before in
-    let z = c.before.kept_of-kept in
+    let z = c.kept_of-kept in
     let f : SFits w64 z.result = sfits_of z.type_inv in
     let n = eq_z_no z.result not_kept f none_kept c.if-kept-ne-NOT_KEPT.true in
     rw (to_z-of_z f) (record { read = by s.requires.kept n; still = kept_same s.requires.long s.requires.kept })
   where
-    by : Keeps (expr_of c.before.before.before.before.args.text.now (operand_in 2 c.before.before.before.before.args.x)) c.before.before.before.before.args.store.now (kept_of c.before.before.before.before.args.limits.now c.before.before.before.before.args.k)
-        → eq_z c.before.kept_of-kept.result not_kept ≡ false → ReadAs c.before.before.before.before.args.text.now c.before.before.before.before.args.store.now (operand_in 2 c.before.before.before.before.args.x) c.before.kept_of-kept.result
-    by (nothing e) n = no_true (sym n ∙ is_true _ (subst (λ y. T (eq_z y not_kept)) (sym (c.before.kept_of-kept.ensures ∙ e)) (eq_refl not_kept)))
-    by (its_value h e) n = ap result_in c.before.kept_of-kept.ensures ∙ e
+    by : Keeps (expr_of c.args.text.now (operand_in 2 c.args.x)) c.args.store.now (kept_of c.args.limits.now c.args.k)
+        → eq_z c.kept_of-kept.result not_kept ≡ false → ReadAs c.args.text.now c.args.store.now (operand_in 2 c.args.x) c.kept_of-kept.result
+    by (nothing e) n = no_true (sym n ∙ is_true _ (subst (λ y. T (eq_z y not_kept)) (sym (c.kept_of-kept.ensures ∙ e)) (eq_refl not_kept)))
+    by (its_value h e) n = ap result_in c.kept_of-kept.ensures ∙ e
 
 returns_2 : tie.Need-returns
 returns_2 c =
     let s = c.before.before.before.before.before in
-    let f : SFits w64 c.value_of_lem.result = sfits_of c.value_of_lem.type_inv in
+    let f : SFits w64 c.value_of-z.result = sfits_of c.value_of-z.type_inv in
     rw (to_z-of_z f)
-    (record { read = c.value_of_lem.ensures; still = kept_set c.value_of_lem.result s.requires.loop s.requires.long (its_value (is_composed _ _ _ s.requires.limit) c.value_of_lem.ensures) })
+    (record { read = c.value_of-z.ensures; still = kept_set c.value_of-z.result s.requires.loop s.requires.long (its_value (is_composed _ _ _ s.requires.limit) c.value_of-z.ensures) })
 
 pub kept_value_spec : {M : Type 1} → statement M
 kept_value_spec =
     tie.close
     (tie.spec
-    (λ c κs. c.before.before.requires.loop)
+    (λ c κs. c.requires.loop)
     returns
-    (λ c κs. c.before.before.before.before.requires.limit)
+    (λ c κs. c.requires.limit)
     (λ c. search rules)
     (λ c. search rules)
     returns_2)

@@ -13,15 +13,15 @@ use Rattle.run_machine.proofs.off_row.Statement.{statement}
 use Rattle.run_machine.proofs.off_row.Tie as tie
 
 put-requires : tie.Need-put-requires
-put-requires c κs = let s = c.before.before.before.before.before in rw c.before.variable_at.ensures s.requires.row.variable
+put-requires c κs = let s = c.before.before.before.before.before in rw c.variable_at.ensures s.requires.row.variable
 
 returns : tie.Need-returns
 returns c =
-    let a = c.before.before.before.before.before.before.before.args in
+    let a = c.args in
     let e = row_of a.rows.now a.m in
-    let z = c.before.before.before.before.held-z in
+    let z = c.held-z in
     let f : SFits w64 z.result = sfits_of z.type_inv in
-    λ picks d. put_plain a.prices a.store.now false refl c.before.before.before.variable_at.ensures refl (off (watched_in e) (comparison_by (comparison_in e)) (against_in e)) z.result _ (λ i w s. refl) z.ensures (simp (to_z-of_z f) at (c.before.put.ensures picks d))
+    λ picks d. put_plain a.prices a.store.now false refl c.variable_at.ensures refl (off (watched_in e) (comparison_by (comparison_in e)) (against_in e)) z.result _ (λ i w s. refl) z.ensures (simp (to_z-of_z f) at (c.put.ensures picks d))
 
 pub off_row_spec : {M : Type 1} → statement M
 off_row_spec =

@@ -18,20 +18,20 @@ use Rattle.run_machine.proofs.set_row.Tie as tie
 value-of-requires : tie.Need-value_of-z-requires
 value-of-requires c κs =
     let s = c.before.before.before.before in
-    subst (λ x. Readable s.args.text.now (length s.args.store.now) (operand_in s.args.kind x)) (sym c.before.start_at.ensures) s.requires.operand
+    subst (λ x. Readable s.args.text.now (length s.args.store.now) (operand_in s.args.kind x)) (sym c.start_at.ensures) s.requires.operand
 
 put-requires : tie.Need-put-requires
-put-requires c κs = let s = c.before.before.before.before.before.before.before in rw c.before.variable_at.ensures s.requires.row.variable
+put-requires c κs = let s = c.before.before.before.before.before.before.before in rw c.variable_at.ensures s.requires.row.variable
 
 returns : tie.Need-returns
 returns c =
     let s = c.before.before.before.before.before.before.before.before.before in
     let a = s.args in
-    let z = c.before.before.before.before.value_of_lem in
+    let z = c.value_of-z in
     let f : SFits w64 z.result = sfits_of z.type_inv in
     let x = operand_in a.kind (number (row_of a.rows.now a.m) 1) in
-    let y = z.ensures ∙ ap (λ n. value (expr_of a.text.now (operand_in a.kind n)) (store_of a.store.now)) c.before.before.before.before.before.before.start_at.ensures in
-    λ picks d. put_value a.prices a.store.now false refl c.before.before.before.variable_at.ensures refl z.result (expr_of a.text.now x) y (simp (to_z-of_z f) at (c.before.put.ensures picks d))
+    let y = z.ensures ∙ ap (λ n. value (expr_of a.text.now (operand_in a.kind n)) (store_of a.store.now)) c.start_at.ensures in
+    λ picks d. put_value a.prices a.store.now false refl c.variable_at.ensures refl z.result (expr_of a.text.now x) y (simp (to_z-of_z f) at (c.put.ensures picks d))
 
 pub set_row_spec : {M : Type 1} → statement M
 set_row_spec =

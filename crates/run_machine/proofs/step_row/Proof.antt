@@ -14,26 +14,26 @@ use Rattle.run_machine.proofs.step_row.Statement.{statement}
 use Rattle.run_machine.proofs.step_row.Tie as tie
 
 stored-requires : tie.Need-stored-requires
-stored-requires c κs = let s = c.before.before.before.before in rw c.before.before.variable_at-v.ensures s.requires.row.variable
+stored-requires c κs = let s = c.before.before.before.before in rw c.variable_at-v.ensures s.requires.row.variable
 
 changed-requires : tie.Need-changed-z-requires
-changed-requires c κs = let s = c.before.before.before.before.before in subst ChangeLimits (sym c.before.before.change_at.ensures) s.requires.change
+changed-requires c κs = let s = c.before.before.before.before.before in subst ChangeLimits (sym c.change_at.ensures) s.requires.change
 
 put-requires : tie.Need-put-requires
-put-requires c κs = let s = c.before.before.before.before.before.before.before.before in rw c.before.before.before.before.before.before.variable_at-v.ensures s.requires.row.variable
+put-requires c κs = let s = c.before.before.before.before.before.before.before.before in rw c.variable_at-v.ensures s.requires.row.variable
 
 returns : tie.Need-returns
 returns c =
     let s = c.before.before.before.before.before.before.before.before.before.before in
     let a = s.args in
-    let x = c.before.before.before.before.before.stored in
-    let z = c.before.before.before.before.changed-z in
+    let x = c.stored in
+    let z = c.changed-z in
     let f : SFits w32 x.result = sfits_of x.type_inv in
     let g : SFits w64 z.result = sfits_of z.type_inv in
-    let v = c.before.before.before.before.before.before.before.before.variable_at-v.ensures in
-    let d = c.before.before.before.before.before.before.before.change_at.ensures in
+    let v = c.variable_at-v.ensures in
+    let d = c.change_at.ensures in
     let y = simp (to_z-of_z f) at z.ensures ∙ (λ i. applied (d i) ((x.ensures ∙ ap (store_of a.store.now) v) i)) in
-    λ picks t. put_change a.prices a.store.now true c.before.before.before.partner_at.ensures v refl z.result (step_in (row_of a.rows.now a.m)) y (simp (to_z-of_z g) at (c.before.put.ensures picks t))
+    λ picks t. put_change a.prices a.store.now true c.partner_at.ensures v refl z.result (step_in (row_of a.rows.now a.m)) y (simp (to_z-of_z g) at (c.put.ensures picks t))
 
 pub step_row_spec : {M : Type 1} → statement M
 step_row_spec =

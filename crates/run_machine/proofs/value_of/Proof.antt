@@ -21,8 +21,8 @@ value-of-requires c κs =
 returns : tie.Need-returns
 returns c =
     let s = c.before.before.before in
-    let f : SFits w64 c.value_of_lem.result = sfits_of c.value_of_lem.type_inv in
-    rw (to_z-of_z f) (c.value_of_lem.ensures ∙ ap (λ x. value (expr_of s.args.text.now x) (store_of s.args.store.now)) c.before.operand.ensures)
+    let f : SFits w64 c.value_of.result = sfits_of c.value_of.type_inv in
+    rw (to_z-of_z f) (c.value_of.ensures ∙ ap (λ x. value (expr_of s.args.text.now x) (store_of s.args.store.now)) c.operand.ensures)
 
 pub value_of_spec : {M : Type 1} → statement M
 value_of_spec =

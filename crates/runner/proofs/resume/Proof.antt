@@ -9,6 +9,6 @@ resume_spec =
     tie.close
     (tie.spec
     (λ c. search rules)
-    (λ c κs. c.before.before.before.before.before.before.requires)
+    (λ c κs. c.requires)
     (λ c. search rules)
-    (λ c. c.before.before.before.go_on-stop.ensures.run refl))
+    (λ c. c.go_on-stop.ensures.run refl))

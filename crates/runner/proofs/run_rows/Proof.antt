@@ -5,12 +5,12 @@ use Rattle.runner.proofs.run_rows.Statement.{statement}
 use Rattle.runner.proofs.run_rows.Tie as tie
 
 resume-requires : tie.Need-resume-end-requires
-resume-requires c κs = let p = c.before.before.before.before.before.requires in ready _ _ _ _ _ _ p.0 _ p.1
+resume-requires c κs = let p = c.requires in ready _ _ _ _ _ _ p.0 _ p.1
 
 returns : tie.Need-returns
 returns c =
-    let p = c.before.before.before.before.before.before.before.before.requires in
-    let e = c.before.before.resume-end in
+    let p = c.requires in
+    let e = c.resume-end in
     rw c.ran_of.ensures (answers _ _ _ _ _ _ p.0 _ p.1 e.result _ _ (search rules) e.ensures)
 
 pub run_rows_spec : {M : Type 1} → statement M

@@ -13,9 +13,9 @@ abbrev decreases-loop-i : tie.decreases-loop-i
 decreases-loop-i first arguments names₀ lengths₀ line₀ i₀ names lengths line i = arguments - i
 
 loop_again : tie.Need-loop-i-preserved invariant-loop-i decreases-loop-i
-loop_again c = c.keep_argument-next.ensures c.before.before.before.before.loop-i.invariant
+loop_again c = c.keep_argument-next.ensures c.loop-i.invariant
 
 pub argument_names_spec : {M : Type 1} → statement M
 argument_names_spec = tie.close (tie.spec
     invariant-loop-i decreases-loop-i (λ c κs. search rules) (λ c. ([], c.start-line.ensures)) (λ c κs. search rules) (λ c. search rules)
-    (λ c. search rules) loop_again (λ c. c.before.loop-i.invariant))
+    (λ c. search rules) loop_again (λ c. c.loop-i.invariant))

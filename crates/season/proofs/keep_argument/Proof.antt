@@ -4,7 +4,7 @@ use Rattle.season.proofs.keep_argument.Statement.{statement}
 use Rattle.season.proofs.keep_argument.Tie as tie
 
 returns : tie.Need-returns
-returns c = λ (input, h). (_, c.push_all.ensures _ (c.before.before.before.before.push_all-next.ensures input h))
+returns c = λ (input, h). (_, c.push_all.ensures _ (c.push_all-next.ensures input h))
 
 pub keep_argument_spec : {M : Type 1} → statement M
 keep_argument_spec = tie.close (tie.spec

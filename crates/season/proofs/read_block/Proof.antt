@@ -7,5 +7,5 @@ pub read_block_spec : {M : Type 1} → statement M
 read_block_spec = tie.close (tie.spec
     (λ c κs. search rules) (λ c. search rules) (λ c κs. search rules) (λ c. search rules)
     (λ c. search rules) (λ c κs. search rules)
-    (λ c. λ (input, h). (_, c.before.push_all-next.ensures input h))
-    (λ c. λ (input, h). (_, c.before.push_all-next.ensures input h)))
+    (λ c. λ (input, h). (_, c.push_all-next.ensures input h))
+    (λ c. λ (input, h). (_, c.push_all-next.ensures input h)))

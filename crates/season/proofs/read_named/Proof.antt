@@ -8,7 +8,7 @@ use Rattle.season.proofs.read_named.Tie as tie
 
 returns_3 : tie.Need-returns
 returns_3 c =
-    (c.before.before.before.read_file-input.ensures, λ t. absurd (let z : ◌≡◌ {A = ℕ} 0 1 = cc in omega arith))
+    (c.read_file-input.ensures, λ t. absurd (let z : ◌≡◌ {A = ℕ} 0 1 = cc in omega arith))
 
 pub read_named_spec : {M : Type 1} → statement M
 read_named_spec = tie.close (tie.spec

@@ -34,24 +34,24 @@ loop_holds c =
     ([], refl, omega arith, holds_none _ _ _ _ _ _ c.empty-sheet.ensures (length-replicate {A = ℕ} 64 0) (length-replicate {A = ℕ} 133_696 0) (length-replicate {A = ℕ} 64 0) (length-replicate {A = ℕ} 16_384 0))
 
 read-named-requires : tie.Need-read_named-input-requires invariant-loop-k decreases-loop-k
-read-named-requires c κs = (omega (arith, c.before.loop-k-test.true, c.before.before.before.before.before.before.requires.0), c.before.before.before.before.before.before.requires.1)
+read-named-requires c κs = (omega (arith, c.loop-k-test.true, c.requires.0), c.requires.1)
 
 print-line-requires : tie.Need-print_line-requires invariant-loop-k decreases-loop-k
-print-line-requires c κs = (omega (arith, c.before.before.before.before.before.loop-k-test.true, c.before.before.before.before.before.before.before.before.before.before.requires.0), c.before.before.before.before.before.before.before.before.before.before.requires.1)
+print-line-requires c κs = (omega (arith, c.loop-k-test.true, c.requires.0), c.requires.1)
 
 add-file-requires : tie.Need-add_file-next-requires invariant-loop-k decreases-loop-k
 add-file-requires c κs =
-    let (files, n, l, h) = c.before.before.before.before.before.before.before.before.before.before.before.loop-k.invariant in
-    (judged_all files, h, omega (arith, judged_count files, n, c.before.before.before.before.before.before.before.before.before.before.loop-k-test.true, c.before.before.before.before.before.before.before.before.before.before.before.before.before.before.before.requires.0))
+    let (files, n, l, h) = c.loop-k.invariant in
+    (judged_all files, h, omega (arith, judged_count files, n, c.loop-k-test.true, c.requires.0))
 
 loop_again : tie.Need-loop-k-preserved invariant-loop-k decreases-loop-k
 loop_again c =
-    let (files, n, l, h) = c.before.before.before.before.before.before.before.before.before.before.before.before.before.before.before.before.loop-k.invariant in
-    one_more_lem _ _ files _ _ _ _ _ _ _ n c.before.before.before.before.before.before.before.before.before.before.before.before.before.before.before.loop-k-test.true (c.before.before.before.before.add_file-next.ensures (judged_all files) h)
+    let (files, n, l, h) = c.loop-k.invariant in
+    one_more_lem _ _ files _ _ _ _ _ _ _ n c.loop-k-test.true (c.add_file-next.ensures (judged_all files) h)
 
 returns : tie.Need-returns invariant-loop-k decreases-loop-k
 returns c =
-    let (files, n, l, h) = c.before.loop-k.invariant in
+    let (files, n, l, h) = c.loop-k.invariant in
     (files, omega (arith, n, c.loop-k-test.false), h.figures)
 
 pub sheet_of_spec : {M : Type 1} → statement M

@@ -7,7 +7,7 @@ pub change_spec : {M : Type 1} → statement M
 change_spec =
     tie.close
     (tie.spec
-    (λ c. rw c.in_default.keys1)
-    (λ c. rw c.in_default.keys2)
-    (λ c. rw c.in_default.keys3)
-    (λ c. let r = c.in_default.rest in rw (ne_eqb _ _ r.0.0.1, ne_eqb _ _ r.0.1, ne_eqb _ _ r.1)))
+    (λ c. rw c.in-0.is)
+    (λ c. rw c.in-1.is)
+    (λ c. rw c.in-2.is)
+    (λ c. let r = c.in_default.in_default-own.rest in rw (ne_eqb _ _ r.0.0.1, ne_eqb _ _ r.0.1, ne_eqb _ _ r.1)))

@@ -8,7 +8,7 @@ change_code_spec =
     tie.close
     (tie.spec
     (λ c. search rules) (λ c. search rules) (λ c. search rules) (λ c. search rules)
-    (λ c. record { same = rw c.before.d-1.given.1; small = omega arith })
-    (λ c. record { same = rw c.before.d-in-Sub-1.given.1; small = omega arith })
-    (λ c. record { same = rw c.before.d-in-Mul-1.given.1; small = omega arith })
-    (λ c. record { same = rw c.before.d-in-Div-1.given.1; small = omega arith }))
+    (λ c. record { same = rw c.in-Add.is; small = omega arith })
+    (λ c. record { same = rw c.in-Sub.is; small = omega arith })
+    (λ c. record { same = rw c.in-Mul.is; small = omega arith })
+    (λ c. record { same = rw c.in-Div.is; small = omega arith }))

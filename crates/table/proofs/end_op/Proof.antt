@@ -20,7 +20,7 @@ unfolding kind_in
 is c q text = ap (λ g. end_op (view_of (kind_of text (kind_by g (head c))))) (sym q ∙ c.tag_at.ensures)
 
 returns-5 : tie.Need-returns-in_default
-returns-5 c = λ text. sym (not_loop text c.before.tag_at.result (head c.before) c.in_default.keys5) ∙ is c.before refl text
+returns-5 c = λ text. sym (not_loop text c.tag_at.result (head c.before) c.in_default.in_default-own.keys5) ∙ is c.before refl text
 
 pub end_op_spec : {M : Type 1} → statement M
 unfolding kind_by view_of kind_of
@@ -28,8 +28,8 @@ end_op_spec =
     tie.close
     (tie.spec
     (λ c κs. search rules) (λ c. search rules) (λ c. search rules) (λ c. search rules) (λ c. search rules)
-    (λ c. is c.before.before c.enum_told-1.given.1)
-    (λ c. is c.before.before c.enum_told-in-Do-1.given.1)
-    (λ c. is c.before.before c.enum_told-in-Hold-1.given.1)
-    (λ c. is c.before.before c.enum_told-in-For-1.given.1)
+    (λ c. is c.before c.in-While.is)
+    (λ c. is c.before c.in-Do.is)
+    (λ c. is c.before c.in-Hold.is)
+    (λ c. is c.before c.in-For.is)
     returns-5)

@@ -7,7 +7,7 @@ use Rattle.table.proofs.limit_is_expression.Tie as tie
 
 returns : tie.Need-returns
 returns c =
-    let a = c.before.args in
+    let a = c.args in
     is_expression_lem (get_or a.rows.now (4 * a.i + 0) 0) (get_or a.rows.now (4 * a.i + 2) 0)
 
 pub limit_is_expression_spec : {M : Type 1} → statement M

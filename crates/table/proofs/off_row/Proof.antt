@@ -8,7 +8,7 @@ use Rattle.table.proofs.off_row.Tie as tie
 returns : tie.Need-returns
 returns c =
     let s = c.before.before.before in
-    off_stands _ _ _ _ _ _ _ _ c.before.first.ensures c.before.before.comparison_code.ensures (omega (arith, s.ranges.w))
+    off_stands _ _ _ _ _ _ _ _ c.first.ensures c.comparison_code.ensures (omega (arith, s.ranges.w))
     (simp (to_z-of_z s.ranges.k) at c.shifted.ensures)
 
 pub off_row_spec : {M : Type 1} → statement M

@@ -9,8 +9,8 @@ operand_spec =
     tie.close
     (tie.spec
     (λ c κs. search rules)
-    (λ c. rw (to_z-of_z (sfits_of c.constant.type_inv), eq-eqb _ _ c.before.if-kind-eq-CONSTANT.true, c.constant.ensures))
+    (λ c. rw (to_z-of_z (sfits_of c.constant.type_inv), eq-eqb _ _ c.if-kind-eq-CONSTANT.true, c.constant.ensures))
     (λ c. search rules)
-    (λ c. rw (ne_eqb _ _ c.before.if-kind-eq-CONSTANT.false, eq-eqb _ _ c.if-kind-eq-VARIABLE.true))
+    (λ c. rw (ne_eqb _ _ c.if-kind-eq-CONSTANT.false, eq-eqb _ _ c.if-kind-eq-VARIABLE.true))
     (λ c. search rules) (λ c. search rules)
-    (λ c. rw (ne_eqb _ _ c.before.if-kind-eq-CONSTANT.false, ne_eqb _ _ c.if-kind-eq-VARIABLE.false)))
+    (λ c. rw (ne_eqb _ _ c.if-kind-eq-CONSTANT.false, ne_eqb _ _ c.if-kind-eq-VARIABLE.false)))

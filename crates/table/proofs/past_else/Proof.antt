@@ -10,10 +10,10 @@ use Rattle.table.proofs.past_else.Tie as tie
 
 returns : tie.Need-returns-in-Else
 unfolding kind_by view_of kind_of
-returns c = sym (ap (λ k. past_else k c.before.before.before.before.args.at) (kind_is c.before.before.before.before.args.rows.now c.before.before.before.before.args.at c.before.before.before.before.requires c.before.before.tag_at.ensures c.enum_told-1.given.1))
+returns c = sym (ap (λ k. past_else k c.args.at) (kind_is c.args.rows.now c.args.at c.requires c.tag_at.ensures c.in-Else.is))
 
 returns_2 : tie.Need-returns-in_default
-returns_2 c = rw (kind_is _ _ c.before.before.before.requires c.before.tag_at.ensures refl) (sym (not_else _ _ c.in_default.keys2 _))
+returns_2 c = rw (kind_is _ _ c.requires c.tag_at.ensures refl) (sym (not_else _ _ c.in_default.in_default-own.keys2 _))
 
 pub past_else_spec : {M : Type 1} → statement M
 past_else_spec = tie.close (tie.spec (λ c κs. search rules) (λ c. search rules) (λ c. search rules) returns returns_2)

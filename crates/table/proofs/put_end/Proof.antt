@@ -10,10 +10,10 @@ use Rattle.table.proofs.Same.{end_small, end_put}
 use Rattle.table.proofs.put_end.Statement.{statement}
 use Rattle.table.proofs.put_end.Tie as tie
 
-small : (c : tie.After-end_op-op) → c.end_op_lem.result < 3
+small : (c : tie.After-end_op-op) → c.end_op-op.result < 3
 small c =
     let s = c.before.before.before in
-    subst (λ m. m < 3) (sym (c.end_op_lem.ensures [])) (end_small (view_of (kind_of [] (kind_in (numbers_at s.args.rows.now s.args.h)))))
+    subst (λ m. m < 3) (sym (c.end_op-op.ensures [])) (end_small (view_of (kind_of [] (kind_in (numbers_at s.args.rows.now s.args.h)))))
 
 add-w : tie.Need-overflow_add-w
 add-w c = omega (arith, small c.before.before.before.before.before.before)
@@ -24,13 +24,13 @@ add-w-2 c = omega (arith, small c.before.before.before.before.before.before)
 returns : tie.Need-returns
 returns c =
     let s = c.before.before.before.before.before.before.before.before.before.before.before.before.before in
-    let p = c.before.before.put_numbers.ensures in
-    let op = c.before.before.before.before.before.before.before.before.before.before.end_op_lem in
-    let columns = c.before.before.before.before.before.before.before.before.columns_at-columns in
+    let p = c.put_numbers.ensures in
+    let op = c.end_op-op in
+    let columns = c.columns_at-columns in
     let w = op.result + 256 * columns.result + 16_777_216 * s.args.h in
     end_put s.args.rows.now _ s.args.h s.args.i s.args.number op.result columns.result
     (record {
-      row = p.row ∙ (λ z. w ∷ s.args.number ∷ c.before.before.before.before.before.before.limit_value_at-limit.ensures z ∷ c.before.before.before.before.number_at-change.ensures z ∷ []);
+      row = p.row ∙ (λ z. w ∷ s.args.number ∷ c.limit_value_at-limit.ensures z ∷ c.number_at-change.ensures z ∷ []);
       only = p.only;
     })
     op.ensures

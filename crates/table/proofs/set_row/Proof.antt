@@ -4,7 +4,7 @@ use Rattle.table.proofs.set_row.Statement.{statement}
 use Rattle.table.proofs.set_row.Tie as tie
 
 returns : tie.Need-returns
-returns c = let s = c.before.before.operand_code-s.ensures in set_stands _ _ _ _ _ c.first.ensures s.small s.same
+returns c = let s = c.operand_code-s.ensures in set_stands _ _ _ _ _ c.first.ensures s.small s.same
 
 pub set_row_spec : {M : Type 1} → statement M
 set_row_spec = tie.close (tie.spec (λ c κs. search rules) (λ c. search rules) (λ c κs. search rules) returns)

@@ -3,4 +3,4 @@ use Rattle.table.proofs.tag_at.Statement.{statement}
 use Rattle.table.proofs.tag_at.Tie as tie
 
 pub tag_at_spec : {M : Type 1} → statement M
-tag_at_spec = tie.close (tie.spec (λ c κs. search rules) (λ c κs. search rules) (λ c. rw (c.tag_of.ensures, c.before.op_at.ensures)))
+tag_at_spec = tie.close (tie.spec (λ c κs. search rules) (λ c κs. search rules) (λ c. rw (c.tag_of.ensures, c.op_at.ensures)))

@@ -17,55 +17,55 @@ known s n f = wide s.args.x n s.ranges.x f
 
 add_result : tie.Need-overflow_add-result
 add_result c =
-    let h = known c.before.before.before c.before.change-1.given.0.0 (search rules) in
+    let h = known c.before c.in-Add.c (search rules) in
     simp (to_z-of_z h.x32, to_z-of_z h.x64, to_z-of_z h.c64) h.sum
 
 sub-result : tie.Need-overflow_sub-result
 sub-result c =
-    let h = known c.before.before.before c.before.change-in-Sub-1.given.0.0 (search rules) in
+    let h = known c.before c.in-Sub.c (search rules) in
     simp (to_z-of_z h.x32, to_z-of_z h.x64, to_z-of_z h.c64) h.difference
 
 mul-result : tie.Need-overflow_mul-result
 mul-result c =
-    let h = known c.before.before.before c.before.change-in-Mul-1.given.0.0 (search rules) in
+    let h = known c.before c.in-Mul.c (search rules) in
     simp (to_z-of_z h.x32, to_z-of_z h.x64, to_z-of_z h.c64) h.product
 
 returns : tie.Need-returns-in-Add
 unfolding applied
 returns c =
-    let h = known c.before.before.before c.before.change-1.given.0.0 (search rules) in
-    rw c.before.change-1.given.1 (simp (to_z-of_z h.x32, to_z-of_z h.x64, to_z-of_z h.c64, to_z-of_z h.sum))
+    let h = known c.before c.in-Add.c (search rules) in
+    rw c.in-Add.is (simp (to_z-of_z h.x32, to_z-of_z h.x64, to_z-of_z h.c64, to_z-of_z h.sum))
 
 returns_2 : tie.Need-returns-in-Sub
 unfolding applied
 returns_2 c =
-    let h = known c.before.before.before c.before.change-in-Sub-1.given.0.0 (search rules) in
-    rw c.before.change-in-Sub-1.given.1 (simp (to_z-of_z h.x32, to_z-of_z h.x64, to_z-of_z h.c64, to_z-of_z h.difference))
+    let h = known c.before c.in-Sub.c (search rules) in
+    rw c.in-Sub.is (simp (to_z-of_z h.x32, to_z-of_z h.x64, to_z-of_z h.c64, to_z-of_z h.difference))
 
 returns_3 : tie.Need-returns-in-Mul
 unfolding applied
 returns_3 c =
-    let h = known c.before.before.before c.before.change-in-Mul-1.given.0.0 (search rules) in
-    rw c.before.change-in-Mul-1.given.1 (simp (to_z-of_z h.x32, to_z-of_z h.x64, to_z-of_z h.c64, to_z-of_z h.product))
+    let h = known c.before c.in-Mul.c (search rules) in
+    rw c.in-Mul.is (simp (to_z-of_z h.x32, to_z-of_z h.x64, to_z-of_z h.c64, to_z-of_z h.product))
 
 returns-4 : tie.Need-returns-in-Div
 unfolding applied
 returns-4 c =
-    let s = c.before.before.before.before in
-    rw (c.before.before.change-in-Div-1.given.1, to_z-of_z (sfits_of c.quotient_of.type_inv), c.quotient_of.ensures) (simp (to_z-of_z s.ranges.x))
+    let s = c.before.before in
+    rw (c.in-Div.is, to_z-of_z (sfits_of c.quotient_of.type_inv), c.quotient_of.ensures) (simp (to_z-of_z s.ranges.x))
 
 pub changed_spec : {M : Type 1} → statement M
 changed_spec =
     tie.close
     (tie.spec
-    (λ c. search rules) (λ c. let h = known c.before.before.before 0 (search rules) in search rules) (λ c. search rules)
+    (λ c. search rules) (λ c. let h = known c.before 0 (search rules) in search rules) (λ c. search rules)
     add_result
-    (λ c. search rules) (λ c. let h = known c.before.before.before 0 (search rules) in search rules) (λ c. search rules)
+    (λ c. search rules) (λ c. let h = known c.before 0 (search rules) in search rules) (λ c. search rules)
     sub-result
-    (λ c. search rules) (λ c. let h = known c.before.before.before 0 (search rules) in search rules) (λ c. search rules)
+    (λ c. search rules) (λ c. let h = known c.before 0 (search rules) in search rules) (λ c. search rules)
     mul-result
     (λ c. search rules)
-    (λ c κs. (subst ChangeLimits c.before.change-in-Div-1.given.1 c.before.before.before.requires).0)
+    (λ c κs. (subst ChangeLimits c.in-Div.is c.requires).0)
     returns
     returns_2
     returns_3

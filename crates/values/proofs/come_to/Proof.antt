@@ -14,19 +14,19 @@ value-in-requires c κs = let s = c.before.before in subst PassedWord (sym (part
 
 returns : tie.Need-returns-then-v
 returns c =
-    let a = c.before.before.before.before.args in
-    in_past ∙ rw (c.if-v.true, part a.text.now a.at a.n) at c.before.value_in_lem.ensures
+    let a = c.args in
+    in_past ∙ rw (c.if-v.true, part a.text.now a.at a.n) at c.value_in-v.ensures
 
 cast-result : tie.Need-overflow_cast-result
-cast-result c = let f : SFits w32 c.before.before.before.value_in_lem.result.lo = sfits_of c.struct_told-1.given.0.1 in rw (to_z-of_z f) (sfits_widen tt f)
+cast-result c = let f : SFits w32 c.value_in-v.result.lo = sfits_of c.struct_told-1.given.0.1 in rw (to_z-of_z f) (sfits_widen tt f)
 
 returns_2 : tie.Need-returns
 returns_2 c =
-    let a = c.before.before.before.before.before.before.args in
-    let v = c.before.before.before.value_in_lem in
+    let a = c.args in
+    let v = c.value_in-v in
     let f : SFits w32 v.result.lo = sfits_of c.struct_told-1.given.0.1 in
     let g : SFits w64 v.result.lo = sfits_widen tt f in
-    rw (to_z-of_z f, to_z-of_z g) (in_number _ f ∙ rw (c.before.before.if-v.false, part a.text.now a.at a.n) at v.ensures)
+    rw (to_z-of_z f, to_z-of_z g) (in_number _ f ∙ rw (c.if-v.false, part a.text.now a.at a.n) at v.ensures)
 
 pub come_to_spec : {M : Type 1} → statement M
 come_to_spec =

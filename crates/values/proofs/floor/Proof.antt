@@ -33,51 +33,51 @@ cast-d : tie.Need-overflow_cast-d
 cast-d c = search rules
 
 -- the test
-negative : (c : tie.Then-z-lt0) → c.before.args.z <ℤ pos 0
-negative c = let f = c.before.ranges.z in let t = simp to_z-of_z at c.if-z-lt0.true in omega ints
+negative : (c : tie.Then-z-lt0) → c.args.z <ℤ pos 0
+negative c = let f = c.ranges.z in let t = simp to_z-of_z at c.if-z-lt0.true in omega ints
 
 add_result : tie.Need-overflow_add-result
-add_result c = let f = c.before.ranges.z in let b = below _ c.before.args.k f (negative c) in simp (to_z-of_z f) b.more
+add_result c = let f = c.ranges.z in let b = below _ c.args.k f (negative c) in simp (to_z-of_z f) b.more
 
 div-result : tie.Need-nonzero_div-result
 div-result c =
-    let f = c.before.ranges.z in
-    let b = below _ c.before.args.k f (negative c) in
-    let d = divisor _ c.before.requires.1 in
-    (c.before.requires.0, simp (to_z-of_z f, to_z-of_z b.more, to_z-of_z d) b.cut)
+    let f = c.ranges.z in
+    let b = below _ c.args.k f (negative c) in
+    let d = divisor _ c.requires.1 in
+    (c.requires.0, simp (to_z-of_z f, to_z-of_z b.more, to_z-of_z d) b.cut)
 
 sub-result : tie.Need-overflow_sub-result
 sub-result c =
-    let f = c.before.ranges.z in
-    let b = below _ c.before.args.k f (negative c) in
-    let d = divisor _ c.before.requires.1 in
+    let f = c.ranges.z in
+    let b = below _ c.args.k f (negative c) in
+    let d = divisor _ c.requires.1 in
     simp (to_z-of_z f, to_z-of_z b.more, to_z-of_z d, to_z-of_z b.cut) b.less
 
 returns : tie.Need-returns-then-z-lt0
 returns c =
-    let f = c.before.ranges.z in
-    let b = below _ c.before.args.k f (negative c) in
-    let d = divisor _ c.before.requires.1 in
+    let f = c.ranges.z in
+    let b = below _ c.args.k f (negative c) in
+    let d = divisor _ c.requires.1 in
     simp (to_z-of_z f, to_z-of_z b.more, to_z-of_z d, to_z-of_z b.cut, to_z-of_z b.less) (floor_cut_below _ _ (negative c))
 
 -- not below 0
-upward : (c : tie.Else-z-lt0) → pos 0 ≤ℤ c.before.args.z
-upward c = let f = c.before.ranges.z in let t = simp to_z-of_z at c.if-z-lt0.false in omega ints
+upward : (c : tie.Else-z-lt0) → pos 0 ≤ℤ c.args.z
+upward c = let f = c.ranges.z in let t = simp to_z-of_z at c.if-z-lt0.false in omega ints
 
 quotient : (z : ℤ) (k : ℕ) → SFits w64 z → pos 0 ≤ℤ z → SFits w64 (quot_z z (pos k))
 quotient z k f h = let b = sfits_both f in omega (ints, quot_near z k)
 
 div-result-2 : tie.Need-nonzero_div-result-2
 div-result-2 c =
-    let f = c.before.ranges.z in
-    let d = divisor _ c.before.requires.1 in
-    (c.before.requires.0, simp (to_z-of_z f, to_z-of_z d) (quotient _ c.before.args.k f (upward c)))
+    let f = c.ranges.z in
+    let d = divisor _ c.requires.1 in
+    (c.requires.0, simp (to_z-of_z f, to_z-of_z d) (quotient _ c.args.k f (upward c)))
 
 returns_2 : tie.Need-returns
 returns_2 c =
-    let f = c.before.ranges.z in
-    let d = divisor _ c.before.requires.1 in
-    let q = quotient _ c.before.args.k f (upward c) in
+    let f = c.ranges.z in
+    let d = divisor _ c.requires.1 in
+    let q = quotient _ c.args.k f (upward c) in
     simp (to_z-of_z f, to_z-of_z d, to_z-of_z q) (floor_cut _ _ (upward c))
 
 pub floor_spec : {M : Type 1} → statement M

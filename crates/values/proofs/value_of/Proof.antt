@@ -20,27 +20,27 @@ known : (s : tie.Start) (x : Operand) → s.args.x ≡ x → WrittenOperand s.ar
 known s x e = subst (λ y. WrittenOperand s.args.text.now y × ExprBelow (length s.args.store.now) (expr_of s.args.text.now y)) e s.requires
 
 cast-result : tie.Need-overflow_cast-result
-cast-result c = let f : SFits w32 c.before.x-in-Constant-1.given.0.0 = sfits_of c.known_told-in-Constant-1.given.0.1 in rw (to_z-of_z f) (sfits_widen tt f)
+cast-result c = let f : SFits w32 c.in-Constant.k = sfits_of c.in-Constant.known_told-in-Constant-1-own.given.0.1 in rw (to_z-of_z f) (sfits_widen tt f)
 
 returns : tie.Need-returns-in-Expression
 unfolding expr_of
 returns c =
     let g : SFits w64 c.come_to.result = sfits_of c.come_to.type_inv in
-    rw c.before.before.x-1.given.1 (simp (to_z-of_z g) c.come_to.ensures)
+    rw c.in-Expression.is (simp (to_z-of_z g) c.come_to.ensures)
 
 returns_2 : tie.Need-returns-in-Constant
 unfolding value meaning expr_of
 returns_2 c =
-    let f : SFits w32 c.before.x-in-Constant-1.given.0.0 = sfits_of c.known_told-in-Constant-1.given.0.1 in
-    let g : SFits w64 c.before.x-in-Constant-1.given.0.0 = sfits_widen tt f in
-    rw (c.before.x-in-Constant-1.given.1, to_z-of_z f, to_z-of_z g) (in_number _ f)
+    let f : SFits w32 c.in-Constant.k = sfits_of c.in-Constant.known_told-in-Constant-1-own.given.0.1 in
+    let g : SFits w64 c.in-Constant.k = sfits_widen tt f in
+    rw (c.in-Constant.is, to_z-of_z f, to_z-of_z g) (in_number _ f)
 
 returns_3 : tie.Need-returns-in-Variable
 unfolding value meaning expr_of
 returns_3 c =
     let f : SFits w32 c.stored.result = sfits_of c.stored.type_inv in
     let g : SFits w64 c.stored.result = sfits_widen tt f in
-    rw (c.before.before.x-in-Variable-1.given.1, to_z-of_z f, to_z-of_z g) (in_number _ f ∙ ap number c.stored.ensures)
+    rw (c.in-Variable.is, to_z-of_z f, to_z-of_z g) (in_number _ f ∙ ap number c.stored.ensures)
 
 pub value_of_spec : {M : Type 1} → statement M
 unfolding expr_of ExprBelow
@@ -48,11 +48,11 @@ value_of_spec =
     tie.close
     (tie.spec
     (λ c. search rules)
-    (λ c κs. (known c.before.before.before.before _ c.before.x-1.given.1).0)
+    (λ c κs. (known c.before.before _ c.in-Expression.is).0)
     (λ c. search rules)
     cast-result
     (λ c. search rules)
-    (λ c κs. (known c.before.before.before.before _ c.before.x-in-Variable-1.given.1).1)
+    (λ c κs. (known c.before.before _ c.in-Variable.is).1)
     (λ c. let f : SFits w32 c.stored.result = sfits_of c.stored.type_inv in rw (to_z-of_z f) (sfits_widen tt f))
     returns
     returns_2

@@ -7,7 +7,7 @@ use Rattle.verify.proofs.read_and_start.Statement.{statement}
 use Rattle.verify.proofs.read_and_start.Tie as tie
 
 slice-aggregate-start : tie.Need-slice_bounds-start-end
-slice-aggregate-start c = sym (length-take-le _ _ (omega (arith, c.before.before.before.read_prices-read.ensures)))
+slice-aggregate-start c = sym (length-take-le _ _ (omega (arith, c.read_prices-read.ensures)))
 
 pub read_and_start_spec : {M : Type 1} → statement M
 read_and_start_spec = tie.close (tie.spec (λ c. search rules) (λ c κs. search rules) (λ c. search rules) slice-aggregate-start (λ c κs. search rules) (λ c. search rules) (λ c. search rules))

@@ -9,11 +9,11 @@ use Rattle.verify.proofs.verify_report.Statement.{statement}
 use Rattle.verify.proofs.verify_report.Tie as tie
 
 slice-aggregate-compare : tie.Need-slice_bounds-compare-end
-slice-aggregate-compare c = sym (length-take-le _ _ (omega (arith, c.before.before.put_report-n.ensures.short)))
+slice-aggregate-compare c = sym (length-take-le _ _ (omega (arith, c.put_report-n.ensures.short)))
 
 compare-requires : tie.Need-compare-requires
 compare-requires c κs =
-    let e = c.before.before.put_report-n.ensures in
+    let e = c.put_report-n.ensures in
     omega (arith, ap length (printed_front _ _ _ _ e), e.wrote.count, e.short)
 
 pub verify_report_spec : {M : Type 1} → statement M

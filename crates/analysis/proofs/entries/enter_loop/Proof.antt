@@ -37,20 +37,20 @@ use Rattle.analysis.proofs.entries.enter_loop.Tie as tie
 
 at-start-requires : tie.Need-at_start-requires
 at-start-requires c κs =
-    let p = c.before.before.before.before.requires in
+    let p = c.requires in
     let l = p.0 in
-    (rw c.before.kind_at-kind.ensures (l.ready.fine _ l.inside), p.5, rw c.before.kind_at-kind.ensures (l.ready.written _ l.inside))
+    (rw c.kind_at-kind.ensures (l.ready.fine _ l.inside), p.5, rw c.kind_at-kind.ensures (l.ready.written _ l.inside))
 
 loop-at-requires : tie.Need-loop_at-one-requires
-loop-at-requires c κs = (c.before.before.before.before.before.before.requires.0, c.before.at_start_lem.ensures.long)
+loop-at-requires c κs = (c.requires.0, c.at_start.ensures.long)
 
-begun : (c : tie.After-at_start) → env_of c.at_start_lem.new.1.0 ≡ start_at c.before.before.before.before.before.args.text.now (rows_of c.before.before.before.before.before.args.rows.now) c.before.before.before.before.before.args.t.next (env_of c.before.before.before.before.before.args.r.now)
-begun c = c.at_start_lem.ensures.value ∙ ap (λ k. let text = c.before.before.before.before.before.args.text.now in at_start (form_of text k) (test_of text k) (env_of c.before.before.before.before.before.args.r.now)) c.before.before.kind_at-kind.ensures
+begun : (c : tie.After-at_start) → env_of c.at_start.new.1.0 ≡ start_at c.args.text.now (rows_of c.args.rows.now) c.args.t.next (env_of c.args.r.now)
+begun c = c.at_start.ensures.value ∙ ap (λ k. let text = c.args.text.now in at_start (form_of text k) (test_of text k) (env_of c.args.r.now)) c.kind_at-kind.ensures
 
-one_is : (c : tie.After-loop_at-one) → LoopAt c.before.before.before.before.before.before.before.args.text.now (rows_of c.before.before.before.before.before.before.before.args.rows.now) c.before.before.before.before.before.before.before.args.count c.before.before.before.before.before.before.before.args.t.next (start_at c.before.before.before.before.before.before.before.args.text.now (rows_of c.before.before.before.before.before.before.before.args.rows.now) c.before.before.before.before.before.before.before.args.t.next (env_of c.before.before.before.before.before.before.before.args.r.now)) c.loop_at-one.result
-one_is c = subst (λ ρ. LoopAt c.before.before.before.before.before.before.before.args.text.now (rows_of c.before.before.before.before.before.before.before.args.rows.now) c.before.before.before.before.before.before.before.args.count c.before.before.before.before.before.before.before.args.t.next ρ c.loop_at-one.result) (begun c.before.before) c.loop_at-one.ensures
+one_is : (c : tie.After-loop_at-one) → LoopAt c.args.text.now (rows_of c.args.rows.now) c.args.count c.args.t.next (start_at c.args.text.now (rows_of c.args.rows.now) c.args.t.next (env_of c.args.r.now)) c.loop_at-one.result
+one_is c = subst (λ ρ. LoopAt c.args.text.now (rows_of c.args.rows.now) c.args.count c.args.t.next ρ c.loop_at-one.result) (begun c.before.before) c.loop_at-one.ensures
 
-exit_is : {counts : PassCounts} {x : Exit} (c : tie.After-loop_at-one) → ExitOf c.loop_at-one.result counts x → let a = c.before.before.before.before.before.before.before.args in
+exit_is : {counts : PassCounts} {x : Exit} (c : tie.After-loop_at-one) → ExitOf c.loop_at-one.result counts x → let a = c.args in
     ExitAt a.text.now (rows_of a.rows.now) a.count a.t.next (start_at a.text.now (rows_of a.rows.now) a.t.next (env_of a.r.now)) x
 exit_is c x =
     let one = one_is (c) in
@@ -62,78 +62,78 @@ exit_is c x =
     }
 
 inside-requires : tie.Need-inside-requires
-inside-requires c κs = (c.before.before.before.before.before.before.before.before.before.before.before.before.before.before.before.before.loop_at-one.ensures.small, c.before.before.before.before.before.before.before.before.before.before.before.before.before.before.before.before.before.before.at_start_lem.ensures.long)
+inside-requires c κs = (c.loop_at-one.ensures.small, c.at_start.ensures.long)
 
 returns : tie.Need-returns-in-Refused
 returns c =
-    let i = c.before.before.before.before.before.before.before.before.before.before.before.before.before.before.args.t.next in
-    let f = subst (FigureOf (trip_of c.before.before.before.before.before.before.before.loop_at-one.result.trip)) c.before.before.before.number-1.given.1 c.before.before.before.before.before.ask.ensures in
+    let i = c.args.t.next in
+    let f = subst (FigureOf (trip_of c.loop_at-one.result.trip)) c.in-Refused.is c.ask.ensures in
     λ os. record {
-      begun = λ z. absurd (trip_number i (trip_of c.before.before.before.before.before.before.before.loop_at-one.result.trip) _ _ (f i) (sym (ap (λ (x : Tally). x.number) c.refused.ensures) ∙ z));
-      exit = exit_is c.before.before.before.before.before.before.before c.before.exit_of.ensures;
-      stopped = λ h. ap (of_trip i) (sym (one_is c.before.before.before.before.before.before.before).trip) ∙ f i ∙ (λ j. refused (sym c.refused.ensures j).number (sym c.refused.ensures j).place);
-      whole = λ z. absurd (trip_number i (trip_of c.before.before.before.before.before.before.before.loop_at-one.result.trip) _ _ (f i) (sym (ap (λ (x : Tally). x.number) c.refused.ensures) ∙ z));
+      begun = λ z. absurd (trip_number i (trip_of c.loop_at-one.result.trip) _ _ (f i) (sym (ap (λ (x : Tally). x.number) c.refused.ensures) ∙ z));
+      exit = exit_is c.before.before.before.before.before c.exit_of.ensures;
+      stopped = λ h. ap (of_trip i) (sym (one_is c.before.before.before.before.before).trip) ∙ f i ∙ (λ j. refused (sym c.refused.ensures j).number (sym c.refused.ensures j).place);
+      whole = λ z. absurd (trip_number i (trip_of c.loop_at-one.result.trip) _ _ (f i) (sym (ap (λ (x : Tally). x.number) c.refused.ensures) ∙ z));
     }
 
 -- its figure: it has passed, and its turns
-figure : (c : tie.In-Turns) → FigureOf (trip_of c.before.before.before.before.before.loop_at-one.result.trip) (Figure.Turns c.before.turns-1.given.0.0)
-figure c = subst (FigureOf (trip_of c.before.before.before.before.before.loop_at-one.result.trip)) c.before.turns-1.given.1 c.before.before.before.ask.ensures
+figure : (c : tie.In-Turns) → FigureOf (trip_of c.loop_at-one.result.trip) (Figure.Turns c.in-Turns.turns)
+figure c = subst (FigureOf (trip_of c.loop_at-one.result.trip)) c.in-Turns.is c.ask.ensures
 
 walked-requires : tie.Need-walked-all-requires
 walked-requires c κs =
     let s = c.before.before.before.before.before.before.before.before.before.before.before.before.before in
     let l = s.requires.0 in
-    (c.before.before.before.before.before.before.loop_at-one.ensures.near, (figure c.before).0, s.requires.1, (s.args.text.now, rw c.before.before.before.before.before.before.before.before.before.before.kind_at-kind.ensures (l.ready.written _ l.inside)))
+    (c.loop_at-one.ensures.near, (figure c.before).0, s.requires.1, (s.args.text.now, rw c.kind_at-kind.ensures (l.ready.written _ l.inside)))
 
 times-requires : tie.Need-times-total-requires
-times-requires c κs = c.before.before.before.before.before.before.before.before.before.before.before.before.before.before.requires.1.small
+times-requires c κs = c.requires.1.small
 
 body-requires : tie.Need-body-inner-requires
-body-requires c κs = (c.before.before.before.before.before.before.before.before.loop_at-one.ensures.near, c.before.before.before.before.before.before.before.before.loop_at-one.ensures.small, omega (arith, c.times-total.ensures), c.before.before.before.before.before.before.before.before.before.before.before.before.before.before.before.requires.1)
+body-requires c κs = (c.loop_at-one.ensures.near, c.loop_at-one.ensures.small, omega (arith, c.times-total.ensures), c.requires.1)
 
 -- the body's last row, in all passes that are walked
-last : (c : tie.After-struct_known-1) → c.before.before.body-inner.result.count * c.before.last_ticks.result ≤ 4_096 * 1_000
+last : (c : tie.After-struct_known-1) → c.body-inner.result.count * c.last_ticks.result ≤ 4_096 * 1_000
 last c =
     let s = c.before.before.before.before.before.before.before.before.before.before.before.before.before.before.before.before.before.before in
-    mul-le-mul c.before.before.body-inner.ensures.1.few (let z : c.before.last_ticks.result ≤ 1_000 = omega (arith, c.before.last_ticks.ensures s.args.text.now, last_small s.requires.2 s.args.text.now c.before.before.before.before.before.before.before.before.before.before.before.before.before.before.before.kind_at-kind.result) in z)
+    mul-le-mul c.body-inner.ensures.1.few (let z : c.last_ticks.result ≤ 1_000 = omega (arith, c.last_ticks.ensures s.args.text.now, last_small s.requires.2 s.args.text.now c.kind_at-kind.result) in z)
 
 mul-spent : tie.Need-overflow_mul-spent
 mul-spent c = let h = last c in omega arith
 
 lined-requires : tie.Need-lined-first-requires
-lined-requires c κs = let p = c.before.before.before.before.before.before.before.before.before.before.before.before.before.before.before.before.before.before.before.requires in (p.3, omega (arith, p.0.inside, p.0.ready.few), p.4, c.before.before.before.before.before.before.before.before.before.before.before.before.loop_at-one.ensures.near)
+lined-requires c κs = let p = c.requires in (p.3, omega (arith, p.0.inside, p.0.ready.few), p.4, c.loop_at-one.ensures.near)
 
 returns_2 : tie.Need-returns-in-Turns
 returns_2 c = λ os.
-    let a = c.before.before.before.before.before.before.before.before.before.before.before.before.before.before.before.before.before.before.before.before.before.before.before.before.args in
+    let a = c.args in
     let text = a.text.now in
     let rows = rows_of a.rows.now in
-    let p = c.before.before.before.before.before.before.before.before.before.before.before.before.before.before.before.before.before.before.before.before.before.before.before.before.requires.0 in
+    let p = c.requires.0 in
     let r = a.round in
-    let one = one_is c.before.before.before.before.before.before.before.before.before.before.before.before.before.before.before.before.before in
+    let one = one_is c.before.before.before.before.before.before.before.before.before.before.before.before.before.before.before in
     let f = figure c.before.before.before.before.before.before.before.before.before.before.before.before in
-    let kd = c.before.before.before.before.before.before.before.before.before.before.before.before.before.before.before.before.before.before.before.before.before.kind_at-kind.ensures in
+    let kd = c.kind_at-kind.ensures in
     let tr = one.trip in
     let tu = f.1 ∙ ap turns_of tr in
-    let ke = c.before.before.before.before.before.before.before.before.before.before.before.kept_at-kept.ensures text ∙ ap (λ (k : Kind). a.t.kept && not (starts r.v (form_of text k) (test_of text k))) kd in
+    let ke = c.kept_at-kept.ensures text ∙ ap (λ (k : Kind). a.t.kept && not (starts r.v (form_of text k) (test_of text k))) kd in
     let W = walked_at text r a.t.kept (kind_at rows a.t.next) (trip_at text rows a.count a.t.next (env_of a.r.now)) in
-    let al : c.before.before.before.before.before.before.before.before.before.before.walked-all.result ≡ capped W = c.before.before.before.before.before.before.before.before.before.before.walked-all.ensures text (rw kd (p.ready.written _ p.inside))
+    let al : c.walked-all.result ≡ capped W = c.walked-all.ensures text (rw kd (p.ready.written _ p.inside))
     ∙ (λ j. capped (walked_by (round_of r) (pass_in r (ke j)) (form_of text (kd j)) (test_of text (kd j)).limit (tr j) (tu j))) in
-    let to : c.before.before.before.before.before.before.before.before.before.times-total.result ≡ capped (W * r.times) = c.before.before.before.before.before.before.before.before.before.times-total.ensures ∙ ap (λ z. capped (z * r.times)) al ∙ omega (arith, cap_times W r.times 0) in
-    let b = c.before.before.before.before.before.before.before.before.body-inner.ensures in
-    let l = c.before.before.before.before.lined-first.ensures os in
-    let n = c.before.before.before.before.before.before.before.before.body-inner.result.count in
-    let k = c.before.before.before.pass_counts.ensures in
+    let to : c.times-total.result ≡ capped (W * r.times) = c.times-total.ensures ∙ ap (λ z. capped (z * r.times)) al ∙ omega (arith, cap_times W r.times 0) in
+    let b = c.body-inner.ensures in
+    let l = c.lined-first.ensures os in
+    let n = c.body-inner.result.count in
+    let k = c.pass_counts.ensures in
     record {
-      begun = λ z. record { long = c.inside.ensures.long; value = c.inside.ensures.value ∙ ap (widened c.before.before.before.before.before.before.before.before.before.before.before.before.before.before.before.before.before.loop_at-one.result (inner_of (trip_of c.before.before.before.before.before.before.before.before.before.before.before.before.before.before.before.before.before.loop_at-one.result.trip))) (begun c.before.before.before.before.before.before.before.before.before.before.before.before.before.before.before.before.before.before.before) ∙ inside_is one };
-      exit = exit_is c.before.before.before.before.before.before.before.before.before.before.before.before.before.before.before.before.before c.before.before.exit_of-exit.ensures;
+      begun = λ z. record { long = c.inside.ensures.long; value = c.inside.ensures.value ∙ ap (widened c.loop_at-one.result (inner_of (trip_of c.loop_at-one.result.trip))) (begun c.before.before.before.before.before.before.before.before.before.before.before.before.before.before.before.before.before) ∙ inside_is one };
+      exit = exit_is c.before.before.before.before.before.before.before.before.before.before.before.before.before.before.before c.exit_of-exit.ensures;
       stopped = λ h. absurd (h l.number);
       whole = λ z. record {
         verdict = ap (of_trip a.t.next) (sym tr) ∙ f.0 a.t.next;
         round = b.0 ∙ (λ j. body_of (tr j) (one.tested j) (tu j) (to j) r);
         fine = b.1;
-        ran = rw c.before.before.exit_of-exit.ensures.ran (record { own = k.own ∙ ap (cond c.before.before.before.before.before.before.before.before.body-inner.result.known 1) tu; all = k.all ∙ ap (cond c.before.before.before.before.before.before.before.before.body-inner.result.known r.count) al; tests = k.tests });
-        lined = lined_is tr tu to (ap (λ m. n * m) (c.before.before.before.before.before.before.before.last_ticks.ensures text ∙ ap (last_ticks text a.prices) kd)) l;
+        ran = rw c.exit_of-exit.ensures.ran (record { own = k.own ∙ ap (cond c.body-inner.result.known 1) tu; all = k.all ∙ ap (cond c.body-inner.result.known r.count) al; tests = k.tests });
+        lined = lined_is tr tu to (ap (λ m. n * m) (c.last_ticks.ensures text ∙ ap (last_ticks text a.prices) kd)) l;
       };
     }
 
@@ -141,7 +141,7 @@ pub enter_loop_spec : {M : Type 1} → statement M
 enter_loop_spec =
     tie.close
     (tie.spec
-    (λ c κs. row_in c.before.before.args.rows.now _ (search rules))
+    (λ c κs. row_in c.args.rows.now _ (search rules))
     at-start-requires
     loop-at-requires
     (λ c κs. search rules) (λ c. search rules) (λ c κs. search rules) (λ c κs. search rules)

@@ -11,7 +11,7 @@ use Rattle.analysis.proofs.entries.is_full.Tie as tie
 returns : tie.Need-returns-then-lo
 unfolding lowest highest
 returns c =
-    let s = c.before.before.before.args.s in
+    let s = c.args.s in
     let fa : SFits w32 s.lo = search rules in
     let fb : SFits w32 s.hi = search rules in
     rw (eq_z_yes s.lo lowest fa (sfits_lit tt) c.if-lo.true) (eq_test fb (sfits_lit tt))
@@ -19,7 +19,7 @@ returns c =
 returns_2 : tie.Need-returns-else-lo
 unfolding lowest highest
 returns_2 c =
-    let s = c.before.before.before.args.s in
+    let s = c.args.s in
     let fa : SFits w32 s.lo = search rules in
     rw (eq_z_no s.lo lowest fa (sfits_lit tt) c.if-lo.false)
 

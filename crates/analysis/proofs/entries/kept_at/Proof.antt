@@ -39,10 +39,10 @@ no_for text v p (Hold w) o = same p
 
 returns : tie.Need-returns-in-For
 unfolding head_of view_of kind_of
-returns c = λ text. rw c.before.before.kind-1.given.1 c.both.ensures
+returns c = λ text. rw c.in-For.is c.both.ensures
 
 returns_2 : tie.Need-returns-in_default
-returns_2 c = λ text. no_for text c.before.args.v c.before.args.kept c.before.args.kind c.in_default.keys2
+returns_2 c = λ text. no_for text c.args.v c.args.kept c.args.kind c.in_default.in_default-own.keys2
 
 pub kept_at_spec : {M : Type 1} → statement M
 kept_at_spec = tie.close (tie.spec (λ c. search rules) (λ c κs. search rules) returns returns_2)

@@ -20,10 +20,10 @@ loop_holds : tie.Need-loop-v-init invariant-loop-v decreases-loop-v
 loop_holds c = (omega arith, bit_none, known_none _, omega arith)
 
 -- what is added is at most the bit, and the bit is small
-bounds : (c : tie.After-part_of-sum invariant-loop-v decreases-loop-v) → (c.part_of-sum.result ≤ c.before.before.before.before.loop-v.bit) × (c.before.before.before.before.loop-v.bit ≤ 65_536) × (c.before.before.before.before.loop-v.sum < c.before.before.before.before.loop-v.bit)
+bounds : (c : tie.After-part_of-sum invariant-loop-v decreases-loop-v) → (c.part_of-sum.result ≤ c.loop-v.bit) × (c.loop-v.bit ≤ 65_536) × (c.loop-v.sum < c.loop-v.bit)
 bounds c =
-    let l = c.before.before.before.before.loop-v in
-    (omega (arith, c.part_of-sum.ensures, part_small c.before.is_full.result l.bit), omega (arith, l.invariant.1, bit_small l.v l.invariant.0), l.invariant.3)
+    let l = c.loop-v in
+    (omega (arith, c.part_of-sum.ensures, part_small c.is_full.result l.bit), omega (arith, l.invariant.1, bit_small l.v l.invariant.0), l.invariant.3)
 
 add-sum : tie.Need-overflow_add-sum invariant-loop-v decreases-loop-v
 add-sum c = let h = bounds c in omega arith
@@ -33,19 +33,19 @@ mul-bit c = let h = bounds c in omega arith
 
 loop_again : tie.Need-loop-v-preserved invariant-loop-v decreases-loop-v
 loop_again c =
-    let l = c.before.before.before.before.loop-v in
-    let ρ = env_of c.before.before.before.before.before.args.r.now in
+    let l = c.loop-v in
+    let ρ = env_of c.args.r.now in
     let h = bounds c in
-    let t = c.before.before.before.loop-v-test.true in
-    let full : c.before.is_full.result ≡ is_full (ρ l.v) = c.before.is_full.ensures ∙ ap is_full c.before.before.interval_at-s.ensures in
+    let t = c.loop-v-test.true in
+    let full : c.is_full.result ≡ is_full (ρ l.v) = c.is_full.ensures ∙ ap is_full c.interval_at-s.ensures in
     let part : c.part_of-sum.result ≡ cond (is_full (ρ l.v)) (bit_of l.v) 0 = c.part_of-sum.ensures ∙ (λ j. cond (full j) (l.invariant.1 j) 0) in
     (omega arith, omega (arith, l.invariant.1, bit_more l.v), omega (arith, l.invariant.2, part, known_more l.v ρ), omega arith)
 
 returns : tie.Need-returns invariant-loop-v decreases-loop-v
 returns c =
-    let l = c.before.loop-v in
+    let l = c.loop-v in
     let e : l.v ≡ 16 = omega (arith, c.loop-v-test.false, l.invariant.0) in
-    l.invariant.2 ∙ ap (λ n. not_known n (env_of c.before.before.args.r.now)) e
+    l.invariant.2 ∙ ap (λ n. not_known n (env_of c.args.r.now)) e
 
 pub not_known_spec : {M : Type 1} → statement M
 not_known_spec =

@@ -11,10 +11,10 @@ use Rattle.analysis.proofs.tallies.last_ticks.Tie as tie
 
 returns : tie.Need-returns-in-For
 unfolding head_of view_of kind_of price
-returns c = λ text. sym (ap (last_ticks text c.before.before.args.prices) c.enum_told-1.given.1)
+returns c = λ text. sym (ap (last_ticks text c.args.prices) c.in-For.is)
 
 returns_2 : tie.Need-returns-in_default
-returns_2 c = λ text. no_last text c.before.args.prices c.before.args.kind c.in_default.keys2
+returns_2 c = λ text. no_last text c.args.prices c.args.kind c.in_default.in_default-own.keys2
 
 pub last_ticks_spec : {M : Type 1} → statement M
 last_ticks_spec = tie.close (tie.spec (λ c. search rules) returns returns_2)

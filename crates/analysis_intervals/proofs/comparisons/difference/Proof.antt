@@ -46,18 +46,18 @@ fit : (x y : ℤ) → Near 256 x → Near 256 y → Fit x y
 fit x y h k = record { first = omega ints; second = omega ints; apart = omega (ints, minus_parts x y) }
 
 -- both ends of the difference
-ends : (c : tie.In-Add-y) → let (a, (b, _)) = c.before.before.before.before.x-1.given.0 in let (d, (e, _)) = c.before.y-1.given.0 in Fit a e × Fit b d
+ends : (c : tie.In-Add-y) → let (a, (b, _)) = (c.in-Add.a, (c.in-Add.b, tt)) in let (d, (e, _)) = (c.in-Add-y.c, (c.in-Add-y.d, tt)) in Fit a e × Fit b d
 ends c =
-    let s = c.before.before.before.before.before.before in
-    let p = rw c.before.before.before.before.x-1.given.1 at s.requires.0 in
-    let q = rw c.before.y-1.given.1 at s.requires.1 in
+    let s = c.before.before in
+    let p = rw c.in-Add.is at s.requires.0 in
+    let q = rw c.in-Add-y.is at s.requires.1 in
     (fit _ _ p.0 q.1, fit _ _ p.1 q.0)
 
 returns : tie.Need-returns-in-Add-y
 unfolding difference
 returns c =
     let k = ends c in
-    rw (c.before.before.before.before.x-1.given.1, c.before.y-1.given.1) (simp (to_z-of_z k.0.first, to_z-of_z k.0.second, to_z-of_z k.1.first, to_z-of_z k.1.second, to_z-of_z k.0.apart, to_z-of_z k.1.apart))
+    rw (c.in-Add.is, c.in-Add-y.is) (simp (to_z-of_z k.0.first, to_z-of_z k.0.second, to_z-of_z k.1.first, to_z-of_z k.1.second, to_z-of_z k.0.apart, to_z-of_z k.1.apart))
 
 pub difference_spec : {M : Type 1} → statement M
 difference_spec =
@@ -67,5 +67,5 @@ difference_spec =
     (λ c. let k = (ends c).0 in simp (to_z-of_z k.first, to_z-of_z k.second) k.apart)
     (λ c. let k = (ends c).1 in simp (to_z-of_z k.first, to_z-of_z k.second) k.apart)
     returns
-    (λ c. rw c.before.before.x-1.given.1 (second_other _ _ c.before.before.before.before.args.y c.in_default-y.keys2))
-    (λ c. first_other c.before.args.x c.before.args.y c.in_default.keys2))
+    (λ c. rw c.in-Add.is (second_other _ _ c.args.y c.in_default-y.in_default-y-own.keys2))
+    (λ c. first_other c.args.x c.args.y c.in_default.in_default-own.keys2))

@@ -10,9 +10,9 @@ use Rattle.analysis_intervals.proofs.comparisons.equal_ends.Tie as tie
 returns : tie.Need-returns-in-Add
 unfolding equal_ends
 returns c =
-    let fa : SFits w64 c.before.step-1.given.0.0 = sfits_of c.known_told-1.given.0.1 in
-    let fb : SFits w64 c.before.step-1.given.0.1.0 = sfits_of c.known_told-1.given.1.0.1 in
-    rw c.before.step-1.given.1 (eq_test fa fb)
+    let fa : SFits w64 c.in-Add.a = sfits_of c.in-Add.known_told-1-own.given.0.1 in
+    let fb : SFits w64 c.in-Add.b = sfits_of c.in-Add.known_told-1-own.given.1.0.1 in
+    rw c.in-Add.is (eq_test fa fb)
 
 pub equal_ends_spec : {M : Type 1} → statement M
 unfolding equal_ends
@@ -21,6 +21,6 @@ equal_ends_spec =
     (tie.spec
     (λ c. search rules) (λ c. search rules) (λ c. search rules) (λ c. search rules)
     returns
-    (λ c. rw c.before.step-in-Grow-1.given.1)
-    (λ c. rw c.before.step-in-Shrink-1.given.1)
-    (λ c. rw c.enum_told-1.given.1))
+    (λ c. rw c.in-Grow.is)
+    (λ c. rw c.in-Shrink.is)
+    (λ c. rw c.in-Unknown.is))

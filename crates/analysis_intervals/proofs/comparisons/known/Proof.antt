@@ -10,7 +10,7 @@ known_spec =
     tie.close
     (tie.spec
     (λ c. search rules) (λ c. search rules) (λ c. search rules) (λ c. search rules)
-    (λ c. rw c.enum_told-1.given.1)
-    (λ c. rw c.enum_told-in-Grow-1.given.1)
-    (λ c. rw c.enum_told-in-Shrink-1.given.1)
-    (λ c. rw c.enum_told-in-Unknown-1.given.1))
+    (λ c. rw c.in-Add.is)
+    (λ c. rw c.in-Grow.is)
+    (λ c. rw c.in-Shrink.is)
+    (λ c. rw c.in-Unknown.is))

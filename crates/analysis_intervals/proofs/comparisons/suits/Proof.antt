@@ -11,31 +11,31 @@ use Rattle.analysis_intervals.proofs.comparisons.suits.Tie as tie
 
 returns : tie.Need-returns-then-up
 returns c =
-    let fa : SFits w64 c.before.before.step-1.given.0.0 = sfits_of c.before.known_told-1.given.0.1 in
-    let u = sym c.before.before.before.before.before.rises-up.ensures ∙ c.if-up.true in
-    rw c.before.before.step-1.given.1 (simp (to_z-of_z fa) (suits_up _ _ _ u))
+    let fa : SFits w64 c.in-Add.a = sfits_of c.in-Add.known_told-1-own.given.0.1 in
+    let u = sym c.rises-up.ensures ∙ c.if-up.true in
+    rw c.in-Add.is (simp (to_z-of_z fa) (suits_up _ _ _ u))
 
 returns_2 : tie.Need-returns-then-down
 returns_2 c =
-    let fb : SFits w64 c.before.before.before.step-1.given.0.1.0 = sfits_of c.before.before.known_told-1.given.1.0.1 in
-    let d = sym c.before.before.before.before.before.falls-down.ensures ∙ c.if-down.true in
-    rw c.before.before.before.step-1.given.1 (simp (to_z-of_z fb) (suits_down _ _ _ d))
+    let fb : SFits w64 c.in-Add.b = sfits_of c.in-Add.known_told-1-own.given.1.0.1 in
+    let d = sym c.falls-down.ensures ∙ c.if-down.true in
+    rw c.in-Add.is (simp (to_z-of_z fb) (suits_down _ _ _ d))
 
 returns_3 : tie.Need-returns-else-down
 returns_3 c =
-    let u = sym c.before.before.before.before.before.before.rises-up.ensures ∙ c.before.if-up.false in
-    let d = sym c.before.before.before.before.before.falls-down.ensures ∙ c.if-down.false in
-    rw c.before.before.before.step-1.given.1 (suits_other _ _ _ u d)
+    let u = sym c.rises-up.ensures ∙ c.if-up.false in
+    let d = sym c.falls-down.ensures ∙ c.if-down.false in
+    rw c.in-Add.is (suits_other _ _ _ u d)
 
 returns-4 : tie.Need-returns-in-Grow
-returns-4 c = rw c.enum_told-1.given.1 (c.before.before.before.rises-up.ensures ∙ suits_grow _ _ _)
+returns-4 c = rw c.in-Grow.is (c.rises-up.ensures ∙ suits_grow _ _ _)
 
 returns-5 : tie.Need-returns-in-Shrink
-returns-5 c = rw c.enum_told-in-Shrink-1.given.1 (c.before.before.falls-down.ensures ∙ suits_shrink _ _ _)
+returns-5 c = rw c.in-Shrink.is (c.falls-down.ensures ∙ suits_shrink _ _ _)
 
 returns-6 : tie.Need-returns-in-Unknown
 unfolding suits
-returns-6 c = rw c.enum_told-in-Unknown-1.given.1
+returns-6 c = rw c.in-Unknown.is
 
 pub suits_spec : {M : Type 1} → statement M
 suits_spec =

@@ -10,8 +10,8 @@ use Rattle.analysis_intervals.proofs.comparisons.watches.Tie as tie
 
 returns : tie.Need-returns
 returns c =
-    let a = c.before.before.before.before.before.before.before.before.args in
-    rw (c.both-3.ensures, c.before.before.before.both.ensures, c.before.both-2.ensures, c.before.before.ordered.ensures, c.before.before.before.before.both-fits.ensures, c.before.before.before.before.before.suits.ensures, c.before.before.before.before.before.before.is_add.ensures, c.before.before.before.before.before.before.before.opposite-against.ensures)
+    let a = c.args in
+    rw (c.both-3.ensures, c.both.ensures, c.both-2.ensures, c.ordered.ensures, c.both-fits.ensures, c.suits.ensures, c.is_add.ensures, c.opposite-against.ensures)
     (ap (λ z. not (a.before && a.after) && z) (toward_parts a.step (sort (opposite a.comparison))))
 
 pub watches_spec : {M : Type 1} → statement M

@@ -4,7 +4,7 @@ use Rattle.analysis_loops.proofs.trips.own_trip.Statement.{statement}
 use Rattle.analysis_loops.proofs.trips.own_trip.Tie as tie
 
 returns : tie.Need-returns
-returns c = rw (c.before.before.before.lead_of-lead.ensures, c.both-sure.ensures, c.before.before.single.ensures, c.before.single-2.ensures)
+returns c = rw (c.lead_of-lead.ensures, c.both-sure.ensures, c.single.ensures, c.single-2.ensures)
 
 pub own_trip_spec : {M : Type 1} → statement M
 own_trip_spec = tie.close (tie.spec (λ c κs. search rules) (λ c κs. search rules) (λ c κs. search rules) (λ c κs. search rules) returns)

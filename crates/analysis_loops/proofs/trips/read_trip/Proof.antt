@@ -4,7 +4,7 @@ use Rattle.analysis_loops.proofs.trips.read_trip.Statement.{statement}
 use Rattle.analysis_loops.proofs.trips.read_trip.Tie as tie
 
 returns : tie.Need-returns
-returns c = rw (c.both-sure.ensures, c.before.before.before.before.single.ensures, c.before.both.ensures, c.before.before.before.single-2.ensures, c.before.before.single-3.ensures)
+returns c = rw (c.both-sure.ensures, c.single.ensures, c.both.ensures, c.single-2.ensures, c.single-3.ensures)
 
 pub read_trip_spec : {M : Type 1} → statement M
 read_trip_spec =

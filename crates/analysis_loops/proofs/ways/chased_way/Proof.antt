@@ -20,31 +20,31 @@ use Rattle.analysis_loops.proofs.ways.chased_way.Statement.{statement}
 use Rattle.analysis_loops.proofs.ways.chased_way.Tie as tie
 
 -- whether both steps and the comparison fit
-fits : (c : tie.After-chases) → let s = c.before.before.before.before.before.args in let rows = rows_of s.rows.now in (text : List ℕ) → ChaseAt text rows s.count s.i s.head s.step s.w → let k = kind_at rows s.i in let body = body_at text rows s.count s.i in
+fits : (c : tie.After-chases) → let s = c.args in let rows = rows_of s.rows.now in (text : List ℕ) → ChaseAt text rows s.count s.i s.head s.step s.w → let k = kind_at rows s.i in let body = body_at text rows s.count s.i in
     c.chases.result ≡ (is_add (step s.w body) && (is_add (step (test_of text k).tested body) && ordered (sort (test_of text k).comparison)))
-fits c text p = c.chases.ensures ∙ (λ j. is_add ((c.before.body_moves-body.ensures text p.loop).moves j) && (is_add (p.own j) && ordered (sort (p.head.comparison j))))
+fits c text p = c.chases.ensures ∙ (λ j. is_add ((c.body_moves-body.ensures text p.loop).moves j) && (is_add (p.own j) && ordered (sort (p.head.comparison j))))
 
 body-moves-requires : tie.Need-body_moves-body-requires
-body-moves-requires c κs = let (text, p) = c.before.before.before.requires in ((text, p.loop), p.small)
+body-moves-requires c κs = let (text, p) = c.requires in ((text, p.loop), p.small)
 
 difference-requires : tie.Need-difference-requires
-difference-requires c κs = let (text, p) = c.before.before.before.before.before.before.requires in (p.near, (c.before.before.body_moves-body.ensures text p.loop).near)
+difference-requires c κs = let (text, p) = c.requires in (p.near, (c.body_moves-body.ensures text p.loop).near)
 
 returns : tie.Need-returns-then-w-head
-returns c = λ text p. record { value = chase_way _ _ _ p.form (ap known (sym p.own) ∙ p.sure) p.limit p.changed {p = true} (sym (eq-eqb _ _ c.if-w-head.true) ∙ ap (eqb c.before.before.before.args.w) p.head.tested) refl; small = tt; moves = tt }
+returns c = λ text p. record { value = chase_way _ _ _ p.form (ap known (sym p.own) ∙ p.sure) p.limit p.changed {p = true} (sym (eq-eqb _ _ c.if-w-head.true) ∙ ap (eqb c.args.w) p.head.tested) refl; small = tt; moves = tt }
 
 returns_2 : tie.Need-returns-then-chases
 returns_2 c = λ text p.
-    let body = c.before.before.before.body_moves-body.ensures text p.loop in
+    let body = c.body_moves-body.ensures text p.loop in
     record {
-      value = chase_way _ _ _ p.form (ap known (sym p.own) ∙ p.sure) p.limit p.changed {p = false} {q = true} (sym (ne_eqb _ _ c.before.before.before.before.if-w-head.false) ∙ ap (eqb c.before.before.before.before.before.before.before.args.w) p.head.tested) (sym c.before.if-chases.true ∙ fits c.before.before text p);
+      value = chase_way _ _ _ p.form (ap known (sym p.own) ∙ p.sure) p.limit p.changed {p = false} {q = true} (sym (ne_eqb _ _ c.if-w-head.false) ∙ ap (eqb c.args.w) p.head.tested) (sym c.if-chases.true ∙ fits c.before.before text p);
       small = p.small;
       moves = (c.difference.ensures ∙ (λ j. difference (p.own j) (body.moves j)), subst (EndsWithin 512) (sym c.difference.ensures) (difference_ends 256 256 _ _ p.near body.near));
     }
 
 returns_3 : tie.Need-returns
 returns_3 c = λ text p. record {
-  value = chase_way _ _ _ p.form (ap known (sym p.own) ∙ p.sure) p.limit p.changed {p = false} {q = false} (sym (ne_eqb _ _ c.before.before.before.if-w-head.false) ∙ ap (eqb c.before.before.before.before.before.before.args.w) p.head.tested) (sym c.if-chases.false ∙ fits c.before text p);
+  value = chase_way _ _ _ p.form (ap known (sym p.own) ∙ p.sure) p.limit p.changed {p = false} {q = false} (sym (ne_eqb _ _ c.if-w-head.false) ∙ ap (eqb c.args.w) p.head.tested) (sym c.if-chases.false ∙ fits c.before text p);
   small = tt;
   moves = tt;
 }

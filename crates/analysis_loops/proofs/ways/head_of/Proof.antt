@@ -11,27 +11,27 @@ use Rattle.analysis_loops.proofs.ways.head_of.Tie as tie
 returns : tie.Need-returns-in-While
 unfolding head_of view_of kind_of
 returns c =
-    let h = rw c.before.kind-1.given.1 at c.before.before.before.requires in λ text. rw c.before.kind-1.given.1 (record { tested = refl; comparison = refl; limit = refl; small = h.0; fine = h.1; written = λ w. w })
+    let h = rw c.in-While.is at c.requires in λ text. rw c.in-While.is (record { tested = refl; comparison = refl; limit = refl; small = h.0; fine = h.1; written = λ w. w })
 
 returns_2 : tie.Need-returns-in-Do
 unfolding head_of view_of kind_of
 returns_2 c =
-    let h = rw c.before.kind-in-Do-1.given.1 at c.before.before.before.requires in λ text. rw c.before.kind-in-Do-1.given.1 (record { tested = refl; comparison = refl; limit = refl; small = h.0; fine = h.1; written = λ w. w })
+    let h = rw c.in-Do.is at c.requires in λ text. rw c.in-Do.is (record { tested = refl; comparison = refl; limit = refl; small = h.0; fine = h.1; written = λ w. w })
 
 returns_3 : tie.Need-returns-in-For
 unfolding head_of view_of kind_of
 returns_3 c =
-    let h = rw c.before.kind-in-For-1.given.1 at c.before.before.before.requires in λ text. rw c.before.kind-in-For-1.given.1 (record { tested = refl; comparison = refl; limit = refl; small = h.0; fine = h.2; written = λ w. w.1 })
+    let h = rw c.in-For.is at c.requires in λ text. rw c.in-For.is (record { tested = refl; comparison = refl; limit = refl; small = h.0; fine = h.2; written = λ w. w.1 })
 
 returns-4 : tie.Need-returns-in-Hold
 unfolding head_of view_of kind_of expr_of
 returns-4 c =
-    let h = rw c.before.kind-in-Hold-1.given.1 at c.before.before.before.requires in λ text. rw c.before.kind-in-Hold-1.given.1 (record { tested = refl; comparison = refl; limit = refl; small = h; fine = zero_near; written = λ w. tt })
+    let h = rw c.in-Hold.is at c.requires in λ text. rw c.in-Hold.is (record { tested = refl; comparison = refl; limit = refl; small = h; fine = zero_near; written = λ w. tt })
 
 returns-5 : tie.Need-returns-in_default
 unfolding expr_of
 returns-5 c = λ text.
-    let e = no_test text c.before.args.kind c.in_default.keys5 in
+    let e = no_test text c.args.kind c.in_default.in_default-own.keys5 in
     record { tested = rw e; comparison = rw e; limit = rw e; small = omega arith; fine = zero_near; written = λ w. tt }
 
 pub head_of_spec : {M : Type 1} → statement M

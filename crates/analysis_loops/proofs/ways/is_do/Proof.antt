@@ -8,10 +8,10 @@ use Rattle.analysis_loops.proofs.ways.is_do.Tie as tie
 
 returns : tie.Need-returns-in-Do
 unfolding head_of view_of kind_of
-returns c = λ text. rw c.enum_told-1.given.1
+returns c = λ text. rw c.in-Do.is
 
 returns_2 : tie.Need-returns-in_default
-returns_2 c = λ text. not_do text c.before.args.kind c.in_default.keys2
+returns_2 c = λ text. not_do text c.args.kind c.in_default.in_default-own.keys2
 
 pub is_do_spec : {M : Type 1} → statement M
 is_do_spec = tie.close (tie.spec (λ c. search rules) returns returns_2)

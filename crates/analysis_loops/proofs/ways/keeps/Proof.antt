@@ -13,9 +13,9 @@ keeps_spec =
     tie.close
     (tie.spec
     (λ c. search rules) (λ c. search rules)
-    (λ c κs. let h = rw c.before.limit-1.given.1 at c.before.before.before.before.requires in h.0)
+    (λ c κs. let h = rw c.in-Variable.is at c.requires in h.0)
     (λ c. search rules)
-    (λ c κs. let h = rw c.before.limit-in-Expression-1.given.1 at c.before.before.before.before.requires in h.1)
-    (λ c. λ body h. rw c.enum_told-1.given.1)
-    (λ c. λ body h. rw c.before.before.limit-1.given.1 (ap not (c.has.ensures ∙ h _)))
-    (λ c. λ body h. rw c.before.before.limit-in-Expression-1.given.1 (c.word_keeps.ensures body h)))
+    (λ c κs. let h = rw c.in-Expression.is at c.requires in h.1)
+    (λ c. λ body h. rw c.in-Constant.is)
+    (λ c. λ body h. rw c.in-Variable.is (ap not (c.has.ensures ∙ h _)))
+    (λ c. λ body h. rw c.in-Expression.is (c.word_keeps.ensures body h)))

@@ -27,14 +27,14 @@ not_kept_lem body {w} e h = by (assigns w body) (rw e at h)
     by false h = sym h
 
 head-of-requires : tie.Need-head_of-head-requires
-head-of-requires c κs = let (text, p) = c.before.before.requires in rw c.kind_at-kind.ensures (p.loop.ready.fine _ p.loop.inside)
+head-of-requires c κs = let (text, p) = c.requires in rw c.kind_at-kind.ensures (p.loop.ready.fine _ p.loop.inside)
 
 -- the limit is the variable w
-chased : (c : tie.In-Variable-2) → let s = c.before.before.before.before.before.args in let rows = rows_of s.rows.now in (text : List ℕ) → LimitAt text rows s.count s.i s.step → ChaseAt text rows s.count s.i c.before.before.head_of-head.result s.step c.limit-1.given.0.0
+chased : (c : tie.In-Variable-2) → let s = c.args in let rows = rows_of s.rows.now in (text : List ℕ) → LimitAt text rows s.count s.i s.step → ChaseAt text rows s.count s.i c.head_of-head.result s.step c.in-Variable.w
 unfolding expr_of
 chased c text p =
-    let h = rw c.before.before.before.kind_at-kind.ensures at (c.before.before.head_of-head.ensures text) in
-    let e = sym h.limit ∙ ap (expr_of text) c.limit-1.given.1 in
+    let h = rw c.kind_at-kind.ensures at (c.head_of-head.ensures text) in
+    let e = sym h.limit ∙ ap (expr_of text) c.in-Variable.is in
     record {
       loop = p.loop;
       form = p.form;
@@ -42,32 +42,32 @@ chased c text p =
       own = p.own;
       near = p.near;
       sure = p.sure;
-      small = rw c.limit-1.given.1 at h.fine;
+      small = rw c.in-Variable.is at h.fine;
       limit = e;
       changed = not_kept_lem _ e p.changed;
     }
 
 chased-way-requires : tie.Need-chased_way-requires
-chased-way-requires c κs = let (text, p) = c.before.before.before.before.before.before.requires in (text, chased c.before text p)
+chased-way-requires c κs = let (text, p) = c.requires in (text, chased c.before text p)
 
 returns : tie.Need-returns-in-Constant
 unfolding expr_of
 returns c = λ text p.
-    let h = rw c.before.before.before.kind_at-kind.ensures at (c.before.before.head_of-head.ensures text) in
-    record { value = constant_way _ _ _ p.form (ap known (sym p.own) ∙ p.sure) (sym h.limit ∙ ap (expr_of text) c.enum_told-1.given.1); small = tt; moves = tt }
+    let h = rw c.kind_at-kind.ensures at (c.head_of-head.ensures text) in
+    record { value = constant_way _ _ _ p.form (ap known (sym p.own) ∙ p.sure) (sym h.limit ∙ ap (expr_of text) c.in-Constant.is); small = tt; moves = tt }
 
 returns_3 : tie.Need-returns-in-Expression
 unfolding expr_of
 returns_3 c = λ text p.
-    let h = rw c.before.before.before.kind_at-kind.ensures at (c.before.before.head_of-head.ensures text) in
-    let w = subst (WrittenOperand text) c.enum_told-in-Expression-1.given.1 (h.written (p.loop.ready.written _ p.loop.inside)) in
-    record { value = composed_way _ _ _ p.form (ap known (sym p.own) ∙ p.sure) (ap (expr_of text) (sym c.enum_told-in-Expression-1.given.1) ∙ h.limit) w.composed; small = tt; moves = tt }
+    let h = rw c.kind_at-kind.ensures at (c.head_of-head.ensures text) in
+    let w = subst (WrittenOperand text) c.in-Expression.is (h.written (p.loop.ready.written _ p.loop.inside)) in
+    record { value = composed_way _ _ _ p.form (ap known (sym p.own) ∙ p.sure) (ap (expr_of text) (sym c.in-Expression.is) ∙ h.limit) w.composed; small = tt; moves = tt }
 
 pub limit_way_spec : {M : Type 1} → statement M
 limit_way_spec =
     tie.close
     (tie.spec
-    (λ c κs. let (text, p) = c.before.requires in let l = p.loop in row_in c.before.args.rows.now _ (search rules))
+    (λ c κs. let (text, p) = c.requires in let l = p.loop in row_in c.args.rows.now _ (search rules))
     head-of-requires
     (λ c. search rules) (λ c. search rules)
     chased-way-requires

@@ -17,16 +17,16 @@ use Rattle.analysis_loops.proofs.ways.watched_way.Statement.{statement}
 use Rattle.analysis_loops.proofs.ways.watched_way.Tie as tie
 
 -- the answer, of the body's step
-answer : (c : tie.After-watches) → let a = c.before.before.before.args in (text : List ℕ) → AtLoop text (rows_of a.rows.now) a.count a.i → let st = step a.w (body_at text (rows_of a.rows.now) a.count a.i) in
+answer : (c : tie.After-watches) → let a = c.args in (text : List ℕ) → AtLoop text (rows_of a.rows.now) a.count a.i → let st = step a.w (body_at text (rows_of a.rows.now) a.count a.i) in
     cond c.watches.result (watched a.w a.comparison a.k a.before) broken ≡ cond (not (a.before && a.after) && toward st (sort (opposite a.comparison))) (watched a.w a.comparison a.k a.before) broken
 answer c text l =
-    let a = c.before.before.before.args in
-    ap (λ t. cond t (watched a.w a.comparison a.k a.before) broken) (c.watches.ensures ∙ ap (λ st. not (a.before && a.after) && toward st (sort (opposite a.comparison))) (c.before.body_moves-body.ensures text l).moves)
+    let a = c.args in
+    ap (λ t. cond t (watched a.w a.comparison a.k a.before) broken) (c.watches.ensures ∙ ap (λ st. not (a.before && a.after) && toward st (sort (opposite a.comparison))) (c.body_moves-body.ensures text l).moves)
 
 returns : tie.Need-returns-then-watches
 returns c = λ text l.
-    let b = c.before.before.body_moves-body.ensures text l in
-    record { value = simp (to_z-of_z c.before.before.before.before.ranges.k) (sym (rw c.if-watches.true) ∙ answer c.before text l); small = c.before.before.before.before.requires.1; moves = (b.moves, ends_more 256 512 (omega arith) c.before.before.body_moves-body.result.step b.near) }
+    let b = c.body_moves-body.ensures text l in
+    record { value = simp (to_z-of_z c.ranges.k) (sym (rw c.if-watches.true) ∙ answer c.before text l); small = c.requires.1; moves = (b.moves, ends_more 256 512 (omega arith) c.body_moves-body.result.step b.near) }
 
 returns_2 : tie.Need-returns
 returns_2 c = λ text l. record { value = sym (rw c.if-watches.false) ∙ answer c.before text l; small = tt; moves = tt }

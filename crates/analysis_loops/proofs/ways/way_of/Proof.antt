@@ -33,23 +33,23 @@ module _ {text : List ℕ} {rows : List Row} {count i : ℕ} {held kept : Bool} 
   limit_at h k l = record { loop = p.loop; form = sym p.form ∙ h; own = p.own; near = p.near; sure = k; changed = sym p.limit ∙ l }
 
 hold-way-requires : tie.Need-hold_way-requires
-hold-way-requires c κs = let (text, p) = c.before.before.requires in (text, held_at p c.if-held.true)
+hold-way-requires c κs = let (text, p) = c.requires in (text, held_at p c.if-held.true)
 
 sole-way-requires : tie.Need-sole_way-requires
-sole-way-requires c κs = let (text, p) = c.before.before.before.before.requires in (text, sole_from_lem p c.before.before.if-held.false (sym c.before.known.ensures ∙ not-true _ c.if-not-known.true-raw))
+sole-way-requires c κs = let (text, p) = c.requires in (text, sole_from_lem p c.if-held.false (sym c.known.ensures ∙ not-true _ c.if-not-known.true-raw))
 
 returns_2 : tie.Need-returns-then-not-known
-returns_2 c = λ text p. c.sole_way.ensures text (sole_from_lem p c.before.before.before.if-held.false (sym c.before.before.known.ensures ∙ not-true _ c.before.if-not-known.true-raw))
+returns_2 c = λ text p. c.sole_way.ensures text (sole_from_lem p c.if-held.false (sym c.known.ensures ∙ not-true _ c.if-not-known.true-raw))
 
 returns_3 : tie.Need-returns-then-kept
 returns_3 c = λ text p.
-    record { value = kept_way _ _ _ (sym p.form ∙ c.before.before.before.if-held.false) (ap known (sym p.own) ∙ sym c.before.before.known.ensures ∙ not-false _ c.before.if-not-known.false-raw) (sym p.limit ∙ c.if-kept.true); small = tt; moves = tt }
+    record { value = kept_way _ _ _ (sym p.form ∙ c.if-held.false) (ap known (sym p.own) ∙ sym c.known.ensures ∙ not-false _ c.if-not-known.false-raw) (sym p.limit ∙ c.if-kept.true); small = tt; moves = tt }
 
 limit-way-requires : tie.Need-limit_way-requires
-limit-way-requires c κs = let (text, p) = c.before.before.before.before.before.requires in (text, limit_at p c.before.before.before.if-held.false (sym c.before.before.known.ensures ∙ not-false _ c.before.if-not-known.false-raw) c.if-kept.false)
+limit-way-requires c κs = let (text, p) = c.requires in (text, limit_at p c.if-held.false (sym c.known.ensures ∙ not-false _ c.if-not-known.false-raw) c.if-kept.false)
 
 returns-4 : tie.Need-returns
-returns-4 c = λ text p. c.limit_way.ensures text (limit_at p c.before.before.before.before.if-held.false (sym c.before.before.before.known.ensures ∙ not-false _ c.before.before.if-not-known.false-raw) c.before.if-kept.false)
+returns-4 c = λ text p. c.limit_way.ensures text (limit_at p c.if-held.false (sym c.known.ensures ∙ not-false _ c.if-not-known.false-raw) c.if-kept.false)
 
 pub way_of_spec : {M : Type 1} → statement M
-way_of_spec = tie.close (tie.spec hold-way-requires (λ c. λ text p. c.hold_way_lem.ensures text (held_at p c.before.if-held.true)) (λ c κs. search rules) sole-way-requires returns_2 returns_3 limit-way-requires returns-4)
+way_of_spec = tie.close (tie.spec hold-way-requires (λ c. λ text p. c.hold_way.ensures text (held_at p c.if-held.true)) (λ c κs. search rules) sole-way-requires returns_2 returns_3 limit-way-requires returns-4)

@@ -6,7 +6,7 @@ use Rattle.analysis_loops.proofs.ways.word_keeps.Statement.{statement}
 use Rattle.analysis_loops.proofs.ways.word_keeps.Tie as tie
 
 keeps-in-requires : tie.Need-keeps_in-requires
-keeps-in-requires c κs = rw (width _ _) c.before.before.requires.passed
+keeps-in-requires c κs = rw (width _ _) c.requires.passed
 
 returns : tie.Need-returns
 unfolding set_of

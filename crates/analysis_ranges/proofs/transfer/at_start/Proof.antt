@@ -10,20 +10,20 @@ use Rattle.analysis_ranges.proofs.transfer.at_start.Tie as tie
 
 bounds-requires : tie.Need-bounds-s-requires
 bounds-requires c κs =
-    let p = c.before.before.before.before.before.requires in
-    let h = rw c.before.before.kind-1.given.1 at p.0 in
-    let w = rw c.before.before.kind-1.given.1 at p.2 in
+    let p = c.requires in
+    let h = rw c.in-For.is at p.0 in
+    let w = rw c.in-For.is at p.2 in
     (h.1, w.0, p.1)
 
 put-requires : tie.Need-put-requires
-put-requires c κs = let h = rw c.before.before.before.before.kind-1.given.1 at c.before.before.before.before.before.before.before.requires.0 in (h.0, c.before.before.before.before.before.before.before.requires.1)
+put-requires c κs = let h = rw c.in-For.is at c.requires.0 in (h.0, c.requires.1)
 
 returns : tie.Need-returns-in-For
 unfolding at_start head_of view_of kind_of
-returns c = let p = c.put.ensures in record { long = p.long; value = rw (p.value, c.before.before.bounds-s.ensures, c.before.before.before.before.before.kind-1.given.1) }
+returns c = let p = c.put.ensures in record { long = p.long; value = rw (p.value, c.bounds-s.ensures, c.in-For.is) }
 
 returns_2 : tie.Need-returns-in_default
-returns_2 c = record { long = c.before.before.requires.1; value = no_start c.before.before.args.text.now (env_of c.before.before.args.r.now) c.before.before.args.kind c.in_default.keys2 }
+returns_2 c = record { long = c.requires.1; value = no_start c.args.text.now (env_of c.args.r.now) c.args.kind c.in_default.in_default-own.keys2 }
 
 pub at_start_spec : {M : Type 1} → statement M
 at_start_spec = tie.close (tie.spec (λ c. search rules) bounds-requires put-requires returns returns_2)

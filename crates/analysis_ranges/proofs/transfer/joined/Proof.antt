@@ -22,17 +22,17 @@ loop_holds c = (search rules, record { long = search rules; value = sym (up_none
 
 loop_again : tie.Need-loop-i-preserved invariant-loop-i decreases-loop-i
 loop_again c =
-    let k = c.before.before.before.before.before.before.before.before.loop-i.invariant.1 in
+    let k = c.loop-i.invariant.1 in
     let p = c.put.ensures in
-    (search rules, record { long = p.long; value = p.value ∙ up_put _ _ _ _ _ k.value (join_at _ _ _ _ _ _ c.before.before.joined_interval-s.ensures c.before.before.before.before.before.interval_at.ensures c.before.before.before.interval_at-in-loop-i.ensures) })
+    (search rules, record { long = p.long; value = p.value ∙ up_put _ _ _ _ _ k.value (join_at _ _ _ _ _ _ c.joined_interval-s.ensures c.interval_at.ensures c.interval_at-in-loop-i.ensures) })
 
 returns : tie.Need-returns invariant-loop-i decreases-loop-i
 returns c =
-    let s = c.before.before.args in
-    let e : c.before.loop-i.i ≡ 16 = omega arith in
+    let s = c.args in
+    let e : c.loop-i.i ≡ 16 = omega arith in
     let la : length s.t1 ≡ 16 = search rules in
     let lb : length s.t2 ≡ 16 = search rules in
-    c.before.loop-i.invariant.1.value ∙ (rw e (up_all _ _ 16 (join_far s.t1 s.t2 la lb)))
+    c.loop-i.invariant.1.value ∙ (rw e (up_all _ _ 16 (join_far s.t1 s.t2 la lb)))
 
 pub joined_spec : {M : Type 1} → statement M
 joined_spec = tie.close (tie.spec
@@ -40,7 +40,7 @@ joined_spec = tie.close (tie.spec
     decreases-loop-i
     loop_holds
     (λ c κs. search rules) (λ c κs. search rules) (λ c κs. search rules)
-    (λ c κs. (search rules, c.before.before.before.before.before.before.before.loop-i.invariant.1.long))
+    (λ c κs. (search rules, c.loop-i.invariant.1.long))
     (λ c. search rules) (λ c. search rules)
     loop_again
     returns)

@@ -23,17 +23,17 @@ loop_holds c = (search rules, record { long = c.requires.1; value = sym (up_none
 
 loop_again : tie.Need-loop-w-preserved invariant-loop-w decreases-loop-w
 loop_again c =
-    let k = c.before.before.before.before.before.before.before.loop-w.invariant.1 in
+    let k = c.loop-w.invariant.1 in
     let p = c.put.ensures in
-    let old = c.before.before.before.before.interval_at-old.ensures ∙ ap (λ ρ. ρ c.before.before.before.before.before.before.before.loop-w.w) k.value ∙ up_here _ _ _ in
-    (search rules, record { long = p.long; value = p.value ∙ up_put _ _ _ _ _ k.value (wide_at _ _ _ _ _ _ _ _ c.before.before.chosen-s.ensures old c.before.before.before.has.ensures) })
+    let old = c.interval_at-old.ensures ∙ ap (λ ρ. ρ c.loop-w.w) k.value ∙ up_here _ _ _ in
+    (search rules, record { long = p.long; value = p.value ∙ up_put _ _ _ _ _ k.value (wide_at _ _ _ _ _ _ _ _ c.chosen-s.ensures old c.has.ensures) })
 
 returns : tie.Need-returns invariant-loop-w decreases-loop-w
 returns c =
-    let e : c.before.loop-w.w ≡ 16 = omega arith in
-    let l : length c.before.before.args.set ≡ 16 = search rules in
-    let k = c.before.loop-w.invariant.1 in
-    record { long = k.long; value = k.value ∙ rw e (up_all _ _ 16 (wide_far _ l _ _ c.before.before.requires.0 _)) }
+    let e : c.loop-w.w ≡ 16 = omega arith in
+    let l : length c.args.set ≡ 16 = search rules in
+    let k = c.loop-w.invariant.1 in
+    record { long = k.long; value = k.value ∙ rw e (up_all _ _ 16 (wide_far _ l _ _ c.requires.0 _)) }
 
 pub widen_spec : {M : Type 1} → statement M
 widen_spec = tie.close (tie.spec
@@ -41,7 +41,7 @@ widen_spec = tie.close (tie.spec
     decreases-loop-w
     loop_holds
     (λ c κs. search rules) (λ c κs. search rules) (λ c κs. search rules)
-    (λ c κs. (search rules, c.before.before.before.before.before.before.loop-w.invariant.1.long))
+    (λ c κs. (search rules, c.loop-w.invariant.1.long))
     (λ c. search rules) (λ c. search rules)
     loop_again
     returns)

@@ -15,28 +15,28 @@ use Rattle.analysis_steps.proofs.only_rows.sole_at.Statement.{statement}
 use Rattle.analysis_steps.proofs.only_rows.sole_at.Tie as tie
 
 set-at-requires : tie.Need-set_at-requires
-set-at-requires c κs = (c.before.before.before.before.before.requires, (_, sym c.before.before.before.kind_at.ensures ∙ c.before.x-1.given.1))
+set-at-requires c κs = (c.requires, (_, sym c.kind_at.ensures ∙ c.in-Set.is))
 
 -- the row is an off
-reads_it : (c : tie.In-Off-2) → let s = c.before.before.before.before.args in let g = c.w-1.given.0 in (text : List ℕ) → AtRow text (rows_of s.rows.now) s.count s.i s.v → AtRead text (rows_of s.rows.now) s.count s.i s.v g.1.0 (Read.Off g.1.1.0 g.1.1.1.0)
+reads_it : (c : tie.In-Off-2) → let s = c.args in let g = (c.in-Off.w, (c.in-Off.c, (c.in-Off.k, (c.in-Off.field-0, tt)))) in (text : List ℕ) → AtRow text (rows_of s.rows.now) s.count s.i s.v → AtRead text (rows_of s.rows.now) s.count s.i s.v g.1.0 (Read.Off g.1.1.0 g.1.1.1.0)
 reads_it c text k =
-    let e = sym c.before.before.kind_at.ensures ∙ c.w-1.given.1 in
+    let e = sym c.kind_at.ensures ∙ c.in-Off.is in
     let f = rw e at (k.ready.fine _ k.inside) in
-    record { ready = k.ready; inside = k.inside; small = k.small; other = f.1; reads = off_reads text c.before.before.before.before.args.v e }
+    record { ready = k.ready; inside = k.inside; small = k.small; other = f.1; reads = off_reads text c.args.v e }
 
 read-at-requires : tie.Need-read_at-requires
 read-at-requires c κs =
-    let (text, k) = c.before.before.before.before.before.requires in
-    let z : SFits w32 c.before.w-1.given.0.1.1.1.0 = search rules in
+    let (text, k) = c.requires in
+    let z : SFits w32 c.in-Off.k = search rules in
     rw (to_z-of_z z) (text, reads_it c.before text k)
 
 returns_2 : tie.Need-returns-in-Off
 returns_2 c = λ text k.
-    let z : SFits w32 c.before.before.w-1.given.0.1.1.1.0 = search rules in
+    let z : SFits w32 c.in-Off.k = search rules in
     c.read_at.ensures text (rw (to_z-of_z z) (reads_it c.before.before text k))
 
 returns_3 : tie.Need-returns-in_default
-returns_3 c = λ text k. record { value = sym (rw (sym c.before.kind_at.ensures) (change_is c.before.before.before.args.v _ text _ c.in_default.keys3 _)); small = tt }
+returns_3 c = λ text k. record { value = sym (rw (sym c.kind_at.ensures) (change_is c.args.v _ text _ c.in_default.in_default-own.keys3 _)); small = tt }
 
 pub sole_at_spec : {M : Type 1} → statement M
-sole_at_spec = tie.close (tie.spec (λ c κs. let (text, k) = c.before.requires in row_in c.before.args.rows.now _ (search rules)) (λ c. search rules) set-at-requires (λ c. search rules) read-at-requires (λ c. c.set_at.ensures) returns_2 returns_3)
+sole_at_spec = tie.close (tie.spec (λ c κs. let (text, k) = c.requires in row_in c.args.rows.now _ (search rules)) (λ c. search rules) set-at-requires (λ c. search rules) read-at-requires (λ c. c.set_at.ensures) returns_2 returns_3)

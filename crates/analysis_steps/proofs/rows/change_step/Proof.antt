@@ -11,34 +11,34 @@ use Rattle.analysis_steps.proofs.rows.change_step.Tie as tie
 
 sub-x : tie.Need-overflow_sub-x
 sub-x c =
-    let h = rw c.before.change-in-Sub-1.given.1 at c.before.before.before.requires in
-    rw (to_z_pos w64 {n = c.before.change-in-Sub-1.given.0.0} (omega arith)) (neg_fits _ h)
+    let h = rw c.in-Sub.is at c.requires in
+    rw (to_z_pos w64 {n = c.in-Sub.c} (omega arith)) (neg_fits _ h)
 
 returns : tie.Need-returns-in-Add
 unfolding change_step
-returns c = let h = rw c.before.change-1.given.1 at c.before.before.before.requires in rw c.before.change-1.given.1 (simp (to_z_pos w64 {n = c.before.change-1.given.0.0} (omega arith)))
+returns c = let h = rw c.in-Add.is at c.requires in rw c.in-Add.is (simp (to_z_pos w64 {n = c.in-Add.c} (omega arith)))
 
 returns_2 : tie.Need-returns-in-Sub
 unfolding change_step
 returns_2 c =
-    let h = rw c.before.change-in-Sub-1.given.1 at c.before.before.before.requires in
-    rw (c.before.change-in-Sub-1.given.1, to_z_pos w64 {n = c.before.change-in-Sub-1.given.0.0} (omega arith)) (rw (to_z-of_z (neg_fits c.before.change-in-Sub-1.given.0.0 h), neg_is))
+    let h = rw c.in-Sub.is at c.requires in
+    rw (c.in-Sub.is, to_z_pos w64 {n = c.in-Sub.c} (omega arith)) (rw (to_z-of_z (neg_fits c.in-Sub.c h), neg_is))
 
 returns_3 : tie.Need-returns-then-c-eq1
 unfolding change_step
-returns_3 c = rw (c.before.before.change-in-Mul-1.given.1, eq-eqb _ _ c.if-c-eq1.true)
+returns_3 c = rw (c.in-Mul.is, eq-eqb _ _ c.if-c-eq1.true)
 
 returns-4 : tie.Need-returns-else-c-eq1
 unfolding change_step
-returns-4 c = rw (c.before.before.change-in-Mul-1.given.1, ne_eqb _ _ c.if-c-eq1.false)
+returns-4 c = rw (c.in-Mul.is, ne_eqb _ _ c.if-c-eq1.false)
 
 returns-5 : tie.Need-returns-then-c-eq1-2
 unfolding change_step
-returns-5 c = rw (c.before.before.change-in-Div-1.given.1, eq-eqb _ _ c.if-c-eq1-2.true)
+returns-5 c = rw (c.in-Div.is, eq-eqb _ _ c.if-c-eq1-2.true)
 
 returns-6 : tie.Need-returns-else-c-eq1-2
 unfolding change_step
-returns-6 c = rw (c.before.before.change-in-Div-1.given.1, ne_eqb _ _ c.if-c-eq1-2.false)
+returns-6 c = rw (c.in-Div.is, ne_eqb _ _ c.if-c-eq1-2.false)
 
 pub change_step_spec : {M : Type 1} → statement M
 change_step_spec =

@@ -17,8 +17,8 @@ returns c =
     let r = s.args.round in
     let f : SFits w32 r.x = search rules in
     simp (to_z-of_z f) (
-      ap (λ o. record { count = 1; by = pos 0; times = o; x = r.x; v = r.v; known = false }) c.before.times-often.ensures,
-      record { few = omega arith; near = omega ints; small = omega (arith, c.before.times-often.ensures); var = s.requires.var },
+      ap (λ o. record { count = 1; by = pos 0; times = o; x = r.x; v = r.v; known = false }) c.times-often.ensures,
+      record { few = omega arith; near = omega ints; small = omega (arith, c.times-often.ensures); var = s.requires.var },
     )
 
 pub branch_spec : {M : Type 1} → statement M

@@ -38,17 +38,17 @@ record Turn (s : tie.Start invariant-loop-i decreases-loop-i) (at all i : ℕ) :
   now : Limit s.args.limit s.args.by i
   next : Limit s.args.limit s.args.by (i + 1)
 
-turn : (c : tie.In-loop-i invariant-loop-i decreases-loop-i) → Turn c.before.before c.before.loop-i.at-bits c.before.loop-i.all c.before.loop-i.i
+turn : (c : tie.In-loop-i invariant-loop-i decreases-loop-i) → Turn c.before.before c.loop-i.at-bits c.loop-i.all c.loop-i.i
 turn c =
     let s = c.before.before in
     let a = s.args in
-    let v = simp (to_z-of_z s.ranges.start, to_z-of_z s.ranges.limit, to_z-of_z s.ranges.step, to_z-of_z s.ranges.by) at c.before.loop-i.invariant in
+    let v = simp (to_z-of_z s.ranges.start, to_z-of_z s.ranges.limit, to_z-of_z s.ranges.step, to_z-of_z s.ranges.by) at c.loop-i.invariant in
     record {
       here = v.1;
       sums = v.2;
       few = v.3;
-      now = limit_at a.limit a.by c.before.loop-i.i s.requires.1 s.requires.4 (omega (arith, c.loop-i-test.true, s.requires.5));
-      next = limit_at a.limit a.by (c.before.loop-i.i + 1) s.requires.1 s.requires.4 (omega (arith, c.loop-i-test.true, s.requires.5));
+      now = limit_at a.limit a.by c.loop-i.i s.requires.1 s.requires.4 (omega (arith, c.loop-i-test.true, s.requires.5));
+      next = limit_at a.limit a.by (c.loop-i.i + 1) s.requires.1 s.requires.4 (omega (arith, c.loop-i-test.true, s.requires.5));
     }
 
 climb-requires : tie.Need-climb-all-requires invariant-loop-i decreases-loop-i
@@ -58,42 +58,42 @@ climb-requires c κs =
     simp (to_z-of_z s.ranges.start, to_z-of_z s.ranges.step) (near_far _ s.requires.0, subst (Near 4_000_000) (sym t.here) (far_more _ t.now.near), s.requires.2, s.requires.3)
 
 -- the turns of this pass
-this : (c : tie.After-climb-all invariant-loop-i decreases-loop-i) → let a = c.before.before.before.args in (c.climb-all.result ≡ term a.start a.limit a.step a.by c.before.before.loop-i.i) × (c.climb-all.result ≤ 3_100_000_000_000_000)
+this : (c : tie.After-climb-all invariant-loop-i decreases-loop-i) → let a = c.args in (c.climb-all.result ≡ term a.start a.limit a.step a.by c.loop-i.i) × (c.climb-all.result ≤ 3_100_000_000_000_000)
 this c =
     let s = c.before.before.before in
     let a = s.args in
     let t = turn c.before in
     let e = simp (to_z-of_z s.ranges.start, to_z-of_z s.ranges.step) at c.climb-all.ensures in
-    let z : c.climb-all.result ≡ term a.start a.limit a.step a.by c.before.before.loop-i.i = e ∙ ap (λ l. climb (record { start = a.start; limit = l; step = a.step })) t.here in
-    (z, omega (arith, z, term_few (record { start = a.start; limit = a.limit +ℤ a.by *ℤ pos c.before.before.loop-i.i; step = a.step }) s.requires.0 t.now.near))
+    let z : c.climb-all.result ≡ term a.start a.limit a.step a.by c.loop-i.i = e ∙ ap (λ l. climb (record { start = a.start; limit = l; step = a.step })) t.here in
+    (z, omega (arith, z, term_few (record { start = a.start; limit = a.limit +ℤ a.by *ℤ pos c.loop-i.i; step = a.step }) s.requires.0 t.now.near))
 
 add-all : tie.Need-overflow_add-all invariant-loop-i decreases-loop-i
-add-all c = let t = turn c.before in omega (arith, t.few, (this c).1, c.before.loop-i-test.true, c.before.before.before.requires.5)
+add-all c = let t = turn c.before in omega (arith, t.few, (this c).1, c.loop-i-test.true, c.requires.5)
 
 -- the next limit fits
-fits : (c : tie.After-climb-all invariant-loop-i decreases-loop-i) → SFits w64 (to_z w64 c.before.before.loop-i.at-bits +ℤ c.before.before.before.args.by)
+fits : (c : tie.After-climb-all invariant-loop-i decreases-loop-i) → SFits w64 (to_z w64 c.loop-i.at-bits +ℤ c.args.by)
 fits c = let t = turn c.before in rw (t.here, t.now.next) (let n = t.next.near in omega ints)
 
 add_at : tie.Need-overflow_add-at invariant-loop-i decreases-loop-i
-add_at c = simp (to_z-of_z c.before.before.before.ranges.by) (fits c)
+add_at c = simp (to_z-of_z c.ranges.by) (fits c)
 
 add-i : tie.Need-overflow_add-i invariant-loop-i decreases-loop-i
-add-i c = omega (arith, c.before.loop-i-test.true, c.before.before.before.requires.5)
+add-i c = omega (arith, c.loop-i-test.true, c.requires.5)
 
 loop-less : tie.Need-loop-i-smaller invariant-loop-i decreases-loop-i
-loop-less c = omega (arith, c.before.loop-i-test.true)
+loop-less c = omega (arith, c.loop-i-test.true)
 
 loop_again : tie.Need-loop-i-preserved invariant-loop-i decreases-loop-i
 loop_again c =
     let s = c.before.before.before in
     let a = s.args in
-    let i = c.before.before.loop-i.i in
+    let i = c.loop-i.i in
     let t = turn c.before in
     let k = this c in
     simp (to_z-of_z s.ranges.start, to_z-of_z s.ranges.limit, to_z-of_z s.ranges.step, to_z-of_z s.ranges.by, to_z-of_z (fits c)) (
-      omega (arith, c.before.loop-i-test.true),
+      omega (arith, c.loop-i-test.true),
       ap (λ z. z +ℤ a.by) t.here ∙ t.now.next,
-      omega (arith, t.sums, k.0, sum_next (term a.start a.limit a.step a.by) a.count i c.before.loop-i-test.true),
+      omega (arith, t.sums, k.0, sum_next (term a.start a.limit a.step a.by) a.count i c.loop-i-test.true),
       omega (arith, t.few, k.1),
     )
 
@@ -101,9 +101,9 @@ returns : tie.Need-returns invariant-loop-i decreases-loop-i
 returns c =
     let s = c.before.before in
     let a = s.args in
-    let v = simp (to_z-of_z s.ranges.start, to_z-of_z s.ranges.limit, to_z-of_z s.ranges.step, to_z-of_z s.ranges.by) at c.before.loop-i.invariant in
+    let v = simp (to_z-of_z s.ranges.start, to_z-of_z s.ranges.limit, to_z-of_z s.ranges.step, to_z-of_z s.ranges.by) at c.loop-i.invariant in
     let f : ℕ → ℕ = term a.start a.limit a.step a.by in
-    let z : c.before.loop-i.all ≡ sum f 0 a.count = omega (arith, v.2, sum_end f a.count c.before.loop-i.i c.loop-i-test.false) in
+    let z : c.loop-i.all ≡ sum f 0 a.count = omega (arith, v.2, sum_end f a.count c.loop-i.i c.loop-i-test.false) in
     z
 
 pub climbs_spec : {M : Type 1} → statement M

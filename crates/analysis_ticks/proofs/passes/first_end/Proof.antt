@@ -30,12 +30,12 @@ none Unknown o h = absurd (false≢true h)
 returns : tie.Need-returns-in-Add
 unfolding first_end
 returns c =
-    let f : SFits w64 c.before.step-1.given.0.0 = sfits_of c.known_told-1.given.0.1 in
-    let e = rw c.before.step-1.given.1 at c.before.before.before.requires.0 in
-    rw c.before.step-1.given.1 (simp (to_z-of_z f) (refl, e.0))
+    let f : SFits w64 c.in-Add.a = sfits_of c.in-Add.known_told-1-own.given.0.1 in
+    let e = rw c.in-Add.is at c.requires.0 in
+    rw c.in-Add.is (simp (to_z-of_z f) (refl, e.0))
 
 returns_2 : tie.Need-returns-in_default
-returns_2 c = none c.before.args.step c.in_default.keys2 c.before.requires.1
+returns_2 c = none c.args.step c.in_default.in_default-own.keys2 c.requires.1
 
 pub first_end_spec : {M : Type 1} → statement M
 first_end_spec = tie.close (tie.spec (λ c. search rules) returns returns_2)

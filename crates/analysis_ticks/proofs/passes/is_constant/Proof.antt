@@ -18,15 +18,15 @@ composed (apply o x y) h = refl
 
 returns : tie.Need-returns-in-Constant
 unfolding expr_of
-returns c = λ text h. rw c.enum_told-1.given.1
+returns c = λ text h. rw c.in-Constant.is
 
 returns_2 : tie.Need-returns-in-Variable
 unfolding expr_of
-returns_2 c = λ text h. rw c.enum_told-in-Variable-1.given.1
+returns_2 c = λ text h. rw c.in-Variable.is
 
 returns_3 : tie.Need-returns-in-Expression
 unfolding expr_of
-returns_3 c = λ text h. rw c.enum_told-in-Expression-1.given.1 (composed _ (subst (WrittenOperand text) c.enum_told-in-Expression-1.given.1 h).composed)
+returns_3 c = λ text h. rw c.in-Expression.is (composed _ (subst (WrittenOperand text) c.in-Expression.is h).composed)
 
 pub is_constant_spec : {M : Type 1} → statement M
 is_constant_spec = tie.close (tie.spec (λ c. search rules) (λ c. search rules) (λ c. search rules) returns returns_2 returns_3)

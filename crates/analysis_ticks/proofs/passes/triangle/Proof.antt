@@ -39,12 +39,12 @@ unfolding head_of view_of kind_of
 returns c = λ text h.
     let b = c.before.before in
     let a = b.before.before.before in
-    let e = a.before.before.before.before.before.kind-1.given.1 in
+    let e = a.in-For.is in
     let w = subst (Written text) e h in
-    rw (c.both-in-For-2.ensures, c.before.both-in-For.ensures, b.both.ensures, b.before.is_add.ensures, b.before.before.is_constant.ensures text w.0, a.is_base-base.ensures, a.before.both-up.ensures, a.before.before.is_alone.ensures text w.1, a.before.before.before.upward.ensures, e)
+    rw (c.both-in-For-2.ensures, c.both-in-For.ensures, b.both.ensures, b.is_add.ensures, b.is_constant.ensures text w.0, a.is_base-base.ensures, a.both-up.ensures, a.is_alone.ensures text w.1, a.upward.ensures, e)
 
 returns_2 : tie.Need-returns-in_default
-returns_2 c = λ text h. rw (no_for text c.before.args.kind c.in_default.keys2)
+returns_2 c = λ text h. rw (no_for text c.args.kind c.in_default.in_default-own.keys2)
 
 pub triangle_spec : {M : Type 1} → statement M
 triangle_spec = tie.close (tie.spec (λ c. search rules) (λ c κs. search rules) (λ c κs. search rules) (λ c κs. search rules) (λ c κs. search rules) (λ c κs. search rules) (λ c κs. search rules) (λ c κs. search rules) (λ c κs. search rules) (λ c κs. search rules) returns returns_2)

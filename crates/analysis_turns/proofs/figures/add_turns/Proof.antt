@@ -22,17 +22,17 @@ up : (b : ℤ) → Near 1024 b → b ≤ℤ negsuc 0 → Near 1024 (neg_ℤ b) �
 up b n h = omega (ints, neg_parts b)
 
 -- the sort of the test in each branch
-rises : (c : tie.Then-rises) → sort c.before.before.args.comparison ≡ rising
-rises c = is_rising_lem _ (sym c.before.rises.ensures ∙ c.if-rises.true)
+rises : (c : tie.Then-rises) → sort c.args.comparison ≡ rising
+rises c = is_rising_lem _ (sym c.rises.ensures ∙ c.if-rises.true)
 
-falls : (c : tie.Then-falls) → sort c.before.before.before.before.args.comparison ≡ falling
-falls c = is_falling_lem _ (sym c.before.falls.ensures ∙ c.if-falls.true)
+falls : (c : tie.Then-falls) → sort c.args.comparison ≡ falling
+falls c = is_falling_lem _ (sym c.falls.ensures ∙ c.if-falls.true)
 
-differs : (c : tie.Then-is_differ) → sort c.before.before.before.before.before.before.args.comparison ≡ differ
-differs c = is_differ_lem _ (sym c.before.is_differ_lem.ensures ∙ c.if-is_differ.true)
+differs : (c : tie.Then-is_differ) → sort c.args.comparison ≡ differ
+differs c = is_differ_lem _ (sym c.is_differ.ensures ∙ c.if-is_differ.true)
 
-equals : (c : tie.Else-is_differ) → sort c.before.before.before.before.before.before.args.comparison ≡ same
-equals c = is_same _ (sym c.before.before.before.before.if-rises.false ∙ c.before.before.before.before.before.rises.ensures) (sym c.before.before.if-falls.false ∙ c.before.before.before.falls.ensures) (sym c.if-is_differ.false ∙ c.before.is_differ_lem.ensures)
+equals : (c : tie.Else-is_differ) → sort c.args.comparison ≡ same
+equals c = is_same _ (sym c.if-rises.false ∙ c.rises.ensures) (sym c.if-falls.false ∙ c.falls.ensures) (sym c.if-is_differ.false ∙ c.is_differ.ensures)
 
 climb-requires : tie.Need-climb-requires
 climb-requires c κs =
@@ -60,14 +60,14 @@ climb-requires-2 c κs =
     let h = rw (falls c.before.before) at s.requires in
     let f : SFits w64 s.args.s.hi = search rules in
     let u = up _ h.2 h.3 in
-    rw c.Turned-up.ensures (simp (to_z-of_z f, to_z-of_z s.ranges.e, to_z-of_z s.ranges.b) (far _ h.1, far _ h.0.high, u.0, u.1))
+    rw c.turned_up.ensures (simp (to_z-of_z f, to_z-of_z s.ranges.e, to_z-of_z s.ranges.b) (far _ h.1, far _ h.0.high, u.0, u.1))
 
 returns_2 : tie.Need-returns-then-falls
 unfolding while_turns
 returns_2 c =
     let s = c.before.before.before.before.before.before.before in
     let f : SFits w64 s.args.s.hi = search rules in
-    rw (c.climb-then-falls.ensures, c.before.Turned-up.ensures, falls c.before.before.before) (simp (to_z-of_z f, to_z-of_z s.ranges.e, to_z-of_z s.ranges.b))
+    rw (c.climb-then-falls.ensures, c.turned_up.ensures, falls c.before.before.before) (simp (to_z-of_z f, to_z-of_z s.ranges.e, to_z-of_z s.ranges.b))
 
 apart-requires : tie.Need-apart-requires
 apart-requires c κs =
@@ -83,7 +83,7 @@ returns_3 c =
 
 returns-4 : tie.Need-returns
 unfolding while_turns
-returns-4 c = rw (c.one_if.ensures, c.before.share.ensures, equals c.before.before)
+returns-4 c = rw (c.one_if.ensures, c.share.ensures, equals c.before.before)
 
 pub add_turns_spec : {M : Type 1} → statement M
 add_turns_spec =

@@ -29,13 +29,13 @@ known x y p q l = record {
   same = omega (ints, minus_parts y x, minus_parts x y, abs_parts (y -ℤ x), abs_parts (x -ℤ y));
 }
 
-below : (c : tie.Then-x-y) → Known c.before.args.x c.before.args.y
+below : (c : tie.Then-x-y) → Known c.args.x c.args.y
 below c =
     let s = c.before in
     let t : lt_z s.args.x s.args.y ≡ true = simp (to_z-of_z s.ranges.x, to_z-of_z s.ranges.y) at c.if-x-y.true in
     known s.args.x s.args.y s.requires.0 s.requires.1 (omega ints)
 
-above : (c : tie.Else-x-y) → Known c.before.args.y c.before.args.x
+above : (c : tie.Else-x-y) → Known c.args.y c.args.x
 above c =
     let s = c.before in
     known s.args.y s.args.x s.requires.1 s.requires.0 (simp (to_z-of_z s.ranges.x, to_z-of_z s.ranges.y) at c.if-x-y.false)

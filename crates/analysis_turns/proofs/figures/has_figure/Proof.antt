@@ -13,40 +13,40 @@ use Rattle.analysis_turns.proofs.figures.has_figure.Tie as tie
 
 meets-requires : tie.Need-meets-requires
 meets-requires c κs =
-    let s = c.before.before.before.before.before.before.before in
-    let fa : SFits w64 c.before.before.before.before.step-1.given.0.0 = sfits_of c.before.before.before.known_told-1.given.0.1 in
-    let fb : SFits w64 c.before.before.before.before.step-1.given.0.1.0 = sfits_of c.before.before.before.known_told-1.given.1.0.1 in
-    let p = rw c.before.before.before.before.step-1.given.1 at s.requires.0 in
-    let m = rw c.before.before.before.before.step-1.given.1 at s.requires.1 in
-    let b = rw c.before.before.before.before.step-1.given.1 at s.requires.2 in
+    let s = c.before.before.before.before.before in
+    let fa : SFits w64 c.in-Add.a = sfits_of c.in-Add.known_told-1-own.given.0.1 in
+    let fb : SFits w64 c.in-Add.b = sfits_of c.in-Add.known_told-1-own.given.1.0.1 in
+    let p = rw c.in-Add.is at s.requires.0 in
+    let m = rw c.in-Add.is at s.requires.1 in
+    let b = rw c.in-Add.is at s.requires.2 in
     rw (to_z-of_z fa) (near_step _ p.0, not_still _ _ m (eq_z_yes _ _ fa fb c.if-a-b.true), b, s.requires.3)
 
 returns : tie.Need-returns-then-a-b
 returns c =
-    let fa : SFits w64 c.before.before.before.before.before.step-1.given.0.0 = sfits_of c.before.before.before.before.known_told-1.given.0.1 in
-    let fb : SFits w64 c.before.before.before.before.before.step-1.given.0.1.0 = sfits_of c.before.before.before.before.known_told-1.given.1.0.1 in
-    rw (c.before.before.before.before.before.step-1.given.1, c.meets.ensures, to_z-of_z fa) (add_even _ _ _ _ _ _ _ (sym c.before.before.before.is_differ_lem.ensures ∙ c.before.before.if-is_differ.true) (eq_z_yes _ _ fa fb c.before.if-a-b.true))
+    let fa : SFits w64 c.in-Add.a = sfits_of c.in-Add.known_told-1-own.given.0.1 in
+    let fb : SFits w64 c.in-Add.b = sfits_of c.in-Add.known_told-1-own.given.1.0.1 in
+    rw (c.in-Add.is, c.meets.ensures, to_z-of_z fa) (add_even _ _ _ _ _ _ _ (sym c.is_differ.ensures ∙ c.if-is_differ.true) (eq_z_yes _ _ fa fb c.if-a-b.true))
 
 returns_2 : tie.Need-returns-else-a-b
 returns_2 c =
-    let fa : SFits w64 c.before.before.before.before.step-1.given.0.0 = sfits_of c.before.before.before.known_told-1.given.0.1 in
-    let fb : SFits w64 c.before.before.before.before.step-1.given.0.1.0 = sfits_of c.before.before.before.known_told-1.given.1.0.1 in
-    rw c.before.before.before.before.step-1.given.1 (add_uneven _ _ _ _ _ _ _ (sym c.before.before.is_differ_lem.ensures ∙ c.before.if-is_differ.true) (eq_z_no _ _ fa fb c.if-a-b.false))
+    let fa : SFits w64 c.in-Add.a = sfits_of c.in-Add.known_told-1-own.given.0.1 in
+    let fb : SFits w64 c.in-Add.b = sfits_of c.in-Add.known_told-1-own.given.1.0.1 in
+    rw c.in-Add.is (add_uneven _ _ _ _ _ _ _ (sym c.is_differ.ensures ∙ c.if-is_differ.true) (eq_z_no _ _ fa fb c.if-a-b.false))
 
 returns_3 : tie.Need-returns-else-is_differ
-returns_3 c = rw c.before.before.before.step-1.given.1 (add_other _ _ _ _ _ _ _ (sym c.before.is_differ_lem.ensures ∙ c.if-is_differ.false))
+returns_3 c = rw c.in-Add.is (add_other _ _ _ _ _ _ _ (sym c.is_differ.ensures ∙ c.if-is_differ.false))
 
 returns-4 : tie.Need-returns-in-Grow
 unfolding has_figure
-returns-4 c = let f : SFits w64 c.before.before.before.args.s.lo = search rules in rw c.enum_told-1.given.1 (simp (to_z-of_z f))
+returns-4 c = let f : SFits w64 c.args.s.lo = search rules in rw c.in-Grow.is (simp (to_z-of_z f))
 
 returns-5 : tie.Need-returns-in-Shrink
 unfolding has_figure
-returns-5 c = rw c.enum_told-in-Shrink-1.given.1 (simp (to_z-of_z c.before.before.before.ranges.e))
+returns-5 c = rw c.in-Shrink.is (simp (to_z-of_z c.ranges.e))
 
 returns-6 : tie.Need-returns-in-Unknown
 unfolding has_figure
-returns-6 c = rw c.enum_told-in-Unknown-1.given.1
+returns-6 c = rw c.in-Unknown.is
 
 pub has_figure_spec : {M : Type 1} → statement M
 has_figure_spec =

@@ -31,7 +31,7 @@ returns_2 c =
     let s = c.before.before.before.before.before.before in
     let f : SFits w64 s.args.n.hi = search rules in
     let g : SFits w64 s.args.r.lo = search rules in
-    rw (eq_z_no s.args.a (pos 1) s.ranges.a (sfits_lit tt) c.before.if-a-eq1.false, eq_z_yes s.args.a (negsuc 0) s.ranges.a minus_one c.if-a-eqminus1.true) (simp (to_z-of_z f, to_z-of_z g))
+    rw (eq_z_no s.args.a (pos 1) s.ranges.a (sfits_lit tt) c.if-a-eq1.false, eq_z_yes s.args.a (negsuc 0) s.ranges.a minus_one c.if-a-eqminus1.true) (simp (to_z-of_z f, to_z-of_z g))
 
 returns_3 : tie.Need-returns-then-low-high
 unfolding meeting
@@ -39,7 +39,7 @@ returns_3 c =
     let s = c.before.before.before.before.before.before.before in
     let f : SFits w64 s.args.r.lo = search rules in
     let g : SFits w64 s.args.r.hi = search rules in
-    rw (eq_z_no s.args.a (pos 1) s.ranges.a (sfits_lit tt) c.before.before.if-a-eq1.false, eq_z_no s.args.a (negsuc 0) s.ranges.a minus_one c.before.if-a-eqminus1.false, eq_z_no _ _ f g c.if-low-high.true)
+    rw (eq_z_no s.args.a (pos 1) s.ranges.a (sfits_lit tt) c.if-a-eq1.false, eq_z_no s.args.a (negsuc 0) s.ranges.a minus_one c.if-a-eqminus1.false, eq_z_no _ _ f g c.if-low-high.true)
 
 returns-4 : tie.Need-returns-then-first-last
 unfolding meeting
@@ -49,16 +49,16 @@ returns-4 c =
     let g : SFits w64 s.args.r.hi = search rules in
     let h : SFits w64 s.args.n.lo = search rules in
     let k : SFits w64 s.args.n.hi = search rules in
-    rw (eq_z_no s.args.a (pos 1) s.ranges.a (sfits_lit tt) c.before.before.before.if-a-eq1.false, eq_z_no s.args.a (negsuc 0) s.ranges.a minus_one c.before.before.if-a-eqminus1.false, eq_z_yes _ _ f g c.before.if-low-high.false, eq_z_no _ _ h k c.if-first-last.true)
+    rw (eq_z_no s.args.a (pos 1) s.ranges.a (sfits_lit tt) c.if-a-eq1.false, eq_z_no s.args.a (negsuc 0) s.ranges.a minus_one c.if-a-eqminus1.false, eq_z_yes _ _ f g c.if-low-high.false, eq_z_no _ _ h k c.if-first-last.true)
 
 apart-requires : tie.Need-apart-k-requires
-apart-requires c κs = rw (to_z-of_z c.before.before.before.before.before.before.before.before.ranges.a) c.before.before.before.before.before.before.before.before.requires
+apart-requires c κs = rw (to_z-of_z c.ranges.a) c.requires
 
-known : (c : tie.After-apart-k) → let s = c.before.before.before.before.before.before.before.before.before.args in Product s.a s.r.lo c.apart-k.result
+known : (c : tie.After-apart-k) → let s = c.args in Product s.a s.r.lo c.apart-k.result
 known c =
     let s = c.before.before.before.before.before.before.before.before.before in
-    let n1 = eq_z_no s.args.a (pos 1) s.ranges.a (sfits_lit tt) c.before.before.before.before.if-a-eq1.false in
-    let n2 = eq_z_no s.args.a (negsuc 0) s.ranges.a minus_one c.before.before.before.if-a-eqminus1.false in
+    let n1 = eq_z_no s.args.a (pos 1) s.ranges.a (sfits_lit tt) c.if-a-eq1.false in
+    let n2 = eq_z_no s.args.a (negsuc 0) s.ranges.a minus_one c.if-a-eqminus1.false in
     let p = s.requires.2 in
     let q = s.requires.3 in
     rw (c.apart-k.ensures, to_z-of_z s.ranges.a) (product s.args.a (wide_range s.args.r) (wide_range s.args.n) n1 n2 p.low q.low (apart_few s.args.a _ _ p.low p.high q.low q.high))
@@ -67,13 +67,13 @@ cast-k : tie.Need-overflow_cast-k
 cast-k c = let k = known c in search rules
 
 mul-result : tie.Need-overflow_mul-result
-mul-result c = let k = known c in simp (to_z-of_z c.before.before.before.before.before.before.before.before.before.ranges.a, to_z-of_z k.k64) k.product
+mul-result c = let k = known c in simp (to_z-of_z c.ranges.a, to_z-of_z k.k64) k.product
 
 add_result : tie.Need-overflow_add-result
 add_result c =
     let k = known c in
-    let f : SFits w64 c.before.before.before.before.before.before.before.before.before.args.r.lo = search rules in
-    simp (to_z-of_z f, to_z-of_z c.before.before.before.before.before.before.before.before.before.ranges.a, to_z-of_z k.k64, to_z-of_z k.product) k.sum
+    let f : SFits w64 c.args.r.lo = search rules in
+    simp (to_z-of_z f, to_z-of_z c.ranges.a, to_z-of_z k.k64, to_z-of_z k.product) k.sum
 
 returns-5 : tie.Need-returns
 unfolding meeting
@@ -84,7 +84,7 @@ returns-5 c =
     let g : SFits w64 s.args.r.hi = search rules in
     let h : SFits w64 s.args.n.lo = search rules in
     let l : SFits w64 s.args.n.hi = search rules in
-    rw (eq_z_no s.args.a (pos 1) s.ranges.a (sfits_lit tt) c.before.before.before.before.if-a-eq1.false, eq_z_no s.args.a (negsuc 0) s.ranges.a minus_one c.before.before.before.if-a-eqminus1.false, eq_z_yes _ _ f g c.before.before.if-low-high.false, eq_z_yes _ _ h l c.before.if-first-last.false)
+    rw (eq_z_no s.args.a (pos 1) s.ranges.a (sfits_lit tt) c.if-a-eq1.false, eq_z_no s.args.a (negsuc 0) s.ranges.a minus_one c.if-a-eqminus1.false, eq_z_yes _ _ f g c.if-low-high.false, eq_z_yes _ _ h l c.if-first-last.false)
     (let e = rw (to_z-of_z s.ranges.a) at c.apart-k.ensures in
     simp (to_z-of_z f, to_z-of_z s.ranges.a, to_z-of_z k.k64, to_z-of_z k.product) (eq_test k.sum h ∙ ap (λ z. eq_z (s.args.r.lo +ℤ s.args.a *ℤ pos z) s.args.n.lo) e))
 

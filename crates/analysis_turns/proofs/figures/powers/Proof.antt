@@ -34,10 +34,10 @@ pub record Turn (e f at k : ℕ) : Type 0 where
   pub twice : at * 2 ≤ at * f
   pub fits : at * f ≤ 5_000_000_000 * 2_000_000_001
 
-in_turn : (c : tie.In-loop-at invariant-loop-at decreases-loop-at) → Turn c.before.before.args.e c.before.before.args.f c.before.loop-at.at c.before.loop-at.k
+in_turn : (c : tie.In-loop-at invariant-loop-at decreases-loop-at) → Turn c.args.e c.args.f c.loop-at.at c.loop-at.k
 in_turn c =
-    let l : c.before.loop-at.at ≤ 5_000_000_000 = omega arith in
-    record { twice = mul-le-mul_left c.before.loop-at.at c.before.before.requires.2; fits = mul-le-mul l c.before.before.requires.3 }
+    let l : c.loop-at.at ≤ 5_000_000_000 = omega arith in
+    record { twice = mul-le-mul_left c.loop-at.at c.requires.2; fits = mul-le-mul l c.requires.3 }
 
 loop_holds : tie.Need-loop-at-init invariant-loop-at decreases-loop-at
 loop_holds c = (first _ _ _, omega arith)
@@ -52,10 +52,10 @@ loop-less : tie.Need-loop-at-smaller invariant-loop-at decreases-loop-at
 loop-less c = omega arith
 
 loop_again : tie.Need-loop-at-preserved invariant-loop-at decreases-loop-at
-loop_again c = let h = in_turn c in (c.before.loop-at.invariant.0 ∙ more _ _ _ _ c.loop-at-test.true c.before.loop-at.invariant.1, omega arith)
+loop_again c = let h = in_turn c in (c.loop-at.invariant.0 ∙ more _ _ _ _ c.loop-at-test.true c.loop-at.invariant.1, omega arith)
 
 returns : tie.Need-returns invariant-loop-at decreases-loop-at
-returns c = omega (arith, c.before.loop-at.invariant.0, over (suc c.before.before.args.e - c.before.loop-at.k) c.before.loop-at.at c.before.before.args.e c.before.before.args.f c.loop-at-test.false)
+returns c = omega (arith, c.loop-at.invariant.0, over (suc c.args.e - c.loop-at.k) c.loop-at.at c.args.e c.args.f c.loop-at-test.false)
 
 pub powers_spec : {M : Type 1} → statement M
 powers_spec = tie.close (tie.spec invariant-loop-at decreases-loop-at loop_holds mul_at add-k loop-less loop_again returns)

@@ -21,29 +21,29 @@ pub record Known (t e : ℤ) (f : ℕ) : Type 0 where
   pub limit : T (non_neg e) × Fits w64 (nat_abs e)
   pub asked : (1 ≤ nat_abs t) × (nat_abs e ≤ 5_000_000_000) × (2 ≤ f) × (f ≤ 2_000_000_001)
 
-known : (c : tie.Else-e-t) → Known c.before.args.t c.before.args.e c.before.args.f
+known : (c : tie.Else-e-t) → Known c.args.t c.args.e c.args.f
 known c =
-    let fe = c.before.ranges.e in
-    let ft = c.before.ranges.t in
-    let l : lt_z c.before.args.e c.before.args.t ≡ false = simp to_z-of_z at c.if-e-t.false in
-    let h : pos 1 ≤ℤ c.before.args.e = omega ints in
-    let a = abs_up c.before.requires.0 in
+    let fe = c.ranges.e in
+    let ft = c.ranges.t in
+    let l : lt_z c.args.e c.args.t ≡ false = simp to_z-of_z at c.if-e-t.false in
+    let h : pos 1 ≤ℤ c.args.e = omega ints in
+    let a = abs_up c.requires.0 in
     let b = abs_up h in
     record { after = l; start = omega ints; limit = omega ints; asked = omega ints }
 
 returns : tie.Need-returns-then-e-t
 unfolding scale
 returns c =
-    let fe = c.before.ranges.e in
-    let ft = c.before.ranges.t in
+    let fe = c.ranges.e in
+    let ft = c.ranges.t in
     simp (simp to_z-of_z at c.if-e-t.true)
 
 returns_2 : tie.Need-returns
 unfolding scale
 returns_2 c =
     let k = known c.before in
-    let fe = c.before.before.ranges.e in
-    let ft = c.before.before.ranges.t in
+    let fe = c.ranges.e in
+    let ft = c.ranges.t in
     simp (k.after, c.powers.ensures, to_z-of_z)
 
 pub scale_spec : {M : Type 1} → statement M

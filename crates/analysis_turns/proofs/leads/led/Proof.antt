@@ -11,11 +11,11 @@ use Rattle.analysis_turns.proofs.leads.led.Tie as tie
 
 returns_3 : tie.Need-returns-then-misses
 unfolding led
-returns_3 c = let f : SFits w64 c.before.before.before.before.before.args.e = search rules in let m = rw (to_z-of_z f) at c.before.misses.ensures in rw (c.before.before.before.lead-1.given.1, sym m ∙ c.if-misses.true)
+returns_3 c = let f : SFits w64 c.args.e = search rules in let m = rw (to_z-of_z f) at c.misses.ensures in rw (c.in-Tries.is, sym m ∙ c.if-misses.true)
 
 returns-4 : tie.Need-returns-else-misses
 unfolding led
-returns-4 c = let f : SFits w64 c.before.before.before.before.before.args.e = search rules in let m = rw (to_z-of_z f) at c.before.misses.ensures in rw (c.before.before.before.lead-1.given.1, sym m ∙ c.if-misses.false) (add-one _)
+returns-4 c = let f : SFits w64 c.args.e = search rules in let m = rw (to_z-of_z f) at c.misses.ensures in rw (c.in-Tries.is, sym m ∙ c.if-misses.false) (add-one _)
 
 pub led_spec : {M : Type 1} → statement M
 unfolding led
@@ -24,9 +24,9 @@ led_spec =
     (tie.spec
     (λ c. search rules) (λ c. search rules) (λ c. search rules) (λ c. search rules) (λ c κs. search rules) (λ c. search rules) (λ c. search rules)
     (λ c κs. search rules) (λ c. search rules)
-    (λ c. rw c.enum_told-1.given.1)
-    (λ c. rw c.enum_told-in-Untested-1.given.1 (add-one _))
+    (λ c. rw c.in-Nothing.is)
+    (λ c. rw c.in-Untested.is (add-one _))
     returns_3
     returns-4
-    (λ c. rw (c.before.before.before.lead-in-Flag-1.given.1, sym c.before.is_zero.ensures ∙ c.if-is_zero.true))
-    (λ c. rw (c.before.before.before.lead-in-Flag-1.given.1, sym c.before.is_zero.ensures ∙ c.if-is_zero.false) (add-one _)))
+    (λ c. rw (c.in-Flag.is, sym c.is_zero.ensures ∙ c.if-is_zero.true))
+    (λ c. rw (c.in-Flag.is, sym c.is_zero.ensures ∙ c.if-is_zero.false) (add-one _)))

@@ -21,15 +21,15 @@ step : (z : ℤ) → Near 1024 z × (pos 1 ≤ℤ z) → Step z
 step z h = let a = abs_parts z in record { wide = omega ints; cast = omega ints; divisor = omega ints }
 
 cast-floor : tie.Need-overflow_cast-l
-cast-floor c = let h = step c.before.before.args.l.step c.before.before.requires in simp (to_z-of_z h.wide) h.cast
+cast-floor c = let h = step c.args.l.step c.requires in simp (to_z-of_z h.wide) h.cast
 
 floor-requires : tie.Need-floor-requires
-floor-requires c κs = let h = step c.before.before.before.args.l.step c.before.before.before.requires in simp (to_z-of_z h.wide) h.divisor
+floor-requires c κs = let h = step c.args.l.step c.requires in simp (to_z-of_z h.wide) h.divisor
 
 returns : tie.Need-returns
 returns c =
-    let h = step c.before.before.before.before.args.l.step c.before.before.before.before.requires in
-    let l : SFits w64 c.before.before.before.before.args.l.limit = search rules in
+    let h = step c.args.l.step c.requires in
+    let l : SFits w64 c.args.l.limit = search rules in
     rw (to_z-of_z (sfits_of c.floor.type_inv), c.floor.ensures) (simp (to_z-of_z l, to_z-of_z h.wide))
 
 pub by_one_spec : {M : Type 1} → statement M

@@ -11,13 +11,13 @@ from-zero-requires : tie.Need-from_zero-requires
 from-zero-requires c κs = search rules
 
 by-one-requires : tie.Need-by_one-last-requires
-by-one-requires c κs = rw c.from_zero_lem.ensures (c.before.requires.2, c.before.requires.3)
+by-one-requires c κs = rw c.from_zero.ensures (c.requires.2, c.requires.3)
 
 returns : tie.Need-returns
 unfolding climb
 returns c =
-    let f : SFits w64 c.before.before.by_one-last.result.limit = search rules in
-    rw (c.turns_to.ensures, to_z-of_z f, c.before.before.by_one-last.ensures, c.before.before.before.from_zero_lem.ensures)
+    let f : SFits w64 c.by_one-last.result.limit = search rules in
+    rw (c.turns_to.ensures, to_z-of_z f, c.by_one-last.ensures, c.from_zero.ensures)
 
 pub climb_spec : {M : Type 1} → statement M
 climb_spec = tie.close (tie.spec from-zero-requires by-one-requires (λ c κs. search rules) returns)

@@ -19,12 +19,12 @@ fit : (l : AddLoop) → Near 4_000_000 l.start × Near 4_000_000 l.limit → Fit
 fit l (s, e) = record { start = omega ints; limit = omega ints; way = omega (ints, minus_parts l.limit l.start) }
 
 sub-t2 : tie.Need-overflow_sub-result
-sub-t2 c = let h = fit c.before.before.args.l c.before.before.requires in simp (to_z-of_z h.start, to_z-of_z h.limit) h.way
+sub-t2 c = let h = fit c.args.l c.requires in simp (to_z-of_z h.start, to_z-of_z h.limit) h.way
 
 returns : tie.Need-returns
 returns c =
-    let h = fit c.before.before.before.args.l c.before.before.before.requires in
-    let s : SFits w64 c.before.before.before.args.l.step = search rules in
+    let h = fit c.args.l c.requires in
+    let s : SFits w64 c.args.l.step = search rules in
     simp (to_z-of_z h.start, to_z-of_z h.limit, to_z-of_z h.way, to_z-of_z s)
 
 pub from_zero_spec : {M : Type 1} → statement M

@@ -13,13 +13,13 @@ fit : (z : ℤ) → Near 1024 z → SFits w64 z × SFits w64 (neg_ℤ z)
 fit z h = (omega ints, omega (ints, neg_parts z))
 
 sub-t2 : tie.Need-overflow_sub-result
-sub-t2 c = let h = fit c.before.before.args.l.step c.before.before.requires in simp (to_z-of_z h.0, +ℤ_idl) h.1
+sub-t2 c = let h = fit c.args.l.step c.requires in simp (to_z-of_z h.0, +ℤ_idl) h.1
 
 returns : tie.Need-returns
 returns c =
-    let h = fit c.before.before.before.args.l.step c.before.before.before.requires in
-    let s : SFits w64 c.before.before.before.args.l.start = search rules in
-    let e : SFits w64 c.before.before.before.args.l.limit = search rules in
+    let h = fit c.args.l.step c.requires in
+    let s : SFits w64 c.args.l.start = search rules in
+    let e : SFits w64 c.args.l.limit = search rules in
     simp (to_z-of_z s, to_z-of_z e, to_z-of_z h.0, +ℤ_idl, to_z-of_z h.1)
 
 pub turned_up_spec : {M : Type 1} → statement M

@@ -26,18 +26,18 @@ record Up (n : ℤ) : Type 0 where
   cast : T (non_neg n) × Fits w64 (nat_abs n)
   sum : Fits w64 (nat_abs n + 1)
 
-up : (c : tie.Else-n-lt0) → Up c.before.args.n
+up : (c : tie.Else-n-lt0) → Up c.args.n
 up c =
-    let f = c.before.ranges.n in
+    let f = c.ranges.n in
     let t = simp to_z-of_z at c.if-n-lt0.false in
-    let a = abs_parts c.before.args.n in
+    let a = abs_parts c.args.n in
     record { low = omega ints; cast = omega ints; sum = omega ints }
 
 pub turns_to_spec : {M : Type 1} → statement M
 turns_to_spec =
     tie.close
     (tie.spec
-    (λ c. let f = c.before.ranges.n in let t = simp to_z-of_z at c.if-n-lt0.true in none c.before.args.n (omega ints))
-    (λ c. let f = c.before.ranges.n in simp (to_z-of_z f) (up c).cast)
-    (λ c. let f = c.before.ranges.n in simp (to_z-of_z f) (up c).sum)
-    (λ c. let f = c.before.ranges.n in simp (to_z-of_z f) (some c.before.args.n (up c).low)))
+    (λ c. let f = c.ranges.n in let t = simp to_z-of_z at c.if-n-lt0.true in none c.args.n (omega ints))
+    (λ c. let f = c.ranges.n in simp (to_z-of_z f) (up c).cast)
+    (λ c. let f = c.ranges.n in simp (to_z-of_z f) (up c).sum)
+    (λ c. let f = c.ranges.n in simp (to_z-of_z f) (some c.args.n (up c).low)))

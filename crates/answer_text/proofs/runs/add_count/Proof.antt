@@ -5,4 +5,4 @@ use Rattle.answer_text.proofs.runs.add_count.Statement.{statement}
 use Rattle.answer_text.proofs.runs.add_count.Tie as tie
 
 pub add_count_spec : {M : Type 1} → statement M
-add_count_spec = tie.close (tie.spec (λ c. search rules) (λ c κs. omega (arith, c.before.before.before.requires)) (λ c. search rules) (λ c. (c.before.before.add_three.ensures.0, omega (arith, c.before.before.add_three.ensures.1))))
+add_count_spec = tie.close (tie.spec (λ c. search rules) (λ c κs. omega (arith, c.before.before.before.requires)) (λ c. search rules) (λ c. (c.before.before.add-three.ensures.0, omega (arith, c.before.before.add-three.ensures.1))))

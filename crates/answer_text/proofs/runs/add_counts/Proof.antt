@@ -13,7 +13,7 @@ abbrev decreases-loop-i : tie.decreases-loop-i
 decreases-loop-i loops at out₀ counts end₀ i₀ out end i = loops - i
 
 returns : tie.Need-returns invariant-loop-i decreases-loop-i
-returns c = (counting_all _ _ _ _ _ _ _ c.before.loop-i.invariant.0 c.loop-i-test.false c.before.loop-i.invariant.1, omega (arith, c.before.loop-i.invariant.0, c.before.loop-i.invariant.1.small, c.before.before.before.requires.0))
+returns c = (counting_all _ _ _ _ _ _ _ c.loop-i.invariant.0 c.loop-i-test.false c.loop-i.invariant.1, omega (arith, c.loop-i.invariant.0, c.loop-i.invariant.1.small, c.requires.0))
 
 pub add_counts_spec : {M : Type 1} → statement M
 add_counts_spec = tie.close (tie.spec
@@ -21,9 +21,9 @@ add_counts_spec = tie.close (tie.spec
     decreases-loop-i
     (λ c. (omega arith, counting_none _ _ _))
     (λ c. search rules) (λ c. search rules)
-    (λ c κs. omega (arith, c.before.before.before.loop-i.invariant.1.small, c.before.before.before.loop-i.invariant.1.adds.long, c.before.before.loop-i-test.true, c.before.before.before.before.before.requires.0, c.before.before.before.before.before.requires.1))
+    (λ c κs. omega (arith, c.loop-i.invariant.1.small, c.loop-i.invariant.1.adds.long, c.loop-i-test.true, c.requires.0, c.requires.1))
     (λ c. search rules)
     (λ c. search rules)
-    (λ c. (omega (arith, c.before.before.before.before.before.loop-i-test.true), counting_more _ _ _ _ _ _ _ _ _ c.before.before.before.before.before.before.loop-i.invariant.1 (search rules) c.before.before.add_count-end.ensures.0 c.before.before.add_count-end.ensures.1))
-    (λ c. c.before.loop-i.invariant.1.adds.long)
+    (λ c. (omega (arith, c.loop-i-test.true), counting_more _ _ _ _ _ _ _ _ _ c.loop-i.invariant.1 (search rules) c.add_count-end.ensures.0 c.add_count-end.ensures.1))
+    (λ c. c.loop-i.invariant.1.adds.long)
     returns)

@@ -5,16 +5,16 @@ use Rattle.answer_text.proofs.runs.add_ending.Statement.{statement}
 use Rattle.answer_text.proofs.runs.add_ending.Tie as tie
 
 returns : tie.Need-returns-in-Ended
-returns c = rw c.before.before.before.before.before.enum_told-1.given.1 (c.before.before.add_number.ensures.0, omega (arith, c.before.before.add_number.ensures.1))
+returns c = rw c.in-Ended.is (c.add_number.ensures.0, omega (arith, c.add_number.ensures.1))
 
 returns_2 : tie.Need-returns-in-Spent
-returns_2 c = rw c.before.before.before.before.before.enum_told-in-Spent-1.given.1 (c.before.before.add_number-in-Spent.ensures.0, omega (arith, c.before.before.add_number-in-Spent.ensures.1))
+returns_2 c = rw c.in-Spent.is (c.add_number-in-Spent.ensures.0, omega (arith, c.add_number-in-Spent.ensures.1))
 
 returns_3 : tie.Need-returns-in-Range
-returns_3 c = rw c.before.before.before.before.before.enum_told-in-Range-1.given.1 (c.before.before.add_number-in-Range.ensures.0, omega (arith, c.before.before.add_number-in-Range.ensures.1))
+returns_3 c = rw c.in-Range.is (c.add_number-in-Range.ensures.0, omega (arith, c.add_number-in-Range.ensures.1))
 
 returns-4 : tie.Need-returns-in-NoPick
-returns-4 c = rw c.before.before.before.before.before.enum_told-in-NoPick-1.given.1 (c.before.before.add_number-in-NoPick.ensures.0, omega (arith, c.before.before.add_number-in-NoPick.ensures.1))
+returns-4 c = rw c.in-NoPick.is (c.add_number-in-NoPick.ensures.0, omega (arith, c.add_number-in-NoPick.ensures.1))
 
 pub add_ending_spec : {M : Type 1} → statement M
 add_ending_spec = tie.close (tie.spec

@@ -9,13 +9,13 @@ pub add_front_spec : {M : Type 1} → statement M
 add_front_spec = tie.close (tie.spec
     (λ c κs. omega (arith, c.before.before.requires))
     (λ c. search rules)
-    (λ c κs. omega (arith, c.before.before.before.before.before.before.before.requires, c.before.before.before.before.add_ending-a.ensures.0.long, c.before.before.before.before.add_ending-a.ensures.1))
+    (λ c κs. omega (arith, c.before.before.before.before.before.before.before.requires, c.before.before.before.before.add-ending.ensures.0.long, c.before.before.before.before.add-ending.ensures.1))
     (λ c. search rules)
-    (λ c κs. omega (arith, c.before.before.before.before.before.before.before.before.before.before.before.before.requires, c.before.before.before.before.before.before.before.before.before.add_ending-a.ensures.0.long, c.before.before.before.before.before.before.before.before.before.add_ending-a.ensures.1, c.before.before.before.before.add_number-b.ensures.0.long, c.before.before.before.before.add_number-b.ensures.1))
+    (λ c κs. omega (arith, c.before.before.before.before.before.before.before.before.before.before.before.before.requires, c.before.before.before.before.before.before.before.before.before.add-ending.ensures.0.long, c.before.before.before.before.before.before.before.before.before.add-ending.ensures.1, c.before.before.before.before.add-number.ensures.0.long, c.before.before.before.before.add-number.ensures.1))
     (λ c. search rules)
-    (λ c κs. omega (arith, c.before.before.before.before.before.before.before.before.before.before.before.before.before.before.before.before.before.requires, c.before.before.before.before.before.before.before.before.before.before.before.before.before.before.add_ending-a.ensures.0.long, c.before.before.before.before.before.before.before.before.before.before.before.before.before.before.add_ending-a.ensures.1, c.before.before.before.before.before.before.before.before.before.add_number-b.ensures.0.long, c.before.before.before.before.before.before.before.before.before.add_number-b.ensures.1, c.before.before.before.before.add_number-c.ensures.0.long, c.before.before.before.before.add_number-c.ensures.1))
+    (λ c κs. omega (arith, c.before.before.before.before.before.before.before.before.before.before.before.before.before.before.before.before.before.requires, c.before.before.before.before.before.before.before.before.before.before.before.before.before.before.add-ending.ensures.0.long, c.before.before.before.before.before.before.before.before.before.before.before.before.before.before.add-ending.ensures.1, c.before.before.before.before.before.before.before.before.before.add-number.ensures.0.long, c.before.before.before.before.before.before.before.before.before.add-number.ensures.1, c.before.before.before.before.add-number2.ensures.0.long, c.before.before.before.before.add-number2.ensures.1))
     (λ c. search rules)
     (λ c. (
-      adds_is (front_text_lem _ _ _ _) (adds_join _ _ _ _ _ _ _ _ (adds_join _ _ _ _ _ _ _ _ (adds_join _ _ _ _ _ _ _ _ c.before.before.before.before.before.before.before.before.before.before.before.before.before.before.before.before.before.add_ending-a.ensures.0 c.before.before.before.before.before.before.before.before.before.before.before.before.add_number-b.ensures.0) c.before.before.before.before.before.before.before.add_number-c.ensures.0) c.before.before.add_text.ensures),
-      omega (arith, c.before.before.before.before.before.before.before.before.before.before.before.before.before.before.before.before.before.add_ending-a.ensures.1, c.before.before.before.before.before.before.before.before.before.before.before.before.add_number-b.ensures.1, c.before.before.before.before.before.before.before.add_number-c.ensures.1, c.before.before.add_text.ensures.count),
+      adds_is (front_text_lem _ _ _ _) (adds_join _ _ _ _ _ _ _ _ (adds_join _ _ _ _ _ _ _ _ (adds_join _ _ _ _ _ _ _ _ c.before.before.before.before.before.before.before.before.before.before.before.before.before.before.before.before.before.add-ending.ensures.0 c.before.before.before.before.before.before.before.before.before.before.before.before.add-number.ensures.0) c.before.before.before.before.before.before.before.add-number2.ensures.0) c.before.before.add-text.ensures),
+      omega (arith, c.before.before.before.before.before.before.before.before.before.before.before.before.before.before.before.before.before.add-ending.ensures.1, c.before.before.before.before.before.before.before.before.before.before.before.before.add-number.ensures.1, c.before.before.before.before.before.before.before.add-number2.ensures.1, c.before.before.add-text.ensures.count),
     )))

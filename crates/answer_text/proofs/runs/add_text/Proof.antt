@@ -11,14 +11,14 @@ use Rattle.answer_text.proofs.runs.add_text.Statement.{statement}
 use Rattle.answer_text.proofs.runs.add_text.Tie as tie
 
 returns : tie.Need-returns
-returns c = adds_part _ _ _ _ _ c.before.before.before.before.before.before.requires (wrote_copy _ _ _ _ _ refl c.before.before.copy.ensures.0 c.before.before.copy.ensures.1)
+returns c = adds_part _ _ _ _ _ c.requires (wrote_copy _ _ _ _ _ refl c.copy.ensures.count c.copy.ensures.bytes)
 
 pub add_text_spec : {M : Type 1} → statement M
 add_text_spec = tie.close (tie.spec
-    (λ c. omega (arith, c.before.before.requires))
-    (λ c. omega (arith, c.before.before.requires))
+    (λ c. omega (arith, c.requires))
+    (λ c. omega (arith, c.requires))
     (λ c. search rules)
-    (λ c κs. simp (part_rest, length-drop) (omega (arith, c.before.before.before.requires)))
-    (λ c. omega (arith, c.before.before.before.before.before.before.requires, c.before.before.copy.ensures.0))
+    (λ c κs. simp (part_rest, length-drop) (omega (arith, c.requires)))
+    (λ c. omega (arith, c.requires, c.copy.ensures.count))
     (λ c. (returns c).long)
     returns)

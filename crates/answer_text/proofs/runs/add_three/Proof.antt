@@ -9,12 +9,12 @@ pub add_three_spec : {M : Type 1} → statement M
 add_three_spec = tie.close (tie.spec
     (λ c κs. omega (arith, c.before.before.before.requires))
     (λ c. search rules)
-    (λ c κs. omega (arith, c.before.before.before.before.before.before.before.before.requires, c.before.before.before.before.add_number-a.ensures.0.long, c.before.before.before.before.add_number-a.ensures.1))
+    (λ c κs. omega (arith, c.before.before.before.before.before.before.before.before.requires, c.before.before.before.before.add-number.ensures.0.long, c.before.before.before.before.add-number.ensures.1))
     (λ c. search rules)
-    (λ c κs. omega (arith, c.before.before.before.before.before.before.before.before.before.before.before.before.before.requires, c.before.before.before.before.before.before.before.before.before.add_number-a.ensures.0.long, c.before.before.before.before.before.before.before.before.before.add_number-a.ensures.1, c.before.before.before.before.add_number-b.ensures.0.long, c.before.before.before.before.add_number-b.ensures.1))
-    (λ c κs. omega (arith, c.before.before.before.before.before.before.before.before.before.before.before.before.before.before.before.before.before.requires, c.before.before.before.before.before.before.before.before.before.before.before.before.before.add_number-a.ensures.0.long, c.before.before.before.before.before.before.before.before.before.before.before.before.before.add_number-a.ensures.1, c.before.before.before.before.before.before.before.before.add_number-b.ensures.0.long, c.before.before.before.before.before.before.before.before.add_number-b.ensures.1, c.before.before.before.add_number-c.ensures.0.long, c.before.before.before.add_number-c.ensures.1))
+    (λ c κs. omega (arith, c.before.before.before.before.before.before.before.before.before.before.before.before.before.requires, c.before.before.before.before.before.before.before.before.before.add-number.ensures.0.long, c.before.before.before.before.before.before.before.before.before.add-number.ensures.1, c.before.before.before.before.add-number2.ensures.0.long, c.before.before.before.before.add-number2.ensures.1))
+    (λ c κs. omega (arith, c.before.before.before.before.before.before.before.before.before.before.before.before.before.before.before.before.before.requires, c.before.before.before.before.before.before.before.before.before.before.before.before.before.add-number.ensures.0.long, c.before.before.before.before.before.before.before.before.before.before.before.before.before.add-number.ensures.1, c.before.before.before.before.before.before.before.before.add-number2.ensures.0.long, c.before.before.before.before.before.before.before.before.add-number2.ensures.1, c.before.before.before.add-number3.ensures.0.long, c.before.before.before.add-number3.ensures.1))
     (λ c. search rules)
     (λ c. (
-      adds_is (three_text_lem _ _ _ _) (adds_join _ _ _ _ _ _ _ _ (adds_join _ _ _ _ _ _ _ _ (adds_join _ _ _ _ _ _ _ _ c.before.before.before.before.before.before.before.before.before.before.before.before.before.before.before.before.add_number-a.ensures.0 c.before.before.before.before.before.before.before.before.before.before.before.add_number-b.ensures.0) c.before.before.before.before.before.before.add_number-c.ensures.0) c.before.before.end_line.ensures),
-      omega (arith, c.before.before.before.before.before.before.before.before.before.before.before.before.before.before.before.before.add_number-a.ensures.1, c.before.before.before.before.before.before.before.before.before.before.before.add_number-b.ensures.1, c.before.before.before.before.before.before.add_number-c.ensures.1, c.before.before.end_line.ensures.count),
+      adds_is (three_text_lem _ _ _ _) (adds_join _ _ _ _ _ _ _ _ (adds_join _ _ _ _ _ _ _ _ (adds_join _ _ _ _ _ _ _ _ c.before.before.before.before.before.before.before.before.before.before.before.before.before.before.before.before.add-number.ensures.0 c.before.before.before.before.before.before.before.before.before.before.before.add-number2.ensures.0) c.before.before.before.before.before.before.add-number3.ensures.0) c.before.before.end_line.ensures),
+      omega (arith, c.before.before.before.before.before.before.before.before.before.before.before.before.before.before.before.before.add-number.ensures.1, c.before.before.before.before.before.before.before.before.before.before.before.add-number2.ensures.1, c.before.before.before.before.before.before.add-number3.ensures.1, c.before.before.end_line.ensures.count),
     )))

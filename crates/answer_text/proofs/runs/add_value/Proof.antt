@@ -12,35 +12,35 @@ use Rattle.answer_text.proofs.runs.add_value.Statement.{statement}
 use Rattle.answer_text.proofs.runs.add_value.Tie as tie
 
 cast-size : tie.Need-overflow_cast-v
-cast-size c = let f = c.before.ranges.v in rw (to_z-of_z f) (omega ints)
+cast-size c = let f = c.ranges.v in rw (to_z-of_z f) (omega ints)
 
 returns : tie.Need-returns-then-v-lt0
 returns c =
-    let f = c.before.before.before.before.before.before.before.before.before.ranges.v in
-    let v = c.before.before.before.before.before.before.before.before.before.args.v in
+    let f = c.ranges.v in
+    let v = c.args.v in
     let g : SFits w64 v = omega (ints, f) in
-    (adds_is (value_below _ true v _ c.before.before.before.before.before.before.if-first.true (simp (to_z-of_z f) at c.before.before.before.before.before.if-v-lt0.true) (simp (to_z-of_z f, to_z-of_z g) at c.before.before.before.before.before.before.before.size-n.ensures)) c.before.before.add_number.ensures.0, omega (arith, c.before.before.add_number.ensures.1))
+    (adds_is (value_below _ true v _ c.if-first.true (simp (to_z-of_z f) at c.if-v-lt0.true) (simp (to_z-of_z f, to_z-of_z g) at c.size-n.ensures)) c.add_number.ensures.0, omega (arith, c.add_number.ensures.1))
 
 returns_2 : tie.Need-returns-then-first
 returns_2 c =
-    let f = c.before.before.before.before.before.before.before.before.before.ranges.v in
-    let v = c.before.before.before.before.before.before.before.before.before.args.v in
+    let f = c.ranges.v in
+    let v = c.args.v in
     let g : SFits w64 v = omega (ints, f) in
-    (adds_is (value_above _ true v _ c.before.before.before.before.before.before.if-first.true (simp (to_z-of_z f) at c.before.before.before.before.before.if-v-lt0.false) (simp (to_z-of_z f, to_z-of_z g) at c.before.before.before.before.before.before.before.size-n.ensures)) c.before.before.add_number-then-first.ensures.0, omega (arith, c.before.before.add_number-then-first.ensures.1))
+    (adds_is (value_above _ true v _ c.if-first.true (simp (to_z-of_z f) at c.if-v-lt0.false) (simp (to_z-of_z f, to_z-of_z g) at c.size-n.ensures)) c.add_number-then-first.ensures.0, omega (arith, c.add_number-then-first.ensures.1))
 
 returns_3 : tie.Need-returns-then-v-lt0-2
 returns_3 c =
-    let f = c.before.before.before.before.before.before.before.before.before.ranges.v in
-    let v = c.before.before.before.before.before.before.before.before.before.args.v in
+    let f = c.ranges.v in
+    let v = c.args.v in
     let g : SFits w64 v = omega (ints, f) in
-    (adds_is (value_below _ false v _ c.before.before.before.before.before.before.if-first.false (simp (to_z-of_z f) at c.before.before.before.before.before.if-v-lt0-2.true) (simp (to_z-of_z f, to_z-of_z g) at c.before.before.before.before.before.before.before.size-n.ensures)) c.before.before.add_number-then-v-lt0-2.ensures.0, omega (arith, c.before.before.add_number-then-v-lt0-2.ensures.1))
+    (adds_is (value_below _ false v _ c.if-first.false (simp (to_z-of_z f) at c.if-v-lt0-2.true) (simp (to_z-of_z f, to_z-of_z g) at c.size-n.ensures)) c.add_number-then-v-lt0-2.ensures.0, omega (arith, c.add_number-then-v-lt0-2.ensures.1))
 
 returns-4 : tie.Need-returns
 returns-4 c =
-    let f = c.before.before.before.before.before.before.before.before.before.ranges.v in
-    let v = c.before.before.before.before.before.before.before.before.before.args.v in
+    let f = c.ranges.v in
+    let v = c.args.v in
     let g : SFits w64 v = omega (ints, f) in
-    (adds_is (value_above _ false v _ c.before.before.before.before.before.before.if-first.false (simp (to_z-of_z f) at c.before.before.before.before.before.if-v-lt0-2.false) (simp (to_z-of_z f, to_z-of_z g) at c.before.before.before.before.before.before.before.size-n.ensures)) c.before.before.add_number-2.ensures.0, omega (arith, c.before.before.add_number-2.ensures.1))
+    (adds_is (value_above _ false v _ c.if-first.false (simp (to_z-of_z f) at c.if-v-lt0-2.false) (simp (to_z-of_z f, to_z-of_z g) at c.size-n.ensures)) c.add_number-2.ensures.0, omega (arith, c.add_number-2.ensures.1))
 
 pub add_value_spec : {M : Type 1} → statement M
 add_value_spec = tie.close (tie.spec
@@ -48,17 +48,17 @@ add_value_spec = tie.close (tie.spec
     (λ c κs. search rules)
     (λ c. search rules)
     (λ c κs. omega (arith, c.before.before.before.before.before.before.requires))
-    (λ c. c.before.before.add_number.ensures.0.long)
+    (λ c. c.before.before.add-number.ensures.0.long)
     returns
     (λ c. search rules)
     (λ c κs. omega (arith, c.before.before.before.before.before.before.requires))
-    (λ c. c.before.before.add_number-then-first.ensures.0.long)
+    (λ c. c.before.before.add-number2.ensures.0.long)
     returns_2
     (λ c. search rules)
     (λ c κs. omega (arith, c.before.before.before.before.before.before.requires))
-    (λ c. c.before.before.add_number-then-v-lt0-2.ensures.0.long)
+    (λ c. c.before.before.add-number3.ensures.0.long)
     returns_3
     (λ c. search rules)
     (λ c κs. omega (arith, c.before.before.before.before.before.before.requires))
-    (λ c. c.before.before.add_number-2.ensures.0.long)
+    (λ c. c.before.before.add-number4.ensures.0.long)
     returns-4)

@@ -21,8 +21,8 @@ decreases-loop-i store at out₀ end₀ i₀ out end i = length store - i
 
 loop_again : tie.Need-loop-i-preserved invariant-loop-i decreases-loop-i
 loop_again c =
-    let g : SFits w32 (get_or c.before.before.before.before.before.before.before.before.before.args.store.now c.before.before.before.before.before.before.before.loop-i.i (pos 0)) = search rules in
-    listing_more _ _ _ _ _ _ _ _ _ _ (pos 0) _ c.before.before.before.before.before.before.before.loop-i.invariant c.before.before.before.before.before.before.loop-i-test.true c.before.before.before.before.before.is_first-first.ensures (simp (to_z-of_z g) at c.before.before.add_value-end.ensures.0) c.before.before.add_value-end.ensures.1
+    let g : SFits w32 (get_or c.args.store.now c.loop-i.i (pos 0)) = search rules in
+    listing_more _ _ _ _ _ _ _ _ _ _ (pos 0) _ c.loop-i.invariant c.loop-i-test.true c.is_first-first.ensures (simp (to_z-of_z g) at c.add_value-end.ensures.0) c.add_value-end.ensures.1
 
 pub add_values_spec : {M : Type 1} → statement M
 add_values_spec = tie.close (tie.spec
@@ -31,9 +31,9 @@ add_values_spec = tie.close (tie.spec
     (λ c. listing_none _ _ _ _ _)
     (λ c κs. search rules)
     (λ c. search rules) (λ c. search rules)
-    (λ c κs. omega (arith, c.before.before.before.before.loop-i.invariant.small, c.before.before.before.before.loop-i.invariant.adds.long, c.before.before.before.loop-i-test.true, c.before.before.before.before.before.before.requires.0, c.before.before.before.before.before.before.requires.1))
+    (λ c κs. omega (arith, c.loop-i.invariant.small, c.loop-i.invariant.adds.long, c.loop-i-test.true, c.requires.0, c.requires.1))
     (λ c. search rules)
     (λ c. search rules)
     loop_again
-    (λ c. c.before.loop-i.invariant.adds.long)
-    (λ c. (listing_all _ _ _ _ _ _ _ _ c.before.loop-i.invariant c.loop-i-test.false, omega (arith, c.before.loop-i.invariant.small, c.before.loop-i.invariant.within, c.before.before.before.requires.0))))
+    (λ c. c.loop-i.invariant.adds.long)
+    (λ c. (listing_all _ _ _ _ _ _ _ _ c.loop-i.invariant c.loop-i-test.false, omega (arith, c.loop-i.invariant.small, c.loop-i.invariant.within, c.requires.0))))

@@ -9,19 +9,19 @@ use Rattle.answer_text.proofs.runs.put_outcome.Tie as tie
 
 returns : tie.Need-returns-in-Passed
 unfolding verdict_text
-returns c = rw c.before.before.before.before.enum_told-1.given.1 c.before.before.put_run.ensures
+returns c = rw c.in-Passed.is c.put_run.ensures
 
 returns_2 : tie.Need-returns-in-Refused
 unfolding verdict_text
 returns_2 c =
-    rw c.before.before.before.before.before.verdict-1.given.1 (c.before.before.put_refusal.ensures, omega (arith, c.before.before.put_refusal.ensures.count, refusal_room c.before.before.before.before.before.verdict-1.given.0.0 c.before.before.before.before.before.verdict-1.given.0.1.0, simp (refusal_line, length-append) at c.before.before.put_refusal.ensures.count))
+    rw c.in-Refused.is (c.put_refusal.ensures, omega (arith, c.put_refusal.ensures.count, refusal_room c.in-Refused.number c.in-Refused.place, simp (refusal_line, length-append) at c.put_refusal.ensures.count))
 
 pub put_outcome_spec : {M : Type 1} → statement M
 put_outcome_spec = tie.close (tie.spec
     (λ c. search rules)
     (λ c κs. search rules)
     (λ c. search rules)
-    (λ c κs. omega (arith, c.before.before.before.before.before.requires.2))
+    (λ c κs. omega (arith, c.requires.2))
     (λ c. search rules)
     returns
     (λ c. search rules)

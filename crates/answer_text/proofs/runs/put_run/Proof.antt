@@ -8,15 +8,15 @@ use Rattle.answer_text.proofs.runs.put_run.Tie as tie
 
 returns : tie.Need-returns
 returns c =
-    let text = adds_is (run_text_lem _ _ _ _ _ _) (adds_join _ _ _ _ _ _ _ _ (adds_join _ _ _ _ _ _ _ _ (adds_join _ _ _ _ _ _ _ _ c.before.before.before.before.before.before.before.before.before.before.before.before.before.before.add_front-a.ensures.0 c.before.before.before.before.before.before.before.before.before.before.add_values-b.ensures.0) c.before.before.before.before.before.before.end_line-c.ensures) c.before.before.add_counts.ensures.0) in
-    let short : c.before.before.add_counts.result ≤ 2_048 = omega (arith, c.before.before.before.before.before.before.before.before.before.before.before.before.before.before.add_front-a.ensures.1, c.before.before.before.before.before.before.before.before.before.before.add_values-b.ensures.1, c.before.before.before.before.before.before.end_line-c.ensures.count, c.before.before.add_counts.ensures.1) in
-    (adds_whole _ _ _ _ (omega (arith, text.count, c.before.before.before.before.before.before.before.before.before.before.before.before.before.before.before.before.before.before.requires.2, short)) text, short)
+    let text = adds_is (run_text_lem _ _ _ _ _ _) (adds_join _ _ _ _ _ _ _ _ (adds_join _ _ _ _ _ _ _ _ (adds_join _ _ _ _ _ _ _ _ c.add_front-a.ensures.0 c.add_values-b.ensures.0) c.end_line-c.ensures) c.add_counts.ensures.0) in
+    let short : c.add_counts.result ≤ 2_048 = omega (arith, c.add_front-a.ensures.1, c.add_values-b.ensures.1, c.end_line-c.ensures.count, c.add_counts.ensures.1) in
+    (adds_whole _ _ _ _ (omega (arith, text.count, c.requires.2, short)) text, short)
 
 pub put_run_spec : {M : Type 1} → statement M
 put_run_spec = tie.close (tie.spec
-    (λ c κs. omega (arith, c.before.before.before.requires.2))
-    (λ c κs. (c.before.before.before.before.before.before.before.requires.1, omega (arith, c.before.before.before.before.before.before.before.requires.2, c.before.before.before.add_front-a.ensures.0.long, c.before.before.before.add_front-a.ensures.1)))
-    (λ c κs. omega (arith, c.before.before.before.before.before.before.before.before.before.before.before.requires.2, c.before.before.before.before.before.before.before.add_front-a.ensures.0.long, c.before.before.before.before.before.before.before.add_front-a.ensures.1, c.before.before.before.add_values-b.ensures.0.long, c.before.before.before.add_values-b.ensures.1))
-    (λ c κs. (c.before.before.before.before.before.before.before.before.before.before.before.before.before.before.before.requires.0, omega (arith, c.before.before.before.before.before.before.before.before.before.before.before.before.before.before.before.requires.2, c.before.before.before.before.before.before.before.before.before.before.before.add_front-a.ensures.0.long, c.before.before.before.before.before.before.before.before.before.before.before.add_front-a.ensures.1, c.before.before.before.before.before.before.before.add_values-b.ensures.0.long, c.before.before.before.before.before.before.before.add_values-b.ensures.1, c.before.before.before.end_line-c.ensures.long, c.before.before.before.end_line-c.ensures.count)))
+    (λ c κs. omega (arith, c.requires.2))
+    (λ c κs. (c.requires.1, omega (arith, c.requires.2, c.add_front-a.ensures.0.long, c.add_front-a.ensures.1)))
+    (λ c κs. omega (arith, c.requires.2, c.add_front-a.ensures.0.long, c.add_front-a.ensures.1, c.add_values-b.ensures.0.long, c.add_values-b.ensures.1))
+    (λ c κs. (c.requires.0, omega (arith, c.requires.2, c.add_front-a.ensures.0.long, c.add_front-a.ensures.1, c.add_values-b.ensures.0.long, c.add_values-b.ensures.1, c.end_line-c.ensures.long, c.end_line-c.ensures.count)))
     (λ c. search rules)
     returns)

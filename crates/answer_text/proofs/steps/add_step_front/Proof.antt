@@ -10,17 +10,17 @@ pub add_step_front_spec : {M : Type 1} → statement M
 add_step_front_spec = tie.close (tie.spec
     (λ c. search rules)
     (λ c κs. omega (arith, c.before.before.before.requires))
-    (λ c κs. omega (arith, c.before.before.before.before.before.before.before.requires, c.before.before.before.add_number-a.ensures.0.long, c.before.before.before.add_number-a.ensures.1))
+    (λ c κs. omega (arith, c.before.before.before.before.before.before.before.requires, c.before.before.before.add-number.ensures.0.long, c.before.before.before.add-number.ensures.1))
     (λ c. search rules)
-    (λ c κs. omega (arith, c.before.before.before.before.before.before.before.before.before.before.before.before.requires, c.before.before.before.before.before.before.before.before.add_number-a.ensures.0.long, c.before.before.before.before.before.before.before.before.add_number-a.ensures.1, c.before.before.before.before.add_status-b.ensures.0.long, c.before.before.before.before.add_status-b.ensures.1))
+    (λ c κs. omega (arith, c.before.before.before.before.before.before.before.before.before.before.before.before.requires, c.before.before.before.before.before.before.before.before.add-number.ensures.0.long, c.before.before.before.before.before.before.before.before.add-number.ensures.1, c.before.before.before.before.add-status.ensures.0.long, c.before.before.before.before.add-status.ensures.1))
     (λ c. search rules)
-    (λ c κs. omega (arith, c.before.before.before.before.before.before.before.before.before.before.before.before.before.before.before.before.before.requires, c.before.before.before.before.before.before.before.before.before.before.before.before.before.add_number-a.ensures.0.long, c.before.before.before.before.before.before.before.before.before.before.before.before.before.add_number-a.ensures.1, c.before.before.before.before.before.before.before.before.before.add_status-b.ensures.0.long, c.before.before.before.before.before.before.before.before.before.add_status-b.ensures.1, c.before.before.before.before.add_number-c.ensures.0.long, c.before.before.before.before.add_number-c.ensures.1))
+    (λ c κs. omega (arith, c.before.before.before.before.before.before.before.before.before.before.before.before.before.before.before.before.before.requires, c.before.before.before.before.before.before.before.before.before.before.before.before.before.add-number.ensures.0.long, c.before.before.before.before.before.before.before.before.before.before.before.before.before.add-number.ensures.1, c.before.before.before.before.before.before.before.before.before.add-status.ensures.0.long, c.before.before.before.before.before.before.before.before.before.add-status.ensures.1, c.before.before.before.before.add-number2.ensures.0.long, c.before.before.before.before.add-number2.ensures.1))
     (λ c. search rules)
-    (λ c κs. omega (arith, c.before.before.before.before.before.before.before.before.before.before.before.before.before.before.before.before.before.before.before.before.before.before.requires, c.before.before.before.before.before.before.before.before.before.before.before.before.before.before.before.before.before.before.add_number-a.ensures.0.long, c.before.before.before.before.before.before.before.before.before.before.before.before.before.before.before.before.before.before.add_number-a.ensures.1, c.before.before.before.before.before.before.before.before.before.before.before.before.before.before.add_status-b.ensures.0.long, c.before.before.before.before.before.before.before.before.before.before.before.before.before.before.add_status-b.ensures.1, c.before.before.before.before.before.before.before.before.before.add_number-c.ensures.0.long, c.before.before.before.before.before.before.before.before.before.add_number-c.ensures.1, c.before.before.before.before.add_number-e.ensures.0.long, c.before.before.before.before.add_number-e.ensures.1))
+    (λ c κs. omega (arith, c.before.before.before.before.before.before.before.before.before.before.before.before.before.before.before.before.before.before.before.before.before.before.requires, c.before.before.before.before.before.before.before.before.before.before.before.before.before.before.before.before.before.before.add-number.ensures.0.long, c.before.before.before.before.before.before.before.before.before.before.before.before.before.before.before.before.before.before.add-number.ensures.1, c.before.before.before.before.before.before.before.before.before.before.before.before.before.before.add-status.ensures.0.long, c.before.before.before.before.before.before.before.before.before.before.before.before.before.before.add-status.ensures.1, c.before.before.before.before.before.before.before.before.before.add-number2.ensures.0.long, c.before.before.before.before.before.before.before.before.before.add-number2.ensures.1, c.before.before.before.before.add-number3.ensures.0.long, c.before.before.before.before.add-number3.ensures.1))
     (λ c. search rules)
-    (λ c κs. omega (arith, c.before.before.before.before.before.before.before.before.before.before.before.before.before.before.before.before.before.before.before.before.before.before.before.before.before.before.before.requires, c.before.before.before.before.before.before.before.before.before.before.before.before.before.before.before.before.before.before.before.before.before.before.before.add_number-a.ensures.0.long, c.before.before.before.before.before.before.before.before.before.before.before.before.before.before.before.before.before.before.before.before.before.before.before.add_number-a.ensures.1, c.before.before.before.before.before.before.before.before.before.before.before.before.before.before.before.before.before.before.before.add_status-b.ensures.0.long, c.before.before.before.before.before.before.before.before.before.before.before.before.before.before.before.before.before.before.before.add_status-b.ensures.1, c.before.before.before.before.before.before.before.before.before.before.before.before.before.before.add_number-c.ensures.0.long, c.before.before.before.before.before.before.before.before.before.before.before.before.before.before.add_number-c.ensures.1, c.before.before.before.before.before.before.before.before.before.add_number-e.ensures.0.long, c.before.before.before.before.before.before.before.before.before.add_number-e.ensures.1, c.before.before.before.before.add_number-f.ensures.0.long, c.before.before.before.before.add_number-f.ensures.1))
+    (λ c κs. omega (arith, c.before.before.before.before.before.before.before.before.before.before.before.before.before.before.before.before.before.before.before.before.before.before.before.before.before.before.before.requires, c.before.before.before.before.before.before.before.before.before.before.before.before.before.before.before.before.before.before.before.before.before.before.before.add-number.ensures.0.long, c.before.before.before.before.before.before.before.before.before.before.before.before.before.before.before.before.before.before.before.before.before.before.before.add-number.ensures.1, c.before.before.before.before.before.before.before.before.before.before.before.before.before.before.before.before.before.before.before.add-status.ensures.0.long, c.before.before.before.before.before.before.before.before.before.before.before.before.before.before.before.before.before.before.before.add-status.ensures.1, c.before.before.before.before.before.before.before.before.before.before.before.before.before.before.add-number2.ensures.0.long, c.before.before.before.before.before.before.before.before.before.before.before.before.before.before.add-number2.ensures.1, c.before.before.before.before.before.before.before.before.before.add-number3.ensures.0.long, c.before.before.before.before.before.before.before.before.before.add-number3.ensures.1, c.before.before.before.before.add-number4.ensures.0.long, c.before.before.before.before.add-number4.ensures.1))
     (λ c. search rules)
     (λ c. (
-      adds_is (step_front_lem _ _) (adds_join _ _ _ _ _ _ _ _ (adds_join _ _ _ _ _ _ _ _ (adds_join _ _ _ _ _ _ _ _ (adds_join _ _ _ _ _ _ _ _ (adds_join _ _ _ _ _ _ _ _ c.before.before.before.before.before.before.before.before.before.before.before.before.before.before.before.before.before.before.before.before.before.before.before.before.before.before.add_number-a.ensures.0 c.before.before.before.before.before.before.before.before.before.before.before.before.before.before.before.before.before.before.before.before.before.before.add_status-b.ensures.0) c.before.before.before.before.before.before.before.before.before.before.before.before.before.before.before.before.before.add_number-c.ensures.0) c.before.before.before.before.before.before.before.before.before.before.before.before.add_number-e.ensures.0) c.before.before.before.before.before.before.before.add_number-f.ensures.0) c.before.before.add_text.ensures),
-      omega (arith, c.before.before.before.before.before.before.before.before.before.before.before.before.before.before.before.before.before.before.before.before.before.before.before.before.before.before.add_number-a.ensures.1, c.before.before.before.before.before.before.before.before.before.before.before.before.before.before.before.before.before.before.before.before.before.before.add_status-b.ensures.1, c.before.before.before.before.before.before.before.before.before.before.before.before.before.before.before.before.before.add_number-c.ensures.1, c.before.before.before.before.before.before.before.before.before.before.before.before.add_number-e.ensures.1, c.before.before.before.before.before.before.before.add_number-f.ensures.1, c.before.before.add_text.ensures.count),
+      adds_is (step_front_lem _ _) (adds_join _ _ _ _ _ _ _ _ (adds_join _ _ _ _ _ _ _ _ (adds_join _ _ _ _ _ _ _ _ (adds_join _ _ _ _ _ _ _ _ (adds_join _ _ _ _ _ _ _ _ c.before.before.before.before.before.before.before.before.before.before.before.before.before.before.before.before.before.before.before.before.before.before.before.before.before.before.add-number.ensures.0 c.before.before.before.before.before.before.before.before.before.before.before.before.before.before.before.before.before.before.before.before.before.before.add-status.ensures.0) c.before.before.before.before.before.before.before.before.before.before.before.before.before.before.before.before.before.add-number2.ensures.0) c.before.before.before.before.before.before.before.before.before.before.before.before.add-number3.ensures.0) c.before.before.before.before.before.before.before.add-number4.ensures.0) c.before.before.add-text.ensures),
+      omega (arith, c.before.before.before.before.before.before.before.before.before.before.before.before.before.before.before.before.before.before.before.before.before.before.before.before.before.before.add-number.ensures.1, c.before.before.before.before.before.before.before.before.before.before.before.before.before.before.before.before.before.before.before.before.before.before.add-status.ensures.1, c.before.before.before.before.before.before.before.before.before.before.before.before.before.before.before.before.before.add-number2.ensures.1, c.before.before.before.before.before.before.before.before.before.before.before.before.add-number3.ensures.1, c.before.before.before.before.before.before.before.add-number4.ensures.1, c.before.before.add-text.ensures.count),
     )))

@@ -8,4 +8,4 @@ ending_of_spec = tie.close (tie.spec
     (λ c. ending_ended _ c.if-status-eq-ENDED.true)
     (λ c. ending_range _ c.if-status-eq-RANGE.true)
     (λ c. ending_waits _ c.if-status-eq-WAITS.true)
-    (λ c. ending_spent _ c.before.before.if-status-eq-ENDED.false c.before.if-status-eq-RANGE.false c.if-status-eq-WAITS.false))
+    (λ c. ending_spent _ c.if-status-eq-ENDED.false c.if-status-eq-RANGE.false c.if-status-eq-WAITS.false))

@@ -8,9 +8,9 @@ use Rattle.answer_text.proofs.steps.put_cue.Tie as tie
 
 returns : tie.Need-returns
 returns c =
-    let a = c.before.before.add_three.ensures in
-    let short : c.before.before.add_three.result ≤ 67 = omega (arith, a.1) in
-    (adds_whole _ _ _ _ (omega (arith, a.0.count, c.before.before.before.before.before.before.requires, short)) a.0, short)
+    let a = c.add_three.ensures in
+    let short : c.add_three.result ≤ 67 = omega (arith, a.1) in
+    (adds_whole _ _ _ _ (omega (arith, a.0.count, c.requires, short)) a.0, short)
 
 pub put_cue_spec : {M : Type 1} → statement M
 put_cue_spec = tie.close (tie.spec (λ c. search rules) (λ c κs. omega (arith, c.before.before.before.requires)) (λ c. search rules) returns)

@@ -5,11 +5,11 @@ use Rattle.answer_text.proofs.steps.so_far.Tie as tie
 
 pub so_far_spec : {M : Type 1} → statement M
 so_far_spec = tie.close (tie.spec (λ c κs. search rules) (λ c. λ k. record {
-  verdict = c.before.before.args.d.verdict;
-  ending = c.Ending-of.ensures k;
-  row = c.before.before.args.d.row;
-  ticks = c.before.before.args.d.all_ticks;
-  used = c.before.before.args.d.all_used;
-  loops = c.before.before.args.d.loops;
-  counts = c.before.before.args.d.counts;
+  verdict = c.args.d.verdict;
+  ending = c.ending_of-ending.ensures k;
+  row = c.args.d.row;
+  ticks = c.args.d.all_ticks;
+  used = c.args.d.all_used;
+  loops = c.args.d.loops;
+  counts = c.args.d.counts;
 }))

@@ -11,8 +11,8 @@ use Rattle.calls.proofs.figures.first_end.Tie as tie
 returns : tie.Need-returns-in-Add
 unfolding first_end
 returns c =
-    let f : SFits w64 c.before.before.step-1.given.0.0 = search rules in
-    rw c.before.before.step-1.given.1 (simp (to_z-of_z f) at c.twos_complement.ensures)
+    let f : SFits w64 c.in-Add.a = search rules in
+    rw c.in-Add.is (simp (to_z-of_z f) at c.twos_complement.ensures)
 
 pub first_end_spec : {M : Type 1} → statement M
 unfolding first_end twos
@@ -21,6 +21,6 @@ first_end_spec =
     (tie.spec
     (λ c. search rules) (λ c κs. search rules) (λ c. search rules) (λ c. search rules) (λ c. search rules)
     returns
-    (λ c. rw c.before.step-in-Grow-1.given.1)
-    (λ c. rw c.before.step-in-Shrink-1.given.1)
-    (λ c. rw c.enum_told-1.given.1))
+    (λ c. rw c.in-Grow.is)
+    (λ c. rw c.in-Shrink.is)
+    (λ c. rw c.in-Unknown.is))

@@ -8,4 +8,4 @@ line_numbers_spec =
     tie.close
     (tie.spec
     (λ c κs. search rules) (λ c κs. search rules) (λ c κs. search rules) (λ c κs. search rules)
-    (λ c. rw (c.flag.ensures, c.before.second_end.ensures, c.before.before.first_end.ensures, c.before.before.before.step_number.ensures)))
+    (λ c. rw (c.flag.ensures, c.second_end.ensures, c.first_end.ensures, c.step_number.ensures)))

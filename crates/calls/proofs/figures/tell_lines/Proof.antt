@@ -19,9 +19,9 @@ decreases-loop-k old loops k₀ new k = loops - k
 loop_again : tie.Need-loop-k-preserved invariant-loop-k decreases-loop-k
 loop_again c =
     let s = c.before.before.before.before.before in
-    let l = c.before.before.before.before.loop-k in
-    let k = c.before.before.before.loop-k-test.true in
-    let line = c.before.line_at-line.ensures ∙ line_kept (omega (arith, s.requires.0)) s.requires.1 l.invariant.1 in
+    let l = c.loop-k in
+    let k = c.loop-k-test.true in
+    let line = c.line_at-line.ensures ∙ line_kept (omega (arith, s.requires.0)) s.requires.1 l.invariant.1 in
     (omega arith, tells_more _ (omega (arith, s.requires.0)) s.requires.1 (c.line_numbers-numbers.ensures ∙ ap (λ z. line_numbers (line_of z)) line) l.invariant.1)
 
 pub tell_lines_spec : {M : Type 1} → statement M
@@ -31,11 +31,11 @@ tell_lines_spec =
     invariant-loop-k
     decreases-loop-k
     (λ c. (omega arith, tells_none c.requires.1))
-    (λ c κs. omega (arith, c.before.loop-k-test.true, c.before.before.before.requires.0))
+    (λ c κs. omega (arith, c.loop-k-test.true, c.requires.0))
     (λ c κs. search rules)
-    (λ c. let k = c.before.before.before.loop-k-test.true in let n = c.before.before.before.before.before.requires.0 in search rules)
-    (λ c. let k = c.before.before.before.loop-k-test.true in let n = c.before.before.before.before.before.requires.0 in let m = c.before.before.before.before.loop-k.invariant.1.long in search rules)
-    (λ c. let k = c.before.before.before.loop-k-test.true in let n = c.before.before.before.before.before.requires.0 in search rules)
-    (λ c. let k = c.before.before.before.loop-k-test.true in omega arith)
+    (λ c. let k = c.loop-k-test.true in let n = c.requires.0 in search rules)
+    (λ c. let k = c.loop-k-test.true in let n = c.requires.0 in let m = c.loop-k.invariant.1.long in search rules)
+    (λ c. let k = c.loop-k-test.true in let n = c.requires.0 in search rules)
+    (λ c. let k = c.loop-k-test.true in omega arith)
     loop_again
-    (λ c. tells_all (omega (arith, c.loop-k-test.false, c.before.loop-k.invariant.0)) c.before.loop-k.invariant.1))
+    (λ c. tells_all (omega (arith, c.loop-k-test.false, c.loop-k.invariant.0)) c.loop-k.invariant.1))

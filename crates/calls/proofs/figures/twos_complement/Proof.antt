@@ -9,8 +9,8 @@ use Rattle.calls.proofs.Laws.{twos_below, twos_above}
 use Rattle.calls.proofs.figures.twos_complement.Statement.{statement}
 use Rattle.calls.proofs.figures.twos_complement.Tie as tie
 
-known : (c : tie.Then-a-lt0) → (1 ≤ c.before.size-n.result) × (18_446_744_073_709_551_615 - (c.before.size-n.result - 1) ≡ twos c.before.before.args.a)
-known c = let f = c.before.before.ranges.a in twos_below _ (simp (to_z-of_z f) at c.if-a-lt0.true) _ (simp (to_z-of_z f) at c.before.size-n.ensures)
+known : (c : tie.Then-a-lt0) → (1 ≤ c.size-n.result) × (18_446_744_073_709_551_615 - (c.size-n.result - 1) ≡ twos c.args.a)
+known c = let f = c.ranges.a in twos_below _ (simp (to_z-of_z f) at c.if-a-lt0.true) _ (simp (to_z-of_z f) at c.size-n.ensures)
 
 pub twos_complement_spec : {M : Type 1} → statement M
 twos_complement_spec =
@@ -18,6 +18,6 @@ twos_complement_spec =
     (tie.spec
     (λ c κs. search rules)
     (λ c. (known c).0)
-    (λ c. let k : c.before.size-n.result ≤ 18_446_744_073_709_551_615 = search rules in omega arith)
+    (λ c. let k : c.size-n.result ≤ 18_446_744_073_709_551_615 = search rules in omega arith)
     (λ c. (known c).1)
-    (λ c. let f = c.before.before.ranges.a in simp (to_z-of_z f) at c.before.size-n.ensures ∙ twos_above _ (simp (to_z-of_z f) at c.if-a-lt0.false)))
+    (λ c. let f = c.ranges.a in simp (to_z-of_z f) at c.size-n.ensures ∙ twos_above _ (simp (to_z-of_z f) at c.if-a-lt0.false)))

@@ -19,16 +19,16 @@ loop_holds : tie.Need-loop-i-init invariant-loop-i decreases-loop-i
 loop_holds c = (search rules, from_start _)
 
 returns : tie.Need-returns-then-not-fine_at invariant-loop-i decreases-loop-i
-returns c = sym (c.before.before.before.loop-i.invariant.1 ∙ from_wrong _ _ c.before.before.loop-i-test.true c.before.fine_at.ensures c.if-not-fine_at.true-raw)
+returns c = sym (c.loop-i.invariant.1 ∙ from_wrong _ _ c.loop-i-test.true c.fine_at.ensures c.if-not-fine_at.true-raw)
 
 loop_again : tie.Need-loop-i-preserved invariant-loop-i decreases-loop-i
-loop_again c = (search rules, c.before.before.before.loop-i.invariant.1 ∙ from_next _ _ c.before.before.loop-i-test.true c.before.fine_at.ensures c.if-not-fine_at.false-raw)
+loop_again c = (search rules, c.loop-i.invariant.1 ∙ from_next _ _ c.loop-i-test.true c.fine_at.ensures c.if-not-fine_at.false-raw)
 
 returns_2 : tie.Need-returns-then-prices-gt4 invariant-loop-i decreases-loop-i
-returns_2 c = sym (c.before.before.loop-i.invariant.1 ∙ from_extra _ _ (omega arith) c.if-prices-gt4.true)
+returns_2 c = sym (c.loop-i.invariant.1 ∙ from_extra _ _ (omega arith) c.if-prices-gt4.true)
 
 returns_3 : tie.Need-returns invariant-loop-i decreases-loop-i
-returns_3 c = sym (c.before.before.loop-i.invariant.1 ∙ from_end _ _ (omega arith) c.if-prices-gt4.false)
+returns_3 c = sym (c.loop-i.invariant.1 ∙ from_end _ _ (omega arith) c.if-prices-gt4.false)
 
 pub ask_prices_spec : {M : Type 1} → statement M
 ask_prices_spec = tie.close (tie.spec invariant-loop-i decreases-loop-i loop_holds (λ c κs. search rules) returns (λ c. search rules) (λ c. search rules) loop_again returns_2 returns_3)

@@ -4,7 +4,7 @@ use Rattle.calls.proofs.prices.prices_of.Statement.{statement}
 use Rattle.calls.proofs.prices.prices_of.Tie as tie
 
 returns : tie.Need-returns
-returns c = λ j. record { arithmetic = c.before.before.before.before.before.before.wide.ensures j; cue = c.before.before.before.before.wide-2.ensures j; pick = c.before.before.wide-3.ensures j; test = c.wide-4.ensures j }
+returns c = λ j. record { arithmetic = c.wide.ensures j; cue = c.wide-2.ensures j; pick = c.wide-3.ensures j; test = c.wide-4.ensures j }
 
 pub prices_of_spec : {M : Type 1} → statement M
 prices_of_spec =

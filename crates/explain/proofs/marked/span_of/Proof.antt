@@ -6,7 +6,7 @@ use Rattle.explain.proofs.marked.span_of.Statement.{statement}
 use Rattle.explain.proofs.marked.span_of.Tie as tie
 
 returns : tie.Need-returns-in-At
-returns c = subst (StandsIn _) c.before.line-1.given.1 c.before.before.before.Line-of.ensures.1
+returns c = subst (StandsIn _) c.in-At.is c.line_of-line.ensures.1
 
 pub span_of_spec : {M : Type 1} → statement M
 span_of_spec = tie.close (tie.spec (λ c κs. search rules) (λ c. search rules) (λ c. search rules) returns (λ c. search rules))

@@ -7,8 +7,8 @@ use Rattle.explain_margin.specs.declared.place.LinePlace.TheVariants.{At}
 use Rattle.explain.proofs.show.print_line.Statement.{statement}
 use Rattle.explain.proofs.show.print_line.Tie as tie
 
-stands : (c : tie.In-At) → StandsIn c.before.before.before.before.before.args.file.now (At c.before.line-1.given.0.0 c.before.line-1.given.0.1.0)
-stands c = subst (StandsIn _) c.before.line-1.given.1 c.before.before.before.Line-of.ensures.1
+stands : (c : tie.In-At) → StandsIn c.args.file.now (At c.in-At.start c.in-At.end)
+stands c = subst (StandsIn _) c.in-At.is c.line_of-line.ensures.1
 
 sub-smaller-size : tie.Need-overflow_sub-end
 sub-smaller-size c = omega (arith, (stands c).0)

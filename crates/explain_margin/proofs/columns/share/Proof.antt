@@ -16,16 +16,16 @@ mul-result c =
 
 returns_2 : tie.Need-returns-then-part-whole
 returns_2 c =
-    let s = c.before.before.args in
-    rw (ne_eqb _ _ c.before.if-whole-eq0.false, min-eq_left {n = s.part} {m = s.whole} (omega arith))
+    let s = c.args in
+    rw (ne_eqb _ _ c.if-whole-eq0.false, min-eq_left {n = s.part} {m = s.whole} (omega arith))
 
 mul-result-2 : tie.Need-overflow_mul-result-2
 mul-result-2 c = let s = c.before.before in record { fits = omega (arith, mul-le-mul s.requires.0 s.requires.1) }
 
 returns_3 : tie.Need-returns
 returns_3 c =
-    let s = c.before.before.args in
-    rw (ne_eqb _ _ c.before.if-whole-eq0.false, min-eq_right {n = s.whole} {m = s.part} (omega arith))
+    let s = c.args in
+    rw (ne_eqb _ _ c.if-whole-eq0.false, min-eq_right {n = s.whole} {m = s.part} (omega arith))
 
 pub share_spec : {M : Type 1} → statement M
 share_spec = tie.close (tie.spec returns mul-result (λ c. search rules) returns_2 mul-result-2 (λ c. search rules) returns_3)

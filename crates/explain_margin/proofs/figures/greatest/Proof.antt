@@ -21,13 +21,13 @@ loop_holds c = (omega arith, omega arith)
 loop_again : tie.Need-loop-i-preserved invariant-loop-i decreases-loop-i
 loop_again c =
     let s = c.before.before.before.before in
-    let l = c.before.before.before.loop-i in
+    let l = c.loop-i in
     (omega arith, rw c.larger-most.ensures (most_more s.args.column s.args.figures.now l.i l.most (omega arith) ∙ l.invariant.1))
 
 returns : tie.Need-returns invariant-loop-i decreases-loop-i
 returns c =
     let s = c.before.before in
-    let l = c.before.loop-i in
+    let l = c.loop-i in
     sym (most_none s.args.column s.args.figures.now l.i l.most (omega arith)) ∙ l.invariant.1
 
 pub greatest_spec : {M : Type 1} → statement M

@@ -23,17 +23,17 @@ loop_holds c = (omega arith, c.requires.2, refl)
 loop_again : tie.Need-loop-k-preserved invariant-loop-k decreases-loop-k
 loop_again c =
     let s = c.before.before.before.before.before in
-    let l = c.before.before.before.before.loop-k in
+    let l = c.loop-k in
     let p = c.put_line.ensures in (
       omega arith,
       p.1,
-      ap (put_lines _) p.0 ∙ put_more (lines_in s.args.lines.now) s.args.loops l.k l.figures c.before.before.line_at-line.result (line_in []) (omega arith) (omega (arith, length-map s.args.lines.now line_in, s.requires.1)) c.before.before.line_at-line.ensures ∙ l.invariant.2,
+      ap (put_lines _) p.0 ∙ put_more (lines_in s.args.lines.now) s.args.loops l.k l.figures c.line_at-line.result (line_in []) (omega arith) (omega (arith, length-map s.args.lines.now line_in, s.requires.1)) c.line_at-line.ensures ∙ l.invariant.2,
     )
 
 returns : tie.Need-returns invariant-loop-k decreases-loop-k
 returns c =
     let s = c.before.before in
-    let l = c.before.loop-k in
+    let l = c.loop-k in
     (sym (put_none (lines_in s.args.lines.now) s.args.loops l.k l.figures (omega arith)) ∙ l.invariant.2, l.invariant.1)
 
 pub put_lines_spec : {M : Type 1} → statement M

@@ -29,15 +29,15 @@ loop_holds : tie.Need-loop-i-init invariant-loop-i decreases-loop-i
 loop_holds c = (omega arith, c.requires.1, none _ _)
 
 put-own-requires : tie.Need-put_own-requires invariant-loop-i decreases-loop-i
-put-own-requires c κs = (search rules, c.before.before.before.loop-i.invariant.1)
+put-own-requires c κs = (search rules, c.loop-i.invariant.1)
 
 loop_again : tie.Need-loop-i-preserved invariant-loop-i decreases-loop-i
-loop_again c = (omega (arith, c.before.before.before.loop-i-test.true), c.put_own.ensures.1, c.put_own.ensures.0 ∙ more _ c.before.before.before.before.loop-i.i _ c.before.before.before.before.loop-i.figures c.before.before.before.before.loop-i.invariant.2)
+loop_again c = (omega (arith, c.loop-i-test.true), c.put_own.ensures.1, c.put_own.ensures.0 ∙ more _ c.loop-i.i _ c.loop-i.figures c.loop-i.invariant.2)
 
 returns : tie.Need-returns invariant-loop-i decreases-loop-i
 returns c =
-    let e : c.before.loop-i.i ≡ 256 = omega (arith, c.loop-i-test.false, c.before.loop-i.invariant.0) in
-    (c.before.loop-i.invariant.2 ∙ ap (λ n. put_ticks c.before.before.args.own.now n c.before.before.args.figures.now) e, c.before.loop-i.invariant.1)
+    let e : c.loop-i.i ≡ 256 = omega (arith, c.loop-i-test.false, c.loop-i.invariant.0) in
+    (c.loop-i.invariant.2 ∙ ap (λ n. put_ticks c.args.own.now n c.args.figures.now) e, c.loop-i.invariant.1)
 
 pub put_ticks_spec : {M : Type 1} → statement M
 put_ticks_spec = tie.close (tie.spec invariant-loop-i decreases-loop-i loop_holds (λ c. search rules) (λ c. search rules) put-own-requires (λ c. search rules) (λ c. search rules) loop_again returns)

@@ -8,7 +8,7 @@ returns : tie.Need-returns-then-depth-ge8
 returns c = rw (le-ltb _ _ c.if-depth-ge8.true)
 
 returns_2 : tie.Need-returns
-returns_2 c = rw (lt-ltb _ _ c.before.if-depth-ge8.false)
+returns_2 c = rw (lt-ltb _ _ c.if-depth-ge8.false)
 
 pub opened_spec : {M : Type 1} → statement M
 opened_spec = tie.close (tie.spec returns (λ c. search rules) (λ c. search rules) (λ c. search rules) (λ c. search rules) returns_2)

@@ -24,50 +24,50 @@ loop_holds c = (omega arith, omega arith, simp unary_clauses refl)
 
 add-end : tie.Need-overflow_add-end invariant-loop-i decreases-loop-i
 add-end c =
-    let file = c.before.before.before.before.before.args.file.now in
-    let l = c.before.before.before.loop-i in
+    let file = c.args.file.now in
+    let l = c.loop-i in
     let p : c.position.result ≡ before lf (drop l.at file) = c.position.ensures ∙ ap (before lf) (part_rest file l.at) in
     record { fits = omega (arith, p, line_inside file l.at l.invariant.1) }
 
 returns : tie.Need-returns-then-end-file invariant-loop-i decreases-loop-i
 returns c =
-    let file = c.before.before.before.before.before.before.args.file.now in
-    let k = c.before.before.before.before.before.before.args.k in
-    let l = c.before.before.before.before.loop-i in
-    let p : c.before.position.result ≡ before lf (drop l.at file) = c.before.position.ensures ∙ ap (before lf) (part_rest file l.at) in
-    let n : k - l.i ≡ suc (k - (l.i + 1)) = omega (arith, c.before.before.before.loop-i-test.true) in
+    let file = c.args.file.now in
+    let k = c.args.k in
+    let l = c.loop-i in
+    let p : c.position.result ≡ before lf (drop l.at file) = c.position.ensures ∙ ap (before lf) (part_rest file l.at) in
+    let n : k - l.i ≡ suc (k - (l.i + 1)) = omega (arith, c.loop-i-test.true) in
     (sym (l.invariant.2 ∙ ap (line_from l.at _) n ∙ line_last file l.at (omega (arith, p, c.if-end-file.true)) _), tt)
 
 add_at : tie.Need-overflow_add-at invariant-loop-i decreases-loop-i
 add_at c =
-    let file = c.before.before.before.before.before.before.args.file.now in
-    let l = c.before.before.before.before.loop-i in
-    let p : c.before.position.result ≡ before lf (drop l.at file) = c.before.position.ensures ∙ ap (before lf) (part_rest file l.at) in
+    let file = c.args.file.now in
+    let l = c.loop-i in
+    let p : c.position.result ≡ before lf (drop l.at file) = c.position.ensures ∙ ap (before lf) (part_rest file l.at) in
     record { fits = omega (arith, p, c.if-end-file.false, line_inside file l.at l.invariant.1) }
 
 loop_again : tie.Need-loop-i-preserved invariant-loop-i decreases-loop-i
 loop_again c =
-    let file = c.before.before.before.before.before.before.args.file.now in
-    let k = c.before.before.before.before.before.before.args.k in
-    let l = c.before.before.before.before.loop-i in
-    let p : c.before.position.result ≡ before lf (drop l.at file) = c.before.position.ensures ∙ ap (before lf) (part_rest file l.at) in
+    let file = c.args.file.now in
+    let k = c.args.k in
+    let l = c.loop-i in
+    let p : c.position.result ≡ before lf (drop l.at file) = c.position.ensures ∙ ap (before lf) (part_rest file l.at) in
     let inside : l.at + before lf (drop l.at file) < length file = omega (arith, p, c.if-end-file.false, line_inside file l.at l.invariant.1) in
-    let n : k - l.i ≡ suc (k - (l.i + 1)) = omega (arith, c.before.before.before.loop-i-test.true) in
-    (omega (arith, c.before.before.before.loop-i-test.true), omega (arith, p), rw p (l.invariant.2 ∙ ap (line_from l.at _) n ∙ line_next file l.at inside _))
+    let n : k - l.i ≡ suc (k - (l.i + 1)) = omega (arith, c.loop-i-test.true) in
+    (omega (arith, c.loop-i-test.true), omega (arith, p), rw p (l.invariant.2 ∙ ap (line_from l.at _) n ∙ line_next file l.at inside _))
 
 add-end-2 : tie.Need-overflow_add-end-2 invariant-loop-i decreases-loop-i
 add-end-2 c =
-    let file = c.before.before.before.before.before.args.file.now in
-    let l = c.before.before.before.loop-i in
+    let file = c.args.file.now in
+    let l = c.loop-i in
     let p : c.position-2.result ≡ before lf (drop l.at file) = c.position-2.ensures ∙ ap (before lf) (part_rest file l.at) in
     record { fits = omega (arith, p, line_inside file l.at l.invariant.1) }
 
 returns_2 : tie.Need-returns invariant-loop-i decreases-loop-i
 returns_2 c =
-    let file = c.before.before.before.before.before.args.file.now in
-    let l = c.before.before.before.loop-i in
+    let file = c.args.file.now in
+    let l = c.loop-i in
     let p : c.position-2.result ≡ before lf (drop l.at file) = c.position-2.ensures ∙ ap (before lf) (part_rest file l.at) in
-    let n : c.before.before.before.before.before.args.k - l.i ≡ 0 = omega (arith, c.before.before.loop-i-test.false) in
+    let n : c.args.k - l.i ≡ 0 = omega (arith, c.loop-i-test.false) in
     (rw p (sym (l.invariant.2 ∙ ap (line_from l.at _) n ∙ line_here file l.at)), (omega arith, omega (arith, p, line_inside file l.at l.invariant.1)))
 
 pub line_of_spec : {M : Type 1} → statement M

@@ -6,22 +6,22 @@ use Rattle.explain_margin.proofs.place.place_of.Statement.{statement}
 use Rattle.explain_margin.proofs.place.place_of.Tie as tie
 
 returns : tie.Need-returns-then-between
-returns c = rw (sym c.before.between.ensures ∙ c.if-between.true)
+returns c = rw (sym c.between.ensures ∙ c.if-between.true)
 
 returns_2 : tie.Need-returns-then-number-eq17
-returns_2 c = rw (sym c.before.before.between.ensures ∙ c.before.if-between.false, eq-eqb _ _ c.if-number-eq17.true)
+returns_2 c = rw (sym c.between.ensures ∙ c.if-between.false, eq-eqb _ _ c.if-number-eq17.true)
 
 returns_3 : tie.Need-returns-then-between-2
 returns_3 c =
-    rw (sym c.before.before.before.before.between.ensures ∙ c.before.before.before.if-between.false, ne_eqb _ _ c.before.before.if-number-eq17.false, sym c.before.between-2.ensures ∙ c.if-between-2.true)
+    rw (sym c.between.ensures ∙ c.if-between.false, ne_eqb _ _ c.if-number-eq17.false, sym c.between-2.ensures ∙ c.if-between-2.true)
 
 returns-4 : tie.Need-returns-then-number-eq19
 returns-4 c =
-    rw (sym c.before.before.before.before.before.between.ensures ∙ c.before.before.before.before.if-between.false, ne_eqb _ _ c.before.before.before.if-number-eq17.false, sym c.before.before.between-2.ensures ∙ c.before.if-between-2.false, eq-eqb _ _ c.if-number-eq19.true)
+    rw (sym c.between.ensures ∙ c.if-between.false, ne_eqb _ _ c.if-number-eq17.false, sym c.between-2.ensures ∙ c.if-between-2.false, eq-eqb _ _ c.if-number-eq19.true)
 
 returns-5 : tie.Need-returns
 returns-5 c =
-    rw (sym c.before.before.before.before.before.between.ensures ∙ c.before.before.before.before.if-between.false, ne_eqb _ _ c.before.before.before.if-number-eq17.false, sym c.before.before.between-2.ensures ∙ c.before.if-between-2.false, ne_eqb _ _ c.if-number-eq19.false)
+    rw (sym c.between.ensures ∙ c.if-between.false, ne_eqb _ _ c.if-number-eq17.false, sym c.between-2.ensures ∙ c.if-between-2.false, ne_eqb _ _ c.if-number-eq19.false)
 
 pub place_of_spec : {M : Type 1} → statement M
 place_of_spec = tie.close (tie.spec (λ c κs. search rules) returns returns_2 (λ c κs. search rules) returns_3 returns-4 returns-5)

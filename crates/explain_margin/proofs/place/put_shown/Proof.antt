@@ -21,13 +21,13 @@ loop_holds c = (omega arith, refl, refl)
 
 loop_again : tie.Need-loop-i-preserved invariant-loop-i decreases-loop-i
 loop_again c =
-    let l = c.before.before.before.loop-i in
-    (omega arith, search rules, shown_more _ _ _ _ _ (omega (arith, c.before.before.before.before.smaller_size-n.ensures)) (omega (arith, c.before.before.before.before.smaller_size-n.ensures)) l.invariant.2 c.shown.ensures)
+    let l = c.loop-i in
+    (omega arith, search rules, shown_more _ _ _ _ _ (omega (arith, c.smaller_size-n.ensures)) (omega (arith, c.smaller_size-n.ensures)) l.invariant.2 c.shown.ensures)
 
 returns : tie.Need-returns invariant-loop-i decreases-loop-i
 returns c =
-    let l = c.before.loop-i in
-    let n = c.before.before.smaller_size-n in
+    let l = c.loop-i in
+    let n = c.smaller_size-n in
     let same : l.i ≡ n.result = omega (arith, c.loop-i-test.false) in
     record { count = n.ensures; shown = rw (sym same) l.invariant.2 }
 

@@ -8,7 +8,7 @@ use Rattle.expressions.proofs.leaves.at_mark.Tie as tie
 
 returns : tie.Need-returns-then-at-s
 unfolding at_mark
-returns c = let s = c.before.before.before.before.args in c.is_mark.ensures ∙ rw (drop-cons s.s.now s.at 0 c.before.before.if-at-s.true)
+returns c = let s = c.args in c.is_mark.ensures ∙ rw (drop-cons s.s.now s.at 0 c.if-at-s.true)
 
 returns_2 : tie.Need-returns
 unfolding at_mark

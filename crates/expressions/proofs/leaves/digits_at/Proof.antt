@@ -15,25 +15,25 @@ abbrev decreases-loop-i : tie.decreases-loop-i
 decreases-loop-i s at value₀ i₀ value i = length s - i
 
 more-requires : tie.Need-more-value-requires invariant-loop-i decreases-loop-i
-more-requires c κs = (c.before.before.before.before.loop-i.invariant.small, sym c.before.is_digit.ensures ∙ c.if-is_digit.true)
+more-requires c κs = (c.loop-i.invariant.small, sym c.is_digit.ensures ∙ c.if-is_digit.true)
 
 loop_again : tie.Need-loop-i-preserved invariant-loop-i decreases-loop-i
 loop_again c = let test = c.before.before.before.before in
-    rw add-one (upto_more _ _ _ _ test.before.loop-i.invariant test.loop-i-test.true (sym c.before.before.is_digit.ensures ∙ c.before.if-is_digit.true) _ c.more-value.ensures)
+    rw add-one (upto_more _ _ _ _ test.loop-i.invariant test.loop-i-test.true (sym c.is_digit.ensures ∙ c.if-is_digit.true) _ c.more-value.ensures)
 
 cast-t11 : tie.Need-overflow_cast-result invariant-loop-i decreases-loop-i
-cast-t11 c = omega (arith, c.before.before.before.before.loop-i.invariant.small)
+cast-t11 c = omega (arith, c.loop-i.invariant.small)
 
 returns : tie.Need-returns-else-is_digit invariant-loop-i decreases-loop-i
 returns c = let test = c.before.before.before in
-    let (a, b) = upto_end _ _ _ _ test.before.loop-i.invariant (no_digit _ _ test.loop-i-test.true (sym c.before.is_digit.ensures ∙ c.if-is_digit.false)) in
+    let (a, b) = upto_end _ _ _ _ test.loop-i.invariant (no_digit _ _ test.loop-i-test.true (sym c.is_digit.ensures ∙ c.if-is_digit.false)) in
     record { next = a; value = b }
 
 cast-t12 : tie.Need-overflow_cast-result-2 invariant-loop-i decreases-loop-i
-cast-t12 c = omega (arith, c.before.loop-i.invariant.small)
+cast-t12 c = omega (arith, c.loop-i.invariant.small)
 
 returns_2 : tie.Need-returns invariant-loop-i decreases-loop-i
-returns_2 c = let (a, b) = upto_end _ _ _ _ c.before.loop-i.invariant (no_byte _ _ c.loop-i-test.false) in record { next = a; value = b }
+returns_2 c = let (a, b) = upto_end _ _ _ _ c.loop-i.invariant (no_byte _ _ c.loop-i-test.false) in record { next = a; value = b }
 
 pub digits_at_spec : {M : Type 1} → statement M
 digits_at_spec =

@@ -9,6 +9,6 @@ pub is_mark_spec : {M : Type 1} → statement M
 is_mark_spec =
     tie.close
     (tie.spec
-    (λ c. let h = c.if-b-lt40.true in unfold is_mark in rw (lt-leb _ _ h, ne_eqb _ 45 (λ (e : c.before.args.b ≡ 45). omega arith)))
-    (λ c. unfold is_mark in simp (le-leb _ _ c.before.if-b-lt40.false, le-leb _ _ c.if-b-le43.true))
-    (λ c. unfold is_mark in simp (le-leb _ _ c.before.if-b-lt40.false, lt-leb _ _ c.if-b-le43.false)))
+    (λ c. let h = c.if-b-lt40.true in unfold is_mark in rw (lt-leb _ _ h, ne_eqb _ 45 (λ (e : c.args.b ≡ 45). omega arith)))
+    (λ c. unfold is_mark in simp (le-leb _ _ c.if-b-lt40.false, le-leb _ _ c.if-b-le43.true))
+    (λ c. unfold is_mark in simp (le-leb _ _ c.if-b-lt40.false, lt-leb _ _ c.if-b-le43.false)))

@@ -10,8 +10,8 @@ use Rattle.expressions.proofs.leaves.leaf_of.Tie as tie
 
 returns_2 : tie.Need-returns-then-negative
 unfolding leaf_of
-returns_2 c = let h = c.before.before.before.before.before.requires in
-    rw (c.before.before.before.before.if-n.true, c.before.before.if-negative.true, ne_eqb _ _ c.if-n-eq0.false, minus_is _ h, to_z-of_z w32 _ (minus_fits _ h))
+returns_2 c = let h = c.requires in
+    rw (c.if-n.true, c.if-negative.true, ne_eqb _ _ c.if-n-eq0.false, minus_is _ h, to_z-of_z w32 _ (minus_fits _ h))
 
 pub leaf_of_spec : {M : Type 1} → statement M
 unfolding leaf_of
@@ -19,8 +19,8 @@ leaf_of_spec =
     tie.close
     (tie.spec
     (λ c. search rules)
-    (λ c. rw (c.before.before.before.before.if-n.true, c.before.before.if-negative.true, eq-eqb _ _ c.if-n-eq0.true))
-    (λ c. let h = c.before.before.before.before.before.requires in rw (minus_is _ h) (minus_fits _ h))
+    (λ c. rw (c.if-n.true, c.if-negative.true, eq-eqb _ _ c.if-n-eq0.true))
+    (λ c. let h = c.requires in rw (minus_is _ h) (minus_fits _ h))
     returns_2
-    (λ c. rw (c.before.before.if-n.true, c.if-negative.false, to_z_pos w32 c.before.before.before.args.n.value (omega (arith, c.before.before.before.requires))))
+    (λ c. rw (c.if-n.true, c.if-negative.false, to_z_pos w32 c.args.n.value (omega (arith, c.requires))))
     (λ c. rw c.if-n.false))

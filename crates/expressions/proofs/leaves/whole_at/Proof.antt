@@ -10,25 +10,25 @@ use Rattle.expressions.proofs.leaves.whole_at.Statement.{statement}
 use Rattle.expressions.proofs.leaves.whole_at.Tie as tie
 
 returns : tie.Need-returns-then-next-at
-returns c = let d = c.before.digits_at-d.ensures in
+returns c = let d = c.digits_at-d.ensures in
     whole_bad _ _ _ d (whole_none _ (omega (arith, d.next, c.if-next-at.true)))
 
 shared-slice-read-if2 : tie.Need-bounds-s-at
-shared-slice-read-if2 c = let d = c.before.before.digits_at-d.ensures in
-    omega (arith, d.next, c.before.if-next-at.false, count_within c.before.before.before.before.args.s.now c.before.before.before.before.args.at (omega (arith, d.next, c.before.if-next-at.false)))
+shared-slice-read-if2 c = let d = c.digits_at-d.ensures in
+    omega (arith, d.next, c.if-next-at.false, count_within c.args.s.now c.args.at (omega (arith, d.next, c.if-next-at.false)))
 
 returns_2 : tie.Need-returns-then-at-next
-returns_2 c = let d = c.before.before.before.before.digits_at-d.ensures in
-    let a = c.before.before.before.before.before.before.args in
-    whole_bad _ _ _ d (whole_zero _ (omega (arith, d.next, c.if-at-next.true)) (first_at a.s.now a.at (omega (arith, d.next, c.if-at-next.true)) ∙ c.before.if-s-at-eq48.true))
+returns_2 c = let d = c.digits_at-d.ensures in
+    let a = c.args in
+    whole_bad _ _ _ d (whole_zero _ (omega (arith, d.next, c.if-at-next.true)) (first_at a.s.now a.at (omega (arith, d.next, c.if-at-next.true)) ∙ c.if-s-at-eq48.true))
 
 returns_3 : tie.Need-returns
 returns_3 c =
-    let d = c.before.before.before.before.digits_at-d.ensures in
-    let a = c.before.before.before.before.before.before.args in
-    let some : 0 < digit_count (drop a.at a.s.now) = omega (arith, d.next, c.before.before.before.if-next-at.false) in
+    let d = c.digits_at-d.ensures in
+    let a = c.args in
+    let some : 0 < digit_count (drop a.at a.s.now) = omega (arith, d.next, c.if-next-at.false) in
     let zero : get_or (drop a.at a.s.now) 0 0 ≡ 48 → digit_count (drop a.at a.s.now) ≤ 1 =
-    ⊎_elim (λ w z. omega (arith, d.next, w.1.left)) (λ w z. absurd (w.left (sym (first_at a.s.now a.at some) ∙ z))) c.before.if-s-at-eq48.branch in
+    ⊎_elim (λ w z. omega (arith, d.next, w.1.left)) (λ w z. absurd (w.left (sym (first_at a.s.now a.at some) ∙ z))) c.if-s-at-eq48.branch in
     whole_good _ _ _ d some zero _ c.at_mark.ensures
 
 pub whole_at_spec : {M : Type 1} → statement M

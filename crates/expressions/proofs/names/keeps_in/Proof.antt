@@ -25,13 +25,13 @@ same : {r : Bool} (set : List Bool) (word : List ℕ) → PassedWord word → ke
 same set word p e body h = sym e ∙ ap (λ f. kept f word) (fun_ext h) ∙ passed_keeps body word p
 
 returns : tie.Need-returns-then-names invariant-loop-i decreases-loop-i
-returns c = let l = c.before.before.before.loop-i in let s = c.before.before.before.before.before in same s.args.set s.args.word.now s.requires (named_at _ _ l.i c.before.before.loop-i-test.true l.invariant (sym c.before.names.ensures ∙ c.if-names.true))
+returns c = let l = c.loop-i in let s = c.before.before.before.before.before in same s.args.set s.args.word.now s.requires (named_at _ _ l.i c.loop-i-test.true l.invariant (sym c.names.ensures ∙ c.if-names.true))
 
 loop_again : tie.Need-loop-i-preserved invariant-loop-i decreases-loop-i
-loop_again c = let l = c.before.before.before.loop-i in unnamed_more _ _ l.i c.before.before.loop-i-test.true l.invariant (sym c.before.names.ensures ∙ c.if-names.false)
+loop_again c = let l = c.loop-i in unnamed_more _ _ l.i c.loop-i-test.true l.invariant (sym c.names.ensures ∙ c.if-names.false)
 
 returns_2 : tie.Need-returns invariant-loop-i decreases-loop-i
-returns_2 c = let l = c.before.loop-i in let s = c.before.before.before in same s.args.set s.args.word.now s.requires (unnamed_all _ _ l.i c.loop-i-test.false l.invariant)
+returns_2 c = let l = c.loop-i in let s = c.before.before.before in same s.args.set s.args.word.now s.requires (unnamed_all _ _ l.i c.loop-i-test.false l.invariant)
 
 pub keeps_in_spec : {M : Type 1} → statement M
 keeps_in_spec =

@@ -8,8 +8,8 @@ use Rattle.expressions.proofs.names.names.Tie as tie
 
 returns : tie.Need-returns-then-word-i-eq118
 returns c =
-    let n : length c.before.before.before.before.before.args.set ≡ 16 = search rules in
-    rw (eq-eqb _ _ c.before.before.if-word-i-eq118.true, c.member.ensures, c.before.digits_at.ensures.value) (cut_member c.before.before.before.before.before.args.set n _)
+    let n : length c.args.set ≡ 16 = search rules in
+    rw (eq-eqb _ _ c.if-word-i-eq118.true, c.member.ensures, c.digits_at.ensures.value) (cut_member c.args.set n _)
 
 returns_2 : tie.Need-returns
 returns_2 c = rw (ne_eqb _ _ c.if-word-i-eq118.false)

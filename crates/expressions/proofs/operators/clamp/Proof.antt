@@ -14,19 +14,19 @@ sub-if1 c = search rules
 returns : tie.Need-returns-then-s
 unfolding lowest highest
 returns c =
-    let t = simp (to_z-of_z c.before.ranges.s) at c.if-s.true in
-    omega (ints, clamp_parts lowest highest c.before.args.s)
+    let t = simp (to_z-of_z c.ranges.s) at c.if-s.true in
+    omega (ints, clamp_parts lowest highest c.args.s)
 
 returns_2 : tie.Need-returns-then-s-gt-L
 unfolding lowest highest
 returns_2 c =
-    let t = simp (to_z-of_z c.before.before.ranges.s) at c.if-s-gt-L.true in
-    omega (ints, clamp_parts lowest highest c.before.before.args.s)
+    let t = simp (to_z-of_z c.ranges.s) at c.if-s-gt-L.true in
+    omega (ints, clamp_parts lowest highest c.args.s)
 
-inside : (c : tie.Else-s-gt-L) → SFits w32 c.before.before.args.s
+inside : (c : tie.Else-s-gt-L) → SFits w32 c.args.s
 inside c =
-    let t = simp (to_z-of_z c.before.before.ranges.s) at c.before.if-s.false in
-    let u = simp (to_z-of_z c.before.before.ranges.s) at c.if-s-gt-L.false in
+    let t = simp (to_z-of_z c.ranges.s) at c.if-s.false in
+    let u = simp (to_z-of_z c.ranges.s) at c.if-s-gt-L.false in
     omega ints
 
 cast-result : tie.Need-overflow_cast-result
@@ -35,9 +35,9 @@ cast-result c = let h = inside c in search rules
 returns_3 : tie.Need-returns
 unfolding lowest highest
 returns_3 c =
-    let t = simp (to_z-of_z c.before.before.ranges.s) at c.before.if-s.false in
-    let u = simp (to_z-of_z c.before.before.ranges.s) at c.if-s-gt-L.false in
-    simp (to_z-of_z c.before.before.ranges.s, to_z-of_z (inside c)) (omega (ints, clamp_parts lowest highest c.before.before.args.s))
+    let t = simp (to_z-of_z c.ranges.s) at c.if-s.false in
+    let u = simp (to_z-of_z c.ranges.s) at c.if-s-gt-L.false in
+    simp (to_z-of_z c.ranges.s, to_z-of_z (inside c)) (omega (ints, clamp_parts lowest highest c.args.s))
 
 pub clamp_spec : {M : Type 1} → statement M
 clamp_spec = tie.close (tie.spec sub-if1 returns returns_2 cast-result returns_3)

@@ -9,10 +9,10 @@ use Rattle.expressions.proofs.operators.held.Tie as tie
 returns : tie.Need-returns
 unfolding clamped
 returns c =
-    let f = c.before.before.before.before.ranges in
-    let g0 : SFits w32 c.before.before.before.clamp.result = sfits_of c.before.before.before.clamp.type_inv in
-    let g1 : SFits w32 c.before.before.clamp-2.result = sfits_of c.before.before.clamp-2.type_inv in
-    rw (to_z-of_z g0, to_z-of_z g1, c.before.before.before.clamp.ensures, c.before.before.clamp-2.ensures, c.before.within.ensures, c.within-2.ensures) (simp (to_z-of_z f.least, to_z-of_z f.most))
+    let f = c.ranges in
+    let g0 : SFits w32 c.clamp.result = sfits_of c.clamp.type_inv in
+    let g1 : SFits w32 c.clamp-2.result = sfits_of c.clamp-2.type_inv in
+    rw (to_z-of_z g0, to_z-of_z g1, c.clamp.ensures, c.clamp-2.ensures, c.within.ensures, c.within-2.ensures) (simp (to_z-of_z f.least, to_z-of_z f.most))
 
 pub held_spec : {M : Type 1} → statement M
 held_spec = tie.close (tie.spec (λ c κs. search rules) (λ c κs. search rules) (λ c κs. search rules) (λ c κs. search rules) returns)

@@ -18,35 +18,35 @@ returns c = (rw (eq-eqb _ _ c.if-op-eq-FIRST.true), refl)
 
 cast-t8 : tie.Need-overflow_cast-result
 cast-t8 c =
-    let o = c.before.before.operate-z in
+    let o = c.operate-z in
     let g : SFits w64 o.result = sfits_of o.type_inv in
-    rw (to_z-of_z g) (limits_fit _ (simp (to_z-of_z g) at (sym c.before.within.ensures ∙ c.if-within.true)))
+    rw (to_z-of_z g) (limits_fit _ (simp (to_z-of_z g) at (sym c.within.ensures ∙ c.if-within.true)))
 
 returns_2 : tie.Need-returns-then-within
 unfolding joined_by
 returns_2 c =
-    let w = c.before.before.before.within in
-    let o = c.before.before.before.before.operate-z in
+    let w = c.within in
+    let o = c.operate-z in
     let i = c.before.before.before.before.before.before.before in
-    let s = i.before.args in
+    let s = i.args in
     let f0 : SFits w32 s.a.number = search rules in
     let f1 : SFits w32 s.b.number = search rules in
     let g : SFits w64 o.result = sfits_of o.type_inv in
     let e : o.result ≡ operate (operator_of s.op) s.a.number s.b.number = simp (to_z-of_z f0, to_z-of_z f1) at o.ensures in
-    let yes : in_limits o.result ≡ true = simp (to_z-of_z g) at (sym w.ensures ∙ c.before.before.if-within.true) in
+    let yes : in_limits o.result ≡ true = simp (to_z-of_z g) at (sym w.ensures ∙ c.if-within.true) in
     (rw (ne_eqb _ _ i.if-op-eq-FIRST.false, to_z-of_z g, to_z-of_z (limits_fit _ yes), e) (run_within _ _ _ (rw e at yes) s.a.past s.b.past), refl)
 
 returns_3 : tie.Need-returns
 unfolding joined_by
 returns_3 c =
-    let o = c.before.before.operate-z in
+    let o = c.operate-z in
     let i = c.before.before.before.before.before in
-    let s = i.before.args in
+    let s = i.args in
     let f0 : SFits w32 s.a.number = search rules in
     let f1 : SFits w32 s.b.number = search rules in
     let g : SFits w64 o.result = sfits_of o.type_inv in
     let e : o.result ≡ operate (operator_of s.op) s.a.number s.b.number = simp (to_z-of_z f0, to_z-of_z f1) at o.ensures in
-    let no : in_limits o.result ≡ false = simp (to_z-of_z g) at (sym c.before.within.ensures ∙ c.if-within.false) in
+    let no : in_limits o.result ≡ false = simp (to_z-of_z g) at (sym c.within.ensures ∙ c.if-within.false) in
     (rw (ne_eqb _ _ i.if-op-eq-FIRST.false) (run_past _ _ _ (rw e at no) s.a.past s.b.past), refl)
 
 pub joined_run_spec : {M : Type 1} → statement M

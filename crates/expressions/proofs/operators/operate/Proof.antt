@@ -22,14 +22,14 @@ add_result c = let h = known c.before.before in simp (to_z-of_z h.x32, to_z-of_z
 
 returns_2 : tie.Need-returns-then-op-eq43
 unfolding operate operator_of
-returns_2 c = let h = known c.before.before in rw (ne_eqb _ _ c.before.if-op-eq42.false, eq-eqb _ _ c.if-op-eq43.true) (simp (to_z-of_z h.x32, to_z-of_z h.y32, to_z-of_z h.x64, to_z-of_z h.y64, to_z-of_z h.sum))
+returns_2 c = let h = known c.before.before in rw (ne_eqb _ _ c.if-op-eq42.false, eq-eqb _ _ c.if-op-eq43.true) (simp (to_z-of_z h.x32, to_z-of_z h.y32, to_z-of_z h.x64, to_z-of_z h.y64, to_z-of_z h.sum))
 
 sub-result : tie.Need-overflow_sub-result
 sub-result c = let h = known c.before.before in simp (to_z-of_z h.x32, to_z-of_z h.y32, to_z-of_z h.x64, to_z-of_z h.y64) h.difference
 
 returns_3 : tie.Need-returns
 unfolding operate operator_of
-returns_3 c = let h = known c.before.before in rw (ne_eqb _ _ c.before.if-op-eq42.false, ne_eqb _ _ c.if-op-eq43.false) (simp (to_z-of_z h.x32, to_z-of_z h.y32, to_z-of_z h.x64, to_z-of_z h.y64, to_z-of_z h.difference))
+returns_3 c = let h = known c.before.before in rw (ne_eqb _ _ c.if-op-eq42.false, ne_eqb _ _ c.if-op-eq43.false) (simp (to_z-of_z h.x32, to_z-of_z h.y32, to_z-of_z h.x64, to_z-of_z h.y64, to_z-of_z h.difference))
 
 pub operate_spec : {M : Type 1} → statement M
 operate_spec =

@@ -11,15 +11,15 @@ use Rattle.expressions.proofs.operators.within.Tie as tie
 returns : tie.Need-returns-then-z-geminus1000000000
 unfolding lowest highest
 returns c =
-    let f = c.before.ranges.z in
-    let a : le_z (negsuc 999999999) c.before.args.z ≡ true = simp (to_z-of_z f) at c.if-z-geminus1000000000.true in
+    let f = c.ranges.z in
+    let a : le_z (negsuc 999999999) c.args.z ≡ true = simp (to_z-of_z f) at c.if-z-geminus1000000000.true in
     simp (to_z-of_z f, a)
 
 returns_2 : tie.Need-returns-else-z-geminus1000000000
 unfolding lowest highest
 returns_2 c =
-    let f = c.before.ranges.z in
-    let a : le_z (negsuc 999999999) c.before.args.z ≡ false = simp (to_z-of_z f) at c.if-z-geminus1000000000.false in
+    let f = c.ranges.z in
+    let a : le_z (negsuc 999999999) c.args.z ≡ false = simp (to_z-of_z f) at c.if-z-geminus1000000000.false in
     simp (to_z-of_z f, a)
 
 pub within_spec : {M : Type 1} → statement M

@@ -7,11 +7,11 @@ use Rattle.line_causes.proofs.breaks.is_leaf.Tie as tie
 
 returns : tie.Need-returns-then-is_number
 unfolding is_leaf
-returns c = rw (sym c.before.is_number.ensures ∙ c.if-is_number.true) c.if-is_number.true
+returns c = rw (sym c.is_number.ensures ∙ c.if-is_number.true) c.if-is_number.true
 
 returns_2 : tie.Need-returns-else-is_number
 unfolding is_leaf
-returns_2 c = rw (sym c.before.before.is_number.ensures ∙ c.before.if-is_number.false) c.is_variable_lem.ensures
+returns_2 c = rw (sym c.is_number.ensures ∙ c.if-is_number.false) c.is_variable.ensures
 
 pub is_leaf_spec : {M : Type 1} → statement M
 is_leaf_spec = tie.close (tie.spec (λ c κs. search rules) (λ c κs. search rules) returns returns_2)

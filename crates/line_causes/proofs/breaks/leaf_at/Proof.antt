@@ -12,10 +12,10 @@ add-end : tie.Need-overflow_add-end
 add-end c = let h = c.to_mark.ensures.1 in search rules
 
 part-is-leaf-end : tie.Need-slice-bounds-is-leaf-end
-part-is-leaf-end c = let h = c.to_mark.ensures.1 in search rules
+part-is-leaf-end c = let h = c.to-mark.ensures.1 in search rules
 
 returns : tie.Need-returns
-returns c = c.is_IsLeaf.ensures ∙ ap is_leaf (leaf_part c.before.before.before.before.before.args.t.now c.before.before.before.before.before.args.at _ c.before.before.to_mark.ensures.0)
+returns c = c.is_IsLeaf.ensures ∙ ap is_leaf (leaf_part c.args.t.now c.args.at _ c.to_mark.ensures.0)
 
 pub leaf_at_spec : {M : Type 1} → statement M
 leaf_at_spec = tie.close (tie.spec (λ c. search rules) (λ c. search rules) (λ c. search rules) (λ c. search rules) (λ c κs. search rules) add-end (λ c. search rules) (λ c. search rules) part-is-leaf-end (λ c κs. search rules) returns)

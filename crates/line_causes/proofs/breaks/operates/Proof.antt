@@ -11,11 +11,11 @@ returns c = rw (eq-eqb _ _ c.if-b-eq42.true)
 
 returns_2 : tie.Need-returns-then-b-eq43
 unfolding operates
-returns_2 c = rw (ne_eqb _ _ c.before.if-b-eq42.false, eq-eqb _ _ c.if-b-eq43.true)
+returns_2 c = rw (ne_eqb _ _ c.if-b-eq42.false, eq-eqb _ _ c.if-b-eq43.true)
 
 returns_3 : tie.Need-returns
 unfolding operates
-returns_3 c = rw (ne_eqb _ _ c.before.if-b-eq42.false, ne_eqb _ _ c.if-b-eq43.false)
+returns_3 c = rw (ne_eqb _ _ c.if-b-eq42.false, ne_eqb _ _ c.if-b-eq43.false)
 
 pub operates_spec : {M : Type 1} → statement M
 operates_spec = tie.close (tie.spec returns returns_2 returns_3)

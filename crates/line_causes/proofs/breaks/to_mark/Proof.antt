@@ -17,13 +17,13 @@ abbrev decreases-loop-i : tie.decreases-loop-i
 decreases-loop-i s i₀ i = length s - i
 
 returns : tie.Need-returns-then-is_mark invariant-loop-i decreases-loop-i
-returns c = (sym (c.before.before.before.before.loop-i.invariant.1 ∙ ap (λ n. c.before.before.before.before.loop-i.i + n) (mark_here _ _ c.before.before.before.loop-i-test.true (sym c.before.is_mark.ensures ∙ c.if-is_mark.true)) ∙ omega arith), c.before.before.before.before.loop-i.invariant.0)
+returns c = (sym (c.loop-i.invariant.1 ∙ ap (λ n. c.loop-i.i + n) (mark_here _ _ c.loop-i-test.true (sym c.is_mark.ensures ∙ c.if-is_mark.true)) ∙ omega arith), c.loop-i.invariant.0)
 
 loop_again : tie.Need-loop-i-preserved invariant-loop-i decreases-loop-i
-loop_again c = (omega arith, rw add-one (c.before.before.before.before.loop-i.invariant.1 ∙ ap (λ n. c.before.before.before.before.loop-i.i + n) (mark_on _ _ c.before.before.before.loop-i-test.true (sym c.before.is_mark.ensures ∙ c.if-is_mark.false)) ∙ omega arith))
+loop_again c = (omega arith, rw add-one (c.loop-i.invariant.1 ∙ ap (λ n. c.loop-i.i + n) (mark_on _ _ c.loop-i-test.true (sym c.is_mark.ensures ∙ c.if-is_mark.false)) ∙ omega arith))
 
 returns_2 : tie.Need-returns invariant-loop-i decreases-loop-i
-returns_2 c = (sym (c.before.loop-i.invariant.1 ∙ ap (λ n. c.before.loop-i.i + n) (mark_end _ _ c.loop-i-test.false) ∙ omega arith), c.before.loop-i.invariant.0)
+returns_2 c = (sym (c.loop-i.invariant.1 ∙ ap (λ n. c.loop-i.i + n) (mark_end _ _ c.loop-i-test.false) ∙ omega arith), c.loop-i.invariant.0)
 
 pub to_mark_spec : {M : Type 1} → statement M
 to_mark_spec = tie.close (tie.spec invariant-loop-i decreases-loop-i (λ c. search rules) (λ c. search rules) (λ c κs. search rules) returns (λ c. search rules) (λ c. search rules) loop_again returns_2)

@@ -7,11 +7,11 @@ use Rattle.line_causes.proofs.shapes.is_comparison.Tie as tie
 
 returns : tie.Need-returns-then-is_ordered
 unfolding is_comparison
-returns c = rw (sym c.before.is_ordered.ensures ∙ c.if-is_ordered.true) c.if-is_ordered.true
+returns c = rw (sym c.is_ordered.ensures ∙ c.if-is_ordered.true) c.if-is_ordered.true
 
 returns_2 : tie.Need-returns-else-is_ordered
 unfolding is_comparison
-returns_2 c = rw (sym c.before.before.before.before.is_ordered.ensures ∙ c.before.before.before.if-is_ordered.false) c.is_either.ensures
+returns_2 c = rw (sym c.is_ordered.ensures ∙ c.if-is_ordered.false) c.is_either.ensures
 
 pub is_comparison_spec : {M : Type 1} → statement M
 is_comparison_spec = tie.close (tie.spec (λ c κs. search rules) (λ c. search rules) (λ c. search rules) (λ c κs. search rules) returns returns_2)

@@ -7,11 +7,11 @@ use Rattle.line_causes.proofs.shapes.is_step.Tie as tie
 
 returns : tie.Need-returns-then-is_either
 unfolding is_step
-returns c = rw (sym c.before.is_either.ensures ∙ c.if-is_either.true) c.if-is_either.true
+returns c = rw (sym c.is_either.ensures ∙ c.if-is_either.true) c.if-is_either.true
 
 returns_2 : tie.Need-returns-else-is_either
 unfolding is_step
-returns_2 c = rw (sym c.before.before.before.before.is_either.ensures ∙ c.before.before.before.if-is_either.false) c.is_either-else-is_either.ensures
+returns_2 c = rw (sym c.is_either.ensures ∙ c.if-is_either.false) c.is_either-else-is_either.ensures
 
 pub is_step_spec : {M : Type 1} → statement M
 is_step_spec = tie.close (tie.spec (λ c. search rules) (λ c. search rules) (λ c κs. search rules) (λ c. search rules) (λ c. search rules) (λ c κs. search rules) returns returns_2)

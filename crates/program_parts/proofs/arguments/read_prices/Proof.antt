@@ -6,7 +6,7 @@ use Rattle.program_parts.proofs.arguments.read_prices.Statement.{statement}
 use Rattle.program_parts.proofs.arguments.read_prices.Tie as tie
 
 returns_2 : tie.Need-returns-in-Count
-returns_2 c = (omega (arith, lent_within _ _ _ _ _ c.before.before.before.before.before.lend_prices-lent.ensures c.before.lent-1.given.1, c.before.before.before.before.before.lend_prices-lent.ensures.five), omega arith, c.before.before.before.before.before.lend_prices-lent.ensures.five)
+returns_2 c = (omega (arith, lent_within _ _ _ _ _ c.lend_prices-lent.ensures c.in-Count.is, c.lend_prices-lent.ensures.five), omega arith, c.lend_prices-lent.ensures.five)
 
 pub read_prices_spec : {M : Type 1} → statement M
 read_prices_spec = tie.close (tie.spec (λ c. search rules) (λ c κs. search rules) (λ c. search rules) (λ c. search rules) (λ c κs. search rules) (λ c. search rules) (λ c. search rules) (λ c. search rules) (λ c. search rules) (λ c. search rules) (λ c κs. search rules) (λ c. search rules) (λ c. search rules) (λ c. search rules) returns_2 (λ c. search rules) (λ c. search rules))

@@ -7,10 +7,10 @@ use Rattle.program_parts.proofs.lines.priced_line.Statement.{statement}
 use Rattle.program_parts.proofs.lines.priced_line.Tie as tie
 
 array-share-prefix-prices : tie.Need-slice_bounds-prices-end
-array-share-prefix-prices c = lent_within _ _ _ _ _ c.before.before.before.before.before.lend_prices-lent.ensures c.before.before.lent-1.given.1
+array-share-prefix-prices c = lent_within _ _ _ _ _ c.lend_prices-lent.ensures c.in-Count.is
 
 slice-aggregate-run-line-2 : tie.Need-slice_bounds-run_line-end-in-Count-2
-slice-aggregate-run-line-2 c = sym (length-take-le _ _ (lent_within _ _ _ _ _ c.before.before.before.before.before.before.lend_prices-lent.ensures c.before.before.before.lent-1.given.1))
+slice-aggregate-run-line-2 c = sym (length-take-le _ _ (lent_within _ _ _ _ _ c.lend_prices-lent.ensures c.in-Count.is))
 
 pub priced_line_spec : {M : Type 1} → statement M
 priced_line_spec = tie.close (tie.spec

@@ -7,7 +7,7 @@ use Rattle.program_parts.proofs.print.print_outcome.Statement.{statement}
 use Rattle.program_parts.proofs.print.print_outcome.Tie as tie
 
 slice-aggregate-print-text : tie.Need-slice_bounds-print_text-end
-slice-aggregate-print-text c = sym (length-take-le _ _ (omega (arith, c.before.before.put_outcome-n.ensures.1)))
+slice-aggregate-print-text c = sym (length-take-le _ _ (omega (arith, c.put_outcome-n.ensures.1)))
 
 pub print_outcome_spec : {M : Type 1} → statement M
 print_outcome_spec = tie.close (tie.spec

@@ -8,10 +8,10 @@ use Rattle.program_parts.proofs.script.print_report.Statement.{statement}
 use Rattle.program_parts.proofs.script.print_report.Tie as tie
 
 slice-aggregate-write-report : tie.Need-slice_bounds-write_report-end
-slice-aggregate-write-report c = sym (length-take-le _ _ (omega (arith, c.before.before.put_report-n.ensures.short)))
+slice-aggregate-write-report c = sym (length-take-le _ _ (omega (arith, c.put_report-n.ensures.short)))
 
 write-report-requires : tie.Need-write_report-requires
-write-report-requires c κs = printed_front _ _ _ _ c.before.before.put_report-n.ensures
+write-report-requires c κs = printed_front _ _ _ _ c.put_report-n.ensures
 
 pub print_report_spec : {M : Type 1} → statement M
 print_report_spec = tie.close (tie.spec

@@ -12,13 +12,13 @@ slice-aggregate-put-answer : tie.Need-slice_bounds-put_answer-end
 slice-aggregate-put-answer c = sym (length-take-le _ _ (search rules))
 
 put-answer-requires : tie.Need-put_answer-n-requires
-put-answer-requires c κs = (simp length-take (omega (arith, c.before.before.before.before.before.requires)), search rules)
+put-answer-requires c κs = (simp length-take (omega (arith, c.requires)), search rules)
 
 slice-aggregate-write-run : tie.Need-slice_bounds-write_run-end
-slice-aggregate-write-run c = sym (length-take-le _ _ (omega (arith, c.before.before.before.put_answer-n.ensures.1)))
+slice-aggregate-write-run c = sym (length-take-le _ _ (omega (arith, c.put_answer-n.ensures.1)))
 
 write-run-requires : tie.Need-write_run-requires
-write-run-requires c κs = wrote_front _ _ _ _ c.before.before.before.put_answer-n.ensures.0
+write-run-requires c κs = wrote_front _ _ _ _ c.put_answer-n.ensures.0
 
 pub print_run_spec : {M : Type 1} → statement M
 print_run_spec = tie.close (tie.spec

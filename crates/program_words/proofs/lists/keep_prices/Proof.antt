@@ -12,10 +12,10 @@ use Rattle.program_words.proofs.lists.keep_prices.Tie as tie
 returns : tie.Need-returns-in-Count
 unfolding prices_by
 returns c =
-    let r = c.before.before.before.before.before.before.before.before.before.before.read_values-kept.ensures in
-    let p = c.before.before.before.before.before.before.put_five.ensures in
+    let r = c.read_values-kept.ensures in
+    let p = c.put_five.ensures in
     record {
-      said = rw (← r.0, c.before.before.kept-1.given.1) (ap Count c.smaller_size.ensures);
+      said = rw (← r.0, c.in-Count.is) (ap Count c.smaller_size.ensures);
       kept = p ∙ ap (map price_of) r.1;
       few = omega (arith, c.smaller_size.ensures);
       five = omega arith;
@@ -24,9 +24,9 @@ returns c =
 returns_2 : tie.Need-returns-in-Wrong
 unfolding prices_by
 returns_2 c =
-    let r = c.before.before.before.before.before.before.before.before.before.read_values-kept.ensures in
-    let p = c.before.before.before.before.before.put_five.ensures in
-    record { said = rw (← r.0, c.before.kept-in-Wrong-1.given.1); kept = p ∙ ap (map price_of) r.1; few = tt; five = omega arith }
+    let r = c.read_values-kept.ensures in
+    let p = c.put_five.ensures in
+    record { said = rw (← r.0, c.in-Wrong.is); kept = p ∙ ap (map price_of) r.1; few = tt; five = omega arith }
 
 pub keep_prices_spec : {M : Type 1} → statement M
 keep_prices_spec = tie.close (tie.spec

@@ -14,10 +14,10 @@ slice-aggregate-read-values : tie.Need-slice_bounds-read_values-end
 slice-aggregate-read-values c = sym (length-take-le _ _ (omega arith))
 
 returns_2 : tie.Need-returns-then-words-last-eq32
-returns_2 c = let r = c.before.read_values.ensures in read_as _ _ _ _ _ (line_cut _ c.before.before.before.before.before.before.if-words-eq0.false c.before.before.before.before.if-words-last-eq32.true) r.0 r.1
+returns_2 c = let r = c.read_values.ensures in read_as _ _ _ _ _ (line_cut _ c.if-words-eq0.false c.if-words-last-eq32.true) r.0 r.1
 
 returns_3 : tie.Need-returns
-returns_3 c = let r = c.before.read_values-2.ensures in read_as _ _ _ _ _ (line_whole _ c.before.before.before.before.before.if-words-eq0.false c.before.before.before.if-words-last-eq32.false) r.0 r.1
+returns_3 c = let r = c.read_values-2.ensures in read_as _ _ _ _ _ (line_whole _ c.if-words-eq0.false c.if-words-last-eq32.false) r.0 r.1
 
 pub read_line_values_spec : {M : Type 1} → statement M
 read_line_values_spec =

@@ -19,10 +19,10 @@ loop_holds : tie.Need-loop-separator-init invariant-loop-separator decreases-loo
 loop_holds c = values_start _ _ _
 
 -- where the word ends
-ends : (c : tie.After-position invariant-loop-separator decreases-loop-separator) → c.before.before.loop-separator.at + c.position.result ≤ length c.before.before.before.before.args.list.now
+ends : (c : tie.After-position invariant-loop-separator decreases-loop-separator) → c.loop-separator.at + c.position.result ≤ length c.args.list.now
 ends c =
-    let l = c.before.before.loop-separator in
-    (piece_within _ c.before.before.before.before.args.list.now l.at _ l.invariant.within (ap (λ n. l.at + n) c.position.ensures)).1
+    let l = c.loop-separator in
+    (piece_within _ c.args.list.now l.at _ l.invariant.within (ap (λ n. l.at + n) c.position.ensures)).1
 
 add-end : tie.Need-overflow_add-end invariant-loop-separator decreases-loop-separator
 add-end c = let h = ends c in search rules
@@ -32,28 +32,28 @@ part-keep-value-end c = let h = ends c in search rules
 
 same_length : tie.Need-shape_of-store-then-not-keep_value invariant-loop-separator decreases-loop-separator
 same_length c =
-    let l = c.before.before.before.before.before.before.before.loop-separator in
-    values_size _ _ _ _ l.at l.count l.invariant _ (ap (λ n. l.at + n) c.before.before.before.before.before.position.ensures) _ c.before.before.keep_value.ensures.1
+    let l = c.loop-separator in
+    values_size _ _ _ _ l.at l.count l.invariant _ (ap (λ n. l.at + n) c.position.ensures) _ c.keep_value.ensures.store_after
 
 returns : tie.Need-returns-then-not-keep_value invariant-loop-separator decreases-loop-separator
 returns c =
-    let l = c.before.before.before.before.before.before.before.loop-separator in
-    values_wrong _ _ _ _ l.at l.count l.invariant _ (ap (λ n. l.at + n) c.before.before.before.before.before.position.ensures) _ c.before.before.keep_value.ensures.1
-    (sym c.before.before.keep_value.ensures.0 ∙ not-true _ c.if-not-keep_value.true-raw)
+    let l = c.loop-separator in
+    values_wrong _ _ _ _ l.at l.count l.invariant _ (ap (λ n. l.at + n) c.position.ensures) _ c.keep_value.ensures.store_after
+    (sym c.keep_value.ensures.value ∙ not-true _ c.if-not-keep_value.true-raw)
 
 add-count : tie.Need-overflow_add-count invariant-loop-separator decreases-loop-separator
 add-count c = let h = ends c.before.before.before.before.before in search rules
 
 same-length-2 : tie.Need-shape_of-store-then-end-list invariant-loop-separator decreases-loop-separator
 same-length-2 c =
-    let l = c.before.before.before.before.before.before.before.before.loop-separator in
-    values_size _ _ _ _ l.at l.count l.invariant _ (ap (λ n. l.at + n) c.before.before.before.before.before.before.position.ensures) _ c.before.before.before.keep_value.ensures.1
+    let l = c.loop-separator in
+    values_size _ _ _ _ l.at l.count l.invariant _ (ap (λ n. l.at + n) c.position.ensures) _ c.keep_value.ensures.store_after
 
 returns_2 : tie.Need-returns-then-end-list invariant-loop-separator decreases-loop-separator
 returns_2 c =
-    let l = c.before.before.before.before.before.before.before.before.loop-separator in
-    values_last _ _ _ _ l.at l.count l.invariant _ (ap (λ n. l.at + n) c.before.before.before.before.before.before.position.ensures) _ c.before.before.before.keep_value.ensures.1
-    (sym c.before.before.before.keep_value.ensures.0 ∙ not-false _ c.before.if-not-keep_value.false-raw) c.if-end-list.true
+    let l = c.loop-separator in
+    values_last _ _ _ _ l.at l.count l.invariant _ (ap (λ n. l.at + n) c.position.ensures) _ c.keep_value.ensures.store_after
+    (sym c.keep_value.ensures.value ∙ not-false _ c.if-not-keep_value.false-raw) c.if-end-list.true
 
 add_at : tie.Need-overflow_add-at invariant-loop-separator decreases-loop-separator
 add_at c = let h = ends c.before.before.before.before.before.before in search rules
@@ -63,9 +63,9 @@ loop-less c = let h = ends c.before.before.before.before.before.before in search
 
 loop_again : tie.Need-loop-separator-preserved invariant-loop-separator decreases-loop-separator
 loop_again c =
-    let l = c.before.before.before.before.before.before.before.before.loop-separator in
-    values_more _ _ _ _ l.at l.count l.invariant _ (ap (λ n. l.at + n) c.before.before.before.before.before.before.position.ensures) _ c.before.before.before.keep_value.ensures.1
-    (sym c.before.before.before.keep_value.ensures.0 ∙ not-false _ c.before.if-not-keep_value.false-raw) c.if-end-list.false
+    let l = c.loop-separator in
+    values_more _ _ _ _ l.at l.count l.invariant _ (ap (λ n. l.at + n) c.position.ensures) _ c.keep_value.ensures.store_after
+    (sym c.keep_value.ensures.value ∙ not-false _ c.if-not-keep_value.false-raw) c.if-end-list.false
 
 pub read_values_spec : {M : Type 1} → statement M
 read_values_spec =

@@ -15,28 +15,28 @@ returns c = rw (sym c.before.is_IsWord.ensures, c.if-is_word.true)
 returns_2 : tie.Need-returns-then-not-starts_with
 unfolding picks_by
 returns_2 c =
-    let e = sym c.before.starts_with.ensures ∙ not-true _ c.if-not-starts_with.true-raw in
-    rw (sym c.before.before.before.before.is_IsWord.ensures, c.before.before.before.if-is_word.false, e)
+    let e = sym c.starts_with.ensures ∙ not-true _ c.if-not-starts_with.true-raw in
+    rw (sym c.before.before.before.before.is_IsWord.ensures, c.if-is_word.false, e)
 
 sub-read-number : tie.Need-slice_bounds-read_number-count
-sub-read-number c = let h = starts_long random_key _ (sym c.before.starts_with.ensures ∙ not-false _ c.if-not-starts_with.false-raw) in search rules
+sub-read-number c = let h = starts_long random_key _ (sym c.starts_with.ensures ∙ not-false _ c.if-not-starts_with.false-raw) in search rules
 
 part-read-number-start : tie.Need-slice-bounds-read-number-start
-part-read-number-start c = let h = starts_long random_key _ (sym c.before.starts_with.ensures ∙ not-false _ c.if-not-starts_with.false-raw) in search rules
+part-read-number-start c = let h = starts_long random_key _ (sym c.before.starts_with.ensures ∙ not-false _ c.if2.false) in search rules
 
 returns_3 : tie.Need-returns-in-Is
 unfolding picks_by
 returns_3 c =
-    let e = sym c.before.before.before.before.before.before.starts_with.ensures ∙ not-false _ c.before.before.before.before.before.if-not-starts_with.false-raw in
-    let k = simp part_rest at c.before.before.before.read_number-seed.ensures in
-    rw (sym c.before.before.before.before.before.before.before.before.before.is_IsWord.ensures, c.before.before.before.before.before.before.before.before.if-is_word.false, e, sym k, c.before.seed-1.given.1)
+    let e = sym c.starts_with.ensures ∙ not-false _ c.if-not-starts_with.false-raw in
+    let k = simp part_rest at c.read_number-seed.ensures in
+    rw (sym c.before.before.before.before.before.before.before.before.before.is_IsWord.ensures, c.if-is_word.false, e, sym k, c.in-Is.is)
 
 returns-4 : tie.Need-returns-in-Malformed
 unfolding picks_by
 returns-4 c =
-    let e = sym c.before.before.before.before.before.starts_with.ensures ∙ not-false _ c.before.before.before.before.if-not-starts_with.false-raw in
-    let k = simp part_rest at c.before.before.read_number-seed.ensures in
-    rw (sym c.before.before.before.before.before.before.before.before.is_IsWord.ensures, c.before.before.before.before.before.before.before.if-is_word.false, e, sym k, c.enum_told-1.given.1)
+    let e = sym c.starts_with.ensures ∙ not-false _ c.if-not-starts_with.false-raw in
+    let k = simp part_rest at c.read_number-seed.ensures in
+    rw (sym c.before.before.before.before.before.before.before.before.is_IsWord.ensures, c.if-is_word.false, e, sym k, c.in-Malformed.is)
 
 pub picks_by_spec : {M : Type 1} → statement M
 picks_by_spec = tie.close (tie.spec

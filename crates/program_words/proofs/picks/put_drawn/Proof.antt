@@ -19,11 +19,11 @@ put_drawn_spec = tie.close (tie.spec
     invariant-loop-i
     decreases-loop-i
     (λ c. drawing_none _ _ _ refl (omega arith))
-    (λ c κs. c.before.loop-i.invariant.small)
+    (λ c κs. c.loop-i.invariant.small)
     (λ c. omega (arith, c.next_Drawn.ensures.1))
-    (λ c. omega (arith, c.before.loop-i-test.true))
+    (λ c. omega (arith, c.loop-i-test.true))
     (λ c. search rules)
-    (λ c. omega (arith, c.before.loop-i-test.true, c.before.before.loop-i.invariant.long))
-    (λ c. drawing_more _ _ _ _ _ _ c.before.before.loop-i.invariant (omega (arith, c.before.loop-i-test.true, c.before.before.loop-i.invariant.long)) c.next_Drawn.ensures.0 c.next_Drawn.ensures.1)
-    (λ c. c.before.loop-i.invariant.long)
-    (λ c. drawing_all _ _ _ _ _ c.before.loop-i.invariant (omega (arith, c.loop-i-test.false, c.before.loop-i.invariant.long))))
+    (λ c. omega (arith, c.loop-i-test.true, c.loop-i.invariant.long))
+    (λ c. drawing_more _ _ _ _ _ _ c.loop-i.invariant (omega (arith, c.loop-i-test.true, c.loop-i.invariant.long)) c.next_Drawn.ensures.0 c.next_Drawn.ensures.1)
+    (λ c. c.loop-i.invariant.long)
+    (λ c. drawing_all _ _ _ _ _ c.loop-i.invariant (omega (arith, c.loop-i-test.false, c.loop-i.invariant.long))))

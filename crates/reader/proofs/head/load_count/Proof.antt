@@ -13,21 +13,21 @@ unfolding clean
 count-line-requires c κs = (search rules, search rules, refl)
 
 -- the line that was read
-line : (c : tie.After-count_line-c) → CountRead rows_key (drop c.before.before.before.before.args.at c.before.before.before.before.args.file.now) 256 c.count_line_lem.result
-line c = rw (part_rest c.before.before.before.before.args.file.now c.before.before.before.before.args.at) at c.count_line_lem.ensures
+line : (c : tie.After-count_line-c) → CountRead rows_key (drop c.args.at c.args.file.now) 256 c.count_line-c.result
+line c = rw (part_rest c.args.file.now c.args.at) at c.count_line-c.ensures
 
 add-t17 : tie.Need-overflow_add-result
 add-t17 c =
-    let w = (subst (CountRead _ _ _) c.before.c-1.given.1 (line c.before.before.before)).within in
-    let l = length-drop c.before.before.before.before.before.before.before.args.at c.before.before.before.before.before.before.before.args.file.now in
-    let h = c.before.before.before.before.before.before.before.requires in
+    let w = (subst (CountRead _ _ _) c.in-Count.is (line c.before)).within in
+    let l = length-drop c.args.at c.args.file.now in
+    let h = c.requires in
     search rules
 
 returns : tie.Need-returns-in-Count
-returns c = count_says _ _ _ _ _ (subst (CountRead _ _ _) c.before.c-1.given.1 (line c.before.before.before)) c.before.before.before.before.before.before.before.requires.0 c.before.before.before.before.before.before.before.requires.1
+returns c = count_says _ _ _ _ _ (subst (CountRead _ _ _) c.in-Count.is (line c.before)) c.requires.0 c.requires.1
 
 returns_2 : tie.Need-returns-in-Wrong
-returns_2 c = count_refused _ _ _ _ _ c.refused.ensures (subst (CountRead _ _ _) c.before.before.c-in-Wrong-1.given.1 (line c.before.before.before.before))
+returns_2 c = count_refused _ _ _ _ _ c.refused.ensures (subst (CountRead _ _ _) c.in-Wrong.is (line c.before.before))
 
 pub load_count_spec : {M : Type 1} → statement M
 load_count_spec =

@@ -6,16 +6,16 @@ use Rattle.reader.proofs.head.load_head.Statement.{statement}
 use Rattle.reader.proofs.head.load_head.Tie as tie
 
 returns : tie.Need-returns-then-file-gt16384
-returns c = (head_refused _ _ _ _ _ _ c.refused.ensures (sym (file_long _ c.before.if-file-gt16384.true)), none_sized c.before.before.before.args.file.now _ _ _ c.refused.ensures)
+returns c = (head_refused _ _ _ _ _ _ c.refused.ensures (sym (file_long _ c.if-file-gt16384.true)), none_sized c.args.file.now _ _ _ c.refused.ensures)
 
 load-vars-requires : tie.Need-load_vars-requires
-load-vars-requires c κs = (subst (Within _ 1) c.before.before.c-1.given.1 c.before.before.before.before.script_line_lem.ensures.1).1
+load-vars-requires c κs = (subst (Within _ 1) c.in-Count.is c.script_line-c.ensures.1).1
 
 returns_2 : tie.Need-returns-in-Count
-returns_2 c = (head_same c.load_vars.ensures (script_then _ _ _ c.before.before.before.before.before.before.if-file-gt16384.false (c.before.before.before.before.before.script_line_lem.ensures.0 ∙ ap (count_of _ 1) c.before.before.before.c-1.given.1)), λ h. c.before.before.before.before.before.before.if-file-gt16384.false)
+returns_2 c = (head_same c.load_vars.ensures (script_then _ _ _ c.if-file-gt16384.false (c.script_line-c.ensures.0 ∙ ap (count_of _ 1) c.in-Count.is)), λ h. c.if-file-gt16384.false)
 
 returns_3 : tie.Need-returns-in-Wrong
-returns_3 c = (head_refused _ _ _ _ _ _ c.refused-in-Wrong.ensures (sym (script_refused _ _ c.before.before.before.before.before.if-file-gt16384.false (c.before.before.before.before.script_line_lem.ensures.0 ∙ ap (count_of _ 1) c.before.before.c-in-Wrong-1.given.1))), λ h. c.before.before.before.before.before.if-file-gt16384.false)
+returns_3 c = (head_refused _ _ _ _ _ _ c.refused-in-Wrong.ensures (sym (script_refused _ _ c.if-file-gt16384.false (c.script_line-c.ensures.0 ∙ ap (count_of _ 1) c.in-Wrong.is))), λ h. c.if-file-gt16384.false)
 
 pub load_head_spec : {M : Type 1} → statement M
 load_head_spec =

@@ -4,13 +4,13 @@ use Rattle.reader.proofs.head.load_ranges.Statement.{statement}
 use Rattle.reader.proofs.head.load_ranges.Tie as tie
 
 load-count-requires : tie.Need-load_count-requires
-load-count-requires c κs = (until_within c.before.before.before.read_ranges-r.ensures c.before.r-1.given.1, c.before.before.before.before.before.before.requires.1)
+load-count-requires c κs = (until_within c.read_ranges-r.ensures c.in-Until.is, c.requires.1)
 
 returns : tie.Need-returns-in-Until
-returns c = ranges_then c.before.before.before.before.read_ranges-r.ensures c.before.before.r-1.given.1 c.load_count.ensures
+returns c = ranges_then c.read_ranges-r.ensures c.in-Until.is c.load_count.ensures
 
 returns_2 : tie.Need-returns-in-Refused
-returns_2 c = ranges_refused c.before.before.before.before.read_ranges-r.ensures c.before.before.r-in-Refused-1.given.1 c.refused.ensures
+returns_2 c = ranges_refused c.read_ranges-r.ensures c.in-Refused.is c.refused.ensures
 
 pub load_ranges_spec : {M : Type 1} → statement M
 load_ranges_spec =

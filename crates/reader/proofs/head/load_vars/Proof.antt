@@ -14,26 +14,26 @@ unfolding clean
 count-line-requires c κs = (search rules, search rules, refl)
 
 -- the line that was read
-line : (c : tie.After-count_line-c) → CountRead vars_key (drop c.before.before.before.before.args.at c.before.before.before.before.args.file.now) 16 c.count_line_lem.result
-line c = rw (part_rest c.before.before.before.before.args.file.now c.before.before.before.before.args.at) at c.count_line_lem.ensures
+line : (c : tie.After-count_line-c) → CountRead vars_key (drop c.args.at c.args.file.now) 16 c.count_line-c.result
+line c = rw (part_rest c.args.file.now c.args.at) at c.count_line-c.ensures
 
 add-load-ranges : tie.Need-overflow_add-at
 add-load-ranges c =
-    let w = (subst (CountRead _ _ _) c.before.c-1.given.1 (line c.before.before.before)).within in
-    let l = length-drop c.before.before.before.before.before.before.before.args.at c.before.before.before.before.before.before.before.args.file.now in
-    let h = c.before.before.before.before.before.before.before.requires in
+    let w = (subst (CountRead _ _ _) c.in-Count.is (line c.before)).within in
+    let l = length-drop c.args.at c.args.file.now in
+    let h = c.requires in
     search rules
 
 load-ranges-requires : tie.Need-load_ranges-requires
 load-ranges-requires c κs =
-    let w = (subst (CountRead _ _ _) c.before.before.c-1.given.1 (line c.before.before.before.before)).within in
-    (omega (arith, w.1, length-drop c.before.before.before.before.before.before.before.before.args.at c.before.before.before.before.before.before.before.before.args.file.now, c.before.before.before.before.before.before.before.before.requires), w.0)
+    let w = (subst (CountRead _ _ _) c.in-Count.is (line c.before.before)).within in
+    (omega (arith, w.1, length-drop c.args.at c.args.file.now, c.requires), w.0)
 
 returns : tie.Need-returns-in-Count
-returns c = rw (after_count _ c.before.before.before.before.before.before.before.before.before.args.file.now c.before.before.before.before.before.before.before.before.before.args.at _ _ _ _ range_part (subst (CountRead _ _ _) c.before.before.before.c-1.given.1 (line c.before.before.before.before.before))) c.load_ranges.ensures
+returns c = rw (after_count _ c.args.file.now c.args.at _ _ _ _ range_part (subst (CountRead _ _ _) c.in-Count.is (line c.before.before.before))) c.load_ranges.ensures
 
 returns_2 : tie.Need-returns-in-Wrong
-returns_2 c = head_refused _ _ _ _ _ _ c.refused.ensures (after_wrong _ _ _ _ _ range_part (subst (CountRead _ _ _) c.before.before.c-in-Wrong-1.given.1 (line c.before.before.before.before)))
+returns_2 c = head_refused _ _ _ _ _ _ c.refused.ensures (after_wrong _ _ _ _ _ range_part (subst (CountRead _ _ _) c.in-Wrong.is (line c.before.before)))
 
 pub load_vars_spec : {M : Type 1} → statement M
 load_vars_spec =

@@ -19,45 +19,45 @@ abbrev decreases-loop-i : tie.decreases-loop-i
 decreases-loop-i file at n ranges₀ next₀ i₀ ranges next i = n - i
 
 -- the line that was read
-line_read : (c : tie.After-range_line-r invariant-loop-i decreases-loop-i) → RangeRead (drop c.before.before.before.loop-i.next c.before.before.before.before.before.args.file.now) c.range_line-r.result
-line_read c = rw (part_rest c.before.before.before.before.before.args.file.now c.before.before.before.loop-i.next) at c.range_line-r.ensures
+line_read : (c : tie.After-range_line-r invariant-loop-i decreases-loop-i) → RangeRead (drop c.loop-i.next c.args.file.now) c.range_line-r.result
+line_read c = rw (part_rest c.args.file.now c.loop-i.next) at c.range_line-r.ensures
 
 loop_holds : tie.Need-loop-i-init invariant-loop-i decreases-loop-i
-loop_holds c = ranges_none _ _ _ c.before.requires.0
+loop_holds c = ranges_none _ _ _ c.requires.0
 
 sub-range-line : tie.Need-slice_bounds-range_line-count invariant-loop-i decreases-loop-i
-sub-range-line c = let h = c.before.loop-i.invariant.within in search rules
+sub-range-line c = let h = c.loop-i.invariant.within in search rules
 
 part-range-line-start : tie.Need-slice-bounds-range-line-start invariant-loop-i decreases-loop-i
-part-range-line-start c = let h = c.before.loop-i.invariant.within in search rules
+part-range-line-start c = let h = c.before.loop.invariant.within in search rules
 
 element-set-from-ranges : tie.Need-bounds-ranges-i invariant-loop-i decreases-loop-i
-element-set-from-ranges c = let h = c.before.before.before.before.before.before.loop-i.invariant.pairs.long in let k = c.before.before.before.before.before.before.before.before.requires.1 in search rules
+element-set-from-ranges c = let h = c.loop-i.invariant.pairs.long in let k = c.requires.1 in search rules
 
 add-next : tie.Need-overflow_add-next invariant-loop-i decreases-loop-i
 add-next c =
-    let f = (subst (RangeRead _) c.before.r-1.given.1 (line_read c.before.before.before)).within in
-    let l = length-drop c.before.before.before.before.before.before.loop-i.next c.before.before.before.before.before.before.before.before.args.file.now in
-    let w = c.before.before.before.before.before.before.loop-i.invariant.within in
+    let f = (subst (RangeRead _) c.in-Range.is (line_read c.before)).within in
+    let l = length-drop c.loop-i.next c.args.file.now in
+    let w = c.loop-i.invariant.within in
     search rules
 
 loop_again : tie.Need-loop-i-preserved invariant-loop-i decreases-loop-i
 loop_again c =
-    let f : SFits w32 c.before.r-1.given.0.0 = search rules in
-    let g : SFits w32 c.before.r-1.given.0.1.0 = search rules in
-    simp (to_z-of_z f, to_z-of_z g) (ranges_more _ _ _ _ _ _ c.before.before.before.before.before.before.loop-i.invariant c.before.before.before.before.before.before.before.before.requires.1 c.before.before.before.before.before.loop-i-test.true _ _ _ (subst (RangeRead _) c.before.r-1.given.1 (line_read c.before.before.before)))
+    let f : SFits w32 c.in-Range.a = search rules in
+    let g : SFits w32 c.in-Range.b = search rules in
+    simp (to_z-of_z f, to_z-of_z g) (ranges_more _ _ _ _ _ _ c.loop-i.invariant c.requires.1 c.loop-i-test.true _ _ _ (subst (RangeRead _) c.in-Range.is (line_read c.before)))
 
 add-t23 : tie.Need-overflow_add-result invariant-loop-i decreases-loop-i
-add-t23 c = let k = c.before.before.before.before.before.before.before.before.requires.1 in search rules
+add-t23 c = let k = c.requires.1 in search rules
 
 returns : tie.Need-returns-in-Wrong invariant-loop-i decreases-loop-i
 unfolding ranges_of
 returns c =
-    let h = subst (RangeRead _) c.before.r-in-Wrong-1.given.1 (line_read c.before.before.before) in
-    record { all = ranges_wrong _ _ _ _ _ _ c.before.before.before.before.before.before.loop-i.invariant c.before.before.before.before.before.before.before.before.requires.1 c.before.before.before.before.before.loop-i-test.true _ h; within = tt }
+    let h = subst (RangeRead _) c.in-Wrong.is (line_read c.before) in
+    record { all = ranges_wrong _ _ _ _ _ _ c.loop-i.invariant c.requires.1 c.loop-i-test.true _ h; within = tt }
 
 returns_2 : tie.Need-returns invariant-loop-i decreases-loop-i
-returns_2 c = ranges_all _ _ _ _ _ _ c.before.loop-i.invariant c.loop-i-test.false
+returns_2 c = ranges_all _ _ _ _ _ _ c.loop-i.invariant c.loop-i-test.false
 
 pub read_ranges_spec : {M : Type 1} → statement M
 read_ranges_spec =

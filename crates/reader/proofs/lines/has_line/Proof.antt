@@ -10,12 +10,12 @@ use Rattle.reader.proofs.lines.has_line.Statement.{statement}
 use Rattle.reader.proofs.lines.has_line.Tie as tie
 
 returns : tie.Need-returns-then-n-eq0
-returns c = let s = c.before.before.args.rest.now in
+returns c = let s = c.args.rest.now in
     sym (le-ltb (before 10 s) (length s) (omega (arith, c.if-n-eq0.true)))
 
 returns_2 : tie.Need-returns-then-rest-n-eq10
-returns_2 c = let s = c.before.before.before.before.args.rest.now in
-    let h = c.before.before.if-n-eq0.false in
+returns_2 c = let s = c.args.rest.now in
+    let h = c.if-n-eq0.false in
     sym (lt-ltb (before 10 s) (length s) (omega (arith, h, found_line s (length s - 1) (omega (arith, h)) c.if-rest-n-eq10.true)))
 
 returns_3 : tie.Need-returns

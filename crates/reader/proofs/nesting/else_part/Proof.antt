@@ -11,18 +11,18 @@ use Rattle.reader.proofs.nesting.else_part.Tie as tie
 
 returns : tie.Need-returns-then-depth-eq0
 unfolding nested_of nest_of elses
-returns c = let b = c.before.before.args.b in (rw (none_open b.depth b.kinds c.if-depth-eq0.true), search rules)
+returns c = let b = c.args.b in (rw (none_open b.depth b.kinds c.if-depth-eq0.true), search rules)
 
 returns_2 : tie.Need-returns-then-kinds-depth-eq-PICK
 unfolding nested_of nest_of open_of
 returns_2 c =
-    let b = c.before.before.before.args.b in
+    let b = c.args.b in
     let l : length b.kinds ≡ 8 = search rules in
-    (else_fits b.depth b.loops _ b.kinds c.before.if-depth-eq0.false (omega arith) c.if-kinds-depth-eq-PICK.true refl, search rules)
+    (else_fits b.depth b.loops _ b.kinds c.if-depth-eq0.false (omega arith) c.if-kinds-depth-eq-PICK.true refl, search rules)
 
 returns_3 : tie.Need-returns
 unfolding nested_of nest_of
-returns_3 c = let b = c.before.before.before.args.b in (else_wrong b.depth b.loops b.kinds c.if-kinds-depth-eq-PICK.false, search rules)
+returns_3 c = let b = c.args.b in (else_wrong b.depth b.loops b.kinds c.if-kinds-depth-eq-PICK.false, search rules)
 
 pub else_part_spec : {M : Type 1} → statement M
 else_part_spec = tie.close (tie.spec returns (λ c. search rules) (λ c. search rules) (λ c. search rules) (λ c. search rules) returns_2 returns_3)

@@ -8,19 +8,19 @@ use Rattle.reader.proofs.nesting.nest_row.Tie as tie
 
 returns-4 : tie.Need-returns-in-Set
 unfolding view_of kind_of nest_row nested_of
-returns-4 c = (λ text. rw c.enum_told-in-Set-1.given.1, search rules)
+returns-4 c = (λ text. rw c.in-Set.is, search rules)
 
 returns-5 : tie.Need-returns-in-Move
 unfolding view_of kind_of nest_row nested_of
-returns-5 c = (λ text. rw c.enum_told-in-Move-1.given.1, search rules)
+returns-5 c = (λ text. rw c.in-Move.is, search rules)
 
 returns-6 : tie.Need-returns-in-Cue
 unfolding view_of kind_of nest_row nested_of
-returns-6 c = (λ text. rw c.enum_told-in-Cue-1.given.1, search rules)
+returns-6 c = (λ text. rw c.in-Cue.is, search rules)
 
 returns-10 : tie.Need-returns-in-Off
 unfolding view_of kind_of nest_row nested_of
-returns-10 c = (λ text. rw c.enum_told-in-Off-1.given.1, search rules)
+returns-10 c = (λ text. rw c.in-Off.is, search rules)
 
 pub nest_row_spec : {M : Type 1} → statement M
 unfolding view_of kind_of nest_row nest_of
@@ -30,14 +30,14 @@ nest_row_spec =
     (λ c. search rules) (λ c κs. search rules) (λ c. search rules) (λ c κs. search rules) (λ c. search rules) (λ c κs. search rules) (λ c. search rules)
     (λ c. search rules) (λ c. search rules) (λ c. search rules) (λ c κs. search rules) (λ c. search rules) (λ c κs. search rules) (λ c. search rules)
     (λ c κs. search rules) (λ c. search rules) (λ c. search rules) (λ c κs. search rules)
-    (λ c. let e = c.end_block.ensures in (λ text. rw c.before.enum_told-1.given.1 e.0, e.1))
-    (λ c. let e = c.else_part.ensures in (λ text. rw c.before.enum_told-in-Else-1.given.1 e.0, e.1))
-    (λ c. let e = c.open_pick.ensures in (λ text. rw c.before.enum_told-in-Pick-1.given.1 e.0, e.1))
+    (λ c. let e = c.end_block.ensures in (λ text. rw c.in-End.is e.0, e.1))
+    (λ c. let e = c.else_part.ensures in (λ text. rw c.in-Else.is e.0, e.1))
+    (λ c. let e = c.open_pick.ensures in (λ text. rw c.in-Pick.is e.0, e.1))
     returns-4
     returns-5
     returns-6
-    (λ c. let e = c.open_loop.ensures in (λ text. rw c.before.enum_told-in-While-1.given.1 e.0, e.1))
-    (λ c. let e = c.open_loop-in-Do.ensures in (λ text. rw c.before.enum_told-in-Do-1.given.1 e.0, e.1))
-    (λ c. let e = c.open_loop-in-For.ensures in (λ text. rw c.before.enum_told-in-For-1.given.1 e.0, e.1))
+    (λ c. let e = c.open_loop.ensures in (λ text. rw c.in-While.is e.0, e.1))
+    (λ c. let e = c.open_loop-in-Do.ensures in (λ text. rw c.in-Do.is e.0, e.1))
+    (λ c. let e = c.open_loop-in-For.ensures in (λ text. rw c.in-For.is e.0, e.1))
     returns-10
-    (λ c. let e = c.open_loop-in-Hold.ensures in (λ text. rw c.before.enum_told-in-Hold-1.given.1 e.0, e.1)))
+    (λ c. let e = c.open_loop-in-Hold.ensures in (λ text. rw c.in-Hold.is e.0, e.1)))

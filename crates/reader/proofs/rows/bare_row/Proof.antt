@@ -7,13 +7,13 @@ use Rattle.reader.proofs.rows.bare_row.Statement.{statement}
 use Rattle.reader.proofs.rows.bare_row.Tie as tie
 
 -- the words' questions
-asked : (c : tie.After-asks_end-q) → let a = c.before.before.args in let w = line_word a.line in
+asked : (c : tie.After-asks_end-q) → let a = c.args in let w = line_word a.line in
     c.asks_end-q.result ≡ asks_end (w 1)
-asked c = rw (c.asks_end-q.ensures, c.before.word.ensures)
+asked c = rw (c.asks_end-q.ensures, c.word.ensures)
 
 returns : tie.Need-returns-then-q-eq0
 unfolding bare_row
-returns c = λ vars s base. line_read s base _ _ _ _ (asked c.before) _ c.if-q-eq0.true λ file d. bare_says _ c.before.before.before.requires file
+returns c = λ vars s base. line_read s base _ _ _ _ (asked c.before) _ c.if-q-eq0.true λ file d. bare_says _ c.requires file
 
 returns_2 : tie.Need-returns
 unfolding bare_row

@@ -10,39 +10,39 @@ use Rattle.reader.proofs.rows.for_row.Statement.{statement}
 use Rattle.reader.proofs.rows.for_row.Tie as tie
 
 -- the words' questions
-asked : (c : tie.After-first_refusal-q) → let a = c.before.before.before.before.before.before.before.before.before.before.before.before.before.before.before.before.before.args in let w = line_word a.line in
+asked : (c : tie.After-first_refusal-q) → let a = c.args in let w = line_word a.line in
     c.first_refusal-q.result ≡ asks_for a.vars w (line_expr a.s.now a.line)
 unfolding asks_for
-asked c = rw (c.first_refusal-q.ensures, c.before.asks_variable.ensures, c.before.before.first_refusal-rest.ensures, c.before.before.before.asks_expression-2.ensures, c.before.before.before.before.first_refusal-test.ensures, c.before.before.before.before.before.asks_comparison.ensures, c.before.before.before.before.before.before.first_refusal-limit.ensures, c.before.before.before.before.before.before.before.asks_expression.ensures, c.before.before.before.before.before.before.before.before.first_refusal-last.ensures, c.before.before.before.before.before.before.before.before.before.asks_end.ensures, c.before.before.before.before.before.before.before.before.before.before.word.ensures, c.before.before.before.before.before.before.before.before.before.before.before.asks_step.ensures, c.before.before.before.before.before.before.before.before.before.before.before.before.word-z.ensures, c.before.before.before.before.before.before.before.before.before.before.before.before.before.word-n.ensures, c.before.before.before.before.before.before.before.before.before.before.before.before.before.before.word-o.ensures, c.before.before.before.before.before.before.before.before.before.before.before.before.before.before.before.word-v.ensures)
+asked c = rw (c.first_refusal-q.ensures, c.asks_variable.ensures, c.first_refusal-rest.ensures, c.asks_expression-2.ensures, c.first_refusal-test.ensures, c.asks_comparison.ensures, c.first_refusal-limit.ensures, c.asks_expression.ensures, c.first_refusal-last.ensures, c.asks_end.ensures, c.word.ensures, c.asks_step.ensures, c.word-z.ensures, c.word-n.ensures, c.word-o.ensures, c.word-v.ensures)
 
 asks-expression-requires : tie.Need-asks_expression-requires
-asks-expression-requires c κs = (c.before.before.before.before.before.before.before.before.before.requires.0, omega arith)
+asks-expression-requires c κs = (c.requires.0, omega arith)
 
 asks-expression-requires-2 : tie.Need-asks_expression-requires-2
-asks-expression-requires-2 c κs = (c.before.before.before.before.before.before.before.before.before.before.before.before.before.requires.0, omega arith)
+asks-expression-requires-2 c κs = (c.requires.0, omega arith)
 
 operand-of-requires : tie.Need-operand_of-start-requires
-operand-of-requires c κs = (omega arith, operand_fits c.before.before.before.before.before.before.before.before.before.before.before.before.before.before.before.before.before.before.requires.0 2 (omega arith) _ (for_yes _ _ _ _ (asked c.before) c.if-q-eq0.true).1 c.before.before.before.before.before.before.before.before.before.before.before.before.before.before.before.before.before.before.requires.1)
+operand-of-requires c κs = (omega arith, operand_fits c.requires.0 2 (omega arith) _ (for_yes _ _ _ _ (asked c.before) c.if-q-eq0.true).1 c.requires.1)
 
 operand-of-requires-2 : tie.Need-operand_of-limit-requires
-operand-of-requires-2 c κs = (omega arith, operand_fits c.before.before.before.before.before.before.before.before.before.before.before.before.before.before.before.before.before.before.before.requires.0 4 (omega arith) _ (for_yes _ _ _ _ (asked c.before.before) c.before.if-q-eq0.true).2 c.before.before.before.before.before.before.before.before.before.before.before.before.before.before.before.before.before.before.before.requires.1)
+operand-of-requires-2 c κs = (omega arith, operand_fits c.requires.0 4 (omega arith) _ (for_yes _ _ _ _ (asked c.before.before) c.if-q-eq0.true).2 c.requires.1)
 
 step-of-requires : tie.Need-step_of-step-requires
-step-of-requires c κs = rw (c.before.before.before.before.before.before.before.before.before.before.before.before.before.before.before.before.word-n.ensures, c.before.before.before.before.before.before.before.before.before.before.before.before.before.before.before.word-z.ensures) (for_yes _ _ _ _ (asked c.before.before.before) c.before.before.if-q-eq0.true).3
+step-of-requires c κs = rw (c.word-n.ensures, c.word-z.ensures) (for_yes _ _ _ _ (asked c.before.before.before) c.if-q-eq0.true).3
 
 variable-of-requires : tie.Need-variable_of-requires
-variable-of-requires c κs = (_, c.before.before.before.before.before.before.before.before.before.before.before.before.before.before.before.before.before.before.before.before.before.requires.0.few, rw c.before.before.before.before.before.before.before.before.before.before.before.before.before.before.before.before.before.before.before.word-v.ensures (for_yes _ _ _ _ (asked c.before.before.before.before) c.before.before.before.if-q-eq0.true).0)
+variable-of-requires c κs = (_, c.requires.0.few, rw c.word-v.ensures (for_yes _ _ _ _ (asked c.before.before.before.before) c.if-q-eq0.true).0)
 
 returns : tie.Need-returns-then-q-eq0
 unfolding for_row kind_of
-returns c = let m = c.before.before.before.before.before.before.before.before.before.before.before.before.before.before.before.before.before.before.before.before.before.before.before.requires.0 in
+returns c = let m = c.requires.0 in
     let e = asked c.before.before.before.before.before.before in
-    let z = c.before.before.before.before.before.if-q-eq0.true in
+    let z = c.if-q-eq0.true in
     let (_, x, y, _, _) = for_yes _ _ _ _ e z in
     line_read _ _ _ _ _ _ e _ z λ file d.
-    let (g, i) = operand_says m 2 (omega arith) _ x file d _ c.before.before.before.before.operand_of-start.ensures in
-    let (h, j) = operand_says m 4 (omega arith) _ y file d _ c.before.before.before.operand_of-limit.ensures in
-    (rw (c.comparison_of_lem.ensures, c.before.variable_of_lem.ensures, c.before.before.step_of_lem.ensures, c.before.before.before.before.before.before.before.before.before.before.before.before.before.before.before.before.before.before.word-z.ensures, c.before.before.before.before.before.before.before.before.before.before.before.before.before.before.before.before.before.before.before.word-n.ensures, c.before.before.before.before.before.before.before.before.before.before.before.before.before.before.before.before.before.before.before.before.word-o.ensures, c.before.before.before.before.before.before.before.before.before.before.before.before.before.before.before.before.before.before.before.before.before.word-v.ensures, g, h), (i, j))
+    let (g, i) = operand_says m 2 (omega arith) _ x file d _ c.operand_of-start.ensures in
+    let (h, j) = operand_says m 4 (omega arith) _ y file d _ c.operand_of-limit.ensures in
+    (rw (c.comparison_of.ensures, c.variable_of.ensures, c.step_of-step.ensures, c.word-z.ensures, c.word-n.ensures, c.word-o.ensures, c.word-v.ensures, g, h), (i, j))
 
 returns_2 : tie.Need-returns
 unfolding for_row

@@ -4,13 +4,13 @@ use Rattle.reader.proofs.rows.row_of.Statement.{statement}
 use Rattle.reader.proofs.rows.row_of.Tie as tie
 
 named-row-requires : tie.Need-named_row-requires
-named-row-requires c κs = let h = c.before.before.before.before.before.before.requires in (meant _ _ _ _ h.1 c.before.before.before.before.line_words-line.ensures, h.2)
+named-row-requires c κs = let h = c.requires in (meant _ _ _ _ h.1 c.line_words-line.ensures, h.2)
 
 returns : tie.Need-returns-in-Keyword
-returns c = row_named _ _ _ _ _ c.before.before.before.before.before.before.before.requires.1 c.before.before.before.before.before.line_words-line.ensures _ c.before.before.before.before.word-first.ensures _ _ c.before.before.first-1.given.1 c.named_row.ensures
+returns c = row_named _ _ _ _ _ c.requires.1 c.line_words-line.ensures _ c.word-first.ensures _ _ c.in-Keyword.is c.named_row.ensures
 
 returns_2 : tie.Need-returns-in_default
-returns_2 c = row_other _ _ _ _ _ c.before.before.before.before.requires.1 c.before.before.line_words-line.ensures c.before.word-first.result c.before.word-first.ensures c.in_default.keys2
+returns_2 c = row_other _ _ _ _ _ c.requires.1 c.line_words-line.ensures c.word-first.result c.word-first.ensures c.in_default.in_default-own.keys2
 
 pub row_of_spec : {M : Type 1} → statement M
 row_of_spec =

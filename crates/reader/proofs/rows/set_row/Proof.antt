@@ -10,23 +10,23 @@ use Rattle.reader.proofs.rows.set_row.Statement.{statement}
 use Rattle.reader.proofs.rows.set_row.Tie as tie
 
 -- the words' questions
-asked : (c : tie.After-first_refusal-q) → let a = c.before.before.before.before.before.before.before.before.args in let w = line_word a.line in
+asked : (c : tie.After-first_refusal-q) → let a = c.args in let w = line_word a.line in
     c.first_refusal-q.result ≡ first_refusal (asks_variable a.vars (w 1)) (first_refusal (asks_expr a.vars (line_expr a.s.now a.line 2)) (asks_end (w 3)))
-asked c = rw (c.first_refusal-q.ensures, c.before.asks_variable.ensures, c.before.before.first_refusal-last.ensures, c.before.before.before.asks_end.ensures, c.before.before.before.before.word.ensures, c.before.before.before.before.before.asks_expression.ensures, c.before.before.before.before.before.before.word-v.ensures)
+asked c = rw (c.first_refusal-q.ensures, c.asks_variable.ensures, c.first_refusal-last.ensures, c.asks_end.ensures, c.word.ensures, c.asks_expression.ensures, c.word-v.ensures)
 
 variable-of-requires : tie.Need-variable_of-requires
-variable-of-requires c κs = (_, c.before.before.before.before.before.before.before.before.before.requires.0.few, rw c.before.before.before.before.before.before.before.word-v.ensures (two_yes _ _ _ _ (asked c.before) c.if-q-eq0.true).0)
+variable-of-requires c κs = (_, c.requires.0.few, rw c.word-v.ensures (two_yes _ _ _ _ (asked c.before) c.if-q-eq0.true).0)
 
 operand-of-requires : tie.Need-operand_of-requires
-operand-of-requires c κs = (omega arith, operand_fits c.before.before.before.before.before.before.before.before.before.before.requires.0 2 (omega arith) _ (two_yes _ _ _ _ (asked c.before.before) c.before.if-q-eq0.true).1 c.before.before.before.before.before.before.before.before.before.before.requires.1)
+operand-of-requires c κs = (omega arith, operand_fits c.requires.0 2 (omega arith) _ (two_yes _ _ _ _ (asked c.before.before) c.if-q-eq0.true).1 c.requires.1)
 
 returns : tie.Need-returns-then-q-eq0
 unfolding set_row kind_of
 returns c = let e = asked c.before.before.before in
-    let z = c.before.before.if-q-eq0.true in
+    let z = c.if-q-eq0.true in
     line_read _ _ _ _ _ _ e _ z λ file d.
-    let (g, i) = operand_says c.before.before.before.before.before.before.before.before.before.before.before.requires.0 2 (omega arith) _ (two_yes _ _ _ _ e z).1 file d _ c.operand_of.ensures in
-    (rw (c.before.variable_of_lem.ensures, c.before.before.before.before.before.before.before.before.before.word-v.ensures, g), i)
+    let (g, i) = operand_says c.requires.0 2 (omega arith) _ (two_yes _ _ _ _ e z).1 file d _ c.operand_of.ensures in
+    (rw (c.variable_of.ensures, c.word-v.ensures, g), i)
 
 returns_2 : tie.Need-returns
 unfolding set_row

@@ -9,25 +9,25 @@ use Rattle.reader.proofs.rows.test_row.Statement.{statement}
 use Rattle.reader.proofs.rows.test_row.Tie as tie
 
 -- the words' questions
-asked : (c : tie.After-first_refusal-q) → let a = c.before.before.before.before.before.before.before.before.before.before.before.args in let w = line_word a.line in
+asked : (c : tie.After-first_refusal-q) → let a = c.args in let w = line_word a.line in
     c.first_refusal-q.result ≡ asks_test a.vars w (line_expr a.s.now a.line)
 unfolding asks_test
-asked c = rw (c.first_refusal-q.ensures, c.before.asks_variable.ensures, c.before.before.first_refusal-rest.ensures, c.before.before.before.asks_comparison.ensures, c.before.before.before.before.first_refusal-last.ensures, c.before.before.before.before.before.asks_end.ensures, c.before.before.before.before.before.before.word.ensures, c.before.before.before.before.before.before.before.asks_expression.ensures, c.before.before.before.before.before.before.before.before.word-o.ensures, c.before.before.before.before.before.before.before.before.before.word-v.ensures)
+asked c = rw (c.first_refusal-q.ensures, c.asks_variable.ensures, c.first_refusal-rest.ensures, c.asks_comparison.ensures, c.first_refusal-last.ensures, c.asks_end.ensures, c.word.ensures, c.asks_expression.ensures, c.word-o.ensures, c.word-v.ensures)
 
 operand-of-requires : tie.Need-operand_of-limit-requires
-operand-of-requires c κs = (omega arith, operand_fits c.before.before.before.before.before.before.before.before.before.before.before.before.requires.0 3 (omega arith) _ (test_yes _ _ _ _ (asked c.before) c.if-q-eq0.true).1 c.before.before.before.before.before.before.before.before.before.before.before.before.requires.1)
+operand-of-requires c κs = (omega arith, operand_fits c.requires.0 3 (omega arith) _ (test_yes _ _ _ _ (asked c.before) c.if-q-eq0.true).1 c.requires.1)
 
 variable-of-requires : tie.Need-variable_of-requires
-variable-of-requires c κs = (_, c.before.before.before.before.before.before.before.before.before.before.before.before.before.requires.0.few, rw c.before.before.before.before.before.before.before.before.before.before.before.word-v.ensures (test_yes _ _ _ _ (asked c.before.before) c.before.if-q-eq0.true).0)
+variable-of-requires c κs = (_, c.requires.0.few, rw c.word-v.ensures (test_yes _ _ _ _ (asked c.before.before) c.if-q-eq0.true).0)
 
 returns : tie.Need-returns-then-q-eq0
 returns c = let e = asked c.before.before.before.before.before in
-    let z = c.before.before.before.before.if-q-eq0.true in
-    test_read _ _ _ c.before.before.before.before.before.before.before.before.before.before.before.before.before.before.before.before.args.after _ _ _ _ e _ _ _ _ z c.test-kind.ensures (c.before.before.variable_of_lem.ensures ∙ ap variable_of c.before.before.before.before.before.before.before.before.before.before.before.before.before.before.word-v.ensures) (c.before.comparison_of_lem.ensures ∙ ap comparison_of c.before.before.before.before.before.before.before.before.before.before.before.before.before.word-o.ensures) λ file d.
-    operand_says c.before.before.before.before.before.before.before.before.before.before.before.before.before.before.before.before.requires.0 3 (omega arith) _ (test_yes _ _ _ _ e z).1 file d _ c.before.before.before.operand_of-limit.ensures
+    let z = c.if-q-eq0.true in
+    test_read _ _ _ c.args.after _ _ _ _ e _ _ _ _ z c.test-kind.ensures (c.variable_of.ensures ∙ ap variable_of c.word-v.ensures) (c.comparison_of.ensures ∙ ap comparison_of c.word-o.ensures) λ file d.
+    operand_says c.requires.0 3 (omega arith) _ (test_yes _ _ _ _ e z).1 file d _ c.operand_of-limit.ensures
 
 returns_2 : tie.Need-returns
-returns_2 c = test_wrong _ _ _ c.before.before.before.before.before.before.before.before.before.before.before.before.args.after _ _ _ _ (asked c.before) c.if-q-eq0.false
+returns_2 c = test_wrong _ _ _ c.args.after _ _ _ _ (asked c.before) c.if-q-eq0.false
 
 pub test_row_spec : {M : Type 1} → statement M
 test_row_spec =

@@ -29,17 +29,17 @@ returns_2 c = rw c.if-q-eq0.true (sym (refusal_left _))
 
 returns_3 : tie.Need-returns-then-turn
 returns_3 c =
-    let a = c.before.before.before.before.before.args in
+    let a = c.args in
     let h = c.if-turn.true in
-    let k : turn_of a.p ≤ turn_of a.q = omega (arith, c.before.before.turn.ensures, c.before.turn-2.ensures) in
-    refusal_two _ _ true c.before.before.before.before.if-p-eq0.false c.before.before.before.if-q-eq0.false (le-leb _ _ k)
+    let k : turn_of a.p ≤ turn_of a.q = omega (arith, c.turn.ensures, c.turn-2.ensures) in
+    refusal_two _ _ true c.if-p-eq0.false c.if-q-eq0.false (le-leb _ _ k)
 
 returns-4 : tie.Need-returns-else-turn
 returns-4 c =
-    let a = c.before.before.before.before.before.args in
+    let a = c.args in
     let h = c.if-turn.false in
-    let k : turn_of a.q < turn_of a.p = omega (arith, c.before.before.turn.ensures, c.before.turn-2.ensures) in
-    refusal_two _ _ false c.before.before.before.before.if-p-eq0.false c.before.before.before.if-q-eq0.false (lt-leb _ _ k)
+    let k : turn_of a.q < turn_of a.p = omega (arith, c.turn.ensures, c.turn-2.ensures) in
+    refusal_two _ _ false c.if-p-eq0.false c.if-q-eq0.false (lt-leb _ _ k)
 
 pub first_refusal_spec : {M : Type 1} → statement M
 first_refusal_spec = tie.close (tie.spec returns returns_2 (λ c κs. search rules) (λ c κs. search rules) returns_3 returns-4)

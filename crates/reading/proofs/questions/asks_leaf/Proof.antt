@@ -17,11 +17,11 @@ cast-if2 c =
 
 returns : tie.Need-returns-then-value-vars
 unfolding asked_of
-returns c = rw (eq-eqb _ _ c.before.if-tag-eq-VARIABLE.true) (rw (lt-ltb _ _ (simp (to_z-of_z c.before.before.ranges.value) at c.if-value-vars.true)))
+returns c = rw (eq-eqb _ _ c.if-tag-eq-VARIABLE.true) (rw (lt-ltb _ _ (simp (to_z-of_z c.ranges.value) at c.if-value-vars.true)))
 
 returns_2 : tie.Need-returns-then-tag-eq-VARIABLE
 unfolding asked_of
-returns_2 c = rw (eq-eqb _ _ c.before.if-tag-eq-VARIABLE.true) (rw (le-ltb _ _ (simp (to_z-of_z c.before.before.ranges.value) at c.if-value-vars.false)))
+returns_2 c = rw (eq-eqb _ _ c.if-tag-eq-VARIABLE.true) (rw (le-ltb _ _ (simp (to_z-of_z c.ranges.value) at c.if-value-vars.false)))
 
 cast-within : tie.Need-overflow_cast-value-2
 cast-within c =
@@ -35,7 +35,7 @@ returns_3 c =
     let s = c.before.before.before in
     let f = s.ranges.value in
     let g : SFits w64 s.args.value = omega ints in
-    rw (ne_eqb _ _ c.before.before.if-tag-eq-VARIABLE.false) (rw (sym (simp (to_z-of_z f, to_z-of_z g) at c.before.within.ensures) ∙ c.if-within.true))
+    rw (ne_eqb _ _ c.if-tag-eq-VARIABLE.false) (rw (sym (simp (to_z-of_z f, to_z-of_z g) at c.within.ensures) ∙ c.if-within.true))
 
 returns-4 : tie.Need-returns
 unfolding asked_of
@@ -43,7 +43,7 @@ returns-4 c =
     let s = c.before.before.before in
     let f = s.ranges.value in
     let g : SFits w64 s.args.value = omega ints in
-    rw (ne_eqb _ _ c.before.before.if-tag-eq-VARIABLE.false) (rw (sym (simp (to_z-of_z f, to_z-of_z g) at c.before.within.ensures) ∙ c.if-within.false))
+    rw (ne_eqb _ _ c.if-tag-eq-VARIABLE.false) (rw (sym (simp (to_z-of_z f, to_z-of_z g) at c.within.ensures) ∙ c.if-within.false))
 
 pub asks_leaf_spec : {M : Type 1} → statement M
 asks_leaf_spec = tie.close (tie.spec cast-if2 returns returns_2 cast-within (λ c κs. search rules) returns_3 returns-4)

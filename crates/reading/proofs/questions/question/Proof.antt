@@ -21,28 +21,28 @@ unfolding scan_question
 loop_holds c = (walk_asks _ _, omega arith, omega arith)
 
 returns : tie.Need-returns-then-at-word invariant-loop-c decreases-loop-c
-returns c = c.verdict.ensures ∙ at_the_end _ _ _ c.before.before.if-c.true c.before.if-at-word.true ∙ c.before.before.before.loop-c.invariant.0
+returns c = c.verdict.ensures ∙ at_the_end _ _ _ c.if-c.true c.if-at-word.true ∙ c.loop-c.invariant.0
 
 step-due-requires : tie.Need-step_due-c-requires invariant-loop-c decreases-loop-c
-step-due-requires c κs = (c.before.before.before.before.before.requires, c.if-c-2.true, record { good = c.before.before.if-c.true; within = c.before.if-at-word.false; depth = c.before.before.before.loop-c.invariant.1; ops = c.before.before.before.loop-c.invariant.2 })
+step-due-requires c κs = (c.requires, c.if-c-2.true, record { good = c.if-c.true; within = c.if-at-word.false; depth = c.loop-c.invariant.1; ops = c.loop-c.invariant.2 })
 
 loop-less : tie.Need-loop-c-smaller-then-c-2 invariant-loop-c decreases-loop-c
 loop-less c = c.step_due-c.ensures.less
 
 loop_again : tie.Need-loop-c-preserved-then-c-2 invariant-loop-c decreases-loop-c
-loop_again c = let s = c.step_due-c.ensures in (s.same ∙ c.before.before.before.before.loop-c.invariant.0, s.depth, s.ops)
+loop_again c = let s = c.step_due-c.ensures in (s.same ∙ c.loop-c.invariant.0, s.depth, s.ops)
 
 step-after-requires : tie.Need-step_after-c-requires invariant-loop-c decreases-loop-c
-step-after-requires c κs = (c.if-c-2.false, record { good = c.before.before.if-c.true; within = c.before.if-at-word.false; depth = c.before.before.before.loop-c.invariant.1; ops = c.before.before.before.loop-c.invariant.2 })
+step-after-requires c κs = (c.if-c-2.false, record { good = c.if-c.true; within = c.if-at-word.false; depth = c.loop-c.invariant.1; ops = c.loop-c.invariant.2 })
 
 loop_less_2 : tie.Need-loop-c-smaller invariant-loop-c decreases-loop-c
 loop_less_2 c = c.step_after-c.ensures.less
 
 loop_again_2 : tie.Need-loop-c-preserved invariant-loop-c decreases-loop-c
-loop_again_2 c = let s = c.step_after-c.ensures in (s.same ∙ c.before.before.before.before.loop-c.invariant.0, s.depth, s.ops)
+loop_again_2 c = let s = c.step_after-c.ensures in (s.same ∙ c.loop-c.invariant.0, s.depth, s.ops)
 
 returns_2 : tie.Need-returns-else-c invariant-loop-c decreases-loop-c
-returns_2 c = at_wrong _ _ _ c.if-c.false ∙ c.before.loop-c.invariant.0
+returns_2 c = at_wrong _ _ _ c.if-c.false ∙ c.loop-c.invariant.0
 
 pub question_spec : {M : Type 1} → statement M
 question_spec =

@@ -31,18 +31,18 @@ returns c = rw c.if-c.true
 
 returns_2 : tie.Need-returns-then-c-gt0
 unfolding end_question
-returns_2 c = rw c.before.before.if-c.false (open-one _ _ c.if-c-gt0.true)
+returns_2 c = rw c.if-c.false (open-one _ _ c.if-c-gt0.true)
 
 returns_3 : tie.Need-returns-then-c-le15
 unfolding end_question decided first_refusal
-returns_3 c = rw c.before.before.before.before.before.before.if-c.false (rw (le-leb _ _ c.before.before.if-c-le8.true, le-leb _ _ c.if-c-le15.true) at (open_none _ (sizes_of c.before.before.before.before.before.before.before.args.c) c.before.before.before.before.if-c-gt0.false))
+returns_3 c = rw c.if-c.false (rw (le-leb _ _ c.if-c-le8.true, le-leb _ _ c.if-c-le15.true) at (open_none _ (sizes_of c.args.c) c.if-c-gt0.false))
 
 returns-4 : tie.Need-returns
 unfolding end_question decided
 returns-4 c =
-    let a = c.before.before.before.before.before.before.args.c in
-    let big : leb a.deep 8 && leb a.ops 15 ≡ false = ⊎_elim (λ w. rw (lt-leb _ _ w.2.left) (and_false (leb a.deep 8))) (λ w. rw (lt-leb _ _ w.left)) c.before.if-c-le8.branch in
-    rw c.before.before.before.before.before.if-c.false (c.first_refusal.ensures ∙ (rw big at (open_none a.depth (sizes_of a) c.before.before.before.if-c-gt0.false)))
+    let a = c.args.c in
+    let big : leb a.deep 8 && leb a.ops 15 ≡ false = ⊎_elim (λ w. rw (lt-leb _ _ w.2.left) (and_false (leb a.deep 8))) (λ w. rw (lt-leb _ _ w.left)) c.if-c-le8.branch in
+    rw c.if-c.false (c.first_refusal.ensures ∙ (rw big at (open_none a.depth (sizes_of a) c.if-c-gt0.false)))
 
 pub verdict_spec : {M : Type 1} → statement M
 verdict_spec = tie.close (tie.spec returns returns_2 returns_3 (λ c κs. search rules) returns-4)

@@ -23,29 +23,29 @@ returns c = let l = c.before.before.before in
     filled_lf _ _ _ _ _ _ _ l.loop-i.invariant (ends_within _ _ l.loop-i.invariant.reached.ends) c.if-s-end-eq10.true
 
 -- the word that was read
-reads : (c : tie.After-word_of-f invariant-loop-i decreases-loop-i) → Reads (drop (c.before.before.before.before.before.loop-i.end + 1) c.before.before.before.before.before.before.before.args.s.now) c.word_of-f.result
-reads c = rw (part_rest c.before.before.before.before.before.before.before.args.s.now (c.before.before.before.before.before.loop-i.end + 1)) at c.word_of-f.ensures
+reads : (c : tie.After-word_of-f invariant-loop-i decreases-loop-i) → Reads (drop (c.loop-i.end + 1) c.args.s.now) c.word_of-f.result
+reads c = rw (part_rest c.args.s.now (c.loop-i.end + 1)) at c.word_of-f.ensures
 
 add-end : tie.Need-overflow_add-end invariant-loop-i decreases-loop-i
-add-end c = let h = next_within _ _ _ _ _ _ _ c.before.before.before.before.before.before.before.loop-i.invariant _ (reads c.before.before) in search rules
+add-end c = let h = next_within _ _ _ _ _ _ _ c.loop-i.invariant _ (reads c.before.before) in search rules
 
 loop_again : tie.Need-loop-i-preserved invariant-loop-i decreases-loop-i
-loop_again c = let f : SFits w32 c.before.before.word_of-f.result.value = sfits_of c.before.struct_told-1.given.1.0.1 in
-    rw (to_z-of_z f) (filled_next _ _ _ _ _ _ _ c.before.before.before.before.before.before.before.loop-i.invariant c.before.before.before.before.before.before.loop-i-test.true c.before.before.before.before.if-s-end-eq10.false _ (reads c.before.before))
+loop_again c = let f : SFits w32 c.word_of-f.result.value = sfits_of c.struct_told-1.given.1.0.1 in
+    rw (to_z-of_z f) (filled_next _ _ _ _ _ _ _ c.loop-i.invariant c.loop-i-test.true c.if-s-end-eq10.false _ (reads c.before.before))
 
 -- the LF after the eighth word
-there : (c : tie.After-position-end invariant-loop-i decreases-loop-i) → c.position-end.result ≡ before 10 (drop c.before.before.before.loop-i.end c.before.before.before.before.before.args.s.now)
-there c = rw (part_rest c.before.before.before.before.before.args.s.now c.before.before.before.loop-i.end) at c.position-end.ensures
+there : (c : tie.After-position-end invariant-loop-i decreases-loop-i) → c.position-end.result ≡ before 10 (drop c.loop-i.end c.args.s.now)
+there c = rw (part_rest c.args.s.now c.loop-i.end) at c.position-end.ensures
 
 add-end-2 : tie.Need-overflow_add-end-2 invariant-loop-i decreases-loop-i
 unfolding HasEnd
-add-end-2 c = let s = c.before.before.before.before.before.args.s.now in
-    let e = c.before.before.before.loop-i.end in
-    let h : e + c.position-end.result ≤ length s = omega (arith, c.before.before.before.loop-i.invariant.reached.ends, there c, length-drop e s) in
+add-end-2 c = let s = c.args.s.now in
+    let e = c.loop-i.end in
+    let h : e + c.position-end.result ≤ length s = omega (arith, c.loop-i.invariant.reached.ends, there c, length-drop e s) in
     search rules
 
 returns_2 : tie.Need-returns invariant-loop-i decreases-loop-i
-returns_2 c = filled_all _ _ _ _ _ _ _ c.before.before.before.loop-i.invariant c.before.before.loop-i-test.false _ (ap (λ n. c.before.before.before.loop-i.end + n) (there c))
+returns_2 c = filled_all _ _ _ _ _ _ _ c.loop-i.invariant c.loop-i-test.false _ (ap (λ n. c.loop-i.end + n) (there c))
 
 pub line_words_spec : {M : Type 1} → statement M
 line_words_spec =
@@ -54,18 +54,18 @@ line_words_spec =
     invariant-loop-i
     decreases-loop-i
     (λ c. search rules)
-    (λ c. filled_none _ _ c.before.requires)
-    (λ c. ends_within _ _ c.before.before.loop-i.invariant.reached.ends)
+    (λ c. filled_none _ _ c.requires)
+    (λ c. ends_within _ _ c.loop-i.invariant.reached.ends)
     returns
-    (λ c. let h = ends_within c.before.before.before.before.before.args.s.now c.before.before.before.loop-i.end c.before.before.before.loop-i.invariant.reached.ends in search rules)
-    (λ c. let h = ends_within c.before.before.before.before.before.args.s.now c.before.before.before.loop-i.end c.before.before.before.loop-i.invariant.reached.ends in search rules)
-    (λ c. let h = ends_within c.before.before.before.before.before.args.s.now c.before.before.before.loop-i.end c.before.before.before.loop-i.invariant.reached.ends in search rules)
+    (λ c. let h = ends_within c.args.s.now c.loop-i.end c.loop-i.invariant.reached.ends in search rules)
+    (λ c. let h = ends_within c.args.s.now c.loop-i.end c.loop-i.invariant.reached.ends in search rules)
+    (λ c. let h = ends_within c.args.s.now c.loop-i.end c.loop-i.invariant.reached.ends in search rules)
     (λ c. search rules) (λ c κs. search rules) (λ c. search rules) (λ c. search rules) (λ c. search rules) (λ c. search rules)
     add-end
     (λ c. search rules) (λ c. search rules) (λ c. search rules) (λ c. search rules)
     loop_again
-    (λ c. let h = ends_within c.before.before.before.args.s.now c.before.loop-i.end c.before.loop-i.invariant.reached.ends in search rules)
-    (λ c. let h = ends_within c.before.before.before.args.s.now c.before.loop-i.end c.before.loop-i.invariant.reached.ends in search rules)
+    (λ c. let h = ends_within c.args.s.now c.loop-i.end c.loop-i.invariant.reached.ends in search rules)
+    (λ c. let h = ends_within c.args.s.now c.loop-i.end c.loop-i.invariant.reached.ends in search rules)
     (λ c. search rules) (λ c κs. search rules)
     add-end-2
     returns_2)

@@ -15,22 +15,22 @@ use Rattle.reading.proofs.text.marked.Tie as tie
 
 -- the text, the word at its front, and what `natural` found after its first byte
 abbrev text : tie.After-natural-n → List ℕ
-text c = c.before.before.before.before.before.before.args.s.now
+text c = c.args.s.now
 
 abbrev word : tie.After-natural-n → List ℕ
 word c = front (text c)
 
 some : (c : tie.After-natural-n) → 0 < length (word c)
-some c = omega (arith, front_length (text c), c.before.before.before.before.before.before.requires.0)
+some c = omega (arith, front_length (text c), c.requires.0)
 
 none : (c : tie.After-natural-n) → is_natural (word c) ≡ false
-none c = c.before.before.before.before.before.before.requires.1
+none c = c.requires.1
 
 found : (c : tie.After-natural-n) → natural_of (drop 1 (word c)) ≡ c.natural-n.result
-found c = sym (c.natural-n.ensures ∙ ap (λ (t : List ℕ). natural_of (front t)) (part_rest (text c) 1) ∙ ap natural_of (front_rest (text c) c.before.before.before.before.before.before.requires.0))
+found c = sym (c.natural-n.ensures ∙ ap (λ (t : List ℕ). natural_of (front t)) (part_rest (text c) 1) ∙ ap natural_of (front_rest (text c) c.requires.0))
 
 first : (c : tie.After-natural-n) → get_or (word c) 0 0 ≡ get_or (text c) 0 0
-first c = front_at (text c) 0 c.before.before.before.before.before.before.requires.0
+first c = front_at (text c) 0 c.requires.0
 
 -- its length, where the bytes after the first are a number
 size : (c : tie.After-natural-n) (v k : ℕ) → c.natural-n.result ≡ DigitsRead.Of v k → k + 1 ≡ stop (text c)
@@ -52,48 +52,48 @@ other-word-requires : tie.Need-other_word-requires
 other-word-requires c κs = let s = c.before.before.before.before in
     let text = s.args.s.now in
     let h : 0 < length (front text) = omega (arith, front_length text, s.requires.0) in
-    mark_plain (front text) h s.requires.1 (ap marks (front_at text 0 s.requires.0) ∙ sym c.before.marks.ensures ∙ turned _ c.if-not-marks.true-raw)
+    mark_plain (front text) h s.requires.1 (ap marks (front_at text 0 s.requires.0) ∙ sym c.marks.ensures ∙ turned _ c.if-not-marks.true-raw)
 
 other-word-requires-2 : tie.Need-other_word-requires-in_default
-other-word-requires-2 c κs = let call = c.before.before in
-    mark_none _ (some call) (none call) (found call ∙ c.enum_told-1.given.1)
+other-word-requires-2 c κs = let call = c.before in
+    mark_none _ (some call) (none call) (found call ∙ c.in_default.is)
 
 signed-requires : tie.Need-signed-requires
-signed-requires c κs = natural_small _ _ _ (found c.before.before.before.before ∙ c.before.before.n-1.given.1)
+signed-requires c κs = natural_small _ _ _ (found c.before.before ∙ c.in-Of.is)
 
 add-t15 : tie.Need-overflow_add-result
-add-t15 c = let h = fits c.before.before.before.before.before _ _ c.before.before.before.n-1.given.1 in search rules
+add-t15 c = let h = fits c.before.before.before _ _ c.in-Of.is in search rules
 
 returns_3 : tie.Need-returns-then-first-eq118
 unfolding variable_word word_in
-returns_3 c = let call = c.before.before.before.before.before in
-    let e = c.before.before.before.n-1.given.1 in
+returns_3 c = let call = c.before.before.before in
+    let e = c.in-Of.is in
     record {
-      word = rw (to_z-of_z (sfits_of c.signed.type_inv), c.signed.ensures) (mark_variable _ (some call) (none call) _ _ (found call ∙ e) (first call ∙ c.before.if-first-eq118.true));
+      word = rw (to_z-of_z (sfits_of c.signed.type_inv), c.signed.ensures) (mark_variable _ (some call) (none call) _ _ (found call ∙ e) (first call ∙ c.if-first-eq118.true));
       end = size call _ _ e;
     }
 
 other-word-requires-3 : tie.Need-other_word-requires-then-first-ne45
-other-word-requires-3 c κs = let call = c.before.before.before.before.before in
-    mark_other _ (some call) (none call) _ _ (found call ∙ c.before.before.before.n-1.given.1) (λ z. c.if-first-ne45.true (sym (first call) ∙ z)) (λ z. c.before.if-first-eq118.false (sym (first call) ∙ z))
+other-word-requires-3 c κs = let call = c.before.before.before in
+    mark_other _ (some call) (none call) _ _ (found call ∙ c.in-Of.is) (λ z. c.if-first-ne45.true (sym (first call) ∙ z)) (λ z. c.if-first-eq118.false (sym (first call) ∙ z))
 
 other-word-requires-4 : tie.Need-other_word-requires-then-v-eq0
-other-word-requires-4 c κs = let call = c.before.before.before.before.before.before in
-    mark_zero _ (some call) (none call) _ _ (found call ∙ c.before.before.before.before.n-1.given.1) (first call ∙ c.before.if-first-ne45.false) c.if-v-eq0.true
+other-word-requires-4 c κs = let call = c.before.before.before.before in
+    mark_zero _ (some call) (none call) _ _ (found call ∙ c.in-Of.is) (first call ∙ c.if-first-ne45.false) c.if-v-eq0.true
 
 signed-requires-2 : tie.Need-signed-requires-2
-signed-requires-2 c κs = let call = c.before.before.before.before.before.before in
-    natural_small _ _ _ (found call ∙ c.before.before.before.before.n-1.given.1)
+signed-requires-2 c κs = let call = c.before.before.before.before in
+    natural_small _ _ _ (found call ∙ c.in-Of.is)
 
 add-t11 : tie.Need-overflow_add-result-2
-add-t11 c = let h = fits c.before.before.before.before.before.before.before _ _ c.before.before.before.before.before.n-1.given.1 in search rules
+add-t11 c = let h = fits c.before.before.before.before.before _ _ c.in-Of.is in search rules
 
 returns-6 : tie.Need-returns
 unfolding word_in
-returns-6 c = let call = c.before.before.before.before.before.before.before in
-    let e = c.before.before.before.before.before.n-1.given.1 in
+returns-6 c = let call = c.before.before.before.before.before in
+    let e = c.in-Of.is in
     record {
-      word = rw (to_z-of_z (sfits_of c.signed-2.type_inv), c.signed-2.ensures) (mark_negative _ (some call) (none call) _ _ (found call ∙ e) (first call ∙ c.before.before.if-first-ne45.false) c.before.if-v-eq0.false);
+      word = rw (to_z-of_z (sfits_of c.signed-2.type_inv), c.signed-2.ensures) (mark_negative _ (some call) (none call) _ _ (found call ∙ e) (first call ∙ c.if-first-ne45.false) c.if-v-eq0.false);
       end = size call _ _ e;
     }
 

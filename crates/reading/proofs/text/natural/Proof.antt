@@ -12,41 +12,41 @@ use Rattle.reading.proofs.text.natural.Tie as tie
 
 -- the text, its word, and how many digits that has
 abbrev text : tie.After-digits-d → List ℕ
-text c = c.before.before.args.s.now
+text c = c.args.s.now
 
 many : (c : tie.After-digits-d) (v n : ℕ) → c.digits-d.result ≡ DigitsRead.Of v n → n ≡ length (front (text c))
 many c v n e = digits_many (front (text c)) v n (sym c.digits-d.ensures ∙ e)
 
 returns : tie.Need-returns-in_default
-returns c = natural_other _ (sym c.before.before.digits-d.ensures ∙ c.enum_told-1.given.1)
+returns c = natural_other _ (sym c.digits-d.ensures ∙ c.in_default.is)
 
 returns_2 : tie.Need-returns-then-n-eq0
-returns_2 c = let d = c.before.before.before.before in
-    natural_none (front (text d)) (omega (arith, many d _ _ c.before.before.d-1.given.1, c.if-n-eq0.true))
+returns_2 c = let d = c.before.before in
+    natural_none (front (text d)) (omega (arith, many d _ _ c.in-Of.is, c.if-n-eq0.true))
 
 returns_3 : tie.Need-returns-then-n-eq1
-returns_3 c = let d = c.before.before.before.before.before in
-    let e = c.before.before.before.d-1.given.1 in
+returns_3 c = let d = c.before.before.before in
+    let e = c.in-Of.is in
     let m = many d _ _ e in
     sym e ∙ d.digits-d.ensures ∙ natural_one (front (text d)) (omega (arith, m, c.if-n-eq1.true)) (λ (z : length (front (text d)) ≡ 0). omega (arith, m, c.if-n-eq1.true))
 
 shared-slice-read-if3 : tie.Need-bounds-s-0
-shared-slice-read-if3 c = let d = c.before.before.before.before.before.before in
-    let m = many d _ _ c.before.before.before.before.d-1.given.1 in
-    omega (arith, m, c.before.before.if-n-eq0.false, front_length (text d), stop_within (text d))
+shared-slice-read-if3 c = let d = c.before.before.before.before in
+    let m = many d _ _ c.in-Of.is in
+    omega (arith, m, c.if-n-eq0.false, front_length (text d), stop_within (text d))
 
 returns-4 : tie.Need-returns-then-s-eq48
-returns-4 c = let d = c.before.before.before.before.before.before.before in
-    let m = many d _ _ c.before.before.before.before.before.d-1.given.1 in
-    let f = front_at (text d) 0 (omega (arith, m, c.before.before.before.if-n-eq0.false, front_length (text d))) in
-    natural_zero (front (text d)) (omega (arith, m, c.before.before.before.if-n-eq0.false, c.before.before.if-n-eq1.false)) (f ∙ c.if-s-eq48.true)
+returns-4 c = let d = c.before.before.before.before.before in
+    let m = many d _ _ c.in-Of.is in
+    let f = front_at (text d) 0 (omega (arith, m, c.if-n-eq0.false, front_length (text d))) in
+    natural_zero (front (text d)) (omega (arith, m, c.if-n-eq0.false, c.if-n-eq1.false)) (f ∙ c.if-s-eq48.true)
 
 returns-5 : tie.Need-returns
-returns-5 c = let d = c.before.before.before.before.before.before.before in
-    let e = c.before.before.before.before.before.d-1.given.1 in
+returns-5 c = let d = c.before.before.before.before.before in
+    let e = c.in-Of.is in
     let m = many d _ _ e in
-    let f = front_at (text d) 0 (omega (arith, m, c.before.before.before.if-n-eq0.false, front_length (text d))) in
-    sym e ∙ d.digits-d.ensures ∙ natural_long (front (text d)) (λ z. c.if-s-eq48.false (sym f ∙ z)) (λ (z : length (front (text d)) ≡ 0). omega (arith, m, c.before.before.before.if-n-eq0.false))
+    let f = front_at (text d) 0 (omega (arith, m, c.if-n-eq0.false, front_length (text d))) in
+    sym e ∙ d.digits-d.ensures ∙ natural_long (front (text d)) (λ z. c.if-s-eq48.false (sym f ∙ z)) (λ (z : length (front (text d)) ≡ 0). omega (arith, m, c.if-n-eq0.false))
 
 pub natural_spec : {M : Type 1} → statement M
 natural_spec =

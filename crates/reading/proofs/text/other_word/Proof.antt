@@ -10,14 +10,14 @@ use Rattle.reading.proofs.text.other_word.Statement.{statement}
 use Rattle.reading.proofs.text.other_word.Tie as tie
 
 slice-aggregate-plain-word : tie.Need-slice_bounds-plain_word-end
-slice-aggregate-plain-word c = sym (length-take-le _ _ (omega (arith, c.before.stop-end.ensures, stop_within c.before.before.before.args.s.now)))
+slice-aggregate-plain-word c = sym (length-take-le _ _ (omega (arith, c.stop-end.ensures, stop_within c.args.s.now)))
 
 returns : tie.Need-returns
 unfolding front
-returns c = let s = c.before.before.before.before.args.s.now in
+returns c = let s = c.args.s.now in
     record {
-      word = c.plain_word-tag.ensures ∙ ap (λ n. plain_word (take n s)) c.before.before.stop-end.ensures ∙ c.before.before.before.before.requires;
-      end = c.before.before.stop-end.ensures;
+      word = c.plain_word-tag.ensures ∙ ap (λ n. plain_word (take n s)) c.stop-end.ensures ∙ c.requires;
+      end = c.stop-end.ensures;
     }
 
 pub other_word_spec : {M : Type 1} → statement M

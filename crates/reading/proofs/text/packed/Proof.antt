@@ -15,8 +15,8 @@ abbrev decreases-loop-i : tie.decreases-loop-i
 decreases-loop-i s n₀ i₀ n i = i
 
 -- fewer than 5 bytes are packed before the last one
-few : (c : tie.In-loop-i invariant-loop-i decreases-loop-i) → length (drop c.before.loop-i.i c.before.before.args.s.now) ≤ 4
-few c = omega (arith, c.before.before.requires, c.loop-i-test.true, length-drop c.before.loop-i.i c.before.before.args.s.now)
+few : (c : tie.In-loop-i invariant-loop-i decreases-loop-i) → length (drop c.loop-i.i c.args.s.now) ≤ 4
+few c = omega (arith, c.requires, c.loop-i-test.true, length-drop c.loop-i.i c.args.s.now)
 
 loop_holds : tie.Need-loop-i-init invariant-loop-i decreases-loop-i
 loop_holds c = (search rules, packs_none c.args.s.now)
@@ -25,20 +25,20 @@ mul-n : tie.Need-overflow_mul-n invariant-loop-i decreases-loop-i
 mul-n c = let l = c.before in let m = packs_few _ _ l.loop-i.invariant.1 (few c) in search rules
 
 cast-n : tie.Need-overflow_cast-n invariant-loop-i decreases-loop-i
-cast-n c = omega (arith, c.shared_slice_known-1.given (c.before.before.loop-i.i - 1))
+cast-n c = omega (arith, c.shared_slice_known-1.given (c.loop-i.i - 1))
 
 add-n : tie.Need-overflow_add-n invariant-loop-i decreases-loop-i
-add-n c = omega (arith, c.shared_slice_known-1.given (c.before.before.loop-i.i - 1), packs_few _ _ c.before.before.loop-i.invariant.1 (few c.before))
+add-n c = omega (arith, c.shared_slice_known-1.given (c.loop-i.i - 1), packs_few _ _ c.loop-i.invariant.1 (few c.before))
 
 loop_again : tie.Need-loop-i-preserved invariant-loop-i decreases-loop-i
 loop_again c = let l = c.before.before in
-    let h = c.before.loop-i-test.true in
+    let h = c.loop-i-test.true in
     let e : suc (l.loop-i.i - 1) ≡ l.loop-i.i = omega arith in
-    (omega (arith, l.loop-i.invariant.0), packs_more l.before.args.s.now (l.loop-i.i - 1) l.loop-i.n (omega (arith, l.loop-i.invariant.0)) (omega (arith, c.shared_slice_known-1.given (l.loop-i.i - 1))) (rw e l.loop-i.invariant.1))
+    (omega (arith, l.loop-i.invariant.0), packs_more l.args.s.now (l.loop-i.i - 1) l.loop-i.n (omega (arith, l.loop-i.invariant.0)) (omega (arith, c.shared_slice_known-1.given (l.loop-i.i - 1))) (rw e l.loop-i.invariant.1))
 
 returns : tie.Need-returns invariant-loop-i decreases-loop-i
-returns c = let e : c.before.loop-i.i ≡ 0 = omega (arith, c.loop-i-test.false) in
-    rw e at c.before.loop-i.invariant.1
+returns c = let e : c.loop-i.i ≡ 0 = omega (arith, c.loop-i-test.false) in
+    rw e at c.loop-i.invariant.1
 
 pub packed_spec : {M : Type 1} → statement M
 packed_spec =

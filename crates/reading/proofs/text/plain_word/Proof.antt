@@ -10,7 +10,7 @@ unfolding keywords word_at word_in
 returns c = plain_long _ c.if-s-gt5.true
 
 returns_2 : tie.Need-returns
-returns_2 c = c.keyword.ensures ∙ plain_packed _ _ c.before.packed.ensures
+returns_2 c = c.keyword.ensures ∙ plain_packed _ _ c.packed.ensures
 
 pub plain_word_spec : {M : Type 1} → statement M
 plain_word_spec =

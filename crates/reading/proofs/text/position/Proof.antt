@@ -17,17 +17,17 @@ decreases-loop-i s b i₀ i = length s - i
 
 returns : tie.Need-returns-then-s-i invariant-loop-i decreases-loop-i
 returns c = let l = c.before.before.before in
-    let e = before_here _ _ _ c.before.before.loop-i-test.true c.if-s-i.true in
+    let e = before_here _ _ _ c.loop-i-test.true c.if-s-i.true in
     sym (l.loop-i.invariant.1 ∙ ap (λ n. l.loop-i.i + n) e ∙ omega arith)
 
 loop_again : tie.Need-loop-i-preserved invariant-loop-i decreases-loop-i
 loop_again c = let l = c.before.before.before in
-    let e = before_on _ _ _ c.before.before.loop-i-test.true c.if-s-i.false in
+    let e = before_on _ _ _ c.loop-i-test.true c.if-s-i.false in
     (omega arith, rw add-one (l.loop-i.invariant.1 ∙ ap (λ n. l.loop-i.i + n) e ∙ omega arith))
 
 returns_2 : tie.Need-returns invariant-loop-i decreases-loop-i
 returns_2 c = let l = c.before in
-    let e = before_end l.before.args.b _ _ c.loop-i-test.false in
+    let e = before_end l.args.b _ _ c.loop-i-test.false in
     sym (l.loop-i.invariant.1 ∙ ap (λ n. l.loop-i.i + n) e ∙ omega arith)
 
 pub position_spec : {M : Type 1} → statement M

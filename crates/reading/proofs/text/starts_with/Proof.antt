@@ -20,18 +20,18 @@ returns c = sym (starts_short _ _ c.if-s-key.true)
 
 returns_2 : tie.Need-returns-then-s-i invariant-loop-i decreases-loop-i
 returns_2 c = let test = c.before.before.before in
-    let inv = test.before.loop-i.invariant in
-    let h : test.before.loop-i.i < length test.before.before.before.args.s.now = omega arith in
+    let inv = test.loop-i.invariant in
+    let h : test.loop-i.i < length test.args.s.now = omega arith in
     sym (inv.2 ∙ starts_other _ _ _ test.loop-i-test.true h c.if-s-i.true)
 
 loop_again : tie.Need-loop-i-preserved invariant-loop-i decreases-loop-i
 loop_again c = let test = c.before.before.before in
-    let inv = test.before.loop-i.invariant in
-    let h : test.before.loop-i.i < length test.before.before.before.args.s.now = omega arith in
+    let inv = test.loop-i.invariant in
+    let h : test.loop-i.i < length test.args.s.now = omega arith in
     (inv.0, omega arith, rw add-one (inv.2 ∙ starts_same _ _ _ test.loop-i-test.true h c.if-s-i.false))
 
 returns_3 : tie.Need-returns invariant-loop-i decreases-loop-i
-returns_3 c = sym (c.before.loop-i.invariant.2 ∙ starts_end _ _ _ c.loop-i-test.false)
+returns_3 c = sym (c.loop-i.invariant.2 ∙ starts_end _ _ _ c.loop-i-test.false)
 
 pub starts_with_spec : {M : Type 1} → statement M
 starts_with_spec =

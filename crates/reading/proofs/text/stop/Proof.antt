@@ -17,17 +17,17 @@ decreases-loop-i s i₀ i = length s - i
 
 returns : tie.Need-returns-then-stops invariant-loop-i decreases-loop-i
 returns c = let l = c.before.before.before.before in
-    let e = stop_here _ _ c.before.before.before.loop-i-test.true (sym c.before.stops.ensures ∙ c.if-stops.true) in
+    let e = stop_here _ _ c.loop-i-test.true (sym c.stops.ensures ∙ c.if-stops.true) in
     sym (l.loop-i.invariant.1 ∙ ap (λ n. l.loop-i.i + n) e ∙ omega arith)
 
 loop_again : tie.Need-loop-i-preserved invariant-loop-i decreases-loop-i
 loop_again c = let l = c.before.before.before.before in
-    let e = stop_on _ _ c.before.before.before.loop-i-test.true (sym c.before.stops.ensures ∙ c.if-stops.false) in
-    rw (add-one l.loop-i.i) (c.before.before.before.loop-i-test.true, l.loop-i.invariant.1 ∙ ap (λ n. l.loop-i.i + n) e ∙ omega arith)
+    let e = stop_on _ _ c.loop-i-test.true (sym c.stops.ensures ∙ c.if-stops.false) in
+    rw (add-one l.loop-i.i) (c.loop-i-test.true, l.loop-i.invariant.1 ∙ ap (λ n. l.loop-i.i + n) e ∙ omega arith)
 
 returns_2 : tie.Need-returns invariant-loop-i decreases-loop-i
 returns_2 c = let e = stop_end _ _ c.loop-i-test.false in
-    sym (c.before.loop-i.invariant.1 ∙ ap (λ n. c.before.loop-i.i + n) e ∙ omega arith)
+    sym (c.loop-i.invariant.1 ∙ ap (λ n. c.loop-i.i + n) e ∙ omega arith)
 
 pub stop_spec : {M : Type 1} → statement M
 stop_spec =

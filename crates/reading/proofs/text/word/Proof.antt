@@ -8,7 +8,7 @@ use Rattle.reading.proofs.text.word.Statement.{statement}
 use Rattle.reading.proofs.text.word.Tie as tie
 
 returns : tie.Need-returns
-returns c = let f : SFits w32 (get_or c.before.before.before.args.t1.values c.before.before.before.args.k (pos 0)) = search rules in
+returns c = let f : SFits w32 (get_or c.args.t1.values c.args.k (pos 0)) = search rules in
     rw (to_z-of_z f) at c.said.ensures
 
 pub word_spec : {M : Type 1} → statement M

@@ -11,15 +11,15 @@ use Rattle.reading.proofs.words.amount.Statement.{statement}
 use Rattle.reading.proofs.words.amount.Tie as tie
 
 cast-result : tie.Need-overflow_cast-result
-cast-result c = let r : SFits w32 c.number_of_lem.result = sfits_of c.number_of_lem.type_inv in
-    let (a, b) = amount_yes 0 highest c.before.args.w c.before.requires in
-    let (k, _) = number_yes (pos 0) highest c.before.args.w c.before.requires in
-    let h : pos 0 ≤ℤ c.number_of_lem.result = rw c.number_of_lem.ensures k in
-    rw (to_z-of_z r) (omega ints, record { fits = omega (ints, abs_parts c.number_of_lem.result) })
+cast-result c = let r : SFits w32 c.number_of.result = sfits_of c.number_of.type_inv in
+    let (a, b) = amount_yes 0 highest c.args.w c.requires in
+    let (k, _) = number_yes (pos 0) highest c.args.w c.requires in
+    let h : pos 0 ≤ℤ c.number_of.result = rw c.number_of.ensures k in
+    rw (to_z-of_z r) (omega ints, record { fits = omega (ints, abs_parts c.number_of.result) })
 
 returns : tie.Need-returns
-returns c = let r : SFits w32 c.number_of_lem.result = sfits_of c.number_of_lem.type_inv in
-    rw (to_z-of_z r, c.number_of_lem.ensures)
+returns c = let r : SFits w32 c.number_of.result = sfits_of c.number_of.type_inv in
+    rw (to_z-of_z r, c.number_of.ensures)
 
 pub amount_spec : {M : Type 1} → statement M
 amount_spec = tie.close (tie.spec (λ c κs. search rules) cast-result returns)

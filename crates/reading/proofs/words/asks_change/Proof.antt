@@ -11,8 +11,8 @@ asks_change_spec =
     (tie.spec
     (λ c. search rules) (λ c κs. search rules) (λ c. search rules) (λ c κs. search rules) (λ c. search rules) (λ c κs. search rules) (λ c. search rules)
     (λ c κs. search rules)
-    (λ c. rw c.before.enum_told-1.given.1 c.asks_number.ensures)
-    (λ c. rw c.before.enum_told-in-Sub-1.given.1 c.asks_number-in-Sub.ensures)
-    (λ c. rw c.before.enum_told-in-Mul-1.given.1 c.asks_number-in-Mul.ensures)
-    (λ c. rw c.before.enum_told-in-Div-1.given.1 c.asks_number-in-Div.ensures)
-    (λ c. (no_change c.before.args.name c.before.args.w c.in_default.keys5).0))
+    (λ c. rw c.in-Add.is c.asks_number.ensures)
+    (λ c. rw c.in-Sub.is c.asks_number-in-Sub.ensures)
+    (λ c. rw c.in-Mul.is c.asks_number-in-Mul.ensures)
+    (λ c. rw c.in-Div.is c.asks_number-in-Div.ensures)
+    (λ c. (no_change c.args.name c.args.w c.in_default.in_default-own.keys5).0))

@@ -7,12 +7,12 @@ use Rattle.reading.proofs.words.asks_number.Statement.{statement}
 use Rattle.reading.proofs.words.asks_number.Tie as tie
 
 returns : tie.Need-returns-in-Number
-returns c = let f : SFits w32 c.before.before.w-1.given.0.0 = search rules in
-    let s = c.before.before.before.before.ranges in
-    rw c.before.before.w-1.given.1 (simp (to_z-of_z s.lo, to_z-of_z s.hi, to_z-of_z f) at c.inside.ensures)
+returns c = let f : SFits w32 c.in-Number.z = search rules in
+    let s = c.ranges in
+    rw c.in-Number.is (simp (to_z-of_z s.lo, to_z-of_z s.hi, to_z-of_z f) at c.inside.ensures)
 
 returns_2 : tie.Need-returns-in_default
-returns_2 c = (no_number c.before.args.w c.in_default.keys2).0 _ _
+returns_2 c = (no_number c.args.w c.in_default.in_default-own.keys2).0 _ _
 
 pub asks_number_spec : {M : Type 1} → statement M
 asks_number_spec =

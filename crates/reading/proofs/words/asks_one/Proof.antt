@@ -7,15 +7,15 @@ use Rattle.reading.proofs.words.asks_one.Statement.{statement}
 use Rattle.reading.proofs.words.asks_one.Tie as tie
 
 returns : tie.Need-returns-then-inside-eq0
-returns c = let f : SFits w32 c.before.before.before.w-1.given.0.0 = search rules in
-    rw c.before.before.before.w-1.given.1 (one_yes c.before.before.before.w-1.given.0.0 _ (simp (to_z-of_z f) at c.before.inside.ensures) c.if-inside-eq0.true)
+returns c = let f : SFits w32 c.in-Number.z = search rules in
+    rw c.in-Number.is (one_yes c.in-Number.z _ (simp (to_z-of_z f) at c.inside.ensures) c.if-inside-eq0.true)
 
 returns_2 : tie.Need-returns-else-inside-eq0
-returns_2 c = let f : SFits w32 c.before.before.before.w-1.given.0.0 = search rules in
-    rw c.before.before.before.w-1.given.1 (one_no c.before.before.before.w-1.given.0.0 _ (simp (to_z-of_z f) at c.before.inside.ensures) c.if-inside-eq0.false)
+returns_2 c = let f : SFits w32 c.in-Number.z = search rules in
+    rw c.in-Number.is (one_no c.in-Number.z _ (simp (to_z-of_z f) at c.inside.ensures) c.if-inside-eq0.false)
 
 returns_3 : tie.Need-returns-in_default
-returns_3 c = (no_number c.before.args.w c.in_default.keys2).1
+returns_3 c = (no_number c.args.w c.in_default.in_default-own.keys2).1
 
 pub asks_one_spec : {M : Type 1} → statement M
 asks_one_spec =

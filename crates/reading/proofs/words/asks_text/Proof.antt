@@ -4,7 +4,7 @@ use Rattle.reading.proofs.words.asks_text.Statement.{statement}
 use Rattle.reading.proofs.words.asks_text.Tie as tie
 
 returns_2 : tie.Need-returns
-returns_2 c = let a = c.before.before.args in no_text a.s.now a.at a.end a.vars (search rules)
+returns_2 c = let a = c.args in no_text a.s.now a.at a.end a.vars (search rules)
 
 pub asks_text_spec : {M : Type 1} → statement M
 asks_text_spec =

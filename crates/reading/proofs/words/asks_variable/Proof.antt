@@ -4,10 +4,10 @@ use Rattle.reading.proofs.words.asks_variable.Statement.{statement}
 use Rattle.reading.proofs.words.asks_variable.Tie as tie
 
 returns : tie.Need-returns-in-Variable
-returns c = rw c.before.before.w-1.given.1 c.below.ensures
+returns c = rw c.in-Variable.is c.below.ensures
 
 returns_2 : tie.Need-returns-in_default
-returns_2 c = (no_variable c.before.args.w c.in_default.keys2).0 _
+returns_2 c = (no_variable c.args.w c.in_default.in_default-own.keys2).0 _
 
 pub asks_variable_spec : {M : Type 1} → statement M
 asks_variable_spec =

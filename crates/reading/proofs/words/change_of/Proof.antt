@@ -11,11 +11,11 @@ change_of_spec =
     tie.close
     (tie.spec
     (λ c. search rules) (λ c κs. search rules) (λ c. search rules) (λ c κs. search rules) (λ c. search rules)
-    (λ c κs. number_wider (pos 1) highest (pos 0) highest c.before.before.args.w (omega ints) (omega ints) (rw c.enum_told-in-Mul-1.given.1 at c.before.before.requires))
+    (λ c κs. number_wider (pos 1) highest (pos 0) highest c.args.w (omega ints) (omega ints) (rw c.in-Mul.is at c.requires))
     (λ c. search rules)
-    (λ c κs. number_wider (pos 1) highest (pos 0) highest c.before.before.args.w (omega ints) (omega ints) (rw c.enum_told-in-Div-1.given.1 at c.before.before.requires))
-    (λ c. rw (c.before.enum_told-1.given.1, c.amount.ensures))
-    (λ c. rw (c.before.enum_told-in-Sub-1.given.1, c.amount-in-Sub.ensures))
-    (λ c. rw (c.before.enum_told-in-Mul-1.given.1, c.amount-in-Mul.ensures))
-    (λ c. rw (c.before.enum_told-in-Div-1.given.1, c.amount-in-Div.ensures))
-    (λ c. (no_change c.before.args.name c.before.args.w c.in_default.keys5).1))
+    (λ c κs. number_wider (pos 1) highest (pos 0) highest c.args.w (omega ints) (omega ints) (rw c.in-Div.is at c.requires))
+    (λ c. rw (c.in-Add.is, c.amount.ensures))
+    (λ c. rw (c.in-Sub.is, c.amount-in-Sub.ensures))
+    (λ c. rw (c.in-Mul.is, c.amount-in-Mul.ensures))
+    (λ c. rw (c.in-Div.is, c.amount-in-Div.ensures))
+    (λ c. (no_change c.args.name c.args.w c.in_default.in_default-own.keys5).1))

@@ -9,17 +9,17 @@ use Rattle.reading.proofs.words.operand_of.Statement.{statement}
 use Rattle.reading.proofs.words.operand_of.Tie as tie
 
 cast-t13 : tie.Need-overflow_cast-result
-cast-t13 c = omega (arith, rw (sym c.before.before.before.word-w.ensures ∙ c.before.w-in-Variable-1.given.1) at c.before.before.before.before.requires.1.small)
+cast-t13 c = omega (arith, rw (sym c.word-w.ensures ∙ c.in-Variable.is) at c.requires.1.small)
 
 returns : tie.Need-returns-in-Number
-returns c = let f : SFits w32 c.before.w-1.given.0.0 = search rules in
-    rw (sym c.before.before.before.word-w.ensures ∙ c.before.w-1.given.1) (simp (to_z-of_z f))
+returns c = let f : SFits w32 c.in-Number.z = search rules in
+    rw (sym c.word-w.ensures ∙ c.in-Number.is) (simp (to_z-of_z f))
 
 returns_2 : tie.Need-returns-in-Variable
-returns_2 c = rw (sym c.before.before.before.word-w.ensures ∙ c.before.w-in-Variable-1.given.1)
+returns_2 c = rw (sym c.word-w.ensures ∙ c.in-Variable.is)
 
 returns_3 : tie.Need-returns-in_default
-returns_3 c = rw (← c.before.before.before.word-w.ensures) (no_operand _ _ _ c.before.before.before.word-w.result c.before.before.in_default.keys3)
+returns_3 c = rw (← c.word-w.ensures) (no_operand _ _ _ c.word-w.result c.in_default.in_default-own.keys3)
 
 pub operand_of_spec : {M : Type 1} → statement M
 operand_of_spec =

@@ -8,6 +8,6 @@ step_of_spec =
     tie.close
     (tie.spec
     (λ c. search rules)
-    (λ c κs. rw c.before.x-1.given.1 at c.before.before.before.requires)
-    (λ c. rw c.before.before.x-1.given.1 c.change_of.ensures)
-    (λ c. ((no_keyword c.before.args.x c.in_default.keys2).0 _).1))
+    (λ c κs. rw c.in-Keyword.is at c.requires)
+    (λ c. rw c.in-Keyword.is c.change_of.ensures)
+    (λ c. ((no_keyword c.args.x c.in_default.in_default-own.keys2).0 _).1))

@@ -26,16 +26,16 @@ abbrev given : ℕ → digits-len-lts.Claims
 given t = (digits_len_below t, digits-len.Post)
 
 returns : (t : ℕ) → digits-len-lts.Need-returns (given t) (digits_len_at t) digits-len.Post
-returns t c = (sym (room_none _ _ c.if-k-eq0.true), omega arith)
+returns t c = (sym (room_none _ _ c.if1.true), omega arith)
 
 returns_2 : (t : ℕ) → digits-len-lts.Need-returns-2 (given t) (digits_len_at t) digits-len.Post
-returns_2 t c = (sym (room_one _ _ c.before.if-k-eq0.false c.if-n-lt10.true), omega (arith, c.before.if-k-eq0.false))
+returns_2 t c = (sym (room_one _ _ c.before.if1.false c.if2.true), omega (arith, c.before.if1.false))
 
 returns_3 : (t : ℕ) → digits-len-lts.Need-returns-3 (given t) (digits_len_at t) digits-len.Post
 returns_3 t c =
     let two = c.before in
-    let h = c.digits_len.ensures in
-    (ap (λ (n : ℕ). n + 1) h.0 ∙ sym (room_more _ _ two.before.if-k-eq0.false two.if-n-lt10.false), omega (arith, h.1, two.before.if-k-eq0.false))
+    let h = c.digits-len.ensures in
+    (ap (λ (n : ℕ). n + 1) h.0 ∙ sym (room_more _ _ two.before.if1.false two.if2.false), omega (arith, h.1, two.before.if1.false))
 
 pub +digits-len-spec : {M : Type 1} → statement M
 +digits-len-spec = close μ-digits-len λ t. digits-len-lts.spec (given t) (digits_len_at t) digits-len.Post

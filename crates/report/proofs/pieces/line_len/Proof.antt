@@ -21,10 +21,10 @@ count c = pieces_count c.args.t1 ∙ omega arith
 loop_again : tie.Need-loop-i-preserved invariant-loop-i decreases-loop-i
 loop_again c =
     let turn = c.before.before in
-    measured_more 20 _ _ _ _ turn.before.loop-i.invariant (omega (arith, count turn.before.before)) (c.piece_len-len.ensures.0 ∙ ap length (sym (piece_at _ _))) c.piece_len-len.ensures.1
+    measured_more 20 _ _ _ _ turn.loop-i.invariant (omega (arith, count turn.before.before)) (c.piece_len-len.ensures.0 ∙ ap length (sym (piece_at _ _))) c.piece_len-len.ensures.1
 
 returns : tie.Need-returns invariant-loop-i decreases-loop-i
-returns c = (measured_all 20 _ _ _ c.before.loop-i.invariant (omega (arith, count c.before.before)), omega (arith, count c.before.before))
+returns c = (measured_all 20 _ _ _ c.loop-i.invariant (omega (arith, count c.before.before)), omega (arith, count c.before.before))
 
 pub line_len_spec : {M : Type 1} → statement M
 line_len_spec = tie.close (tie.spec

@@ -5,7 +5,7 @@ use Rattle.report.proofs.pieces.piece_len.Tie as tie
 
 returns_3 : tie.Need-returns-in-Number
 unfolding decimal
-returns_3 c = rw c.before.before.piece-in-Number-1.given.1 c.digits_len.ensures
+returns_3 c = rw c.in-Number.is c.digits_len.ensures
 
 pub piece_len_spec : {M : Type 1} → statement M
 piece_len_spec = tie.close (tie.spec

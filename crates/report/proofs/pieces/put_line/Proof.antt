@@ -21,14 +21,14 @@ count c = pieces_count c.args.t1 ∙ omega arith
 
 -- room for the next piece
 room : (c : tie.In-loop-i invariant-loop-i decreases-loop-i) →
-    c.before.loop-i.at + length (piece_text (get_or c.before.before.before.args.t1 c.before.loop-i.i Nothing)) ≤ length c.before.loop-i.out
-room c = rw piece_at at (writing_room _ _ _ _ _ c.before.loop-i.invariant (omega (arith, count c.before.before.before)) c.before.before.before.requires)
+    c.loop-i.at + length (piece_text (get_or c.args.t1 c.loop-i.i Nothing)) ≤ length c.loop-i.out
+room c = rw piece_at at (writing_room _ _ _ _ _ c.loop-i.invariant (omega (arith, count c.before.before.before)) c.requires)
 
 loop_again : tie.Need-loop-i-preserved invariant-loop-i decreases-loop-i
 loop_again c =
     let turn = c.before.before.before.before.before in
     let start = turn.before.before.before in
-    writing_more _ _ _ _ _ _ _ turn.before.loop-i.invariant (omega (arith, count start)) start.requires (rw (← piece_at start.args.t1 turn.before.loop-i.i) at c.before.before.put_piece-at.ensures)
+    writing_more _ _ _ _ _ _ _ turn.loop-i.invariant (omega (arith, count start)) start.requires (rw (← piece_at start.args.t1 turn.loop-i.i) at c.put_piece-at.ensures)
 
 pub put_line_spec : {M : Type 1} → statement M
 put_line_spec = tie.close (tie.spec
@@ -43,5 +43,5 @@ put_line_spec = tie.close (tie.spec
     (λ c. omega (arith, room c.before.before.before.before.before))
     (λ c. search rules) (λ c. search rules)
     loop_again
-    (λ c. c.before.loop-i.invariant.same)
-    (λ c. writing_all _ _ _ _ _ c.before.loop-i.invariant (omega (arith, count c.before.before.before))))
+    (λ c. c.loop-i.invariant.same)
+    (λ c. writing_all _ _ _ _ _ c.loop-i.invariant (omega (arith, count c.before.before.before))))

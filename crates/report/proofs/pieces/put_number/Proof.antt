@@ -15,19 +15,19 @@ unfolding decimal
 room c = rw length-append at c.requires
 
 -- the key is written
-keyed : (c : tie.After-copy-at) → Wrote c.before.before.before.before.args.key.now c.before.before.before.before.args.out.now c.copy-at.new.1.0 c.copy-at.result
-keyed c = wrote_copy _ _ _ _ _ refl c.copy-at.ensures.0 c.copy-at.ensures.1
+keyed : (c : tie.After-copy-at) → Wrote c.args.key.now c.args.out.now c.copy-at.new.1.0 c.copy-at.result
+keyed c = wrote_copy _ _ _ _ _ refl c.copy-at.ensures.count c.copy-at.ensures.bytes
 
 returns : tie.Need-returns
 unfolding decimal
 returns c =
     let d = c.before.before.before.before.before.before in
-    wrote_then _ _ _ _ _ _ _ (keyed d) c.before.before.put_digits.ensures
+    wrote_then _ _ _ _ _ _ _ (keyed d) c.put_digits.ensures
 
 same_length : tie.Need-shape_of-out
 same_length c =
     let d = c.before.before.before.before.before.before in
-    let w = wrote_then _ _ _ _ _ _ _ (keyed d) c.before.before.put_digits.ensures in
+    let w = wrote_then _ _ _ _ _ _ _ (keyed d) c.put_digits.ensures in
     wrote_length _ _ _ _ (rw length-append (room d.before.before.before.before)) w
 
 pub put_number_spec : {M : Type 1} → statement M
@@ -37,6 +37,6 @@ put_number_spec = tie.close (tie.spec
     (λ c. omega (arith, room c.before.before.before.before.before.before, (keyed c.before.before).count))
     (λ c. search rules)
     (λ c κs. simp (part_rest, length-drop) (omega (arith, room c.before.before.before.before.before.before.before, (keyed c.before.before.before).count)))
-    (λ c. omega (arith, room c.before.before.before.before.before.before.before.before.before.before, (keyed c.before.before.before.before.before.before).count, c.before.before.put_digits.ensures.count))
+    (λ c. omega (arith, room c.before.before.before.before.before.before.before.before.before.before, (keyed c.before.before.before.before.before.before).count, c.put_digits.ensures.count))
     same_length
     returns)

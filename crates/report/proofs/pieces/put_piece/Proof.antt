@@ -10,7 +10,7 @@ use Rattle.report.proofs.pieces.put_piece.Statement.{statement}
 use Rattle.report.proofs.pieces.put_piece.Tie as tie
 
 returns : tie.Need-returns-in-Nothing
-returns c = rw c.enum_told-1.given.1 (wrote_nothing _)
+returns c = rw c.in-Nothing.is (wrote_nothing _)
 
 pub put_piece_spec : {M : Type 1} → statement M
 unfolding decimal
@@ -18,11 +18,11 @@ put_piece_spec =
     tie.close
     (tie.spec
     (λ c. search rules) (λ c. search rules)
-    (λ c κs. omega (arith, ap (λ (p : Piece). length (piece_text p)) c.before.before.piece-1.given.1))
+    (λ c κs. omega (arith, ap (λ (p : Piece). length (piece_text p)) c.in-Fixed.is))
     (λ c. search rules)
-    (λ c κs. omega (arith, ap (λ (p : Piece). length (piece_text p)) c.before.before.piece-in-Number-1.given.1))
+    (λ c κs. omega (arith, ap (λ (p : Piece). length (piece_text p)) c.in-Number.is))
     returns
     (λ c. search rules)
-    (λ c. rw c.before.before.before.before.before.piece-1.given.1 c.before.before.put_label.ensures)
+    (λ c. rw c.in-Fixed.is c.put_label.ensures)
     (λ c. search rules)
-    (λ c. rw c.before.before.before.before.before.piece-in-Number-1.given.1 c.before.before.put_digits.ensures))
+    (λ c. rw c.in-Number.is c.put_digits.ensures))

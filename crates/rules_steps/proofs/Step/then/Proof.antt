@@ -14,25 +14,25 @@ use Rattle.rules_steps.proofs.two_of.Reads as two-of-reads
 use Rattle.rules_steps.proofs.product.Reads as product-reads
 
 -- at a place after the call of `two_of`, where the case k is known
-met : (p : lts.After-two-of (two-of-reads.Asked, two-of-reads.Learnt, product-reads.Asked, product-reads.Learnt) reads.Pre reads.Post) {k : Two} → p.two-of.result ≡ k
-    → (then p.before.args.self p.before.args.next ≡ then_two k) × TwoEnds 512 512 k
-met p g = then_known _ _ p.before.requires p.two-of.ensures g
+met : (p : lts.After-two_of-two (two-of-reads.Asked, two-of-reads.Learnt, product-reads.Asked, product-reads.Learnt) reads.Pre reads.Post) {k : Two} → p.two_of-two.result ≡ k
+    → (then p.args.self p.args.next ≡ then_two k) × TwoEnds 512 512 k
+met p g = then_known _ _ p.requires p.two_of-two.ensures g
 
 add-t17 : tie.Need-overflow_add-result
 add-t17 c =
-    let n = (met c.before.before.before c.before.two-1.given.1).1 in
+    let n = (met c.before c.in-Adds.is).1 in
     let h = near_fits n.0.0 n.1.0 in
     search rules
 
 add-t18 : tie.Need-overflow_add-result-in-Adds
 add-t18 c =
-    let n = (met c.before.before.before c.before.two-1.given.1).1 in
+    let n = (met c.before c.in-Adds.is).1 in
     let h = near_fits n.0.1 n.1.1 in
     search rules
 
 returns : tie.Need-returns-in-Adds
 returns c =
-    let (e, n) = met c.before.before.before c.before.two-1.given.1 in
+    let (e, n) = met c.before c.in-Adds.is in
     let h = near_fits n.0.0 n.1.0 in
     let k = near_fits n.0.1 n.1.1 in
     rw e (simp (to_z-of_z h.0, to_z-of_z h.1, to_z-of_z h.2, to_z-of_z k.0, to_z-of_z k.1, to_z-of_z k.2))
@@ -45,13 +45,13 @@ then_spec =
     add-t17
     add-t18
     (λ c. search rules)
-    (λ c κs. let n = (met c.before.before.before c.before.two-in-Grows-1.given.1).1 in (n.0.first, n.1.first))
-    (λ c κs. let n = (met c.before.before.before.before c.before.before.two-in-Grows-1.given.1).1 in (n.0.second, n.1.second))
+    (λ c κs. let n = (met c.before c.in-Grows.is).1 in (n.0.first, n.1.first))
+    (λ c κs. let n = (met c.before.before c.in-Grows.is).1 in (n.0.second, n.1.second))
     (λ c. search rules)
-    (λ c κs. let n = (met c.before.before.before c.before.two-in-Shrinks-1.given.1).1 in (n.0.first, n.1.first))
-    (λ c κs. let n = (met c.before.before.before.before c.before.before.two-in-Shrinks-1.given.1).1 in (n.0.second, n.1.second))
+    (λ c κs. let n = (met c.before c.in-Shrinks.is).1 in (n.0.first, n.1.first))
+    (λ c κs. let n = (met c.before.before c.in-Shrinks.is).1 in (n.0.second, n.1.second))
     (λ c. search rules)
     returns
-    (λ c. rw ((met c.before.before.before.before.before c.before.before.before.two-in-Grows-1.given.1).0, c.before.product.ensures, c.product-in-Grows.ensures))
-    (λ c. rw ((met c.before.before.before.before.before c.before.before.before.two-in-Shrinks-1.given.1).0, c.before.product-in-Shrinks.ensures, c.product-in-Shrinks-2.ensures))
-    (λ c. rw (met c.before.before c.enum_told-1.given.1).0))
+    (λ c. rw ((met c.before.before.before c.in-Grows.is).0, c.product.ensures, c.product-in-Grows.ensures))
+    (λ c. rw ((met c.before.before.before c.in-Shrinks.is).0, c.product-in-Shrinks.ensures, c.product-in-Shrinks-2.ensures))
+    (λ c. rw (met c.before c.in-Mixture.is).0))

@@ -34,52 +34,52 @@ decreases-loop-m text rows from store₀ picks counts₀ cues₀ prices count m�
     rank (length (script_in text rows count)) (place_in (script_in text rows count) m store picks counts)
 
 loop_holds : tie.Need-loop-m-init invariant-loop-m decreases-loop-m
-loop_holds c = let p = c.before.before.before.before.before.before.requires in (p, reached_start _ _ _ _ _ _ _ p, refl, none_kept _ p.script.table.few _ _, (λ _. firing_start _ _ _ _), refl, omega arith)
+loop_holds c = let p = c.requires in (p, reached_start _ _ _ _ _ _ _ p, refl, none_kept _ p.script.table.few _ _, (λ _. firing_start _ _ _ _), refl, omega arith)
 
 test-row-requires : tie.Need-test_row-m-requires invariant-loop-m decreases-loop-m
 test-row-requires c κs =
-    let l = c.before.before.before.before.loop-m in
-    let e = c.before.before.before.if-m.true in
+    let l = c.loop-m in
+    let e = c.if-m.true in
     (_, at_a_test _ _ _ _ _ _ _ l.invariant.0 l.m l.store l.counts l.invariant.1 e, kept_at _ _ _ _ _ _ _ l.invariant.0 l.m l.store l.counts l.invariant.1 l.limits l.invariant.2 l.invariant.3 e)
 
 put-cue-requires : tie.Need-put_cue-put-requires invariant-loop-m decreases-loop-m
 put-cue-requires c κs =
-    let l = c.before.before.before.before.loop-m in
+    let l = c.loop-m in
     let r = l.invariant.0.script in
-    (omega (arith, c.before.if-count-m.false, r.size, r.table.size), omega (arith, l.invariant.5, l.invariant.6))
+    (omega (arith, c.if-count-m.false, r.size, r.table.size), omega (arith, l.invariant.5, l.invariant.6))
 
 act-requires : tie.Need-act-m-requires invariant-loop-m decreases-loop-m
 act-requires c κs =
-    let l = c.before.before.before.before.before.before.before.before.before.before.loop-m in
-    (_, at_row _ _ _ _ _ _ _ l.invariant.0 l.m l.store l.counts l.invariant.1 c.before.before.before.before.before.before.before.before.before.if-m.false (omega (arith, c.before.before.before.before.before.before.before.if-count-m.false)))
+    let l = c.loop-m in
+    (_, at_row _ _ _ _ _ _ _ l.invariant.0 l.m l.store l.counts l.invariant.1 c.if-m.false (omega (arith, c.if-count-m.false)))
 
 -- past the last row
 returns : tie.Need-returns-then-count-m invariant-loop-m decreases-loop-m
 returns c =
-    let l = c.before.before.before.before.before.loop-m in
-    let p = c.before.before.if-count-m.true in
+    let l = c.loop-m in
+    let p = c.if-count-m.true in
     let e = past_end _ _ _ _ _ _ _ l.invariant.0 l.m l.store l.counts l.invariant.1 p in
     record {
-      live = λ q. went_over _ _ _ _ _ _ _ _ _ _ c.stopped.result _ _ (rw (sym c.before.over.ensures) c.stopped.ensures)
+      live = λ q. went_over _ _ _ _ _ _ _ _ _ _ c.stopped.result _ _ (rw (sym c.over.ensures) c.stopped.ensures)
           (past_fires _ l.invariant.0.price _ _ _ _ l.m l.store l.counts _ l.invariant.0.script _ l.cues l.fired (l.invariant.4 q) p)
           (λ i e. absurd (let z : ◌≡◌ {A = ℕ} 0 1 = cc in omega arith))
           e;
-      run = λ _. rw (c.stopped.ensures.0, c.before.over.ensures) e;
+      run = λ _. rw (c.stopped.ensures.0, c.over.ensures) e;
     }
 
 -- the list is full
 returns_2 : tie.Need-returns-then-put invariant-loop-m decreases-loop-m
 returns_2 c =
-    let l = c.before.before.before.before.before.before.before.before.before.before.loop-m in
+    let l = c.loop-m in
     let ready = l.invariant.0 in
-    let e = c.before.before.before.before.before.before.before.before.before.if-m.false in
-    let count = c.before.before.before.before.before.before.before.before.before.before.before.before.before.before.before.before.before.args.script.count in
-    let i : l.m.row < count = omega (arith, c.before.before.before.before.before.before.before.if-count-m.false) in
+    let e = c.if-m.false in
+    let count = c.args.script.count in
+    let i : l.m.row < count = omega (arith, c.if-count-m.false) in
     let at = at_row _ _ _ _ _ _ _ ready l.m l.store l.counts l.invariant.1 e i in
-    let put = c.before.before.before.before.before.put_cue-put.ensures in
-    let full = c.before.before.if-put.true in
+    let put = c.put_cue-put.ensures in
+    let full = c.if-put.true in
     record {
-      live = λ q. went_full _ _ _ _ _ _ _ _ _ _ c.stopped-then-put.result (over_at l.m l.m.left Ended count) l.fired (rw (sym c.before.over-then-put.ensures) c.stopped-then-put.ensures)
+      live = λ q. went_full _ _ _ _ _ _ _ _ _ _ c.stopped-then-put.result (over_at l.m l.m.left Ended count) l.fired (rw (sym c.over-then-put.ensures) c.stopped-then-put.ensures)
           (row_full _ ready.price ready.script (fit_of ready.script) _ l.m l.store _ l.counts i _ l.cues _ l.fired _ _ (l.invariant.4 q) q put full)
           e count refl l.invariant.1.left l.invariant.1.used at.room;
       run = λ q. no_true (sym q ∙ full_listed put full);
@@ -88,8 +88,8 @@ returns_2 c =
 -- the test or the row is one step
 abbrev Done : tie.Joined-m invariant-loop-m decreases-loop-m → Type 0
 Done c =
-    let l = c.before.loop-m in
-    let a = c.before.before.before.before.before.before.before.before.args in
+    let l = c.loop-m in
+    let a = c.args in
     let rows = script_in a.text.now a.rows.now a.script.count in
     Stepped a.script.prices rows l.m c.if-m.m l.store c.if-m.store a.picks.now l.counts c.if-m.counts
     × (length c.if-m.store ≡ length l.store)
@@ -101,7 +101,7 @@ Done c =
 
 done : (c : tie.Joined-m invariant-loop-m decreases-loop-m) → Done c
 done c =
-    let l = c.before.loop-m in
+    let l = c.loop-m in
     let ready = l.invariant.0 in
     let script = subst (Runs _ _ _) (sym l.invariant.1.vars) ready.script in
     ⊎_elim {C = Done c}
@@ -118,7 +118,7 @@ done c =
       l.invariant.6,
     ))
     (λ w.
-    let i : l.m.row < c.before.before.before.before.before.before.before.before.args.script.count = omega (arith, w.2.left) in
+    let i : l.m.row < c.args.script.count = omega (arith, w.2.left) in
     let s = w.10.ensures _ (at_row _ _ _ _ _ _ _ ready l.m l.store l.counts l.invariant.1 w.0.left i) in
     let e : length w.10.last.1.1.1.1.0 ≡ length l.store = search rules in
     rw (w.12, w.13, w.14, w.15, w.16, w.17) (
@@ -135,20 +135,20 @@ done c =
 -- over
 over_there : (c : tie.After-stopped-then-not-going invariant-loop-m decreases-loop-m)
     → let d = c.before.before.before in
-    let a = c.before.before.before.before.before.before.before.before.before.before.before.args in
+    let a = c.args in
     let rows = script_in a.text.now a.rows.now a.script.count in
     a.from.listed ≡ true → Stopped a.script.prices rows (place_in rows a.from.machine a.store.now a.picks.now a.counts.now) a.cues.now d.if-m.cues d.if-m.fired
     (stood_by false d.if-m.m.status d.if-m.m d.if-m.store a.picks.now (tally_of (loop_rows 0 rows) d.if-m.counts))
 over_there c q =
     let d = c.before.before.before in
-    after_over _ _ _ _ d.if-m.cues d.if-m.fired d.if-m.m d.if-m.store _ _ d.if-m.m.status (sym c.before.before.going.ensures ∙ not-true _ c.before.if-not-going.true-raw) ((done d).4 q)
+    after_over _ _ _ _ d.if-m.cues d.if-m.fired d.if-m.m d.if-m.store _ _ d.if-m.m.status (sym c.going.ensures ∙ not-true _ c.if-not-going.true-raw) ((done d).4 q)
 
 returns_3 : tie.Need-returns-then-not-going invariant-loop-m decreases-loop-m
 returns_3 c =
     let d = c.before.before.before in
-    let l = d.before.loop-m in
+    let l = d.loop-m in
     let (x, y, _, _, _, _, _) = done d in
-    let e = is_over _ _ _ _ _ _ _ l.invariant.0 l.m l.store l.counts l.invariant.1 d.if-m.m d.if-m.store d.if-m.counts y x (sym c.before.before.going.ensures ∙ not-true _ c.before.if-not-going.true-raw) in
+    let e = is_over _ _ _ _ _ _ _ l.invariant.0 l.m l.store l.counts l.invariant.1 d.if-m.m d.if-m.store d.if-m.counts y x (sym c.going.ensures ∙ not-true _ c.if-not-going.true-raw) in
     record {
       live = λ q. went_over _ _ _ _ _ _ _ _ _ _ c.stopped-then-not-going.result d.if-m.m d.if-m.fired c.stopped-then-not-going.ensures (over_there c q)
           (after_spent _ _ _ _ d.if-m.cues d.if-m.fired d.if-m.m d.if-m.store _ _ d.if-m.m.status ((done d).4 q))
@@ -159,23 +159,23 @@ returns_3 c =
 -- it goes on from there, with a lower rank
 again : (c : tie.Else-not-going invariant-loop-m decreases-loop-m)
     → let d = c.before.before in
-    let l = d.before.loop-m in
-    let a = c.before.before.before.before.before.before.before.before.before.before.args in
+    let l = d.loop-m in
+    let a = c.args in
     let rows = script_in a.text.now a.rows.now a.script.count in
     Reached a.script.prices a.rows.now a.script.count a.picks.now a.from.machine a.store.now a.counts.now l.invariant.0 d.if-m.m d.if-m.store d.if-m.counts
     × (rank (length rows) (place_in rows d.if-m.m d.if-m.store a.picks.now d.if-m.counts) < rank (length rows) (place_in rows l.m l.store a.picks.now l.counts))
 again c =
     let d = c.before.before in
-    let l = d.before.loop-m in
+    let l = d.loop-m in
     let (x, y, _, _, _, _, _) = done d in
-    goes_on _ _ _ _ _ _ _ l.invariant.0 l.m l.store l.counts l.invariant.1 d.if-m.m d.if-m.store d.if-m.counts y x (sym c.before.going.ensures ∙ not-false _ c.if-not-going.false-raw)
+    goes_on _ _ _ _ _ _ _ l.invariant.0 l.m l.store l.counts l.invariant.1 d.if-m.m d.if-m.store d.if-m.counts y x (sym c.going.ensures ∙ not-false _ c.if-not-going.false-raw)
 
 loop_again : tie.Need-loop-m-preserved invariant-loop-m decreases-loop-m
 loop_again c =
     let d = c.before.before in
     let (_, _, y, z, f, g, h) = done d in
-    let on = sym c.before.going.ensures ∙ not-false _ c.if-not-going.false-raw in
-    (d.before.loop-m.invariant.0, (again c).0, y, z on, (λ q. after_going _ _ _ _ d.if-m.cues d.if-m.fired d.if-m.m d.if-m.store _ _ d.if-m.m.status on (f q)), g, h)
+    let on = sym c.going.ensures ∙ not-false _ c.if-not-going.false-raw in
+    (d.loop-m.invariant.0, (again c).0, y, z on, (λ q. after_going _ _ _ _ d.if-m.cues d.if-m.fired d.if-m.m d.if-m.store _ _ d.if-m.m.status on (f q)), g, h)
 
 pub go_on_spec : {M : Type 1} → statement M
 go_on_spec =
@@ -187,19 +187,19 @@ go_on_spec =
     test-row-requires
     (λ c κs. search rules)
     (λ c κs. search rules)
-    (λ c. c.before.before.before.before.before.loop-m.invariant.1.vars)
-    (λ c. c.before.before.before.before.before.loop-m.invariant.5)
+    (λ c. c.loop-m.invariant.1.vars)
+    (λ c. c.loop-m.invariant.5)
     returns
     put-cue-requires
     (λ c κs. search rules)
     (λ c κs. search rules)
-    (λ c. c.before.before.before.before.before.before.before.before.before.before.loop-m.invariant.1.vars)
+    (λ c. c.loop-m.invariant.1.vars)
     (λ c. search rules)
     returns_2
     act-requires
     (λ c κs. search rules)
     (λ c κs. search rules)
-    (λ c. (done c.before.before.before).1 ∙ c.before.before.before.before.loop-m.invariant.1.vars)
+    (λ c. (done c.before.before.before).1 ∙ c.loop-m.invariant.1.vars)
     (λ c. (done c.before.before.before).5)
     returns_3
     (λ c. (again c).1)

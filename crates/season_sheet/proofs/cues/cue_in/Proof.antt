@@ -16,7 +16,7 @@ cue_in_spec = tie.close (tie.spec
     (λ c text. search rules)
     (λ c text. search rules)
     (λ c text. search rules)
-    (λ c text. rw c.before.kind-1.given.1)
+    (λ c text. rw c.in-Cue.is)
     (λ c text. search rules)
     (λ c text. search rules)
     (λ c text. search rules)

@@ -8,10 +8,10 @@ use Rattle.season_sheet.proofs.cues.put_cue.Statement.{statement}
 use Rattle.season_sheet.proofs.cues.put_cue.Tie as tie
 
 returns : tie.Need-returns-in-Nothing
-returns c = (λ text w old h l. put_none h (sym (ap fired_by c.enum_told-1.given.1) ∙ c.before.before.cue_in-row.ensures text), omega arith)
+returns c = (λ text w old h l. put_none h (sym (ap fired_by c.in-Nothing.is) ∙ c.cue_in-row.ensures text), omega arith)
 
 returns_2 : tie.Need-returns-in-Cue
-returns_2 c = (λ text w old h l. put_one h l (sym (ap fired_by c.before.row-1.given.1) ∙ c.before.before.before.cue_in-row.ensures text), omega arith)
+returns_2 c = (λ text w old h l. put_one h l (sym (ap fired_by c.in-Cue.is) ∙ c.cue_in-row.ensures text), omega arith)
 
 pub put_cue_spec : {M : Type 1} → statement M
 put_cue_spec = tie.close (tie.spec

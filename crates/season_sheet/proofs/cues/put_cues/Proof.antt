@@ -35,26 +35,26 @@ kind-at-requires : tie.Need-kind_at-kind-requires invariant-loop-j decreases-loo
 kind-at-requires c κs = let s = c.before.before.before.before in omega (arith, s.requires.0, s.requires.2, c.loop-j-test.true)
 
 put-cue-requires : tie.Need-put_cue-at-requires invariant-loop-j decreases-loop-j
-put-cue-requires c κs = let l = c.before.before.before.loop-j in omega (arith, l.invariant.1, l.invariant.2, c.before.before.loop-j-test.true, c.before.before.before.before.before.before.requires.1)
+put-cue-requires c κs = let l = c.loop-j in omega (arith, l.invariant.1, l.invariant.2, c.loop-j-test.true, c.requires.1)
 
 loop_again : tie.Need-loop-j-preserved invariant-loop-j decreases-loop-j
 loop_again c =
     let s = c.before.before.before.before.before.before.before.before.before in
     let t = s.args.rows.now in
-    let l = c.before.before.before.before.before.before.loop-j in
-    let i = c.before.before.before.before.before.loop-j-test.true in
-    let p = c.before.before.put_cue-at in (
+    let l = c.loop-j in
+    let i = c.loop-j-test.true in
+    let p = c.put_cue-at in (
       omega arith,
       omega (arith, p.ensures.1, l.invariant.1),
       search rules,
-      λ text. rw (cues_next (script_rows text (rows_of t) s.args.count) l.j (omega (arith, size s text)), kind_of_lem text s.args.count (rows_of t) l.j i, ← c.before.before.before.before.kind_at-kind.ensures)
+      λ text. rw (cues_next (script_rows text (rows_of t) s.args.count) l.j (omega (arith, size s text)), kind_of_lem text s.args.count (rows_of t) l.j i, ← c.kind_at-kind.ensures)
           (p.ensures.0 text _ _ (l.invariant.3 text) (omega (arith, (l.invariant.3 text).count, l.invariant.1, s.requires.1))),
     )
 
 returns : tie.Need-returns invariant-loop-j decreases-loop-j
 returns c =
     let s = c.before.before.before.before in
-    let l = c.before.loop-j in
+    let l = c.loop-j in
     (λ text. rw (take_all l.j (script_rows text (rows_of s.args.rows.now) s.args.count) (omega (arith, size s text, c.loop-j-test.false))) at (l.invariant.3 text), omega (arith, l.invariant.0, l.invariant.1))
 
 pub put_cues_spec : {M : Type 1} → statement M
@@ -66,5 +66,5 @@ put_cues_spec = tie.close (tie.spec
     put-cue-requires
     (λ c. search rules) (λ c. search rules)
     loop_again
-    (λ c. c.before.loop-j.invariant.2)
+    (λ c. c.loop-j.invariant.2)
     returns)

@@ -14,8 +14,8 @@ room c = let (js, h, l) = c.requires in (used_room c.args.file.now _ _ _ _ _ _ j
 
 keep-first-requires : tie.Need-keep_first-fresh-requires
 keep-first-requires c κs =
-    let (js, h, l) = c.before.before.before.before.before.before.before.before.before.before.before.before.before.before.before.before.before.before.before.requires in
-    let a = adds c.before.before.before.before.before.before.before.before.before.before.before.before.before.before.before.before.before.before.before.args.file.now _ _ _ _ _ _ js h l _ _ _ c.before.before.before.before.before.before.before.before.before.before.before.measure-found.ensures _ c.before.before.before.before.before.reply-1.given.1 in
+    let (js, h, l) = c.requires in
+    let a = adds c.args.file.now _ _ _ _ _ _ js h l _ _ _ c.measure-found.ensures _ c.in-Accepted.is in
     let r = room c.before.before.before.before.before.before.before.before.before.before.before.before.before.before.before.before.before.before.before in
     record {
       place = omega (arith, h.few, h.places);
@@ -23,34 +23,34 @@ keep-first-requires c κs =
       bytes = omega (arith, a.same, a.short, r.0);
       same = h.firing ∙ sym h.places;
       numbers = omega (arith, h.firsts.numbers.sum);
-      room = omega (arith, a.also, c.before.before.before.before.before.before.before.before.before.before.before.measure-found.ensures.few, r.1);
+      room = omega (arith, a.also, c.measure-found.ensures.few, r.1);
     }
 
 with-accepted-requires : tie.Need-with_accepted-requires
 with-accepted-requires c κs =
-    let (js, h, l) = c.before.before.before.before.before.before.before.before.before.before.before.before.before.before.before.before.before.before.before.before.before.before.before.before.requires in
-    let a = adds c.before.before.before.before.before.before.before.before.before.before.before.before.before.before.before.before.before.before.before.before.before.before.before.before.args.file.now _ _ _ _ _ _ js h l _ _ _ c.before.before.before.before.before.before.before.before.before.before.before.before.before.before.before.before.measure-found.ensures _ c.before.before.before.before.before.before.before.before.before.before.reply-1.given.1 in
+    let (js, h, l) = c.requires in
+    let a = adds c.args.file.now _ _ _ _ _ _ js h l _ _ _ c.measure-found.ensures _ c.in-Accepted.is in
     let r = room c.before.before.before.before.before.before.before.before.before.before.before.before.before.before.before.before.before.before.before.before.before.before.before.before in
-    let m = c.before.before.before.before.before.before.before.before.before.before.before.before.before.before.before.before.measure-found.ensures in
+    let m = c.measure-found.ensures in
     (omega (arith, h.files), omega (arith, h.sum), m.decreases.few, omega (arith, h.few), omega (arith, h.room, a.short, r.0), omega (arith, h.numbers, m.few, r.1))
 
 with-refused-requires : tie.Need-with_refused-requires
-with-refused-requires c κs = let (js, h, l) = c.before.before.before.before.before.before.before.before.before.before.before.before.before.before.before.before.requires in (omega (arith, h.files), h.long, λ q k. omega (arith, h.each q k))
+with-refused-requires c κs = let (js, h, l) = c.requires in (omega (arith, h.files), h.long, λ q k. omega (arith, h.each q k))
 
 returns : tie.Need-returns-in-Accepted
 returns c = λ js h.
-    let (js₀, h₀, l₀) = c.before.before.before.before.before.before.before.before.before.before.before.before.before.before.before.before.before.before.before.before.before.before.before.before.before.requires in
+    let (js₀, h₀, l₀) = c.requires in
     let l : length js < 64 = omega (arith, h.files, h₀.files) in
-    let m = c.before.before.before.before.before.before.before.before.before.before.before.before.before.before.before.before.before.measure-found.ensures in
-    let a = adds c.before.before.before.before.before.before.before.before.before.before.before.before.before.before.before.before.before.before.before.before.before.before.before.before.before.args.file.now _ _ _ _ _ _ js h l _ _ _ m _ c.before.before.before.before.before.before.before.before.before.before.before.reply-1.given.1 in
+    let m = c.measure-found.ensures in
+    let a = adds c.args.file.now _ _ _ _ _ _ js h l _ _ _ m _ c.in-Accepted.is in
     holds_accepted js _ _ _ _ _ _ _ h a.script _ a.judgement _ _ _ _ _ _ _ _ c.with_accepted.ensures a.figure m.decreases.few
-    (c.before.before.before.before.before.keep_first-fresh.ensures _ _ a.kept a.text a.short a.fires m.few) (search rules) (a.same ∙ h.room) (search rules) (a.also ∙ h.numbers)
+    (c.keep_first-fresh.ensures _ _ a.kept a.text a.short a.fires m.few) (search rules) (a.same ∙ h.room) (search rules) (a.also ∙ h.numbers)
 
 returns_2 : tie.Need-returns-in-Refused
 returns_2 c = λ js h.
-    let (js₀, h₀, l₀) = c.before.before.before.before.before.before.before.before.before.before.before.before.before.before.before.before.before.requires in
+    let (js₀, h₀, l₀) = c.requires in
     let l : length js < 64 = omega (arith, h.files, h₀.files) in
-    let a = leaves c.before.before.before.before.before.before.before.before.before.before.before.before.before.before.before.before.before.args.file.now _ _ _ _ _ _ js h l _ _ _ c.before.before.before.before.before.before.before.before.before.measure-found.ensures _ _ c.before.before.before.reply-in-Refused-1.given.1 in
+    let a = leaves c.args.file.now _ _ _ _ _ _ js h l _ _ _ c.measure-found.ensures _ _ c.in-Refused.is in
     holds_refused js _ _ _ _ _ _ _ h _ _ _ a.judgement _ _ _ c.with_refused.ensures a.kept a.same a.also
 
 pub add_file_spec : {M : Type 1} → statement M

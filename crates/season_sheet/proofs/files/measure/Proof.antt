@@ -11,24 +11,24 @@ use Rattle.season_sheet.proofs.files.measure.Tie as tie
 
 put-cues-requires : tie.Need-put_cues-fired-requires
 put-cues-requires c κs =
-    let s = c.before.before.before.before.before.before.before.before.before.before.before in
-    let g = file_given four_ones s.args.file.now _ _ _ c.before.before.before.before.before.load-l.ensures c.before.before.enum_told-1.given.1 in
+    let s = c.before.before.before.before.before.before.before.before.before.before in
+    let g = file_given four_ones s.args.file.now _ _ _ c.load-l.ensures c.in-Passed.is in
     (g.size, omega (arith, g.size, s.requires), g.table.size)
 
 measure-script-requires : tie.Need-measure_script-measured-requires
-measure-script-requires c κs = (file_given four_ones c.before.before.before.before.before.before.before.before.before.before.before.before.before.before.before.before.before.args.file.now _ _ _ c.before.before.before.before.before.before.before.before.before.before.before.load-l.ensures c.before.before.before.before.before.before.before.before.enum_told-1.given.1, ones_priced)
+measure-script-requires c κs = (file_given four_ones c.args.file.now _ _ _ c.load-l.ensures c.in-Passed.is, ones_priced)
 
 returns : tie.Need-returns-in-Passed
 returns c =
-    let s = c.before.before.before.before.before.before.before.before.before.before.before.before.before.before.before.before.before.before.before.before in
+    let s = c.before.before.before.before.before.before.before.before.before.before.before.before.before.before.before.before.before.before.before in
     let file = s.args.file.now in
-    let p = c.before.before.before.before.before.before.before.before.put_cues-fired in
-    found_read file _ _ _ c.before.before.before.before.before.before.before.before.before.before.before.before.before.before.load-l.ensures c.before.before.before.before.before.before.before.before.before.before.before.enum_told-1.given.1 c.before.before.measure_script-measured.ensures (p.ensures.0 file) p.ensures.1 s.requires
+    let p = c.put_cues-fired in
+    found_read file _ _ _ c.load-l.ensures c.in-Passed.is c.measure_script-measured.ensures (p.ensures.0 file) p.ensures.1 s.requires
 
 returns_2 : tie.Need-returns-in-Refused
 returns_2 c =
-    let file = c.before.before.before.before.before.before.before.before.before.before.args.file.now in
-    found_no (lent_yes four_ones 1_024 ones_priced file ∙ file_refused four_ones file _ _ _ c.before.before.before.before.load-l.ensures c.before.verdict-1.given.1)
+    let file = c.args.file.now in
+    found_no (lent_yes four_ones 1_024 ones_priced file ∙ file_refused four_ones file _ _ _ c.load-l.ensures c.in-Refused.is)
 
 pub measure_spec : {M : Type 1} → statement M
 measure_spec = tie.close (tie.spec

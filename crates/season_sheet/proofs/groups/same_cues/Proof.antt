@@ -18,18 +18,18 @@ decreases-loop-i first cues i₀ i = length first - i
 
 returns_2 : tie.Need-returns-then-cues-i invariant-loop-i decreases-loop-i
 returns_2 c =
-    let l = c.before.before.before.before.loop-i in
-    let t = c.before.before.before.loop-i-test.true in
+    let l = c.loop-i in
+    let t = c.loop-i-test.true in
     sym (l.invariant.1 ∙ equals_stop _ _ l.i t (omega (arith, l.invariant.0)) c.if-cues-i.true)
 
 loop_again : tie.Need-loop-i-preserved invariant-loop-i decreases-loop-i
 loop_again c =
-    let l = c.before.before.before.before.loop-i in
-    let t = c.before.before.before.loop-i-test.true in
+    let l = c.loop-i in
+    let t = c.loop-i-test.true in
     (l.invariant.0, rw add-one (l.invariant.1 ∙ equals_step _ _ l.i t (omega (arith, l.invariant.0)) c.if-cues-i.false))
 
 returns_3 : tie.Need-returns invariant-loop-i decreases-loop-i
-returns_3 c = let l = c.before.loop-i in sym (l.invariant.1 ∙ equals_end _ _ l.i c.loop-i-test.false (omega (arith, l.invariant.0, c.loop-i-test.false)))
+returns_3 c = let l = c.loop-i in sym (l.invariant.1 ∙ equals_end _ _ l.i c.loop-i-test.false (omega (arith, l.invariant.0, c.loop-i-test.false)))
 
 pub same_cues_spec : {M : Type 1} → statement M
 same_cues_spec = tie.close (tie.spec
@@ -38,7 +38,7 @@ same_cues_spec = tie.close (tie.spec
     (λ c. equals_longer _ _ c.if-first-cues.true)
     (λ c. (c.if-first-cues.false, refl))
     (λ c. search rules)
-    (λ c. omega (arith, c.before.before.loop-i.invariant.0))
+    (λ c. omega (arith, c.loop-i.invariant.0))
     (λ c. search rules) (λ c. search rules)
     returns_2
     (λ c. search rules) (λ c. search rules)

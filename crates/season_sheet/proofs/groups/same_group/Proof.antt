@@ -10,7 +10,7 @@ use Rattle.season_sheet.proofs.groups.same_group.Tie as tie
 returns : tie.Need-returns-then-is_word
 unfolding same_group same_report
 returns c = λ a b e f g h.
-    let same = (λ i. equals (sym e i) (sym f i)) ∙ sym c.before.before.is_IsWord.ensures ∙ c.before.if-is_word.true in
+    let same = (λ i. equals (sym e i) (sym f i)) ∙ sym c.before.before.is_IsWord.ensures ∙ c.if-is_word.true in
     c.same_cues.ensures ∙ (λ i. equals (g i) (h i)) ∙ sym (ap (λ z. z && equals (cues_of a.rows) (cues_of b.rows)) same)
 
 returns_2 : tie.Need-returns

@@ -11,13 +11,13 @@ returns : tie.Need-returns-then-at-ge-LINES
 returns c = (λ input names h. sym (too_many input _ _ _ h c.if-at-ge-LINES.true), omega arith)
 
 returns_2 : tie.Need-returns-then-n-gt-MOST
-returns_2 c = (λ input names h. sym (listed_none (names_of input) (omega (arith, names_are input _ _ _ h c.before.before.before.if-at-ge-LINES.false, c.before.filled.ensures.0, c.if-n-gt-MOST.true))), omega arith)
+returns_2 c = (λ input names h. sym (listed_none (names_of input) (omega (arith, names_are input _ _ _ h c.if-at-ge-LINES.false, c.filled.ensures.0, c.if-n-gt-MOST.true))), omega arith)
 
 returns_3 : tie.Need-returns
 returns_3 c = (
   λ input names h.
-      let n = names_are input _ _ _ h c.before.before.before.if-at-ge-LINES.false in
-      omega (arith, listed_all (names_of input) (omega (arith, n, c.before.filled.ensures.0, c.if-n-gt-MOST.false)), n, c.before.filled.ensures.0),
+      let n = names_are input _ _ _ h c.if-at-ge-LINES.false in
+      omega (arith, listed_all (names_of input) (omega (arith, n, c.filled.ensures.0, c.if-n-gt-MOST.false)), n, c.filled.ensures.0),
   c.if-n-gt-MOST.false,
 )
 

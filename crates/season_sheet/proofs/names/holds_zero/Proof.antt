@@ -18,15 +18,15 @@ decreases-loop-i name i₀ i = length name - i
 returns : tie.Need-returns-then-name-i-eq0 invariant-loop-i decreases-loop-i
 returns c =
     let l = c.before.before.before in
-    sym (l.loop-i.invariant ∙ zero_here _ _ c.before.before.loop-i-test.true c.if-name-i-eq0.true)
+    sym (l.loop-i.invariant ∙ zero_here _ _ c.loop-i-test.true c.if-name-i-eq0.true)
 
 loop_again : tie.Need-loop-i-preserved invariant-loop-i decreases-loop-i
 loop_again c =
     let l = c.before.before.before in
-    rw add-one (l.loop-i.invariant ∙ zero_later _ _ c.before.before.loop-i-test.true c.if-name-i-eq0.false)
+    rw add-one (l.loop-i.invariant ∙ zero_later _ _ c.loop-i-test.true c.if-name-i-eq0.false)
 
 returns_2 : tie.Need-returns invariant-loop-i decreases-loop-i
-returns_2 c = sym (c.before.loop-i.invariant ∙ zero_none _ _ c.loop-i-test.false)
+returns_2 c = sym (c.loop-i.invariant ∙ zero_none _ _ c.loop-i-test.false)
 
 pub holds_zero_spec : {M : Type 1} → statement M
 holds_zero_spec = tie.close (tie.spec invariant-loop-i decreases-loop-i (λ c. refl) (λ c. search rules) returns (λ c. search rules) (λ c. search rules) loop_again returns_2)

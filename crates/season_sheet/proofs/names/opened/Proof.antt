@@ -10,15 +10,15 @@ use Rattle.season_sheet.proofs.names.opened.Tie as tie
 returns-4 : tie.Need-returns-then-opens
 returns-4 c = (
   λ input at h l m.
-      let short = c.before.before.before.before.if-n-gt-LONGEST.false in
+      let short = c.if-n-gt-LONGEST.false in
       let size = name_size input at _ _ h _ l m in
-      opened_all _ (ap good_name (sym (bytes_are input at _ _ h _ l m short)) ∙ sym c.before.opens.ensures ∙ c.if-opens.true) (name_kept input at _ _ h _ l m short) (omega (arith, size, short)),
-  c.before.before.before.before.if-n-gt-LONGEST.false,
+      opened_all _ (ap good_name (sym (bytes_are input at _ _ h _ l m short)) ∙ sym c.opens.ensures ∙ c.if-opens.true) (name_kept input at _ _ h _ l m short) (omega (arith, size, short)),
+  c.if-n-gt-LONGEST.false,
 )
 
 returns-5 : tie.Need-returns
 returns-5 c = (
-  λ input at h l m. opened_none (ap good_name (sym (bytes_are input at _ _ h _ l m c.before.before.before.before.if-n-gt-LONGEST.false)) ∙ sym c.before.opens.ensures ∙ c.if-opens.false) refl,
+  λ input at h l m. opened_none (ap good_name (sym (bytes_are input at _ _ h _ l m c.if-n-gt-LONGEST.false)) ∙ sym c.opens.ensures ∙ c.if-opens.false) refl,
   omega arith,
 )
 
@@ -30,7 +30,7 @@ opened_spec =
     (λ c. search rules) (λ c. search rules)
     (λ c. (λ input at h l m. opened_none (name_long input at _ _ h _ l m c.if-n-gt-LONGEST.true) refl, omega arith))
     (λ c. search rules) (λ c. search rules)
-    (λ c. (λ input at h l m. absurd (omega (arith, name_room input at _ _ h _ l m c.before.if-n-gt-LONGEST.false, c.if-e-names.true)), omega arith))
+    (λ c. (λ input at h l m. absurd (omega (arith, name_room input at _ _ h _ l m c.if-n-gt-LONGEST.false, c.if-e-names.true)), omega arith))
     (λ c. search rules) (λ c. search rules) (λ c. search rules) (λ c κs. search rules)
     returns-4
     returns-5)

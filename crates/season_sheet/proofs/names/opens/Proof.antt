@@ -12,4 +12,4 @@ opens_spec =
     (λ c. empty_shut _ c.if-name-eq0.true)
     (λ c. sym (long_shut _ c.if-name-gt-LONGEST.true))
     (λ c κs. search rules)
-    (λ c. short_opens _ c.before.before.if-name-eq0.false c.before.if-name-gt-LONGEST.false c.holds_zero_lem.ensures))
+    (λ c. short_opens _ c.if-name-eq0.false c.if-name-gt-LONGEST.false c.holds_zero.ensures))

@@ -22,12 +22,12 @@ loop_holds c = (omega arith, λ input h. rw append_nil h)
 loop_again : tie.Need-loop-i-preserved invariant-loop-i decreases-loop-i
 loop_again c =
     let l = c.before.before.before.before.before in
-    let block = l.before.before.args.block.now in
+    let block = l.args.block.now in
     let i = l.loop-i.i in
-    (omega arith, λ input h. rw (add-one i, take-suc block i 0 c.before.before.before.before.loop-i-test.true, ← append_assoc) (c.push-line.ensures _ (l.loop-i.invariant.1 input h)))
+    (omega arith, λ input h. rw (add-one i, take-suc block i 0 c.loop-i-test.true, ← append_assoc) (c.push-line.ensures _ (l.loop-i.invariant.1 input h)))
 
 returns : tie.Need-returns invariant-loop-i decreases-loop-i
-returns c = λ input h. rw (take_all c.before.loop-i.i c.before.before.before.args.block.now c.loop-i-test.false) at (c.before.loop-i.invariant.1 input h)
+returns c = λ input h. rw (take_all c.loop-i.i c.args.block.now c.loop-i-test.false) at (c.loop-i.invariant.1 input h)
 
 pub push_all_spec : {M : Type 1} → statement M
 push_all_spec = tie.close (tie.spec invariant-loop-i decreases-loop-i loop_holds (λ c. search rules) (λ c κs. search rules) (λ c. search rules) (λ c. search rules) loop_again returns)

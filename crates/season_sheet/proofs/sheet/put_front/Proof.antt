@@ -17,24 +17,24 @@ room c = (key_short accepted_key c.args.sheet.accepted, key_short refused_key c.
 
 same_length : tie.Need-shape_of-out
 same_length c =
-    let w = wrote_then _ _ _ _ _ _ _ c.before.before.before.before.before.before.before.put_entry-at.ensures c.before.before.put_entry.ensures in
+    let w = wrote_then _ _ _ _ _ _ _ c.put_entry-at.ensures c.put_entry.ensures in
     wrote_length _ _ _ _ (rw length-append (omega (arith, room c.before.before.before.before.before.before.before.before.before.before.before))) w
 
 returns : tie.Need-returns
 unfolding front_text
 returns c =
-    let w = wrote_then _ _ _ _ _ _ _ c.before.before.before.before.before.before.before.put_entry-at.ensures c.before.before.put_entry.ensures in
-    (w, omega (arith, c.before.before.before.before.before.before.before.put_entry-at.ensures.count, c.before.before.put_entry.ensures.count, room c.before.before.before.before.before.before.before.before.before.before.before))
+    let w = wrote_then _ _ _ _ _ _ _ c.put_entry-at.ensures c.put_entry.ensures in
+    (w, omega (arith, c.put_entry-at.ensures.count, c.put_entry.ensures.count, room c.before.before.before.before.before.before.before.before.before.before.before))
 
 pub put_front_spec : {M : Type 1} → statement M
 put_front_spec = tie.close (tie.spec
     (λ c. search rules)
     (λ c κs. omega (arith, room c.before.before.before))
     (λ c. search rules)
-    (λ c. omega (arith, room c.before.before.before.before.before.before.before, c.before.before.before.put_entry-at.ensures.count))
-    (λ c. omega (arith, room c.before.before.before.before.before.before.before, c.before.before.before.put_entry-at.ensures.count))
+    (λ c. omega (arith, room c.before.before.before.before.before.before.before, c.before.before.before.put-entry.ensures.count))
+    (λ c. omega (arith, room c.before.before.before.before.before.before.before, c.before.before.before.put-entry.ensures.count))
     (λ c. search rules)
-    (λ c κs. simp (part_rest, length-drop) (omega (arith, room c.before.before.before.before.before.before.before.before, c.before.before.before.before.put_entry-at.ensures.count)))
-    (λ c. omega (arith, room c.before.before.before.before.before.before.before.before.before.before.before, c.before.before.before.before.before.before.before.put_entry-at.ensures.count, c.before.before.put_entry.ensures.count))
+    (λ c κs. simp (part_rest, length-drop) (omega (arith, room c.before.before.before.before.before.before.before.before, c.before.before.before.before.put-entry.ensures.count)))
+    (λ c. omega (arith, room c.before.before.before.before.before.before.before.before.before.before.before, c.before.before.before.before.before.before.before.put-entry.ensures.count, c.before.before.put-entry2.ensures.count))
     same_length
     returns)

@@ -15,10 +15,10 @@ abbrev decreases-loop-q : tie.decreases-loop-q
 decreases-loop-q counts out₀ at₀ q₀ out at q = 21 - q
 
 loop_again : tie.Need-loop-q-preserved invariant-loop-q decreases-loop-q
-loop_again c = numbering_more _ _ _ _ _ _ _ c.before.before.before.before.before.before.loop-q.invariant c.before.before.before.before.before.loop-q-test.true c.before.before.before.before.before.before.before.before.requires c.before.before.put_met-at.ensures
+loop_again c = numbering_more _ _ _ _ _ _ _ c.loop-q.invariant c.loop-q-test.true c.requires c.put_met-at.ensures
 
 returns : tie.Need-returns invariant-loop-q decreases-loop-q
-returns c = (numbering_all _ _ _ _ _ c.before.loop-q.invariant c.loop-q-test.false, omega (arith, c.before.loop-q.invariant.small, c.before.loop-q.invariant.within))
+returns c = (numbering_all _ _ _ _ _ c.loop-q.invariant c.loop-q-test.false, omega (arith, c.loop-q.invariant.small, c.loop-q.invariant.within))
 
 pub put_numbers_spec : {M : Type 1} → statement M
 put_numbers_spec = tie.close (tie.spec
@@ -26,12 +26,12 @@ put_numbers_spec = tie.close (tie.spec
     decreases-loop-q
     (λ c. numbering_none _ _)
     (λ c. search rules) (λ c. search rules)
-    (λ c. omega (arith, c.before.before.loop-q.invariant.small, c.before.before.loop-q.invariant.same, c.before.before.before.before.requires))
-    (λ c. omega (arith, c.before.before.loop-q.invariant.small, c.before.before.loop-q.invariant.same, c.before.before.before.before.requires))
+    (λ c. omega (arith, c.loop-q.invariant.small, c.loop-q.invariant.same, c.requires))
+    (λ c. omega (arith, c.loop-q.invariant.small, c.loop-q.invariant.same, c.requires))
     (λ c. search rules)
-    (λ c κs. simp (part_rest, length-drop) (omega (arith, c.before.before.before.loop-q.invariant.small, c.before.before.before.loop-q.invariant.same, c.before.before.before.before.before.requires)))
-    (λ c. omega (arith, c.before.before.before.before.before.before.loop-q.invariant.small, c.before.before.before.before.before.before.before.before.requires, c.before.before.put_met-at.ensures.count, (numbering_more _ _ _ _ _ _ _ c.before.before.before.before.before.before.loop-q.invariant c.before.before.before.before.before.loop-q-test.true c.before.before.before.before.before.before.before.before.requires c.before.before.put_met-at.ensures).small))
+    (λ c κs. simp (part_rest, length-drop) (omega (arith, c.loop-q.invariant.small, c.loop-q.invariant.same, c.requires)))
+    (λ c. omega (arith, c.loop-q.invariant.small, c.requires, c.put_met-at.ensures.count, (numbering_more _ _ _ _ _ _ _ c.loop-q.invariant c.loop-q-test.true c.requires c.put_met-at.ensures).small))
     (λ c. search rules) (λ c. search rules)
     loop_again
-    (λ c. c.before.loop-q.invariant.same)
+    (λ c. c.loop-q.invariant.same)
     returns)

@@ -15,19 +15,19 @@ room c = rw (length-append (c.args.first.now ++ decimal c.args.x)) at c.requires
 
 same_length : tie.Need-shape_of-out
 same_length c =
-    let w = wrote_then _ _ _ _ _ _ _ c.before.before.before.before.before.before.put_number-at.ensures c.before.before.put_entry.ensures in
-    wrote_length _ _ _ _ (rw (length-append (c.before.before.before.before.before.before.before.before.before.before.before.args.first.now ++ decimal c.before.before.before.before.before.before.before.before.before.before.before.args.x)) (room c.before.before.before.before.before.before.before.before.before.before.before)) w
+    let w = wrote_then _ _ _ _ _ _ _ c.put_number-at.ensures c.put_entry.ensures in
+    wrote_length _ _ _ _ (rw (length-append (c.args.first.now ++ decimal c.args.x)) (room c.before.before.before.before.before.before.before.before.before.before.before)) w
 
 returns : tie.Need-returns
-returns c = wrote_then _ _ _ _ _ _ _ c.before.before.before.before.before.before.put_number-at.ensures c.before.before.put_entry.ensures
+returns c = wrote_then _ _ _ _ _ _ _ c.put_number-at.ensures c.put_entry.ensures
 
 pub put_pair_spec : {M : Type 1} → statement M
 put_pair_spec = tie.close (tie.spec
     (λ c κs. omega (arith, room c.before.before.before.before))
-    (λ c. omega (arith, room c.before.before.before.before.before.before.before, c.before.before.put_number-at.ensures.count))
-    (λ c. omega (arith, room c.before.before.before.before.before.before.before, c.before.before.put_number-at.ensures.count))
+    (λ c. omega (arith, room c.before.before.before.before.before.before.before, c.put_number-at.ensures.count))
+    (λ c. omega (arith, room c.before.before.before.before.before.before.before, c.put_number-at.ensures.count))
     (λ c. search rules)
-    (λ c κs. simp (part_rest, length-drop) (omega (arith, room c.before.before.before.before.before.before.before.before, c.before.before.before.put_number-at.ensures.count)))
-    (λ c. omega (arith, room c.before.before.before.before.before.before.before.before.before.before.before, c.before.before.before.before.before.before.put_number-at.ensures.count, c.before.before.put_entry.ensures.count))
+    (λ c κs. simp (part_rest, length-drop) (omega (arith, room c.before.before.before.before.before.before.before.before, c.put_number-at.ensures.count)))
+    (λ c. omega (arith, room c.before.before.before.before.before.before.before.before.before.before.before, c.put_number-at.ensures.count, c.put_entry.ensures.count))
     same_length
     returns)

@@ -12,4 +12,4 @@ put_refusal_spec = tie.close (tie.spec
     (λ c. search rules) (λ c. search rules)
     (λ c κs. omega (arith, pair_short refused_key gap 18 0))
     (λ c. search rules)
-    (λ c. rw refusal_line c.before.before.put_pair.ensures))
+    (λ c. rw refusal_line c.before.before.put-pair.ensures))

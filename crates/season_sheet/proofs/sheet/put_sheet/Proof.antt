@@ -17,7 +17,7 @@ room : (c : tie.Start) → let f = figures_of c.args.sheet c.args.counts.now in
 room c = omega (arith, sheet_room (figures_of c.args.sheet c.args.counts.now), c.requires)
 
 returns : tie.Need-returns
-returns c = told _ _ _ _ _ (writing_all _ _ _ _ _ (third_written _ _ _ _ (room c.before.before.before.before.before.before.before.before.before.before.before.before.before) _ _ _ _ _ _ c.before.before.before.before.before.before.before.before.before.before.put_front-a.ensures.0 c.before.before.before.before.before.before.put_numbers.ensures.0 c.before.before.put_tail.ensures.0) (omega arith))
+returns c = told _ _ _ _ _ (writing_all _ _ _ _ _ (third_written _ _ _ _ (room c.before.before.before.before.before.before.before.before.before.before.before.before.before) _ _ _ _ _ _ c.put_front-a.ensures.0 c.put_numbers.ensures.0 c.put_tail.ensures.0) (omega arith))
 
 pub put_sheet_spec : {M : Type 1} → statement M
 put_sheet_spec = tie.close (tie.spec

@@ -20,8 +20,8 @@ room c = omega (arith, tail_short c.args.sheet.ticks c.args.sheet.greatest c.arg
 returns : tie.Need-returns
 unfolding tail_text
 returns c =
-    let w = writing_all _ _ _ _ _ (third_written _ _ _ _ (room c.before.before.before.before.before.before.before.before.before.before.before.before.before.before.before.before) _ _ _ _ _ _ c.before.before.before.before.before.before.before.before.before.before.before.before.put_entry-a.ensures c.before.before.before.before.before.before.before.put_entry.ensures c.before.before.put_entry-2.ensures) (omega arith) in
-    let s = c.before.before.before.before.before.before.before.before.before.before.before.before.before.before.before.before.args.sheet in
+    let w = writing_all _ _ _ _ _ (third_written _ _ _ _ (room c.before.before.before.before.before.before.before.before.before.before.before.before.before.before.before.before) _ _ _ _ _ _ c.put_entry-a.ensures c.put_entry.ensures c.put_entry-2.ensures) (omega arith) in
+    let s = c.args.sheet in
     (w, omega (arith, w.count, tail_short s.ticks s.greatest s.groups))
 
 pub put_tail_spec : {M : Type 1} → statement M
@@ -29,16 +29,16 @@ put_tail_spec = tie.close (tie.spec
     (λ c. search rules)
     (λ c κs. first_room _ _ _ c.before.before.before.args.out.now (room c.before.before.before))
     (λ c. search rules)
-    (λ c. omega (arith, second_room _ _ _ _ (room c.before.before.before.before.before.before.before) _ _ c.before.before.before.put_entry-a.ensures))
-    (λ c. omega (arith, second_room _ _ _ _ (room c.before.before.before.before.before.before.before) _ _ c.before.before.before.put_entry-a.ensures))
+    (λ c. omega (arith, second_room _ _ _ _ (room c.before.before.before.before.before.before.before) _ _ c.before.before.before.put-entry.ensures))
+    (λ c. omega (arith, second_room _ _ _ _ (room c.before.before.before.before.before.before.before) _ _ c.before.before.before.put-entry.ensures))
     (λ c. search rules)
-    (λ c κs. simp (part_rest, length-drop) (omega (arith, second_room _ _ _ _ (room c.before.before.before.before.before.before.before.before) _ _ c.before.before.before.before.put_entry-a.ensures)))
-    (λ c. omega (arith, third_room _ _ _ _ (room c.before.before.before.before.before.before.before.before.before.before.before) _ _ _ _ c.before.before.before.before.before.before.before.put_entry-a.ensures c.before.before.put_entry.ensures))
+    (λ c κs. simp (part_rest, length-drop) (omega (arith, second_room _ _ _ _ (room c.before.before.before.before.before.before.before.before) _ _ c.before.before.before.before.put-entry.ensures)))
+    (λ c. omega (arith, third_room _ _ _ _ (room c.before.before.before.before.before.before.before.before.before.before.before) _ _ _ _ c.before.before.before.before.before.before.before.put-entry.ensures c.before.before.put-entry2.ensures))
     (λ c. search rules)
-    (λ c. omega (arith, third_room _ _ _ _ (room c.before.before.before.before.before.before.before.before.before.before.before.before) _ _ _ _ c.before.before.before.before.before.before.before.before.put_entry-a.ensures c.before.before.before.put_entry.ensures))
-    (λ c. omega (arith, third_room _ _ _ _ (room c.before.before.before.before.before.before.before.before.before.before.before.before) _ _ _ _ c.before.before.before.before.before.before.before.before.put_entry-a.ensures c.before.before.before.put_entry.ensures))
+    (λ c. omega (arith, third_room _ _ _ _ (room c.before.before.before.before.before.before.before.before.before.before.before.before) _ _ _ _ c.before.before.before.before.before.before.before.before.put-entry.ensures c.before.before.before.put-entry2.ensures))
+    (λ c. omega (arith, third_room _ _ _ _ (room c.before.before.before.before.before.before.before.before.before.before.before.before) _ _ _ _ c.before.before.before.before.before.before.before.before.put-entry.ensures c.before.before.before.put-entry2.ensures))
     (λ c. search rules)
-    (λ c κs. simp (part_rest, length-drop) (omega (arith, third_room _ _ _ _ (room c.before.before.before.before.before.before.before.before.before.before.before.before.before) _ _ _ _ c.before.before.before.before.before.before.before.before.before.put_entry-a.ensures c.before.before.before.before.put_entry.ensures)))
-    (λ c. omega (arith, third_room _ _ _ _ (room c.before.before.before.before.before.before.before.before.before.before.before.before.before.before.before.before) _ _ _ _ c.before.before.before.before.before.before.before.before.before.before.before.before.put_entry-a.ensures c.before.before.before.before.before.before.before.put_entry.ensures, c.before.before.put_entry-2.ensures.count))
-    (λ c. (third_written _ _ _ _ (room c.before.before.before.before.before.before.before.before.before.before.before.before.before.before.before.before) _ _ _ _ _ _ c.before.before.before.before.before.before.before.before.before.before.before.before.put_entry-a.ensures c.before.before.before.before.before.before.before.put_entry.ensures c.before.before.put_entry-2.ensures).same)
+    (λ c κs. simp (part_rest, length-drop) (omega (arith, third_room _ _ _ _ (room c.before.before.before.before.before.before.before.before.before.before.before.before.before) _ _ _ _ c.before.before.before.before.before.before.before.before.before.put-entry.ensures c.before.before.before.before.put-entry2.ensures)))
+    (λ c. omega (arith, third_room _ _ _ _ (room c.before.before.before.before.before.before.before.before.before.before.before.before.before.before.before.before) _ _ _ _ c.before.before.before.before.before.before.before.before.before.before.before.before.put-entry.ensures c.before.before.before.before.before.before.before.put-entry2.ensures, c.before.before.put-entry3.ensures.count))
+    (λ c. (third_written _ _ _ _ (room c.before.before.before.before.before.before.before.before.before.before.before.before.before.before.before.before) _ _ _ _ _ _ c.before.before.before.before.before.before.before.before.before.before.before.before.put-entry.ensures c.before.before.before.before.before.before.before.put-entry2.ensures c.before.before.put-entry3.ensures).same)
     returns)
