@@ -115,7 +115,19 @@ def turn_ticks(text, turned):
     return re.sub(r"`[^`\n]+`", lambda m: turn_code(m.group(0), turned), text)
 
 
-def turn_antt(text, turned):
+def borrowed(text, own):
+    """The names that a file imports from a library."""
+    out = set()
+    for path, names in re.findall(r"\buse ([^\s;{]+)\.\{([^}]*)\}", text):
+        steps = path.split(".")
+        if steps[0] != "Rattle" or len(steps) < 2 or steps[1] not in own:
+            out.update(n.split(" as ")[0].strip() for n in names.split(","))
+    return out
+
+
+def turn_antt(text, turned, own=()):
+    here = borrowed(text, own)
+    turned = {n: t for n, t in turned.items() if n not in here}
     out = []
     for line in text.split("\n"):
         m = re.search(r"(?:^|\s)--(?:\s|$)", line)
@@ -138,13 +150,14 @@ def main(argv):
         print("respell: names that would fall together:", clashes)
         return 1
     camel = {n: t for n, t in turned.items() if re.search("[a-z0-9][A-Z]", n) and "-" not in n}
+    own = set(os.listdir(os.path.join(root, "crates")))
     older = {n: t for n, t in turned.items() if "-" in n or n in camel}
     for p in files(root, ".antt", ".rt", ".edit", ".md"):
         if p.endswith("docs/PORT.md"):
             continue
         old = read(p)
         if p.endswith(".antt"):
-            new = turn_antt(old, turned)
+            new = turn_antt(old, turned, own)
         elif p.endswith(".md"):
             new = turn_ticks(old, older)
         elif p.endswith(".edit"):

@@ -1,7 +1,7 @@
 -- Laws of texts that are put behind what is written. Assumes nothing.
 use mathlib.Core.Path.{◌≡◌, refl, sym, ◌∙◌, ap, subst}
 use mathlib.Core.Bool.{Bool, true, false, cond}
-use mathlib.Core.List.{List, [], ◌∷◌, ◌++◌, append_assoc, append_nil}
+use mathlib.Core.List.{List, [], ◌∷◌, ◌++◌, append_assoc, append-nil}
 use Prim.Native.Nat.{ℕ, zero, suc, ◌+◌, ◌*◌, ◌-◌, ◌≤◌, ◌<◌}
 use native.Mathlib.Omega.{arith}
 use native.Mathlib.Nat.{mul-suc}
@@ -40,7 +40,7 @@ pub adds_byte : (old : List ℕ) (b at : ℕ) → at < length old → Adds (b �
 adds_byte old b at l = record { count = refl; long = length-set old at b; wrote = λ base text v k. wrote_byte text base old b at (omega arith) v }
 
 pub adds_none : (old : List ℕ) (at : ℕ) → Adds [] at old old at
-adds_none old at = record { count = omega arith; long = refl; wrote = λ base text v l. subst (λ t. Wrote t base old at) (sym (append_nil text)) v }
+adds_none old at = record { count = omega arith; long = refl; wrote = λ base text v l. subst (λ t. Wrote t base old at) (sym (append-nil text)) v }
 
 pub adds_join : (a b : List ℕ) (old mid new : List ℕ) (at r s : ℕ) → Adds a at old mid r → Adds b r mid new s → Adds (a ++ b) at old new s
 adds_join a b old mid new at r s f g = record {
@@ -76,14 +76,14 @@ module _ {A : Type 0} (piece : Bool → A → List ℕ) where
   unfolding listed
   listed_next first [] i l d = absurd (omega arith)
   listed_next first (v ∷ []) i l d = absurd (omega arith)
-  listed_next first (v ∷ (w ∷ vs)) zero l d = ap (λ t. piece first v ++ t) (append_nil (piece false w)) ∙ ap (λ t. t ++ piece false w) (sym (append_nil (piece first v)))
+  listed_next first (v ∷ (w ∷ vs)) zero l d = ap (λ t. piece first v ++ t) (append-nil (piece false w)) ∙ ap (λ t. t ++ piece false w) (sym (append-nil (piece first v)))
   listed_next first (v ∷ (w ∷ vs)) (suc i) l d =
       ap (λ t. piece first v ++ t) (listed_next false (w ∷ vs) i (omega arith) d) ∙ sym (append_assoc (piece first v) _ _)
 
   pub listed_more : (vs : List A) (i : ℕ) → i < length vs → (d : A) → listed piece true (take (suc i) vs) ≡ listed piece true (take i vs) ++ piece (eqb i 0) (get_or vs i d)
   unfolding listed
   listed_more [] i l d = absurd (omega arith)
-  listed_more (v ∷ vs) zero l d = append_nil (piece true v)
+  listed_more (v ∷ vs) zero l d = append-nil (piece true v)
   listed_more (v ∷ vs) (suc i) l d = listed_next true (v ∷ vs) i l d ∙ ap (λ b. listed piece true (take (suc i) (v ∷ vs)) ++ piece b (get_or (v ∷ vs) (suc i) d)) (sym (eqb-suc-zero i))
 
   -- the pieces before i are written, each of at most so many bytes
@@ -110,7 +110,7 @@ module _ {A : Type 0} (piece : Bool → A → List ℕ) where
 pub counts_more : (cs : List LoopCount) (i : ℕ) → i < length cs → (d : LoopCount) → count_texts (take (suc i) cs) ≡ count_texts (take i cs) ++ count_text (get_or cs i d)
 unfolding count_texts
 counts_more [] i l d = absurd (omega arith)
-counts_more (c ∷ cs) zero l d = append_nil (count_text c)
+counts_more (c ∷ cs) zero l d = append-nil (count_text c)
 counts_more (c ∷ cs) (suc i) l d = ap (λ t. count_text c ++ t) (counts_more cs i (omega arith) d) ∙ sym (append_assoc (count_text c) _ _)
 
 -- the counts before i are written

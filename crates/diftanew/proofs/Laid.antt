@@ -1,6 +1,6 @@
 -- The numbers of a call of frames, script after script. Assumes nothing.
 use mathlib.Core.Path.{◌≡◌, refl, sym, ◌∙◌, ap}
-use mathlib.Core.List.{List, [], ◌∷◌, ◌++◌, append_assoc, append_nil}
+use mathlib.Core.List.{List, [], ◌∷◌, ◌++◌, append_assoc, append-nil}
 use Prim.Native.Nat.{ℕ, zero, suc, ◌+◌, ◌-◌, ◌*◌, ◌≤◌, ◌<◌}
 use native.Mathlib.Numerals.{add-one}
 use native.Mathlib.Omega.{arith}
@@ -29,7 +29,7 @@ all_length (x ∷ xs) = omega (arith, length-append (script_numbers x) (all_numb
 all_suc : (xs : List Played) (k : ℕ) (d : Played) → k < length xs → all_numbers (take (suc k) xs) ≡ all_numbers (take k xs) ++ script_numbers (get_or xs k d)
 unfolding all_numbers
 all_suc [] k d h = absurd (omega arith)
-all_suc (x ∷ xs) zero d h = append_nil (script_numbers x)
+all_suc (x ∷ xs) zero d h = append-nil (script_numbers x)
 all_suc (x ∷ xs) (suc k) d h = ap (λ r. script_numbers x ++ r) (all_suc xs k d (omega arith)) ∙ sym (append_assoc (script_numbers x) (all_numbers (take k xs)) (script_numbers (get_or xs k d)))
 
 -- n numbers over zeros, after D
@@ -87,13 +87,13 @@ module _ (first : ℕ) (scripts : List Played) (eight : length scripts ≡ 8) wh
   pub laid_all : (k : ℕ) (a : List ℕ) → k ≡ 8 → Laid first scripts k a → a ≡ first ∷ all_numbers scripts
   laid_all k a e h =
       let none : 54 * (8 - k) ≡ 0 = omega arith in
-      h ∙ (λ i. (first ∷ all_numbers (take_all k scripts (omega arith) i)) ++ replicate (none i) 0) ∙ append_nil (first ∷ all_numbers scripts)
+      h ∙ (λ i. (first ∷ all_numbers (take_all k scripts (omega arith) i)) ++ replicate (none i) 0) ∙ append-nil (first ∷ all_numbers scripts)
 
 -- ---- the numbers of a call of figures
 row_suc : (xs : List (List ℕ)) (k : ℕ) → k < length xs → in_a_row (take (suc k) xs) ≡ in_a_row (take k xs) ++ get_or xs k []
 unfolding in_a_row
 row_suc [] k h = absurd (omega arith)
-row_suc (x ∷ xs) zero h = append_nil x
+row_suc (x ∷ xs) zero h = append-nil x
 row_suc (x ∷ xs) (suc k) h = ap (λ r. x ++ r) (row_suc xs k (omega arith)) ∙ sym (append_assoc x (in_a_row (take k xs)) (get_or xs k []))
 
 -- three numbers and the first k lines, then zeros
@@ -104,7 +104,7 @@ pub record Lined (head : List ℕ) (lines : List (List ℕ)) (k : ℕ) (a : List
 module _ (head : List ℕ) (lines : List (List ℕ)) where
   pub lined_none : (a : List ℕ) → a ≡ head ++ replicate 112 0 → length head ≡ 3 → Lined head lines 0 a
   unfolding in_a_row
-  lined_none a e n = record { laid = e ∙ ap (λ z. z ++ replicate 112 0) (sym (append_nil head)); long = ap length (append_nil head) ∙ n }
+  lined_none a e n = record { laid = e ∙ ap (λ z. z ++ replicate 112 0) (sym (append-nil head)); long = ap length (append-nil head) ∙ n }
 
   pub lined_length : (k : ℕ) (a : List ℕ) → k ≤ 16 → Lined head lines k a → length a ≡ 115
   lined_length k a h l = ap length l.laid ∙ omega (arith, length-append (head ++ in_a_row (take k lines)) (replicate (7 * (16 - k)) 0), l.long, length-replicate {A = ℕ} (7 * (16 - k)) 0)

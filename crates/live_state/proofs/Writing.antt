@@ -1,6 +1,6 @@
 -- What is written. Assumes nothing.
 use mathlib.Core.Path.{◌≡◌, refl, sym, ◌∙◌, ap, subst}
-use mathlib.Core.List.{List, [], ◌∷◌, ◌++◌, append_assoc, append_nil}
+use mathlib.Core.List.{List, [], ◌∷◌, ◌++◌, append_assoc, append-nil}
 use Prim.Native.Nat.{ℕ, zero, suc, ◌+◌, ◌-◌, ◌*◌, ◌≤◌, ◌<◌, min}
 use native.Mathlib.Numerals.{add-one}
 use native.Mathlib.Omega.{arith}
@@ -78,7 +78,7 @@ pub record Writing (first : List ℕ) (table : List (List ℕ)) (loops : Loops) 
 
 pub writes_none : (first : List ℕ) (table : List (List ℕ)) (loops : Loops) (counts : List (List ℕ)) (s : List ℕ) → s ≡ first ++ replicate 48 0 → length s ≡ 64 → Writing first table loops counts 0 s
 unfolding loop_numbers
-writes_none first table loops counts s e l = record { written = λ hs r h. e ∙ ap (λ z. z ++ replicate 48 0) (sym (append_nil first)); long = l }
+writes_none first table loops counts s e l = record { written = λ hs r h. e ∙ ap (λ z. z ++ replicate 48 0) (sym (append-nil first)); long = l }
 
 module _ (first : List ℕ) (table : List (List ℕ)) (loops : Loops) (counts : List (List ℕ)) (k : ℕ) (s : List ℕ) (now : Writing first table loops counts k s) (sixteen : length first ≡ 16)
     (few : loops.count ≤ 16) (t-long : length table ≡ 16) (c-long : length counts ≡ 16) where

@@ -1,6 +1,6 @@
 -- Picks that are drawn from a seed, one after the other. Assumes nothing.
 use mathlib.Core.Path.{◌≡◌, refl, sym, ◌∙◌, ap}
-use mathlib.Core.List.{List, [], ◌∷◌, ◌++◌, append_assoc, append_nil}
+use mathlib.Core.List.{List, [], ◌∷◌, ◌++◌, append_assoc, append-nil}
 use Prim.Native.Nat.{ℕ, suc, ◌+◌, ◌-◌, ◌/◌, ◌%◌, ◌≤◌, ◌<◌}
 use native.Mathlib.Omega.{arith}
 use lib.ListN.{length, set, take, length-set}
@@ -44,4 +44,4 @@ drawing_more seed size picks i x y h l e k = record {
 pub drawing_all : (seed size : ℕ) (picks : List ℕ) (i x : ℕ) → Drawing seed size picks i x → size ≤ i → picks ≡ seed_picks seed size
 drawing_all seed size picks i x h l =
     let z : size - i ≡ 0 = omega arith in
-    sym (ap (λ t. t ++ drawn x (size - i)) (take_all i picks (omega (arith, h.long))) ∙ ap (λ k. picks ++ drawn x k) z ∙ ap (λ t. picks ++ t) (drawn_none x) ∙ append_nil picks) ∙ h.put
+    sym (ap (λ t. t ++ drawn x (size - i)) (take_all i picks (omega (arith, h.long))) ∙ ap (λ k. picks ++ drawn x k) z ∙ ap (λ t. picks ++ t) (drawn_none x) ∙ append-nil picks) ∙ h.put

@@ -1,7 +1,7 @@
 -- Laws of the report's lines. Assumes nothing.
 use mathlib.Core.Path.{◌≡◌, refl, sym, ap, ◌∙◌}
 use mathlib.Core.Bool.{true, false}
-use mathlib.Core.List.{List, [], ◌∷◌, append_assoc, append_nil}
+use mathlib.Core.List.{List, [], ◌∷◌, append_assoc, append-nil}
 use Prim.Native.Nat.{ℕ, zero, suc, ◌+◌, ◌≤◌, ◌<◌, ◌^◌}
 use native.Mathlib.Omega.{arith}
 use lib.IntN.{ℤ, pos, negsuc, nat_abs, ◌+ℤ◌, ◌-ℤ◌}
@@ -107,12 +107,12 @@ module _ (lines : List LoopLine) (loops : ℕ) (room : loops ≤ length lines) w
   -- the report: the lines before the loops', these, and the last
   pub report_parts : (rows ticks : ℕ) → report_text rows (lines_of (take loops lines)) ticks ≡ joined (head_text rows loops ∷ (loops_text lines loops ∷ (key_line ticks_key ticks ∷ [])))
   unfolding report_text head_text loops_text joined
-  report_parts rows ticks = rw (taken_count, joined_append, append_nil, append_nil, append_assoc, append_assoc)
+  report_parts rows ticks = rw (taken_count, joined_append, append-nil, append-nil, append_assoc, append_assoc)
 
 -- the length of three texts
 pub three_length : (a b c : List ℕ) → length (joined (a ∷ (b ∷ (c ∷ [])))) ≡ length a + length b + length c
 unfolding joined
-three_length a b c = simp (length-append, append_nil) (omega arith)
+three_length a b c = simp (length-append, append-nil) (omega arith)
 
 -- the answer and the buffer, where the text does not fit and where it does
 pub refused_text : (text old : List ℕ) (n : ℕ) → n ≡ length text → length old < n → (Refused 14 n ≡ buffer_reply text (length old)) × (old ≡ written text old)

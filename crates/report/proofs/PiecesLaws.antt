@@ -1,6 +1,6 @@
 -- Laws of texts in a row, and of writing them. Assumes nothing.
 use mathlib.Core.Path.{◌≡◌, refl, sym, ap, ◌∙◌}
-use mathlib.Core.List.{List, [], ◌∷◌, ◌++◌, append_assoc, append_nil}
+use mathlib.Core.List.{List, [], ◌∷◌, ◌++◌, append_assoc, append-nil}
 use Prim.Native.Nat.{ℕ, zero, suc, ◌+◌, ◌*◌, ◌-◌, ◌/◌, ◌%◌, ◌≤◌, ◌<◌}
 use native.Mathlib.Nat.{mul-suc}
 use native.Mathlib.Numerals.{add-one, sub-one}
@@ -98,7 +98,7 @@ pub wrote_then : (a b old mid ys : List ℕ) (r q : ℕ) →
 unfolding over
 wrote_then a b old mid ys r q v w = record {
   count = simp length-append (omega (arith, v.count, w.count));
-  kept = rw (part_end mid r, append_nil, w.kept, part_rest mid r, v.kept, v.count, take-append_seam, drop-append_seam, drop-drop, length-append, append_assoc);
+  kept = rw (part_end mid r, append-nil, w.kept, part_rest mid r, v.kept, v.count, take-append_seam, drop-append_seam, drop-drop, length-append, append_assoc);
 }
 
 -- texts, one after the other
@@ -109,7 +109,7 @@ joined_append (t ∷ a) b = rw (joined_append a b, append_assoc)
 
 joined_next : (ts : List (List ℕ)) (i : ℕ) → i < length ts → joined (take (suc i) ts) ≡ joined (take i ts) ++ get_or ts i []
 unfolding joined
-joined_next ts i h = rw (take-suc ts i [] h, joined_append) (ap (λ (l : List ℕ). joined (take i ts) ++ l) (append_nil _))
+joined_next ts i h = rw (take-suc ts i [] h, joined_append) (ap (λ (l : List ℕ). joined (take i ts) ++ l) (append-nil _))
 
 -- room for the next text
 pub joined_room : (ts : List (List ℕ)) (i : ℕ) → i < length ts → length (joined (take i ts)) + length (get_or ts i []) ≤ length (joined ts)
@@ -175,7 +175,7 @@ module _ (a b c old : List ℕ) (room : length (joined (a ∷ (b ∷ (c ∷ []))
 
   pub first_written : (new : List ℕ) (r : ℕ) → Wrote a old new r → Writing three old new r 1
   unfolding joined
-  first_written new r w = record { within = omega arith; same = wrote_length _ _ _ _ first_room w; wrote = rw append_nil w }
+  first_written new r w = record { within = omega arith; same = wrote_length _ _ _ _ first_room w; wrote = rw append-nil w }
 
   pub second_room : (new : List ℕ) (r : ℕ) → Wrote a old new r → r + length b ≤ length new
   second_room new r w = writing_room _ _ _ _ _ (first_written new r w) (omega arith) room

@@ -14,7 +14,7 @@ use Rattle.rules.specs.Values.{lowest, highest, choose, number, past, limited, o
 use Rattle.rules.specs.Text.{equals, is_digit, all_digits, value_from, is_natural, is_negative, is_variable, comparison_word, block_word, plain_word, word_of}
 use Rattle.rules.specs.Parse.{Parsed, parsed, shapeless, then_parse, is_mark, up_to_mark, from_mark, atom, ahead, after_term, after_factor, close, factor_of, expression, read_expression, at_end, parse, depth, operators}
 use Rattle.rules.specs.Blocks.{RowKind, End, For, view_of, with_last, snoc, in_front, loop_head, plain_row, closes, built_row, build}
-use Rattle.rules.specs.Ranges.{Range, spread, bounds}
+use Rattle.rules.specs.Ranges.{spread, bounds}
 use Rattle.rules.specs.Figures.{ones}
 use Rattle.rules.specs.Run.{prepend, bind, closing, charge, write, result, exec, iter, starting, turning, enter, run}
 use Rattle.rules.specs.Scripts.{store_of, tree_of}

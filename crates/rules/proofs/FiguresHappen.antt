@@ -300,6 +300,7 @@ record Kept (es : List Entry) (l : Line) : Type 0 where
 counts_kept : (es : List Entry) (ls : List Line) (hs : List ℕ) → Pairwise Counts-fit ls (counts_at es hs) → All (Kept es) ls
 unfolding counts_at
 counts_kept es [] hs h = none
+counts_kept es (l ∷ ls) [] h = elim h [ ]
 counts_kept es (l ∷ ls) (p ∷ hs) (and_then h more) =
     some (record {
       most = subst (λ r. most_at r es ≤ l.turns) h.row h.most;

@@ -61,7 +61,7 @@ lines_short (l ∷ ls) (some a t) (some b u) (some c v) (some d w) =
     let short : ShortLine l = record { row = omega arith; first = x; second = y; turns = omega arith; total = omega arith } in
     some short (lines_short ls t u v w)
 
-below : {ls : List Line} (m n : ℕ) → m ≤ n → All (λ l. l.total ≤ m) ls → All (λ l. l.total ≤ n) ls
+below : (m n : ℕ) {ls : List Line} → m ≤ n → All (λ l. l.total ≤ m) ls → All (λ l. l.total ≤ n) ls
 below m n h none = none
 below m n h (some {x = l} k t) = let le : l.total ≤ n = omega arith in some le (below m n h t)
 

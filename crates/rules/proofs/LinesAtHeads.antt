@@ -1,7 +1,7 @@
 -- The report's lines stand for the loops' head rows, in row order; and there are at most 16.
 use mathlib.Core.Path.{◌≡◌, refl, sym, ◌∙◌, ap, subst}
 use mathlib.Core.Bool.{Bool, true, false, cond, ◌&&◌, ◌||◌}
-use mathlib.Core.List.{List, [], ◌∷◌, ◌++◌, append_assoc, append_nil}
+use mathlib.Core.List.{List, [], ◌∷◌, ◌++◌, append_assoc, append-nil}
 use Prim.Native.Nat.{ℕ, suc, ◌+◌, ◌≤◌, ◌<◌}
 use native.Mathlib.Omega.{arith}
 use borrow.Author.Tests.{ltb-true}
@@ -134,7 +134,7 @@ pub tree_heads : (rows : List RowKind) (n : ℕ) → nest_rows rows (record { op
 unfolding tree_of Heads parts_heads part_heads
 tree_heads rows n e =
     let (tree, closed) = tree_of_lem rows n e in
-    ap (λ b. heads (of_built b)) closed ∙ sym (append_nil (heads tree)) ∙ subst (Heads (loop_rows 0 rows)) closed (build_heads rows 0)
+    ap (λ b. heads (of_built b)) closed ∙ sym (append-nil (heads tree)) ∙ subst (Heads (loop_rows 0 rows)) closed (build_heads rows 0)
 
 -- the rows of the report's lines are the head rows of the file's loops, in row order
 pub lines_at_heads : (script : Script) → Legal script → line_rows (report_lines script) ≡ loop_rows 0 script.rows

@@ -10,7 +10,7 @@ use Rattle.rules_steps.specs.declared.Step.{Step}
 use Rattle.rules_steps.specs.declared.Step.TheVariants.{Add, Grow, Shrink, Unknown}
 use Rattle.rules.specs.Values.{Store, value, compares, number}
 use Rattle.rules.specs.Blocks.{Test, Form, while, do_while, hold, for, Source, from, changed, off, Plain, assign, cue, Block, done, plain, pick, loop}
-use Rattle.rules_steps.specs.Joins.{then, still}
+use Rattle.rules_steps.specs.Joins.{then, either, still}
 use Rattle.rules.specs.Steps.{sets, starts, assigns, row_step, source_step, step_from, step, Sole, other, sole, behind, sole_at, sole_row, sole_of}
 use Rattle.rules.specs.Trips.{own, chase, chases, keeps, limit_way, sole_way, way_of}
 use Rattle.rules.specs.Ranges.{is_hold}
@@ -81,17 +81,17 @@ module _ (π : Prices) where
       (λ h. row_alone i v p rest h s)
       (λ _. thru_bind {Q = λ t. Keeps (λ w. sets w p) s.store t.store}
       (thru_pi _ λ w. thru_pi _ λ n. exec_frame π i p w _ n s refl)
-      (λ t k. thru_map (λ u a. behind_alone _ v _ _ _ k (sole_of v rest) a) (alone v rest t)))
+      (λ t k. thru_map (λ u a. behind_alone _ v _ _ u.store k (sole_of v rest) a) (alone v rest t)))
   alone v (pick i e a b rest) s =
       thru_bind {Q = λ t. Keeps (λ w. assigns w a || assigns w b) s.store t.store}
       (thru_pi _ λ w. thru_pi _ λ n. let (na, nb) = nor (assigns w a) (assigns w b) n in
       thru_charge _ i _ s _ λ m. thru_taken i s.picks _ _ _ (λ bs. frame π a w _ na (at s m bs) refl) (λ bs. frame π b w _ nb (at s m bs) refl))
-      (λ t k. thru_map (λ u x. behind_alone _ v _ _ _ k (sole_of v rest) x) (alone v rest t))
+      (λ t k. thru_map (λ u x. behind_alone _ v _ _ u.store k (sole_of v rest) x) (alone v rest t))
   alone v (loop i e form test body rest) s =
       thru_bind {Q = λ t. Keeps (λ w. starts w form test || assigns w body) s.store t.store}
       (thru_pi _ λ w. thru_pi _ λ n. let (ns, nb) = nor (starts w form test) (assigns w body) n in
       enter_frame π form i test (λ t. run π body t) w _ ns (λ t j. frame π body w _ nb t j) s refl)
-      (λ t k. thru_map (λ u a. behind_alone _ v _ _ _ k (sole_of v rest) a) (alone v rest t))
+      (λ t k. thru_map (λ u a. behind_alone _ v _ _ u.store k (sole_of v rest) a) (alone v rest t))
 
 -- for code that walks the rows forward: no part in front, and the parts passed so far as one part in front
 pub behind_none : (v : ℕ) (so : Sole) → behind (λ w. false) v so ≡ so
@@ -165,9 +165,11 @@ unfolding sole_of step_from
 stepless acc v done = tt
 stepless acc v (plain i p rest) =
     cond_elim (λ so. Stepless so (step_from (then acc (row_step v p)) v rest)) (sets v p) _ _
-    (λ h. row_stepless acc v p rest h) (λ _. behind_stepless _ v _ (sole_of v rest) (stepless _ v rest))
-stepless acc v (pick i e a b rest) = behind_stepless _ v _ (sole_of v rest) (stepless _ v rest)
-stepless acc v (loop i e form test body rest) = behind_stepless _ v _ (sole_of v rest) (stepless _ v rest)
+    (λ h. row_stepless acc v p rest h) (λ _. behind_stepless _ v _ (sole_of v rest) (stepless (then acc (row_step v p)) v rest))
+stepless acc v (pick i e a b rest) =
+    behind_stepless _ v _ (sole_of v rest) (stepless (then acc (either (step_from still v a) (step_from still v b))) v rest)
+stepless acc v (loop i e form test body rest) =
+    behind_stepless _ v _ (sole_of v rest) (stepless (then acc (cond (starts v form test || assigns v body) Unknown still)) v rest)
 
 -- so a loop whose tested variable's own step is known goes by its limit: code looks for the sole copy only if that step is Unknown
 pub known_limit : (form : Form) (test : Test) (body : Block) → T (not (is_hold form)) → known (step test.tested body) ≡ true → limit_way test body test.limit ≡ way_of form test body

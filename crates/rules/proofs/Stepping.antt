@@ -18,8 +18,8 @@ use Rattle.rules.specs.Blocks.{Test, Form, Block, done, plain, pick, loop, while
 use Rattle.rules.specs.Steps.{step, difference, assigns, is_add, moving, Sole, other, sole, sole_of}
 use Rattle.rules.specs.Ranges.{Range, Env, after_row, join, at_start, ordered, sort, Sort, rising, falling, same, differ}
 use Rattle.rules.specs.Trips.{Way, own, broken, copied, chase, watched, way_of, limit_way, sole_way, chases, copies, hold_way, toward, is_zero, trip_by, own_trip, copy_trip, chase_trip, hold_trip, turns_of, inside, outside, after}
-use Rattle.rules.specs.Passes.{Pass, any}
-use Rattle.rules.specs.Figures.{Round, alike, lines}
+use Rattle.rules.specs.Passes.{Pass, any, start_pass, first_pass}
+use Rattle.rules.specs.Figures.{Round, alike, often, in_body, lines}
 use Rattle.rules.specs.Questions.{passed, loops_verdict, verdict, of_trip}
 use Rattle.rules.specs.Scripts.{Pairwise, no_more, and_then, start_env, tree_of}
 use Rattle.rules.specs.Count.{Counted, stop, turn, CountedAfter, CountedTrip, FiguresCounted, worst_move, worst_start, worst_limit}
@@ -289,13 +289,13 @@ stepped_lines r k (plain i p rest) ρ h = stepped_lines r _ rest (after_row ρ p
 stepped_lines r k (pick i e a b rest) ρ h =
     let (x, y) = then_yes (loops_verdict ρ a) _ h in
     let (u, v) = then_yes (loops_verdict ρ b) _ y in
-    both_append (stepped_lines _ any a ρ x) (both_append (stepped_lines _ any b ρ u) (stepped_lines r _ rest (join (after ρ a) (after ρ b)) v))
+    both_append (stepped_lines (alike (often r)) any a ρ x) (both_append (stepped_lines (alike (often r)) any b ρ u) (stepped_lines r _ rest (join (after ρ a) (after ρ b)) v))
 stepped_lines r k (loop i e form test body rest) ρ h =
     let σ = at_start form test ρ in
     let (x, y) = then_yes _ _ h in
     let (u, v) = then_yes (loops_verdict (inside form σ test body) body) _ y in
     and_then (record { row = refl; step = step_by i form σ test body (way_of form test body); turns = turns_by_lem i form σ test body (way_of form test body) (way_says test body form) x })
-    (both_append (stepped_lines _ _ body (inside form σ test body) u) (stepped_lines r _ rest (outside form σ test body) v))
+    (both_append (stepped_lines (in_body r (start_pass form test k) form σ test body) (first_pass form σ test body) body (inside form σ test body) u) (stepped_lines r _ rest (outside form σ test body) v))
 
 pub lines_stepped : LinesStepped
 unfolding LinesStepped verdict

@@ -1,7 +1,7 @@
 -- The text of an expression is read as that expression, and no other text is.
 use mathlib.Core.Path.{◌≡◌, refl, sym, ◌∙◌, ap, subst}
 use mathlib.Core.Bool.{Bool, true, false, not, cond, ◌&&◌, ◌||◌}
-use mathlib.Core.List.{List, [], ◌∷◌, ◌++◌, append_assoc, append_nil}
+use mathlib.Core.List.{List, [], ◌∷◌, ◌++◌, append_assoc, append-nil}
 use Prim.Native.Nat.{ℕ, zero, suc, ◌≤◌}
 use native.Mathlib.Omega.{arith}
 use lib.Dec.{T, leb, eqb, not_T, leb→le, eqb→eq}
@@ -200,7 +200,7 @@ parse_text w x r e = by (read_expression (λ y. y) w) (expression_gives _ (λ y.
     end : (y : Expr) (s : List ℕ) → Shaped as_expression y → (Short y → expr_text y ++ s ≡ w) → at_end y s ≡ parsed x r → Shaped as_expression x × (Short x → w ≡ expr_text x)
     end y [] h f e =
         let q : y ≡ x = cc in
-        subst (λ z. Shaped as_expression z × (Short z → w ≡ expr_text z)) q (h, λ k. sym (f k) ∙ append_nil (expr_text y))
+        subst (λ z. Shaped as_expression z × (Short z → w ≡ expr_text z)) q (h, λ k. sym (f k) ∙ append-nil (expr_text y))
     end y (b ∷ s) h f e = absurd (let z : ◌≡◌ {A = ℕ} 0 1 = cc in omega arith)
 
     by : (q : Parsed) → Gives as_expression nought [] w q → then_parse q at_end ≡ parsed x r → Shaped as_expression x × (Short x → w ≡ expr_text x)
@@ -322,7 +322,7 @@ text_reads (apply Mul x y) (k, l) = record {
 pub expression_reads : (x : Expr) → Short x → Shaped as_expression x → parse (expr_text x) ≡ parsed x []
 unfolding parse then_parse at_end up_to_mark from_mark after_factor after_term ahead
 expression_reads x k h =
-    ap (λ s. then_parse (read_expression (λ y. y) s) at_end) (sym (append_nil (expr_text x))) ∙ ap (λ p. then_parse p at_end) ((text_reads x k).expression h [] (refl, refl) refl)
+    ap (λ s. then_parse (read_expression (λ y. y) s) at_end) (sym (append-nil (expr_text x))) ∙ ap (λ p. then_parse p at_end) ((text_reads x k).expression h [] (refl, refl) refl)
 
 -- ---- no byte of it is a space or LF
 pub expression_above : (x : Expr) → Short x → T (above 32 (expr_text x))

@@ -1,7 +1,7 @@
 -- A text and its parts between bytes: lines and words, read and written.
 use mathlib.Core.Path.{◌≡◌, refl, sym, ◌∙◌, ap, subst}
 use mathlib.Core.Bool.{Bool, true, false, cond}
-use mathlib.Core.List.{List, [], ◌∷◌, ◌++◌, append_nil}
+use mathlib.Core.List.{List, [], ◌∷◌, ◌++◌, append-nil}
 use Prim.Native.Nat.{ℕ}
 use native.Mathlib.Omega.{arith}
 use lib.Dec.{T, ltb, eqb, not_T, ltb→lt, eqb→eq, eqb_refl}
@@ -33,7 +33,7 @@ module _ (b : ℕ) where
   -- the parts of what stands with b between
   pub split_between : (w : List ℕ) (ws : List (List ℕ)) → All (λ s. T (above b s)) (w ∷ ws) → split b (between b (w ∷ ws)) ≡ w ∷ ws
   unfolding split between
-  split_between w [] (some h t) = subst (λ s. split b s ≡ w ∷ []) (append_nil w) (split_word w [] [] h refl)
+  split_between w [] (some h t) = subst (λ s. split b s ≡ w ∷ []) (append-nil w) (split_word w [] [] h refl)
   split_between w (x ∷ ws) (some h t) =
       split_word w (b ∷ between b (x ∷ ws)) (x ∷ ws) h (cond_true (eqb b b) _ _ (eqb_refl b) ∙ λ i. [] ∷ split_between x ws t i)
 

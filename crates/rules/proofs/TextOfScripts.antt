@@ -1,7 +1,7 @@
 -- The text of a script is read back as that script, and a file that is read is the text of its script.
 use mathlib.Core.Path.{◌≡◌, refl, sym, ◌∙◌, ap, subst}
 use mathlib.Core.Bool.{Bool, true, false, cond, ◌&&◌}
-use mathlib.Core.List.{List, [], ◌∷◌, ◌++◌, map, append_assoc, append_nil}
+use mathlib.Core.List.{List, [], ◌∷◌, ◌++◌, map, append_assoc, append-nil}
 use Prim.Native.Nat.{ℕ, zero, suc, ◌+◌, ◌≤◌}
 use native.Mathlib.Omega.{arith}
 use lib.Dec.{T, leb, leb→le, le→leb}
@@ -113,7 +113,7 @@ record Lines {A : Type 0} (text : A → List ℕ) (Q : A → Type 0) (n : ℕ) (
   each : All Q new
 
 lines_none : {A : Type 0} (text : A → List ℕ) (Q : A → Type 0) (ls ms : List (List ℕ)) (old all : List A) → Some ls → old ≡ all → ls ≡ ms → Lines text Q 0 ls ms old all
-lines_none text Q ls ms old all s e f = record { new = []; many = refl; whole = sym (append_nil old ∙ e); lines = f; left = subst Some f s; each = none }
+lines_none text Q ls ms old all s e f = record { new = []; many = refl; whole = sym (append-nil old ∙ e); lines = f; left = subst Some f s; each = none }
 
 lines_one : {A : Type 0} (text : A → List ℕ) (Q : A → Type 0) (n : ℕ) (ls ls' ms : List (List ℕ)) (old all : List A) (x : A) → Q x → ls ≡ text x ∷ ls'
     → Lines text Q n ls' ms (old ++ (x ∷ [])) all → Lines text Q (suc n) ls ms old all
@@ -276,7 +276,7 @@ range_asked r w e f g h =
 ranges_read : (rs : List Range) (p : ℕ) (done : List Range) (ls : List (List ℕ)) → All RangeLimits rs → Some ls
     → File.range_lines (length rs) p (map range_text rs ++ ls) done ≡ File.read (done ++ rs) ls
 unfolding File.range_lines next_lines words_of range_text
-ranges_read [] p done ls h s = λ i. File.read (sym (append_nil done) i) ls
+ranges_read [] p done ls h s = λ i. File.read (sym (append-nil done) i) ls
 ranges_read (r ∷ rs) p done ls (some k h) s =
     let (lo, hi) = range_limits r k in
     let t = line_texts_lem File.range_key (number_text r.lo) (number_text r.hi ∷ []) (map range_text rs ++ ls)
@@ -297,7 +297,7 @@ rows_read : (vars : ℕ) → vars ≤ 16 → (ks : List RowKind) (p : ℕ) (done
     → File.row_lines vars (length ks) p (map row_text ks ++ ls) done ≡ File.read (record { kinds = done.kinds ++ ks; nest = last }) ls
 unfolding File.row_lines File.row_line File.placed nest_rows and_rows next_lines
 rows_read vars h [] p done last ls l b w e s =
-    let q : done.nest ≡ last = cc in λ i. File.read (record { kinds = sym (append_nil done.kinds) i; nest = q i }) ls
+    let q : done.nest ≡ last = cc in λ i. File.read (record { kinds = sym (append-nil done.kinds) i; nest = q i }) ls
 rows_read vars h (k ∷ ks) p done last ls (some l ll) (some b bb) (some w ww) e s =
     ap (λ r. File.row_line p done r (λ rows. File.row_lines vars (length ks) (suc p) (map row_text ks ++ ls) rows))
     (ap (File.row_of vars) (row_texts k (map row_text ks ++ ls) (row_clear vars h k l b) (append_some (map row_text ks) ls s)) ∙ row_reads vars h k l b w)

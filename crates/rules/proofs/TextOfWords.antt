@@ -2,7 +2,7 @@
 use mathlib.Core.Path.{◌≡◌, refl, sym, ◌∙◌, ap, subst}
 use mathlib.Core.Logic.{◌≢◌}
 use mathlib.Core.Bool.{Bool, true, false, not, cond, ◌&&◌}
-use mathlib.Core.List.{List, [], ◌∷◌, ◌++◌, append_assoc, append_nil}
+use mathlib.Core.List.{List, [], ◌∷◌, ◌++◌, append_assoc, append-nil}
 use Prim.Native.Nat.{ℕ, zero, suc, ◌+◌, ◌*◌, ◌-◌, ◌/◌, ◌%◌, ◌^◌, ◌≤◌, ◌<◌}
 use native.Mathlib.Nat.{add-zero, pow-zero, pow-succ', pow-le-pow_right}
 use native.Mathlib.Omega.{arith}
@@ -54,7 +54,7 @@ decimal_more k m b h lo hi =
 -- digits after the number m
 value_back : (s : List ℕ) (k m : ℕ) → 1 ≤ m → T (all_digits s) → decimal_in (k + length s) (value_from m s) ≡ decimal_in k m ++ s
 unfolding value_from all_digits
-value_back [] k m h d = ap (λ j. decimal_in j m) (add-zero k) ∙ sym (append_nil (decimal_in k m))
+value_back [] k m h d = ap (λ j. decimal_in j m) (add-zero k) ∙ sym (append-nil (decimal_in k m))
 value_back (b ∷ s) k m h d =
     let (t, u) = if_yes (is_digit b) (all_digits s) d in
     let (lo, hi) = digit_between b t in

@@ -1,7 +1,7 @@
 -- A series of calls is the definition's series of steps: "Nothing is kept between calls but what the caller holds".
 use mathlib.Core.Path.{◌≡◌, refl, sym, ◌∙◌, ap, subst}
 use mathlib.Core.Bool.{Bool, true, false, cond}
-use mathlib.Core.List.{List, [], ◌∷◌, ◌++◌, append_assoc, append_nil}
+use mathlib.Core.List.{List, [], ◌∷◌, ◌++◌, append_assoc, append-nil}
 use Prim.Native.Nat.{ℕ, zero, suc, ◌+◌, ◌-◌, ◌≤◌, ◌<◌, max, min}
 use native.Mathlib.Omega.{arith}
 use lib.Dec.{T, eqb, leb, le→leb}
@@ -263,7 +263,7 @@ module _ (prices : List ℕ) (script : Script) (store : List ℤ) (accepts : Sta
 
   calls_on : (ks ls : List StepLent) → All (λ l. l.q ≤ 1_000_000) ls → calls_from prices (accepted script) (held_after (after ks)) ls ≡ held_after (after (ks ++ ls))
   unfolding calls_from holding_after store_stepped state_stepped
-  calls_on ks [] h = ap (λ l. held_after (after l)) (sym (append_nil ks))
+  calls_on ks [] h = ap (λ l. held_after (after l)) (sym (append-nil ks))
   calls_on ks (l ∷ ls) (some few h) =
       ap (λ r. calls_from prices (accepted script) (holding_after (held_after (after ks)) r) ls) (reply_is ks l few)
       ∙ ap (λ a. calls_from prices (accepted script) (held_after a) ls) (after_step_lem ks l) ∙ calls_on (ks ++ (l ∷ [])) ls h

@@ -1,7 +1,7 @@
 -- Where the run of a script comes with so many ticks and these bytes, whatever ticks and bytes it has beyond them; and its cues so far.
 use mathlib.Core.Path.{◌≡◌, refl, sym, ◌∙◌, ap, subst}
 use mathlib.Core.Bool.{Bool, true, false, not, cond}
-use mathlib.Core.List.{List, [], ◌∷◌, ◌++◌, append_assoc, append_nil}
+use mathlib.Core.List.{List, [], ◌∷◌, ◌++◌, append_assoc, append-nil}
 use Prim.Native.Nat.{ℕ, zero, suc, ◌+◌, ◌-◌, ◌≤◌, ◌<◌}
 use native.Mathlib.Omega.{arith}
 use lib.Dec.{T, leb, ltb, eqb, le→leb, leb→le, lt→ltb, ltb→lt, nleb→lt}
@@ -38,7 +38,7 @@ module _ (rows : List RowKind) (answers : ℕ → Answer) where
       let later : (answers (suc (t + x))).ticks ≡ t = ap (λ n. (answers n).ticks) (sym e) ∙ f (suc x) (omega arith) in
       ap (cues_by rows answers) e
       ∙ (λ k. cues_by rows answers (t + x) ++ none (ltb (answers (t + x)).ticks (answers (suc (t + x))).ticks) (ltb→lt _ _) (f x (omega arith)) later (cue_of (view_at rows (answers (t + x)).row)) k)
-      ∙ append_nil _
+      ∙ append-nil _
       ∙ cues_flat t x (λ y l. f y (omega arith))
     where
       none : (b : Bool) {a c : ℕ} → (T b → a < c) → a ≡ t → c ≡ t → (l : List ℕ) → cond b l [] ≡ []
@@ -238,7 +238,7 @@ module _ (π : Prices) (script : Script) (store : List ℤ) (accepts : StartAcce
       by false l g =
           let e : n ≡ t + (n - t) = omega (arith, g tt) in
           let a = comes_answer h (n - t) [] _ i (state f (n - t) []) c refl in
-          omega (arith, a.ticks, ap (λ k. (runs u k).ticks) e, ap (λ l. (runs l (t + (n - t))).ticks) (append_nil u))
+          omega (arith, a.ticks, ap (λ k. (runs u k).ticks) e, ap (λ l. (runs l (t + (n - t))).ticks) (append-nil u))
 
   pub stands_byte : {t : ℕ} {u cues : List ℕ} (i j : ℕ) (f : Store) (c : TurnCounts) (b : ℕ) → Stands t u cues (λ x r. picked i j r (state f x r) c)
       → Stands t (u ++ (b ∷ [])) cues (λ x r. picked i j (b ∷ r) (state f x (b ∷ r)) c)

@@ -1,7 +1,7 @@
 -- Cutting changes nothing: two series of steps on the same bytes.
 use mathlib.Core.Path.{◌≡◌, refl, sym, ◌∙◌, ap}
 use mathlib.Core.Bool.{Bool, true, false, not}
-use mathlib.Core.List.{List, [], ◌∷◌, ◌++◌, append_assoc, append_nil}
+use mathlib.Core.List.{List, [], ◌∷◌, ◌++◌, append_assoc, append-nil}
 use Prim.Native.Nat.{ℕ, zero, suc, ◌+◌, ◌-◌, ◌≤◌, ◌<◌}
 use native.Mathlib.Omega.{arith}
 use lib.Dec.{T, leb, leb→le, nleb→lt}
@@ -33,7 +33,7 @@ begins_either (x ∷ u) r (y ∷ v) s e f g = begins_either u r v s (cc) (λ l s
 -- cues of a larger allowance come after
 cues_begin : (rows : List RowKind) (answers : ℕ → Answer) (t x : ℕ) → Begins (cues_by rows answers t) (cues_by rows answers (t + x))
 unfolding cues_by
-cues_begin rows answers t zero = let e : t + 0 ≡ t = omega arith in ([], ap (cues_by rows answers) e ∙ sym (append_nil _))
+cues_begin rows answers t zero = let e : t + 0 ≡ t = omega arith in ([], ap (cues_by rows answers) e ∙ sym (append-nil _))
 cues_begin rows answers t (suc x) =
     let e : t + suc x ≡ suc (t + x) = omega arith in
     let (l, same) = cues_begin rows answers t x in
@@ -74,7 +74,7 @@ module _ (π : Prices) (script : Script) (store : List ℤ) (accepts : StartAcce
     used_first : a.ticks < b.ticks → Begins a.used b.used
     used_first less =
         begins_either a.used r b.used s same (λ l e. (l, e))
-        (λ x l e. absurd (omega (arith, h.asked b.used x l e b.ticks, all_ticks b k [], ap (λ z. (runs z b.ticks).ticks) (append_nil b.used))))
+        (λ x l e. absurd (omega (arith, h.asked b.used x l e b.ticks, all_ticks b k [], ap (λ z. (runs z b.ticks).ticks) (append-nil b.used))))
 
     -- none has more ticks than a finished one
     none_later : IsFinished b.stand → a.ticks ≤ b.ticks

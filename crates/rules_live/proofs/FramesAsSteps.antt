@@ -1,7 +1,7 @@
 -- A script in the frames of request 14 stands where a live run stands that is lent all its bytes and room for all its cues.
 use mathlib.Core.Path.{◌≡◌, refl, sym, ◌∙◌, ap, subst}
 use mathlib.Core.Bool.{Bool, true, false, not, ◌&&◌}
-use mathlib.Core.List.{List, [], ◌∷◌, ◌++◌, append_nil}
+use mathlib.Core.List.{List, [], ◌∷◌, ◌++◌, append-nil}
 use Prim.Native.Nat.{ℕ, zero, suc, ◌+◌, ◌-◌, ◌*◌, ◌≤◌, ◌<◌}
 use native.Mathlib.Omega.{arith}
 use lib.Dec.{T, leb, leb→le, nleb→lt}
@@ -152,7 +152,7 @@ module _ (π : Prices) (script : Script) (store : List ℤ) (accepts : StartAcce
         paired (subst (λ bytes. Pair (Frames.runs_on π rows (matching_end script) (matching_head script) (having m (m.now.left + q) bytes)) (step_of π script (lends u) (going m)).stand
         (u ++ (step_of π script (lends u) (going m)).used)) e
         (frame_step u m l.1 (drop (length u) picks) refl (subst (λ bytes. Lacking (Frames.runs_on π rows (matching_end script) (matching_head script) (having m (m.now.left + q) bytes)) → ⊥) (sym e) no-lack)))
-    pair_step n _ {u = u} (paired closed) l no-lack = subst (Paired _ _) (sym (append_nil u)) (paired closed)
+    pair_step n _ {u = u} (paired closed) l no-lack = subst (Paired _ _) (sym (append-nil u)) (paired closed)
 
     -- no frame leaves a script that lacks a byte
     module _ (no-lack : (n : ℕ) → Lacking (after_frames π q (Frames.beginning script store picks) (suc n)).stand → ⊥) where

@@ -1,7 +1,7 @@
 -- One step of a live run: it comes where the run comes with its ticks and bytes, it stops as it should, and its cues fit the list.
 use mathlib.Core.Path.{◌≡◌, refl, sym, ◌∙◌, ap, subst}
 use mathlib.Core.Bool.{Bool, true, false, not, ◌&&◌}
-use mathlib.Core.List.{List, [], ◌∷◌, ◌++◌, append_assoc, append_nil}
+use mathlib.Core.List.{List, [], ◌∷◌, ◌++◌, append_assoc, append-nil}
 use Prim.Native.Nat.{ℕ, zero, suc, ◌+◌, ◌-◌, ◌≤◌, ◌<◌}
 use native.Mathlib.Omega.{arith}
 use lib.Dec.{T, leb, eqb, le→leb, leb→le, nleb→lt}
@@ -184,10 +184,10 @@ module _ (π : Prices) (rows : List RowKind) (matching_end_lem matching_head_lem
 
       -- a row without a cue adds none
       same_cues : {left : ℕ} {rest : List ℕ} {a : ℕ → List ℕ → Next} → cue_of (view_at rows m.row) ≡ [] → Within left rest (done ++ cue_of (view_at rows m.row)) a → Within left rest done a
-      same_cues {left} {rest} {a} none h = subst (λ l. Within left rest l a) (ap (λ l. done ++ l) none ∙ append_nil done) h
+      same_cues {left} {rest} {a} none h = subst (λ l. Within left rest l a) (ap (λ l. done ++ l) none ∙ append-nil done) h
 
       no_cues : {left : ℕ} {rest : List ℕ} {a : ℕ → List ℕ → Next} → cue_of (view_at rows m.row) ≡ [] → Within left rest done a → Within left rest (done ++ cue_of (view_at rows m.row)) a
-      no_cues {left} {rest} {a} none h = subst (λ l. Within left rest l a) (sym (ap (λ l. done ++ l) none ∙ append_nil done)) h
+      no_cues {left} {rest} {a} none h = subst (λ l. Within left rest l a) (sym (ap (λ l. done ++ l) none ∙ append-nil done)) h
 
       still_fit : cue_of (view_at rows m.row) ≡ [] → length (done ++ cue_of (view_at rows m.row)) ≤ room
       still_fit none = omega (arith, length-append done (cue_of (view_at rows m.row)), ap length none)
@@ -294,7 +294,7 @@ module _ (π : Prices) (rows : List RowKind) (matching_end_lem matching_head_lem
           split = refl;
           less = omega arith;
           known = subst (λ n. Known n (u ++ []) (cues ++ []) a) ticks
-              (subst (λ l. Known t l (cues ++ []) a) (sym (append_nil u)) (subst (λ l. Known t u l a) (sym (append_nil cues)) h));
+              (subst (λ l. Known t l (cues ++ []) a) (sym (append-nil u)) (subst (λ l. Known t u l a) (sym (append-nil cues)) h));
         }
 
     -- a pick gets its byte, or waits on
@@ -374,7 +374,7 @@ module _ (π : Prices) (rows : List RowKind) (matching_end_lem matching_head_lem
       let ticks : t ≡ t + 0 = omega arith in
       record {
         known = subst (λ n. Known n (u ++ []) (cues ++ []) (reach matching_end_lem (finished e i s c))) ticks
-            (subst (λ l. Known t l (cues ++ []) (reach matching_end_lem (finished e i s c))) (sym (append_nil u)) (subst (λ l. Known t u l (reach matching_end_lem (finished e i s c))) (sym (append_nil cues)) h));
+            (subst (λ l. Known t l (cues ++ []) (reach matching_end_lem (finished e i s c))) (sym (append-nil u)) (subst (λ l. Known t u l (reach matching_end_lem (finished e i s c))) (sym (append-nil cues)) h));
         rests = finished_rests p;
         fitting = omega arith;
         held_up = tt;

@@ -1,6 +1,6 @@
 -- A series of steps: the run is the run, and no frame is long.
 use mathlib.Core.Path.{◌≡◌, refl, sym, ◌∙◌, ap, subst}
-use mathlib.Core.List.{List, [], ◌∷◌, append_nil}
+use mathlib.Core.List.{List, [], ◌∷◌, append-nil}
 use Prim.Native.Nat.{ℕ, suc, ◌+◌, ◌-◌, ◌≤◌}
 use native.Mathlib.Omega.{arith}
 use lib.IntN.{ℤ}
@@ -88,11 +88,11 @@ module _ (π : Prices) (script : Script) (store : List ℤ) (accepts : StartAcce
   cut {t} {u} h e i f c q =
       let none : t + 0 ≡ t = omega arith in
       subst (λ n. Replies (runs u n) n u e i (state f 0 []) c) none
-      (subst (λ l. Replies (runs l (t + 0)) (t + 0) l e i (state f 0 []) c) (append_nil u) (comes_answer π script store accepts h 0 [] e i (state f 0 []) c q))
+      (subst (λ l. Replies (runs l (t + 0)) (t + 0) l e i (state f 0 []) c) (append-nil u) (comes_answer π script store accepts h 0 [] e i (state f 0 []) c q))
 
   -- the cues with just these bytes
   cut_cues : {t : ℕ} {u cues : List ℕ} {a : ℕ → List ℕ → Next} → Known t u cues a → cues ≡ cues_to π script store u t
-  cut_cues {t} {u} h = sym (h.cued []) ∙ ap (λ l. cues_to π script store l t) (append_nil u)
+  cut_cues {t} {u} h = sym (h.cued []) ∙ ap (λ l. cues_to π script store l t) (append-nil u)
 
   -- a standing with the answer of a run and its cues
   is_run : (t : ℕ) (u cues : List ℕ) (held : ℕ) (a : Stand) (n : ℕ) (e : Ending) (i : ℕ) (f : Store) (c : TurnCounts) → Replies (runs u n) t u e i (state f 0 []) c
@@ -124,7 +124,7 @@ module _ (π : Prices) (script : Script) (store : List ℤ) (accepts : StartAcce
       let below : t ≤ report_ticks π script = omega (arith, r.ticks, ap (λ (a : Answer). a.ticks) same) in
       let sum : t + (report_ticks π script - t) ≡ report_ticks π script = omega arith in
       let later : (y : ℕ) → (runs u (t + y)).ticks ≡ t
-      = λ y. let a = comes_answer π script store accepts h y [] e i (state f y []) c refl in omega (arith, a.ticks, ap (λ l. (runs l (t + y)).ticks) (append_nil u)) in
+      = λ y. let a = comes_answer π script store accepts h y [] e i (state f y []) c refl in omega (arith, a.ticks, ap (λ l. (runs l (t + y)).ticks) (append-nil u)) in
       (same, below, sym (cues_flat rows (runs u) t (report_ticks π script - t) (λ y _. later y)) ∙ ap (cues_to π script store u) sum)
 
   as_run : (t : ℕ) (u cues : List ℕ) (held : ℕ) (a : Stand) → Known t u cues (reach (matching_end script) a) → Rests π rows (matching_end script) (matching_head script) a

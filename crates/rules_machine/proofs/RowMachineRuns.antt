@@ -1,7 +1,7 @@
 -- The machine over the rows does what `run` does on their tree.
 use mathlib.Core.Path.{◌≡◌, refl, sym, ◌∙◌, ap, subst}
 use mathlib.Core.Bool.{Bool, true, false, not, cond}
-use mathlib.Core.List.{List, [], ◌∷◌, ◌++◌, append_assoc, append_nil}
+use mathlib.Core.List.{List, [], ◌∷◌, ◌++◌, append_assoc, append-nil}
 use Prim.Native.Nat.{ℕ, zero, suc, ◌+◌, ◌-◌, ◌*◌, ◌≤◌, ◌<◌, max}
 use native.Mathlib.Omega.{arith}
 use lib.Dec.{T, leb, ltb, eqb, leb→le, ltb→lt, lt→ltb, nltb→le, eqb→eq, eqb_refl}
@@ -162,7 +162,7 @@ bind_bind (halt e i s es) f g = refl
 
 bind_go : (o : Out) → bind o (λ s. go s []) ≡ o
 unfolding bind prepend
-bind_go (go s es) = ap (go s) (append_nil es)
+bind_go (go s es) = ap (go s) (append-nil es)
 bind_go (halt e i s es) = refl
 
 bind_start : (s : State) (f : State → Out) → bind (go s []) f ≡ f s
@@ -249,7 +249,7 @@ module _ (π : Prices) (rows : List RowKind) (matching_end_lem matching_head_lem
   does_choose false f g = g tt
 
   told_nil : (c : TurnCounts) (log : List Entry) → Tells c log → Tells c (log ++ [])
-  told_nil c log h = rw append_nil h
+  told_nil c log h = rw append-nil h
 
   -- a plain row, a for's start or step
   does_row : {K : State → TurnCounts → Next} (lo : ℕ) (c : TurnCounts) (log : List Entry) {o : Out} → Bare o → Tells c log → Does K lo c log (outcome o c (λ u. K u c)) o

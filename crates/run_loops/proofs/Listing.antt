@@ -1,7 +1,7 @@
 -- The loops row by row. Assumes nothing.
 use mathlib.Core.Path.{◌≡◌, refl, sym, ◌∙◌, ap}
 use mathlib.Core.Bool.{Bool, true, false, cond}
-use mathlib.Core.List.{List, [], ◌∷◌, ◌++◌, append_assoc, append_nil}
+use mathlib.Core.List.{List, [], ◌∷◌, ◌++◌, append_assoc, append-nil}
 use Prim.Native.Nat.{ℕ, zero, suc, ◌+◌, ◌≤◌, ◌<◌, max}
 use native.Mathlib.Numerals.{add-one}
 use native.Mathlib.Omega.{arith}
@@ -101,7 +101,7 @@ pub listing_all : (ks : List RowKind) (c : TurnCounts) (j k : ℕ) (l : List Loo
 unfolding loop_rows
 listing_all ks c j k l h now =
     let none : loop_rows j (drop j ks) ≡ [] = ap (loop_rows j) (drop_of_length-le ks h) in
-    let heads : now.heads ≡ loop_rows 0 ks = sym (append_nil _) ∙ ap (λ z. now.heads ++ z) (sym none) ∙ now.all in
+    let heads : now.heads ≡ loop_rows 0 ks = sym (append-nil _) ∙ ap (λ z. now.heads ++ z) (sym none) ∙ now.all in
     record { number = now.number ∙ ap length heads; counts = now.counts ∙ ap (counts_of c) heads; rest = now.rest }
 
 -- ---- a loop by its shape

@@ -1,7 +1,7 @@
 -- The loop of a live run: what a step keeps, and where it stops. Assumes nothing.
 use mathlib.Core.Path.{◌≡◌, refl, sym, ◌∙◌, ap, subst}
 use mathlib.Core.Bool.{Bool, true, false, not, cond}
-use mathlib.Core.List.{List, [], ◌∷◌, ◌++◌, append_nil}
+use mathlib.Core.List.{List, [], ◌∷◌, ◌++◌, append-nil}
 use Prim.Native.Nat.{ℕ, zero, suc, ◌+◌, ◌-◌, ◌≤◌, ◌<◌}
 use native.Mathlib.Omega.{arith}
 use lib.Dec.{T, leb, ltb, ltb→lt, nltb→le, leb→le, nleb→lt}
@@ -112,7 +112,7 @@ module _ (π : Prices) (some-ticks : 1 ≤ π.test) (rows : List RowKind) (fit :
     long = now.long;
     rest = now.rest;
     same = now.same ∙ runs_more π some-ticks rows _ _ fit (length cues₀) (take fired cues) here w (blocked_none π rows _ _ (length cues₀) (take fired cues) here e) q
-        ∙ ap (λ l. runs (length cues₀) l w) (ap (λ l. take fired cues ++ l) e ∙ append_nil (take fired cues));
+        ∙ ap (λ l. runs (length cues₀) l w) (ap (λ l. take fired cues ++ l) e ∙ append-nil (take fired cues));
   }
 
   pub no_cue_over : cue_of (view_at rows here.row) ≡ [] → (e : Ending) (i : ℕ) (s : State) (c : TurnCounts) → step_of π rows here ≡ over e i s c

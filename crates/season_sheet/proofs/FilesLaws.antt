@@ -1,7 +1,7 @@
 -- One file more. Assumes nothing.
 use mathlib.Core.Path.{◌≡◌, refl, sym, ap, subst, ◌∙◌}
 use mathlib.Core.Bool.{Bool, true, false, not, cond}
-use mathlib.Core.List.{List, [], ◌∷◌, ◌++◌, append_nil}
+use mathlib.Core.List.{List, [], ◌∷◌, ◌++◌, append-nil}
 use Prim.Native.Nat.{ℕ, ◌+◌, ◌-◌, ◌≤◌, ◌<◌}
 use native.Mathlib.Omega.{arith}
 use lib.IntN.{ℤ}
@@ -109,7 +109,7 @@ module _ (used : ℕ) (old ys : List ℕ) (l : used ≤ length old) (e : length 
   placed = put_mid used (length old - used) old ys
 
   pub placed_is : placed ≡ take used old ++ ys
-  placed_is = ap (λ z. take used old ++ (ys ++ z)) (drop_of_length-le (drop used old) {i = length old - used} (simp length-drop (omega arith))) ∙ ap (λ z. take used old ++ z) (append_nil ys)
+  placed_is = ap (λ z. take used old ++ (ys ++ z)) (drop_of_length-le (drop used old) {i = length old - used} (simp length-drop (omega arith))) ∙ ap (λ z. take used old ++ z) (append-nil ys)
 
   front_long : length (take used old) ≡ used
   front_long = simp length-take (omega arith)

@@ -1,7 +1,7 @@
 -- Texts kept one after the other, and the groups whose firsts they are. Assumes nothing.
 use mathlib.Core.Path.{◌≡◌, refl, sym, ap, subst, ◌∙◌}
 use mathlib.Core.Bool.{Bool, true, false, cond, ◌||◌}
-use mathlib.Core.List.{List, [], ◌∷◌, ◌++◌, map, append_nil}
+use mathlib.Core.List.{List, [], ◌∷◌, ◌++◌, map, append-nil}
 use Prim.Native.Nat.{ℕ, zero, suc, ◌+◌, ◌-◌, ◌≤◌, ◌<◌}
 use native.Mathlib.Nat.{mul-suc}
 use native.Mathlib.Numerals.{add-one}
@@ -79,7 +79,7 @@ module _ (ss : List Script) (s : Script) (k : Kept) (lengths reports counts cues
   -- in a group that is there
   pub known_yes : among s ss ≡ true → (len count : ℕ) → Firsts (ss ++ (s ∷ [])) (more false k len count) lengths reports counts cues
   known_yes e len count =
-      let same : firsts [] ss ≡ firsts [] (ss ++ (s ∷ [])) = sym (firsts_end [] ss s ∙ ap (λ b. firsts [] ss ++ cond b [] (s ∷ [])) e ∙ append_nil (firsts [] ss)) in
+      let same : firsts [] ss ≡ firsts [] (ss ++ (s ∷ [])) = sym (firsts_end [] ss s ∙ ap (λ b. firsts [] ss ++ cond b [] (s ∷ [])) e ∙ append-nil (firsts [] ss)) in
       let g : k.groups ≡ k.groups + 0 = omega arith in
       let u : k.used ≡ k.used + 0 = omega arith in
       let v : k.cued ≡ k.cued + 0 = omega arith in

@@ -1,7 +1,7 @@
 -- The parts of the sheet's text, and how long they are. Assumes nothing.
 use mathlib.Core.Path.{◌≡◌, refl, sym, ap, subst, ◌∙◌}
 use mathlib.Core.Bool.{Bool, true, false, cond}
-use mathlib.Core.List.{List, [], ◌∷◌, ◌++◌, append_assoc, append_nil}
+use mathlib.Core.List.{List, [], ◌∷◌, ◌++◌, append_assoc, append-nil}
 use Prim.Native.Nat.{ℕ, zero, suc, ◌+◌, ◌*◌, ◌-◌, ◌≤◌, ◌<◌}
 use native.Mathlib.Numerals.{add-one}
 use native.Mathlib.Omega.{arith}
@@ -104,7 +104,7 @@ pub numbering_all : (f : ℕ → ℕ) (old new : List ℕ) (at q : ℕ) → Numb
 unfolding numbers_text number_lines joined
 numbering_all f old new at q h l =
     let z : 21 - q ≡ 0 = omega (arith, h.within) in
-    let e : h.front ≡ joined (number_lines 20 1 f) = sym (append_nil h.front) ∙ ap (λ m. h.front ++ joined (number_lines m q f)) (sym z) ∙ h.rest in
+    let e : h.front ≡ joined (number_lines 20 1 f) = sym (append-nil h.front) ∙ ap (λ m. h.front ++ joined (number_lines m q f)) (sym z) ∙ h.rest in
     subst (λ t. Wrote t old new at) e h.wrote
 
 -- ---- the whole
@@ -118,7 +118,7 @@ tail_short t g n = simp length-append (omega (arith, key_short ticks_key t, key_
 
 pub sheet_parts : (s : season.Sheet) → sheet_text s ≡ joined (front_text s.accepted s.refused ∷ (numbers_text s.counts ∷ (tail_text s.ticks s.greatest s.groups ∷ [])))
 unfolding sheet_text front_text numbers_text tail_text joined
-sheet_parts s = ap (λ l. key_line accepted_key s.accepted ++ (key_line refused_key s.refused ++ l)) (joined_append (number_lines 20 1 s.counts) _ ∙ ap (λ l. joined (number_lines 20 1 s.counts) ++ l) (sym (append_nil _)))
+sheet_parts s = ap (λ l. key_line accepted_key s.accepted ++ (key_line refused_key s.refused ++ l)) (joined_append (number_lines 20 1 s.counts) _ ∙ ap (λ l. joined (number_lines 20 1 s.counts) ++ l) (sym (append-nil _)))
     ∙ sym (append_assoc (key_line accepted_key s.accepted) (key_line refused_key s.refused) _)
 
 pub sheet_room : (s : season.Sheet) → length (joined (front_text s.accepted s.refused ∷ (numbers_text s.counts ∷ (tail_text s.ticks s.greatest s.groups ∷ [])))) ≤ 1_144

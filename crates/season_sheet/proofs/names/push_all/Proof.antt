@@ -1,5 +1,5 @@
 -- `season_sheet::names::push_all` meets its contract: the bytes passed are kept. The measure is what is left of the block.
-use mathlib.Core.List.{List, ◌++◌, append_nil, append_assoc}
+use mathlib.Core.List.{List, ◌++◌, append-nil, append_assoc}
 use Prim.Native.Nat.{ℕ, ◌-◌, ◌≤◌}
 use native.Mathlib.Numerals.{add-one}
 use native.Mathlib.Omega.{arith}
@@ -17,7 +17,7 @@ abbrev decreases-loop-i : tie.decreases-loop-i
 decreases-loop-i at block names₀ lengths₀ line₀ i₀ names lengths line i = length block - i
 
 loop_holds : tie.Need-loop-i-init invariant-loop-i decreases-loop-i
-loop_holds c = (omega arith, λ input h. rw append_nil h)
+loop_holds c = (omega arith, λ input h. rw append-nil h)
 
 loop_again : tie.Need-loop-i-preserved invariant-loop-i decreases-loop-i
 loop_again c =
