@@ -131,8 +131,7 @@ fn flag(b: bool) -> u64
 // The line becomes line k.
 pub fn put_line(table: &mut [[u64; 7]; 16], k: usize, line: LoopLine)
     requires { (k < 16) × (length table.old ≡ 16) × EndsWithin 512 line.step }
-    ensures* { do
-      ⌜ (lines_in table.new ≡ set (lines_in table.old) k line) × (length table.new ≡ 16) ⌝ }
+    ensures { (lines_in table.new ≡ set (lines_in table.old) k line) × (length table.new ≡ 16) }
 {
     let step = line.step;
     let row = line.row as u64;

@@ -32,8 +32,8 @@ fn trip_by(
     keeps: bool,
 ) -> Trip
     requires { SmallWay way }
-    ensures* { do
-      ⌜ trip_of result ≡ trip_from way (env_of begun.now) untested step comparison (range_of start) (range_of limit) keeps ⌝ }
+    ensures {
+        trip_of result ≡ trip_from way (env_of begun.now) untested step comparison (range_of start) (range_of limit) keeps }
 {
     match way {
         Way::Own => own_trip(untested, step, comparison, start, limit, keeps, true),
