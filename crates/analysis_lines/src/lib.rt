@@ -1,5 +1,6 @@
 // The report's lines as a table of numbers, seven to a line: a table can be lent to the walk that fills it, and an array of lines cannot.
 #![tactic(auto)]
+
 ghost use Rattle.std.specs.Prelude.{◌≡◌, [], ◌<◌, min, eqb, length, get_or, set};
 ghost use Rattle.rules_steps.specs.Ends.{Near, EndsWithin};
 ghost use Rattle.analysis_lines.specs.Coded.{end_in, line_step, line_in, lines_in};
@@ -131,8 +132,7 @@ fn flag(b: bool) -> u64
 // The line becomes line k.
 pub fn put_line(table: &mut [[u64; 7]; 16], k: usize, line: LoopLine)
     requires { (k < 16) × (length table.old ≡ 16) × EndsWithin 512 line.step }
-    ensures* { do
-      ⌜ (lines_in table.new ≡ set (lines_in table.old) k line) × (length table.new ≡ 16) ⌝ }
+    ensures { (lines_in table.new ≡ set (lines_in table.old) k line) × (length table.new ≡ 16) }
 {
     let step = line.step;
     let row = line.row as u64;

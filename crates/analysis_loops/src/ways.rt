@@ -80,9 +80,8 @@ pub fn is_do(kind: Kind) -> bool
 // 10: is no variable of an expression assigned in the body?
 fn word_keeps(text: &[u8], at: u16, n: u16, set: [bool; 16]) -> bool
     requires { InText text.now at n }
-    ensures* { do
-      ⌜ ((body : Block) → ((w : ℕ) → set_of set w ≡ assigns w body) → result ≡ trips.keeps
-          (expr_in (parse (take n (drop at text.now)))) body) ⌝ }
+    ensures { ((body : Block) → ((w : ℕ) → set_of set w ≡ assigns w body) → result ≡ trips.keeps
+        (expr_in (parse (take n (drop at text.now)))) body) }
 {
     let from = at as usize;
     let to = from + n as usize;
@@ -92,9 +91,8 @@ fn word_keeps(text: &[u8], at: u16, n: u16, set: [bool; 16]) -> bool
 // 10: is no variable of the limit assigned in the body?
 pub fn keeps(text: &[u8], limit: Operand, set: [bool; 16]) -> bool
     requires { FineOperand limit × WrittenOperand text.now limit }
-    ensures* { do
-      ⌜ ((body : Block) → ((w : ℕ) → set_of set w ≡ assigns w body) → result ≡ trips.keeps (expr_of text.now limit)
-          body) ⌝ }
+    ensures { ((body : Block) → ((w : ℕ) → set_of set w ≡ assigns w body) → result ≡ trips.keeps (expr_of text.now limit)
+        body) }
 {
     match limit {
         Operand::Constant(_) => true,
@@ -146,9 +144,8 @@ fn copied_way(
     after: bool,
 ) -> Way
     requires { ((text : List ℕ) × AtLoop text (rows_of rows.now) count i) × (w < 16) }
-    ensures* { do
-      ⌜ ((text : List ℕ) → AtLoop text (rows_of rows.now) count i → CopiedAt text
-          (rows_of rows.now) count i comparison w before after result) ⌝ }
+    ensures { ((text : List ℕ) → AtLoop text (rows_of rows.now) count i → CopiedAt text
+        (rows_of rows.now) count i comparison w before after result) }
 {
     let body = body_moves(rows, count, i, w);
     let step = body.step;
@@ -161,9 +158,8 @@ fn copied_way(
 // Which way the while, do or for at row i goes, by the only row of its tested variable, which has no step of its own.
 fn sole_way(rows: &[u32], count: usize, i: usize) -> Way
     requires { (text : List ℕ) × SoleFrom text (rows_of rows.now) count i }
-    ensures* { do
-      ⌜ ((text : List ℕ) → SoleFrom text (rows_of rows.now) count i → WayAt text
-          (rows_of rows.now) count i result) ⌝ }
+    ensures { ((text : List ℕ) → SoleFrom text (rows_of rows.now) count i → WayAt text
+        (rows_of rows.now) count i result) }
 {
     let kind = kind_at(rows, i);
     if is_for(kind) {
@@ -192,9 +188,8 @@ fn watched_way(
     after: bool,
 ) -> Way
     requires { ((text : List ℕ) × AtLoop text (rows_of rows.now) count i) × (w < 16) }
-    ensures* { do
-      ⌜ ((text : List ℕ) → AtLoop text (rows_of rows.now) count i → WatchedAt text
-          (rows_of rows.now) count i w comparison k before after result) ⌝ }
+    ensures { ((text : List ℕ) → AtLoop text (rows_of rows.now) count i → WatchedAt text
+        (rows_of rows.now) count i w comparison k before after result) }
 {
     let body = body_moves(rows, count, i, w);
     let step = body.step;
@@ -207,9 +202,8 @@ fn watched_way(
 // Which way the hold at row i goes, by the only row of its flag.
 fn hold_way(rows: &[u32], count: usize, i: usize) -> Way
     requires { (text : List ℕ) × HoldAt text (rows_of rows.now) count i }
-    ensures* { do
-      ⌜ ((text : List ℕ) → HoldAt text (rows_of rows.now) count i → WayAt text
-          (rows_of rows.now) count i result) ⌝ }
+    ensures { ((text : List ℕ) → HoldAt text (rows_of rows.now) count i → WayAt text
+        (rows_of rows.now) count i result) }
 {
     let kind = kind_at(rows, i);
     let head = head_of(kind);
@@ -226,9 +220,8 @@ fn hold_way(rows: &[u32], count: usize, i: usize) -> Way
 // The limit is the variable w, which the body assigns; step: the tested variable's own.
 fn chased_way(rows: &[u32], count: usize, i: usize, head: LoopTest, step: Step, w: u8) -> Way
     requires { (text : List ℕ) × ChaseAt text (rows_of rows.now) count i head step w }
-    ensures* { do
-      ⌜ ((text : List ℕ) → ChaseAt text (rows_of rows.now) count i head step w → WayAt text
-          (rows_of rows.now) count i result) ⌝ }
+    ensures { ((text : List ℕ) → ChaseAt text (rows_of rows.now) count i head step w → WayAt text
+        (rows_of rows.now) count i result) }
 {
     if w == head.tested {
         return Way::Own;
@@ -245,9 +238,8 @@ fn chased_way(rows: &[u32], count: usize, i: usize, head: LoopTest, step: Step, 
 // Which way the loop at row i goes, by its limit, which the body assigns; step: the tested variable's own, which is known.
 fn limit_way(rows: &[u32], count: usize, i: usize, step: Step) -> Way
     requires { (text : List ℕ) × LimitAt text (rows_of rows.now) count i step }
-    ensures* { do
-      ⌜ ((text : List ℕ) → LimitAt text (rows_of rows.now) count i step → WayAt text
-          (rows_of rows.now) count i result) ⌝ }
+    ensures { ((text : List ℕ) → LimitAt text (rows_of rows.now) count i step → WayAt text
+        (rows_of rows.now) count i result) }
 {
     let kind = kind_at(rows, i);
     let head = head_of(kind);
@@ -262,9 +254,8 @@ fn limit_way(rows: &[u32], count: usize, i: usize, step: Step) -> Way
 // Which way the loop at row i goes; held: it is a hold; step: its tested variable's own; kept: the answer to question 10.
 pub fn way_of(rows: &[u32], count: usize, i: usize, held: bool, step: Step, kept: bool) -> Way
     requires { (text : List ℕ) × WayFrom text (rows_of rows.now) count i held step kept }
-    ensures* { do
-      ⌜ ((text : List ℕ) → WayFrom text (rows_of rows.now) count i held step kept → WayAt text
-          (rows_of rows.now) count i result) ⌝ }
+    ensures { ((text : List ℕ) → WayFrom text (rows_of rows.now) count i held step kept → WayAt text
+        (rows_of rows.now) count i result) }
 {
     if held {
         return hold_way(rows, count, i);

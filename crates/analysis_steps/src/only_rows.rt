@@ -35,9 +35,8 @@ fn read_at(
     before: [bool; 16],
 ) -> Sole
     requires { (text : List ℕ) × AtRead text (rows_of rows.now) count i v w read }
-    ensures* { do
-      ⌜ ((text : List ℕ) → AtRead text (rows_of rows.now) count i v w read → ReadAt text
-          (rows_of rows.now) count i v before result) ⌝ }
+    ensures { ((text : List ℕ) → AtRead text (rows_of rows.now) count i v w read → ReadAt text
+        (rows_of rows.now) count i v before result) }
 {
     if w == v {
         return Sole::Other;
@@ -57,11 +56,9 @@ fn read_at(
 
 // At the row i, which sets v to x, behind rows that assign a set.
 fn set_at(rows: &[u32], count: usize, i: usize, v: u8, x: Operand, before: [bool; 16]) -> Sole
-    requires* { do
-      ⌜ ((text : List ℕ) × AtRow text (rows_of rows.now) count i v) × ((u : ℕ) × (kind_at (rows_of rows.now) i ≡ Kind.Set u x)) ⌝ }
-    ensures* { do
-      ⌜ ((text : List ℕ) → AtRow text (rows_of rows.now) count i v → ReadAt text
-          (rows_of rows.now) count i v before result) ⌝ }
+    requires { ((text : List ℕ) × AtRow text (rows_of rows.now) count i v) × ((u : ℕ) × (kind_at (rows_of rows.now) i ≡ Kind.Set u x)) }
+    ensures { ((text : List ℕ) → AtRow text (rows_of rows.now) count i v → ReadAt text
+        (rows_of rows.now) count i v before result) }
 {
     match x {
         Operand::Constant(_) => Sole::Other,
@@ -73,9 +70,8 @@ fn set_at(rows: &[u32], count: usize, i: usize, v: u8, x: Operand, before: [bool
 // At the row i, which assigns v, behind rows that assign a set.
 fn sole_at(rows: &[u32], count: usize, i: usize, v: u8, before: [bool; 16]) -> Sole
     requires { (text : List ℕ) × AtRow text (rows_of rows.now) count i v }
-    ensures* { do
-      ⌜ ((text : List ℕ) → AtRow text (rows_of rows.now) count i v → ReadAt text
-          (rows_of rows.now) count i v before result) ⌝ }
+    ensures { ((text : List ℕ) → AtRow text (rows_of rows.now) count i v → ReadAt text
+        (rows_of rows.now) count i v before result) }
 {
     match kind_at(rows, i) {
         Kind::Set(_, x) => set_at(rows, count, i, v, x, before),
@@ -87,9 +83,8 @@ fn sole_at(rows: &[u32], count: usize, i: usize, v: u8, before: [bool; 16]) -> S
 // The only assignment of v in the block that starts at row `at`.
 pub fn sole_of(rows: &[u32], count: usize, at: usize, v: u8) -> Sole
     requires { ((text : List ℕ) × Ready text (rows_of rows.now) count at) × (v < 16) }
-    ensures* { do
-      ⌜ ((text : List ℕ) → Ready text (rows_of rows.now) count at → SoleAt text (rows_of rows.now)
-          count at v result) ⌝ }
+    ensures { ((text : List ℕ) → Ready text (rows_of rows.now) count at → SoleAt text (rows_of rows.now)
+        count at v result) }
 {
     let mut set = [false; 16];
     let mut i = at;
