@@ -18,7 +18,7 @@ set-at-requires : tie.Need-set_at-requires
 set-at-requires c κs = (c.requires, (_, sym c.kind_at.ensures ∙ c.in-Set.is))
 
 -- the row is an off
-reads_it : (c : tie.In-Off-2) → let s = c.args in let g = (c.in-Off.w, (c.in-Off.c, (c.in-Off.k, (c.in-Off.field-0, tt)))) in (text : List ℕ) → AtRow text (rows_of s.rows.now) s.count s.i s.v → AtRead text (rows_of s.rows.now) s.count s.i s.v g.1.0 (Read.Off g.1.1.0 g.1.1.1.0)
+reads_it : (c : tie.In-Off-2) → let s = c.args in (text : List ℕ) → AtRow text (rows_of s.rows.now) s.count s.i s.v → AtRead text (rows_of s.rows.now) s.count s.i s.v c.in-Off.w (Read.Off c.in-Off.c c.in-Off.k)
 reads_it c text k =
     let e = sym c.kind_at.ensures ∙ c.in-Off.is in
     let f = rw e at (k.ready.fine _ k.inside) in
