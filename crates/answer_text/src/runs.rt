@@ -19,9 +19,7 @@ pub const TEXT: usize = 2_048;
 // Writes a key and a number behind what is written.
 pub fn add_number(key: &[u8], n: u64, at: usize, out: &mut [u8]) -> usize
     requires { at + (length key.now + 20) ≤ length out.old }
-    ensures* { do
-      ⌜ Adds (key.now ++ decimal n) at out.old out.new result
-          × (result ≤ at + (length key.now + 20)) ⌝ }
+    ensures { Adds (key.now ++ decimal n) at out.old out.new result × (result ≤ at + (length key.now + 20)) }
 {
     at + report::pieces::put_number(key, n, &mut out[at..])
 }
@@ -78,9 +76,7 @@ fn add_values(store: &[i32], at: usize, out: &mut [u8]) -> usize
 // Writes a line of three numbers under a key.
 pub fn add_three(key: &[u8], x: u64, y: u64, z: u64, at: usize, out: &mut [u8]) -> usize
     requires { at + (length key.now + 63) ≤ length out.old }
-    ensures* { do
-      ⌜ Adds (three_text key.now x y z) at out.old out.new result
-          × (result ≤ at + (length key.now + 63)) ⌝ }
+    ensures { Adds (three_text key.now x y z) at out.old out.new result × (result ≤ at + (length key.now + 63)) }
 {
     let a = add_number(key, x, at, out);
     let b = add_number(b" ", y, a, out);
@@ -99,8 +95,7 @@ fn add_count(count: LoopCount, at: usize, out: &mut [u8]) -> usize
 // Writes the lines of the first `loops` counts.
 fn add_counts(counts: [LoopCount; 16], loops: usize, at: usize, out: &mut [u8]) -> usize
     requires { (loops ≤ 16) × (at + 1_088 ≤ length out.old) }
-    ensures* { do
-      ⌜ Adds (count_texts (take loops counts)) at out.old out.new result × (result ≤ at + 1_088) ⌝ }
+    ensures { Adds (count_texts (take loops counts)) at out.old out.new result × (result ≤ at + 1_088) }
 {
     let mut end = at;
     let mut i: usize = 0;
@@ -148,9 +143,9 @@ fn add_front(ending: Ending, row: usize, ticks: u64, used: usize, out: &mut [u8]
 // Writes the answer of a run that was not refused.
 fn put_run(o: Outcome, store: &[i32], out: &mut [u8]) -> usize
     requires { (o.loops ≤ 16) × (length store.now ≤ 17) × (length out.old ≡ 2_048) }
-    ensures* { do
-      ⌜ Wrote (run_text o.ending o.row o.ticks o.used store.now (take o.loops o.counts))
-          out.old out.new result × (result ≤ 2_048) ⌝ }
+    ensures {
+        Wrote (run_text o.ending o.row o.ticks o.used store.now (take o.loops o.counts))
+        out.old out.new result × (result ≤ 2_048) }
 {
     let ending = o.ending;
     let counts = o.counts;
@@ -182,10 +177,10 @@ pub fn put_answer(
     out: &mut [u8],
 ) -> usize
     requires { (length store.old ≤ 17) × (length out.old ≡ 2_048) }
-    ensures* { do
-      ⌜ Wrote (reply_text (run_reply prices.now (judged prices.now scratch_size file.now)
-          store.old picks.now allowance) store.old)
-          out.old out.new result × (result ≤ 2_048) ⌝ }
+    ensures {
+        Wrote (reply_text (run_reply prices.now (judged prices.now scratch_size file.now)
+        store.old picks.now allowance) store.old)
+        out.old out.new result × (result ≤ 2_048) }
 {
     let mut scratch = [0u32; SCRATCH];
     let o = loader::run(file, prices, &mut scratch, store, picks, allowance);

@@ -54,8 +54,7 @@ fn add_cue(first: bool, n: u32, at: usize, out: &mut [u8]) -> usize
 // Writes the numbers of cues, a comma between two.
 fn add_cues(cues: &[u32], at: usize, out: &mut [u8]) -> usize
     requires { (length cues.now ≤ 1_024) × (at + 21_504 ≤ length out.old) }
-    ensures* { do
-      ⌜ Adds (listed cue_text true cues.now) at out.old out.new result × (result ≤ at + 21_504) ⌝ }
+    ensures { Adds (listed cue_text true cues.now) at out.old out.new result × (result ≤ at + 21_504) }
 {
     let mut end = at;
     let mut i: usize = 0;
@@ -83,9 +82,9 @@ fn add_step_front(frame: u64, d: StepDone, out: &mut [u8]) -> usize
 // Writes the line of a step that was not refused.
 fn put_done(frame: u64, d: StepDone, cues: &[u32], out: &mut [u8]) -> usize
     requires { (length cues.now ≤ 1_024) × (length out.old ≡ 21_700) }
-    ensures* { do
-      ⌜ Wrote (step_front frame d ++ (listed cue_text true cues.now ++ newline)) out.old out.new result
-          × (result ≤ 21_700) ⌝ }
+    ensures {
+        Wrote (step_front frame d ++ (listed cue_text true cues.now ++ newline)) out.old out.new result
+        × (result ≤ 21_700) }
 {
     let a = add_step_front(frame, d, out);
     let b = add_cues(cues, a, out);

@@ -54,11 +54,11 @@ pub fn fitting(
     pick_lengths: &[usize],
     q: u64,
 ) -> bool
-    ensures* { do
-      ⌜ result ≡ fitting
-          (lent_of files.now file_lengths.now stores.now store_lengths.now
-          picks.now pick_lengths.now)
-          q ⌝ }
+    ensures {
+        result ≡ fitting
+        (lent_of files.now file_lengths.now stores.now store_lengths.now
+        picks.now pick_lengths.now)
+        q }
 {
     if !counted(file_lengths.len(), store_lengths.len(), pick_lengths.len()) {
         return false;

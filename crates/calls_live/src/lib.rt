@@ -43,9 +43,9 @@ fn take_byte(m: Machine, rows: &[u32], picks: &[u8]) -> Machine
 
 // A machine before it goes on: one that waits takes its byte, one that is finished stays.
 fn ready(m: Machine, rows: &[u32], picks: &[u8]) -> Machine
-    requires* { do
-      ⌜ ((i : ℕ) → m.status ≡ Status.Over Ending.NoPick i → AtPick m rows.now) × (length rows.now ≡ 1_024)
-          × (m.used ≡ 0) ⌝ }
+    requires {
+        ((i : ℕ) → m.status ≡ Status.Over Ending.NoPick i → AtPick m rows.now) × (length rows.now ≡ 1_024)
+        × (m.used ≡ 0) }
     ensures { Readied m result rows.now picks.now }
 {
     let status = m.status;
@@ -72,9 +72,9 @@ fn play(
     cues: &mut [u32],
 ) -> Stop
     requires { MayPlay text.now script rows.now from store.old picks.now counts.old }
-    ensures* { do
-      ⌜ Played script.prices (script_in text.now rows.now script.count) from result store.old
-          store.new picks.now counts.old counts.new cues.old cues.new ⌝ }
+    ensures {
+        Played script.prices (script_in text.now rows.now script.count) from result store.old
+        store.new picks.now counts.old counts.new cues.old cues.new }
 {
     let m = ready(from, rows, picks);
     if !run_actions::going(m) {
@@ -222,11 +222,11 @@ fn step_on(
     cues: &mut [u32],
 ) -> StepDone
     requires { (s : Script) × StepReady s text.now rows.now script lines.now store.old state.old }
-    ensures* { do
-      ⌜ ((s : Script) → StepReady s text.now rows.now script lines.now store.old
-          state.old → SteppedAs (step_from s script store.old state.old picks.now
-          (length cues.old)) store.old store.new state.old state.new
-          cues.old cues.new result) ⌝ }
+    ensures {
+        ((s : Script) → StepReady s text.now rows.now script lines.now store.old
+        state.old → SteppedAs (step_from s script store.old state.old picks.now
+        (length cues.old)) store.old store.new state.old state.new
+        cues.old cues.new result) }
 {
     let carried = state[LEFT];
     let ticks_before = state[TICKS];
@@ -283,9 +283,9 @@ fn ask_step(
     state: &[u64],
 ) -> Verdict
     requires { (s : Script) × StepAsked s rows.now script vars lines.now }
-    ensures* { do
-      ⌜ ((s : Script) → StepAsked s rows.now script vars lines.now
-          → result ≡ step_verdict script.prices s store.now state.now script.q) ⌝ }
+    ensures {
+        ((s : Script) → StepAsked s rows.now script vars lines.now
+        → result ≡ step_verdict script.prices s store.now state.now script.q) }
 {
     let whole: [i32; 2] = [-1_000_000_000, 1_000_000_000];
     let ranges = [whole; 16];
@@ -328,11 +328,11 @@ pub fn step_script(
     cues: &mut [u32],
 ) -> StepDone
     requires { Given text.now rows.now turn.script ranges × FinePrices turn.prices }
-    ensures* { do
-      ⌜ ((prices : List ℕ) → turn.prices ≡ prices_of prices → SteppedAs (step_reply prices
-          (judged_script prices (read_script text.now rows.now turn.script ranges)) store.old
-          state.old (step_lent turn.q picks.now (length cues.old))) store.old
-          store.new state.old state.new cues.old cues.new result) ⌝ }
+    ensures {
+        ((prices : List ℕ) → turn.prices ≡ prices_of prices → SteppedAs (step_reply prices
+        (judged_script prices (read_script text.now rows.now turn.script ranges)) store.old
+        state.old (step_lent turn.q picks.now (length cues.old))) store.old
+        store.new state.old state.new cues.old cues.new result) }
 {
     let none: [u64; 7] = [0; 7];
     let mut lines = [none; 16];

@@ -59,8 +59,7 @@ fn places_of(
     store_lengths: &[usize],
     pick_lengths: &[usize],
 ) -> Places
-    requires* { do
-      ⌜ (k < length file_lengths.now) × Lengths file_lengths.now store_lengths.now pick_lengths.now ⌝ }
+    requires { (k < length file_lengths.now) × Lengths file_lengths.now store_lengths.now pick_lengths.now }
     ensures { PlacesOf file_lengths.now store_lengths.now pick_lengths.now k result }
 {
     let file = part(file_lengths, k);

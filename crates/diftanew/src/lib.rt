@@ -28,9 +28,9 @@ pub extern "C" fn diftanew_report(
     buffer: &mut [u8],
     place: &mut u64,
 ) -> u32
-    ensures* answer { do
-      ⌜ Reported-in-numbers prices.now (judgement prices.now scratch.old file.now)
-          buffer.old buffer.new result place.new ⌝ }
+    ensures answer {
+        Reported-in-numbers prices.now (judgement prices.now scratch.old file.now)
+        buffer.old buffer.new result place.new }
     ensures scratch { ScratchKept scratch.old scratch.new }
 {
     let r = loader::report(file, prices, scratch, buffer);
@@ -143,9 +143,9 @@ pub extern "C" fn diftanew_run(
     allowance: u64,
     answer: &mut [u64; 53],
 ) -> u32
-    ensures* answer { do
-      ⌜ Told-in-numbers prices.now (judgement prices.now scratch.old file.now)
-          store.old store.new picks.now allowance result answer.new ⌝ }
+    ensures answer {
+        Told-in-numbers prices.now (judgement prices.now scratch.old file.now)
+        store.old store.new picks.now allowance result answer.new }
     ensures scratch { ScratchKept scratch.old scratch.new }
 {
     let o = loader::run(file, prices, scratch, store, picks, allowance);
@@ -196,9 +196,7 @@ pub extern "C" fn diftanew_figures(
     scratch: &mut [u32],
     answer: &mut [u64; 115],
 ) -> u32
-    ensures* answer { do
-      ⌜ Figured-in-numbers prices.now (judgement prices.now scratch.old file.now)
-          result answer.new ⌝ }
+    ensures answer { Figured-in-numbers prices.now (judgement prices.now scratch.old file.now) result answer.new }
     ensures scratch { ScratchKept scratch.old scratch.new }
 {
     let none: [u64; 7] = [0; 7];
@@ -258,11 +256,11 @@ pub extern "C" fn diftanew_frames(
     scratch: &mut [u32],
     answer: &mut [u64; 433],
 ) -> u32
-    ensures* answer { do
-      ⌜ Framed-in-numbers prices.now (length scratch.old)
-          (lent_of files.now file_lengths.now stores.old store_lengths.now
-          picks.now pick_lengths.now)
-          q stores.new result answer.new ⌝ }
+    ensures answer {
+        Framed-in-numbers prices.now (length scratch.old)
+        (lent_of files.now file_lengths.now stores.old store_lengths.now
+        picks.now pick_lengths.now)
+        q stores.new result answer.new }
     ensures scratch { scratch.new ≡ scratch.old }
 {
     let f = loader::frames(
@@ -293,11 +291,11 @@ pub extern "C" fn diftanew_start(
     state: &mut [u64],
     answer: &mut [u64; 2],
 ) -> u32
-    ensures* answer { do
-      ⌜ Started-in-numbers
-          (start_reply prices.now (judgement prices.now scratch.old file.now)
-          store.now state.old)
-          state.old state.new result answer.new ⌝ }
+    ensures answer {
+        Started-in-numbers
+        (start_reply prices.now (judgement prices.now scratch.old file.now)
+        store.now state.old)
+        state.old state.new result answer.new }
     ensures scratch { ScratchKept scratch.old scratch.new }
 {
     let s = loader::start(file, prices, scratch, store, state);
@@ -348,12 +346,12 @@ pub extern "C" fn diftanew_step(
     cues: &mut [u32],
     answer: &mut [u64; 56],
 ) -> u32
-    ensures* answer { do
-      ⌜ Stepped-in-numbers
-          (step_reply prices.now (judgement prices.now scratch.old file.now)
-          store.old state.old (step_lent q picks.now (length cues.old)))
-          store.old store.new state.old state.new cues.old cues.new
-          result answer.new ⌝ }
+    ensures answer {
+        Stepped-in-numbers
+        (step_reply prices.now (judgement prices.now scratch.old file.now)
+        store.old state.old (step_lent q picks.now (length cues.old)))
+        store.old store.new state.old state.new cues.old cues.new
+        result answer.new }
     ensures scratch { ScratchKept scratch.old scratch.new }
 {
     let s = loader::step(file, prices, scratch, store, state, q, picks, cues);

@@ -64,8 +64,7 @@ fn shut(next: usize, end: usize) -> usize
 // The value of the factor at `at`: "A factor may hold a whole expression in parentheses".
 #[cycle(expression_factor_term)]
 fn factor(text: &[u8], at: usize, los: &[i32], his: &[i32]) -> PartRange
-    ensures* { do
-      ⌜ GivesRange los.now his.now text.now (read_factor (drop at text.now)) at result ⌝ }
+    ensures { GivesRange los.now his.now text.now (read_factor (drop at text.now)) at result }
 {
     if at < text.len() {
         if text[at] == b'(' {
@@ -84,8 +83,7 @@ fn factor(text: &[u8], at: usize, los: &[i32], his: &[i32]) -> PartRange
 // The value of the term at `at`: factors, from the left. One call of `factor`, so that it is inlined.
 #[cycle(expression_factor_term)]
 fn term(text: &[u8], at: usize, los: &[i32], his: &[i32]) -> PartRange
-    ensures* { do
-      ⌜ GivesRange los.now his.now text.now (read_term (λ x. x) (drop at text.now)) at result ⌝ }
+    ensures { GivesRange los.now his.now text.now (read_term (λ x. x) (drop at text.now)) at result }
 {
     let mut got = PartRange {
         lo: 0,
@@ -113,9 +111,7 @@ fn term(text: &[u8], at: usize, los: &[i32], his: &[i32]) -> PartRange
 // The value of the expression at `at`: terms, from the left.
 #[cycle(expression_factor_term)]
 fn expression(text: &[u8], at: usize, los: &[i32], his: &[i32]) -> PartRange
-    ensures* { do
-      ⌜ GivesRange los.now his.now text.now (read_expression (λ x. x) (drop at text.now))
-          at result ⌝ }
+    ensures { GivesRange los.now his.now text.now (read_expression (λ x. x) (drop at text.now)) at result }
 {
     let mut got = PartRange {
         lo: 0,
@@ -250,8 +246,7 @@ fn term_run(text: &[u8], at: usize, store: &[i32]) -> PartValue
 // The number of the expression at `at`.
 #[cycle(expression_run_factor_run_term_run)]
 fn expression_run(text: &[u8], at: usize, store: &[i32]) -> PartValue
-    ensures* { do
-      ⌜ GivesRun store.now text.now (read_expression (λ x. x) (drop at text.now)) at result ⌝ }
+    ensures { GivesRun store.now text.now (read_expression (λ x. x) (drop at text.now)) at result }
 {
     let mut got = PartValue {
         number: 0,

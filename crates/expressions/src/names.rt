@@ -23,8 +23,7 @@ fn member(set: [bool; 16], w: u32) -> bool
 // Does a variable of the set stand at i: a `v` and its number?
 fn names(word: &[u8], i: usize, set: [bool; 16]) -> bool
     requires { i < length word.now }
-    ensures* { do
-      ⌜ result ≡ eqb (get_or word.now i 0) 118 && get_or set (digit_value 0 (drop (i + 1) word.now)) false ⌝ }
+    ensures { result ≡ eqb (get_or word.now i 0) 118 && get_or set (digit_value 0 (drop (i + 1) word.now)) false }
 {
     if word[i] == b'v' {
         return member(set, digits_at(word, i + 1).value);
@@ -35,9 +34,9 @@ fn names(word: &[u8], i: usize, set: [bool; 16]) -> bool
 // 10: is no variable of such an expression in the set that a body assigns?
 pub fn keeps_in(word: &[u8], set: [bool; 16]) -> bool
     requires { PassedWord word.now }
-    ensures* { do
-      ⌜ ((body : Block) → ((w : ℕ) → get_or set w false ≡ assigns w body) → result ≡ keeps (expr_in (parse word.now))
-          body) ⌝ }
+    ensures {
+        ((body : Block) → ((w : ℕ) → get_or set w false ≡ assigns w body) → result ≡ keeps (expr_in (parse word.now))
+        body) }
 {
     let mut i: usize = 0;
     while i < word.len() {

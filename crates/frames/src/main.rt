@@ -65,8 +65,7 @@ fn read_last(i: usize, file: usize, picks: usize, store: &mut [i32]) -> Share
 // Reads the picks of argument i, as far as there is room, and the values after them.
 fn read_picks(i: usize, file: usize, picks: &mut [u8], store: &mut [i32]) -> Share
     requires { i ≤ 100 }
-    ensures* { do
-      ⌜ (result.file ≤ file) × (result.picks ≤ length picks.old) × (result.values ≤ length store.old) ⌝ }
+    ensures { (result.file ≤ file) × (result.picks ≤ length picks.old) × (result.values ≤ length store.old) }
 {
     let mut word = [0u8; WORD];
     let n = os::arg(i, &mut word);
@@ -83,8 +82,8 @@ fn read_picks(i: usize, file: usize, picks: &mut [u8], store: &mut [i32]) -> Sha
 // Reads the file that argument i names, the picks and the values after it.
 fn read_script(i: usize, file: &mut [u8], picks: &mut [u8], store: &mut [i32]) -> Share
     requires { i ≤ 99 }
-    ensures* { do
-      ⌜ (result.file ≤ length file.old) × (result.picks ≤ length picks.old) × (result.values ≤ length store.old) ⌝ }
+    ensures {
+        (result.file ≤ length file.old) × (result.picks ≤ length picks.old) × (result.values ≤ length store.old) }
 {
     let mut path = [0u8; WORD];
     let n = os::arg(i, &mut path);
@@ -147,10 +146,9 @@ fn read_scripts(
     stores: &mut [i32],
     store_lengths: &mut [usize],
 ) -> Share
-    requires* fact { do
-      ⌜ (first ≤ 3) × (scripts ≤ 8) × (length files.old ≡ 131_080) × (length picks.old ≡ 131_072) × (length stores.old ≡ 136) ⌝ }
-    requires* fact_2 { do
-      ⌜ (length file_lengths.old ≡ 8) × (length pick_lengths.old ≡ 8) × (length store_lengths.old ≡ 8) ⌝ }
+    requires fact {
+        (first ≤ 3) × (scripts ≤ 8) × (length files.old ≡ 131_080) × (length picks.old ≡ 131_072) × (length stores.old ≡ 136) }
+    requires fact_2 { (length file_lengths.old ≡ 8) × (length pick_lengths.old ≡ 8) × (length store_lengths.old ≡ 8) }
     ensures { (result.file ≤ 131_080) × (result.picks ≤ 131_072) × (result.values ≤ 136) }
 {
     let mut file: usize = 0;
@@ -268,10 +266,9 @@ fn read_and_play(
     prices: &[u32],
     q: u64,
 )
-    requires* fact { do
-      ⌜ (first ≤ 3) × (scripts ≤ 8) × (length files.old ≡ 131_080) × (length picks.old ≡ 131_072) × (length stores.old ≡ 136) ⌝ }
-    requires* fact_2 { do
-      ⌜ (length file_lengths.old ≡ 8) × (length pick_lengths.old ≡ 8) × (length store_lengths.old ≡ 8) ⌝ }
+    requires fact {
+        (first ≤ 3) × (scripts ≤ 8) × (length files.old ≡ 131_080) × (length picks.old ≡ 131_072) × (length stores.old ≡ 136) }
+    requires fact_2 { (length file_lengths.old ≡ 8) × (length pick_lengths.old ≡ 8) × (length store_lengths.old ≡ 8) }
 {
     let all = read_scripts(
         first,

@@ -198,9 +198,9 @@ fn no(place: usize) -> Verdict
 // The first six numbers.
 fn ask_head(state: &[u64], rows: &[u32], script: PricedRows, ticks: u64) -> Verdict
     requires { ((s : Script) × RowsIn s rows.now script.count) × (length state.now ≡ 64) }
-    ensures* { do
-      ⌜ ((s : Script) → RowsIn s rows.now script.count
-          → result ≡ first_no 0 (head_checks script.prices s ticks state.now)) ⌝ }
+    ensures {
+        ((s : Script) → RowsIn s rows.now script.count
+        → result ≡ first_no 0 (head_checks script.prices s ticks state.now)) }
 {
     let status = state[STATUS];
     let row = state[ROW] as usize;
@@ -300,9 +300,9 @@ pub fn ask_state(
     loops: usize,
 ) -> Verdict
     requires { (s : Script) × StateAsked script.prices s rows.now script.count ticks lines.now loops }
-    ensures* { do
-      ⌜ ((s : Script) → StateAsked script.prices s rows.now script.count ticks lines.now loops
-          → result ≡ state_verdict script.prices s state.now) ⌝ }
+    ensures {
+        ((s : Script) → StateAsked script.prices s rows.now script.count ticks lines.now loops
+        → result ≡ state_verdict script.prices s state.now) }
 {
     if state.len() != STATE {
         return no(STATE);
@@ -454,8 +454,7 @@ pub fn write_state(
     counts: &[[u64; 3]; 16],
 )
     requires { (length state.old ≡ 64) × (loops.count ≤ 16) × (length lines.now ≡ 16) × (length counts.now ≡ 16) }
-    ensures* { do
-      ⌜ WrittenAs standing total (first_lines lines.now loops.count) loops counts.now state.new ⌝ }
+    ensures { WrittenAs standing total (first_lines lines.now loops.count) loops counts.now state.new }
 {
     clear(state);
     put_head(state, standing, total);

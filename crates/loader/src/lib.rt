@@ -47,9 +47,9 @@ fn ask_lent(prices: &[u32], scratch: usize) -> Verdict
 // The report of a file under prices that 16 has passed, its rows in the lent table: the questions 2 to 14, 17 and 19.
 fn report_file(file: &[u8], prices: &[u32], table: &mut [u32], buffer: &mut [u8]) -> Reply
     requires { Priced prices.now × (length table.old ≡ 1_024) }
-    ensures* { do
-      ⌜ Reported prices.now (judged_file (prices_of prices.now) (file_script file.now))
-          buffer.old buffer.new result ⌝ }
+    ensures {
+        Reported prices.now (judged_file (prices_of prices.now) (file_script file.now))
+        buffer.old buffer.new result }
 {
     let none: [i32; 2] = [0; 2];
     let mut ranges = [none; 16];
@@ -70,9 +70,7 @@ fn report_file(file: &[u8], prices: &[u32], table: &mut [u32], buffer: &mut [u8]
 // the answer is its length. Refused, the buffer is untouched. The first 1,024 numbers of the scratch are written over; the others keep
 // their values.
 pub fn report(file: &[u8], prices: &[u32], scratch: &mut [u32], buffer: &mut [u8]) -> Reply
-    ensures* answer { do
-      ⌜ Reported prices.now (judgement prices.now scratch.old file.now)
-          buffer.old buffer.new result ⌝ }
+    ensures answer { Reported prices.now (judgement prices.now scratch.old file.now) buffer.old buffer.new result }
     ensures scratch { ScratchKept scratch.old scratch.new }
 {
     let lent = ask_lent(prices, scratch.len());
@@ -90,9 +88,7 @@ fn figures_file(
     lines: &mut [[u64; 7]; 16],
 ) -> Figures
     requires { Priced prices.now × (length table.old ≡ 1_024) }
-    ensures* { do
-      ⌜ FiguresAs prices.now (judged_file (prices_of prices.now) (file_script file.now))
-          lines.new result ⌝ }
+    ensures { FiguresAs prices.now (judged_file (prices_of prices.now) (file_script file.now)) lines.new result }
 {
     let blank: [u64; 7] = [0; 7];
     *lines = [blank; 16];
@@ -117,9 +113,7 @@ pub fn figures(
     scratch: &mut [u32],
     lines: &mut [[u64; 7]; 16],
 ) -> Figures
-    ensures* answer { do
-      ⌜ FiguresAs prices.now (judgement prices.now scratch.old file.now)
-          lines.new result ⌝ }
+    ensures answer { FiguresAs prices.now (judgement prices.now scratch.old file.now) lines.new result }
     ensures scratch { ScratchKept scratch.old scratch.new }
 {
     let lent = ask_lent(prices, scratch.len());
@@ -139,11 +133,11 @@ fn run_file(
     allowance: u64,
 ) -> Outcome
     requires { Priced prices.now × (length table.old ≡ 1_024) }
-    ensures* { do
-      ⌜ RanAs
-          (run_reply prices.now (judged_file (prices_of prices.now) (file_script file.now))
-          store.old picks.now allowance)
-          store.old store.new result ⌝ }
+    ensures {
+        RanAs
+        (run_reply prices.now (judged_file (prices_of prices.now) (file_script file.now))
+        store.old picks.now allowance)
+        store.old store.new result }
 {
     let none: [i32; 2] = [0; 2];
     let mut ranges = [none; 16];
@@ -177,9 +171,9 @@ pub fn run(
     picks: &[u8],
     allowance: u64,
 ) -> Outcome
-    ensures* answer { do
-      ⌜ KeptCall prices.now (judgement prices.now scratch.old file.now)
-          store.old store.new picks.now allowance result ⌝ }
+    ensures answer {
+        KeptCall prices.now (judgement prices.now scratch.old file.now)
+        store.old store.new picks.now allowance result }
     ensures scratch { ScratchKept scratch.old scratch.new }
 {
     let lent = ask_lent(prices, scratch.len());
@@ -205,11 +199,11 @@ fn start_file(
     state: &mut [u64],
 ) -> Started
     requires { Priced prices.now × (length table.old ≡ 1_024) }
-    ensures* { do
-      ⌜ StartedAs
-          (start_reply prices.now (judged_file (prices_of prices.now) (file_script file.now))
-          store.now state.old)
-          state.old state.new result ⌝ }
+    ensures {
+        StartedAs
+        (start_reply prices.now (judged_file (prices_of prices.now) (file_script file.now))
+        store.now state.old)
+        state.old state.new result }
 {
     let none: [i32; 2] = [0; 2];
     let mut ranges = [none; 16];
@@ -232,11 +226,11 @@ pub fn start(
     store: &[i32],
     state: &mut [u64],
 ) -> Started
-    ensures* answer { do
-      ⌜ StartedAs
-          (start_reply prices.now (judgement prices.now scratch.old file.now)
-          store.now state.old)
-          state.old state.new result ⌝ }
+    ensures answer {
+        StartedAs
+        (start_reply prices.now (judgement prices.now scratch.old file.now)
+        store.now state.old)
+        state.old state.new result }
     ensures scratch { ScratchKept scratch.old scratch.new }
 {
     let lent = ask_lent(prices, scratch.len());
@@ -258,11 +252,11 @@ fn step_file(
     cues: &mut [u32],
 ) -> StepDone
     requires { Priced prices.now × (length table.old ≡ 1_024) }
-    ensures* { do
-      ⌜ SteppedAs
-          (step_reply prices.now (judged_file (prices_of prices.now) (file_script file.now))
-          store.old state.old (step_lent q picks.now (length cues.old)))
-          store.old store.new state.old state.new cues.old cues.new result ⌝ }
+    ensures {
+        SteppedAs
+        (step_reply prices.now (judged_file (prices_of prices.now) (file_script file.now))
+        store.old state.old (step_lent q picks.now (length cues.old)))
+        store.old store.new state.old state.new cues.old cues.new result }
 {
     let none: [i32; 2] = [0; 2];
     let mut ranges = [none; 16];
@@ -293,11 +287,11 @@ pub fn step(
     picks: &[u8],
     cues: &mut [u32],
 ) -> StepDone
-    ensures* answer { do
-      ⌜ SteppedAs
-          (step_reply prices.now (judgement prices.now scratch.old file.now)
-          store.old state.old (step_lent q picks.now (length cues.old)))
-          store.old store.new state.old state.new cues.old cues.new result ⌝ }
+    ensures answer {
+        SteppedAs
+        (step_reply prices.now (judgement prices.now scratch.old file.now)
+        store.old state.old (step_lent q picks.now (length cues.old)))
+        store.old store.new state.old state.new cues.old cues.new result }
     ensures scratch { ScratchKept scratch.old scratch.new }
 {
     let lent = ask_lent(prices, scratch.len());
@@ -332,11 +326,11 @@ pub fn frames(
     q: u64,
     scratch: &mut [u32],
 ) -> Frames
-    ensures* answer { do
-      ⌜ FramedCall prices.now (length scratch.old)
-          (lent_of files.now file_lengths.now stores.old store_lengths.now
-          picks.now pick_lengths.now)
-          q stores.new result ⌝ }
+    ensures answer {
+        FramedCall prices.now (length scratch.old)
+        (lent_of files.now file_lengths.now stores.old store_lengths.now
+        picks.now pick_lengths.now)
+        q stores.new result }
     ensures scratch { scratch.new ≡ scratch.old }
 {
     let fits = calls_lists::fitting(

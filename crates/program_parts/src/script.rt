@@ -123,9 +123,9 @@ fn write_run(
     store: [i32; STORE],
     text: &[u8],
 )
-    requires* { do
-      ⌜ text.now ≡ reply_text (run_reply prices.now (judged prices.now scratch_size file.now) (take values store) picks.now allowed)
-          (take values store) ⌝ }
+    requires {
+        text.now ≡ reply_text (run_reply prices.now (judged prices.now scratch_size file.now) (take values store) picks.now allowed)
+        (take values store) }
 {
     print_text(text);
 }

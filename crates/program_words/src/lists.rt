@@ -96,8 +96,7 @@ fn put_five(values: &[i32], prices: &mut [u32])
 // Keeps the prices of a list with commas between them, as many as there are, at most five.
 fn keep_prices(list: &[u8], prices: &mut [u32]) -> Lent
     requires { length prices.old ≡ 5 }
-    ensures* { do
-      ⌜ LentAs (count_by (split comma list.now)) (prices_by (split comma list.now)) result prices.new ⌝ }
+    ensures { LentAs (count_by (split comma list.now)) (prices_by (split comma list.now)) result prices.new }
 {
     let mut values = [1i32; 5];
     let kept = read_values(list, b',', &mut values);
@@ -111,8 +110,7 @@ fn keep_prices(list: &[u8], prices: &mut [u32]) -> Lent
 // Keeps the prices of a first word that is `prices=A,C,P,T`, or a list of more or fewer; without it they are as they were.
 pub fn lend_prices(word: &[u8], prices: &mut [u32]) -> Lent
     requires { length prices.old ≡ 5 }
-    ensures* { do
-      ⌜ LentAs (lent_by word.now) (prices_lent word.now prices.old) result prices.new ⌝ }
+    ensures { LentAs (lent_by word.now) (prices_lent word.now prices.old) result prices.new }
 {
     if !starts_with(word, b"prices=") {
         return Lent::Nothing;

@@ -96,9 +96,9 @@ fn load_ranges(file: &[u8], at: usize, vars: usize, ranges: &mut [[i32; 2]; 16])
 // `vars=V` and on.
 fn load_vars(file: &[u8], at: usize, ranges: &mut [[i32; 2]; 16]) -> Head
     requires { at ≤ length file.now }
-    ensures* { do
-      ⌜ HeadRead file.now
-          (then_lines (count_line vars_key 16 2 (file_lines (drop at file.now))) range_part) result ranges.new ⌝ }
+    ensures {
+        HeadRead file.now
+        (then_lines (count_line vars_key 16 2 (file_lines (drop at file.now))) range_part) result ranges.new }
 {
     let c = count_line(&file[at..], b"vars=", 16);
     match c {
@@ -109,9 +109,7 @@ fn load_vars(file: &[u8], at: usize, ranges: &mut [[i32; 2]; 16]) -> Head
 
 // The lines before the rows.
 pub fn load_head(file: &[u8], ranges: &mut [[i32; 2]; 16]) -> Head
-    ensures* { do
-      ⌜ HeadRead file.now (file_script file.now) result ranges.new
-          × NotTooLong file.now result ⌝ }
+    ensures { HeadRead file.now (file_script file.now) result ranges.new × NotTooLong file.now result }
 {
     if 16_384 < file.len() {
         return refused(2, 16_384);

@@ -205,10 +205,9 @@ fn put_lines(
     ticks: u64,
     buffer: &mut [u8],
 ) -> usize
-    requires* { do
-      ⌜ LineTable loops lines.now × (length (report_text rows (first_lines lines.now loops) ticks) ≤ length buffer.old) ⌝ }
-    ensures* { do
-      ⌜ Wrote (report_text rows (first_lines lines.now loops) ticks) buffer.old buffer.new result ⌝ }
+    requires {
+        LineTable loops lines.now × (length (report_text rows (first_lines lines.now loops) ticks) ≤ length buffer.old) }
+    ensures { Wrote (report_text rows (first_lines lines.now loops) ticks) buffer.old buffer.new result }
 {
     let a = put_head(rows, loops, buffer);
     let b = a + put_loops(lines, loops, &mut buffer[a..]);
@@ -224,9 +223,9 @@ pub fn write_report(
     buffer: &mut [u8],
 ) -> Reply
     requires { LineTable loops lines.now }
-    ensures* { do
-      ⌜ (result ≡ buffer_reply (report_text rows (first_lines lines.now loops) ticks) (length buffer.old))
-          × (buffer.new ≡ written (report_text rows (first_lines lines.now loops) ticks) buffer.old) ⌝ }
+    ensures {
+        (result ≡ buffer_reply (report_text rows (first_lines lines.now loops) ticks) (length buffer.old))
+        × (buffer.new ≡ written (report_text rows (first_lines lines.now loops) ticks) buffer.old) }
 {
     let len = report_len(rows, lines, loops, ticks);
     if buffer.len() < len {

@@ -2,34 +2,34 @@
 use mathlib.Core.Path.{◌≡◌, refl, sym, ◌∙◌, ap, subst}
 use mathlib.Core.Bool.{Bool, true, false, cond}
 use mathlib.Core.List.{List, [], ◌∷◌, ◌++◌, append_assoc, append-nil}
-use Prim.Native.Nat.{ℕ, zero, suc, ◌+◌, ◌-◌, ◌≤◌, ◌<◌, max, min}
+use Prim.Native.Nat.{ℕ, zero, suc, ◌+◌, ◌≤◌, min}
 use native.Mathlib.Omega.{arith}
 use lib.Dec.{T, eqb, leb, le→leb}
 use lib.IntN.{ℤ}
 use lib.Signed.{le_z}
 use Rattle.ints.proofs.Diffs.{of, ◌≼◌, and_in}
 use Rattle.ints.proofs.Parts.{le_z_yes! }
-use lib.ListN.{length, get_or, drop, length-append}
+use lib.ListN.{length, drop, length-append}
 use Rattle.rules.specs.declared.Ending.{Ending}
+use Rattle.rules.specs.declared.Ending.TheVariants.{Ended, Spent, NoPick}
 use Rattle.rules.specs.declared.LoopCount.{LoopCount}
 use Rattle.rules.specs.declared.Prices.{Prices}
-use Rattle.rules.specs.declared.Verdict.{Verdict}
 use Rattle.rules.specs.declared.Verdict.TheVariants.{Passed as passed, Refused as refused}
 use Rattle.rules.specs.Blocks.{RowKind}
 use Rattle.rules.specs.Values.{lowest, highest, in_limits, Store}
-use Rattle.rules.specs.Run.{State, Entry}
-use Rattle.rules.specs.Answers.{store_list, own, sum_at, most_at}
-use Rattle.rules.specs.Scripts.{All, none, some, Script, store_of, report_ticks, report_lines}
-use Rattle.rules.specs.Calls.{accepted, prices_of, judged, store_verdict, loop_rows, counts_at, run_script}
+use Rattle.rules.specs.Run.{Entry}
+use Rattle.rules.specs.Answers.{store_list, sum_at, most_at}
+use Rattle.rules.specs.Scripts.{All, none, some, Script, store_of, report_ticks}
+use Rattle.rules.specs.Calls.{accepted, prices_of, store_verdict, loop_rows, counts_at}
 use Rattle.rules.proofs.Demand3.{in_ranges}
 use Rattle.rules.proofs.TreeOf.{tree_of_lem}
 use Rattle.rules_machine.specs.RowMachine.{TurnCounts, fresh, testing, Place, Next, more, over, counts_of}
 use Rattle.rules_live.specs.Cues.{cue_of}
-use Rattle.rules_live.specs.Live.{Stand, going, waits, full, finished, Stop, StepLent, Stepped, left_at, unused_at, keeps, stepped_to, lent_to, runs_on, by_byte, answered, step, Live, beginning, joined, matching_end, matching_head, step_of, steps_from, after_steps, store_at, counts_at_stand, status_number, row_at, StepAnswer, step_answer}
-use Rattle.rules_live.specs.LiveRuns.{StartAccepts, EveryStart, RunIsTheRun, allowance_at, CanStand, StateHolds, StateOfSeries}
-use Rattle.rules_live.specs.LiveState.{state_size, at, state_stand, state_verdict, place_row, phase_at, carried_at, state_numbers}
-use Rattle.rules_live.specs.LiveCalls.{and_then, size_verdict, start_state, started_by, start_reply, state_started, started, StepReply, stepped, wide_verdict, ticks_verdict, step_verdict, after_step, stepped_by, step_reply, store_stepped, state_stepped, Holding, holding_after, calls_from, holding_started, holding_of, CallsAreSteps}
-use Rattle.rules_live.proofs.PlacesFit.{NoCounts, Limited, PlaceFits}
+use Rattle.rules_live.specs.Live.{Stand, going, waits, full, finished, StepLent, Stepped, left_at, unused_at, keeps, stepped_to, lent_to, by_byte, answered, step, Live, beginning, joined, matching_end, matching_head, step_of, steps_from, after_steps, store_at, counts_at_stand, status_number, row_at, step_answer}
+use Rattle.rules_live.specs.LiveRuns.{StartAccepts, EveryStart, RunIsTheRun, CanStand, StateHolds, StateOfSeries}
+use Rattle.rules_live.specs.LiveState.{state_size, at, state_stand, place_row, phase_at, carried_at, state_numbers}
+use Rattle.rules_live.specs.LiveCalls.{and_then, size_verdict, start_state, started_by, start_reply, state_started, stepped, wide_verdict, ticks_verdict, step_verdict, after_step, stepped_by, step_reply, store_stepped, state_stepped, Holding, holding_after, calls_from, holding_started, holding_of, CallsAreSteps}
+use Rattle.rules_live.proofs.PlacesFit.{NoCounts, Limited}
 use Rattle.rules_live.proofs.StandsFit.{StandFits, step_fits}
 use Rattle.rules_live.proofs.StateNumbers.{numbers_pass}
 use Rattle.rules_live.proofs.StateStands.{past_end, wide_passes}
@@ -74,7 +74,10 @@ module _ (π : Prices) (script : Script) where
       by fresh e = subst (λ p. SameStep (step_of π script l (kept (full m))) (step_of π script l (full (record { row = m.row; phase = p; now = m.now; tally = m.tally })))) (sym e)
           (record { stand = refl; ticks = refl; used = refl; answer = λ t u. refl })
       by testing e = absurd (omega (arith, v, ap (λ w. length (cue_of w)) (h.test e).end))
-  same_step l (finished e i s c) can h = record { stand = refl; ticks = refl; used = refl; answer = λ t u. refl }
+  same_step l (finished Ended i s c) can h = record { stand = refl; ticks = refl; used = refl; answer = λ t u. refl }
+  same_step l (finished Ending.Range i s c) can h = record { stand = refl; ticks = refl; used = refl; answer = λ t u. refl }
+  same_step l (finished Spent i s c) can h = record { stand = refl; ticks = refl; used = refl; answer = λ t u. refl }
+  same_step l (finished NoPick i s c) can h = record { stand = refl; ticks = refl; used = refl; answer = λ t u. refl }
 
 -- ---- what a state keeps is all that is written and answered
 numbers_kept : (π : Prices) (script : Script) (ticks used : ℕ) (a : Stand) → state_numbers π script ticks used (kept a) ≡ state_numbers π script ticks used a
@@ -82,7 +85,10 @@ unfolding state_numbers kept status_number place_row phase_at carried_at counts_
 numbers_kept π script ticks used (going m) = refl
 numbers_kept π script ticks used (waits m) = refl
 numbers_kept π script ticks used (full m) = refl
-numbers_kept π script ticks used (finished e i s c) = refl
+numbers_kept π script ticks used (finished Ended i s c) = refl
+numbers_kept π script ticks used (finished Ending.Range i s c) = refl
+numbers_kept π script ticks used (finished Spent i s c) = refl
+numbers_kept π script ticks used (finished NoPick i s c) = refl
 
 store_kept : (a : Stand) → store_at (kept a) ≡ store_at a
 unfolding store_at kept
@@ -237,7 +243,7 @@ module _ (π : Prices) (script : Script) (store : List ℤ) (accepts : StartAcce
   steps_on : (l : Live) (ks ls : List StepLent) → steps_from π script (steps_from π script l ks) ls ≡ steps_from π script l (ks ++ ls)
   unfolding steps_from
   steps_on l [] ls = refl
-  steps_on l (k ∷ ks) ls = steps_on _ ks ls
+  steps_on l (k ∷ ks) ls = steps_on (joined l (step_of π script k l.stand)) ks ls
 
 -- ---- a series of calls
 module _ (prices : List ℕ) (script : Script) (store : List ℤ) (accepts : StartAccepts (prices_of prices) script store) where

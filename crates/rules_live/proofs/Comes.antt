@@ -148,6 +148,7 @@ module _ (π : Prices) (script : Script) (store : List ℤ) (accepts : StartAcce
     where
       by : (k : ℕ) (r : Next) → steps π rows (matching_end script) (matching_head script) k (begins n picks) ≡ r → {o : Out} → Finished (length rows) o r
           → (k : ℕ) × (e : Ending) × (i : ℕ) × (s : State) × (c : TurnCounts) × (steps π rows (matching_end script) (matching_head script) k (begins n picks) ≡ over e i s c)
+      by k (more _) q {o = o} f = elim f [ ]
       by k (over e i s c) q f = (k, e, i, s, c, q)
 
   -- what has come to a place with no tick left has taken all

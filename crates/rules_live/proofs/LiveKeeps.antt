@@ -48,6 +48,8 @@ short_counts p (skip s) = let (a, b) = short_counts p s in (omega arith, omega a
 pub short_fit : {es fs : List Entry} → Short es fs → (ls : List Line) (hs : List ℕ) → Pairwise Counts-fit ls (counts_at fs hs) → Pairwise Counts-fit ls (counts_at es hs)
 unfolding counts_at
 short_fit s [] [] h = no_more
+short_fit {es = es} {fs = fs} s [] (p ∷ hs) h = elim h [ ]
+short_fit {es = es} {fs = fs} s (l ∷ ls) [] h = elim h [ ]
 short_fit {es} {fs} s (l ∷ ls) (p ∷ hs) (and_then f h) = and_then (fewer f) (short_fit s ls hs h)
   where
     fewer : Counts-fit l (record { row = p; all = sum_at p fs; most = most_at p fs }) → Counts-fit l (record { row = p; all = sum_at p es; most = most_at p es })

@@ -3,26 +3,25 @@
 use mathlib.Core.Path.{◌≡◌, refl, sym, ◌∙◌, ap, subst}
 use mathlib.Core.Bool.{Bool, true, false, cond}
 use mathlib.Core.List.{List, [], ◌∷◌}
-use Prim.Native.Nat.{ℕ, zero, suc, ◌+◌, ◌-◌, ◌≤◌, ◌<◌, max}
+use Prim.Native.Nat.{ℕ, zero, suc, ◌≤◌, ◌<◌, max}
 use native.Mathlib.Omega.{arith}
 use lib.Dec.{T, leb, ltb, eqb, eqb→eq}
 use lib.IntN.{ℤ, pos}
-use lib.ListN.{length, get_or}
+use lib.ListN.{length}
 use borrow.Author.Tests.{ltb-true}
 use Rattle.rules.specs.declared.Ending.{Ending}
 use Rattle.rules.specs.declared.Ending.TheVariants.{Ended, Spent, NoPick}
 use Rattle.rules.specs.declared.Prices.{Prices}
 use Rattle.rules.specs.Values.{Store, put, Result, number, past, in_limits}
-use Rattle.rules.specs.Blocks.{RowKind, Set, Move, Cue, Pick, Else, End, While, Do, For, Hold, Off, Form, Last, Test, Plain, assign, cue, from, while, do_while, hold, for, no_step, step_by, View, is_plain, is_pick, is_else, is_end, is_loop, view_of, view_at, Block, build, parts, to_end}
+use Rattle.rules.specs.Blocks.{RowKind, Set, Move, Cue, Pick, Else, End, While, Do, For, Hold, Off, Form, Last, Test, Plain, assign, cue, while, do_while, hold, for, no_step, step_by, View, is_plain, is_pick, is_else, is_end, is_loop, view_of, view_at, Block, build, parts, to_end}
 use Rattle.rules.specs.Calls.{is_loop_row}
-use Rattle.rules.specs.Run.{State, holds, result, exec}
-use Rattle.rules.specs.Scripts.{All, none, some, RowBelow}
+use Rattle.rules.specs.Run.{State, holds, exec}
+use Rattle.rules.specs.Scripts.{All, some, RowBelow}
 use Rattle.rules.proofs.Outcomes.{decide_elim}
 use Rattle.rules.proofs.Rows.{block_loop}
 use Rattle.rules_machine.specs.RowMachine.{TurnCounts, begin, turn, Phase, fresh, testing, Place, Next, more, over, to, chosen, outcome, paid, picked, tests, on_end, on_row, next, Opens, pairs}
 use Rattle.rules_machine.proofs.PairsIn.{partners}
 use Rattle.rules_frames.proofs.Resumed.{wrote, acted, exec_paid}
-use Rattle.rules_live.specs.Live.{Stand, going, waits, full, finished, having}
 use Rattle.rules_live.proofs.Acts.{state}
 
 -- ---- what holds

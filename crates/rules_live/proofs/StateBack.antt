@@ -5,23 +5,21 @@ use mathlib.Core.List.{List, [], ◌∷◌, ◌++◌}
 use Prim.Native.Nat.{ℕ, zero, suc, ◌+◌, ◌-◌, ◌≤◌, ◌<◌, min}
 use native.Mathlib.Omega.{arith}
 use lib.Dec.{T, eqb, eqb→eq, eqb_refl}
-use lib.IntN.{ℤ, pos}
-use lib.ListN.{length, get_or, drop, replicate}
+use lib.IntN.{pos}
+use lib.ListN.{length, replicate}
 use Rattle.rules.specs.declared.Ending.{Ending}
 use Rattle.rules.specs.declared.Ending.TheVariants.{Ended, Spent, NoPick}
-use Rattle.rules.specs.declared.LoopCount.{LoopCount}
 use Rattle.rules.specs.declared.Prices.{Prices}
-use Rattle.rules.specs.Blocks.{RowKind, View, view_of, view_at}
+use Rattle.rules.specs.Blocks.{RowKind, view_of, view_at}
 use Rattle.rules.specs.Figures.{Line}
 use Rattle.rules.specs.Values.{Store}
-use Rattle.rules.specs.Run.{Entry}
-use Rattle.rules.specs.Answers.{store_list, sum_at, most_at}
-use Rattle.rules.specs.Scripts.{All, none, some, Pairwise, no_more, and_then, Script, store_of, report_ticks, report_lines}
-use Rattle.rules.specs.Calls.{is_loop_row, loop_rows, counts_at}
+use Rattle.rules.specs.Answers.{store_list}
+use Rattle.rules.specs.Scripts.{All, none, some, Pairwise, and_then, Script, store_of, report_lines}
+use Rattle.rules.specs.Calls.{is_loop_row, loop_rows}
 use Rattle.rules.specs.Claim.{Counts-fit}
-use Rattle.rules_machine.specs.RowMachine.{TurnCounts, Phase, fresh, testing, Place, counts_of}
+use Rattle.rules_machine.specs.RowMachine.{TurnCounts, Phase, fresh, testing, counts_of}
 use Rattle.rules_live.specs.Live.{Stand, going, waits, full, finished, counts_at_stand, status_number, matching_head, store_at}
-use Rattle.rules_live.specs.LiveRuns.{Closes, CanStand}
+use Rattle.rules_live.specs.LiveRuns.{CanStand}
 use Rattle.rules_live.specs.LiveState.{state_size, loops_from, at, loop_number, tally_in, phase_in, stand_in, state_stand, place_row, phase_number, phase_at, carried_at, loop_numbers, state_numbers}
 use Rattle.rules_live.proofs.PlacesFit.{NoCounts, Limited}
 
@@ -58,6 +56,8 @@ Ordered c = All (λ p. (c.turns p ≤ c.most p) × (c.most p ≤ c.sum p))
 exactly : (ls : List Line) (hs : List ℕ) (c : TurnCounts) → Pairwise Counts-fit ls (counts_of c hs) → Ordered c hs → loop_numbers ls hs c ≡ exact hs c
 unfolding loop_numbers exact counts_of
 exactly [] [] c h o = refl
+exactly [] (p ∷ hs) c h o = elim h [ ]
+exactly (l ∷ ls) [] c h o = elim h [ ]
 exactly (l ∷ ls) (p ∷ hs) c (and_then f h) (some (a, b) o) =
     let all : min (c.sum p) l.total ≡ c.sum p = omega (arith, f.all) in
     let most : min (min (c.most p) l.turns) (min (c.sum p) l.total) ≡ c.most p = omega (arith, f.most) in

@@ -1,32 +1,30 @@
 -- What is written into a state passes 21, and what passes 21 is a standing that a step may find.
 use mathlib.Core.Path.{◌≡◌, refl, sym, ◌∙◌, ap, subst}
 use mathlib.Core.Bool.{Bool, true, false, cond, ◌&&◌}
-use mathlib.Core.List.{List, [], ◌∷◌, ◌++◌, map}
+use mathlib.Core.List.{List, [], ◌∷◌, ◌++◌}
 use Prim.Native.Nat.{ℕ, zero, suc, ◌+◌, ◌-◌, ◌*◌, ◌≤◌, ◌<◌, min}
 use native.Mathlib.Omega.{arith}
-use lib.Dec.{T, leb, ltb, eqb, leb→le, ltb→lt, eqb→eq, eqb_refl, le→leb}
-use lib.IntN.{ℤ}
-use lib.ListN.{length, get_or, drop, take, replicate, length-append, length-replicate}
+use lib.Dec.{T, leb, ltb, eqb, eqb_refl, le→leb}
+use lib.ListN.{length, drop, take, replicate, length-append, length-replicate}
 use lib.Seq.{drop-append_seam, drop-drop}
-use Rattle.ints.proofs.Diffs.{both, and_in}
+use Rattle.ints.proofs.Diffs.{and_in}
 use Rattle.rules.specs.declared.Ending.{Ending}
 use Rattle.rules.specs.declared.Ending.TheVariants.{Ended, Spent, NoPick}
 use Rattle.rules.specs.declared.Prices.{Prices}
 use Rattle.rules.specs.declared.Verdict.{Verdict}
-use Rattle.rules.specs.declared.Verdict.TheVariants.{Passed as passed, Refused as refused}
-use Rattle.rules.specs.Blocks.{RowKind, View, is_plain, is_pick, is_else, is_end, is_loop, view_of, view_at}
+use Rattle.rules.specs.declared.Verdict.TheVariants.{Passed as passed}
+use Rattle.rules.specs.Blocks.{RowKind, View, is_pick, is_end, view_of, view_at}
 use Rattle.rules.specs.Figures.{Line}
-use Rattle.rules.specs.Scripts.{All, none, some, Script, store_of, report_ticks, report_lines, Legal}
-use Rattle.rules.specs.Calls.{is_loop_row, loop_rows}
+use Rattle.rules.specs.Scripts.{All, none, some, Script, report_ticks, report_lines, Legal}
+use Rattle.rules.specs.Calls.{loop_rows}
 use Rattle.rules.specs.Claim.{line_rows}
 use Rattle.rules.proofs.LinesAtHeads.{lines_at_heads, lines_few}
 use Rattle.rules_machine.specs.RowMachine.{TurnCounts, Phase, fresh, testing, Place}
-use Rattle.rules_frames.specs.InTime.{dearest}
 use Rattle.rules_live.specs.Cues.{cue_of}
 use Rattle.rules_live.specs.Live.{Stand, going, waits, full, finished, counts_at_stand, status_number, matching_head}
-use Rattle.rules_live.specs.LiveRuns.{Closes, CanStand}
-use Rattle.rules_live.specs.LiveState.{state_size, loops_from, at, loop_number, tally_in, phase_in, stand_in, state_stand, is_cue, is_pick_row, ends_loop, row_fits, phase_fits, left_fits, head_checks, loop_checks, zero_checks, state_checks, first_no, state_verdict, place_row, phase_number, phase_at, carried_at, loop_numbers, state_numbers}
-use Rattle.rules_live.proofs.PlacesFit.{EndRow, LoopEnd, NoCounts, Limited, PlaceFits, loop_row}
+use Rattle.rules_live.specs.LiveRuns.{CanStand}
+use Rattle.rules_live.specs.LiveState.{state_size, loops_from, is_cue, is_pick_row, ends_loop, row_fits, phase_fits, left_fits, head_checks, loop_checks, zero_checks, state_checks, first_no, state_verdict, place_row, phase_number, phase_at, carried_at, loop_numbers, state_numbers}
+use Rattle.rules_live.proofs.PlacesFit.{PlaceFits}
 use Rattle.rules_live.proofs.StandsFit.{StandFits}
 
 -- ---- lists of checks

@@ -103,7 +103,7 @@ module _ (π : Prices) (script : Script) (store : List ℤ) (accepts : StartAcce
   lives : (l : Live) (ls : List StepLent) → Lives l → Lives (steps_from π script l ls)
   unfolding steps_from
   lives l [] h = h
-  lives l (s ∷ ls) h = lives _ ls (lives_step l s h)
+  lives l (s ∷ ls) h = lives (joined l (step_of π script s l.stand)) ls (lives_step l s h)
 
   lives_start : Lives (beginning store)
   unfolding reach

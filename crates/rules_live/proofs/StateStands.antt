@@ -1,16 +1,13 @@
 -- A store and a state that pass 15 and 21 say where a step may begin.
-use mathlib.Core.Path.{◌≡◌, refl, sym, ◌∙◌, ap, subst}
-use mathlib.Core.Bool.{Bool, true, false, cond, ◌&&◌}
-use mathlib.Core.List.{List, [], ◌∷◌, ◌++◌, map}
-use Prim.Native.Nat.{ℕ, zero, suc, ◌+◌, ◌-◌, ◌*◌, ◌≤◌, ◌<◌, min}
+use mathlib.Core.Path.{◌≡◌, refl, sym, ◌∙◌, ap}
+use mathlib.Core.Bool.{Bool, true, false, cond}
+use mathlib.Core.List.{List, [], ◌∷◌, map}
+use Prim.Native.Nat.{ℕ, zero, suc, ◌+◌, ◌≤◌}
 use native.Mathlib.Omega.{arith}
 use lib.Dec.{T, leb, ltb, eqb, leb→le, ltb→lt, eqb→eq}
 use lib.IntN.{ℤ, pos}
-use lib.Signed.{le_z}
-use lib.ListN.{length, get_or, drop, take}
+use lib.ListN.{length, drop}
 use Rattle.ints.proofs.Diffs.{both}
-use Rattle.rules.specs.declared.Ending.{Ending}
-use Rattle.rules.specs.declared.Ending.TheVariants.{Ended, Spent, NoPick}
 use Rattle.rules.specs.declared.Prices.{Prices}
 use Rattle.rules.specs.declared.Verdict.{Verdict}
 use Rattle.rules.specs.declared.Verdict.TheVariants.{Passed as passed, Refused as refused}
@@ -18,18 +15,16 @@ use Rattle.rules.specs.Blocks.{RowKind, View, is_plain, is_pick, is_else, is_end
 use Rattle.rules.specs.Values.{lowest, highest, in_limits, Store}
 use Rattle.rules.specs.Ranges.{Range}
 use Rattle.rules.specs.Answers.{store_list}
-use Rattle.rules.specs.Scripts.{All, none, some, Script, store_of, report_ticks, report_lines}
+use Rattle.rules.specs.Scripts.{All, none, some, Script, store_of}
 use Rattle.rules.specs.Calls.{is_loop_row, loop_rows, store_verdict}
-use Rattle.rules_machine.specs.RowMachine.{TurnCounts, Phase, fresh, testing, Place}
-use Rattle.rules_frames.specs.InTime.{dearest}
-use Rattle.rules_live.specs.Cues.{cue_of}
-use Rattle.rules_live.specs.Live.{Stand, going, waits, full, finished, matching_head}
+use Rattle.rules_machine.specs.RowMachine.{testing, Place}
+use Rattle.rules_live.specs.Live.{Stand, matching_head}
 use Rattle.rules_live.specs.LiveRuns.{CanStand}
 use Rattle.rules_live.specs.LiveState.{state_size, loops_from, at, loop_number, tally_in, phase_in, stand_in, state_stand, is_cue, is_pick_row, ends_loop, row_fits, phase_fits, left_fits, head_checks, state_checks, first_no, state_verdict}
 use Rattle.rules_live.specs.LiveCalls.{whole_range, wide_verdict}
-use Rattle.rules_live.proofs.PlacesFit.{EndRow, LoopEnd, NoCounts, Limited, PlaceFits}
+use Rattle.rules_live.proofs.PlacesFit.{LoopEnd, NoCounts, Limited}
 use Rattle.rules_live.proofs.StandsFit.{StandFits}
-use Rattle.rules_live.proofs.StateNumbers.{Yes, no_first, yes_front}
+use Rattle.rules_live.proofs.StateNumbers.{Yes, no_first}
 
 -- ---- the store
 -- 15 read from −L to L

@@ -1,7 +1,7 @@
 -- What a step writes passes 15 and 21 in the next one, whatever state it had been lent.
 use mathlib.Core.Path.{◌≡◌, refl, sym, ◌∙◌, ap, subst}
 use mathlib.Core.List.{List, []}
-use Prim.Native.Nat.{ℕ, ◌+◌}
+use Prim.Native.Nat.{ℕ}
 use native.Mathlib.Omega.{arith}
 use lib.IntN.{ℤ}
 use lib.ListN.{length}
@@ -13,10 +13,10 @@ use Rattle.rules.specs.Blocks.{RowKind}
 use Rattle.rules.specs.Answers.{store_list}
 use Rattle.rules.specs.Scripts.{Script, Accepted}
 use Rattle.rules.proofs.TreeOf.{tree_of_lem}
-use Rattle.rules_live.specs.Live.{Stand, going, waits, full, finished, StepLent, Stepped, matching_head, step_of, store_at, StepAnswer}
+use Rattle.rules_live.specs.Live.{Stand, going, waits, full, finished, StepLent, Stepped, step_of, store_at}
 use Rattle.rules_live.specs.LiveRuns.{StepFromAny}
-use Rattle.rules_live.specs.LiveState.{at, state_stand, state_verdict, state_numbers}
-use Rattle.rules_live.specs.LiveCalls.{and_then, StepReply, stepped, refuses, wide_verdict, ticks_verdict, step_verdict, after_step, stepped_by, store_stepped, state_stepped, WrittenPasses}
+use Rattle.rules_live.specs.LiveState.{state_stand, state_verdict, state_numbers}
+use Rattle.rules_live.specs.LiveCalls.{and_then, stepped, wide_verdict, ticks_verdict, step_verdict, after_step, stepped_by, store_stepped, state_stepped, WrittenPasses}
 use Rattle.rules_live.proofs.AnyStep.{step_from_any}
 use Rattle.rules_live.proofs.PlacesFit.{Limited}
 use Rattle.rules_live.proofs.StandsFit.{StandFits, step_fits}

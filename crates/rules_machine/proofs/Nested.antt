@@ -47,6 +47,7 @@ module _ (rows : List RowKind) (tree : Block) (whole : build 0 rows ≡ parts (t
 
   -- an open row closes no earlier than the innermost one
   below : {st : List ℕ} {e h : ℕ} → Chain rows st e → Waits h st → e ≤ end_at rows (suc h)
+  below {h = h} (bottom {e = e} _) w = elim w [ ]
   below (by_end {i = i} l m q r c) top = omega arith
   below (by_end {e = e} l m q r c) (under w) = let a = below c w in omega (arith, end_reaches (suc e) (omega arith))
   below (by_else {i = i} l q r l' m' r' c) top = omega arith

@@ -151,6 +151,7 @@ module _ (rows : List RowKind) (tree : Block) (whole : build 0 rows ≡ parts (t
 
   -- past the last row nothing waits
   no_wait : {A : Type 0} (i : ℕ) (st : List ℕ) (e : ℕ) → Chain rows st e → e ≡ length rows → Waits i st → A
+  no_wait {A = A} i [] e _ z w = elim w [ ]
   no_wait i (k ∷ is) e (by_end l m q r c) z w = absurd (omega arith)
   no_wait i (k ∷ is) e (by_else l q r l' m' r' c) z w = absurd (omega arith)
 

@@ -642,6 +642,7 @@ module _ (π : Prices) (some-ticks : 1 ≤ π.test) (rows : List RowKind) (match
             ∙ steps_over m e i t c
 
         by : (r : Next) (o : Out) (m : ℕ) → steps π rows matching_end_lem matching_head_lem m (more (start s)) ≡ r → Finished (length rows) o r → r ≡ over e i t c
+        by (more _) o m p f = elim f [ ]
         by (over f j u d) o m p _ = meet m f j u d p
 
     -- in terms of the answer

@@ -121,9 +121,7 @@ fn for_row(
     counts: &mut [[u64; 3]; 16],
 ) -> Machine
     requires { ForRow kind m text.now rows.now (length store.old) counts.old }
-    ensures* { do
-      ⌜ ForBegun prices kind m result text.now rows.now store.old store.new
-          counts.old counts.new ⌝ }
+    ensures { ForBegun prices kind m result text.now rows.now store.old store.new counts.old counts.new }
 {
     let i = m.row;
     let e = partner_at(rows, i);
@@ -176,10 +174,10 @@ pub fn act(
     counts: &mut [[u64; 3]; 16],
 ) -> Machine
     requires { (count : ℕ) × AtRow text.now rows.now count m store.old counts.old }
-    ensures* { do
-      ⌜ ((count : ℕ) → AtRow text.now rows.now count m store.old counts.old
-          → Stepped prices (script_in text.now rows.now count) m result store.old store.new
-          picks.now counts.old counts.new) ⌝ }
+    ensures {
+        ((count : ℕ) → AtRow text.now rows.now count m store.old counts.old
+        → Stepped prices (script_in text.now rows.now count) m result store.old store.new
+        picks.now counts.old counts.new) }
 {
     let i = m.row;
     match table::op_at(rows, i) {
@@ -233,8 +231,7 @@ fn kept_value(k: usize, x: u32, text: &[u8], store: &[i32], limits: &mut [i64; 1
 // The limit of the loop that ends at row i, or PAST. An expression is told by one bit.
 fn limit_of(rows: &[u32], i: usize, text: &[u8], store: &[i32], limits: &mut [i64; 16]) -> i64
     requires { LimitAt text.now rows.now i store.now limits.old }
-    ensures* { do
-      ⌜ LimitRead text.now rows.now i store.now limits.old limits.new result ⌝ }
+    ensures { LimitRead text.now rows.now i store.now limits.old limits.new result }
 {
     let x = table::limit_value_at(rows, i);
     if table::limit_kind_at(rows, i) == codes::CONSTANT {
@@ -256,15 +253,14 @@ pub fn test_row(
     counts: &mut [[u64; 3]; 16],
     limits: &mut [i64; 16],
 ) -> Machine
-    requires* { do
-      ⌜ ((count : ℕ) × AtTest text.now rows.now count m store.now counts.old × KeptAt text.now rows.now m store.now
-          limits.old) ⌝ }
-    ensures* step { do
-      ⌜ ((count : ℕ) (picks : List ℕ) → AtTest text.now rows.now count m store.now
-          counts.old → Stepped prices (script_in text.now rows.now count) m result store.now
-          store.now picks counts.old counts.new) ⌝ }
-    ensures* limits { do
-      ⌜ TestKept text.now rows.now m result store.now limits.old limits.new ⌝ }
+    requires {
+        ((count : ℕ) × AtTest text.now rows.now count m store.now counts.old × KeptAt text.now rows.now m store.now
+        limits.old) }
+    ensures step {
+        ((count : ℕ) (picks : List ℕ) → AtTest text.now rows.now count m store.now
+        counts.old → Stepped prices (script_in text.now rows.now count) m result store.now
+        store.now picks counts.old counts.new) }
+    ensures limits { TestKept text.now rows.now m result store.now limits.old limits.new }
 {
     let i = m.row;
     let price = prices.test;

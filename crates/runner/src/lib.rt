@@ -24,9 +24,9 @@ pub fn resume(
     counts: &mut [[u64; 3]; 16],
 ) -> Machine
     requires { MayGo text.now prices rows.now count from store.old picks.now counts.old }
-    ensures* { do
-      ⌜ WentOn prices (script_in text.now rows.now count) from result store.old store.new
-          picks.now counts.old counts.new ⌝ }
+    ensures {
+        WentOn prices (script_in text.now rows.now count) from result store.old store.new
+        picks.now counts.old counts.new }
 {
     let begin = Begin {
         machine: from,
@@ -95,9 +95,9 @@ pub fn run_rows(
     counts: &mut [[u64; 3]; 16],
 ) -> Ran
     requires { MayRun text.now prices rows.now count store.old allowance × Cleared counts.old }
-    ensures* { do
-      ⌜ Answered prices (script_in text.now rows.now count) allowance picks.now result store.old
-          store.new counts.new ⌝ }
+    ensures {
+        Answered prices (script_in text.now rows.now count) allowance picks.now result store.old
+        store.new counts.new }
 {
     let start = Machine {
         row: 0,

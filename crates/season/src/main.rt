@@ -26,8 +26,7 @@ struct Listing {
 
 // Reads a block of standard input. After 65 lines there is no need of more.
 fn read_block(line: usize, names: &mut [u8; ROOM], lengths: &mut [usize; 66]) -> Listing
-    ensures* { do
-      ⌜ (Listed line names.old lengths.old → Listed result.line names.new lengths.new) ⌝ }
+    ensures { (Listed line names.old lengths.old → Listed result.line names.new lengths.new) }
 {
     let mut block = io::large_buffer();
     let input = read_some(STDIN_FILENO, &mut block);
@@ -61,8 +60,7 @@ fn read_names(names: &mut [u8; ROOM], lengths: &mut [usize; 66]) -> Listing
 
 // Keeps argument i as a name.
 fn keep_argument(i: usize, line: usize, names: &mut [u8; ROOM], lengths: &mut [usize; 66]) -> usize
-    ensures* { do
-      ⌜ (Listed line names.old lengths.old → Listed result names.new lengths.new) ⌝ }
+    ensures { (Listed line names.old lengths.old → Listed result names.new lengths.new) }
 {
     let mut word = [0u8; WORD];
     let n = os::arg(i, &mut word);

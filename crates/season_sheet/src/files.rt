@@ -28,9 +28,7 @@ pub struct FileFigures {
 // The report of a file under four ones and its cue numbers, each at the front of what is lent, and its ticks.
 pub fn measure(file: &[u8], rest: &mut [u8], cues: &mut [u32]) -> FileFigures
     requires { 256 ≤ length cues.old }
-    ensures* { do
-      ⌜ FoundAs (judged four_ones 1_024 file.now) rest.old rest.new cues.old
-          cues.new result ⌝ }
+    ensures { FoundAs (judged four_ones 1_024 file.now) rest.old rest.new cues.old cues.new result }
 {
     let none: [i32; 2] = [0; 2];
     let mut ranges = [none; 16];
@@ -73,10 +71,10 @@ pub fn add_file(
     cues: &mut [u32],
 ) -> Sheet
     requires { SheetWithRoom sheet counts.old lengths.old reports.old fired.old cues.old }
-    ensures* { do
-      ⌜ ((js : List Judged) → SeasonSoFar js sheet counts.old lengths.old reports.old
-          fired.old cues.old → SeasonSoFar (js ++ (judged four_ones 1_024 file.now ∷ [])) result
-          counts.new lengths.new reports.new fired.new cues.new) ⌝ }
+    ensures {
+        ((js : List Judged) → SeasonSoFar js sheet counts.old lengths.old reports.old
+        fired.old cues.old → SeasonSoFar (js ++ (judged four_ones 1_024 file.now ∷ [])) result
+        counts.new lengths.new reports.new fired.new cues.new) }
 {
     let used = sheet.used;
     let cued = sheet.cued;

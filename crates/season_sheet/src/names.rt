@@ -28,9 +28,9 @@ pub fn start(names: &mut [u8; ROOM], lengths: &mut [usize; 66]) -> usize
 
 // One byte more of the input. Line `at` is open; after 65 lines nothing is kept.
 fn push(at: usize, b: u8, names: &mut [u8; ROOM], lengths: &mut [usize; 66]) -> usize
-    ensures* { do
-      ⌜ ((input : List ℕ) → NamesKept input at names.old lengths.old → NamesKept (input ++ (b ∷ [])) result
-          names.new lengths.new) ⌝ }
+    ensures {
+        ((input : List ℕ) → NamesKept input at names.old lengths.old → NamesKept (input ++ (b ∷ [])) result
+        names.new lengths.new) }
 {
     if at >= LINES {
         return at;
@@ -49,9 +49,9 @@ fn push(at: usize, b: u8, names: &mut [u8; ROOM], lengths: &mut [usize; 66]) -> 
 
 // A block more of the input.
 pub fn push_all(at: usize, block: &[u8], names: &mut [u8; ROOM], lengths: &mut [usize; 66]) -> usize
-    ensures* { do
-      ⌜ ((input : List ℕ) → NamesKept input at names.old lengths.old → NamesKept
-          (input ++ block.now) result names.new lengths.new) ⌝ }
+    ensures {
+        ((input : List ℕ) → NamesKept input at names.old lengths.old → NamesKept
+        (input ++ block.now) result names.new lengths.new) }
 {
     let mut line = at;
     let mut i = 0;
@@ -74,8 +74,8 @@ fn filled(length: usize) -> usize
 
 // How many names there are: what stands after the last LF is one if it is not empty. 0 for no name or more than 64.
 pub fn count(at: usize, lengths: &[usize; 66]) -> usize
-    ensures* { do
-      ⌜ ((input names : List ℕ) → NamesKept input at names lengths.now → result ≡ listed (names_of input)) × (result ≤ 64) ⌝ }
+    ensures {
+        ((input names : List ℕ) → NamesKept input at names lengths.now → result ≡ listed (names_of input)) × (result ≤ 64) }
 {
     if at >= LINES {
         return 0;
@@ -116,9 +116,9 @@ fn opens(name: &[u8]) -> bool
 
 // How many bytes of name k are to be opened: all, or none of a name that does not open.
 pub fn opened(k: usize, names: &[u8], lengths: &[usize; 66]) -> usize
-    ensures* name { do
-      ⌜ ((input : List ℕ) (at : ℕ) → NamesKept input at names.now lengths.now → k < 65 → k < length
-          (names_of input) → Opened (get_or (names_of input) k []) (take result (drop (256 * k) names.now)) result) ⌝ }
+    ensures name {
+        ((input : List ℕ) (at : ℕ) → NamesKept input at names.now lengths.now → k < 65 → k < length
+        (names_of input) → Opened (get_or (names_of input) k []) (take result (drop (256 * k) names.now)) result) }
     ensures room { result ≤ 255 }
 {
     if k >= LINES {

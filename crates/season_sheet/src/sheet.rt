@@ -23,9 +23,9 @@ pub struct Sheet {
 
 // The sheet of no file.
 pub fn empty(counts: &mut [u64; 21]) -> Sheet
-    ensures* { do
-      ⌜ SheetIs [] result counts.new × (result.groups ≡ 0) × (result.used ≡ 0) × (result.cued ≡ 0)
-          × (length counts.new ≡ 21) ⌝ }
+    ensures {
+        SheetIs [] result counts.new × (result.groups ≡ 0) × (result.used ≡ 0) × (result.cued ≡ 0)
+        × (length counts.new ≡ 21) }
 {
     *counts = [0; 21];
     Sheet {
@@ -51,9 +51,9 @@ fn if_fresh(fresh: bool, n: usize) -> usize
 
 // An accepted file more: its ticks, its report's length, how many cues it has, and whether it is in a new group.
 pub fn with_accepted(sheet: Sheet, ticks: u64, len: usize, count: usize, fresh: bool) -> Sheet
-    requires* { do
-      ⌜ (sheet.accepted < 64) × (sheet.ticks ≤ 64_000_000_000_000) × (ticks ≤ 1_000_000_000_000) × (sheet.groups < 64)
-          × (sheet.used + len ≤ 133_696) × (sheet.cued + count ≤ 16_384) ⌝ }
+    requires {
+        (sheet.accepted < 64) × (sheet.ticks ≤ 64_000_000_000_000) × (ticks ≤ 1_000_000_000_000) × (sheet.groups < 64)
+        × (sheet.used + len ≤ 133_696) × (sheet.cued + count ≤ 16_384) }
     ensures { Accepting sheet ticks len count fresh result }
 {
     let most = larger(sheet.greatest, ticks);
@@ -102,8 +102,7 @@ pub fn with_refused(sheet: Sheet, number: u32, counts: &mut [u64; 21]) -> Sheet
 // Writes a key and a number, and then a line of another key and number.
 fn put_pair(first: &[u8], x: u64, second: &[u8], y: u64, out: &mut [u8]) -> usize
     requires { length ((first.now ++ decimal x) ++ key_line second.now y) ≤ length out.old }
-    ensures* { do
-      ⌜ Wrote ((first.now ++ decimal x) ++ key_line second.now y) out.old out.new result ⌝ }
+    ensures { Wrote ((first.now ++ decimal x) ++ key_line second.now y) out.old out.new result }
 {
     let at = report::pieces::put_number(first, x, out);
     at + report::pieces::put_entry(second, y, &mut out[at..])
@@ -123,8 +122,7 @@ fn put_met(number: usize, n: u64, out: &mut [u8]) -> usize
 // Writes the lines of the refusal numbers, in rising order.
 fn put_numbers(counts: &[u64; 21], out: &mut [u8]) -> usize
     requires { 1_000 ≤ length out.old }
-    ensures* { do
-      ⌜ Wrote (numbers_text (λ q. get_or counts.now q 0)) out.old out.new result × (result ≤ 1_000) ⌝ }
+    ensures { Wrote (numbers_text (λ q. get_or counts.now q 0)) out.old out.new result × (result ≤ 1_000) }
 {
     let mut at: usize = 0;
     let mut q: usize = 1;
@@ -147,8 +145,7 @@ fn put_front(sheet: Sheet, out: &mut [u8]) -> usize
 // Writes the lines after them.
 fn put_tail(sheet: Sheet, out: &mut [u8]) -> usize
     requires { 85 ≤ length out.old }
-    ensures* { do
-      ⌜ Wrote (tail_text sheet.ticks sheet.greatest sheet.groups) out.old out.new result × (result ≤ 85) ⌝ }
+    ensures { Wrote (tail_text sheet.ticks sheet.greatest sheet.groups) out.old out.new result × (result ≤ 85) }
 {
     let a = report::pieces::put_entry(b"ticks=", sheet.ticks, out);
     let b = a + report::pieces::put_entry(b"greatest=", sheet.greatest, &mut out[a..]);

@@ -56,8 +56,9 @@ loop-i-preserved-in-Plain t c = λ text r.
     let v = c.args.v in
     let p = plain_of text (kind_at (rows_of c.args.rows.now) c.loop-i.i) in
     let e : c.if-sets_it.step ≡ then s (row_step v p) = elim c.if-sets_it.branch [
-      then-sets_it w ↦ w.step-is ∙ w.then-step.ensures ∙ ap (then s) (w.row_step.ensures text)
-    | else-sets_it w ↦ w.step-is ∙ sym (step_stays s v p (sym (c.sets_it.ensures text) ∙ w.if-sets_it.false)) ] in
+      | then-sets_it w ↦ w.step-is ∙ w.then-step.ensures ∙ ap (then s) (w.row_step.ensures text)
+      | else-sets_it w ↦ w.step-is ∙ sym (step_stays s v p (sym (c.sets_it.ensures text) ∙ w.if-sets_it.false))
+    ] in
     with_plain _ _ _ _ _ r (c.loop-i.invariant text r) c.loop-i-test.true (sym c.shape_at.ensures ∙ c.in-Plain.is) (c.add_row.ensures text) e
 
 pub moves_of-a-requires : goal.moves_of-a-requires

@@ -22,10 +22,10 @@ prices-of-requires : tie.Need-prices_of-by_kind-requires
 prices-of-requires c κs = four _ c.requires.1
 
 figures-of-requires : tie.Need-figures_of-figures-requires
-figures-of-requires c κs = let s = c.before.before.before.before in (s.requires.0, fine s.args.prices.now s.requires.1 c.prices_of-by_kind.ensures)
+figures-of-requires c κs = let s = c in (s.requires.0, fine s.args.prices.now s.requires.1 c.prices_of-by_kind.ensures)
 
 -- what the analysis found of it
-found : (c : tie.After-figures_of-figures) → let s = c.before.before.before.before.before in FiguresFound s.args.prices.now (script s) s.args.script.count c.figures_of-figures.result c.figures_of-figures.ensures.0
+found : (c : tie.After-figures_of-figures) → let s = c in FiguresFound s.args.prices.now (script s.before.before.before.before.before) s.args.script.count c.figures_of-figures.result c.figures_of-figures.ensures.0
 found c = let s = c.before.before.before.before.before in found_by _ _ _ _ s.requires.0 s.args.prices.now c.prices_of-by_kind.ensures c.figures_of-figures.result _ c.figures_of-figures.ensures.1
 
 ask-store-requires : tie.Need-ask_store-requires

@@ -5,11 +5,11 @@ use Rattle.calls.proofs.figures_of.Statement.{statement}
 use Rattle.calls.proofs.figures_of.Tie as tie
 
 analyse-requires : tie.Need-analyse-requires
-analyse-requires c κs = let s = c.before.before.before.before in analyse_asks _ _ _ _ s.requires.0 s.requires.1 (search rules)
+analyse-requires c κs = let s = c in analyse_asks _ _ _ _ s.requires.0 s.requires.1 (search rules)
 
 returns : tie.Need-returns
 returns c =
-    let s = c.before.before.before.before.before.before in
+    let s = c in
     let g = s.requires.0 in
     (_, (c.analyse.ensures s.args.script.vars (g.legal, g.blank)).0)
 

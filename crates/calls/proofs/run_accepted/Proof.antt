@@ -14,7 +14,7 @@ run-rows-requires : tie.Need-run_rows-ran-requires
 run-rows-requires c κs = (c.requires, cleared)
 
 -- the counts of the run
-counted : (c : tie.After-run_rows-ran) → let s = c.before.before.before.before.before.before in Counted s.args.text.now s.args.rows.now s.args.count c.run_rows-ran.new.1.1.1.1.1.1.1.0
+counted : (c : tie.After-run_rows-ran) → let s = c in Counted s.args.text.now s.args.rows.now s.args.count c.run_rows-ran.new.1.1.1.1.1.1.1.0
 counted c = let g = c.requires.script in record { size = g.size; table = g.table; room = c.run_rows-ran.ensures.room }
 
 loops-of-requires : tie.Need-loops_of-loops-requires
@@ -23,7 +23,7 @@ loops-of-requires c κs = (_, counted c.before.before)
 returns : tie.Need-returns
 unfolding store_after
 returns c =
-    let s = c.before.before.before.before.before.before.before.before.before.before in
+    let s = c in
     let r = c.run_rows-ran in
     let l = c.loops_of-loops in
     let t = r.ensures.told in

@@ -30,10 +30,10 @@ prices-of-requires : tie.Need-prices_of-by_kind-requires
 prices-of-requires c κs = four _ c.requires.1
 
 figures-of-requires : tie.Need-figures_of-figures-requires
-figures-of-requires c κs = let s = c.before.before.before.before.before in (s.requires.0, fine s.args.prices.now s.requires.1 c.prices_of-by_kind.ensures)
+figures-of-requires c κs = let s = c in (s.requires.0, fine s.args.prices.now s.requires.1 c.prices_of-by_kind.ensures)
 
 -- what the analysis found of it
-found : (c : tie.After-figures_of-figures) → let s = c.before.before.before.before.before.before in FiguresFound s.args.prices.now (script s) s.args.script.count c.figures_of-figures.result c.figures_of-figures.ensures.0
+found : (c : tie.After-figures_of-figures) → let s = c in FiguresFound s.args.prices.now (script s.before.before.before.before.before.before) s.args.script.count c.figures_of-figures.result c.figures_of-figures.ensures.0
 found c = let s = c.before.before.before.before.before.before in found_by _ _ _ _ s.requires.0 s.args.prices.now c.prices_of-by_kind.ensures c.figures_of-figures.result _ c.figures_of-figures.ensures.1
 
 -- demand 3 of that answer
@@ -52,7 +52,7 @@ returns c =
     with_kept s _ _ (ran_no s.args.prices.now (script s) s.args.script.count f.result _ (found c.before.before) s.args.store.now s.args.picks.now s.args.allowance h _ c.refusal.ensures)
 
 ask-store-requires : tie.Need-ask_store-asked-requires
-ask-store-requires c κs = (c.requires.0.few, full_ranges c.before.before.before.before.before.before.before.before.before.before)
+ask-store-requires c κs = (c.requires.0.few, full_ranges c.before.before.before.before.before.before.before.before)
 
 run-accepted-requires : tie.Need-run_accepted-requires
 unfolding script_of
@@ -61,10 +61,10 @@ run-accepted-requires c κs =
     let f = c.figures_of-figures in
     let q = c.ask_store-asked in
     let z = c.in_default.is in
-    let few = ticks_few s.args.prices.now (script s) s.args.script.count f.result _ (found c.before.before.before.before.before.before.before) z in
+    let few = ticks_few s.args.prices.now (script s) s.args.script.count f.result _ (found c.before.before.before.before.before.before) z in
     may_run _ _ _ _ s.requires.0
     (fine s.args.prices.now s.requires.1 c.prices_of-by_kind.ensures).test.some
-    (runs_from s.args.prices.now (script s) s.args.script.count f.result _ (found c.before.before.before.before.before.before.before) s.args.store.now s.args.picks.now s.args.allowance z q.result q.ensures c.in-Passed.is s.requires.0.legal)
+    (runs_from s.args.prices.now (script s) s.args.script.count f.result _ (found c.before.before.before.before.before.before) s.args.store.now s.args.picks.now s.args.allowance z q.result q.ensures c.in-Passed.is s.requires.0.legal)
     (omega (arith, c.smaller.ensures))
 
 returns_2 : tie.Need-returns-in-Passed
@@ -74,7 +74,7 @@ returns_2 c =
     let f = c.figures_of-figures in
     let q = c.ask_store-asked in
     let z = c.in_default.is in
-    with_kept s _ _ (ran_all s.args.prices.now s.requires.1 _ c.prices_of-by_kind.ensures (script s) s.args.script.count f.result _ (found c.before.before.before.before.before.before.before.before.before) s.args.store.now s.args.picks.now s.args.allowance z q.result q.ensures c.in-Passed.is s.requires.0.legal _ c.smaller.ensures _ _ c.run_accepted.ensures)
+    with_kept s _ _ (ran_all s.args.prices.now s.requires.1 _ c.prices_of-by_kind.ensures (script s) s.args.script.count f.result _ (found c.before.before.before.before.before.before.before.before) s.args.store.now s.args.picks.now s.args.allowance z q.result q.ensures c.in-Passed.is s.requires.0.legal _ c.smaller.ensures _ _ c.run_accepted.ensures)
 
 returns_3 : tie.Need-returns-in-Refused-asked
 unfolding script_of
@@ -83,7 +83,7 @@ returns_3 c =
     let f = c.figures_of-figures in
     let q = c.ask_store-asked in
     let z = c.in_default.is in
-    with_kept s _ _ (ran_out s.args.prices.now (script s) s.args.script.count f.result _ (found c.before.before.before.before.before.before) s.args.store.now s.args.picks.now s.args.allowance z q.result q.ensures _ _ c.in-Refused-asked.is _ c.refusal-in-Refused-asked.ensures)
+    with_kept s _ _ (ran_out s.args.prices.now (script s) s.args.script.count f.result _ (found c.before.before.before.before.before) s.args.store.now s.args.picks.now s.args.allowance z q.result q.ensures _ _ c.in-Refused-asked.is _ c.refusal-in-Refused-asked.ensures)
 
 pub run_script_spec : {M : Type 1} → statement M
 run_script_spec =

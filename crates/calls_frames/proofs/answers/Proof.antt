@@ -35,7 +35,7 @@ may_answer c = c.requires.1 c.loop-k.k c.loop-k-test.true
 loop_again : tie.Need-loop-k-preserved invariant-loop-k decreases-loop-k
 loop_again c =
     let l = c.loop-k in
-    (omega (arith, c.loop-k-test.true), answering_more _ _ _ _ _ l.k l.list (one_of_8 c.before.before.before.before.before.before.before) l.invariant.1 _ c.answer_of-a.ensures)
+    (omega (arith, c.loop-k-test.true), answering_more _ _ _ _ _ l.k l.list (one_of_8 c.before.before.before.before.before.before) l.invariant.1 _ c.answer_of-a.ensures)
 
 returns : tie.Need-returns invariant-loop-k decreases-loop-k
 returns c = let l = c.loop-k in answering_all _ _ _ _ _ l.k l.list (omega (arith, c.loop-k-test.false, l.invariant.0)) l.invariant.1
@@ -58,10 +58,10 @@ answers_spec =
     (λ c. omega (arith, (may_answer c).0.1))
     (λ c. let h = one_of_8 c.before.before.before.before.before in search rules)
     (λ c. one_of_8 c.before.before.before.before.before)
-    (λ c κs. (may_answer c.before.before).1)
-    (λ c. let h = one_of_8 c.before.before.before.before.before.before.before in search rules)
-    (λ c. one_of_8 c.before.before.before.before.before.before.before)
-    (λ c. let h = one_of_8 c.before.before.before.before.before.before.before in search rules)
+    (λ c κs. (may_answer c.before).1)
+    (λ c. let h = one_of_8 c.before.before.before.before.before.before in search rules)
+    (λ c. one_of_8 c.before.before.before.before.before.before)
+    (λ c. let h = one_of_8 c.before.before.before.before.before.before in search rules)
     (λ c. search rules)
     loop_again
     returns)

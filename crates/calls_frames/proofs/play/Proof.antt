@@ -30,7 +30,7 @@ prices-of-requires : tie.Need-prices_of-by_kind-requires invariant-loop-k decrea
 prices-of-requires c κs = four _ c.requires.0.4.priced
 
 loop_holds : tie.Need-loop-k-init invariant-loop-k decreases-loop-k
-loop_holds c = let s = c.before.before.before.before.before.before.before in (s.requires.0, λ fs ss ps roles on. rw c.new_frame-frame.ensures (playing_start _ _ _ _ _ _ on _ s.requires.1))
+loop_holds c = let s = c in (s.requires.0, λ fs ss ps roles on. rw c.new_frame-frame.ensures (playing_start _ _ _ _ _ _ on _ s.requires.1))
 
 -- script k is one of 8
 one_of_8 : (c : tie.Then-k-all invariant-loop-k decreases-loop-k) → c.loop-k.k < 8

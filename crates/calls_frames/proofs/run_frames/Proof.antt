@@ -15,7 +15,7 @@ ready : (c : tie.After-tables-in-Passed-1)
     let e = c.enter_all-all in
     (roles : List Frames.Progress) × FramesReady a.prices.now (lent_of a.files.now a.file-lengths.now a.stores.now a.store-lengths.now a.picks.now a.pick-lengths.now) a.q roles e.new.1.1.1.1.1.1.0 e.result
 ready c =
-    let s = c.before.before.before.before.before.before.before.before.before.before.before.before.before in
+    let s = c in
     let e = c.enter_all-all in
     may_play _ _ _ s.requires.0 s.requires.1 _ _ (e.ensures s.args.picks.now) c.in-Passed.is e.auto.1.1.1.1.1.1.0
 
@@ -30,7 +30,7 @@ returns c =
 
 returns_2 : tie.Need-returns-in-Refused
 returns_2 c =
-    let s = c.before.before.before.before.before.before.before.before.before.before.before.before.before.before in
+    let s = c in
     rw c.refusal.ensures (no_play _ _ _ s.requires.0 s.requires.1 _ _ (c.enter_all-all.ensures _) _ _ c.in-Refused.is)
 
 pub run_frames_spec : {M : Type 1} → statement M

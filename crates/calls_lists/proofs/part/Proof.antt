@@ -29,14 +29,14 @@ loop_again c =
 
 add-t12 : tie.Need-overflow_add-result invariant-loop-i decreases-loop-i
 add-t12 c =
-    let s = c.before.before.before in
+    let s = c in
     let l = s.args.lengths.now in
     let e : c.loop-i.i ≡ s.args.k = omega arith in
     omega (arith, c.loop-i.invariant.1, ap (λ n. total (take n l)) e, s.requires.1, sum_within l s.args.k s.requires.0)
 
 returns : tie.Need-returns invariant-loop-i decreases-loop-i
 returns c =
-    let s = c.before.before.before in
+    let s = c in
     let l = s.args.lengths.now in
     let e : c.loop-i.i ≡ s.args.k = omega arith in
     record { from = c.loop-i.invariant.1 ∙ ap (λ n. total (take n l)) e; to = refl }

@@ -18,7 +18,7 @@ full_ranges : (s : tie.Start) → length s.args.t4 ≡ 16
 full_ranges s = search rules
 
 -- what the analysis found of it
-found : (c : tie.After-figures_of-figures) → let s = c.before.before.before.before.before.before in FiguresFound s.args.prices.now (script s) s.args.script.count c.figures_of-figures.result c.figures_of-figures.ensures.0
+found : (c : tie.After-figures_of-figures) → let s = c in FiguresFound s.args.prices.now (script s.before.before.before.before.before.before) s.args.script.count c.figures_of-figures.result c.figures_of-figures.ensures.0
 found c = let s = c.before.before.before.before.before.before in found_by _ _ _ _ s.requires.0 s.args.prices.now c.prices_of.ensures c.figures_of-figures.result _ c.figures_of-figures.ensures.1
 
 returns : tie.Need-returns-in-Refused
@@ -41,7 +41,7 @@ start_script_spec =
     tie.close
     (tie.spec
     (λ c κs. four _ c.requires.1)
-    (λ c κs. let s = c.before.before.before.before.before in (s.requires.0, fine s.args.prices.now s.requires.1 c.prices_of.ensures))
+    (λ c κs. let s = c in (s.requires.0, fine s.args.prices.now s.requires.1 c.prices_of.ensures))
     (λ c. search rules) (λ c κs. search rules)
     returns
     (λ c. search rules)

@@ -13,12 +13,12 @@ use Rattle.calls_scripts.proofs.enter.Tie as tie
 
 ask-script-requires : tie.Need-ask_script-requires
 ask-script-requires c κs =
-    let s = c.before.before.before.before.before.before.before.before.before.before.before in
+    let s = c in
     (file_given s.args.prices.now s.args.file.now _ _ _ c.load-l.ensures c.in-Passed.is, s.requires.0)
 
 returns : tie.Need-returns-in-Passed
 returns c =
-    let s = c.before.before.before.before.before.before.before.before.before.before.before.before in
+    let s = c in
     let prices = s.args.prices.now in
     let file = s.args.file.now in
     let store = s.args.store.now in
@@ -33,7 +33,7 @@ returns c =
 
 returns_2 : tie.Need-returns-in-Refused
 returns_2 c =
-    let s = c.before.before.before.before.before.before.before.before.before in
+    let s = c in
     let r = file_refused s.args.prices.now s.args.file.now _ _ _ c.load-l.ensures c.in-Refused.is in
     record { verdict = ap (λ j. admitted j s.args.store.now) (sym r); held = λ script e. absurd (let z : ◌≡◌ {A = ℕ} 0 1 = cc (sym r ∙ e) in omega arith) }
 

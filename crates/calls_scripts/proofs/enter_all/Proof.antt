@@ -28,7 +28,7 @@ one_of_8 c = omega (arith, c.requires.lengths.few, c.loop-k-test.true)
 
 enter-at-requires : tie.Need-enter_at-e-requires invariant-loop-k decreases-loop-k
 enter-at-requires c κs =
-    let s = c.before.before.before.before.before.before.before.before.before.before in
+    let s = c in
     let l = c.loop-k in
     let p = c.places_of-places.ensures in
     let i = c.loop-k-test.true in
@@ -69,7 +69,7 @@ same_length c =
 
 returns : tie.Need-returns-in-Refused invariant-loop-k decreases-loop-k
 returns c picks =
-    let s = c.before.before.before.before.before.before.before.before.before.before.before.before.before.before in
+    let s = c in
     let l = c.loop-k in
     record {
       number = refl;
@@ -79,7 +79,7 @@ returns c picks =
 
 returns_2 : tie.Need-returns invariant-loop-k decreases-loop-k
 returns_2 c picks =
-    let s = c.before.before.before.before.before.before.before.before in
+    let s = c in
     let l = c.loop-k in
     record {
       number = refl;

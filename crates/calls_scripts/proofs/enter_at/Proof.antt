@@ -7,7 +7,7 @@ use Rattle.calls_scripts.proofs.enter_at.Tie as tie
 
 returns : tie.Need-returns
 returns c =
-    let s = c.before.before.before.before.before.before.before.before.before.before.before.before in
+    let s = c in
     let e = c.enter in
     record {
       table = e.new.1.1.1.0;

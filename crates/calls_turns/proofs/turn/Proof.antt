@@ -7,7 +7,7 @@ use Rattle.calls_turns.proofs.turn.Tie as tie
 
 returns : tie.Need-returns
 returns c =
-    let s = c.before.before.before.before.before.before.before.before.before.before.before.before.before.before.before in
+    let s = c in
     let e = c.resume in
     record {
       store = e.new.1.1.1.1.1.0;

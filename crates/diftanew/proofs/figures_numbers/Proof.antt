@@ -43,7 +43,7 @@ loop_again c =
 returns : tie.Need-returns invariant-loop-k decreases-loop-k
 returns c =
     let l = c.loop-k in
-    let s = c.before.before.before in
+    let s = c in
     lined_all _ _ l.k s.args.f.loops l.a (omega (arith, c.loop-k-test.false, l.invariant.0)) (omega (arith, s.requires.0)) l.invariant.1
     ∙ ap (λ z. filled 115 (z ∷ s.args.f.vars ∷ s.args.f.loops ∷ in_a_row (take s.args.f.loops s.args.t2))) c.or_place.ensures
 

@@ -36,7 +36,7 @@ put-script-requires c κs =
 loop_again : tie.Need-loop-k-preserved invariant-loop-k decreases-loop-k
 loop_again c =
     let l = c.loop-k in
-    let s = c.before.before.before.before.before.before.before in
+    let s = c in
     let i = c.loop-k-test.true in
     (omega (arith, i), c.put_script.ensures ∙ laid_more c.or_place.result s.args.f.scripts (eight c.before.before.before.before.before.before) l.k l.a _ i l.invariant.1)
 
@@ -44,7 +44,7 @@ returns : tie.Need-returns invariant-loop-k decreases-loop-k
 unfolding frames_numbers
 returns c =
     let l = c.loop-k in
-    let s = c.before.before.before.before.before in
+    let s = c in
     let f = s.args.f in
     let all : l.a ≡ most_by f.verdict f.most ∷ all_numbers f.scripts =
     laid_all c.or_place.result f.scripts (eight c.before.before.before.before) l.k l.a (omega (arith, c.loop-k-test.false, l.invariant.0)) l.invariant.1

@@ -39,7 +39,7 @@ loop_again c =
 returns : tie.Need-returns invariant-loop-i decreases-loop-i
 returns c =
     let l = c.loop-i in
-    let s = c.before.before in
+    let s = c in
     let e : l.i ≡ 7 = omega (arith, c.loop-i-test.false, l.invariant.0) in
     l.invariant.2 ∙ ap (paste s.args.answer.now s.args.at s.args.t1) e
 

@@ -38,7 +38,7 @@ loop_again c =
       omega (arith, c.loop-i-test.true),
       l.invariant.1,
       ap (λ z. set z (s.args.at + 1 + l.i) (get_or n l.i 0)) l.invariant.2
-          ∙ paste-suc (with-frame s) (s.args.at + 1) n l.i 0 (omega (arith, l.invariant.1, s.requires.0, c.loop-i-test.true)) (omega (arith, full c.before.before, c.loop-i-test.true))
+          ∙ paste-suc (with-frame s) (s.args.at + 1) n l.i 0 (omega (arith, l.invariant.1, s.requires.0, c.loop-i-test.true)) (omega (arith, full c.before.before.before.before, c.loop-i-test.true))
           ∙ ap (paste (with-frame s) (s.args.at + 1) n) (sym (add-one l.i)),
     )
 

@@ -15,20 +15,20 @@ decreases-loop-k state lines loops k₀ k = loops - k
 
 returns : tie.Need-returns-in-Refused invariant-loop-k decreases-loop-k
 returns c =
-    let s = c.before.before.before.before.before.before in
+    let s = c in
     let l = c.loop-k in
     let a = c.ask_loop-asked in
     sym (l.invariant.1 ∙ loops_no s.args.lines.now s.args.loops s.args.state.now l.k c.loop-k-test.true (omega (arith, s.requires.1, s.requires.2)) _ c.line_at.ensures a.result a.ensures c.in-Refused.is)
 
 loop_again : tie.Need-loop-k-preserved invariant-loop-k decreases-loop-k
 loop_again c =
-    let s = c.before.before.before.before.before.before in
+    let s = c in
     let l = c.loop-k in
     let a = c.ask_loop-asked in
     (omega (arith, c.loop-k-test.true), l.invariant.1 ∙ loops_on_lem s.args.lines.now s.args.loops s.args.state.now l.k c.loop-k-test.true (omega (arith, s.requires.1, s.requires.2)) _ c.line_at.ensures a.result a.ensures c.in_default.is)
 
 returns_2 : tie.Need-returns invariant-loop-k decreases-loop-k
-returns_2 c = let l = c.loop-k in let s = c.before.before.before in sym (l.invariant.1 ∙ loops_all s.args.lines.now s.args.loops s.args.state.now l.k (omega (arith, s.requires.1, s.requires.2)) (omega (arith, c.loop-k-test.false)))
+returns_2 c = let l = c.loop-k in let s = c in sym (l.invariant.1 ∙ loops_all s.args.lines.now s.args.loops s.args.state.now l.k (omega (arith, s.requires.1, s.requires.2)) (omega (arith, c.loop-k-test.false)))
 
 pub ask_loops_spec : {M : Type 1} → statement M
 ask_loops_spec =

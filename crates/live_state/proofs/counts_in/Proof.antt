@@ -22,7 +22,7 @@ loop_holds c = (omega arith, refl, refl)
 loop_again : tie.Need-loop-k-preserved invariant-loop-k decreases-loop-k
 loop_again c =
     let l = c.loop-k in
-    let s = c.before.before.before.before.before in
+    let s = c in
     (omega (arith, c.loop-k-test.true), search rules, counts_next s.args.state.now l.k l.counts l.invariant.1 (omega (arith, s.requires.1, c.loop-k-test.true)) l.invariant.2)
 
 returns : tie.Need-returns invariant-loop-k decreases-loop-k

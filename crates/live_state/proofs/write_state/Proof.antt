@@ -33,14 +33,14 @@ put-loop-requires c κs = let l = c.loop-k in omega (arith, l.invariant.2.long, 
 loop_again : tie.Need-loop-k-preserved invariant-loop-k decreases-loop-k
 loop_again c =
     let l = c.loop-k in
-    let s = c.before.before.before.before.before.before.before.before.before.before.before.before.before.before.before.before.before.before.before in
+    let s = c in
     let h = c.loop-k-test.true in
     (omega (arith, h), l.invariant.1, writes_more _ _ _ _ l.k l.state l.invariant.2 l.invariant.1 s.requires.1 s.requires.2 s.requires.3 h _ c.line_at.ensures _ refl _ c.turns_of.ensures _ c.put_loop.ensures (search rules))
 
 returns : tie.Need-returns invariant-loop-k decreases-loop-k
 returns c hs r g =
     let l = c.loop-k in
-    let s = c.before.before.before.before.before.before.before.before.before.before.before.before in
+    let s = c in
     let f = front _ (head_numbers s.args.standing s.args.total) c.put_head.ensures refl in
     writes_all _ _ _ _ l.k l.state l.invariant.2 l.invariant.1 s.requires.1 s.requires.2 s.requires.3 _ f (omega (arith, c.loop-k-test.false)) l.invariant.0 hs r g
 

@@ -10,23 +10,23 @@ use Rattle.loader.proofs.figures.Tie as tie
 -- the questions 1 and 16 have yes
 slice-relend-prefix-figures-file : tie.Need-slice_bounds-figures_file-end
 slice-relend-prefix-figures-file c =
-    let s = c.before.before.before.before.before in
+    let s = c in
     omega (arith, lent_room s.args.prices.now (length s.args.scratch.now) (sym c.ask_lent-lent.ensures ∙ c.in-Passed.is))
 
 slice-aggregate-figures-file : tie.Need-slice_bounds-figures_file-end-in-Passed
 slice-aggregate-figures-file c =
-    let s = c.before.before.before.before.before.before in
+    let s = c in
     simp length-take (omega (arith, lent_room s.args.prices.now (length s.args.scratch.now) (sym c.ask_lent-lent.ensures ∙ c.in-Passed.is)))
 
 figures-file-requires : tie.Need-figures_file-requires
 figures-file-requires c κs =
-    let s = c.before.before.before.before.before.before.before in
+    let s = c in
     let e = sym c.ask_lent-lent.ensures ∙ c.in-Passed.is in
     (lent_priced s.args.prices.now (length s.args.scratch.now) e, simp length-take (omega (arith, lent_room s.args.prices.now (length s.args.scratch.now) e)))
 
 returns : tie.Need-returns-in-Passed
 returns c =
-    let s = c.before.before.before.before.before.before.before.before.before.before in
+    let s = c in
     let f = c.figures_file in
     let e = sym c.ask_lent-lent.ensures ∙ c.in-Passed.is in
     let long : length f.new.1.1.0 ≡ 1_024 = f.auto.1.1.0 ∙ simp length-take (omega (arith, lent_room s.args.prices.now (length s.args.scratch.now) e)) in
@@ -34,7 +34,7 @@ returns c =
 
 returns_2 : tie.Need-returns-in-Refused
 returns_2 c =
-    let s = c.before.before.before.before.before.before in
+    let s = c in
     let z = c.in-Refused.is in
     (rw c.no_figures.ensures (figured_no _ _ (lent_no _ _ s.args.file.now (sym c.ask_lent-lent.ensures ∙ z)) z), scratch_same)
 

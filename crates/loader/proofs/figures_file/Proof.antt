@@ -8,17 +8,17 @@ use Rattle.loader.proofs.figures_file.Tie as tie
 
 figures-script-requires : tie.Need-figures_script-requires
 figures-script-requires c κs =
-    let s = c.before.before.before.before.before.before.before.before.before.before.before.before.before in
+    let s = c in
     (file_given s.args.prices.now s.args.file.now _ _ _ c.load-l.ensures c.in-Passed.is, s.requires.0, refl)
 
 returns : tie.Need-returns-in-Passed
 returns c =
-    let s = c.before.before.before.before.before.before.before.before.before.before.before.before.before.before in
+    let s = c in
     figured_same _ _ _ (file_read s.args.prices.now s.args.file.now _ _ _ c.load-l.ensures c.in-Passed.is) c.figures_script.ensures
 
 returns_2 : tie.Need-returns-in-Refused
 returns_2 c =
-    let s = c.before.before.before.before.before.before.before.before.before.before.before in
+    let s = c in
     let z = c.in-Refused.is in
     rw c.no_figures.ensures (figured_no _ _ (file_refused s.args.prices.now s.args.file.now _ _ _ c.load-l.ensures z) z)
 

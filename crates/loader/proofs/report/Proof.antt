@@ -10,30 +10,30 @@ use Rattle.loader.proofs.report.Tie as tie
 -- the questions 1 and 16 have yes
 slice-relend-prefix-report-file : tie.Need-slice_bounds-report_file-end
 slice-relend-prefix-report-file c =
-    let s = c.before.before.before.before.before.before in
+    let s = c in
     omega (arith, lent_room s.args.prices.now (length s.args.scratch.now) (sym c.ask_lent-lent.ensures ∙ c.in-Passed.is))
 
 slice-aggregate-report-file : tie.Need-slice_bounds-report_file-end-in-Passed
 slice-aggregate-report-file c =
-    let s = c.before.before.before.before.before.before.before in
+    let s = c in
     simp length-take (omega (arith, lent_room s.args.prices.now (length s.args.scratch.now) (sym c.ask_lent-lent.ensures ∙ c.in-Passed.is)))
 
 report-file-requires : tie.Need-report_file-requires
 report-file-requires c κs =
-    let s = c.before.before.before.before.before.before.before.before in
+    let s = c in
     let e = sym c.ask_lent-lent.ensures ∙ c.in-Passed.is in
     (lent_priced s.args.prices.now (length s.args.scratch.now) e, simp length-take (omega (arith, lent_room s.args.prices.now (length s.args.scratch.now) e)))
 
 returns : tie.Need-returns-in-Passed
 returns c =
-    let s = c.before.before.before.before.before.before.before.before.before.before.before.before.before in
+    let s = c in
     let f = c.report_file in
     let e = sym c.ask_lent-lent.ensures ∙ c.in-Passed.is in
     let long : length f.new.1.1.0 ≡ 1_024 = f.auto.1.1.0 ∙ simp length-take (omega (arith, lent_room s.args.prices.now (length s.args.scratch.now) e)) in
     (reported_same (lent_yes _ _ e s.args.file.now) f.ensures, scratch_kept s.args.prices.now f.new.1.1.0 s.args.scratch.now long e)
 
 returns_2 : tie.Need-returns-in-Refused
-returns_2 c = let s = c.before.before.before.before.before.before in (reported_no (lent_no _ _ s.args.file.now (sym c.ask_lent-lent.ensures ∙ c.in-Refused.is)), scratch_same)
+returns_2 c = let s = c in (reported_no (lent_no _ _ s.args.file.now (sym c.ask_lent-lent.ensures ∙ c.in-Refused.is)), scratch_same)
 
 pub report_spec : {M : Type 1} → statement M
 report_spec =

@@ -9,27 +9,27 @@ use Rattle.loader.proofs.start.Tie as tie
 
 -- the questions 1 and 16 have yes
 relend : tie.Need-slice_bounds-start_file-end
-relend c = let s = c.before.before.before.before.before.before in omega (arith, lent_room s.args.prices.now (length s.args.scratch.now) (sym c.ask_lent-lent.ensures ∙ c.in-Passed.is))
+relend c = let s = c in omega (arith, lent_room s.args.prices.now (length s.args.scratch.now) (sym c.ask_lent-lent.ensures ∙ c.in-Passed.is))
 
 aggregate : tie.Need-slice_bounds-start_file-end-in-Passed
-aggregate c = let s = c.before.before.before.before.before.before.before in simp length-take (omega (arith, lent_room s.args.prices.now (length s.args.scratch.now) (sym c.ask_lent-lent.ensures ∙ c.in-Passed.is)))
+aggregate c = let s = c in simp length-take (omega (arith, lent_room s.args.prices.now (length s.args.scratch.now) (sym c.ask_lent-lent.ensures ∙ c.in-Passed.is)))
 
 requires : tie.Need-start_file-requires
 requires c κs =
-    let s = c.before.before.before.before.before.before.before.before in
+    let s = c in
     let e = (sym c.ask_lent-lent.ensures ∙ c.in-Passed.is) in
     (lent_priced s.args.prices.now (length s.args.scratch.now) e, simp length-take (omega (arith, lent_room s.args.prices.now (length s.args.scratch.now) e)))
 
 returns : tie.Need-returns-in-Passed
 returns c =
-    let s = c.before.before.before.before.before.before.before.before.before.before.before.before.before in
+    let s = c in
     let f = c.start_file in
     let e = (sym c.ask_lent-lent.ensures ∙ c.in-Passed.is) in
     let long : length f.new.1.1.0 ≡ 1_024 = f.auto.1.1.0 ∙ simp length-take (omega (arith, lent_room s.args.prices.now (length s.args.scratch.now) e)) in
     (started_same _ _ _ (lent_yes _ _ e s.args.file.now) f.ensures, scratch_kept s.args.prices.now f.new.1.1.0 s.args.scratch.now long e)
 
 returns_2 : tie.Need-returns-in-Refused
-returns_2 c = let s = c.before.before.before.before.before.before.before in let z = c.in-Refused.is in (started_no s.args.prices.now _ _ (lent_no _ _ s.args.file.now (sym c.ask_lent-lent.ensures ∙ z)) z c.no_start.ensures, scratch_same)
+returns_2 c = let s = c in let z = c.in-Refused.is in (started_no s.args.prices.now _ _ (lent_no _ _ s.args.file.now (sym c.ask_lent-lent.ensures ∙ z)) z c.no_start.ensures, scratch_same)
 
 pub start_spec : {M : Type 1} → statement M
 start_spec =

@@ -7,14 +7,14 @@ use Rattle.loader.proofs.start_file.Statement.{statement}
 use Rattle.loader.proofs.start_file.Tie as tie
 
 start-script-requires : tie.Need-start_script-requires
-start-script-requires c κs = let s = c.before.before.before.before.before.before.before.before.before.before.before.before.before in (file_given s.args.prices.now s.args.file.now _ _ _ c.load-l.ensures c.in-Passed.is, s.requires.0)
+start-script-requires c κs = let s = c in (file_given s.args.prices.now s.args.file.now _ _ _ c.load-l.ensures c.in-Passed.is, s.requires.0)
 
 returns : tie.Need-returns-in-Passed
-returns c = let s = c.before.before.before.before.before.before.before.before.before.before.before.before.before.before.before.before in started_same _ _ _ (file_read s.args.prices.now s.args.file.now _ _ _ c.load-l.ensures c.in-Passed.is) c.start_script.ensures
+returns c = let s = c in started_same _ _ _ (file_read s.args.prices.now s.args.file.now _ _ _ c.load-l.ensures c.in-Passed.is) c.start_script.ensures
 
 returns_2 : tie.Need-returns-in-Refused
 returns_2 c =
-    let s = c.before.before.before.before.before.before.before.before.before.before.before in
+    let s = c in
     let z = c.in-Refused.is in
     started_no s.args.prices.now _ _ (file_refused s.args.prices.now s.args.file.now _ _ _ c.load-l.ensures z) z c.no_start.ensures
 

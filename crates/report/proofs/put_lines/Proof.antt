@@ -18,7 +18,7 @@ room c = rw (report_parts _ _ (lent_room _ _ c.requires.0) c.args.rows c.args.ti
 
 returns : tie.Need-returns
 returns c =
-    let s = c.before.before.before.before.before.before.before.before.before.before.before.before.before in
+    let s = c in
     rw (report_parts _ _ (lent_room _ _ s.requires.0) s.args.rows s.args.ticks) (writing_all _ _ _ _ _ (third_written _ _ _ _ (room c.before.before.before.before.before.before.before.before.before.before.before.before.before) _ _ _ _ _ _ c.put_head-a.ensures c.put_loops.ensures c.put_key.ensures) (omega arith))
 
 pub put_lines_spec : {M : Type 1} → statement M

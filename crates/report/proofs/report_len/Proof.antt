@@ -12,7 +12,7 @@ use Rattle.report.proofs.report_len.Tie as tie
 
 returns : tie.Need-returns
 returns c =
-    let s = c.before.before.before in
+    let s = c in
     let a = s.args in
     let l = ap length (report_parts (lines_in a.lines.now) a.loops (lent_room _ _ s.requires) a.rows a.ticks) ∙ three_length (head_text a.rows a.loops) (loops_text (lines_in a.lines.now) a.loops) (key_line ticks_key a.ticks) in
     omega (arith, l, c.key_len.ensures.0, c.loops_len.ensures.0, c.head_len.ensures.0)

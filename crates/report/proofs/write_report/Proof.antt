@@ -9,7 +9,7 @@ returns c = refused_text _ _ _ c.report_len-len.ensures (omega arith)
 
 returns_2 : tie.Need-returns
 returns_2 c =
-    let test = c.before.before.before.before in
+    let test = c in
     accepted_text _ _ _ _ (omega (arith, test.report_len-len.ensures, test.if-buffer-len.false)) c.put_lines-wrote.ensures
 
 pub write_report_spec : {M : Type 1} → statement M

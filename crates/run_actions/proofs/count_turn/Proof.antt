@@ -5,7 +5,7 @@ use Rattle.run_actions.proofs.count_turn.Statement.{statement}
 use Rattle.run_actions.proofs.count_turn.Tie as tie
 
 returns : tie.Need-returns
-returns c = let s = c.before.before.before in turned s.args.counts.now s.args.k s.requires
+returns c = let s = c in turned s.args.counts.now s.args.k s.requires
 
 pub count_turn_spec : {M : Type 1} → statement M
 count_turn_spec =

@@ -15,7 +15,7 @@ returns c = λ picks d. rw c.ended.ensures (put_spent _ _ _ _ _ _ _ _ _ c.args.t
 
 returns_2 : tie.Need-returns-then-not-within
 returns_2 c =
-    let s = c.before.before.before.before in
+    let s = c in
     let f = s.ranges.z in
     let no : in_limits s.args.z ≡ false = simp (to_z-of_z f) at (sym c.within.ensures ∙ not-true _ c.if-not-within.true-raw) in
     λ picks d. rw c.ended-then-not-within.ensures (put_range _ _ _ _ _ _ _ _ _ s.args.testing c.if-left-price.false no)
@@ -27,7 +27,7 @@ cast-store c =
 
 returns_3 : tie.Need-returns
 returns_3 c =
-    let s = c.before.before.before.before in
+    let s = c in
     let f = s.ranges.z in
     let yes : in_limits s.args.z ≡ true = simp (to_z-of_z f) at (sym c.within.ensures ∙ not-false _ c.if-not-within.false-raw) in
     λ picks d. rw (c.on.ensures, to_z-of_z f, to_z-of_z (limits_fit _ yes)) (put_done _ s.args.store.now _ _ _ _ _ _ _ s.args.testing c.if-left-price.false yes s.requires)

@@ -24,10 +24,10 @@ loop_holds : tie.Need-loop-j-init invariant-loop-j decreases-loop-j
 loop_holds c = (omega arith, λ text g. listing_none _ _)
 
 is-loop-requires : tie.Need-is_loop-requires invariant-loop-j decreases-loop-j
-is-loop-requires c κs = let s = c.before.before.before in let g = s.requires.1 in omega (arith, g.table.size, g.size, c.loop-j-test.true)
+is-loop-requires c κs = let s = c in let g = s.requires.1 in omega (arith, g.table.size, g.size, c.loop-j-test.true)
 
 -- the loop that begins here is one of the 16
-in_counts : (c : tie.Then-is_loop invariant-loop-j decreases-loop-j) → let s = c.before.before.before.before.before in (c.loop-j.k < length (loop_rows 0 (script_in s.requires.0 s.args.rows.now s.args.count))) × (c.loop-j.k < 16)
+in_counts : (c : tie.Then-is_loop invariant-loop-j decreases-loop-j) → let s = c in (c.loop-j.k < length (loop_rows 0 (script_in s.requires.0 s.args.rows.now s.args.count))) × (c.loop-j.k < 16)
 in_counts c =
     let s = c.before.before.before.before.before in
     let l = c.loop-j in
@@ -52,7 +52,7 @@ add-k : tie.Need-overflow_add-k invariant-loop-j decreases-loop-j
 add-k c = omega (arith, (in_counts c.before.before).1)
 
 add-j : tie.Need-overflow_add-j invariant-loop-j decreases-loop-j
-add-j c = let s = c.before.before.before.before.before in omega (arith, s.requires.1.size, c.loop-j-test.true)
+add-j c = let s = c in omega (arith, s.requires.1.size, c.loop-j-test.true)
 
 -- row j is listed, or begins no loop
 abbrev Listed : tie.Joined-is_loop invariant-loop-j decreases-loop-j → Type 0

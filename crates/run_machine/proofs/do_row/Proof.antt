@@ -14,7 +14,7 @@ known : (c : tie.After-loop_at-k) → let a = c.args in c.loop_at-k.result ≡ l
 known c = let a = c.args in c.loop_at-k.ensures ∙ ap (λ e. number (numbers_at a.rows.now e) 1) c.partner_at.ensures
 
 begin-requires : tie.Need-begin-requires
-begin-requires c κs = let s = c.before.before.before.before in subst (λ k. RoomAt k s.args.counts.now) (sym (known c.before)) s.requires.room
+begin-requires c κs = let s = c in subst (λ k. RoomAt k s.args.counts.now) (sym (known c.before)) s.requires.room
 
 returns : tie.Need-returns
 returns c =

@@ -20,21 +20,21 @@ use Rattle.run_machine.proofs.for_row.Tie as tie
 
 value-of-requires : tie.Need-value_of-z-requires
 value-of-requires c κs =
-    let s = c.before.before.before.before.before in
+    let s = c in
     subst (λ x. Readable s.args.text.now (length s.args.store.now) (operand_in s.args.kind x)) (sym c.start_at.ensures) s.requires.start.operand
 
 put-requires : tie.Need-put-n-requires
-put-requires c κs = let s = c.before.before.before.before.before.before.before.before in rw c.variable_at.ensures s.requires.start.row.variable
+put-requires c κs = let s = c in rw c.variable_at.ensures s.requires.start.row.variable
 
 loop-at-requires : tie.Need-loop_at-requires
-loop-at-requires c κs = let s = c.before.before.before.before.before.before.before.before.before.before.before.before in rw c.partner_at-e.ensures s.requires.loop.end
+loop-at-requires c κs = let s = c in rw c.partner_at-e.ensures s.requires.loop.end
 
 -- the loop's number
 known : (c : tie.After-loop_at) → let a = c.args in c.loop_at.result ≡ loop_of a.rows.now a.m
 known c = let a = c.args in c.loop_at.ensures ∙ ap (λ e. number (numbers_at a.rows.now e) 1) c.partner_at-e.ensures
 
 begin-requires : tie.Need-begin-requires
-begin-requires c κs = let s = c.before.before.before.before.before.before.before.before.before.before.before.before.before.before in subst (λ k. RoomAt k s.args.counts.now) (sym (known c.before)) s.requires.loop.room
+begin-requires c κs = let s = c in subst (λ k. RoomAt k s.args.counts.now) (sym (known c.before)) s.requires.loop.room
 
 returns : tie.Need-returns-then-going
 returns c =

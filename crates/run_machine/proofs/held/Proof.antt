@@ -26,14 +26,14 @@ told c =
     simp (to_z-of_z f, to_z-of_z g, to_z-of_z (sfits_widen {w' = w64} tt f), to_z-of_z (sfits_widen {w' = w64} tt g)) at c.passes.ensures ∙ (λ i. compares (comparison_by (c.comparison_at.ensures i)) (x i) (y i))
 
 passes-requires : tie.Need-passes-requires
-passes-requires c κs = let s = c.before.before.before.before.before.before in subst IsComparison (sym c.comparison_at.ensures) s.requires.code
+passes-requires c κs = let s = c in subst IsComparison (sym c.comparison_at.ensures) s.requires.code
 
 returns : tie.Need-returns-then-passes
 unfolding result
 returns c = rw (sym (told c.before) ∙ c.if-passes.true)
 
 stored-requires-2 : tie.Need-stored-requires
-stored-requires-2 c κs = let s = c.before.before.before.before.before.before.before.before.before in rw c.variable_at.ensures s.requires.row.variable
+stored-requires-2 c κs = let s = c in rw c.variable_at.ensures s.requires.row.variable
 
 returns_2 : tie.Need-returns
 unfolding result

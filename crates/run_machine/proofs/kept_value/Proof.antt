@@ -26,7 +26,7 @@ none_kept = omega ints
 
 returns : tie.Need-returns-then-kept-ne-NOT_KEPT
 returns c =
-    let s = c.before.before.before.before in
+    let s = c in
     let z = c.kept_of-kept in
     let f : SFits w64 z.result = sfits_of z.type_inv in
     let n = eq_z_no z.result not_kept f none_kept c.if-kept-ne-NOT_KEPT.true in
@@ -39,7 +39,7 @@ returns c =
 
 returns_2 : tie.Need-returns
 returns_2 c =
-    let s = c.before.before.before.before.before in
+    let s = c in
     let f : SFits w64 c.value_of-z.result = sfits_of c.value_of-z.type_inv in
     rw (to_z-of_z f)
     (record { read = c.value_of-z.ensures; still = kept_set c.value_of-z.result s.requires.loop s.requires.long (its_value (is_composed _ _ _ s.requires.limit) c.value_of-z.ensures) })

@@ -40,7 +40,7 @@ told c b q =
 
 readable : (c : tie.After-limit_is_expression) (b : Bool) → c.limit_is_expression.result ≡ b → let a = c.args in
     Readable a.text.now (length a.store.now) (operand_in (cond b 2 1) c.limit_value_at-x.result)
-readable c b q = let s = c.before.before.before.before.before.before in subst (Readable s.args.text.now (length s.args.store.now)) (sym (told c b q)) s.requires.limit
+readable c b q = let s = c in subst (Readable s.args.text.now (length s.args.store.now)) (sym (told c b q)) s.requires.limit
 
 returns : tie.Need-returns-then-limit_kind_at-eq-CONSTANT
 unfolding value operated expr_of meaning
@@ -61,7 +61,7 @@ returns c =
 -- the loop's number, and what is kept for it
 kept-value-requires : tie.Need-kept_value-requires
 kept-value-requires c κs =
-    let s = c.before.before.before.before.before.before.before.before.before in
+    let s = c in
     let a = s.args in
     let n = numbers_at a.rows.now a.i in
     let d = c.before.before.before in
@@ -88,7 +88,7 @@ returns_2 c =
 
 returns_3 : tie.Need-returns
 returns_3 c =
-    let s = c.before.before.before.before.before.before.before.before in
+    let s = c in
     let a = s.args in
     let f : SFits w64 c.value_of.result = sfits_of c.value_of.type_inv in
     rw (to_z-of_z f) (record {

@@ -13,7 +13,7 @@ use Rattle.run_machine.proofs.off_row.Statement.{statement}
 use Rattle.run_machine.proofs.off_row.Tie as tie
 
 put-requires : tie.Need-put-requires
-put-requires c κs = let s = c.before.before.before.before.before in rw c.variable_at.ensures s.requires.row.variable
+put-requires c κs = let s = c in rw c.variable_at.ensures s.requires.row.variable
 
 returns : tie.Need-returns
 returns c =

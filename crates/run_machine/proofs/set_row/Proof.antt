@@ -17,15 +17,15 @@ use Rattle.run_machine.proofs.set_row.Tie as tie
 
 value-of-requires : tie.Need-value_of-z-requires
 value-of-requires c κs =
-    let s = c.before.before.before.before in
+    let s = c in
     subst (λ x. Readable s.args.text.now (length s.args.store.now) (operand_in s.args.kind x)) (sym c.start_at.ensures) s.requires.operand
 
 put-requires : tie.Need-put-requires
-put-requires c κs = let s = c.before.before.before.before.before.before.before in rw c.variable_at.ensures s.requires.row.variable
+put-requires c κs = let s = c in rw c.variable_at.ensures s.requires.row.variable
 
 returns : tie.Need-returns
 returns c =
-    let s = c.before.before.before.before.before.before.before.before.before in
+    let s = c in
     let a = s.args in
     let z = c.value_of-z in
     let f : SFits w64 z.result = sfits_of z.type_inv in

@@ -14,17 +14,17 @@ use Rattle.run_machine.proofs.step_row.Statement.{statement}
 use Rattle.run_machine.proofs.step_row.Tie as tie
 
 stored-requires : tie.Need-stored-requires
-stored-requires c κs = let s = c.before.before.before.before in rw c.variable_at-v.ensures s.requires.row.variable
+stored-requires c κs = let s = c in rw c.variable_at-v.ensures s.requires.row.variable
 
 changed-requires : tie.Need-changed-z-requires
-changed-requires c κs = let s = c.before.before.before.before.before in subst ChangeLimits (sym c.change_at.ensures) s.requires.change
+changed-requires c κs = let s = c in subst ChangeLimits (sym c.change_at.ensures) s.requires.change
 
 put-requires : tie.Need-put-requires
-put-requires c κs = let s = c.before.before.before.before.before.before.before.before in rw c.variable_at-v.ensures s.requires.row.variable
+put-requires c κs = let s = c in rw c.variable_at-v.ensures s.requires.row.variable
 
 returns : tie.Need-returns
 returns c =
-    let s = c.before.before.before.before.before.before.before.before.before.before in
+    let s = c in
     let a = s.args in
     let x = c.stored in
     let z = c.changed-z in

@@ -62,7 +62,7 @@ limit-of-requires c κs =
 
 returns : tie.Need-returns-then-left-price
 returns c =
-    let s = c.before.before.before.before.before in
+    let s = c in
     let a = s.args in (
       λ count picks q. let k = at_a_test q in record {
         acts = rw (c.ended.ensures ∙ ap (over_at a.m a.m.left Spent) c.partner_at.ensures) (acts_as refl (sym (k.step a.prices picks _)) (test_spent a.prices _ _ _ _ _ _ _ c.if-left-price.true));
@@ -86,7 +86,7 @@ returns_2 c =
 
 count-turn-requires : tie.Need-count_turn-requires
 count-turn-requires c κs =
-    let s = c.before.before.before.before.before.before.before.before.before.before.before.before.before in
+    let s = c in
     let q = s.requires.1 in
     subst (λ k. RoomAt k s.args.counts.now) (sym c.loop_at.ensures) (room_at q.script q.room (at_a_test q).loop.few)
 

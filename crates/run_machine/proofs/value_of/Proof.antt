@@ -14,13 +14,13 @@ use Rattle.run_machine.proofs.value_of.Tie as tie
 
 value-of-requires : tie.Need-value_of-requires
 value-of-requires c κs =
-    let s = c.before.before in
+    let s = c in
     let q = subst (Readable s.args.text.now (length s.args.store.now)) (sym c.operand.ensures) s.requires in
     (q.written, q.below)
 
 returns : tie.Need-returns
 returns c =
-    let s = c.before.before.before in
+    let s = c in
     let f : SFits w64 c.value_of.result = sfits_of c.value_of.type_inv in
     rw (to_z-of_z f) (c.value_of.ensures ∙ ap (λ x. value (expr_of s.args.text.now x) (store_of s.args.store.now)) c.operand.ensures)
 

@@ -12,7 +12,7 @@ known : (c : tie.After-loop_at) → let a = c.args in c.loop_at.result ≡ loop_
 known c = let a = c.args in c.loop_at.ensures ∙ ap (λ e. number (numbers_at a.rows.now e) 1) c.partner_at-e.ensures
 
 begin-requires : tie.Need-begin-requires
-begin-requires c κs = let s = c.before.before.before.before in subst (λ k. RoomAt k s.args.counts.now) (sym (known c.before)) s.requires.room
+begin-requires c κs = let s = c in subst (λ k. RoomAt k s.args.counts.now) (sym (known c.before)) s.requires.room
 
 returns : tie.Need-returns
 returns c = record {

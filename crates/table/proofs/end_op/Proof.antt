@@ -12,7 +12,7 @@ use Rattle.table.proofs.end_op.Statement.{statement}
 use Rattle.table.proofs.end_op.Tie as tie
 
 abbrev head : tie.After-tag_at → List ℕ
-head c = let s = c.before.before in numbers_at s.args.rows.now s.args.h
+head c = let s = c in numbers_at s.args.rows.now s.args.h
 
 -- the op by the head's tag
 is : (c : tie.After-tag_at) {g : Tag} → c.tag_at.result ≡ g → (text : List ℕ) → end_op (view_of (kind_of text (kind_by g (head c)))) ≡ end_op (view_of (kind_of text (kind_in (head c))))

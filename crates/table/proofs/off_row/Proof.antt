@@ -7,7 +7,7 @@ use Rattle.table.proofs.off_row.Tie as tie
 
 returns : tie.Need-returns
 returns c =
-    let s = c.before.before.before in
+    let s = c in
     off_stands _ _ _ _ _ _ _ _ c.first.ensures c.comparison_code.ensures (omega (arith, s.ranges.w))
     (simp (to_z-of_z s.ranges.k) at c.shifted.ensures)
 

@@ -12,18 +12,18 @@ use Rattle.table.proofs.put_end.Tie as tie
 
 small : (c : tie.After-end_op-op) → c.end_op-op.result < 3
 small c =
-    let s = c.before.before.before in
+    let s = c in
     subst (λ m. m < 3) (sym (c.end_op-op.ensures [])) (end_small (view_of (kind_of [] (kind_in (numbers_at s.args.rows.now s.args.h)))))
 
 add-w : tie.Need-overflow_add-w
-add-w c = omega (arith, small c.before.before.before.before.before.before)
+add-w c = omega (arith, small c.before.before.before)
 
 add-w-2 : tie.Need-overflow_add-w-2
-add-w-2 c = omega (arith, small c.before.before.before.before.before.before)
+add-w-2 c = omega (arith, small c.before.before.before)
 
 returns : tie.Need-returns
 returns c =
-    let s = c.before.before.before.before.before.before.before.before.before.before.before.before.before in
+    let s = c in
     let p = c.put_numbers.ensures in
     let op = c.end_op-op in
     let columns = c.columns_at-columns in

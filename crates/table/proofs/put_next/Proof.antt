@@ -18,7 +18,7 @@ module _ (a : tie.After-role_of) {r : Role} (told : a.role_of.result ≡ r) wher
   role = sym told ∙ a.role_of.ensures
 
   room : Room r a.args.blocks
-  room = subst (λ x. Room x a.args.blocks) (sym role) a.before.before.pre.room
+  room = subst (λ x. Room x a.args.blocks) (sym role) a.requires.room
 
 -- the innermost head is above the row
 above : (s : tie.Start) → 0 < s.args.blocks.depth → head_of s.args.blocks < s.args.i
@@ -41,7 +41,7 @@ popped-requires c κs = room c.before.before.before.before.before.before.before.
 
 pushed-requires-2 : tie.Need-pushed-requires-in-Else
 pushed-requires-2 c κs =
-    let s = c.before.before.before.before.before.before.before.before.before.before.before.before.before in
+    let s = c in
     let h = room c.before.before.before.before.before.before.before.before.before.before.before c.in-Else.is in
     (omega (arith, ap (λ (x : Open). x.depth) c.popped.ensures, h, s.requires.deep), s.requires.small)
 
@@ -86,7 +86,7 @@ returns_3 : tie.Need-returns-in-Else
 returns_3 c =
     let s = c.before.before.before.before.before.before.before.before.before.before.before.before.before.before in
     let i = s.args.i in
-    let u = c.set_partner.new.0 in
+    let u = c.set_partner.new.rows in
     next_put _ _ _ _ _ _ Role.Else (role c.before.before.before.before.before.before.before.before.before.before.before.before c.in-Else.is)
     (u, subst (λ h. PartnerPut h i s.args.rows.now u) c.innermost.ensures c.set_partner.ensures, c.put_row-in-Else.ensures)
     (c.pushed-in-Else.ensures ∙ ap (λ x. pushed_on i s.args.blocks.loops x) c.popped.ensures)
@@ -96,8 +96,8 @@ returns-4 : tie.Need-returns-in-End
 returns-4 c =
     let s = c.before.before.before.before.before.before.before.before.before.before.before.before.before.before in
     let i = s.args.i in
-    let u = c.set_partner-in-End.new.0 in
-    let t = c.put_end.new.0 in
+    let u = c.set_partner-in-End.new.rows in
+    let t = c.put_end.new.rows in
     let e = c.innermost-h.ensures in
     let r = role c.before.before.before.before.before.before.before.before.before.before.before.before c.in-End.is in
     next_put _ _ _ _ _ _ Role.End r (

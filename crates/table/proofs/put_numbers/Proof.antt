@@ -9,7 +9,7 @@ use Rattle.table.proofs.put_numbers.Tie as tie
 returns : tie.Need-returns
 returns c =
     let t = c.args.rows.now in
-    let e = c.args.t3 in
+    let e = c.args.e in
     let n : length e ≡ 4 = search rules in
     record {
       row = four_put t c.args.i (get_or e 0 0) (get_or e 1 0) (get_or e 2 0) (get_or e 3 0) c.requires ∙ array_four e n;

@@ -4,7 +4,7 @@ use Rattle.table.proofs.set_partner.Statement.{statement}
 use Rattle.table.proofs.set_partner.Tie as tie
 
 returns : tie.Need-returns
-returns c = let s = c.before in partner_put s.args.rows.now s.args.h s.args.i s.requires.0
+returns c = let s = c in partner_put s.args.rows.now s.args.h s.args.i s.requires.0
 
 pub set_partner_spec : {M : Type 1} → statement M
 set_partner_spec =

@@ -18,7 +18,7 @@ decreases-loop-k old loops k₀ new k = loops - k
 
 loop_again : tie.Need-loop-k-preserved invariant-loop-k decreases-loop-k
 loop_again c =
-    let s = c.before.before.before.before.before in
+    let s = c in
     let l = c.loop-k in
     let k = c.loop-k-test.true in
     let line = c.line_at-line.ensures ∙ line_kept (omega (arith, s.requires.0)) s.requires.1 l.invariant.1 in

@@ -11,7 +11,7 @@ returns c = rw (eq-eqb _ _ c.if-whole-eq0.true)
 
 mul-result : tie.Need-overflow_mul-result
 mul-result c =
-    let s = c.before.before in
+    let s = c in
     record { fits = omega (arith, mul-le-mul {n₁ = s.args.part} {n₂ = 1_000_000_000_001} (omega arith) s.requires.1) }
 
 returns_2 : tie.Need-returns-then-part-whole
@@ -20,7 +20,7 @@ returns_2 c =
     rw (ne_eqb _ _ c.if-whole-eq0.false, min-eq_left {n = s.part} {m = s.whole} (omega arith))
 
 mul-result-2 : tie.Need-overflow_mul-result-2
-mul-result-2 c = let s = c.before.before in record { fits = omega (arith, mul-le-mul s.requires.0 s.requires.1) }
+mul-result-2 c = let s = c in record { fits = omega (arith, mul-le-mul s.requires.0 s.requires.1) }
 
 returns_3 : tie.Need-returns
 returns_3 c =

@@ -20,13 +20,13 @@ loop_holds c = (omega arith, omega arith)
 
 loop_again : tie.Need-loop-i-preserved invariant-loop-i decreases-loop-i
 loop_again c =
-    let s = c.before.before.before.before in
+    let s = c in
     let l = c.loop-i in
     (omega arith, rw c.larger-most.ensures (most_more s.args.column s.args.figures.now l.i l.most (omega arith) ∙ l.invariant.1))
 
 returns : tie.Need-returns invariant-loop-i decreases-loop-i
 returns c =
-    let s = c.before.before in
+    let s = c in
     let l = c.loop-i in
     sym (most_none s.args.column s.args.figures.now l.i l.most (omega arith)) ∙ l.invariant.1
 

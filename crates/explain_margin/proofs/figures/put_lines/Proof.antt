@@ -22,7 +22,7 @@ loop_holds c = (omega arith, c.requires.2, refl)
 
 loop_again : tie.Need-loop-k-preserved invariant-loop-k decreases-loop-k
 loop_again c =
-    let s = c.before.before.before.before.before in
+    let s = c in
     let l = c.loop-k in
     let p = c.put_line.ensures in (
       omega arith,
@@ -32,7 +32,7 @@ loop_again c =
 
 returns : tie.Need-returns invariant-loop-k decreases-loop-k
 returns c =
-    let s = c.before.before in
+    let s = c in
     let l = c.loop-k in
     (sym (put_none (lines_in s.args.lines.now) s.args.loops l.k l.figures (omega arith)) ∙ l.invariant.2, l.invariant.1)
 

@@ -20,7 +20,7 @@ returns_3 c =
 
 returns-4 : tie.Need-returns-then-fired-cues
 returns-4 c =
-    let s = c.before.before.before.before.before.before.before.before.before.before in
+    let s = c in
     last (sym c.op_at.ensures ∙ c.if-op_at-ne-CUE.false) (omega (arith, c.if-m-price.false))
     c.if-fired-cues.true (c.has-then-fired-cues.ensures.0 ∙ omega arith) c.has-then-fired-cues.ensures.1 (ap (set s.args.cues.now s.args.fired) c.number_at.ensures)
 

@@ -32,7 +32,7 @@ unfolding cues_of
 loop_holds c = (omega arith, omega arith, refl, λ text. wrote_nothing _)
 
 kind-at-requires : tie.Need-kind_at-kind-requires invariant-loop-j decreases-loop-j
-kind-at-requires c κs = let s = c.before.before.before.before in omega (arith, s.requires.0, s.requires.2, c.loop-j-test.true)
+kind-at-requires c κs = let s = c in omega (arith, s.requires.0, s.requires.2, c.loop-j-test.true)
 
 put-cue-requires : tie.Need-put_cue-at-requires invariant-loop-j decreases-loop-j
 put-cue-requires c κs = let l = c.loop-j in omega (arith, l.invariant.1, l.invariant.2, c.loop-j-test.true, c.requires.1)

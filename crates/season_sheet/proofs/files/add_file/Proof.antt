@@ -16,7 +16,7 @@ keep-first-requires : tie.Need-keep_first-fresh-requires
 keep-first-requires c κs =
     let (js, h, l) = c.requires in
     let a = adds c.args.file.now _ _ _ _ _ _ js h l _ _ _ c.measure-found.ensures _ c.in-Accepted.is in
-    let r = room c.before.before.before.before.before.before.before.before.before.before.before.before.before.before.before.before.before.before.before in
+    let r = room c.before.before.before.before.before.before.before.before.before.before.before.before.before.before.before in
     record {
       place = omega (arith, h.few, h.places);
       text = omega (arith, h.firsts.texts.sum);
@@ -30,7 +30,7 @@ with-accepted-requires : tie.Need-with_accepted-requires
 with-accepted-requires c κs =
     let (js, h, l) = c.requires in
     let a = adds c.args.file.now _ _ _ _ _ _ js h l _ _ _ c.measure-found.ensures _ c.in-Accepted.is in
-    let r = room c.before.before.before.before.before.before.before.before.before.before.before.before.before.before.before.before.before.before.before.before.before.before.before.before in
+    let r = room c.before.before.before.before.before.before.before.before.before.before.before.before.before.before.before.before.before.before.before.before in
     let m = c.measure-found.ensures in
     (omega (arith, h.files), omega (arith, h.sum), m.decreases.few, omega (arith, h.few), omega (arith, h.room, a.short, r.0), omega (arith, h.numbers, m.few, r.1))
 

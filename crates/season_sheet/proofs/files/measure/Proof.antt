@@ -11,7 +11,7 @@ use Rattle.season_sheet.proofs.files.measure.Tie as tie
 
 put-cues-requires : tie.Need-put_cues-fired-requires
 put-cues-requires c κs =
-    let s = c.before.before.before.before.before.before.before.before.before.before in
+    let s = c in
     let g = file_given four_ones s.args.file.now _ _ _ c.load-l.ensures c.in-Passed.is in
     (g.size, omega (arith, g.size, s.requires), g.table.size)
 
@@ -20,7 +20,7 @@ measure-script-requires c κs = (file_given four_ones c.args.file.now _ _ _ c.lo
 
 returns : tie.Need-returns-in-Passed
 returns c =
-    let s = c.before.before.before.before.before.before.before.before.before.before.before.before.before.before.before.before.before.before.before in
+    let s = c in
     let file = s.args.file.now in
     let p = c.put_cues-fired in
     found_read file _ _ _ c.load-l.ensures c.in-Passed.is c.measure_script-measured.ensures (p.ensures.0 file) p.ensures.1 s.requires

@@ -17,12 +17,12 @@ decreases-loop-i name i₀ i = length name - i
 
 returns : tie.Need-returns-then-name-i-eq0 invariant-loop-i decreases-loop-i
 returns c =
-    let l = c.before.before.before in
+    let l = c in
     sym (l.loop-i.invariant ∙ zero_here _ _ c.loop-i-test.true c.if-name-i-eq0.true)
 
 loop_again : tie.Need-loop-i-preserved invariant-loop-i decreases-loop-i
 loop_again c =
-    let l = c.before.before.before in
+    let l = c in
     rw add-one (l.loop-i.invariant ∙ zero_later _ _ c.loop-i-test.true c.if-name-i-eq0.false)
 
 returns_2 : tie.Need-returns invariant-loop-i decreases-loop-i

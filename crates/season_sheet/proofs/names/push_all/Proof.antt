@@ -21,7 +21,7 @@ loop_holds c = (omega arith, λ input h. rw append-nil h)
 
 loop_again : tie.Need-loop-i-preserved invariant-loop-i decreases-loop-i
 loop_again c =
-    let l = c.before.before.before.before.before in
+    let l = c in
     let block = l.args.block.now in
     let i = l.loop-i.i in
     (omega arith, λ input h. rw (add-one i, take-suc block i 0 c.loop-i-test.true, ← append_assoc) (c.push-line.ensures _ (l.loop-i.invariant.1 input h)))

@@ -18,13 +18,13 @@ room c = (key_short accepted_key c.args.sheet.accepted, key_short refused_key c.
 same_length : tie.Need-shape_of-out
 same_length c =
     let w = wrote_then _ _ _ _ _ _ _ c.put_entry-at.ensures c.put_entry.ensures in
-    wrote_length _ _ _ _ (rw length-append (omega (arith, room c.before.before.before.before.before.before.before.before.before.before.before))) w
+    wrote_length _ _ _ _ (rw length-append (omega (arith, room c.before.before.before.before.before.before.before.before.before.before.before.before.before))) w
 
 returns : tie.Need-returns
 unfolding front_text
 returns c =
     let w = wrote_then _ _ _ _ _ _ _ c.put_entry-at.ensures c.put_entry.ensures in
-    (w, omega (arith, c.put_entry-at.ensures.count, c.put_entry.ensures.count, room c.before.before.before.before.before.before.before.before.before.before.before))
+    (w, omega (arith, c.put_entry-at.ensures.count, c.put_entry.ensures.count, room c.before.before.before.before.before.before.before.before.before.before.before.before.before))
 
 pub put_front_spec : {M : Type 1} → statement M
 put_front_spec = tie.close (tie.spec

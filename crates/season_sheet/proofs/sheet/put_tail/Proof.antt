@@ -20,7 +20,7 @@ room c = omega (arith, tail_short c.args.sheet.ticks c.args.sheet.greatest c.arg
 returns : tie.Need-returns
 unfolding tail_text
 returns c =
-    let w = writing_all _ _ _ _ _ (third_written _ _ _ _ (room c.before.before.before.before.before.before.before.before.before.before.before.before.before.before.before.before) _ _ _ _ _ _ c.put_entry-a.ensures c.put_entry.ensures c.put_entry-2.ensures) (omega arith) in
+    let w = writing_all _ _ _ _ _ (third_written _ _ _ _ (room c.before.before.before.before.before.before.before.before.before.before.before.before.before.before.before.before.before.before.before) _ _ _ _ _ _ c.put_entry-a.ensures c.put_entry.ensures c.put_entry-2.ensures) (omega arith) in
     let s = c.args.sheet in
     (w, omega (arith, w.count, tail_short s.ticks s.greatest s.groups))
 
