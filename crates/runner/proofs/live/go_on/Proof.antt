@@ -108,7 +108,7 @@ done c =
     then-m w ↦
     let at = at_a_test _ _ _ _ _ _ _ ready l.m l.store l.counts l.invariant.1 w.if-m.true in
     let (s, k) = w.test_row-m.ensures in
-    rw (w.store-is, w.counts-is, w.cues-is, w.m-is, w.limits-is, w.fired-is) (
+    rw (w.fired-is, w.store-is, w.counts-is, w.cues-is, w.m-is, w.limits-is) (
       s _ _ at,
       refl,
       k.long,
@@ -121,7 +121,7 @@ done c =
     let i : l.m.row < c.args.script.count = omega (arith, w.if-count-m.false) in
     let s = w.act-m.ensures _ (at_row _ _ _ _ _ _ _ ready l.m l.store l.counts l.invariant.1 w.if-m.false i) in
     let e : length w.act-m.new.store ≡ length l.store = search rules in
-    rw (w.store-is, w.counts-is, w.cues-is, w.m-is, w.limits-is, w.fired-is) (
+    rw (w.fired-is, w.store-is, w.counts-is, w.cues-is, w.m-is, w.limits-is) (
       s,
       e,
       l.invariant.2,
