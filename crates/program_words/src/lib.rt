@@ -1,5 +1,6 @@
 // Numbers, prices and picks as words. A number is written as in a script: no plus, no leading zeros, `-` only before a non-zero number.
 #![tactic(auto)]
+
 pub mod lists;
 pub mod picks;
 
