@@ -108,7 +108,7 @@ module _ (body : Block) where
   atom_keeps b t = by (eqb b 118) refl (eqb b 45) refl
     where
       digits : is_natural (up_to_mark t) ≡ true → of t ≡ of (from_mark t)
-      digits n = digits_past _ t (natural_digits (up_to_mark t) n)
+      digits n = digits_past (λ w. assigns w body) t (natural_digits (up_to_mark t) n)
 
       named : eqb b 118 ≡ true → is_natural (up_to_mark t) ≡ true → of (b ∷ t) ≡ not (assigns (value_from 0 (up_to_mark t)) body) && of (from_mark t)
       named e n = rw (e, digits_value t (natural_digits (up_to_mark t) n), digits n)
@@ -119,10 +119,10 @@ module _ (body : Block) where
 
       by : (p : Bool) → eqb b 118 ≡ p → (q : Bool) → eqb b 45 ≡ q → Keeps (of (b ∷ t)) (leaf (word_of (b ∷ up_to_mark t)) (from_mark t))
       by true e q d = rw (word_variable b t (eqb-true b 118 e)) (word_keeps (is_natural (up_to_mark t)) _ _ _ (λ n. keeps_all (named e n)))
-      by false e true d = rw (word_negative b t (eqb-true b 45 d)) (word_keeps (cond (is_natural (up_to_mark t)) (not (eqb (value_from 0 (up_to_mark t)) 0)) false) _ _ _ (λ n. keeps_all (past _ b t e ∙ digits (first _ _ n))))
+      by false e true d = rw (word_negative b t (eqb-true b 45 d)) (word_keeps (cond (is_natural (up_to_mark t)) (not (eqb (value_from 0 (up_to_mark t)) 0)) false) _ _ _ (λ n. keeps_all (past (λ w. assigns w body) b t e ∙ digits (first _ _ n))))
       by false e false d =
           rw (word_other b t (eqb-false b 45 d) (eqb-false b 118 e))
-          (word_keeps (is_natural (b ∷ up_to_mark t)) _ _ _ (λ n. keeps_all (past _ b t e ∙ digits_past _ t (first_digit b (up_to_mark t) (natural_digits (b ∷ up_to_mark t) n)).1)))
+          (word_keeps (is_natural (b ∷ up_to_mark t)) _ _ _ (λ n. keeps_all (past (λ w. assigns w body) b t e ∙ digits_past (λ w. assigns w body) t (first_digit b (up_to_mark t) (natural_digits (b ∷ up_to_mark t) n)).1)))
 
   -- the operator after a part
   data Next (r : List ℕ) : Ahead → Type 0 where

@@ -1,5 +1,6 @@
 // Expressions: what a word comes to, in ranges and in a run.
 #![tactic(auto)]
+
 pub mod leaves;
 pub mod names;
 pub mod operators;

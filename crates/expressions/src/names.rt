@@ -34,9 +34,7 @@ fn names(word: &[u8], i: usize, set: [bool; 16]) -> bool
 // 10: is no variable of such an expression in the set that a body assigns?
 pub fn keeps_in(word: &[u8], set: [bool; 16]) -> bool
     requires { PassedWord word.now }
-    ensures {
-        ((body : Block) → ((w : ℕ) → get_or set w false ≡ assigns w body) → result ≡ keeps (expr_in (parse word.now))
-        body) }
+    ensures { (body : Block) → ((w : ℕ) → get_or set w false ≡ assigns w body) → result ≡ keeps (expr_in (parse word.now)) body }
 {
     let mut i: usize = 0;
     while i < word.len() {

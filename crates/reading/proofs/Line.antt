@@ -10,7 +10,6 @@ use lib.Seq.{drop-cons, drop-drop, get_or-set_same, get_or-set_other}
 use lib.Dec.{eqb, ltb}
 use lib.IntN.{ℤ, pos}
 use borrow.Author.Tests.{eq-eqb, ne_eqb, eqb-true, eqb-false, ltb-true, ltb-false}
-use Rattle.rules.specs.declared.Word.{Word}
 use Rattle.rules.specs.declared.Word.TheVariants.{Missing}
 use Rattle.rules.specs.Text.{prefixed, split, word_of, words_of}
 use Rattle.reading.proofs.TextLaws.{stop_within}

@@ -1,15 +1,13 @@
 use mathlib.Core.Path.{◌≡◌, refl, ◌∙◌}
 use mathlib.Core.Bool.{Bool, true, false, ◌&&◌}
-use mathlib.Core.Logic.{⊎_elim}
 use Prim.Native.Nat.{ℕ, zero, suc, ◌≤◌, ◌<◌}
 use native.Mathlib.Omega.{arith}
 use lib.Dec.{leb}
-use borrow.Author.Rules.{rules}
 use borrow.Author.Tests.{le-leb, lt-leb}
 use Rattle.rules.specs.File.{first_refusal}
 use Rattle.reading.specs.Asking.{Sizes, sizes_of, decided, finished, end_question}
-use Rattle.reading.proofs.questions.verdict.Statement.{statement}
-use Rattle.reading.proofs.questions.verdict.Tie as tie
+use Rattle.reading.proofs.questions.verdict.Goals as goal
+use Rattle.reading.proofs.questions.verdict.Goals.{then-c-le8+else-c-le15, else-c-le8}
 
 open-one : (d : ℕ) (a : Sizes) → 0 < d → 3 ≡ finished d a
 unfolding finished
@@ -25,24 +23,21 @@ and_false : (a : Bool) → a && false ≡ false
 and_false true = refl
 and_false false = refl
 
-returns : tie.Need-returns-then-c
+pub returns-then-c : goal.returns-then-c
 unfolding end_question
-returns c = rw c.if-c.true
+returns-then-c c = rw c.if-c.true
 
-returns_2 : tie.Need-returns-then-c-gt0
+pub returns-then-c-gt0 : goal.returns-then-c-gt0
 unfolding end_question
-returns_2 c = rw c.if-c.false (open-one _ _ c.if-c-gt0.true)
+returns-then-c-gt0 c = rw c.if-c.false (open-one _ _ c.if-c-gt0.true)
 
-returns_3 : tie.Need-returns-then-c-le15
+pub returns-then-c-le15 : goal.returns-then-c-le15
 unfolding end_question decided first_refusal
-returns_3 c = rw c.if-c.false (rw (le-leb _ _ c.if-c-le8.true, le-leb _ _ c.if-c-le15.true) at (open_none _ (sizes_of c.args.c) c.if-c-gt0.false))
+returns-then-c-le15 c = rw c.if-c.false (rw (le-leb _ _ c.if-c-le8.true, le-leb _ _ c.if-c-le15.true) at (open_none _ (sizes_of c.args.c) c.if-c-gt0.false))
 
-returns-4 : tie.Need-returns
+pub returns : goal.returns
 unfolding end_question decided
-returns-4 c =
+returns c =
     let a = c.args.c in
-    let big : leb a.deep 8 && leb a.ops 15 ≡ false = ⊎_elim (λ w. rw (lt-leb _ _ w.2.left) (and_false (leb a.deep 8))) (λ w. rw (lt-leb _ _ w.left)) c.if-c-le8.branch in
+    let big : leb a.deep 8 && leb a.ops 15 ≡ false = elim c.if-c-le8.branch [ then-c-le8+else-c-le15 w ↦ rw (lt-leb _ _ w.if-c-le15.false) (and_false (leb a.deep 8)) | else-c-le8 w ↦ rw (lt-leb _ _ w.if-c-le8.false) ] in
     rw c.if-c.false (c.first_refusal.ensures ∙ (rw big at (open_none a.depth (sizes_of a) c.if-c-gt0.false)))
-
-pub verdict_spec : {M : Type 1} → statement M
-verdict_spec = tie.close (tie.spec returns returns_2 returns_3 (λ c κs. search rules) returns-4)
