@@ -44,7 +44,7 @@ at-start-requires c κs =
 loop-at-requires : tie.Need-loop_at-one-requires
 loop-at-requires c κs = (c.requires.0, c.at_start.ensures.long)
 
-begun : (c : tie.After-at_start) → env_of c.at_start.new.1.0 ≡ start_at c.args.text.now (rows_of c.args.rows.now) c.args.t.next (env_of c.args.r.now)
+begun : (c : tie.After-at_start) → env_of c.at_start.new.r ≡ start_at c.args.text.now (rows_of c.args.rows.now) c.args.t.next (env_of c.args.r.now)
 begun c = c.at_start.ensures.value ∙ ap (λ k. let text = c.args.text.now in at_start (form_of text k) (test_of text k) (env_of c.args.r.now)) c.kind_at-kind.ensures
 
 one_is : (c : tie.After-loop_at-one) → LoopAt c.args.text.now (rows_of c.args.rows.now) c.args.count c.args.t.next (start_at c.args.text.now (rows_of c.args.rows.now) c.args.t.next (env_of c.args.r.now)) c.loop_at-one.result
@@ -81,7 +81,7 @@ figure c = subst (FigureOf (trip_of c.loop_at-one.result.trip)) c.in-Turns.is c.
 
 walked-requires : tie.Need-walked-all-requires
 walked-requires c κs =
-    let s = c.before.before.before.before.before.before.before.before.before.before.before.before.before in
+    let s = c in
     let l = s.requires.0 in
     (c.loop_at-one.ensures.near, (figure c.before).0, s.requires.1, (s.args.text.now, rw c.kind_at-kind.ensures (l.ready.written _ l.inside)))
 
@@ -94,7 +94,7 @@ body-requires c κs = (c.loop_at-one.ensures.near, c.loop_at-one.ensures.small, 
 -- the body's last row, in all passes that are walked
 last : (c : tie.After-struct_known-1) → c.body-inner.result.count * c.last_ticks.result ≤ 4_096 * 1_000
 last c =
-    let s = c.before.before.before.before.before.before.before.before.before.before.before.before.before.before.before.before.before.before in
+    let s = c in
     mul-le-mul c.body-inner.ensures.1.few (let z : c.last_ticks.result ≤ 1_000 = omega (arith, c.last_ticks.ensures s.args.text.now, last_small s.requires.2 s.args.text.now c.kind_at-kind.result) in z)
 
 mul-spent : tie.Need-overflow_mul-spent
