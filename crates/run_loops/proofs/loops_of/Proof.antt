@@ -68,8 +68,8 @@ listed c =
     let i = c.loop-j-test.true in
     let e = c.is_loop.ensures in
     elim c.if-is_loop.branch [
-    then-is_loop w ↦ λ text g. rw (w.listed-is, w.k-is) (one_loop g l.j l.k l.listed (l.invariant.1 text g) i _ (e text) w.if-is_loop.true _ w.count_of.ensures)
-    | else-is_loop w ↦ λ text g. rw (w.listed-is, w.k-is) (no_loop_lem g l.j l.k l.listed (l.invariant.1 text g) i _ (e text) w.if-is_loop.false)
+      | then-is_loop w ↦ λ text g. rw (w.listed-is, w.k-is) (one_loop g l.j l.k l.listed (l.invariant.1 text g) i _ (e text) w.if-is_loop.true _ w.count_of.ensures)
+      | else-is_loop w ↦ λ text g. rw (w.listed-is, w.k-is) (no_loop_lem g l.j l.k l.listed (l.invariant.1 text g) i _ (e text) w.if-is_loop.false)
     ]
 
 loop_again : tie.Need-loop-j-preserved invariant-loop-j decreases-loop-j
