@@ -33,6 +33,7 @@ use reading::text::starts_with;
 use refusal::print_refused;
 use rules::{Prices, Verdict};
 use show::print_script;
+use std::process::ExitCode;
 
 fn help(host: &impl Host) {
     print_text(
@@ -283,17 +284,23 @@ fn explain_words(host: &impl Host, first: usize, arguments: usize, prices: &[u32
     explain_all(host, first, arguments, prices, b"", none);
 }
 
-fn main(rt: HostRuntime) {
-    let host = System::new(rt);
+// What the arguments ask for.
+fn run(host: &impl Host) {
     let arguments = host.argument_count();
-    if program_parts::asks_help(&host) {
-        help(&host);
+    if program_parts::asks_help(host) {
+        help(host);
         return;
     }
     let mut prices = [1u32; 5];
-    let read = program_parts::read_prices(&host, &mut prices);
+    let read = program_parts::read_prices(host, &mut prices);
     let count = read.count;
     if read.good {
-        explain_words(&host, read.next, arguments, &prices[..count]);
+        explain_words(host, read.next, arguments, &prices[..count]);
     }
+}
+
+fn main(rt: HostRuntime) -> ExitCode {
+    let host = System::new(rt);
+    run(&host);
+    host.status()
 }

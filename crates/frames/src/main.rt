@@ -12,6 +12,7 @@ use program_parts::{WORD, print_text};
 use program_words::Number;
 use program_words::lists::{Lent, Values};
 use rules::Verdict;
+use std::process::ExitCode;
 
 // A call is lent no more scripts.
 const SCRIPTS: usize = 8;
@@ -420,12 +421,18 @@ fn read_prices(host: &impl Host, arguments: usize) {
     }
 }
 
-fn main(rt: HostRuntime) {
-    let host = System::new(rt);
+// What the arguments ask for.
+fn run(host: &impl Host) {
     let arguments = host.argument_count();
-    if program_parts::asks_help(&host) {
-        help(&host);
+    if program_parts::asks_help(host) {
+        help(host);
         return;
     }
-    read_prices(&host, arguments);
+    read_prices(host, arguments);
+}
+
+fn main(rt: HostRuntime) -> ExitCode {
+    let host = System::new(rt);
+    run(&host);
+    host.status()
 }

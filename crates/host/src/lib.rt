@@ -6,9 +6,10 @@ ghost use Rattle.io.specs.Counts.{IsPrefixLen};
 
 use std::cell::Cell;
 use std::env::{Env, FillError};
-use std::fs;
-use std::io::{Eprint, Print, Read};
+use std::io::{Eprint, ErrorKind, Print, Read};
+use std::process::ExitCode;
 use std::rt::Files;
+use std::{fs, io};
 
 // The system, as a program sees it.
 pub trait Host {
@@ -29,16 +30,32 @@ pub trait Host {
     // The file of that name, if it can be opened for reading. A name that is not UTF-8 opens none: std's names are text.
     fn open(&self, name: &[u8]) -> Option<Self::File>;
 
-    // Writes a text on standard output; false if it is not written whole. Then this is said on standard error, once, and no text is
-    // written any more: nothing follows the gap.
+    // Writes a text on standard output; false if it is not written whole. Then no text is written any more, so that nothing follows the
+    // gap, and it is said on standard error, once, unless nobody reads standard output any more.
     fn print(&self, text: &[u8]) -> bool;
 }
 
-// A runtime, and whether output is lost.
+// A runtime, whether output is lost, and whether it is because its reader has gone.
 #[derive(Drop)]
 pub struct System<R> {
     rt: R,
     lost: Cell<bool>,
+    gone: Cell<bool>,
+}
+
+// Standard input, or nothing.
+#[derive(Drop)]
+pub struct Source<S> {
+    from: Option<S>,
+}
+
+impl<S: Read> Read for Source<S> {
+    fn read(&mut self, buf: &mut [u8]) -> io::Result<usize> {
+        match &mut self.from {
+            Some(from) => from.read(buf),
+            None => Ok(0),
+        }
+    }
 }
 
 impl<R> System<R> {
@@ -46,12 +63,23 @@ impl<R> System<R> {
         System {
             rt,
             lost: Cell::new(false),
+            gone: Cell::new(false),
         }
+    }
+
+    // The exit status: 0, but 141 if the reader of standard output has gone, which is what a shell tells of a program that the system ends
+    // for that.
+    pub fn status(&self) -> ExitCode {
+        if self.gone.get() {
+            return ExitCode::from(141);
+        }
+        ExitCode::SUCCESS
     }
 }
 
+// Once the reader of standard output has gone, there is nothing more to read or to open either: the program has only to end.
 impl<R: Env + Files + Input + Print + Eprint> Host for System<R> {
-    type Reader = R::Reader;
+    type Reader = Source<R::Reader>;
 
     type File = R::File;
 
@@ -63,11 +91,19 @@ impl<R: Env + Files + Input + Print + Eprint> Host for System<R> {
         self.rt.arg(i, word).unwrap_or(0)
     }
 
-    fn reader(&self) -> R::Reader {
-        self.rt.reader()
+    fn reader(&self) -> Source<R::Reader> {
+        if self.gone.get() {
+            return Source { from: None };
+        }
+        Source {
+            from: Some(self.rt.reader()),
+        }
     }
 
     fn open(&self, name: &[u8]) -> Option<R::File> {
+        if self.gone.get() {
+            return None;
+        }
         let path = str::from_utf8(name).ok()?;
         fs::open(&self.rt, path).ok()
     }
@@ -79,11 +115,14 @@ impl<R: Env + Files + Input + Print + Eprint> Host for System<R> {
         if self.lost.get() {
             return false;
         }
-        if write_out(&self.rt, text) {
-            return true;
+        match write_out(&self.rt, text) {
+            Written::Whole => return true,
+            Written::Cut => {
+                let _ = self.rt.eprint("error=cannot write\n");
+            }
+            Written::Gone => self.gone.set(true),
         }
         self.lost.set(true);
-        let _ = self.rt.eprint("error=cannot write\n");
         false
     }
 }
@@ -107,24 +146,48 @@ fn count_arguments(rt: &impl Env) -> usize {
     usize::MAX
 }
 
-// Writes once, and answers how many bytes were taken.
-fn write_some(rt: &impl Print, text: &[u8]) -> usize
-    ensures { result ≤ length text.now }
-{
-    rt.write_some(text).unwrap_or(0)
+// What became of a text: it is written whole; it is not; or its reader has gone.
+#[derive(Clone, Copy)]
+enum Written {
+    Whole,
+    Cut,
+    Gone,
 }
 
-// Writes all of a text; false at the first write that takes nothing.
-fn write_all(rt: &impl Print, text: &[u8]) -> bool {
+// How many bytes a write took, and whether its reader has gone.
+#[derive(Clone, Copy)]
+struct Taken {
+    count: usize,
+    gone: bool,
+}
+
+// Writes once.
+fn write_some(rt: &impl Print, text: &[u8]) -> Taken
+    ensures { result.count ≤ length text.now }
+{
+    match rt.write_some(text) {
+        Ok(count) => Taken { count, gone: false },
+        Err(error) => Taken {
+            count: 0,
+            gone: error.kind() == ErrorKind::BrokenPipe,
+        },
+    }
+}
+
+// Writes until all of a text is written or a write takes nothing.
+fn write_all(rt: &impl Print, text: &[u8]) -> Written {
     let mut done = 0;
     while done < text.len() {
-        let n = write_some(rt, &text[done..]);
-        if n == 0 {
-            return false;
+        let taken = write_some(rt, &text[done..]);
+        if taken.gone {
+            return Written::Gone;
         }
-        done += n;
+        if taken.count == 0 {
+            return Written::Cut;
+        }
+        done += taken.count;
     }
-    true
+    Written::Whole
 }
 
 // Whether standard output is a regular file, where the system tells.
@@ -135,15 +198,18 @@ fn writes_to_file(rt: &impl Files) -> bool {
     }
 }
 
-// Writes a text; false if it is not written whole. A file that took a part only has no room for the rest: it is not tried again, since a
-// write past a limit of its size would end the program.
-fn write_out<R: Files + Print>(rt: &R, text: &[u8]) -> bool {
-    let done = write_some(rt, text);
-    if done == text.len() {
-        return true;
+// Writes a text. A file that took a part only has no room for the rest: it is not tried again, since a write past a limit of its size would
+// end the program.
+fn write_out<R: Files + Print>(rt: &R, text: &[u8]) -> Written {
+    let taken = write_some(rt, text);
+    if taken.count == text.len() {
+        return Written::Whole;
+    }
+    if taken.gone {
+        return Written::Gone;
     }
     if writes_to_file(rt) {
-        return false;
+        return Written::Cut;
     }
-    write_all(rt, &text[done..])
+    write_all(rt, &text[taken.count..])
 }

@@ -16,6 +16,7 @@ use program_parts::{STORE, WORD, print_text};
 use program_words::lists::Values;
 use program_words::{Number, pick_count, put_picks};
 use rules::Verdict;
+use std::process::ExitCode;
 
 // How many picks are held that no frame has used.
 const HELD: usize = WORD;
@@ -371,12 +372,18 @@ fn read_and_start(host: &impl Host, arguments: usize) {
     }
 }
 
-fn main(rt: HostRuntime) {
-    let host = System::new(rt);
+// What the arguments ask for.
+fn run(host: &impl Host) {
     let arguments = host.argument_count();
-    if program_parts::asks_help(&host) {
-        help(&host);
+    if program_parts::asks_help(host) {
+        help(host);
         return;
     }
-    read_and_start(&host, arguments);
+    read_and_start(host, arguments);
+}
+
+fn main(rt: HostRuntime) -> ExitCode {
+    let host = System::new(rt);
+    run(&host);
+    host.status()
 }

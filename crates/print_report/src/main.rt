@@ -3,6 +3,7 @@
 
 use host::{Host, System};
 use program_parts::{WORD, print_text};
+use std::process::ExitCode;
 
 fn help(host: &impl Host) {
     print_text(host, b"print_report [FILE]\n");
@@ -31,20 +32,26 @@ fn refuse_more(host: &impl Host) {
     );
 }
 
-fn main(rt: HostRuntime) {
-    let host = System::new(rt);
+// What the arguments ask for.
+fn run(host: &impl Host) {
     let arguments = host.argument_count();
-    if program_parts::asks_help(&host) {
-        help(&host);
+    if program_parts::asks_help(host) {
+        help(host);
         return;
     }
     if arguments < 2 {
-        program_parts::report_input(&host);
+        program_parts::report_input(host);
         return;
     }
     if arguments > 2 {
-        refuse_more(&host);
+        refuse_more(host);
         return;
     }
-    report_named(&host);
+    report_named(host);
+}
+
+fn main(rt: HostRuntime) -> ExitCode {
+    let host = System::new(rt);
+    run(&host);
+    host.status()
 }

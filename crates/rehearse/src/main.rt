@@ -9,6 +9,7 @@ use host::{Host, System};
 use program_parts::{STORE, WORD, print_text};
 use program_words::is_word;
 use program_words::lists::Values;
+use std::process::ExitCode;
 
 fn usage(host: &impl Host) {
     print_text(
@@ -112,12 +113,18 @@ fn read_and_start(host: &impl Host, arguments: usize) {
     }
 }
 
-fn main(rt: HostRuntime) {
-    let host = System::new(rt);
+// What the arguments ask for.
+fn run(host: &impl Host) {
     let arguments = host.argument_count();
-    if program_parts::asks_help(&host) {
-        help(&host);
+    if program_parts::asks_help(host) {
+        help(host);
         return;
     }
-    read_and_start(&host, arguments);
+    read_and_start(host, arguments);
+}
+
+fn main(rt: HostRuntime) -> ExitCode {
+    let host = System::new(rt);
+    run(&host);
+    host.status()
 }

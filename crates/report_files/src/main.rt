@@ -3,8 +3,10 @@
 
 use host::System;
 use program_parts::LineKind;
+use std::process::ExitCode;
 
-fn main(rt: HostRuntime) {
+fn main(rt: HostRuntime) -> ExitCode {
     let host = System::new(rt);
     program_parts::answer_input(&host, LineKind::File);
+    host.status()
 }

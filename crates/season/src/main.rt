@@ -16,6 +16,7 @@ use rules::Reply;
 use season_sheet::files::{CUES, FILES, REPORTS, add_file};
 use season_sheet::names::{LINE, LINES, ROOM};
 use season_sheet::sheet::{Sheet, TEXT};
+use std::process::ExitCode;
 
 // The names so far: the line that is open, whether more is to be read, and whether a read failed.
 #[derive(Clone, Copy)]
@@ -333,16 +334,22 @@ fn help(host: &impl Host) {
     );
 }
 
-fn main(rt: HostRuntime) {
-    let host = System::new(rt);
+// What the arguments ask for.
+fn run(host: &impl Host) {
     let arguments = host.argument_count();
-    if program_parts::asks_help(&host) {
-        help(&host);
+    if program_parts::asks_help(host) {
+        help(host);
         return;
     }
-    if asks_files(&host) {
-        start(&host, 2, arguments, true);
+    if asks_files(host) {
+        start(host, 2, arguments, true);
         return;
     }
-    start(&host, 1, arguments, false);
+    start(host, 1, arguments, false);
+}
+
+fn main(rt: HostRuntime) -> ExitCode {
+    let host = System::new(rt);
+    run(&host);
+    host.status()
 }

@@ -8,6 +8,7 @@ use answer_text::reports::{TEXT, put_report};
 use byte_slices::find;
 use host::{Host, System};
 use program_parts::{WORD, print_number, print_text, print_unread, read_file};
+use std::process::ExitCode;
 
 fn form(host: &impl Host) {
     print_text(host, b"verify [prices=A,C,P,T] FILE REPORT\n");
@@ -169,12 +170,18 @@ fn read_and_start(host: &impl Host, arguments: usize) {
     }
 }
 
-fn main(rt: HostRuntime) {
-    let host = System::new(rt);
+// What the arguments ask for.
+fn run(host: &impl Host) {
     let arguments = host.argument_count();
-    if program_parts::asks_help(&host) {
-        help(&host);
+    if program_parts::asks_help(host) {
+        help(host);
         return;
     }
-    read_and_start(&host, arguments);
+    read_and_start(host, arguments);
+}
+
+fn main(rt: HostRuntime) -> ExitCode {
+    let host = System::new(rt);
+    run(&host);
+    host.status()
 }
