@@ -247,7 +247,7 @@ walk-walk_block-t-requires t c =
       omega (arith, k.walk.low),
       (
         record { walk = record { ready = ready w.ready k.walk.high; prices = w.prices; number = k.number; small = k.small; fine = w.fine; room = omega (arith, room k, w.room); long = k.long }; inside = l; is = refl; long = c.loop-t.invariant.0 },
-        subst IsBlock c.shape_at.ensures (block_shape _ (opened c.in_default.in_default-own.keys3)),
+        subst IsBlock c.shape_at.ensures (block_shape _ c.in_default.in_default-own.keys3),
       ),
     )
 
