@@ -1,5 +1,6 @@
 -- `analysis::walk` and the functions for a block, which call it, meet their contracts.
 use borrow.Author.Rules.{rules}
+use borrow.Enum.Refused.{opened}
 use native.Mathlib.Omega.{arith}
 use Prim.Native.Nat.{ℕ, ◌+◌}
 use mathlib.Core.Path.{◌≡◌, refl, sym, ap, subst, ◌∙◌}
@@ -211,7 +212,7 @@ pub walk_block-walk_loop-requires : goal.walk_block-walk_loop-requires
 walk_block-walk_loop-requires t c =
     let a = c.requires.0 in
     let e = c.shape_at.ensures in
-    (omega arith, record { walk = a.walk; inside = a.inside; is = sym e ∙ loop_shape_lem _ c.in_default.in_default-own.keys2 (subst IsBlock (sym e) c.requires.1); long = a.long })
+    (omega arith, record { walk = a.walk; inside = a.inside; is = sym e ∙ loop_shape_lem _ (opened c.in_default.in_default-own.keys2) (subst IsBlock (sym e) c.requires.1); long = a.long })
 
 -- ---- the walk
 pub walk-loop-t-init : goal.walk-loop-t-init
