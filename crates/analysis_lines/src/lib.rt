@@ -1,5 +1,6 @@
 // The report's lines as a table of numbers, seven to a line: a table can be lent to the walk that fills it, and an array of lines cannot.
 #![tactic(auto)]
+
 ghost use Rattle.std.specs.Prelude.{◌≡◌, [], ◌<◌, min, eqb, length, get_or, set};
 ghost use Rattle.rules_steps.specs.Ends.{Near, EndsWithin};
 ghost use Rattle.analysis_lines.specs.Coded.{end_in, line_step, line_in, lines_in};

@@ -1,5 +1,6 @@
 // A loop: its trip, found once from its rows and the ranges at its start, and what its body assigns.
 #![tactic(auto)]
+
 pub mod trips;
 pub mod ways;
 
@@ -32,8 +33,7 @@ fn trip_by(
     keeps: bool,
 ) -> Trip
     requires { SmallWay way }
-    ensures {
-        trip_of result ≡ trip_from way (env_of begun.now) untested step comparison (range_of start) (range_of limit) keeps }
+    ensures { trip_of result ≡ trip_from way (env_of begun.now) untested step comparison (range_of start) (range_of limit) keeps }
 {
     match way {
         Way::Own => own_trip(untested, step, comparison, start, limit, keeps, true),

@@ -91,8 +91,7 @@ pub fn read_trip(
     ahead: bool,
     tested: Interval,
 ) -> Trip
-    ensures {
-        trip_of result ≡ read_from (lead_of lead) step comparison (range_of start) (range_of limit) keeps ahead (range_of tested) }
+    ensures { trip_of result ≡ read_from (lead_of lead) step comparison (range_of start) (range_of limit) keeps ahead (range_of tested) }
 {
     let sure = both(single(tested), both(single(start), single(limit)));
     Trip {

@@ -80,8 +80,7 @@ pub fn is_do(kind: Kind) -> bool
 // 10: is no variable of an expression assigned in the body?
 fn word_keeps(text: &[u8], at: u16, n: u16, set: [bool; 16]) -> bool
     requires { InText text.now at n }
-    ensures {
-        ((body : Block) → ((w : ℕ) → set_of set w ≡ assigns w body) → result ≡ trips.keeps
+    ensures { ((body : Block) → ((w : ℕ) → set_of set w ≡ assigns w body) → result ≡ trips.keeps
         (expr_in (parse (take n (drop at text.now)))) body) }
 {
     let from = at as usize;
@@ -92,8 +91,7 @@ fn word_keeps(text: &[u8], at: u16, n: u16, set: [bool; 16]) -> bool
 // 10: is no variable of the limit assigned in the body?
 pub fn keeps(text: &[u8], limit: Operand, set: [bool; 16]) -> bool
     requires { FineOperand limit × WrittenOperand text.now limit }
-    ensures {
-        ((body : Block) → ((w : ℕ) → set_of set w ≡ assigns w body) → result ≡ trips.keeps (expr_of text.now limit)
+    ensures { ((body : Block) → ((w : ℕ) → set_of set w ≡ assigns w body) → result ≡ trips.keeps (expr_of text.now limit)
         body) }
 {
     match limit {
@@ -146,8 +144,7 @@ fn copied_way(
     after: bool,
 ) -> Way
     requires { ((text : List ℕ) × AtLoop text (rows_of rows.now) count i) × (w < 16) }
-    ensures {
-        ((text : List ℕ) → AtLoop text (rows_of rows.now) count i → CopiedAt text
+    ensures { ((text : List ℕ) → AtLoop text (rows_of rows.now) count i → CopiedAt text
         (rows_of rows.now) count i comparison w before after result) }
 {
     let body = body_moves(rows, count, i, w);
@@ -161,8 +158,7 @@ fn copied_way(
 // Which way the while, do or for at row i goes, by the only row of its tested variable, which has no step of its own.
 fn sole_way(rows: &[u32], count: usize, i: usize) -> Way
     requires { (text : List ℕ) × SoleFrom text (rows_of rows.now) count i }
-    ensures {
-        ((text : List ℕ) → SoleFrom text (rows_of rows.now) count i → WayAt text
+    ensures { ((text : List ℕ) → SoleFrom text (rows_of rows.now) count i → WayAt text
         (rows_of rows.now) count i result) }
 {
     let kind = kind_at(rows, i);
@@ -192,8 +188,7 @@ fn watched_way(
     after: bool,
 ) -> Way
     requires { ((text : List ℕ) × AtLoop text (rows_of rows.now) count i) × (w < 16) }
-    ensures {
-        ((text : List ℕ) → AtLoop text (rows_of rows.now) count i → WatchedAt text
+    ensures { ((text : List ℕ) → AtLoop text (rows_of rows.now) count i → WatchedAt text
         (rows_of rows.now) count i w comparison k before after result) }
 {
     let body = body_moves(rows, count, i, w);
@@ -207,8 +202,7 @@ fn watched_way(
 // Which way the hold at row i goes, by the only row of its flag.
 fn hold_way(rows: &[u32], count: usize, i: usize) -> Way
     requires { (text : List ℕ) × HoldAt text (rows_of rows.now) count i }
-    ensures {
-        ((text : List ℕ) → HoldAt text (rows_of rows.now) count i → WayAt text
+    ensures { ((text : List ℕ) → HoldAt text (rows_of rows.now) count i → WayAt text
         (rows_of rows.now) count i result) }
 {
     let kind = kind_at(rows, i);
@@ -226,8 +220,7 @@ fn hold_way(rows: &[u32], count: usize, i: usize) -> Way
 // The limit is the variable w, which the body assigns; step: the tested variable's own.
 fn chased_way(rows: &[u32], count: usize, i: usize, head: LoopTest, step: Step, w: u8) -> Way
     requires { (text : List ℕ) × ChaseAt text (rows_of rows.now) count i head step w }
-    ensures {
-        ((text : List ℕ) → ChaseAt text (rows_of rows.now) count i head step w → WayAt text
+    ensures { ((text : List ℕ) → ChaseAt text (rows_of rows.now) count i head step w → WayAt text
         (rows_of rows.now) count i result) }
 {
     if w == head.tested {
@@ -245,8 +238,7 @@ fn chased_way(rows: &[u32], count: usize, i: usize, head: LoopTest, step: Step, 
 // Which way the loop at row i goes, by its limit, which the body assigns; step: the tested variable's own, which is known.
 fn limit_way(rows: &[u32], count: usize, i: usize, step: Step) -> Way
     requires { (text : List ℕ) × LimitAt text (rows_of rows.now) count i step }
-    ensures {
-        ((text : List ℕ) → LimitAt text (rows_of rows.now) count i step → WayAt text
+    ensures { ((text : List ℕ) → LimitAt text (rows_of rows.now) count i step → WayAt text
         (rows_of rows.now) count i result) }
 {
     let kind = kind_at(rows, i);
@@ -262,8 +254,7 @@ fn limit_way(rows: &[u32], count: usize, i: usize, step: Step) -> Way
 // Which way the loop at row i goes; held: it is a hold; step: its tested variable's own; kept: the answer to question 10.
 pub fn way_of(rows: &[u32], count: usize, i: usize, held: bool, step: Step, kept: bool) -> Way
     requires { (text : List ℕ) × WayFrom text (rows_of rows.now) count i held step kept }
-    ensures {
-        ((text : List ℕ) → WayFrom text (rows_of rows.now) count i held step kept → WayAt text
+    ensures { ((text : List ℕ) → WayFrom text (rows_of rows.now) count i held step kept → WayAt text
         (rows_of rows.now) count i result) }
 {
     if held {

@@ -1,5 +1,6 @@
 // The known ranges of the variables at a loop's body's start, and of the tested one after the loop.
 #![tactic(auto)]
+
 pub mod transfer;
 
 ghost use Rattle.std.specs.Prelude.{◌≡◌, ◌<◌, length};

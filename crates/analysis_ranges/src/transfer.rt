@@ -43,11 +43,11 @@ pub fn joined(a: [[i32; 2]; 16], b: [[i32; 2]; 16]) -> [[i32; 2]; 16]
 
 // The ranges after the plain row i.
 pub fn step_row(text: &[u8], r: &mut [[i32; 2]; 16], rows: &[u32], i: usize)
-    requires {
-        (4 * i + 3 < length rows.now) × Fine (kind_at (rows_of rows.now) i)
+    requires { (4 * i + 3 < length rows.now) × Fine (kind_at (rows_of rows.now) i)
         × (shape_of (kind_at (rows_of rows.now) i) ≡ Shape.Plain) × (length r.old ≡ 16) × Written text.now
         (kind_at (rows_of rows.now) i) }
-    ensures { EnvIs r.new (after_row (env_of r.old) (plain_of text.now (kind_at (rows_of rows.now) i))) }
+    ensures { EnvIs r.new
+        (after_row (env_of r.old) (plain_of text.now (kind_at (rows_of rows.now) i))) }
 {
     match tag_at(rows, i) {
         Tag::Set => {

@@ -1,6 +1,7 @@
 // How a variable moves in one turn: walks over the rows of a block, nested blocks first. No walk reads the text that the rows'
 // expressions stand in: its answer is that for each text with which the rows are a tree.
 #![tactic(auto)]
+
 pub mod only_rows;
 pub mod rows;
 
@@ -29,8 +30,7 @@ fn add(set: &mut [bool; 16], v: u8)
 // Adds the variable that a plain row assigns, or a for's step row.
 pub fn add_row(set: &mut [bool; 16], rows: &[u32], i: usize)
     requires { (4 * i + 3 < length rows.now) × Fine (kind_at (rows_of rows.now) i) × (length set.old ≡ 16) }
-    ensures {
-        ((text : List ℕ) → SetIs set.new
+    ensures { ((text : List ℕ) → SetIs set.new
         (with_row (set_of set.old) (plain_of text (kind_at (rows_of rows.now) i)))) }
 {
     if assigns(rows, i) {
@@ -90,8 +90,7 @@ pub struct StepOver {
 // What the block that starts at row `at` does: its variables are added to the set; the step of v, and the row that closes the block.
 pub fn moves_of(rows: &[u32], count: usize, at: usize, v: u8, set: &mut [bool; 16]) -> StepOver
     requires { ((text : List ℕ) × Ready text (rows_of rows.now) count at) × (v < 16) × (length set.old ≡ 16) }
-    ensures {
-        ((text : List ℕ) → Ready text (rows_of rows.now) count at → MovesOf text
+    ensures { ((text : List ℕ) → Ready text (rows_of rows.now) count at → MovesOf text
         (rows_of rows.now) count at v set.old set.new result) }
 {
     let mut step = Step::STILL;
@@ -140,8 +139,7 @@ pub struct Moves {
 // What the body of the loop at row i does, a for's step row included, with the step of v.
 pub fn body_moves(rows: &[u32], count: usize, i: usize, v: u8) -> Moves
     requires { ((text : List ℕ) × AtLoop text (rows_of rows.now) count i) × (v < 16) }
-    ensures {
-        ((text : List ℕ) → AtLoop text (rows_of rows.now) count i → BodyMoves text
+    ensures { ((text : List ℕ) → AtLoop text (rows_of rows.now) count i → BodyMoves text
         (rows_of rows.now) count i v result) }
 {
     let mut set = [false; 16];

@@ -35,8 +35,7 @@ fn read_at(
     before: [bool; 16],
 ) -> Sole
     requires { (text : List ℕ) × AtRead text (rows_of rows.now) count i v w read }
-    ensures {
-        ((text : List ℕ) → AtRead text (rows_of rows.now) count i v w read → ReadAt text
+    ensures { ((text : List ℕ) → AtRead text (rows_of rows.now) count i v w read → ReadAt text
         (rows_of rows.now) count i v before result) }
 {
     if w == v {
@@ -57,10 +56,8 @@ fn read_at(
 
 // At the row i, which sets v to x, behind rows that assign a set.
 fn set_at(rows: &[u32], count: usize, i: usize, v: u8, x: Operand, before: [bool; 16]) -> Sole
-    requires {
-        ((text : List ℕ) × AtRow text (rows_of rows.now) count i v) × ((u : ℕ) × (kind_at (rows_of rows.now) i ≡ Kind.Set u x)) }
-    ensures {
-        ((text : List ℕ) → AtRow text (rows_of rows.now) count i v → ReadAt text
+    requires { ((text : List ℕ) × AtRow text (rows_of rows.now) count i v) × ((u : ℕ) × (kind_at (rows_of rows.now) i ≡ Kind.Set u x)) }
+    ensures { ((text : List ℕ) → AtRow text (rows_of rows.now) count i v → ReadAt text
         (rows_of rows.now) count i v before result) }
 {
     match x {
@@ -73,8 +70,7 @@ fn set_at(rows: &[u32], count: usize, i: usize, v: u8, x: Operand, before: [bool
 // At the row i, which assigns v, behind rows that assign a set.
 fn sole_at(rows: &[u32], count: usize, i: usize, v: u8, before: [bool; 16]) -> Sole
     requires { (text : List ℕ) × AtRow text (rows_of rows.now) count i v }
-    ensures {
-        ((text : List ℕ) → AtRow text (rows_of rows.now) count i v → ReadAt text
+    ensures { ((text : List ℕ) → AtRow text (rows_of rows.now) count i v → ReadAt text
         (rows_of rows.now) count i v before result) }
 {
     match kind_at(rows, i) {
@@ -87,8 +83,7 @@ fn sole_at(rows: &[u32], count: usize, i: usize, v: u8, before: [bool; 16]) -> S
 // The only assignment of v in the block that starts at row `at`.
 pub fn sole_of(rows: &[u32], count: usize, at: usize, v: u8) -> Sole
     requires { ((text : List ℕ) × Ready text (rows_of rows.now) count at) × (v < 16) }
-    ensures {
-        ((text : List ℕ) → Ready text (rows_of rows.now) count at → SoleAt text (rows_of rows.now)
+    ensures { ((text : List ℕ) → Ready text (rows_of rows.now) count at → SoleAt text (rows_of rows.now)
         count at v result) }
 {
     let mut set = [false; 16];

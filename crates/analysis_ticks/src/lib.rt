@@ -1,5 +1,6 @@
 // Ticks: sums and products that stop just past the limit of question 13, the ticks of a loop, the first block over the limit.
 #![tactic(auto)]
+
 pub mod passes;
 
 ghost use Rattle.std.specs.Prelude.{◌≡◌, List, ℕ, ◌+◌, ◌*◌, ◌≤◌, ◌<◌};

@@ -96,8 +96,7 @@ fn upward(comparison: Comparison) -> bool
 
 // The inner loop: a for from a constant, by Add, under < or <=, to v alone.
 fn triangle(kind: Kind, trip: Trip, v: u8) -> bool
-    ensures {
-        ((text : List ℕ) → Written text kind → result ≡ triangle_by (form_of text kind) (test_of text kind).limit (trip_of trip) v) }
+    ensures { ((text : List ℕ) → Written text kind → result ≡ triangle_by (form_of text kind) (test_of text kind).limit (trip_of trip) v) }
 {
     let step = trip.step;
     let comparison = trip.comparison;
@@ -160,11 +159,9 @@ fn summed(trip: Trip, round: Round) -> u64
 // The turns of a loop in all passes of one entry of the loop round it: only a triangle asks for a sum. Kept: the variable round it is not
 // assigned before it.
 pub fn walked(kind: Kind, trip: Trip, turns: u64, round: Round, kept: bool) -> u64
-    requires {
-        EndsWithin 512 trip.step × ((i : ℕ) → of_trip i (trip_of trip) ≡ passed) × FineRound round
+    requires { EndsWithin 512 trip.step × ((i : ℕ) → of_trip i (trip_of trip) ≡ passed) × FineRound round
         × ((text : List ℕ) × Written text kind) }
-    ensures {
-        ((text : List ℕ) → Written text kind → result ≡ capped
+    ensures { ((text : List ℕ) → Written text kind → result ≡ capped
         (walked_by (round_of round) (pass_in round kept) (form_of text kind) (test_of text kind).limit (trip_of trip) turns)) }
 {
     let valued = both(round.known, kept);

@@ -54,6 +54,7 @@ pub none_kept : (rows : List RowKind) → length (loop_rows 0 rows) ≤ 16 → (
 none_kept rows few row store k l form test last v = none (by 16 k (omega arith))
   where
     by : (n k : ℕ) → k < n → kept_of (replicate n not_kept) k ≡ not_kept
+    by zero k h = absurd (omega arith)
     by (suc n) zero h = refl
     by (suc n) (suc k) h = by n k (omega arith)
 

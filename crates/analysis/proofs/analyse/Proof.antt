@@ -41,7 +41,7 @@ walk-requires c κs =
 -- the answer, from its ticks and its number of lines
 answer : (c : tie.After-first_no-verdict) → let a = c.args in let f = c.first_no-verdict.result in let t = c.walk-t.result in
     (n : ℕ) → (f ≡ passed → n ≡ t.spent) → (k : ℕ) → (f ≡ passed → k ≡ t.loops) → ((f ≡ passed → ⊥) → (n ≡ 0) × (k ≡ 0))
-    → FoundOf a.prices a.text.now a.ranges (rows_of a.rows.now) a.count (record { verdict = f; ticks = n; loops = k }) c.walk-t.new.1.1.1.1.0 a.own.now c.walk-t.new.1.1.1.1.1.0
+    → FoundOf a.prices a.text.now a.ranges (rows_of a.rows.now) a.count (record { verdict = f; ticks = n; loops = k }) c.walk-t.new.lines a.own.now c.walk-t.new.own
 unfolding lines_of over_of
 answer c n u k v free vars l =
     let s = c.before.before.before.before.before.before.before.before.before.before in

@@ -19,7 +19,7 @@ limit : (c : tie.After-edge-e) → let a = c.args in (c.edge-e.result ≡ edge a
 limit c = let e = rw c.whole.ensures.0 at c.edge-e.ensures in (e.0, sfits_of c.edge-e.type_inv, e.2)
 
 -- the larger of an end and E, and the smaller, fit 32 bits, and bound the range
-rises : (c : tie.After-higher) → let a = c.args in SFits w32 c.higher.result × (record { lo = a.s.lo; hi = c.higher.result } ≡ inside_range a.is-moved (sort a.comparison) (range_of a.s) (edge a.comparison (range_of a.n)))
+rises : (c : tie.After-higher) → let a = c.args in SFits w32 c.higher.result × (record { lo = a.s.lo; hi = c.higher.result } ≡ inside_range a.is_moved (sort a.comparison) (range_of a.s) (edge a.comparison (range_of a.n)))
 unfolding inside_range
 rises c =
     let a = c.args in
@@ -33,7 +33,7 @@ rises c =
     let m = simp (to_z-of_z g, to_z-of_z (word _ g).a64, to_z-of_z f) at c.higher.ensures in
     (omega (ints, sfits_both g, sfits_both f2, max_parts c.choice.result c.edge-e.result), rw (q, m, c.choice.ensures, e) (simp (to_z-of_z f0, to_z-of_z f1)))
 
-falls : (c : tie.After-lower) → let a = c.args in SFits w32 c.lower.result × (record { lo = c.lower.result; hi = a.s.hi } ≡ inside_range a.is-moved (sort a.comparison) (range_of a.s) (edge a.comparison (range_of a.n)))
+falls : (c : tie.After-lower) → let a = c.args in SFits w32 c.lower.result × (record { lo = c.lower.result; hi = a.s.hi } ≡ inside_range a.is_moved (sort a.comparison) (range_of a.s) (edge a.comparison (range_of a.n)))
 unfolding inside_range
 falls c =
     let a = c.args in
@@ -62,4 +62,4 @@ inside_interval_spec =
     (λ c κs. search rules)
     (λ c. let f : SFits w64 c.lower.result = sfits_of c.lower.type_inv in simp (to_z-of_z f) (falls c).0)
     (λ c. let f : SFits w64 c.lower.result = sfits_of c.lower.type_inv in let g : SFits w32 c.args.s.hi = search rules in rw (to_z-of_z f, to_z-of_z (falls c.before).0, to_z-of_z g) (falls c.before).1)
-    (λ c. let a = c.args in unordered (λ d. full ≡ inside_range a.is-moved d (range_of a.s) (edge a.comparison (range_of a.n))) (sort a.comparison) (sym c.rises.ensures ∙ c.if-rises.false) (sym c.falls.ensures ∙ c.if-falls.false) refl refl))
+    (λ c. let a = c.args in unordered (λ d. full ≡ inside_range a.is_moved d (range_of a.s) (edge a.comparison (range_of a.n))) (sort a.comparison) (sym c.rises.ensures ∙ c.if-rises.false) (sym c.falls.ensures ∙ c.if-falls.false) refl refl))

@@ -15,10 +15,9 @@ shifted-requires-2 c κs = let f : SFits w64 c.in-Add.b = search rules in rw (to
 returns : tie.Need-returns-in-Add
 unfolding line_step
 returns c =
-    let s = c.before.before.before.step.given in
-    let f : SFits w64 s.0.0 = search rules in
-    let g : SFits w64 s.0.1.0 = search rules in
-    rw (c.shifted.ensures, c.shifted-in-Add.ensures, s.1) (simp (to_z-of_z f, to_z-of_z g))
+    let f : SFits w64 c.in-Add.a = search rules in
+    let g : SFits w64 c.in-Add.b = search rules in
+    rw (c.shifted.ensures, c.shifted-in-Add.ensures, c.in-Add.is) (simp (to_z-of_z f, to_z-of_z g))
 
 returns_2 : tie.Need-returns-in-Grow
 unfolding line_step

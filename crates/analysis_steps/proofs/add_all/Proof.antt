@@ -23,7 +23,7 @@ unfolding set_of
 loop_again c = let l = c.loop-i in joined_next _ _ l.i l.set (search rules) l.invariant
 
 returns : tie.Need-returns invariant-loop-i decreases-loop-i
-returns c = let l = c.loop-i in let s = c.args in let e : l.i ≡ 16 = omega (arith, l.invariant.some) in let n : length s.t2 ≡ 16 = search rules in record { long = l.invariant.long; value = joined_all _ _ l.set n (rw e at l.invariant) }
+returns c = let l = c.loop-i in let s = c.args in let e : l.i ≡ 16 = omega (arith, l.invariant.some) in let n : length s.more ≡ 16 = search rules in record { long = l.invariant.long; value = joined_all _ _ l.set n (rw e at l.invariant) }
 
 pub add_all_spec : {M : Type 1} → statement M
 add_all_spec =

@@ -50,11 +50,11 @@ at-test-requires : tie.Need-at_test-r-requires
 at-test-requires c κs = (c.requires, (yes c.before.before.before.before.before).moves, c.start_of-start.ensures.1)
 
 has-figure-requires : tie.Need-has_figure-requires
-has-figure-requires c κs = (c.requires, (yes c.before.before.before.before.before.before).moves, c.at_a_test.ensures.1, ranged _ c.limit_of-limit.ensures.1)
+has-figure-requires c κs = (c.requires, (yes c.before.before.before.before.before.before).moves, c.at_test-r.ensures.1, ranged _ c.limit_of-limit.ensures.1)
 
 -- what the first test sees, the limit's end, and the answer to question 12 are the trip's
-first : (c : tie.After-at_test-r) → wide_range c.at_a_test.result ≡ first_of (trip_of c.args.trip)
-first c = let t = c.args.trip in c.at_a_test.ensures.0 ∙ ap (at_test t.moved t.step) c.start_of-start.ensures.0
+first : (c : tie.After-at_test-r) → wide_range c.at_test-r.result ≡ first_of (trip_of c.args.trip)
+first c = let t = c.args.trip in c.at_test-r.ensures.0 ∙ ap (at_test t.moved t.step) c.start_of-start.ensures.0
 
 end : (c : tie.After-edge-e) → c.edge-e.result ≡ edge_of (trip_of c.args.trip)
 end c = c.edge-e.ensures.0 ∙ ap (edge c.args.trip.comparison) c.limit_of-limit.ensures.0
@@ -66,16 +66,16 @@ returns-6 c =
     let f : SFits w64 c.edge-e.result = sfits_of c.edge-e.type_inv in
     let h = rw (to_z-of_z f) at c.has_figure.ensures in
     refused_12 τ y.terms y.known y.moves y.keeps y.suits _ _ _ (first c.before.before) c.limit_of-limit.ensures.0 (end c.before.before.before)
-    (sym (h ∙ ap (λ s. has_figure τ.step (sort τ.comparison) s (wide_range c.before.before.at_a_test.result) (wide_range c.limit_of-limit.result) c.edge-e.result) c.start_of-start.ensures.0) ∙ not_yes c.if-not-has_figure.true-raw)
+    (sym (h ∙ ap (λ s. has_figure τ.step (sort τ.comparison) s (wide_range c.at_test-r.result) (wide_range c.limit_of-limit.result) c.edge-e.result) c.start_of-start.ensures.0) ∙ not_yes c.if-not-has_figure.true-raw)
 
 -- what the turns ask
-counted : (c : tie.Else-not-has_figure) → let t = c.args.trip in Countable t.step (sort t.comparison) c.before.before.at_a_test.result c.limit_of-limit.result c.edge-e.result
+counted : (c : tie.Else-not-has_figure) → let t = c.args.trip in Countable t.step (sort t.comparison) c.at_test-r.result c.limit_of-limit.result c.edge-e.result
 counted c =
     let t = c.args.trip in
     let y = yes c.before.before.before.before.before.before.before.before in
     let f : SFits w64 c.edge-e.result = sfits_of c.edge-e.type_inv in
     let h = rw (to_z-of_z f) at c.has_figure.ensures in
-    countable t.moved t.step (sort t.comparison) _ _ _ _ c.requires c.edge-e.ensures.1 (ranged _ c.limit_of-limit.ensures.1) c.before.before.at_a_test.ensures.0 c.before.before.at_a_test.ensures.1 y.moves y.suits (sym h ∙ not_no c.if-not-has_figure.false-raw)
+    countable t.moved t.step (sort t.comparison) _ _ _ _ c.requires c.edge-e.ensures.1 (ranged _ c.limit_of-limit.ensures.1) c.at_test-r.ensures.0 c.at_test-r.ensures.1 y.moves y.suits (sym h ∙ not_no c.if-not-has_figure.false-raw)
 
 while-turns-requires : tie.Need-while_turns-more-requires
 while-turns-requires c κs = let f : SFits w64 c.edge-e.result = sfits_of c.edge-e.type_inv in rw (to_z-of_z f) (counted c)
@@ -85,7 +85,7 @@ led-requires c κs =
     let t = c.args.trip in
     let f : SFits w64 c.edge-e.result = sfits_of c.edge-e.type_inv in
     let e = rw (to_z-of_z f) at c.while_turns-more.ensures in
-    omega (arith, turns_few t.step (sort t.comparison) c.before.before.before.at_a_test.result c.limit_of-limit.result c.edge-e.result (counted c.before))
+    omega (arith, turns_few t.step (sort t.comparison) c.at_test-r.result c.limit_of-limit.result c.edge-e.result (counted c.before))
 
 returns-7 : tie.Need-returns
 returns-7 c =
@@ -96,7 +96,7 @@ returns-7 c =
     let k = rw (to_z-of_z f) at c.while_turns-more.ensures in
     let l = rw (to_z-of_z f) at c.led.ensures in
     accepted τ y.terms y.known y.moves y.keeps y.suits _ _ _ (first c.before.before.before.before) c.limit_of-limit.ensures.0 (end c.before.before.before.before.before)
-    (sym (h ∙ ap (λ s. has_figure τ.step (sort τ.comparison) s (wide_range c.before.before.before.before.at_a_test.result) (wide_range c.limit_of-limit.result) c.edge-e.result) c.start_of-start.ensures.0) ∙ not_no c.if-not-has_figure.false-raw) _ k _ l
+    (sym (h ∙ ap (λ s. has_figure τ.step (sort τ.comparison) s (wide_range c.at_test-r.result) (wide_range c.limit_of-limit.result) c.edge-e.result) c.start_of-start.ensures.0) ∙ not_no c.if-not-has_figure.false-raw) _ k _ l
 
 pub ask_spec : {M : Type 1} → statement M
 ask_spec =

@@ -4,12 +4,14 @@ use mathlib.Core.Bool.{not, cond, ◌&&◌}
 use borrow.Author.Rules.{rules}
 use native.Mathlib.Nat.{mul-le-mul}
 use native.Mathlib.Omega.{arith}
-use Prim.Native.Nat.{◌*◌, ◌≤◌}
+use mathlib.Core.List.{List}
+use Prim.Native.Nat.{ℕ, ◌*◌, ◌≤◌}
+use Rattle.rules.specs.declared.Row.{Row}
 use Rattle.rules.specs.declared.Kind.{Kind}
 use Rattle.rules.specs.declared.Verdict.TheVariants.{Refused as refused}
 use Rattle.rules.specs.Steps.{starts}
-use Rattle.rules.specs.Ranges.{at_start}
-use Rattle.rules.specs.Trips.{turns_of, inner_of, outer_of}
+use Rattle.rules.specs.Ranges.{Env, at_start}
+use Rattle.rules.specs.Trips.{Trip, turns_of, inner_of, outer_of}
 use Rattle.rules.specs.Questions.{of_trip}
 use Rattle.table.specs.Code.{kind_at, rows_of}
 use Rattle.table.proofs.Laws.{row_in}
@@ -17,6 +19,7 @@ use Rattle.analysis_steps.specs.Tree.{form_of, test_of}
 use Rattle.analysis_steps.specs.Sets.{set_of}
 use Rattle.analysis_intervals.specs.Env.{env_of}
 use Rattle.analysis_loops.specs.Found.{trip_of}
+use Rattle.analysis_loops.specs.declared.Loop.{Loop}
 use Rattle.analysis_loops.specs.Loops.{LoopAt}
 use Rattle.analysis_ranges.specs.Loops.{widened}
 use Rattle.analysis_ranges.proofs.Loops.{inside_is}
@@ -44,22 +47,21 @@ at-start-requires c κs =
 loop-at-requires : tie.Need-loop_at-one-requires
 loop-at-requires c κs = (c.requires.0, c.at_start.ensures.long)
 
-begun : (c : tie.After-at_start) → env_of c.at_start.new.1.0 ≡ start_at c.args.text.now (rows_of c.args.rows.now) c.args.t.next (env_of c.args.r.now)
-begun c = c.at_start.ensures.value ∙ ap (λ k. let text = c.args.text.now in at_start (form_of text k) (test_of text k) (env_of c.args.r.now)) c.kind_at-kind.ensures
+-- the ranges at the loop's start
+begun : (text : List ℕ) (rows : List Row) (i : ℕ) (ρ : Env) {σ : Env} {k : Kind} → σ ≡ at_start (form_of text k) (test_of text k) ρ → k ≡ kind_at rows i → σ ≡ start_at text rows i ρ
+begun text rows i ρ e kd = e ∙ ap (λ k. at_start (form_of text k) (test_of text k) ρ) kd
 
-one_is : (c : tie.After-loop_at-one) → LoopAt c.args.text.now (rows_of c.args.rows.now) c.args.count c.args.t.next (start_at c.args.text.now (rows_of c.args.rows.now) c.args.t.next (env_of c.args.r.now)) c.loop_at-one.result
-one_is c = subst (λ ρ. LoopAt c.args.text.now (rows_of c.args.rows.now) c.args.count c.args.t.next ρ c.loop_at-one.result) (begun c.before.before) c.loop_at-one.ensures
+-- what is found of the loop, from the ranges at its start
+one_is : (text : List ℕ) (rows : List Row) {count i : ℕ} (ρ : Env) {σ : Env} {k : Kind} {one : Loop} → σ ≡ at_start (form_of text k) (test_of text k) ρ → k ≡ kind_at rows i → LoopAt text rows count i σ one → LoopAt text rows count i (start_at text rows i ρ) one
+one_is text rows {count} {i} ρ {one = one} e kd l = subst (λ σ. LoopAt text rows count i σ one) (begun text rows i ρ e kd) l
 
-exit_is : {counts : PassCounts} {x : Exit} (c : tie.After-loop_at-one) → ExitOf c.loop_at-one.result counts x → let a = c.args in
-    ExitAt a.text.now (rows_of a.rows.now) a.count a.t.next (start_at a.text.now (rows_of a.rows.now) a.t.next (env_of a.r.now)) x
-exit_is c x =
-    let one = one_is (c) in
-    record {
-      tested = x.tested ∙ one.tested;
-      small = rw x.tested one.small;
-      mine = x.mine ∙ ap outer_of one.trip;
-      sets = λ w. ap (λ l. set_of l w) x.sets ∙ one.sets w;
-    }
+exit_is : {text : List ℕ} {rows : List Row} {count i : ℕ} {ρ : Env} {one : Loop} {counts : PassCounts} {x : Exit} → LoopAt text rows count i ρ one → ExitOf one counts x → ExitAt text rows count i ρ x
+exit_is one x = record {
+  tested = x.tested ∙ one.tested;
+  small = rw x.tested one.small;
+  mine = x.mine ∙ ap outer_of one.trip;
+  sets = λ w. ap (λ l. set_of l w) x.sets ∙ one.sets w;
+}
 
 inside-requires : tie.Need-inside-requires
 inside-requires c κs = (c.loop_at-one.ensures.small, c.at_start.ensures.long)
@@ -67,23 +69,24 @@ inside-requires c κs = (c.loop_at-one.ensures.small, c.at_start.ensures.long)
 returns : tie.Need-returns-in-Refused
 returns c =
     let i = c.args.t.next in
+    let one = one_is c.args.text.now (rows_of c.args.rows.now) (env_of c.args.r.now) c.at_start.ensures.value c.kind_at-kind.ensures c.loop_at-one.ensures in
     let f = subst (FigureOf (trip_of c.loop_at-one.result.trip)) c.in-Refused.is c.ask.ensures in
     λ os. record {
       begun = λ z. absurd (trip_number i (trip_of c.loop_at-one.result.trip) _ _ (f i) (sym (ap (λ (x : Tally). x.number) c.refused.ensures) ∙ z));
-      exit = exit_is c.before.before.before.before.before c.exit_of.ensures;
-      stopped = λ h. ap (of_trip i) (sym (one_is c.before.before.before.before.before).trip) ∙ f i ∙ (λ j. refused (sym c.refused.ensures j).number (sym c.refused.ensures j).place);
+      exit = exit_is one c.exit_of.ensures;
+      stopped = λ h. ap (of_trip i) (sym one.trip) ∙ f i ∙ (λ j. refused (sym c.refused.ensures j).number (sym c.refused.ensures j).place);
       whole = λ z. absurd (trip_number i (trip_of c.loop_at-one.result.trip) _ _ (f i) (sym (ap (λ (x : Tally). x.number) c.refused.ensures) ∙ z));
     }
 
 -- its figure: it has passed, and its turns
-figure : (c : tie.In-Turns) → FigureOf (trip_of c.loop_at-one.result.trip) (Figure.Turns c.in-Turns.turns)
-figure c = subst (FigureOf (trip_of c.loop_at-one.result.trip)) c.in-Turns.is c.ask.ensures
+figure : (τ : Trip) {f : Figure} {turns : ℕ} → f ≡ Figure.Turns turns → FigureOf τ f → FigureOf τ (Figure.Turns turns)
+figure τ e h = subst (FigureOf τ) e h
 
 walked-requires : tie.Need-walked-all-requires
 walked-requires c κs =
-    let s = c.before.before.before.before.before.before.before.before.before.before.before.before.before in
+    let s = c in
     let l = s.requires.0 in
-    (c.loop_at-one.ensures.near, (figure c.before).0, s.requires.1, (s.args.text.now, rw c.kind_at-kind.ensures (l.ready.written _ l.inside)))
+    (c.loop_at-one.ensures.near, (figure (trip_of c.loop_at-one.result.trip) c.in-Turns.is c.ask.ensures).0, s.requires.1, (s.args.text.now, rw c.kind_at-kind.ensures (l.ready.written _ l.inside)))
 
 times-requires : tie.Need-times-total-requires
 times-requires c κs = c.requires.1.small
@@ -94,7 +97,7 @@ body-requires c κs = (c.loop_at-one.ensures.near, c.loop_at-one.ensures.small, 
 -- the body's last row, in all passes that are walked
 last : (c : tie.After-struct_known-1) → c.body-inner.result.count * c.last_ticks.result ≤ 4_096 * 1_000
 last c =
-    let s = c.before.before.before.before.before.before.before.before.before.before.before.before.before.before.before.before.before.before in
+    let s = c in
     mul-le-mul c.body-inner.ensures.1.few (let z : c.last_ticks.result ≤ 1_000 = omega (arith, c.last_ticks.ensures s.args.text.now, last_small s.requires.2 s.args.text.now c.kind_at-kind.result) in z)
 
 mul-spent : tie.Need-overflow_mul-spent
@@ -110,8 +113,8 @@ returns_2 c = λ os.
     let rows = rows_of a.rows.now in
     let p = c.requires.0 in
     let r = a.round in
-    let one = one_is c.before.before.before.before.before.before.before.before.before.before.before.before.before.before.before in
-    let f = figure c.before.before.before.before.before.before.before.before.before.before.before.before in
+    let one = one_is text rows (env_of a.r.now) c.at_start.ensures.value c.kind_at-kind.ensures c.loop_at-one.ensures in
+    let f = figure (trip_of c.loop_at-one.result.trip) c.in-Turns.is c.ask.ensures in
     let kd = c.kind_at-kind.ensures in
     let tr = one.trip in
     let tu = f.1 ∙ ap turns_of tr in
@@ -125,8 +128,8 @@ returns_2 c = λ os.
     let n = c.body-inner.result.count in
     let k = c.pass_counts.ensures in
     record {
-      begun = λ z. record { long = c.inside.ensures.long; value = c.inside.ensures.value ∙ ap (widened c.loop_at-one.result (inner_of (trip_of c.loop_at-one.result.trip))) (begun c.before.before.before.before.before.before.before.before.before.before.before.before.before.before.before.before.before) ∙ inside_is one };
-      exit = exit_is c.before.before.before.before.before.before.before.before.before.before.before.before.before.before.before c.exit_of-exit.ensures;
+      begun = λ z. record { long = c.inside.ensures.long; value = c.inside.ensures.value ∙ ap (widened c.loop_at-one.result (inner_of (trip_of c.loop_at-one.result.trip))) (begun text rows a.t.next (env_of a.r.now) c.at_start.ensures.value kd) ∙ inside_is one };
+      exit = exit_is one c.exit_of-exit.ensures;
       stopped = λ h. absurd (h l.number);
       whole = λ z. record {
         verdict = ap (of_trip a.t.next) (sym tr) ∙ f.0 a.t.next;

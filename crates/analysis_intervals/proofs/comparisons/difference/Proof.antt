@@ -46,7 +46,7 @@ fit : (x y : ℤ) → Near 256 x → Near 256 y → Fit x y
 fit x y h k = record { first = omega ints; second = omega ints; apart = omega (ints, minus_parts x y) }
 
 -- both ends of the difference
-ends : (c : tie.In-Add-y) → let (a, (b, _)) = (c.in-Add.a, (c.in-Add.b, tt)) in let (d, (e, _)) = (c.in-Add-y.c, (c.in-Add-y.d, tt)) in Fit a e × Fit b d
+ends : (c : tie.In-Add-y) → let a = c.in-Add.a in let b = c.in-Add.b in let d = c.in-Add-y.c in let e = c.in-Add-y.d in Fit a e × Fit b d
 ends c =
     let s = c.before.before in
     let p = rw c.in-Add.is at s.requires.0 in

@@ -43,15 +43,15 @@ watched-way-requires c κs =
 
 returns_2 : tie.Need-returns-in-Copy
 returns_2 c = λ text p.
-    let (w, (x, (before, (after, _)))) = (c.in-Reads.w, (c.in-Reads.read, (c.in-Reads.before, (c.in-Reads.after, tt)))) in
+    let w = c.in-Reads.w in let x = c.in-Reads.read in let before = c.in-Reads.before in let after = c.in-Reads.after in
     let found = c.in-Reads.is ∙ ap (λ y. Sole.Reads w y before after) c.in-Copy.is in
     record { value = copy_breaks _ w (variable w) before after ∙ ap (hold_way _) (ap sole_is (sym found)) ∙ way_is_lem c.before.before text p; small = tt; moves = tt }
 
 returns_3 : tie.Need-returns-in-Off
 returns_3 c = λ text p.
     let r = c.watched_way.ensures text p.loop in
-    let (w, (x, (before, (after, _)))) = (c.in-Reads.w, (c.in-Reads.read, (c.in-Reads.before, (c.in-Reads.after, tt)))) in
-    let (d, (k, _)) = (c.in-Off.c, (c.in-Off.k, tt)) in
+    let w = c.in-Reads.w in let x = c.in-Reads.read in let before = c.in-Reads.before in let after = c.in-Reads.after in
+    let d = c.in-Off.c in let k = c.in-Off.k in
     let f : SFits w32 k = search rules in
     let found = c.in-Reads.is ∙ ap (λ y. Sole.Reads w y before after) c.in-Off.is in
     record {

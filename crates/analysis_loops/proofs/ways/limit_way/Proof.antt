@@ -10,7 +10,12 @@ use Prim.Native.Nat.{ℕ}
 use Rattle.rules.specs.Steps.{assigns}
 use Rattle.rules.specs.Trips.{keeps}
 use Rattle.rules.specs.Questions.{known}
-use Rattle.table.specs.Code.{rows_of}
+use Rattle.rules.specs.declared.Row.{Row}
+use Rattle.rules.specs.declared.Operand.TheVariants.{Variable}
+use Rattle.rules_steps.specs.declared.Step.{Step}
+use Rattle.table.specs.Code.{kind_at}
+use Rattle.analysis_loops.specs.declared.ways.LoopTest.{LoopTest}
+use Rattle.analysis_loops.specs.Heads.{HeadOf}
 use Rattle.table.proofs.Laws.{row_in}
 use Rattle.analysis_loops.specs.Ways.{ChaseAt, LimitAt}
 use Rattle.analysis_loops.proofs.WaysLaws.{constant_way, composed_way}
@@ -30,11 +35,10 @@ head-of-requires : tie.Need-head_of-head-requires
 head-of-requires c κs = let (text, p) = c.requires in rw c.kind_at-kind.ensures (p.loop.ready.fine _ p.loop.inside)
 
 -- the limit is the variable w
-chased : (c : tie.In-Variable-2) → let s = c.args in let rows = rows_of s.rows.now in (text : List ℕ) → LimitAt text rows s.count s.i s.step → ChaseAt text rows s.count s.i c.head_of-head.result s.step c.in-Variable.w
+chased : {text : List ℕ} {rows : List Row} {count i w : ℕ} {head : LoopTest} {step : Step} → HeadOf text (kind_at rows i) head → head.limit ≡ Variable w → LimitAt text rows count i step → ChaseAt text rows count i head step w
 unfolding expr_of
-chased c text p =
-    let h = rw c.kind_at-kind.ensures at (c.head_of-head.ensures text) in
-    let e = sym h.limit ∙ ap (expr_of text) c.in-Variable.is in
+chased {text} h o p =
+    let e = sym h.limit ∙ ap (expr_of text) o in
     record {
       loop = p.loop;
       form = p.form;
@@ -42,13 +46,13 @@ chased c text p =
       own = p.own;
       near = p.near;
       sure = p.sure;
-      small = rw c.in-Variable.is at h.fine;
+      small = rw o at h.fine;
       limit = e;
       changed = not_kept_lem _ e p.changed;
     }
 
 chased-way-requires : tie.Need-chased_way-requires
-chased-way-requires c κs = let (text, p) = c.requires in (text, chased c.before text p)
+chased-way-requires c κs = let (text, p) = c.requires in (text, chased (rw c.kind_at-kind.ensures at (c.head_of-head.ensures text)) c.in-Variable.is p)
 
 returns : tie.Need-returns-in-Constant
 unfolding expr_of
@@ -73,5 +77,5 @@ limit_way_spec =
     chased-way-requires
     (λ c. search rules)
     returns
-    (λ c. λ text p. c.chased_way.ensures text (chased c.before.before text p))
+    (λ c. λ text p. c.chased_way.ensures text (chased (rw c.kind_at-kind.ensures at (c.head_of-head.ensures text)) c.in-Variable.is p))
     returns_3)

@@ -48,7 +48,7 @@ returns_3 : tie.Need-returns-in-Copy
 returns_3 c = λ text p.
     let r = c.copied_way.ensures text p.loop in
     let h = rw c.kind_at-kind.ensures at (c.head_of-head.ensures text) in
-    let (w, (x, (before, (after, _)))) = (c.in-Reads.w, (c.in-Reads.read, (c.in-Reads.before, (c.in-Reads.after, tt)))) in
+    let w = c.in-Reads.w in let x = c.in-Reads.read in let before = c.in-Reads.before in let after = c.in-Reads.after in
     let found = c.in-Reads.is ∙ ap (λ y. Sole.Reads w y before after) c.in-Copy.is in
     record {
       value = r.value ∙ copy_way _ _ h.comparison w (variable w) before after ∙ ap (sole_way _ _) (ap sole_is (sym found)) ∙ way_is_lem c.before.before.before text p;
@@ -58,7 +58,7 @@ returns_3 c = λ text p.
 
 returns-4 : tie.Need-returns-in-Off
 returns-4 c = λ text p.
-    let (w, (x, (before, (after, _)))) = (c.in-Reads.w, (c.in-Reads.read, (c.in-Reads.before, (c.in-Reads.after, tt)))) in
+    let w = c.in-Reads.w in let x = c.in-Reads.read in let before = c.in-Reads.before in let after = c.in-Reads.after in
     let found = c.in-Reads.is ∙ ap (λ y. Sole.Reads w y before after) c.in-Off.is in
     record { value = off_way _ _ w w _ _ before after ∙ ap (sole_way _ _) (ap sole_is (sym found)) ∙ way_is_lem c.before.before text p; small = tt; moves = tt }
 

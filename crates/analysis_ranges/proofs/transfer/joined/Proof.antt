@@ -30,9 +30,9 @@ returns : tie.Need-returns invariant-loop-i decreases-loop-i
 returns c =
     let s = c.args in
     let e : c.loop-i.i ≡ 16 = omega arith in
-    let la : length s.t1 ≡ 16 = search rules in
-    let lb : length s.t2 ≡ 16 = search rules in
-    c.loop-i.invariant.1.value ∙ (rw e (up_all _ _ 16 (join_far s.t1 s.t2 la lb)))
+    let la : length s.a ≡ 16 = search rules in
+    let lb : length s.b ≡ 16 = search rules in
+    c.loop-i.invariant.1.value ∙ (rw e (up_all _ _ 16 (join_far s.a s.b la lb)))
 
 pub joined_spec : {M : Type 1} → statement M
 joined_spec = tie.close (tie.spec

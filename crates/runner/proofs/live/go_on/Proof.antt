@@ -2,7 +2,6 @@
 -- Assumes nothing.
 use mathlib.Core.Bool.{true, false}
 use mathlib.Core.Path.{◌≡◌, refl, sym, ◌∙◌, ap, subst}
-use mathlib.Core.Logic.{⊎_elim}
 use Prim.Native.Nat.{ℕ, ◌<◌, ◌≤◌}
 use native.Mathlib.Omega.{arith}
 use lib.ListN.{length}
@@ -21,6 +20,7 @@ use Rattle.runner.proofs.Goes.{put_keeps, full_listed, Firing, firing_start, Sto
 use Rattle.runner.specs.Goes.{stood_by}
 use Rattle.runner.proofs.live.go_on.Statement.{statement}
 use Rattle.runner.proofs.live.go_on.Tie as tie
+use Rattle.runner.proofs.live.go_on.Lts.{then-m, else-m+else-count-m+else-put}
 
 abbrev invariant-loop-m : tie.invariant-loop-m
 invariant-loop-m text rows from store₀ picks counts₀ cues₀ prices count m₀ limits₀ fired₀ store counts cues m limits fired =
@@ -104,33 +104,33 @@ done c =
     let l = c.loop-m in
     let ready = l.invariant.0 in
     let script = subst (Runs _ _ _) (sym l.invariant.1.vars) ready.script in
-    ⊎_elim {C = Done c}
-    (λ w.
-    let at = at_a_test _ _ _ _ _ _ _ ready l.m l.store l.counts l.invariant.1 w.0.taken in
-    let (s, k) = w.4.ensures in
-    rw (w.5, w.6, w.7, w.8, w.9, w.10) (
-      s _ _ at,
-      refl,
-      k.long,
-      λ g. test_limits _ _ _ _ _ _ _ ready l.m l.store l.counts l.invariant.1 l.limits l.invariant.2 l.invariant.3 _ _ _ w.0.taken (s _ _ at) k g,
-      (λ q. test_fires _ ready.price _ _ _ _ l.m l.store l.counts script _ l.cues l.fired (l.invariant.4 q) _ _ _ (s _ _ at) at.ends.end _ refl),
-      l.invariant.5,
-      l.invariant.6,
-    ))
-    (λ w.
-    let i : l.m.row < c.args.script.count = omega (arith, w.2.left) in
-    let s = w.10.ensures _ (at_row _ _ _ _ _ _ _ ready l.m l.store l.counts l.invariant.1 w.0.left i) in
-    let e : length w.10.last.1.1.1.1.0 ≡ length l.store = search rules in
-    rw (w.12, w.13, w.14, w.15, w.16, w.17) (
-      s,
-      e,
-      l.invariant.2,
-      λ g. row_limits _ _ _ _ _ _ _ ready l.m l.store l.counts l.invariant.1 l.limits l.invariant.2 l.invariant.3 _ _ _ e w.0.left s g,
-      (λ q. row_fires _ ready.price _ _ _ _ l.m l.store l.counts script _ l.cues l.fired (l.invariant.4 q) _ _ _ s i _ _ _ q w.4.ensures w.7.left _ refl),
-      (put_keeps l.cues _ w.4.ensures).0 ∙ l.invariant.5,
-      omega (arith, (put_keeps l.cues _ w.4.ensures).1 w.7.left (omega (arith, l.invariant.5, l.invariant.6)), l.invariant.5),
-    ))
-    c.if-m.branch
+    elim c.if-m.branch [
+      | then-m w ↦
+          let at = at_a_test _ _ _ _ _ _ _ ready l.m l.store l.counts l.invariant.1 w.if-m.true in
+          let (s, k) = w.test_row-m.ensures in
+          rw (w.fired-is, w.store-is, w.counts-is, w.cues-is, w.m-is, w.limits-is) (
+            s _ _ at,
+            refl,
+            k.long,
+            λ g. test_limits _ _ _ _ _ _ _ ready l.m l.store l.counts l.invariant.1 l.limits l.invariant.2 l.invariant.3 _ _ _ w.if-m.true (s _ _ at) k g,
+            (λ q. test_fires _ ready.price _ _ _ _ l.m l.store l.counts script _ l.cues l.fired (l.invariant.4 q) _ _ _ (s _ _ at) at.ends.end _ refl),
+            l.invariant.5,
+            l.invariant.6,
+          )
+      | else-m+else-count-m+else-put w ↦
+          let i : l.m.row < c.args.script.count = omega (arith, w.if-count-m.false) in
+          let s = w.act-m.ensures _ (at_row _ _ _ _ _ _ _ ready l.m l.store l.counts l.invariant.1 w.if-m.false i) in
+          let e : length w.act-m.new.store ≡ length l.store = search rules in
+          rw (w.fired-is, w.store-is, w.counts-is, w.cues-is, w.m-is, w.limits-is) (
+            s,
+            e,
+            l.invariant.2,
+            λ g. row_limits _ _ _ _ _ _ _ ready l.m l.store l.counts l.invariant.1 l.limits l.invariant.2 l.invariant.3 _ _ _ e w.if-m.false s g,
+            (λ q. row_fires _ ready.price _ _ _ _ l.m l.store l.counts script _ l.cues l.fired (l.invariant.4 q) _ _ _ s i _ _ _ q w.put_cue-put.ensures w.if-put.false _ refl),
+            (put_keeps l.cues _ w.put_cue-put.ensures).0 ∙ l.invariant.5,
+            omega (arith, (put_keeps l.cues _ w.put_cue-put.ensures).1 w.if-put.false (omega (arith, l.invariant.5, l.invariant.6)), l.invariant.5),
+          )
+    ]
 
 -- over
 over_there : (c : tie.After-stopped-then-not-going invariant-loop-m decreases-loop-m)

@@ -1,0 +1,280 @@
+-- `analysis::walk` and the functions for a block, which call it, meet their contracts.
+use borrow.Author.Rules.{rules}
+use borrow.Enum.Refused.{opened}
+use native.Mathlib.Omega.{arith}
+use Prim.Native.Nat.{ℕ, ◌+◌}
+use mathlib.Core.Path.{◌≡◌, refl, sym, ap, subst, ◌∙◌}
+use mathlib.Core.Bool.{not, ◌&&◌}
+use mathlib.Core.List.{[]}
+use Rattle.rules.specs.Steps.{starts}
+use Rattle.rules.specs.Questions.{loops_verdict}
+use Rattle.table.specs.Code.{kind_at, rows_of}
+use Rattle.table.proofs.Laws.{row_in}
+use Rattle.analysis_steps.specs.Tree.{block_at, form_of, test_of}
+use Rattle.analysis_steps.specs.Sets.{set_of}
+use Rattle.analysis_steps.proofs.Walking.{ready, begin, pick_at, loop_at, at_close, at_last}
+use Rattle.analysis_intervals.specs.Env.{env_of, range_of}
+use Rattle.analysis_ranges.specs.Env.{widened_env}
+use Rattle.analysis_ranges.proofs.Loops.{outside_after}
+use Rattle.analysis.specs.Tallies.{with_lent}
+use Rattle.analysis.specs.Fold.{IsBlock}
+use Rattle.analysis.proofs.Folding.{fold_none}
+use Rattle.analysis.proofs.Going.{block_shape, loop_shape_lem, refused_in, closing, restart_walkable, walked_from, room, go_plain, go_block, block_stops, pick_room, pick_first, pick_second, part_by, past_pick_lem, loop_room, loop_refused, body_refused, body_walkable, body_by, past_loop_lem}
+use Rattle.analysis.proofs.+walk_walk_block_walk_loop_walk_pick.Goals as goal
+
+-- ---- a pick: its first part is closed at m, its second one starts at q and ends at e
+pub walk_pick-branch-part-requires : goal.walk_pick-branch-part-requires
+walk_pick-branch-part-requires t c = c.requires.walk.fine
+
+pub walk_pick-overflow_add-t : goal.walk_pick-overflow_add-t
+walk_pick-overflow_add-t t c = let f = c.requires.walk.ready.few in let l = c.requires.inside in search rules
+
+pub walk_pick-walk-a-requires : goal.walk_pick-walk-a-requires
+walk_pick-walk-a-requires t c =
+    let s = c.requires in
+    let a = c.args in
+    let u = pick_at _ _ _ s.inside s.walk.ready.built s.is refl refl refl in
+    let h = pick_room a.script.prices a.round (env_of a.r.now) (with_lent a.t a.lines.now a.own.now) u s.walk.room in
+    (omega (arith, s.inside, (c.restarted-begun.ensures [] []).next), (restart_walkable (ready s.walk.ready (omega (arith, s.inside))) s.walk.prices c.branch-part.ensures.1 (c.restarted-begun.ensures _ _) s.walk.long (omega arith) (omega arith), s.long))
+
+pub walk_pick-returns-then-a-ne0 : goal.walk_pick-returns-then-a-ne0
+walk_pick-returns-then-a-ne0 t c =
+    let s = c.requires in
+    let a = c.args in
+    let u = pick_at _ _ _ s.inside s.walk.ready.built s.is refl refl refl in
+    record {
+      stopped = λ h. pick_first a.script.prices a.round (env_of a.r.now) (with_lent a.t a.lines.now a.own.now) u _ _ (refused_in (walked_from (c.restarted-begun.ensures [] []).next c.walk-a.ensures) h);
+      whole = λ z. absurd (c.if-a-ne0.true z);
+    }
+
+pub walk_pick-past_else-requires : goal.walk_pick-past_else-requires
+walk_pick-past_else-requires t c =
+    let s = c.requires in
+    let p = (walked_from (c.restarted-begun.ensures [] []).next c.walk-a.ensures).whole c.if-a-ne0.false in
+    let k = pick_at _ _ _ s.inside s.walk.ready.built s.is p.place refl refl in
+    let f = s.walk.ready.reach in
+    row_in c.args.rows.now _ (omega arith)
+
+pub walk_pick-walk-b-requires : goal.walk_pick-walk-b-requires
+walk_pick-walk-b-requires t c =
+    let s = c.requires in
+    let a = c.args in
+    let π = a.script.prices in
+    let ρ = env_of a.r.now in
+    let x = with_lent a.t a.lines.now a.own.now in
+    let p = (walked_from (c.restarted-begun.ensures [] []).next c.walk-a.ensures).whole c.if-a-ne0.false in
+    let u = pick_at _ _ _ s.inside s.walk.ready.built s.is p.place c.past_else.ensures refl in
+    let h = pick_room π a.round ρ x u s.walk.room in
+    let n = (part_by π a.round ρ x u c.branch-part.ensures.0 (c.restarted-begun.ensures _ _) p).count in
+    (omega (arith, s.inside, u.first, u.second, u.last, (c.restarted-again.ensures [] []).next), (restart_walkable (ready s.walk.ready u.some) s.walk.prices c.branch-part.ensures.1 (c.restarted-again.ensures _ _) p.long (omega arith) (omega arith), s.long))
+
+pub walk_pick-returns-then-b-ne0 : goal.walk_pick-returns-then-b-ne0
+walk_pick-returns-then-b-ne0 t c =
+    let s = c.requires in
+    let a = c.args in
+    let π = a.script.prices in
+    let ρ = env_of a.r.now in
+    let x = with_lent a.t a.lines.now a.own.now in
+    let p = (walked_from (c.restarted-begun.ensures [] []).next c.walk-a.ensures).whole c.if-a-ne0.false in
+    let u = pick_at _ _ _ s.inside s.walk.ready.built s.is p.place c.past_else.ensures refl in
+    let n = part_by π a.round ρ x u c.branch-part.ensures.0 (c.restarted-begun.ensures _ _) p in
+    record {
+      stopped = λ h. pick_second π a.round ρ x u _ _ n.verdict (refused_in (walked_from (c.restarted-again.ensures [] []).next c.walk-b.ensures) h);
+      whole = λ z. absurd (c.if-b-ne0.true z);
+    }
+
+pub walk_pick-leave_pick-requires : goal.walk_pick-leave_pick-requires
+walk_pick-leave_pick-requires t c =
+    let s = c.requires in
+    let w = s.walk in
+    let p = (walked_from (c.restarted-begun.ensures [] []).next c.walk-a.ensures).whole c.if-a-ne0.false in
+    let q = (walked_from (c.restarted-again.ensures [] []).next c.walk-b.ensures).whole c.if-b-ne0.false in
+    let u = pick_at _ _ _ s.inside w.ready.built s.is p.place c.past_else.ensures q.place in
+    let f = w.ready.few in
+    (w.prices.pick.small, omega arith, w.small, p.small, q.small)
+
+pub walk_pick-returns : goal.walk_pick-returns
+walk_pick-returns t c =
+    let s = c.requires in
+    let a = c.args in
+    let π = a.script.prices in
+    let ρ = env_of a.r.now in
+    let x = with_lent a.t a.lines.now a.own.now in
+    let p = (walked_from (c.restarted-begun.ensures [] []).next c.walk-a.ensures).whole c.if-a-ne0.false in
+    let q = (walked_from (c.restarted-again.ensures [] []).next c.walk-b.ensures).whole c.if-b-ne0.false in
+    let u = pick_at _ _ _ s.inside s.walk.ready.built s.is p.place c.past_else.ensures q.place in
+    record {
+      stopped = λ h. absurd (h (c.leave_pick.ensures [] [] []).number);
+      whole = λ z.
+          past_pick_lem π a.round ρ x u
+          (part_by π a.round ρ x u c.branch-part.ensures.0 (c.restarted-begun.ensures _ _) p)
+          (part_by π a.round ρ x u c.branch-part.ensures.0 (c.restarted-again.ensures _ _) q)
+          (c.leave_pick.ensures _ _ _)
+          (record { long = search rules; value = c.joined-x.ensures });
+    }
+
+-- ---- a loop that ends at row e
+pub walk_loop-enter_loop-entered-requires : goal.walk_loop-enter_loop-entered-requires
+walk_loop-enter_loop-entered-requires t c =
+    let s = c.requires in
+    let a = c.args in
+    let w = s.walk in
+    let u = loop_at _ _ _ s.inside w.ready.built s.is refl in
+    (record { ready = w.ready; inside = s.inside; loops = s.is }, w.fine, w.prices, omega (arith, loop_room a.script.prices a.round (env_of a.r.now) (with_lent a.t a.lines.now a.own.now) u w.room), w.long, s.long)
+
+pub walk_loop-returns-then-first-ne0 : goal.walk_loop-returns-then-first-ne0
+walk_loop-returns-then-first-ne0 t c =
+    let s = c.requires in
+    let a = c.args in
+    let u = loop_at _ _ _ s.inside s.walk.ready.built s.is refl in
+    record {
+      stopped = λ h. loop_refused a.script.prices a.round (env_of a.r.now) (with_lent a.t a.lines.now a.own.now) u _ _ ((c.enter_loop-entered.ensures a.own.now).stopped h);
+      whole = λ z. absurd (c.if-first-ne0.true z);
+    }
+
+pub walk_loop-walk-body-requires : goal.walk_loop-walk-body-requires
+walk_loop-walk-body-requires t c =
+    let s = c.requires in
+    let a = c.args in
+    let e = c.enter_loop-entered in
+    let n = (e.ensures a.own.now).whole c.if-first-ne0.false in
+    let w = s.walk in
+    let u = loop_at _ _ _ s.inside w.ready.built s.is refl in
+    (omega (arith, s.inside, n.lined.next), (body_walkable a.script.prices a.round (env_of a.r.now) (with_lent a.t a.lines.now a.own.now) u e.result n (ready w.ready (omega (arith, s.inside))) w.prices w.room, ((e.ensures []).begun c.if-first-ne0.false).long))
+
+pub walk_loop-returns-then-body-ne0 : goal.walk_loop-returns-then-body-ne0
+walk_loop-returns-then-body-ne0 t c =
+    let s = c.requires in
+    let a = c.args in
+    let e = c.enter_loop-entered.ensures a.own.now in
+    let l = c.if-first-ne0.false in
+    let rows = rows_of a.rows.now in
+    let u = loop_at _ _ _ s.inside s.walk.ready.built s.is refl in
+    record {
+      stopped = λ h.
+          body_refused a.script.prices a.round (env_of a.r.now) (with_lent a.t a.lines.now a.own.now) u _ _ (e.whole l).verdict
+          (sym (ap (λ ρ. loops_verdict ρ (block_at a.text.now rows a.script.count (a.t.next + 1))) (e.begun l).value) ∙ refused_in (walked_from (e.whole l).lined.next c.walk-body.ensures) h);
+      whole = λ z. absurd (c.if-body-ne0.true z);
+    }
+
+pub walk_loop-leave_loop-left-requires : goal.walk_loop-leave_loop-left-requires
+walk_loop-leave_loop-left-requires t c =
+    let s = c.requires in
+    let e = c.enter_loop-entered.ensures [] in
+    let l = c.if-first-ne0.false in
+    let w = s.walk in
+    let n = e.whole l in
+    let p = (walked_from ((c.enter_loop-entered.ensures c.args.own.now).whole l).lined.next c.walk-body.ensures).whole c.if-body-ne0.false in
+    let u = loop_at _ _ _ s.inside w.ready.built s.is p.place in
+    let f = w.ready.few in
+    (row_in c.args.rows.now _ (omega (arith, s.inside, w.ready.reach)), e.exit.small, omega arith, w.small, p.small, (e.begun l).long, w.prices, w.fine, omega (arith, n.ran.tests, n.fine.few))
+
+pub walk_loop-returns : goal.walk_loop-returns
+walk_loop-returns t c =
+    let s = c.requires in
+    let a = c.args in
+    let e = c.enter_loop-entered.ensures a.own.now in
+    let one = c.enter_loop-entered.result in
+    let l = c.if-first-ne0.false in
+    let x = e.exit in
+    let k = kind_at (rows_of a.rows.now) a.t.next in
+    let text = a.text.now in
+    let v = a.round.v in
+    let left = c.leave_loop-left.ensures in
+    let p = (walked_from (e.whole l).lined.next c.walk-body.ensures).whole c.if-body-ne0.false in
+    record {
+      stopped = λ h. absurd (h (left.closed text c.walk-body.result.spent (omega (arith, p.small)) [] [] []).number);
+      whole = λ z.
+          let u = loop_at _ _ _ s.inside s.walk.ready.built s.is p.place in
+          let n = e.whole l in
+          past_loop_lem a.script.prices a.round (env_of a.r.now) (with_lent a.t a.lines.now a.own.now) u one n
+          (body_by a.script.prices a.round (env_of a.r.now) (with_lent a.t a.lines.now a.own.now) u one n (e.begun l).value p)
+          (λ G h. left.closed text G h _ _ _)
+          (ap (λ b. (a.t.kept && not (starts v (form_of text k) (test_of text k))) && not b) (x.sets v))
+          (record {
+            long = left.env.long;
+            value = left.env.value ∙ ap (widened_env (set_of one.exit.set) (range_of one.exit.mine) one.exit.tested) (e.begun l).value ∙ outside_after (form_of text k) _ (test_of text k) _ x.sets x.mine x.tested;
+          })
+          (λ h. c.to_note-unknown.ensures (search rules))
+          c.put_own.ensures;
+    }
+
+-- ---- a pick or a loop
+pub walk_block-shape_at-requires : goal.walk_block-shape_at-requires
+walk_block-shape_at-requires t c = let a = c.requires.0 in let f = a.walk.ready.reach in let l = a.inside in row_in c.args.rows.now _ (omega arith)
+
+pub walk_block-walk_pick-requires : goal.walk_block-walk_pick-requires
+walk_block-walk_pick-requires t c =
+    let a = c.requires.0 in
+    (omega arith, record { walk = a.walk; inside = a.inside; is = sym c.shape_at.ensures ∙ c.in-Branch.is; long = a.long })
+
+pub walk_block-walk_loop-requires : goal.walk_block-walk_loop-requires
+walk_block-walk_loop-requires t c =
+    let a = c.requires.0 in
+    let e = c.shape_at.ensures in
+    (omega arith, record { walk = a.walk; inside = a.inside; is = sym e ∙ loop_shape_lem _ (opened c.in_default.in_default-own.keys2) (subst IsBlock (sym e) c.requires.1); long = a.long })
+
+-- ---- the walk
+pub walk-loop-t-init : goal.walk-loop-t-init
+walk-loop-t-init t c = let w = c.requires.0 in (search rules, refl, record { walk = begin _ _ _ _ _ w.ready.within; number = w.number; small = w.small; long = w.long })
+
+pub walk-shape_at-requires : goal.walk-shape_at-requires
+walk-shape_at-requires t c = let l = c.loop-t-test.true in let k = c.requires.0.ready in row_in c.args.rows.now _ (search rules)
+
+pub walk-step_row-requires : goal.walk-step_row-requires
+walk-step_row-requires t c =
+    let k = c.requires.0.ready in
+    let l = c.loop-t-test.true in
+    (row_in c.args.rows.now _ (search rules), k.fine _ l, sym c.shape_at.ensures ∙ c.in-Plain.is, c.loop-t.invariant.0, k.written _ l)
+
+pub walk-past_row-t-requires : goal.walk-past_row-t-requires
+walk-past_row-t-requires t c =
+    let w = c.requires.0 in
+    ((row_in c.args.rows.now _ (search rules), sym c.shape_at.ensures ∙ c.in-Plain.is), w.prices, w.fine, c.loop-t.invariant.2.small)
+
+pub walk-loop-t-smaller-in-Plain : goal.walk-loop-t-smaller-in-Plain
+walk-loop-t-smaller-in-Plain t c = let e = (c.past_row-t.ensures [] [] []).next in let l = c.loop-t-test.true in search rules
+
+pub walk-loop-t-preserved-in-Plain : goal.walk-loop-t-preserved-in-Plain
+walk-loop-t-preserved-in-Plain t c =
+    (c.step_row.ensures.long, c.loop-t.invariant.1, go_plain c.loop-t.invariant.2 c.loop-t-test.true c.requires.0.ready.built (sym c.shape_at.ensures ∙ c.in-Plain.is) c.step_row.ensures.value (c.past_row-t.ensures _ _ _))
+
+pub walk-walk_block-t-requires : goal.walk-walk_block-t-requires
+walk-walk_block-t-requires t c =
+    let w = c.requires.0 in
+    let k = c.loop-t.invariant.2 in
+    let l = c.loop-t-test.true in (
+      omega (arith, k.walk.low),
+      (
+        record { walk = record { ready = ready w.ready k.walk.high; prices = w.prices; number = k.number; small = k.small; fine = w.fine; room = omega (arith, room k, w.room); long = k.long }; inside = l; is = refl; long = c.loop-t.invariant.0 },
+        subst IsBlock c.shape_at.ensures (block_shape _ c.in_default.in_default-own.keys3),
+      ),
+    )
+
+pub walk-returns-then-t-ne0 : goal.walk-returns-then-t-ne0
+walk-returns-then-t-ne0 t c = record {
+  stopped = λ h. block_stops c.loop-t.invariant.2 _ _ (c.walk_block-t.ensures.stopped h);
+  whole = λ z. absurd (c.if-t-ne0.true z);
+}
+
+pub walk-loop-t-smaller : goal.walk-loop-t-smaller
+walk-loop-t-smaller t c = let p = c.walk_block-t.ensures.whole c.if-t-ne0.false in let l = c.loop-t-test.true in search rules
+
+pub walk-loop-t-preserved : goal.walk-loop-t-preserved
+walk-loop-t-preserved t c = let p = c.walk_block-t.ensures.whole c.if-t-ne0.false in (p.env_long, search rules, go_block c.loop-t.invariant.2 c.if-t-ne0.false p)
+
+pub walk-returns-in-Close : goal.walk-returns-in-Close
+walk-returns-in-Close t c =
+    let k = c.loop-t.invariant.2 in
+    record {
+      stopped = λ h. absurd (h k.number);
+      whole = λ z. closing (at_close _ _ _ _ _ (fold_none _ _ _ k.small) k.walk c.loop-t-test.true c.requires.0.ready.built (sym c.shape_at.ensures ∙ c.in-Close.is)) k.small k.long c.loop-t.invariant.0;
+    }
+
+pub walk-returns : goal.walk-returns
+walk-returns t c =
+    let k = c.loop-t.invariant.2 in
+    record {
+      stopped = λ h. absurd (h k.number);
+      whole = λ z. closing (at_last _ _ _ _ _ (fold_none _ _ _ k.small) k.walk c.requires.0.ready.built c.loop-t-test.false) k.small k.long c.loop-t.invariant.0;
+    }
