@@ -8,7 +8,7 @@ use native.Mathlib.Numerals.{add-one}
 use lib.Dec.{T, leb, eqb}
 use lib.ListN.{length, get_or, drop, drop_of_length-le, get_or-eq_default}
 use lib.Seq.{drop-cons}
-use borrow.Author.Tests.{leb-true, leb-false, eqb-true, eqb-false, ne_eqb}
+use borrow.Author.Tests.{leb-true, leb-false, eqb-true, eqb-false, eq-eqb, ne_eqb}
 use Rattle.ints.proofs.Diffs.{cond_elim}
 use Rattle.rules.specs.declared.Word.{Word}
 use Rattle.rules.specs.declared.Operator.{Operator}
@@ -218,3 +218,10 @@ cut_member set h n = by (leb n 2_000_000_001) refl
     by : (t : Bool) → leb n 2_000_000_001 ≡ t → get_or set (min n 2_000_000_001) false ≡ get_or set n false
     by true e = ap (λ m. get_or set m false) (let l = leb-true n 2_000_000_001 e in let q : min n 2_000_000_001 ≡ n = omega arith in q)
     by false e = let l = leb-false n 2_000_000_001 e in get_or-eq_default set false {n = min n 2_000_000_001} (omega arith) ∙ sym (get_or-eq_default set false {n = n} (omega arith))
+
+-- a `v` and a number: is the variable in the set? No other byte names one
+pub names_variable : (set : List Bool) → length set ≡ 16 → (b v n : ℕ) → b ≡ 118 → v ≡ min n ceiling → get_or set v false ≡ eqb b 118 && get_or set n false
+names_variable set h b v n e f = rw (eq-eqb b 118 e, f) (cut_member set h n)
+
+pub names_nothing : (b : ℕ) (t : Bool) → (b ≡ 118 → ⊥) → false ≡ eqb b 118 && t
+names_nothing b t h = rw (ne_eqb b 118 h)

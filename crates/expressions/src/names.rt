@@ -21,6 +21,7 @@ fn member(set: [bool; 16], w: u32) -> bool
 }
 
 // Does a variable of the set stand at i: a `v` and its number?
+#[tactic(auto, using(crate::proofs::Keeping::names_variable, crate::proofs::Keeping::names_nothing))]
 fn names(word: &[u8], i: usize, set: [bool; 16]) -> bool
     requires { i < length word.now }
     ensures { result ≡ eqb (get_or word.now i 0) 118 && get_or set (digit_value 0 (drop (i + 1) word.now)) false }

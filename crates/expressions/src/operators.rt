@@ -91,6 +91,7 @@ pub fn joined(op: u8, a: PartRange, b: PartRange) -> PartRange
 }
 
 // + or -
+#[tactic(auto, unfolding(crate::specs::Operators::is_sum))]
 pub fn sums(b: u8) -> bool
     ensures { result ≡ is_sum b }
 {

@@ -1,7 +1,7 @@
 use mathlib.Core.Path.{◌≡◌, sym, ◌∙◌}
 use mathlib.Core.List.{List}
 use Prim.Native.Nat.{ℕ}
-use lib.ListN.{length}
+use lib.ListN.{length, get_or}
 use Rattle.reading.proofs.TextLaws.{digits_many, natural_other, natural_none, natural_one, natural_zero, natural_long, front_at, front_length, stop_within}
 use Rattle.reading.specs.Words.{front}
 use Rattle.reading.specs.declared.text.DigitsRead.{DigitsRead}
@@ -35,19 +35,6 @@ shared-slice-read-if3 c = let d = c.before.before.before.before in
     let m = many d _ _ c.in-Of.is in
     omega (arith, m, c.if-n-eq0.false, front_length (text d), stop_within (text d))
 
-returns-4 : tie.Need-returns-then-s-eq48
-returns-4 c = let d = c.before.before.before.before.before in
-    let m = many d _ _ c.in-Of.is in
-    let f = front_at (text d) 0 (omega (arith, m, c.if-n-eq0.false, front_length (text d))) in
-    natural_zero (front (text d)) (omega (arith, m, c.if-n-eq0.false, c.if-n-eq1.false)) (f ∙ c.if-s-eq48.true)
-
-returns-5 : tie.Need-returns
-returns-5 c = let d = c.before.before.before.before.before in
-    let e = c.in-Of.is in
-    let m = many d _ _ e in
-    let f = front_at (text d) 0 (omega (arith, m, c.if-n-eq0.false, front_length (text d))) in
-    sym e ∙ d.digits-d.ensures ∙ natural_long (front (text d)) (λ z. c.if-s-eq48.false (sym f ∙ z)) (λ (z : length (front (text d)) ≡ 0). omega (arith, m, c.if-n-eq0.false))
-
 pub natural_spec : {M : Type 1} → statement M
 natural_spec =
     tie.close
@@ -57,5 +44,16 @@ natural_spec =
     returns_2
     returns_3
     shared-slice-read-if3
-    returns-4
-    returns-5)
+    -- a leading zero
+    (λ c. let d = c.before.before.before.before.before in
+    let m = many d _ _ c.in-Of.is in
+    let f = front_at (text d) 0 (omega (arith, m, c.if-n-eq0.false, front_length (text d))) in
+    let z : get_or (text d) 0 0 ≡ 48 = search rules in
+    natural_zero (front (text d)) (omega (arith, m, c.if-n-eq0.false, c.if-n-eq1.false)) (f ∙ z))
+    -- any other digit
+    (λ c. let d = c.before.before.before.before.before in
+    let e = c.in-Of.is in
+    let m = many d _ _ e in
+    let f = front_at (text d) 0 (omega (arith, m, c.if-n-eq0.false, front_length (text d))) in
+    let o : get_or (text d) 0 0 ≡ 48 → ⊥ = search rules in
+    sym e ∙ d.digits-d.ensures ∙ natural_long (front (text d)) (λ z. o (sym f ∙ z)) (λ (z : length (front (text d)) ≡ 0). omega (arith, m, c.if-n-eq0.false))))
