@@ -1,5 +1,6 @@
 // Bytes of one slice into another, and the place of a byte in a slice.
 #![tactic(auto)]
+
 ghost use Rattle.std.specs.Prelude.{◌≡◌, ℕ, ◌<◌, ◌≤◌, ◌≢◌, ◌++◌, length, drop, slice_index};
 
 // Copies all bytes of a slice to the start of another, and answers how many there are.

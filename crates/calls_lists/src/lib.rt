@@ -1,5 +1,6 @@
 // The lists of lengths by which several scripts' files, stores and picks are lent end to end: question 20, and the part of one script.
 #![tactic(auto)]
+
 ghost use Rattle.std.specs.Prelude.{◌≡◌, ◌&&◌, ◌<◌, ◌^◌, eqb, length};
 ghost use Rattle.rules_frames.specs.Frames.{total, within, fitting};
 ghost use Rattle.calls_lists.specs.Parts.{lent_of, ExtentOf};
@@ -54,8 +55,7 @@ pub fn fitting(
     pick_lengths: &[usize],
     q: u64,
 ) -> bool
-    ensures {
-        result ≡ fitting
+    ensures { result ≡ fitting
         (lent_of files.now file_lengths.now stores.now store_lengths.now
         picks.now pick_lengths.now)
         q }

@@ -1,5 +1,6 @@
 // The blocks that are open before a line, by the lines of the file.
 use crate::marked::{print_file_line, span_of};
+use host::Host;
 use ints::min_max::smaller_size;
 use program_parts::{print_number, print_text};
 use program_words::is_word;
@@ -83,15 +84,18 @@ fn head_before(file: &[u8], first: usize, place: usize) -> usize {
 }
 
 // The block that is open before line `place`, from 1, of a file of V variables.
-pub fn print_open(file: &[u8], vars: u32, place: usize) {
+pub fn print_open(host: &impl Host, file: &[u8], vars: u32, place: usize) {
     let last = place - smaller_size(place, 1);
     let head = head_before(file, 3 + vars as usize, last);
     if head >= last {
-        print_text(b"  no block is open before this line\n");
+        print_text(host, b"  no block is open before this line\n");
         return;
     }
-    print_text(b"  the innermost block that is open before this line begins on line ");
-    print_number((head + 1) as u64);
-    print_text(b"\n");
-    print_file_line(file, head);
+    print_text(
+        host,
+        b"  the innermost block that is open before this line begins on line ",
+    );
+    print_number(host, (head + 1) as u64);
+    print_text(host, b"\n");
+    print_file_line(host, file, head);
 }

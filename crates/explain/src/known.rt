@@ -3,6 +3,7 @@ ghost use Rattle.std.specs.Prelude.{◌+◌, ◌*◌, ◌≤◌, ◌<◌, length
 
 use crate::terms::{Deed, first_row};
 use expressions::leaves::digits_at;
+use host::Host;
 use ints::min_max::smaller_size;
 use program_parts::{print_number, print_text};
 use rules::{Comparison, Kind, Operand};
@@ -92,18 +93,19 @@ fn is_wide(range: [i32; 2]) -> bool {
 }
 
 // That v is not known, and what helps.
-fn print_variable(v: u8, declared: [i32; 2]) {
-    print_text(b"        v");
-    print_number(v as u64);
-    print_text(b" is not known here (-L to L): ");
+fn print_variable(host: &impl Host, v: u8, declared: [i32; 2]) {
+    print_text(host, b"        v");
+    print_number(host, v as u64);
+    print_text(host, b" is not known here (-L to L): ");
     if is_wide(declared) {
-        print_text(b"give it a narrower range= or ");
+        print_text(host, b"give it a narrower range= or ");
     }
-    print_text(b"set it before the loop\n");
+    print_text(host, b"set it before the loop\n");
 }
 
 // A line for each variable of the sum of 2^v that the loop is counted from.
 pub fn print_unknown(
+    host: &impl Host,
     file: &[u8],
     rows: &[u32],
     head: usize,
@@ -117,7 +119,7 @@ pub fn print_unknown(
     for v in 0..16 {
         if rest % 2 == 1 {
             if rests_on(file, rows, head, end, v) {
-                print_variable(v, ranges[v as usize]);
+                print_variable(host, v, ranges[v as usize]);
             }
         }
         rest /= 2;

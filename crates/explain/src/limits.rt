@@ -3,6 +3,7 @@ ghost use Rattle.std.specs.Prelude.{◌≤◌, ◌<◌, length};
 
 use crate::marked::print_marked;
 use expressions::leaves::{digits_at, is_digit};
+use host::Host;
 use line_causes::LineKind;
 use program_parts::{print_number, print_text};
 use reading::text::{position, starts_with};
@@ -169,49 +170,49 @@ fn step_at(line: &[u8]) -> usize
 }
 
 // A number outside its limits, marked, and the limits.
-fn print_outside(line: &[u8], at: usize, limits: Limits) {
-    print_marked(line, at);
-    print_text(b"\ncause\n  this number is not from ");
+fn print_outside(host: &impl Host, line: &[u8], at: usize, limits: Limits) {
+    print_marked(host, line, at);
+    print_text(host, b"\ncause\n  this number is not from ");
     if limits.minus {
-        print_text(b"-");
-        print_number(limits.high as u64);
+        print_text(host, b"-");
+        print_number(host, limits.high as u64);
     } else {
-        print_number(limits.low as u64);
+        print_number(host, limits.low as u64);
     }
-    print_text(b" to ");
-    print_number(limits.high as u64);
-    print_text(b"\n");
+    print_text(host, b" to ");
+    print_number(host, limits.high as u64);
+    print_text(host, b"\n");
 }
 
 // The step of a for, or a range that begins above its end.
-fn print_others(kind: LineKind, line: &[u8]) {
+fn print_others(host: &impl Host, kind: LineKind, line: &[u8]) {
     match kind {
         LineKind::Row => {
             let step = step_at(line);
             let limits = amounts(line, step);
-            print_outside(line, first_outside(line, step, false, limits), limits);
+            print_outside(host, line, first_outside(line, step, false, limits), limits);
         }
         _ => {
             let second = position(line, b' ');
-            print_marked(line, second);
-            print_text(b"\ncause\n  the range begins above its end\n");
+            print_marked(host, line, second);
+            print_text(host, b"\ncause\n  the range begins above its end\n");
         }
     }
 }
 
 // What is wrong with a line that 4 refuses.
-pub fn print_limits(kind: LineKind, line: &[u8]) {
+pub fn print_limits(host: &impl Host, kind: LineKind, line: &[u8]) {
     let limits = limits_of(kind, line);
     let at = first_outside(line, 0, false, limits);
     if at < line.len() {
-        print_outside(line, at, limits);
+        print_outside(host, line, at, limits);
         return;
     }
-    print_others(kind, line);
+    print_others(host, kind, line);
 }
 
 // What is wrong with a line that 5 refuses, in a file of V variables.
-pub fn print_variable(line: &[u8], vars: u32) {
+pub fn print_variable(host: &impl Host, line: &[u8], vars: u32) {
     let at = first_outside(
         line,
         4,
@@ -222,8 +223,8 @@ pub fn print_variable(line: &[u8], vars: u32) {
             high: if vars > 0 { vars - 1 } else { 0 },
         },
     );
-    print_marked(line, at);
-    print_text(b"\ncause\n  this variable is not below V: vars=");
-    print_number(vars as u64);
-    print_text(b"\n");
+    print_marked(host, line, at);
+    print_text(host, b"\ncause\n  this variable is not below V: vars=");
+    print_number(host, vars as u64);
+    print_text(host, b"\n");
 }

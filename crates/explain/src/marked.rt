@@ -3,6 +3,7 @@ ghost use Rattle.std.specs.Prelude.{◌≤◌, length};
 
 use crate::show::{print_shown, print_spaces};
 use explain_margin::{LinePlace, line_of};
+use host::Host;
 use ints::min_max::smaller_size;
 use program_parts::print_text;
 
@@ -27,37 +28,37 @@ fn first_shown(length: usize, at: usize) -> usize
 }
 
 // The line, cut round byte `at`, and where that byte stands.
-fn print_cut(line: &[u8], at: usize) -> usize
+fn print_cut(host: &impl Host, line: &[u8], at: usize) -> usize
     ensures { result ≤ at }
 {
     let from = first_shown(line.len(), at);
     let to = from + smaller_size(ROOM, line.len() - from);
-    print_spaces(INDENT);
+    print_spaces(host, INDENT);
     if from > 0 {
-        print_text(b"..");
+        print_text(host, b"..");
     }
-    print_shown(&line[from..to]);
+    print_shown(host, &line[from..to]);
     if to < line.len() {
-        print_text(b"..");
+        print_text(host, b"..");
     }
-    print_text(b"\n");
+    print_text(host, b"\n");
     from
 }
 
 // The same, and `^` under the byte.
-pub fn print_marked(line: &[u8], at: usize) {
-    let from = print_cut(line, at);
-    print_spaces(INDENT);
+pub fn print_marked(host: &impl Host, line: &[u8], at: usize) {
+    let from = print_cut(host, line, at);
+    print_spaces(host, INDENT);
     if from > 0 {
-        print_text(b"  ");
+        print_text(host, b"  ");
     }
-    print_spaces(at - from);
-    print_text(b"^\n");
+    print_spaces(host, at - from);
+    print_text(host, b"^\n");
 }
 
 // A line without a mark.
-pub fn print_plain(line: &[u8]) {
-    print_cut(line, 0);
+pub fn print_plain(host: &impl Host, line: &[u8]) {
+    print_cut(host, line, 0);
 }
 
 // Where a line begins and ends, without its LF; a line that is not there begins and ends at the file's end.
@@ -82,13 +83,13 @@ pub fn span_of(file: &[u8], k: usize) -> Span
 }
 
 // Line k of a file, from 0, or that there is none.
-pub fn print_file_line(file: &[u8], k: usize) {
+pub fn print_file_line(host: &impl Host, file: &[u8], k: usize) {
     let line = span_of(file, k);
     let start = line.start;
     let end = line.end;
     if start < file.len() {
-        print_plain(&file[start..end]);
+        print_plain(host, &file[start..end]);
         return;
     }
-    print_text(b"  (the file ends before this line)\n");
+    print_text(host, b"  (the file ends before this line)\n");
 }

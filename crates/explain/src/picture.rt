@@ -2,6 +2,7 @@
 ghost use Rattle.std.specs.Prelude.{◌≡◌, ◌≤◌, length};
 
 use crate::show::print_right;
+use host::Host;
 use ints::min_max::{larger_size, smaller, smaller_size};
 use live_state::STATE;
 use program_parts::{BEFORE_CUES, CuePlace, STORE, begins, next_cue, print_number, print_text};
@@ -123,50 +124,58 @@ fn columns_of(ticks: u64, scale: u64) -> usize
 }
 
 // The marks of a line.
-fn print_marks(marks: &[u8], line: usize, columns: usize)
+fn print_marks(host: &impl Host, marks: &[u8], line: usize, columns: usize)
     requires { line ≤ 256 }
 {
     let from = smaller_size(COLUMNS * line, marks.len());
     let to = from + smaller_size(columns, marks.len() - from);
-    print_text(&marks[from..to]);
+    print_text(host, &marks[from..to]);
 }
 
 // A cue number and its marks.
-fn print_line(number: u32, marks: &[u8], line: usize, columns: usize)
+fn print_line(host: &impl Host, number: u32, marks: &[u8], line: usize, columns: usize)
     requires { line ≤ 256 }
 {
-    print_right(number as u64, 4);
-    print_text(b" |");
-    print_marks(marks, line, columns);
-    print_text(b"|\n");
+    print_right(host, number as u64, 4);
+    print_text(host, b" |");
+    print_marks(host, marks, line, columns);
+    print_text(host, b"|\n");
 }
 
 // The lines one after the other.
-fn print_lines(numbers: &[u32], lines: usize, marks: &[u8], columns: usize) {
+fn print_lines(host: &impl Host, numbers: &[u32], lines: usize, marks: &[u8], columns: usize) {
     let n = smaller_size(smaller_size(lines, numbers.len()), LINES);
     let mut i: usize = 0;
     while i < n {
-        print_line(numbers[i], marks, i, columns);
+        print_line(host, numbers[i], marks, i, columns);
         i += 1;
     }
 }
 
 // The picture: how many ticks a column is, the lines, and under them the first tick and the last.
-fn print_picture(ticks: u64, scale: u64, numbers: &[u32], lines: usize, marks: &[u8])
+fn print_picture(
+    host: &impl Host,
+    ticks: u64,
+    scale: u64,
+    numbers: &[u32],
+    lines: usize,
+    marks: &[u8],
+)
     requires { 1 ≤ scale }
 {
     let columns = columns_of(ticks, scale);
-    print_text(b"\nticks of a column: ");
-    print_number(scale);
-    print_text(b"\n cue\n");
-    print_lines(numbers, lines, marks, columns);
-    print_text(b"tick  0 ");
-    print_right(ticks, columns - smaller_size(columns, 1));
-    print_text(b"\n");
+    print_text(host, b"\nticks of a column: ");
+    print_number(host, scale);
+    print_text(host, b"\n cue\n");
+    print_lines(host, numbers, lines, marks, columns);
+    print_text(host, b"tick  0 ");
+    print_right(host, ticks, columns - smaller_size(columns, 1));
+    print_text(host, b"\n");
 }
 
 // Draws the cues of a run from the first values of a store, which takes so many ticks.
 pub fn draw_cues(
+    host: &impl Host,
     file: &[u8],
     prices: &[u32],
     picks: &[u8],
@@ -192,6 +201,6 @@ pub fn draw_cues(
             &mut numbers,
             &mut marks,
         );
-        print_picture(ticks, scale, &numbers, lines, &marks);
+        print_picture(host, ticks, scale, &numbers, lines, &marks);
     }
 }

@@ -8,6 +8,7 @@ use crate::marked::{print_plain, span_of};
 use crate::refusals::{print_cause, print_remedy};
 use explain_margin::{PlaceKind, place_of};
 use expressions::leaves::digits_at;
+use host::Host;
 use ints::min_max::smaller_size;
 use line_causes::LineKind;
 use program_parts::{print_number, print_refusal, print_text, print_wrong};
@@ -89,37 +90,40 @@ fn lines_with(file: &[u8], key: &[u8]) -> usize {
 }
 
 // Both numbers of a file whose lines with a key are not as many as it says.
-fn print_counts(says: &[u8], said: u32, key: &[u8], found: usize) {
-    print_text(b"  ");
-    print_text(says);
-    print_number(said as u64);
-    print_text(b", and the lines ");
-    print_text(key);
-    print_text(b" are ");
-    print_number(found as u64);
-    print_text(b"\n");
+fn print_counts(host: &impl Host, says: &[u8], said: u32, key: &[u8], found: usize) {
+    print_text(host, b"  ");
+    print_text(host, says);
+    print_number(host, said as u64);
+    print_text(host, b", and the lines ");
+    print_text(host, key);
+    print_text(host, b" are ");
+    print_number(host, found as u64);
+    print_text(host, b"\n");
 }
 
 // They, where they differ.
-fn print_differing(file: &[u8], place: usize, counts: Counts) {
+fn print_differing(host: &impl Host, file: &[u8], place: usize, counts: Counts) {
     let rows = lines_with(file, b"row=");
     let ranges = lines_with(file, b"range=");
     if place > 2 {
         if ranges as u64 != counts.vars as u64 {
-            print_counts(b"vars=", counts.vars, b"range=", ranges);
+            print_counts(host, b"vars=", counts.vars, b"range=", ranges);
         }
     }
     if place as u64 > counts.vars as u64 + 3 {
         if rows as u64 != counts.rows as u64 {
-            print_counts(b"rows=", counts.rows, b"row=", rows);
+            print_counts(host, b"rows=", counts.rows, b"row=", rows);
         }
     }
 }
 
 // Line `place` after the last row: bytes that are too many.
-fn print_rest(line: &[u8]) {
-    print_plain(line);
-    print_text(b"\ncause\n  the last row stands before this line, and nothing may follow it\n");
+fn print_rest(host: &impl Host, line: &[u8]) {
+    print_plain(host, line);
+    print_text(
+        host,
+        b"\ncause\n  the last row stands before this line, and nothing may follow it\n",
+    );
 }
 
 // Does a line have the key of the lines round the ranges that are wanted?
@@ -132,76 +136,83 @@ fn is_next(kind: LineKind, line: &[u8]) -> bool {
 }
 
 // A line that is there.
-fn print_line_cause(file: &[u8], start: usize, end: usize, number: u32, place: usize)
+fn print_line_cause(
+    host: &impl Host,
+    file: &[u8],
+    start: usize,
+    end: usize,
+    number: u32,
+    place: usize,
+)
     requires { (start ≤ end) × (end ≤ length file.now) }
 {
     let counts = counts_before(file, place);
     let kind = kind_of(place, counts.vars);
     if number == 4 {
-        print_limits(kind, &file[start..end]);
+        print_limits(host, kind, &file[start..end]);
         return;
     }
     if number == 5 {
-        print_variable(&file[start..end], counts.vars);
+        print_variable(host, &file[start..end], counts.vars);
         return;
     }
     if number != 3 {
-        print_plain(&file[start..end]);
-        print_text(b"\ncause\n");
-        print_cause(number);
+        print_plain(host, &file[start..end]);
+        print_text(host, b"\ncause\n");
+        print_cause(host, number);
         return;
     }
     if place as u64 > counts.vars as u64 + counts.rows as u64 + 3 {
-        print_rest(&file[start..end]);
-        print_differing(file, place, counts);
+        print_rest(host, &file[start..end]);
+        print_differing(host, file, place, counts);
         return;
     }
-    print_fault(kind, &file[start..end], end < file.len());
+    print_fault(host, kind, &file[start..end], end < file.len());
     if is_next(kind, &file[start..end]) {
-        print_differing(file, place, counts);
+        print_differing(host, file, place, counts);
     }
 }
 
 // A line that is not there, or the line after the last.
-fn print_end_cause(file: &[u8], number: u32, place: usize) {
-    print_text(b"  (the file ends before this line)\n\ncause\n");
+fn print_end_cause(host: &impl Host, file: &[u8], number: u32, place: usize) {
+    print_text(host, b"  (the file ends before this line)\n\ncause\n");
     if number == 3 {
-        print_text(b"  the file ends too early\n");
-        print_differing(file, place, counts_before(file, place));
+        print_text(host, b"  the file ends too early\n");
+        print_differing(host, file, place, counts_before(file, place));
         return;
     }
-    print_cause(number);
+    print_cause(host, number);
 }
 
 // Line `place` and its cause.
-fn print_line_place(file: &[u8], number: u32, place: usize) {
-    print_text(b"\nline ");
-    print_number(place as u64);
-    print_text(b"\n");
+fn print_line_place(host: &impl Host, file: &[u8], number: u32, place: usize) {
+    print_text(host, b"\nline ");
+    print_number(host, place as u64);
+    print_text(host, b"\n");
     let line = span_of(file, place - smaller_size(place, 1));
     let start = line.start;
     if start < file.len() {
-        print_line_cause(file, start, line.end, number, place);
+        print_line_cause(host, file, start, line.end, number, place);
     } else {
-        print_end_cause(file, number, place);
+        print_end_cause(host, file, number, place);
     }
     if number == 6 {
-        print_open(file, counts_before(file, place).vars, place);
+        print_open(host, file, counts_before(file, place).vars, place);
     }
 }
 
 // A refusal of a file before its rows are asked, by 2 to 7, 16 or 17, or of a store, by 15.
-pub fn print_refused(file: &[u8], number: u32, place: usize) {
-    print_refusal(number, place);
+pub fn print_refused(host: &impl Host, file: &[u8], number: u32, place: usize) {
+    print_refusal(host, number, place);
     match place_of(number) {
-        PlaceKind::Line => print_line_place(file, number, place),
+        PlaceKind::Line => print_line_place(host, file, number, place),
         _ => {
-            print_text(b"\ncause\n");
-            print_cause(number);
+            print_text(host, b"\ncause\n");
+            print_cause(host, number);
         }
     }
-    print_text(b"\nremedy\n");
-    print_remedy(number);
+    print_text(host, b"\nremedy\n");
+    print_remedy(host, number);
 }
 
 // Does a word ask for the words of a refusal?
@@ -210,31 +221,31 @@ pub fn asks_refusal(word: &[u8]) -> bool {
 }
 
 // Cause and remedy of a refusal.
-fn print_both(number: u32) {
-    print_text(b"refused=");
-    print_number(number as u64);
-    print_text(b"\n\ncause\n");
-    print_cause(number);
-    print_text(b"\nremedy\n");
-    print_remedy(number);
+fn print_both(host: &impl Host, number: u32) {
+    print_text(host, b"refused=");
+    print_number(host, number as u64);
+    print_text(host, b"\n\ncause\n");
+    print_cause(host, number);
+    print_text(host, b"\nremedy\n");
+    print_remedy(host, number);
 }
 
 // Cause and remedy of the refusal that a word `refused=NUMBER` names.
-pub fn print_words(word: &[u8]) {
+pub fn print_words(host: &impl Host, word: &[u8]) {
     let from = smaller_size(8, word.len());
     let number = read_number(&word[from..]);
     match number {
         Number::Is(n) => {
             if n < 1 {
-                print_wrong(b"error=refused is not from 1 to 22", &word[from..]);
+                print_wrong(host, b"error=refused is not from 1 to 22", &word[from..]);
                 return;
             }
             if n > 22 {
-                print_wrong(b"error=refused is not from 1 to 22", &word[from..]);
+                print_wrong(host, b"error=refused is not from 1 to 22", &word[from..]);
                 return;
             }
-            print_both(n as u32);
+            print_both(host, n as u32);
         }
-        Number::Malformed => print_wrong(b"error=refused is not a number", &word[from..]),
+        Number::Malformed => print_wrong(host, b"error=refused is not a number", &word[from..]),
     }
 }

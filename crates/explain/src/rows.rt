@@ -6,20 +6,21 @@ use crate::marked::print_file_line;
 use crate::refusals::{print_cause, print_remedy};
 use crate::terms::print_term;
 use explain_margin::is_head;
+use host::Host;
 use ints::min_max::smaller_size;
 use program_parts::{print_number, print_refusal, print_text};
 use table::{Tag, partner_at, tag_at};
 
 // Row `row`, which stands on line 4 + V + row.
-fn print_row(file: &[u8], vars: usize, row: usize)
+fn print_row(host: &impl Host, file: &[u8], vars: usize, row: usize)
     requires { (vars ≤ 16) × (row ≤ 256) }
 {
-    print_text(b"\nrow ");
-    print_number(row as u64);
-    print_text(b", line ");
-    print_number((4 + vars + row) as u64);
-    print_text(b"\n");
-    print_file_line(file, 3 + vars + row);
+    print_text(host, b"\nrow ");
+    print_number(host, row as u64);
+    print_text(host, b", line ");
+    print_number(host, (4 + vars + row) as u64);
+    print_text(host, b"\n");
+    print_file_line(host, file, 3 + vars + row);
 }
 
 // The pick whose else is row p.
@@ -52,23 +53,24 @@ fn head_of(rows: &[u32], end: usize) -> usize
 }
 
 // The figure of a block that 13 refuses: it is not counted past the limit.
-fn print_over() {
-    print_text(b"\nits figure: more than 1000000000000 ticks\n");
+fn print_over(host: &impl Host) {
+    print_text(host, b"\nits figure: more than 1000000000000 ticks\n");
 }
 
 // The block that an `end` row ends, from its head, and its figure.
-fn print_block(file: &[u8], vars: usize, rows: &[u32], end: usize)
+fn print_block(host: &impl Host, file: &[u8], vars: usize, rows: &[u32], end: usize)
     requires { (vars ≤ 16) × (end ≤ 256) × (4 * end + 3 < length rows.now) }
 {
     let head = head_of(rows, end);
-    print_text(b"\nthe block");
-    print_row(file, vars, head);
-    print_row(file, vars, end);
-    print_over();
+    print_text(host, b"\nthe block");
+    print_row(host, file, vars, head);
+    print_row(host, file, vars, end);
+    print_over(host);
 }
 
 // A refusal of a script of `count` rows.
 pub fn print_refused_rows(
+    host: &impl Host,
     file: &[u8],
     vars: usize,
     rows: &[u32],
@@ -78,22 +80,22 @@ pub fn print_refused_rows(
 )
     requires { (vars ≤ 16) × (count ≤ 256) × (4 * count ≤ length rows.now) }
 {
-    print_refusal(number, place);
+    print_refusal(host, number, place);
     if place < count {
         if number == 13 {
-            print_block(file, vars, rows, place);
+            print_block(host, file, vars, rows, place);
         } else {
-            print_row(file, vars, place);
+            print_row(host, file, vars, place);
         }
     } else {
-        print_text(b"\nthe whole file\n");
-        print_over();
+        print_text(host, b"\nthe whole file\n");
+        print_over(host);
     }
-    print_text(b"\ncause\n");
-    print_cause(number);
+    print_text(host, b"\ncause\n");
+    print_cause(host, number);
     if place < count {
-        print_term(rows, count, number, place);
+        print_term(host, rows, count, number, place);
     }
-    print_text(b"\nremedy\n");
-    print_remedy(number);
+    print_text(host, b"\nremedy\n");
+    print_remedy(host, number);
 }

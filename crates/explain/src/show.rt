@@ -9,6 +9,7 @@ use explain_margin::{
     Widths, after_row, begins, column, greatest, indent, is_head, line_end, line_of, passes_here,
     put_shown, room, share,
 };
+use host::Host;
 use ints::min_max::smaller_size;
 use program_parts::{print_front, print_number, print_text};
 use table::{partner_at, tag_at};
@@ -21,117 +22,118 @@ const MARKS: u64 = 10;
 
 const PER_CENT: u64 = 100;
 
-pub fn print_spaces(n: usize) {
+pub fn print_spaces(host: &impl Host, n: usize) {
     let blank = [b' '; LINE];
-    print_front(&blank, n);
+    print_front(host, &blank, n);
 }
 
 // A number at the right end of a column.
-pub fn print_right(n: u64, width: usize) {
+pub fn print_right(host: &impl Host, n: u64, width: usize) {
     let mut text = [0u8; 20];
     let k = report::pieces::put_number(b"", n, &mut text);
-    print_spaces(width - smaller_size(k, width));
-    print_front(&text, k);
+    print_spaces(host, width - smaller_size(k, width));
+    print_front(host, &text, k);
 }
 
 // A heading of five letters at the right end of a column.
-fn print_heading(word: &[u8], width: usize) {
-    print_spaces(width - smaller_size(word.len(), width));
-    print_text(word);
+fn print_heading(host: &impl Host, word: &[u8], width: usize) {
+    print_spaces(host, width - smaller_size(word.len(), width));
+    print_text(host, word);
 }
 
-fn print_headings(w: Widths) {
-    print_text(b"row ");
-    print_heading(b"turns", w.turns);
-    print_text(b" ");
-    print_heading(b"total", w.total);
-    print_text(b"       ");
-    print_heading(b"ticks", w.ticks);
-    print_text(b" share              script\n");
+fn print_headings(host: &impl Host, w: Widths) {
+    print_text(host, b"row ");
+    print_heading(host, b"turns", w.turns);
+    print_text(host, b" ");
+    print_heading(host, b"total", w.total);
+    print_text(host, b"       ");
+    print_heading(host, b"ticks", w.ticks);
+    print_text(host, b" share              script\n");
 }
 
 // Of a loop its turns, total and exact or most; of another row nothing.
-fn print_turns(figures: [u64; 4], w: Widths)
+fn print_turns(host: &impl Host, figures: [u64; 4], w: Widths)
     requires { Narrow w }
 {
     if figures[EXACT] == NO_LOOP {
-        print_spaces(w.turns + 1 + w.total + 6);
+        print_spaces(host, w.turns + 1 + w.total + 6);
         return;
     }
-    print_right(figures[TURNS], w.turns);
-    print_text(b" ");
-    print_right(figures[TOTAL], w.total);
+    print_right(host, figures[TURNS], w.turns);
+    print_text(host, b" ");
+    print_right(host, figures[TOTAL], w.total);
     if figures[EXACT] == IS_EXACT {
-        print_text(b" exact");
+        print_text(host, b" exact");
     } else {
-        print_text(b" most ");
+        print_text(host, b" most ");
     }
 }
 
 // The bar of a part of the whole, and the share in per cent.
-fn print_bar(part: u64, whole: u64)
+fn print_bar(host: &impl Host, part: u64, whole: u64)
     requires { whole ≤ 1_000_000_000_001 }
 {
     let marks = [b'#'; 10];
     let n = share(part, whole, MARKS) as usize;
-    print_text(b" [");
-    print_front(&marks, n);
-    print_spaces(10 - smaller_size(n, 10));
-    print_text(b"] ");
-    print_right(share(part, whole, PER_CENT), 3);
-    print_text(b"%  ");
+    print_text(host, b" [");
+    print_front(host, &marks, n);
+    print_spaces(host, 10 - smaller_size(n, 10));
+    print_text(host, b"] ");
+    print_right(host, share(part, whole, PER_CENT), 3);
+    print_text(host, b"%  ");
 }
 
 // Of a block the ticks of one pass, and the share of all its passes.
-fn print_block(head: bool, ticks: u64, passes: u64, whole: u64, w: Widths)
+fn print_block(host: &impl Host, head: bool, ticks: u64, passes: u64, whole: u64, w: Widths)
     requires { Narrow w }
 {
     if head {
-        print_text(b" ");
-        print_right(ticks, w.ticks);
-        print_bar(times(passes, cap(ticks)), cap(whole));
+        print_text(host, b" ");
+        print_right(host, ticks, w.ticks);
+        print_bar(host, times(passes, cap(ticks)), cap(whole));
     } else {
-        print_spaces(w.ticks + 21);
+        print_spaces(host, w.ticks + 21);
     }
 }
 
 // At most a line of a text.
-pub fn print_shown(text: &[u8]) {
+pub fn print_shown(host: &impl Host, text: &[u8]) {
     let mut line = [0u8; LINE];
     let n = put_shown(text, &mut line);
-    print_front(&line, n);
+    print_front(host, &line, n);
 }
 
 // A text from a column on, in as many lines as it takes.
-pub fn print_wrapped(text: &[u8], column: usize) {
+pub fn print_wrapped(host: &impl Host, text: &[u8], column: usize) {
     let width = room(column);
     let mut at: usize = 0;
     while at < text.len() {
         if at > 0 {
-            print_text(b"\n");
-            print_spaces(column);
+            print_text(host, b"\n");
+            print_spaces(host, column);
         }
         let end = line_end(at, width, text.len());
-        print_shown(&text[at..end]);
+        print_shown(host, &text[at..end]);
         at = end;
     }
-    print_text(b"\n");
+    print_text(host, b"\n");
 }
 
 // The text of line k without its first bytes, from a column on.
-pub fn print_line(file: &[u8], k: usize, without: usize, column: usize) {
+pub fn print_line(host: &impl Host, file: &[u8], k: usize, without: usize, column: usize) {
     let line = line_of(file, k);
     match line {
         LinePlace::At(start, end) => {
             let from = start + smaller_size(without, end - start);
-            print_wrapped(&file[from..end], column);
+            print_wrapped(host, &file[from..end], column);
         }
-        LinePlace::Missing => print_text(b"\n"),
+        LinePlace::Missing => print_text(host, b"\n"),
     }
 }
 
 // Row i with its margin.
 fn print_row(
+    host: &impl Host,
     file: &[u8],
     vars: usize,
     rows: &[u32],
@@ -143,10 +145,11 @@ fn print_row(
 )
     requires { (4 * i + 3 < length rows.now) × (vars ≤ 16) × Narrow w }
 {
-    print_right(i as u64, 3);
-    print_text(b" ");
-    print_turns(figures, w);
+    print_right(host, i as u64, 3);
+    print_text(host, b" ");
+    print_turns(host, figures, w);
     print_block(
+        host,
         is_head(rows, i),
         figures[TICKS],
         passes_here(nest),
@@ -154,12 +157,13 @@ fn print_row(
         w,
     );
     let inner = indent(tag_at(rows, i), nest.depth);
-    print_spaces(inner);
-    print_line(file, 3 + vars + i, KEY, begins(w) + inner);
+    print_spaces(host, inner);
+    print_line(host, file, 3 + vars + i, KEY, begins(w) + inner);
 }
 
 // What the figure of the loop at row i rests on, of a loop that is counted.
 fn print_rests(
+    host: &impl Host,
     file: &[u8],
     rows: &[u32],
     count: usize,
@@ -174,12 +178,13 @@ fn print_rests(
     }
     let end = partner_at(rows, i);
     if end < count {
-        print_unknown(file, rows, i, end, figures[end][UNKNOWN], ranges);
+        print_unknown(host, file, rows, i, end, figures[end][UNKNOWN], ranges);
     }
 }
 
 // The rows one after the other.
 fn print_rows(
+    host: &impl Host,
     file: &[u8],
     vars: usize,
     rows: &[u32],
@@ -195,8 +200,8 @@ fn print_rows(
     let mut i: usize = 0;
     while i < count {
         let row = figures[i];
-        print_row(file, vars, rows, i, row, nest, w, whole);
-        print_rests(file, rows, count, i, figures, ranges);
+        print_row(host, file, vars, rows, i, row, nest, w, whole);
+        print_rests(host, file, rows, count, i, figures, ranges);
         let next = after_row(nest, tag_at(rows, i), row[TOTAL]);
         nest = next;
         i += 1;
@@ -205,6 +210,7 @@ fn print_rows(
 
 // The whole file's ticks, and its rows.
 pub fn print_script(
+    host: &impl Host,
     file: &[u8],
     vars: usize,
     rows: &[u32],
@@ -220,9 +226,9 @@ pub fn print_script(
         total: column(greatest(figures, TOTAL)),
         ticks: column(greatest(figures, TICKS)),
     };
-    print_text(b"ticks=");
-    print_number(whole);
-    print_text(b"\n\n");
-    print_headings(w);
-    print_rows(file, vars, rows, count, figures, w, whole, ranges);
+    print_text(host, b"ticks=");
+    print_number(host, whole);
+    print_text(host, b"\n\n");
+    print_headings(host, w);
+    print_rows(host, file, vars, rows, count, figures, w, whole, ranges);
 }

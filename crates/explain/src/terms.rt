@@ -1,6 +1,7 @@
 // The row, and the term, for which a loop is refused by 8, 9, 10 or 19.
 ghost use Rattle.std.specs.Prelude.{◌+◌, ◌*◌, ◌≤◌, ◌<◌, length};
 
+use host::Host;
 use ints::min_max::smaller_size;
 use program_parts::{print_number, print_text};
 use rules::Operand;
@@ -83,139 +84,140 @@ fn block_round(rows: &[u32], from: usize, r: usize) -> usize
 }
 
 // `row R WHAT vN`
-fn print_deed(row: usize, what: &[u8], v: u8) {
-    print_text(b"  row ");
-    print_number(row as u64);
-    print_text(what);
-    print_number(v as u64);
-    print_text(b"\n");
+fn print_deed(host: &impl Host, row: usize, what: &[u8], v: u8) {
+    print_text(host, b"  row ");
+    print_number(host, row as u64);
+    print_text(host, what);
+    print_number(host, v as u64);
+    print_text(host, b"\n");
 }
 
 // Where row r stands in a block inside the loop.
-fn print_round(rows: &[u32], from: usize, r: usize)
+fn print_round(host: &impl Host, rows: &[u32], from: usize, r: usize)
     requires { 4 * r ≤ length rows.now }
 {
     let head = block_round(rows, from, r);
     if head < r {
-        print_text(b"  it stands in the block of row ");
-        print_number(head as u64);
-        print_text(b"\n");
+        print_text(host, b"  it stands in the block of row ");
+        print_number(host, head as u64);
+        print_text(host, b"\n");
     }
 }
 
 // 8: the first row that sets or clears the tested variable, or those that move it.
-fn print_unknown(rows: &[u32], from: usize, end: usize, v: u8)
+fn print_unknown(host: &impl Host, rows: &[u32], from: usize, end: usize, v: u8)
     requires { 4 * end ≤ length rows.now }
 {
     let set = first_row(rows, from, end, v, Deed::Sets);
     if set < end {
-        print_deed(set, b" sets v", v);
-        print_round(rows, from, set);
+        print_deed(host, set, b" sets v", v);
+        print_round(host, rows, from, set);
         return;
     }
     let off = first_row(rows, from, end, v, Deed::Clears);
     if off < end {
-        print_deed(off, b" clears v", v);
+        print_deed(host, off, b" clears v", v);
         return;
     }
-    print_moves(rows, from, end, v);
+    print_moves(host, rows, from, end, v);
 }
 
 // All rows that move a variable.
-fn print_moves(rows: &[u32], from: usize, end: usize, v: u8)
+fn print_moves(host: &impl Host, rows: &[u32], from: usize, end: usize, v: u8)
     requires { 4 * end ≤ length rows.now }
 {
     let mut i = from;
     while i < end {
         if does(rows, i, v, Deed::Moves) {
-            print_deed(i, b" moves v", v);
-            print_round(rows, from, i);
+            print_deed(host, i, b" moves v", v);
+            print_round(host, rows, from, i);
         }
         i += 1;
     }
 }
 
 // 9: no row moves it, or those that do.
-fn print_standing(rows: &[u32], from: usize, end: usize, v: u8)
+fn print_standing(host: &impl Host, rows: &[u32], from: usize, end: usize, v: u8)
     requires { 4 * end ≤ length rows.now }
 {
     if first_row(rows, from, end, v, Deed::Assigns) < end {
-        print_moves(rows, from, end, v);
+        print_moves(host, rows, from, end, v);
         return;
     }
-    print_text(b"  no row of the body moves v");
-    print_number(v as u64);
-    print_text(b"\n");
+    print_text(host, b"  no row of the body moves v");
+    print_number(host, v as u64);
+    print_text(host, b"\n");
 }
 
 // 10: the row that assigns the limit.
-fn print_limit(rows: &[u32], head: usize, end: usize)
+fn print_limit(host: &impl Host, rows: &[u32], head: usize, end: usize)
     requires { (4 * head + 3 < length rows.now) × (4 * end ≤ length rows.now) }
 {
     match limit_at(rows, head) {
         Operand::Variable(w) => {
             let row = first_row(rows, head, end, w, Deed::Assigns);
-            print_deed(row, b" assigns the limit, v", w);
+            print_deed(host, row, b" assigns the limit, v", w);
         }
         _ => print_text(
+            host,
             b"  the limit is an expression: two that close on each other want a variable alone\n",
         ),
     }
 }
 
 // 19, of the watched variable of the `off` at a row.
-fn print_watched(rows: &[u32], from: usize, off: usize, end: usize)
+fn print_watched(host: &impl Host, rows: &[u32], from: usize, off: usize, end: usize)
     requires { (4 * off + 3 < length rows.now) × (4 * end ≤ length rows.now) }
 {
     let w = watched_at(rows, off);
     let set = first_row(rows, from, end, w, Deed::Sets);
     if set < end {
-        print_deed(set, b" sets the watched v", w);
+        print_deed(host, set, b" sets the watched v", w);
     }
     if first_row(rows, from, end, w, Deed::Moves) < end {
-        print_moves(rows, from, end, w);
+        print_moves(host, rows, from, end, w);
         return;
     }
-    print_text(b"  no row of the body moves the watched v");
-    print_number(w as u64);
-    print_text(b"\n");
+    print_text(host, b"  no row of the body moves the watched v");
+    print_number(host, w as u64);
+    print_text(host, b"\n");
 }
 
 // 19: the flag's rows, then the watched variable's.
-fn print_held(rows: &[u32], from: usize, end: usize, v: u8)
+fn print_held(host: &impl Host, rows: &[u32], from: usize, end: usize, v: u8)
     requires { 4 * end ≤ length rows.now }
 {
     let off = first_row(rows, from, end, v, Deed::Clears);
     if off >= end {
-        print_text(b"  no row of the body is an off for v");
-        print_number(v as u64);
-        print_text(b"\n");
+        print_text(host, b"  no row of the body is an off for v");
+        print_number(host, v as u64);
+        print_text(host, b"\n");
         return;
     }
-    print_deed(off, b" is the off for v", v);
-    print_round(rows, from, off);
+    print_deed(host, off, b" is the off for v", v);
+    print_round(host, rows, from, off);
     let other = first_row(rows, from, off, v, Deed::Assigns);
     if other < off {
-        print_deed(other, b" assigns it too, v", v);
+        print_deed(host, other, b" assigns it too, v", v);
     }
     let later = first_row(rows, off + 1, end, v, Deed::Assigns);
     if later < end {
-        print_deed(later, b" assigns it too, v", v);
+        print_deed(host, later, b" assigns it too, v", v);
     }
-    print_watched(rows, from, off, end);
+    print_watched(host, rows, from, off, end);
 }
 
 // What of the cause stands in the rows of the loop at row `head`.
-pub fn print_term(rows: &[u32], count: usize, number: u32, head: usize)
+pub fn print_term(host: &impl Host, rows: &[u32], count: usize, number: u32, head: usize)
     requires { (head < count) × (count ≤ 256) × (4 * count ≤ length rows.now) }
 {
     let end = smaller_size(partner_at(rows, head), count);
     let v = variable_at(rows, head);
     match number {
-        8 => print_unknown(rows, head + 1, end, v),
-        9 => print_standing(rows, head + 1, end, v),
-        10 => print_limit(rows, head, end),
-        19 => print_held(rows, head + 1, end, v),
+        8 => print_unknown(host, rows, head + 1, end, v),
+        9 => print_standing(host, rows, head + 1, end, v),
+        10 => print_limit(host, rows, head, end),
+        19 => print_held(host, rows, head + 1, end, v),
         _ => (),
     }
 }

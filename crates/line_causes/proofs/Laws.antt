@@ -3,18 +3,16 @@ use mathlib.Core.Path.{◌≡◌, refl, sym, ap, ◌∙◌}
 use mathlib.Core.Bool.{Bool, true, false, cond}
 use mathlib.Core.List.{List, [], ◌∷◌}
 use Prim.Native.Nat.{ℕ, suc, ◌+◌, ◌-◌, ◌≤◌, ◌<◌}
-use native.Mathlib.Numerals.{add-one}
 use native.Mathlib.Omega.{arith}
 use borrow.Author.Tests.{eq-eqb, ne_eqb, eqb-true, eqb-false}
 use lib.Dec.{eqb}
 use lib.ListN.{length, get_or, take, drop, drop_of_length-le, length-drop}
 use lib.Seq.{drop-cons, drop-drop, length-take-le}
 use Rattle.rules.specs.Parse.{is_mark}
-use Rattle.rules.specs.Text.{space, prefixed, split, starts_with, is_digit}
+use Rattle.rules.specs.Text.{space, prefixed, split, is_digit}
 use Rattle.reading.specs.Words.{before}
 use Rattle.reading.proofs.TextLaws.{part_rest}
 use Rattle.program_words.proofs.Pieces.{piece_within, piece_last, piece_more}
-use Rattle.line_causes.specs.declared.Cause.{Cause}
 use Rattle.line_causes.specs.declared.breaks.Mode.{Mode}
 use Rattle.line_causes.specs.declared.breaks.Turn.{Turn}
 use Rattle.line_causes.specs.Shapes.{fits, first_word}

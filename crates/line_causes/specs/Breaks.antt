@@ -1,5 +1,5 @@
 -- Where an expression breaks: the byte up to which it may still be the beginning of one.
-use Rattle.std.specs.Prelude.{Bool, true, false, not, cond, ◌||◌, List, [], ◌∷◌, ℕ, suc, ◌-◌, eqb, get_or, take, drop}
+use Rattle.std.specs.Prelude.{Bool, true, false, cond, ◌||◌, List, [], ◌∷◌, ℕ, suc, ◌-◌, eqb, get_or, take, drop}
 use Rattle.rules.specs.Parse.{is_mark}
 use Rattle.program_words.specs.Words.{is_number}
 use Rattle.line_causes.specs.Shapes.{is_variable}

@@ -2,7 +2,7 @@
 use Rattle.std.specs.Prelude.{Bool, true, false, cond, ◌&&◌, ◌||◌, List, [], ◌∷◌, ℕ, suc, ◌+◌, ◌-◌, leb, ltb, eqb, length, get_or, drop}
 use Rattle.rules.specs.Text.{space, split, starts_with, equals, is_digit}
 use Rattle.rules.specs.File.{script_key, vars_key, range_key, rows_key, row_key}
-use Rattle.line_causes.specs.Shapes.{name, number, one, variable, expression, nothing, fits, shape_of, first_word}
+use Rattle.line_causes.specs.Shapes.{number, one, variable, expression, nothing, fits, shape_of, first_word}
 use Rattle.line_causes.specs.Breaks.{broken_at}
 use Rattle.line_causes.specs.declared.Cause.{Cause}
 use Rattle.line_causes.specs.declared.LineKind.{LineKind}

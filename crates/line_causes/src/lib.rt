@@ -1,6 +1,7 @@
 // The one cause for which a line has not the shape that its place wants (refusal 3), and the byte where it breaks: read from the left, the
 // first word that is not what is wanted there.
 #![tactic(auto)]
+
 mod breaks;
 mod shapes;
 

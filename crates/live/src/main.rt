@@ -2,11 +2,13 @@
 // that came, a word of 0 and 1, or nothing. Each frame prints a line with its status, ticks and cues; after the last, the answer so far is
 // printed as `rehearse` prints a run.
 #![tactic(auto)]
+
 ghost use Rattle.std.specs.Prelude.{◌≡◌, ◌≤◌, length};
 ghost use Rattle.answer_text.specs.Steps.{step_text};
 
 use answer_text::steps::CUES;
 use calls_live::StepDone;
+use host::{Host, System};
 use ints::min_max::smaller_size;
 use live_state::STATE;
 use loader::SCRATCH;
@@ -14,6 +16,7 @@ use program_parts::{STORE, WORD, print_text};
 use program_words::lists::Values;
 use program_words::{Number, pick_count, put_picks};
 use rules::Verdict;
+use std::process::ExitCode;
 
 // How many picks are held that no frame has used.
 const HELD: usize = WORD;
@@ -28,10 +31,10 @@ struct Desk {
 }
 
 // Writes the line of a step; false if it cannot.
-fn write_step(frame: u64, d: StepDone, cues: &[u32], text: &[u8]) -> bool
+fn write_step(host: &impl Host, frame: u64, d: StepDone, cues: &[u32], text: &[u8]) -> bool
     requires { text.now ≡ step_text frame d cues.now }
 {
-    program_parts::try_print(text)
+    program_parts::try_print(host, text)
 }
 
 // What a frame is: the step's answer, and whether its line is written.
@@ -43,6 +46,7 @@ struct Frame {
 
 // Plays a frame with these picks and prints its line.
 fn play_frame(
+    host: &impl Host,
     file: &[u8],
     prices: &[u32],
     q: u64,
@@ -65,7 +69,7 @@ fn play_frame(
         &mut cues,
     );
     let n = answer_text::steps::put_step(frame, done, &cues, &mut text);
-    let written = write_step(frame, done, &cues, &text[..n]);
+    let written = write_step(host, frame, done, &cues, &text[..n]);
     Frame { done, written }
 }
 
@@ -93,6 +97,7 @@ fn is_refused(verdict: Verdict) -> bool {
 
 // Plays a frame with the picks held; those that it does not use are held on.
 fn play_held(
+    host: &impl Host,
     file: &[u8],
     prices: &[u32],
     q: u64,
@@ -105,7 +110,16 @@ fn play_held(
     ensures { result.held ≤ 131_072 }
 {
     let held = desk.held;
-    let f = play_frame(file, prices, q, store, state, &picks[..held], desk.frame);
+    let f = play_frame(
+        host,
+        file,
+        prices,
+        q,
+        store,
+        state,
+        &picks[..held],
+        desk.frame,
+    );
     let d = f.done;
     let used = smaller_size(d.used, held);
     let rest = take_off(picks, held, used);
@@ -126,8 +140,8 @@ fn next_frame(frame: u64) -> u64 {
 }
 
 // Says that a line has more picks than can be held; it is not taken, and no frame is played.
-fn too_many() {
-    print_text(b"error=too many picks: 131072 are held\n");
+fn too_many(host: &impl Host) {
+    print_text(host, b"error=too many picks: 131072 are held\n");
 }
 
 // Puts the picks of a line, of which an empty one has none; false if it is no word of picks.
@@ -140,6 +154,7 @@ fn put_line(word: &[u8], picks: &mut [u8]) -> bool {
 
 // Adds the picks of a line to those held and plays a frame. A line that is no picks is told, and no frame is played.
 fn play_word(
+    host: &impl Host,
     file: &[u8],
     prices: &[u32],
     q: u64,
@@ -155,13 +170,13 @@ fn play_word(
     let held = desk.held;
     let room = HELD - held;
     if word.len() > room {
-        too_many();
+        too_many(host);
         return desk;
     }
     let count = pick_count(word, &picks[held..]);
     let to = held + count;
     if !put_line(word, &mut picks[held..to]) {
-        program_parts::print_wrong_picks(word);
+        program_parts::print_wrong_picks(host, word);
         return desk;
     }
     let next = Desk {
@@ -170,11 +185,12 @@ fn play_word(
         on: true,
         answer: true,
     };
-    play_held(file, prices, q, store, state, picks, next)
+    play_held(host, file, prices, q, store, state, picks, next)
 }
 
 // Reads a line and plays its frame.
 fn play_line(
+    host: &impl Host,
     file: &[u8],
     prices: &[u32],
     q: u64,
@@ -187,10 +203,10 @@ fn play_line(
     ensures { result.held ≤ 131_072 }
 {
     let mut line = [0u8; HELD];
-    let input = program_parts::read_line(&mut line);
+    let input = program_parts::read_line(host, &mut line);
     let length = input.length;
     if input.failed {
-        print_text(b"error=cannot read the picks\n");
+        print_text(host, b"error=cannot read the picks\n");
     }
     if !input.some {
         return Desk {
@@ -201,23 +217,40 @@ fn play_line(
         };
     }
     if length > HELD {
-        too_many();
+        too_many(host);
         return desk;
     }
-    play_word(file, prices, q, store, state, picks, &line[..length], desk)
+    play_word(
+        host,
+        file,
+        prices,
+        q,
+        store,
+        state,
+        picks,
+        &line[..length],
+        desk,
+    )
 }
 
 // Prints the answer so far: a step without ticks, picks and room for a cue does nothing and says it.
-fn print_answer(file: &[u8], prices: &[u32], store: &mut [i32], state: &mut [u64]) {
+fn print_answer(
+    host: &impl Host,
+    file: &[u8],
+    prices: &[u32],
+    store: &mut [i32],
+    state: &mut [u64],
+) {
     let mut scratch = [0u32; SCRATCH];
     let mut none = [0u32; 0];
     let d = loader::step(file, prices, &mut scratch, store, state, 0, b"", &mut none);
     let o = answer_text::steps::so_far(d);
-    program_parts::print_outcome(o, &store[..]);
+    program_parts::print_outcome(host, o, &store[..]);
 }
 
 // Plays the lines of standard input. A proved loop has to end: it counts its turns down from a number that no input uses up.
 fn play_lines(
+    host: &impl Host,
     file: &[u8],
     prices: &[u32],
     q: u64,
@@ -235,111 +268,122 @@ fn play_lines(
     };
     let mut turns = u64::MAX;
     while turns > 0 && desk.on {
-        let next = play_line(file, prices, q, store, state, picks, desk);
+        let next = play_line(host, file, prices, q, store, state, picks, desk);
         desk = next;
         turns -= 1;
     }
     if desk.answer {
-        print_answer(file, prices, store, state);
+        print_answer(host, file, prices, store, state);
     }
 }
 
 // Starts the script, and plays it if it is not refused.
-fn play(file: &[u8], prices: &[u32], q: u64, store: &mut [i32]) {
+fn play(host: &impl Host, file: &[u8], prices: &[u32], q: u64, store: &mut [i32]) {
     let mut scratch = [0u32; SCRATCH];
     let mut state = [0u64; STATE];
     let mut picks = [0u8; HELD];
     let started = loader::start(file, prices, &mut scratch, &store[..], &mut state);
     let verdict = started.verdict;
     match verdict {
-        Verdict::Passed => play_lines(file, prices, q, store, &mut state, &mut picks),
-        Verdict::Refused(number, place) => program_parts::print_refusal(number, place),
+        Verdict::Passed => play_lines(host, file, prices, q, store, &mut state, &mut picks),
+        Verdict::Refused(number, place) => program_parts::print_refusal(host, number, place),
     }
 }
 
 // Reads the file that argument `at` names, and plays it.
-fn play_file(at: usize, prices: &[u32], q: u64, store: &mut [i32]) {
+fn play_file(host: &impl Host, at: usize, prices: &[u32], q: u64, store: &mut [i32]) {
     let mut path = [0u8; WORD];
-    let p = os::arg(at, &mut path);
+    let p = host.argument(at, &mut path);
     let mut file = [0u8; 16385];
-    let input = program_parts::read_file(&path[..p], &mut file);
+    let input = program_parts::read_file(host, &path[..p], &mut file);
     let length = input.length;
     if input.failed {
-        program_parts::print_unread(&path[..p]);
+        program_parts::print_unread(host, &path[..p]);
         return;
     }
-    play(&file[..length], prices, q, store);
+    play(host, &file[..length], prices, q, store);
 }
 
 // Reads the values, from argument `at + 2` on, and plays the file of argument `at`.
-fn with_values(at: usize, arguments: usize, prices: &[u32], q: u64)
+fn with_values(host: &impl Host, at: usize, arguments: usize, prices: &[u32], q: u64)
     requires { at ≤ 2 }
 {
     let mut store = [0i32; STORE];
-    let values = program_parts::read_arguments(at + 2, arguments, &mut store);
+    let values = program_parts::read_arguments(host, at + 2, arguments, &mut store);
     match values {
         Values::Count(count) => {
             let kept = smaller_size(count, STORE);
-            play_file(at, prices, q, &mut store[..kept]);
+            play_file(host, at, prices, q, &mut store[..kept]);
         }
         Values::Wrong(_) => {}
     }
 }
 
-fn usage() {
-    print_text(b"live [prices=A,C,P,T] FILE Q [VALUE ..]\n");
+fn usage(host: &impl Host) {
+    print_text(host, b"live [prices=A,C,P,T] FILE Q [VALUE ..]\n");
 }
 
-fn help() {
-    usage();
+fn help(host: &impl Host) {
+    usage(host);
     print_text(
+        host,
         b"plays a script frame by frame, Q ticks a frame, at most 1000000; each line of standard input is a frame\n",
     );
     print_text(
+        host,
         b"a line is the picks that came, a word of 0 and 1, or empty; what a frame does not use is kept for the next\n",
     );
     print_text(
+        host,
         b"prints of each frame its status, row, ticks, all ticks, picks used and cues, and at the end the answer so far\n",
     );
     print_text(
+        host,
         b"VALUE ..: the store, v0 first; prices of arithmetic, cue, pick and test are 1 if they are not given\n",
     );
-    print_text(b"example: live examples/rain.eff 20 0 0 20\n");
+    print_text(host, b"example: live examples/rain.eff 20 0 0 20\n");
 }
 
 // Reads Q, the argument after the file.
-fn start(file: usize, arguments: usize, prices: &[u32])
+fn start(host: &impl Host, file: usize, arguments: usize, prices: &[u32])
     requires { file ≤ 2 }
 {
     if arguments < file + 2 {
-        print_text(b"error=usage: ");
-        usage();
+        print_text(host, b"error=usage: ");
+        usage(host);
         return;
     }
     let mut word = [0u8; WORD];
-    let n = os::arg(file + 1, &mut word);
+    let n = host.argument(file + 1, &mut word);
     let q = program_words::read_number(&word[..n]);
     match q {
-        Number::Is(ticks) => with_values(file, arguments, prices, ticks),
-        Number::Malformed => program_parts::print_wrong_ticks(&word[..n]),
+        Number::Is(ticks) => with_values(host, file, arguments, prices, ticks),
+        Number::Malformed => program_parts::print_wrong_ticks(host, &word[..n]),
     }
 }
 
 // Reads the prices, if the first argument has them.
-fn read_and_start(arguments: usize) {
+fn read_and_start(host: &impl Host, arguments: usize) {
     let mut prices = [1u32; 5];
-    let read = program_parts::read_prices(&mut prices);
+    let read = program_parts::read_prices(host, &mut prices);
     let count = read.count;
     if read.good {
-        start(read.next, arguments, &prices[..count]);
+        start(host, read.next, arguments, &prices[..count]);
     }
 }
 
-fn main() {
-    let arguments = os::arg_count();
-    if program_parts::asks_help() {
-        help();
+// What the arguments ask for.
+fn run(host: &impl Host) {
+    let arguments = host.argument_count();
+    if program_parts::asks_help(host) {
+        help(host);
         return;
     }
-    read_and_start(arguments);
+    read_and_start(host, arguments);
+}
+
+fn main(rt: HostRuntime) -> ExitCode {
+    let host = System::new(rt);
+    run(&host);
+    host.status()
 }

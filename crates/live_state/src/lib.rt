@@ -1,5 +1,6 @@
 // The state of a live run, 64 numbers that the caller holds: question 21, what they say, and what is written.
 #![tactic(auto)]
+
 ghost use Rattle.std.specs.Prelude.{◌≡◌, ◌&&◌, List, [], ◌∷◌, ◌++◌, ℕ, ◌+◌, ◌-◌, ◌*◌, ◌≤◌, ◌<◌, leb, length, take, drop, replicate};
 ghost use Rattle.rules.specs.Blocks.{view_of, kind_of};
 ghost use Rattle.rules.specs.Report.{line_of};
@@ -198,8 +199,7 @@ fn no(place: usize) -> Verdict
 // The first six numbers.
 fn ask_head(state: &[u64], rows: &[u32], script: PricedRows, ticks: u64) -> Verdict
     requires { ((s : Script) × RowsIn s rows.now script.count) × (length state.now ≡ 64) }
-    ensures {
-        ((s : Script) → RowsIn s rows.now script.count
+    ensures { ((s : Script) → RowsIn s rows.now script.count
         → result ≡ first_no 0 (head_checks script.prices s ticks state.now)) }
 {
     let status = state[STATUS];
@@ -300,8 +300,7 @@ pub fn ask_state(
     loops: usize,
 ) -> Verdict
     requires { (s : Script) × StateAsked script.prices s rows.now script.count ticks lines.now loops }
-    ensures {
-        ((s : Script) → StateAsked script.prices s rows.now script.count ticks lines.now loops
+    ensures { ((s : Script) → StateAsked script.prices s rows.now script.count ticks lines.now loops
         → result ≡ state_verdict script.prices s state.now) }
 {
     if state.len() != STATE {

@@ -2,6 +2,7 @@
 ghost use Rattle.std.specs.Prelude.{◌≡◌, ◌≤◌, length};
 
 use crate::wrong::{print_wrong_price, print_wrong_value};
+use host::Host;
 use program_words::is_word;
 use program_words::lists::{Lent, Values, lend_prices};
 
@@ -12,9 +13,9 @@ pub const WORD: usize = 131_072;
 pub const STORE: usize = 17;
 
 // Whether the first argument asks for help.
-pub fn asks_help() -> bool {
+pub fn asks_help(host: &impl Host) -> bool {
     let mut word = [0u8; 7];
-    let n = os::arg(1, &mut word);
+    let n = host.argument(1, &mut word);
     is_word(&word[..n], b"--help")
 }
 
@@ -27,12 +28,12 @@ pub struct PricesRead {
 }
 
 // Keeps the prices of the first argument, `prices=A,C,P,T`; without it there are four, as they are lent. Says so of one that is no number.
-pub fn read_prices(prices: &mut [u32]) -> PricesRead
+pub fn read_prices(host: &impl Host, prices: &mut [u32]) -> PricesRead
     requires { length prices.old ≡ 5 }
     ensures { (result.count ≤ 5) × (result.next ≤ 2) × (length prices.new ≡ 5) }
 {
     let mut word = [0u8; WORD];
-    let n = os::arg(1, &mut word);
+    let n = host.argument(1, &mut word);
     let lent = lend_prices(&word[..n], prices);
     match lent {
         Lent::Nothing => PricesRead {
@@ -46,7 +47,7 @@ pub fn read_prices(prices: &mut [u32]) -> PricesRead
             next: 2,
         },
         Lent::Wrong(at) => {
-            print_wrong_price(at, &word[..n]);
+            print_wrong_price(host, at, &word[..n]);
             PricesRead {
                 good: false,
                 count: 0,
@@ -57,27 +58,27 @@ pub fn read_prices(prices: &mut [u32]) -> PricesRead
 }
 
 // Keeps argument i as the store's value at `at`; false if it is none. No value has more than 11 bytes, and a longer word is read as empty.
-fn keep_argument(i: usize, store: &mut [i32], at: usize) -> bool {
+fn keep_argument(host: &impl Host, i: usize, store: &mut [i32], at: usize) -> bool {
     let mut word = [0u8; 11];
-    let n = os::arg(i, &mut word);
+    let n = host.argument(i, &mut word);
     program_words::keep_value(&word[..n], store, at)
 }
 
 // Says that argument i, value `at` of the store, is none.
-fn refuse_value(i: usize, at: usize) {
+fn refuse_value(host: &impl Host, i: usize, at: usize) {
     let mut word = [0u8; WORD];
-    let n = os::arg(i, &mut word);
-    print_wrong_value(at, &word[..n]);
+    let n = host.argument(i, &mut word);
+    print_wrong_value(host, at, &word[..n]);
 }
 
 // Reads the store's values: argument `first` and all after it. Says so of one that is none.
-pub fn read_arguments(first: usize, arguments: usize, store: &mut [i32]) -> Values
+pub fn read_arguments(host: &impl Host, first: usize, arguments: usize, store: &mut [i32]) -> Values
     requires { first ≤ 6 }
 {
     let mut i = first;
     while i < arguments {
-        if !keep_argument(i, store, i - first) {
-            refuse_value(i, i - first);
+        if !keep_argument(host, i, store, i - first) {
+            refuse_value(host, i, i - first);
             return Values::Wrong(i - first);
         }
         i += 1;

@@ -6,6 +6,7 @@ use crate::print::{print_number, print_text};
 use crate::steps::{goes_on, step_within};
 use crate::wrong::print_wrong;
 use answer_text::steps::CUES;
+use host::Host;
 use ints::min_max::smaller_size;
 use program_words::is_word;
 
@@ -21,11 +22,11 @@ struct Answer {
 }
 
 // What a line answers. Says so of one that is no pick.
-fn answer_in(word: &[u8]) -> Answer {
+fn answer_in(host: &impl Host, word: &[u8]) -> Answer {
     let one = is_word(word, b"1");
     let good = one || is_word(word, b"0");
     if !good {
-        print_wrong(b"error=a pick is 0 or 1, not", word);
+        print_wrong(host, b"error=a pick is 0 or 1, not", word);
     }
     Answer {
         some: true,
@@ -35,15 +36,15 @@ fn answer_in(word: &[u8]) -> Answer {
 }
 
 // Asks for the pick of a row once.
-fn ask_once(row: usize) -> Answer {
-    print_text(b"pick=");
-    print_number(row as u64);
-    print_text(b"\n");
+fn ask_once(host: &impl Host, row: usize) -> Answer {
+    print_text(host, b"pick=");
+    print_number(host, row as u64);
+    print_text(host, b"\n");
     let mut line = [0u8; LINE];
-    let input = read_line(&mut line);
+    let input = read_line(host, &mut line);
     let n = smaller_size(input.length, LINE);
     if input.some {
-        return answer_in(&line[..n]);
+        return answer_in(host, &line[..n]);
     }
     Answer {
         some: false,
@@ -53,11 +54,11 @@ fn ask_once(row: usize) -> Answer {
 }
 
 // Asks until a line is a pick, or there is none. A proved loop has to end: it counts its turns down from a number that no input uses up.
-fn ask_pick(row: usize) -> Answer {
-    let mut answer = ask_once(row);
+fn ask_pick(host: &impl Host, row: usize) -> Answer {
+    let mut answer = ask_once(host, row);
     let mut turns = u64::MAX;
     while turns > 0 && answer.some && !answer.good {
-        let next = ask_once(row);
+        let next = ask_once(host, row);
         answer = next;
         turns -= 1;
     }
@@ -73,11 +74,11 @@ struct Asking {
 }
 
 // Asks for the pick of a row and keeps it behind `count` picks, if there is room; without an answer the asking ends.
-fn keep_pick(row: usize, picks: &mut [u8], count: usize) -> Asking
+fn keep_pick(host: &impl Host, row: usize, picks: &mut [u8], count: usize) -> Asking
     requires { count ≤ length picks.old }
     ensures { (result.lent ≤ result.count) × (result.count ≤ length picks.old) }
 {
-    let answer = ask_pick(row);
+    let answer = ask_pick(host, row);
     let none = Asking {
         count: count,
         lent: 0,
@@ -99,6 +100,7 @@ fn keep_pick(row: usize, picks: &mut [u8], count: usize) -> Asking
 
 // The next step, lent the last pick if it waits for it, and the answer for the pick that it waits for.
 fn ask_next(
+    host: &impl Host,
     file: &[u8],
     prices: &[u32],
     allowed: u64,
@@ -129,11 +131,12 @@ fn ask_next(
             on: goes_on(allowed, d, &state[..]),
         };
     }
-    keep_pick(d.row, picks, count)
+    keep_pick(host, d.row, picks, count)
 }
 
 // Asks for the picks of a run that has been started, one after the other, as far as there is room, and answers how many there are.
 pub fn ask_picks(
+    host: &impl Host,
     file: &[u8],
     prices: &[u32],
     allowed: u64,
@@ -151,7 +154,7 @@ pub fn ask_picks(
     };
     let mut turns = u64::MAX;
     while turns > 0 && at.on {
-        let next = ask_next(file, prices, allowed, store, state, picks, at);
+        let next = ask_next(host, file, prices, allowed, store, state, picks, at);
         at = next;
         turns -= 1;
     }

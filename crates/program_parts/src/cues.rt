@@ -7,6 +7,7 @@ use crate::arguments::STORE;
 use crate::print::try_print;
 use crate::steps::{begins, goes_on, step_within};
 use answer_text::steps::CUE_LINE;
+use host::Host;
 use ints::min_max::smaller_size;
 use live_state::STATE;
 
@@ -35,17 +36,17 @@ pub const BEFORE_CUES: CuePlace = CuePlace {
 };
 
 // Writes the line of a cue; false if it cannot.
-fn write_cue(n: u32, row: usize, tick: u64, text: &[u8]) -> bool
+fn write_cue(host: &impl Host, n: u32, row: usize, tick: u64, text: &[u8]) -> bool
     requires { text.now ≡ cue_line n row tick }
 {
-    try_print(text)
+    try_print(host, text)
 }
 
 // Prints it.
-fn print_cue(n: u32, row: usize, tick: u64) -> bool {
+fn print_cue(host: &impl Host, n: u32, row: usize, tick: u64) -> bool {
     let mut text = [0u8; CUE_LINE];
     let k = answer_text::steps::put_cue(n, row, tick, &mut text);
-    write_cue(n, row, tick, &text[..k])
+    write_cue(host, n, row, tick, &text[..k])
 }
 
 // One for a step that stopped before a cue.
@@ -92,15 +93,16 @@ pub fn next_cue(
 }
 
 // Prints the line of the cue that was next at a place, if the step to another did it; false if it cannot.
-fn print_done(at: CuePlace, next: CuePlace) -> bool {
+fn print_done(host: &impl Host, at: CuePlace, next: CuePlace) -> bool {
     if next.did {
-        return print_cue(next.number, at.row, at.tick);
+        return print_cue(host, next.number, at.row, at.tick);
     }
     true
 }
 
 // Prints the cues of a run that has been started. A proved loop has to end: it counts its turns down from a number that no run uses up.
 fn list_cues(
+    host: &impl Host,
     file: &[u8],
     prices: &[u32],
     allowed: u64,
@@ -115,7 +117,7 @@ fn list_cues(
     let mut turns = u64::MAX;
     while turns > 0 && at.on && written {
         let next = next_cue(file, prices, allowed, picks, store, state, at);
-        written = print_done(at, next);
+        written = print_done(host, at, next);
         at = next;
         turns -= 1;
     }
@@ -123,6 +125,7 @@ fn list_cues(
 
 // Prints the cues that a run from the first values of a store does, in order; nothing of one that is refused.
 pub fn print_cues(
+    host: &impl Host,
     file: &[u8],
     prices: &[u32],
     allowed: u64,
@@ -136,6 +139,7 @@ pub fn print_cues(
     let mut state = [0u64; STATE];
     if begins(file, prices, &after[..values], &mut state) {
         list_cues(
+            host,
             file,
             prices,
             allowed,

@@ -6,6 +6,7 @@ use crate::arguments::{STORE, WORD};
 use crate::asks::ask_picks;
 use crate::print::print_text;
 use crate::steps::begins;
+use host::Host;
 use ints::min_max::smaller_size;
 use live_state::STATE;
 use loader::SCRATCH;
@@ -25,15 +26,15 @@ fn put_digits(picks: &[u8], text: &mut [u8]) -> usize
 }
 
 // Prints picks as a word that can be given in their place.
-fn print_picks(picks: &[u8]) {
+fn print_picks(host: &impl Host, picks: &[u8]) {
     let mut text = [0u8; WORD];
     let n = put_digits(picks, &mut text);
-    print_text(b"picks=");
+    print_text(host, b"picks=");
     if n == 0 {
-        print_text(b"-");
+        print_text(host, b"-");
     }
-    print_text(&text[..n]);
-    print_text(b"\n");
+    print_text(host, &text[..n]);
+    print_text(host, b"\n");
 }
 
 // Draws picks from a seed and answers how many of them the run uses.
@@ -55,6 +56,7 @@ fn draw_picks(
 
 // Finds the picks of a run from a store, and prints them; of a run that is refused there are none. A word of them stands in picks already.
 pub fn find_picks(
+    host: &impl Host,
     file: &[u8],
     prices: &[u32],
     allowed: u64,
@@ -79,11 +81,12 @@ pub fn find_picks(
         PicksBy::Malformed => 0,
         PicksBy::Seed(seed) => {
             let n = draw_picks(file, prices, allowed, seed, &mut after[..values], picks);
-            print_picks(&picks[..n]);
+            print_picks(host, &picks[..n]);
             n
         }
         PicksBy::Ask => {
             let n = ask_picks(
+                host,
                 file,
                 prices,
                 allowed,
@@ -91,7 +94,7 @@ pub fn find_picks(
                 &mut state,
                 picks,
             );
-            print_picks(&picks[..n]);
+            print_picks(host, &picks[..n]);
             n
         }
     }

@@ -1,6 +1,6 @@
 // Standard input line by line, each as soon as it is there.
 use crate::script::read_some;
-use libc::STDIN_FILENO;
+use host::Host;
 
 // Whether there is a line, how many bytes it has, and whether a read failed.
 #[derive(Clone, Copy)]
@@ -19,9 +19,10 @@ struct Byte {
 }
 
 // Reads it.
-fn read_byte() -> Byte {
+fn read_byte(host: &impl Host) -> Byte {
     let mut byte = [0u8; 1];
-    let input = read_some(STDIN_FILENO, &mut byte);
+    let mut from = host.reader();
+    let input = read_some(&mut from, &mut byte);
     Byte {
         some: input.length > 0,
         byte: byte[0],
@@ -38,10 +39,10 @@ fn keep_byte(byte: u8, at: usize, buffer: &mut [u8]) {
 
 // Reads a line, its LF not kept; the last may lack it. Of a line that is longer than the buffer the first bytes are kept. Byte by
 // byte, since what comes after it may not be there yet. A proved loop has to end: it counts its bytes up to a number that no line has.
-pub fn read_line(buffer: &mut [u8]) -> Line {
+pub fn read_line(host: &impl Host, buffer: &mut [u8]) -> Line {
     let mut n: usize = 0;
     while n < usize::MAX {
-        let next = read_byte();
+        let next = read_byte(host);
         if !next.some {
             return Line {
                 some: n > 0,

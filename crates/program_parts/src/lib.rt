@@ -1,5 +1,6 @@
 // What the programs share: files by name, lists of lines, arguments, and what is printed.
 #![tactic(auto)]
+
 mod arguments;
 mod asks;
 mod cues;

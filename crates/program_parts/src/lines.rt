@@ -1,10 +1,10 @@
 // Lists on standard input, one file or one run a line.
 use crate::arguments::STORE;
 use crate::print::print_text;
-use crate::script::{rehearse_file, report_file};
+use crate::script::{read_all, rehearse_file, report_file};
 use crate::wrong::{next, print_wrong_listed, print_wrong_price};
 use byte_slices::find;
-use libc::STDIN_FILENO;
+use host::Host;
 use program_words::lists::{Lent, Values, lend_prices, read_line_values};
 
 // What a line is: the name of a file to report, or a run, `[prices=A,C,P,T] NAME ALLOWANCE PICKS VALUE ..`.
@@ -15,17 +15,26 @@ pub enum LineKind {
 }
 
 // Makes the run of a line under prices, from its name, allowance, picks and values.
-fn run_words(name: &[u8], prices: &[u32], allowance: &[u8], picks: &[u8], words: &[u8]) {
+fn run_words(
+    host: &impl Host,
+    name: &[u8],
+    prices: &[u32],
+    allowance: &[u8],
+    picks: &[u8],
+    words: &[u8],
+) {
     let mut store = [0i32; STORE];
     let values = read_line_values(words, &mut store);
     match values {
-        Values::Count(count) => rehearse_file(name, prices, allowance, picks, count, store, false),
-        Values::Wrong(at) => print_wrong_listed(at, words, b' '),
+        Values::Count(count) => rehearse_file(
+            host, name, prices, allowance, picks, count, store, false,
+        ),
+        Values::Wrong(at) => print_wrong_listed(host, at, words, b' '),
     }
 }
 
 // Takes a run's line, from the name on, apart at its first three spaces.
-fn run_line(line: &[u8], prices: &[u32]) {
+fn run_line(host: &impl Host, line: &[u8], prices: &[u32]) {
     let all = line.len();
     let a = find(line, 0, all, b' ');
     let b = next(line, a);
@@ -33,46 +42,55 @@ fn run_line(line: &[u8], prices: &[u32]) {
     let d = next(line, c);
     let e = find(line, d, all, b' ');
     let f = next(line, e);
-    run_words(&line[0..a], prices, &line[b..c], &line[d..e], &line[f..]);
+    run_words(
+        host,
+        &line[0..a],
+        prices,
+        &line[b..c],
+        &line[d..e],
+        &line[f..],
+    );
 }
 
 // Reads the prices that may stand before a run's name.
-fn priced_line(line: &[u8]) {
+fn priced_line(host: &impl Host, line: &[u8]) {
     let ones = [1u32; 4];
     let mut prices = [1u32; 5];
     let a = find(line, 0, line.len(), b' ');
     let b = next(line, a);
     let lent = lend_prices(&line[0..a], &mut prices);
     match lent {
-        Lent::Nothing => run_line(line, &ones),
-        Lent::Count(n) => run_line(&line[b..], &prices[..n]),
-        Lent::Wrong(at) => print_wrong_price(at, &line[0..a]),
+        Lent::Nothing => run_line(host, line, &ones),
+        Lent::Count(n) => run_line(host, &line[b..], &prices[..n]),
+        Lent::Wrong(at) => print_wrong_price(host, at, &line[0..a]),
     }
 }
 
 // Prints a line, and the report or the run that it asks for.
-fn answer_line(kind: LineKind, line: &[u8]) {
-    print_text(line);
-    print_text(b"\n");
+fn answer_line(host: &impl Host, kind: LineKind, line: &[u8]) {
+    print_text(host, line);
+    print_text(host, b"\n");
     match kind {
-        LineKind::File => report_file(line),
-        LineKind::Run => priced_line(line),
+        LineKind::File => report_file(host, line),
+        LineKind::Run => priced_line(host, line),
     }
 }
 
 // Answers each line of a list.
-fn answer_lines(kind: LineKind, list: &[u8]) {
+fn answer_lines(host: &impl Host, kind: LineKind, list: &[u8]) {
     let mut at = 0;
     while at < list.len() {
         let end = find(list, at, list.len(), b'\n');
-        answer_line(kind, &list[at..end]);
+        answer_line(host, kind, &list[at..end]);
         at = end + 1;
     }
 }
 
 // Answers each line of standard input.
-pub fn answer_input(kind: LineKind) {
+pub fn answer_input(host: &impl Host, kind: LineKind) {
     let mut list = io::large_buffer();
-    let n = io::read_full(STDIN_FILENO, &mut list);
-    answer_lines(kind, &list[..n]);
+    let mut from = host.reader();
+    let input = read_all(&mut from, &mut list);
+    let n = input.length;
+    answer_lines(host, kind, &list[..n]);
 }

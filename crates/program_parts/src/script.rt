@@ -11,10 +11,11 @@ use crate::found::find_picks;
 use crate::print::print_text;
 use crate::wrong::{print_unread, print_wrong_allowance, print_wrong_picks, print_wrong_seed};
 use answer_text::reports::{TEXT, put_report};
+use host::Host;
 use ints::min_max::smaller_size;
-use libc::STDIN_FILENO;
 use program_words::picks::{PicksBy, picks_by};
 use program_words::{Number, allowance, pick_count, put_picks};
+use std::io::Read;
 
 // How many bytes were read, and whether a read failed.
 #[derive(Clone, Copy)]
@@ -24,25 +25,29 @@ pub struct Input {
 }
 
 // Reads once.
-pub fn read_some(fd: i32, rest: &mut [u8]) -> Input
+pub fn read_some(from: &mut impl Read, rest: &mut [u8]) -> Input
     ensures { IsPrefixLen result.length rest.new }
 {
-    let got = libc::read(fd, rest);
-    let length = io::count(got, rest);
-    Input {
-        length,
-        failed: got < 0,
+    match from.read(rest) {
+        Ok(length) => Input {
+            length,
+            failed: false,
+        },
+        Err(_) => Input {
+            length: 0,
+            failed: true,
+        },
     }
 }
 
 // Reads until the buffer is full, the input ends or a read fails.
-pub fn read_all(fd: i32, buffer: &mut [u8]) -> Input
+pub fn read_all(from: &mut impl Read, buffer: &mut [u8]) -> Input
     ensures { IsPrefixLen result.length buffer.new }
 {
     let mut at = 0;
     let mut failed = false;
     while at < buffer.len() {
-        let input = read_some(fd, &mut buffer[at..]);
+        let input = read_some(from, &mut buffer[at..]);
         let n = input.length;
         if n == 0 {
             failed = input.failed;
@@ -54,67 +59,66 @@ pub fn read_all(fd: i32, buffer: &mut [u8]) -> Input
 }
 
 // Reads the file of that name.
-pub fn read_file(path: &[u8], buffer: &mut [u8]) -> Input
+pub fn read_file(host: &impl Host, path: &[u8], buffer: &mut [u8]) -> Input
     ensures { IsPrefixLen result.length buffer.new }
 {
-    let fd = os::open_read(path);
-    if fd < 0 {
-        return Input {
+    match host.open(path) {
+        Some(mut file) => read_all(&mut file, buffer),
+        None => Input {
             length: 0,
             failed: true,
-        };
+        },
     }
-    let input = read_all(fd, buffer);
-    libc::close(fd);
-    input
 }
 
 // Says that standard input, or a file whose name is printed already, cannot be read.
-pub fn cannot_read() {
-    print_text(b"error=cannot read the file\n");
+pub fn cannot_read(host: &impl Host) {
+    print_text(host, b"error=cannot read the file\n");
 }
 
 // Writes what is printed of a file.
-fn write_report(file: &[u8], text: &[u8])
+fn write_report(host: &impl Host, file: &[u8], text: &[u8])
     requires { text.now ≡ printed four_ones file.now }
 {
-    print_text(text);
+    print_text(host, text);
 }
 
 // Prints the report of a file's bytes under four ones, or its refusal.
-fn print_report(file: &[u8]) {
+fn print_report(host: &impl Host, file: &[u8]) {
     let ones = [1u32; 4];
     let mut text = [0u8; TEXT];
     let n = put_report(file, &ones, &mut text);
-    write_report(file, &text[..n]);
+    write_report(host, file, &text[..n]);
 }
 
 // Prints the report of the file on standard input.
-pub fn report_input() {
+pub fn report_input(host: &impl Host) {
     let mut file = [0u8; 16385];
-    let input = read_all(STDIN_FILENO, &mut file);
+    let mut from = host.reader();
+    let input = read_all(&mut from, &mut file);
     let length = input.length;
     if input.failed {
-        cannot_read();
+        cannot_read(host);
         return;
     }
-    print_report(&file[..length]);
+    print_report(host, &file[..length]);
 }
 
 // Prints the report of the file of that name.
-pub fn report_file(path: &[u8]) {
+pub fn report_file(host: &impl Host, path: &[u8]) {
     let mut file = [0u8; 16385];
-    let input = read_file(path, &mut file);
+    let input = read_file(host, path, &mut file);
     let length = input.length;
     if input.failed {
-        print_unread(path);
+        print_unread(host, path);
         return;
     }
-    print_report(&file[..length]);
+    print_report(host, &file[..length]);
 }
 
 // Writes what is printed of a run from the first values of a store.
 fn write_run(
+    host: &impl Host,
     file: &[u8],
     prices: &[u32],
     allowed: u64,
@@ -127,11 +131,12 @@ fn write_run(
         text.now ≡ reply_text (run_reply prices.now (judged prices.now scratch_size file.now) (take values store) picks.now allowed)
         (take values store) }
 {
-    print_text(text);
+    print_text(host, text);
 }
 
 // Runs a file's bytes from the first values of a store and prints what the call answers.
 fn print_run(
+    host: &impl Host,
     file: &[u8],
     prices: &[u32],
     allowed: u64,
@@ -151,11 +156,21 @@ fn print_run(
         allowed,
         &mut text,
     );
-    write_run(file, prices, allowed, picks, values, store, &text[..n]);
+    write_run(
+        host,
+        file,
+        prices,
+        allowed,
+        picks,
+        values,
+        store,
+        &text[..n],
+    );
 }
 
 // Finds the picks of a run of a file's bytes, and prints its cues, if they are asked for, and what the call answers.
 fn run_found(
+    host: &impl Host,
     file: &[u8],
     prices: &[u32],
     allowed: u64,
@@ -167,15 +182,16 @@ fn run_found(
 )
     requires { values ≤ 17 }
 {
-    let n = find_picks(file, prices, allowed, by, values, store, picks);
+    let n = find_picks(host, file, prices, allowed, by, values, store, picks);
     if cues {
-        print_cues(file, prices, allowed, &picks[..n], values, store);
+        print_cues(host, file, prices, allowed, &picks[..n], values, store);
     }
-    print_run(file, prices, allowed, &picks[..n], values, store);
+    print_run(host, file, prices, allowed, &picks[..n], values, store);
 }
 
 // The same of the file of that name.
 fn run_file(
+    host: &impl Host,
     path: &[u8],
     prices: &[u32],
     allowed: u64,
@@ -188,13 +204,14 @@ fn run_file(
     requires { values ≤ 17 }
 {
     let mut file = [0u8; 16385];
-    let input = read_file(path, &mut file);
+    let input = read_file(host, path, &mut file);
     let length = input.length;
     if input.failed {
-        print_unread(path);
+        print_unread(host, path);
         return;
     }
     run_found(
+        host,
         &file[..length],
         prices,
         allowed,
@@ -208,6 +225,7 @@ fn run_file(
 
 // Runs the file of that name by a word of picks, whose bytes go into picks.
 fn run_word(
+    host: &impl Host,
     path: &[u8],
     prices: &[u32],
     allowed: u64,
@@ -221,14 +239,15 @@ fn run_word(
 {
     if put_picks(word, picks) {
         let by = PicksBy::Word;
-        run_file(path, prices, allowed, by, picks, values, store, cues);
+        run_file(host, path, prices, allowed, by, picks, values, store, cues);
     } else {
-        print_wrong_picks(word);
+        print_wrong_picks(host, word);
     }
 }
 
 // The same with room for as many picks as an argument of a program can have, or by picks that are found.
 fn run_picks(
+    host: &impl Host,
     path: &[u8],
     prices: &[u32],
     allowed: u64,
@@ -244,6 +263,7 @@ fn run_picks(
     let count = pick_count(word, &picks);
     match by {
         PicksBy::Word => run_word(
+            host,
             path,
             prices,
             allowed,
@@ -253,15 +273,20 @@ fn run_picks(
             store,
             cues,
         ),
-        PicksBy::Seed(_) => run_file(path, prices, allowed, by, &mut picks, values, store, cues),
-        PicksBy::Ask => run_file(path, prices, allowed, by, &mut picks, values, store, cues),
-        PicksBy::Malformed => print_wrong_seed(word),
+        PicksBy::Seed(_) => run_file(
+            host, path, prices, allowed, by, &mut picks, values, store, cues,
+        ),
+        PicksBy::Ask => run_file(
+            host, path, prices, allowed, by, &mut picks, values, store, cues,
+        ),
+        PicksBy::Malformed => print_wrong_seed(host, word),
     }
 }
 
 // Runs the file of that name under prices, by a word of allowance, a word that says the picks and the first values of a store, and prints
 // the outcome or what is wrong; before it the cues, if they are asked for.
 pub fn rehearse_file(
+    host: &impl Host,
     path: &[u8],
     prices: &[u32],
     allowed: &[u8],
@@ -273,7 +298,7 @@ pub fn rehearse_file(
     let kept = smaller_size(values, STORE);
     let n = allowance(allowed);
     match n {
-        Number::Is(ticks) => run_picks(path, prices, ticks, word, kept, store, cues),
-        Number::Malformed => print_wrong_allowance(allowed),
+        Number::Is(ticks) => run_picks(host, path, prices, ticks, word, kept, store, cues),
+        Number::Malformed => print_wrong_allowance(host, allowed),
     }
 }

@@ -4,6 +4,7 @@ ghost use Rattle.io.specs.Counts.{IsPrefixLen};
 
 use crate::print::{print_number, print_text};
 use byte_slices::find;
+use host::Host;
 use ints::min_max::smaller_size;
 use program_words::is_number;
 
@@ -35,37 +36,38 @@ fn put_shown(word: &[u8], text: &mut [u8]) -> usize
 }
 
 // Prints a word, cut where it is long.
-fn print_word(word: &[u8]) {
+fn print_word(host: &impl Host, word: &[u8]) {
     let mut text = [0u8; SHOWN];
     let n = put_shown(word, &mut text);
-    print_text(&text[..n]);
+    print_text(host, &text[..n]);
     if word.len() > SHOWN {
-        print_text(b"..");
+        print_text(host, b"..");
     }
 }
 
 // The end of a line: a word that was expected to be something else.
-pub fn print_wrong(expected: &[u8], word: &[u8]) {
-    print_text(expected);
-    print_text(b": ");
-    print_word(word);
-    print_text(b"\n");
+pub fn print_wrong(host: &impl Host, expected: &[u8], word: &[u8]) {
+    print_text(host, expected);
+    print_text(host, b": ");
+    print_word(host, word);
+    print_text(host, b"\n");
 }
 
 // The same of a number that is wanted from a range.
-fn print_wrong_number(range: &[u8], other: &[u8], word: &[u8]) {
+fn print_wrong_number(host: &impl Host, range: &[u8], other: &[u8], word: &[u8]) {
     if is_number(word) {
-        print_wrong(range, word);
+        print_wrong(host, range, word);
         return;
     }
-    print_wrong(other, word);
+    print_wrong(host, other, word);
 }
 
 // Value `at` of the store.
-pub fn print_wrong_value(at: usize, word: &[u8]) {
-    print_text(b"error=value ");
-    print_number(at as u64);
+pub fn print_wrong_value(host: &impl Host, at: usize, word: &[u8]) {
+    print_text(host, b"error=value ");
+    print_number(host, at as u64);
     print_wrong_number(
+        host,
         b" is not from -2147483648 to 2147483647",
         b" is not a number",
         word,
@@ -73,8 +75,9 @@ pub fn print_wrong_value(at: usize, word: &[u8]) {
 }
 
 // An allowance.
-pub fn print_wrong_allowance(word: &[u8]) {
+pub fn print_wrong_allowance(host: &impl Host, word: &[u8]) {
     print_wrong_number(
+        host,
         b"error=allowance is not from 0 to 18446744073709551615",
         b"error=allowance is not a number or plan",
         word,
@@ -82,8 +85,9 @@ pub fn print_wrong_allowance(word: &[u8]) {
 }
 
 // The ticks of a frame.
-pub fn print_wrong_ticks(word: &[u8]) {
+pub fn print_wrong_ticks(host: &impl Host, word: &[u8]) {
     print_wrong_number(
+        host,
         b"error=Q is not from 1 to 1000000",
         b"error=Q is not a number",
         word,
@@ -91,13 +95,14 @@ pub fn print_wrong_ticks(word: &[u8]) {
 }
 
 // A word of picks.
-pub fn print_wrong_picks(word: &[u8]) {
-    print_wrong(b"error=picks are not 0 and 1, or -", word);
+pub fn print_wrong_picks(host: &impl Host, word: &[u8]) {
+    print_wrong(host, b"error=picks are not 0 and 1, or -", word);
 }
 
 // The seed of picks that are drawn.
-pub fn print_wrong_seed(word: &[u8]) {
+pub fn print_wrong_seed(host: &impl Host, word: &[u8]) {
     print_wrong(
+        host,
         b"error=the seed is not from 0 to 18446744073709551615",
         word,
     );
@@ -126,20 +131,21 @@ fn start_of(list: &[u8], separator: u8, k: usize) -> usize
 }
 
 // Value `at` of a list with separators between them.
-pub fn print_wrong_listed(at: usize, list: &[u8], separator: u8) {
+pub fn print_wrong_listed(host: &impl Host, at: usize, list: &[u8], separator: u8) {
     let from = start_of(list, separator, at);
     let to = find(list, from, list.len(), separator);
-    print_wrong_value(at, &list[from..to]);
+    print_wrong_value(host, at, &list[from..to]);
 }
 
 // Price `at` of a word `prices=..`.
-pub fn print_wrong_price(at: usize, word: &[u8]) {
+pub fn print_wrong_price(host: &impl Host, at: usize, word: &[u8]) {
     let list = start_of(word, b'=', 1);
     let from = list + start_of(&word[list..], b',', at);
     let to = find(word, from, word.len(), b',');
-    print_text(b"error=price ");
-    print_number(at as u64);
+    print_text(host, b"error=price ");
+    print_number(host, at as u64);
     print_wrong_number(
+        host,
         b" is not from 1 to 1000",
         b" is not a number",
         &word[from..to],
@@ -147,6 +153,6 @@ pub fn print_wrong_price(at: usize, word: &[u8]) {
 }
 
 // A file that cannot be read, by its name.
-pub fn print_unread(name: &[u8]) {
-    print_wrong(b"error=cannot read the file", name);
+pub fn print_unread(host: &impl Host, name: &[u8]) {
+    print_wrong(host, b"error=cannot read the file", name);
 }

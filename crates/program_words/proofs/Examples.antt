@@ -1,7 +1,6 @@
 -- The definitions at a few words. Assumes nothing.
 use mathlib.Core.Path.{◌≡◌, refl}
-use mathlib.Core.List.{List, [], ◌∷◌}
-use Prim.Native.Nat.{ℕ}
+use mathlib.Core.List.{[], ◌∷◌}
 use lib.IntN.{pos, neg_ℤ}
 use Rattle.rules.specs.Text.{prefixed, split, starts_with, equals, is_digit, all_digits, value_from, is_natural}
 use Rattle.program_words.specs.Words.{sized, number_in, value_in}

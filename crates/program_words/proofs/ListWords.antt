@@ -1,5 +1,5 @@
 -- The words of a first word, of a line and of one word. Assumes nothing.
-use mathlib.Core.Path.{◌≡◌, ap, ◌∙◌}
+use mathlib.Core.Path.{◌≡◌}
 use mathlib.Core.Bool.{Bool, true, false, cond}
 use mathlib.Core.List.{List, [], ◌∷◌}
 use Prim.Native.Nat.{ℕ, suc, ◌-◌, ◌≤◌}
@@ -7,9 +7,8 @@ use native.Mathlib.Omega.{arith}
 use borrow.Author.Tests.{eq-eqb, ne_eqb}
 use lib.Dec.{eqb}
 use lib.IntN.{ℤ}
-use lib.ListN.{length, get_or, take, drop}
+use lib.ListN.{length, get_or, take}
 use Rattle.rules.specs.Text.{space, minus, split, starts_with, equals}
-use Rattle.reading.proofs.TextLaws.{part_rest}
 use Rattle.program_words.specs.declared.lists.Values.{Values}
 use Rattle.program_words.specs.declared.lists.Values.TheVariants.{Count}
 use Rattle.program_words.specs.Lists.{comma, values_in, values_kept, until_space, line_words, comma_words}

@@ -1,5 +1,5 @@
 -- Lists of numbers as words: the prices of a run, `prices=A,C,P,T`, and the values of a store, with a separator between them.
-use Rattle.std.specs.Prelude.{◌≡◌, Bool, true, false, cond, ◌&&◌, List, [], ◌∷◌, map, ℕ, suc, ◌-◌, ◌≤◌, min, eqb, ℤ, pos, negsuc, length, get_or, take, drop}
+use Rattle.std.specs.Prelude.{◌≡◌, cond, List, [], ◌∷◌, map, ℕ, suc, ◌-◌, ◌≤◌, min, eqb, ℤ, pos, negsuc, length, get_or, take, drop}
 use Rattle.rules.specs.Text.{space, minus, split, starts_with, equals}
 use Rattle.program_words.specs.Words.{value_in, is_value, kept_in}
 use Rattle.program_words.specs.declared.lists.Values as counts

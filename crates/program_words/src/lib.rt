@@ -1,5 +1,6 @@
 // Numbers, prices and picks as words. A number is written as in a script: no plus, no leading zeros, `-` only before a non-zero number.
 #![tactic(auto)]
+
 pub mod lists;
 pub mod picks;
 
@@ -195,7 +196,7 @@ pub fn is_word(word: &[u8], one: &[u8]) -> bool
 }
 
 // An allowance: a number, or `plan`. A plan's run is made with the largest allowance: an accepted file's run answers the same with
-// every allowance from its report's ticks on (the law `run-capped` of the rules), and a refusal reads no allowance.
+// every allowance from its report's ticks on (the law `run_capped` of the rules), and a refusal reads no allowance.
 pub fn allowance(word: &[u8]) -> Number
     ensures { result ≡ allowance_in word.now }
 {

@@ -7,7 +7,6 @@ use native.Mathlib.Numerals.{add-one}
 use lib.IntN.{ℤ, pos}
 use lib.ListN.{length, get_or, take, drop, set, replicate, length-set, length-drop}
 use lib.Seq.{drop-drop, take-suc-set, get_or-set_other}
-use Rattle.rules.specs.Ranges.{Range}
 use Rattle.rules.specs.File.{refused, range_lines}
 use Rattle.rules.proofs.Laws.{pairs_length, pairs_set}
 use Rattle.reader.specs.declared.lines.Ranged.{Ranged}

@@ -96,8 +96,7 @@ fn load_ranges(file: &[u8], at: usize, vars: usize, ranges: &mut [[i32; 2]; 16])
 // `vars=V` and on.
 fn load_vars(file: &[u8], at: usize, ranges: &mut [[i32; 2]; 16]) -> Head
     requires { at ≤ length file.now }
-    ensures {
-        HeadRead file.now
+    ensures { HeadRead file.now
         (then_lines (count_line vars_key 16 2 (file_lines (drop at file.now))) range_part) result ranges.new }
 {
     let c = count_line(&file[at..], b"vars=", 16);

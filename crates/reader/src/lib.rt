@@ -1,5 +1,6 @@
 // Reads a script file line by line: the questions 2 to 7 and 17. Each line's reader gets the unread rest of the file.
 #![tactic(auto)]
+
 pub mod head;
 pub mod lines;
 pub mod nesting;

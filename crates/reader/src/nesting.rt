@@ -1,7 +1,7 @@
 // Questions 6 and 7, row by row: the blocks that are open.
 ghost use Rattle.std.specs.Prelude.{◌≡◌, ℕ, ◌+◌, ◌<◌, List};
 ghost use Rattle.rules.specs.Blocks.{view_of, kind_of};
-ghost use Rattle.rules.specs.Nesting.{nest_row, in-loop, in-pick};
+ghost use Rattle.rules.specs.Nesting.{nest_row, in_loop, in_pick};
 ghost use Rattle.rules.specs.Nesting.{opens as opensBlock, elses, ends as endsBlock};
 ghost use Rattle.reader.specs.Open.{nest_of, nested_of, Shallow};
 
@@ -41,7 +41,7 @@ pub struct Placed {
 
 fn open_loop(b: Blocks) -> Placed
     requires { Shallow b }
-    ensures { (nested_of result ≡ opensBlock in-loop (nest_of b).open_blocks b.loops) × Shallow result.blocks }
+    ensures { (nested_of result ≡ opensBlock in_loop (nest_of b).open_blocks b.loops) × Shallow result.blocks }
 {
     let depth = b.depth;
     let loops = b.loops;
@@ -71,7 +71,7 @@ fn open_loop(b: Blocks) -> Placed
 
 fn open_pick(b: Blocks) -> Placed
     requires { Shallow b }
-    ensures { (nested_of result ≡ opensBlock in-pick (nest_of b).open_blocks b.loops) × Shallow result.blocks }
+    ensures { (nested_of result ≡ opensBlock in_pick (nest_of b).open_blocks b.loops) × Shallow result.blocks }
 {
     let depth = b.depth;
     let loops = b.loops;

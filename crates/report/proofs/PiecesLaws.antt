@@ -69,9 +69,9 @@ wrote_byte text old new b at h w = record {
   kept = rw (w.kept, w.count, drop-cons old (length text) 0 h, set-append_seam, length-append, add-one, append_assoc);
 }
 
-pub wrote_copy : (text part old new : List ℕ) (r : ℕ) → part ≡ text → r ≡ length part → new ≡ take (length part) part ++ drop (length part) old → Wrote text old new r
+pub wrote_copy : (text part old new : List ℕ) (r : ℕ) → part ≡ text → r ≡ length part → new ≡ part ++ drop (length part) old → Wrote text old new r
 unfolding over
-wrote_copy text part old new r e f g = record { count = f ∙ ap length e; kept = g ∙ rw (e, take-length) }
+wrote_copy text part old new r e f g = record { count = f ∙ ap length e; kept = g ∙ rw e }
 
 -- the digits written, in each case of the code
 pub wrote_none : (k n : ℕ) (old : List ℕ) → k ≡ 0 → Wrote (decimal_in k n) old old 0

@@ -1,5 +1,6 @@
 // Writing the report, line by line, into the unused rest of the buffer.
 #![tactic(auto)]
+
 pub mod pieces;
 
 ghost use Rattle.std.specs.Prelude.{◌≡◌, ◌≤◌, length};
@@ -205,8 +206,7 @@ fn put_lines(
     ticks: u64,
     buffer: &mut [u8],
 ) -> usize
-    requires {
-        LineTable loops lines.now × (length (report_text rows (first_lines lines.now loops) ticks) ≤ length buffer.old) }
+    requires { LineTable loops lines.now × (length (report_text rows (first_lines lines.now loops) ticks) ≤ length buffer.old) }
     ensures { Wrote (report_text rows (first_lines lines.now loops) ticks) buffer.old buffer.new result }
 {
     let a = put_head(rows, loops, buffer);
@@ -223,8 +223,7 @@ pub fn write_report(
     buffer: &mut [u8],
 ) -> Reply
     requires { LineTable loops lines.now }
-    ensures {
-        (result ≡ buffer_reply (report_text rows (first_lines lines.now loops) ticks) (length buffer.old))
+    ensures { (result ≡ buffer_reply (report_text rows (first_lines lines.now loops) ticks) (length buffer.old))
         × (buffer.new ≡ written (report_text rows (first_lines lines.now loops) ticks) buffer.old) }
 {
     let len = report_len(rows, lines, loops, ticks);

@@ -1,5 +1,6 @@
 // The step of a variable, and two steps joined: in sequence, or over a pick.
 #![tactic(auto)]
+
 ghost use Rattle.std.specs.Prelude.{◌≡◌, cond, ◌≤◌};
 ghost use Rattle.rules_steps.specs.Joins.{is_still, factor_limit, product, then, either, two_of};
 ghost use Rattle.rules_steps.specs.Ends.{EndsWithin};

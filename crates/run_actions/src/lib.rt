@@ -1,5 +1,6 @@
 // What one price of a run buys: an assignment, a cue, a pick; and the counts of the turns.
 #![tactic(auto)]
+
 ghost use Rattle.std.specs.Prelude.{◌≡◌, cond, ◌<◌, eqb, length};
 ghost use Rattle.rules.specs.Values.{compares};
 ghost use Rattle.table.specs.Code.{comparison_by};

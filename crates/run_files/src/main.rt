@@ -1,8 +1,13 @@
 // Reads runs from standard input, one a line, `[prices=A,C,P,T] NAME ALLOWANCE PICKS VALUE ..`, and prints for each its line and what
 // `rehearse` prints.
 #![tactic(auto)]
-use program_parts::LineKind;
 
-fn main() {
-    program_parts::answer_input(LineKind::Run);
+use host::System;
+use program_parts::LineKind;
+use std::process::ExitCode;
+
+fn main(rt: HostRuntime) -> ExitCode {
+    let host = System::new(rt);
+    program_parts::answer_input(&host, LineKind::Run);
+    host.status()
 }

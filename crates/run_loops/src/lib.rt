@@ -1,5 +1,6 @@
 // The loops of a script in row order, with their two counts.
 #![tactic(auto)]
+
 ghost use Rattle.std.specs.Prelude.{◌≡◌, List, ℕ, ◌+◌, ◌*◌, ◌<◌, ◌^◌, max, length, get_or};
 ghost use Rattle.rules.specs.Blocks.{view_of, kind_of};
 ghost use Rattle.rules.specs.Calls.{is_loop_row};

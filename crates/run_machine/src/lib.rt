@@ -1,5 +1,6 @@
 // One step of the machine: a row of the table, or the test of the loop that ends there.
 #![tactic(auto)]
+
 ghost use Rattle.std.specs.Prelude.{◌≡◌, List, ℕ, ◌+◌, ◌*◌, ◌<◌, length};
 ghost use Rattle.table.specs.Code.{operand_in, limit_in, numbers_at};
 ghost use Rattle.run_machine.specs.Steps.{script_in, AtRow, AtTest, Stepped};
@@ -174,8 +175,7 @@ pub fn act(
     counts: &mut [[u64; 3]; 16],
 ) -> Machine
     requires { (count : ℕ) × AtRow text.now rows.now count m store.old counts.old }
-    ensures {
-        ((count : ℕ) → AtRow text.now rows.now count m store.old counts.old
+    ensures { ((count : ℕ) → AtRow text.now rows.now count m store.old counts.old
         → Stepped prices (script_in text.now rows.now count) m result store.old store.new
         picks.now counts.old counts.new) }
 {
@@ -253,11 +253,9 @@ pub fn test_row(
     counts: &mut [[u64; 3]; 16],
     limits: &mut [i64; 16],
 ) -> Machine
-    requires {
-        ((count : ℕ) × AtTest text.now rows.now count m store.now counts.old × KeptAt text.now rows.now m store.now
+    requires { ((count : ℕ) × AtTest text.now rows.now count m store.now counts.old × KeptAt text.now rows.now m store.now
         limits.old) }
-    ensures step {
-        ((count : ℕ) (picks : List ℕ) → AtTest text.now rows.now count m store.now
+    ensures step { ((count : ℕ) (picks : List ℕ) → AtTest text.now rows.now count m store.now
         counts.old → Stepped prices (script_in text.now rows.now count) m result store.now
         store.now picks counts.old counts.new) }
     ensures limits { TestKept text.now rows.now m result store.now limits.old limits.new }

@@ -1,5 +1,6 @@
 // The run of a script: the machine from its start to its end, and its answer.
 #![tactic(auto)]
+
 pub mod live;
 
 ghost use Rattle.std.specs.Prelude.{◌≡◌, ◌+◌, ◌≤◌, ◌<◌, ◌^◌};
@@ -24,8 +25,7 @@ pub fn resume(
     counts: &mut [[u64; 3]; 16],
 ) -> Machine
     requires { MayGo text.now prices rows.now count from store.old picks.now counts.old }
-    ensures {
-        WentOn prices (script_in text.now rows.now count) from result store.old store.new
+    ensures { WentOn prices (script_in text.now rows.now count) from result store.old store.new
         picks.now counts.old counts.new }
 {
     let begin = Begin {
@@ -95,8 +95,7 @@ pub fn run_rows(
     counts: &mut [[u64; 3]; 16],
 ) -> Ran
     requires { MayRun text.now prices rows.now count store.old allowance × Cleared counts.old }
-    ensures {
-        Answered prices (script_in text.now rows.now count) allowance picks.now result store.old
+    ensures { Answered prices (script_in text.now rows.now count) allowance picks.now result store.old
         store.new counts.new }
 {
     let start = Machine {

@@ -79,8 +79,7 @@ pub fn go_on(
     cues: &mut [u32],
 ) -> Stop
     requires { MayGoLive text.now script rows.now from.machine store.old picks.now counts.old }
-    ensures {
-        Went script.prices (script_in text.now rows.now script.count) from result store.old
+    ensures { Went script.prices (script_in text.now rows.now script.count) from result store.old
         store.new picks.now counts.old counts.new cues.old cues.new }
 {
     let prices = script.prices;

@@ -1,5 +1,6 @@
 // The rows of a script as a flat table of numbers, four to a row: 256 rows are the 1,024 numbers of the lent scratch.
 #![tactic(auto)]
+
 pub mod codes;
 mod fields;
 

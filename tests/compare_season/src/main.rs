@@ -8,8 +8,6 @@ use reference::sheet::season;
 use program::{run, Way};
 use repertoire::Repertoire;
 use std::collections::BTreeMap;
-use std::ffi::OsStr;
-use std::os::unix::ffi::OsStrExt;
 use std::path::{Path, PathBuf};
 use std::process::{exit, id};
 
@@ -21,9 +19,9 @@ fn differ(folder: &Path, input: &[u8], expected: &[u8], got: &[u8]) -> ! {
     exit(1)
 }
 
-/// The reference's sheet of names in a folder.
+/// The reference's sheet of names in a folder. A name that is not UTF-8 opens no file: the names of Rattle's files are text.
 fn reference(folder: &Path, input: &[u8]) -> Vec<u8> {
-    season(input, |name| std::fs::read(folder.join(OsStr::from_bytes(name))).ok())
+    season(input, |name| std::fs::read(folder.join(std::str::from_utf8(name).ok()?)).ok())
 }
 
 /// NAME.in and NAME.out in `cases`, over the files of `folder`.

@@ -183,7 +183,7 @@ fn label(input: &[u8], folder: &Path, labels: &mut BTreeSet<&'static str>) {
         labels.insert("64 names");
     }
     let opened = names.iter().filter(|name| sheet::opened(name));
-    let files: Vec<Vec<u8>> = opened.map(|name| std::fs::read(folder.join(OsStr::from_bytes(name))).unwrap_or_default()).collect();
+    let files: Vec<Vec<u8>> = opened.map(|name| std::str::from_utf8(name).map(|name| std::fs::read(folder.join(name)).unwrap_or_default()).unwrap_or_default()).collect();
     let mut reports = BTreeSet::new();
     let mut contents = BTreeSet::new();
     let mut cues = BTreeSet::new();

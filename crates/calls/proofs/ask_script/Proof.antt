@@ -12,10 +12,10 @@ use Rattle.calls.proofs.ask_script.Tie as tie
 
 -- the script that is read
 abbrev script : tie.Start → Script
-script s = read_script s.args.text.now s.args.rows.now s.args.script s.args.t4
+script s = read_script s.args.text.now s.args.rows.now s.args.script s.args.ranges
 
 -- the ranges are a whole array
-full_ranges : (s : tie.Start) → length s.args.t4 ≡ 16
+full_ranges : (s : tie.Start) → length s.args.ranges ≡ 16
 full_ranges s = search rules
 
 prices-of-requires : tie.Need-prices_of-by_kind-requires

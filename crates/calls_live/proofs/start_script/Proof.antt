@@ -12,9 +12,9 @@ use Rattle.calls_live.proofs.start_script.Tie as tie
 
 -- the script that is read
 abbrev script : tie.Start → Script
-script s = read_script s.args.text.now s.args.rows.now s.args.script s.args.t4
+script s = read_script s.args.text.now s.args.rows.now s.args.script s.args.ranges
 
-full_ranges : (s : tie.Start) → length s.args.t4 ≡ 16
+full_ranges : (s : tie.Start) → length s.args.ranges ≡ 16
 full_ranges s = search rules
 
 -- what the analysis found of it

@@ -45,7 +45,7 @@ returns c =
     let l = c.loop-k in
     let s = c in
     lined_all _ _ l.k s.args.f.loops l.a (omega (arith, c.loop-k-test.false, l.invariant.0)) (omega (arith, s.requires.0)) l.invariant.1
-    ∙ ap (λ z. filled 115 (z ∷ s.args.f.vars ∷ s.args.f.loops ∷ in_a_row (take s.args.f.loops s.args.t2))) c.or_place.ensures
+    ∙ ap (λ z. filled 115 (z ∷ s.args.f.vars ∷ s.args.f.loops ∷ in_a_row (take s.args.f.loops s.args.lines))) c.or_place.ensures
 
 pub figures_numbers_spec : {M : Type 1} → statement M
 figures_numbers_spec =

@@ -16,11 +16,11 @@ abbrev decreases-loop-i : tie.decreases-loop-i
 decreases-loop-i at answer₀ told i₀ answer i = 7 - i
 
 -- a line is a whole array
-seven : (s : tie.Start invariant-loop-i decreases-loop-i) → length s.args.t1 ≡ 7
+seven : (s : tie.Start invariant-loop-i decreases-loop-i) → length s.args.told ≡ 7
 seven s = search rules
 
 loop_holds : tie.Need-loop-i-init invariant-loop-i decreases-loop-i
-loop_holds c = (omega arith, c.requires.1, paste-zero c.args.answer.now c.args.at c.args.t1)
+loop_holds c = (omega arith, c.requires.1, paste-zero c.args.answer.now c.args.at c.args.told)
 
 element-write-answer : tie.Need-bounds-answer-at invariant-loop-i decreases-loop-i
 element-write-answer c = omega (arith, c.requires.0)
@@ -31,9 +31,9 @@ loop_again c =
     let s = c.before.before in (
       omega (arith, c.loop-i-test.true),
       l.invariant.1,
-      ap (λ z. set z (s.args.at + l.i) (get_or s.args.t1 l.i 0)) l.invariant.2
-          ∙ paste-suc s.args.answer.now s.args.at s.args.t1 l.i 0 (omega (arith, l.invariant.1, s.requires.0, c.loop-i-test.true)) (omega (arith, seven s, c.loop-i-test.true))
-          ∙ ap (paste s.args.answer.now s.args.at s.args.t1) (sym (add-one l.i)),
+      ap (λ z. set z (s.args.at + l.i) (get_or s.args.told l.i 0)) l.invariant.2
+          ∙ paste-suc s.args.answer.now s.args.at s.args.told l.i 0 (omega (arith, l.invariant.1, s.requires.0, c.loop-i-test.true)) (omega (arith, seven s, c.loop-i-test.true))
+          ∙ ap (paste s.args.answer.now s.args.at s.args.told) (sym (add-one l.i)),
     )
 
 returns : tie.Need-returns invariant-loop-i decreases-loop-i
@@ -41,7 +41,7 @@ returns c =
     let l = c.loop-i in
     let s = c in
     let e : l.i ≡ 7 = omega (arith, c.loop-i-test.false, l.invariant.0) in
-    l.invariant.2 ∙ ap (paste s.args.answer.now s.args.at s.args.t1) e
+    l.invariant.2 ∙ ap (paste s.args.answer.now s.args.at s.args.told) e
 
 pub put_line_spec : {M : Type 1} → statement M
 put_line_spec =

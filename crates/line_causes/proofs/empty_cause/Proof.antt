@@ -1,6 +1,5 @@
 -- `line_causes::empty_cause` meets its contract.
 use borrow.Author.Rules.{rules}
-use mathlib.Core.Path.{◌∙◌}
 use Rattle.line_causes.specs.Causes.{empty_cause}
 use Rattle.line_causes.proofs.empty_cause.Statement.{statement}
 use Rattle.line_causes.proofs.empty_cause.Tie as tie

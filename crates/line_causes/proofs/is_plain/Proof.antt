@@ -1,5 +1,4 @@
 -- `line_causes::is_plain` meets its contract.
-use borrow.Author.Rules.{rules}
 use borrow.Author.Tests.{le-leb, lt-leb}
 use Rattle.line_causes.specs.Causes.{is_plain}
 use Rattle.line_causes.proofs.is_plain.Statement.{statement}

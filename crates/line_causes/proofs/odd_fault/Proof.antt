@@ -1,5 +1,4 @@
 -- `line_causes::odd_fault` meets its contract.
-use borrow.Author.Rules.{rules}
 use borrow.Author.Tests.{eq-eqb, ne_eqb}
 use Rattle.line_causes.specs.Causes.{odd_fault}
 use Rattle.line_causes.proofs.odd_fault.Statement.{statement}

@@ -1,6 +1,5 @@
 -- `line_causes::takes_number` meets its contract.
-use borrow.Author.Rules.{rules}
-use borrow.Author.Tests.{eq-eqb, ne_eqb}
+use borrow.Author.Tests.{ne_eqb}
 use Rattle.line_causes.specs.Causes.{takes_number}
 use Rattle.line_causes.proofs.takes_number.Statement.{statement}
 use Rattle.line_causes.proofs.takes_number.Tie as tie

@@ -1,7 +1,5 @@
 -- `line_causes::word_cause` meets its contract.
 use borrow.Author.Rules.{rules}
-use mathlib.Core.Path.{sym, ◌∙◌}
-use native.Mathlib.Omega.{arith}
 use borrow.Author.Tests.{eq-eqb, ne_eqb, lt-ltb, le-ltb}
 use Rattle.line_causes.specs.Causes.{word_cause}
 use Rattle.line_causes.proofs.word_cause.Statement.{statement}

@@ -1,7 +1,5 @@
 -- `line_causes::words_cause` meets its contract.
 use borrow.Author.Rules.{rules}
-use mathlib.Core.Path.{ap, sym, ◌∙◌}
-use native.Mathlib.Omega.{arith}
 use borrow.Author.Tests.{eq-eqb, ne_eqb}
 use Rattle.line_causes.specs.Causes.{words_cause}
 use Rattle.line_causes.proofs.words_cause.Statement.{statement}

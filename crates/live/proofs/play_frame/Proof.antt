@@ -9,7 +9,7 @@ use Rattle.live.proofs.play_frame.Statement.{statement}
 use Rattle.live.proofs.play_frame.Tie as tie
 
 put-step-requires : tie.Need-put_step-n-requires
-put-step-requires c κs = let k = few_cues _ _ _ _ _ _ _ _ c.step-done.ensures.answer (search rules) in (search rules, search rules, search rules)
+put-step-requires c κs = let k = few_cues _ _ _ _ _ _ _ _ c.step-done.ensures.0 (search rules) in (search rules, search rules, search rules)
 
 slice-aggregate-write-step-2 : tie.Need-slice_bounds-write_step-end-2
 slice-aggregate-write-step-2 c = sym (length-take-le _ _ (omega (arith, c.put_step-n.ensures.1)))

@@ -9,13 +9,13 @@ use Rattle.live.proofs.take_off.Tie as tie
 
 copy-requires-2 : tie.Need-copy-requires
 copy-requires-2 c κs =
-    let h = simp (length-take, length-drop) at c.copy-n.ensures.count in
+    let h = simp (length-take, length-drop) at c.copy-n.ensures.0 in
     simp length-take (omega (arith, h, c.requires.0, c.requires.1, c.requires.2))
 
 returns : tie.Need-returns
 returns c =
-    let h = simp (length-take, length-drop) at c.copy-n.ensures.count in
-    let g = simp length-take at c.copy.ensures.count in
+    let h = simp (length-take, length-drop) at c.copy-n.ensures.0 in
+    let g = simp length-take at c.copy.ensures.0 in
     omega (arith, h, g, c.requires.0, c.requires.1, c.requires.2)
 
 pub take_off_spec : {M : Type 1} → statement M

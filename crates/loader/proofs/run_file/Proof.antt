@@ -13,7 +13,7 @@ run-script-requires c κs =
 returns : tie.Need-returns-in-Passed
 returns c =
     let s = c in
-    ran_same _ _ _ (file_read s.args.prices.now s.args.file.now _ _ _ c.load-l.ensures c.in-Passed.is) c.run_script.ensures.run
+    ran_same _ _ _ (file_read s.args.prices.now s.args.file.now _ _ _ c.load-l.ensures c.in-Passed.is) c.run_script.ensures.0
 
 returns_2 : tie.Need-returns-in-Refused
 returns_2 c = let s = c in ran_no _ _ _ (file_refused s.args.prices.now s.args.file.now _ _ _ c.load-l.ensures c.in-Refused.is) c.refusal.ensures

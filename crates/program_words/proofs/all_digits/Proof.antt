@@ -1,7 +1,6 @@
 -- `program_words::all_digits` meets its contract: the bytes passed are digits. The measure is what is left of the word.
 use borrow.Author.Rules.{rules}
 use native.Mathlib.Numerals.{add-one}
-use native.Mathlib.Omega.{arith}
 use mathlib.Core.Path.{◌≡◌, refl, sym, ◌∙◌}
 use Prim.Native.Nat.{◌-◌}
 use lib.ListN.{length, drop}

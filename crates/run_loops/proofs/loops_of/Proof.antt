@@ -12,6 +12,7 @@ use Rattle.run_loops.proofs.Listing.{Listing, listing_none, listing_all, rows_ar
 use borrow.Author.Rules.{rules}
 use Rattle.run_loops.proofs.loops_of.Statement.{statement}
 use Rattle.run_loops.proofs.loops_of.Tie as tie
+use Rattle.run_loops.proofs.loops_of.Lts.{then-is_loop, else-is_loop}
 
 abbrev invariant-loop-j : tie.invariant-loop-j
 invariant-loop-j rows count counts listed₀ k₀ j₀ listed k j =
@@ -66,10 +67,10 @@ listed c =
     let l = c.loop-j in
     let i = c.loop-j-test.true in
     let e = c.is_loop.ensures in
-    ⊎_elim {C = Listed c}
-    (λ w text g. rw (w.3, w.4) (one_loop g l.j l.k l.listed (l.invariant.1 text g) i _ (e text) w.0.taken _ w.2.ensures))
-    (λ w text g. rw (w.1, w.2) (no_loop_lem g l.j l.k l.listed (l.invariant.1 text g) i _ (e text) w.0.left))
-    c.if-is_loop.branch
+    elim c.if-is_loop.branch [
+      | then-is_loop w ↦ λ text g. rw (w.listed-is, w.k-is) (one_loop g l.j l.k l.listed (l.invariant.1 text g) i _ (e text) w.if-is_loop.true _ w.count_of.ensures)
+      | else-is_loop w ↦ λ text g. rw (w.listed-is, w.k-is) (no_loop_lem g l.j l.k l.listed (l.invariant.1 text g) i _ (e text) w.if-is_loop.false)
+    ]
 
 loop_again : tie.Need-loop-j-preserved invariant-loop-j decreases-loop-j
 loop_again c = (omega (arith, c.loop-j-test.true), listed c)

@@ -4,9 +4,7 @@
 use reference::sheet::{names, opened, season};
 use reference::{plan, report_text, Plan, Row, ONES, SCRATCH};
 use std::collections::BTreeSet;
-use std::ffi::OsStr;
 use std::io::{Read, Write};
-use std::os::unix::ffi::OsStrExt;
 
 /// A figure of the sheet.
 fn figure(sheet: &str, key: &str) -> u64 {
@@ -19,7 +17,7 @@ fn with(sheet: &str, key: &str, value: u64) -> String {
 }
 
 fn read(name: &[u8]) -> Option<Vec<u8>> {
-    std::fs::read(OsStr::from_bytes(name)).ok()
+    std::fs::read(std::str::from_utf8(name).ok()?).ok()
 }
 
 /// The cue numbers of these rows.

@@ -11,7 +11,7 @@ use Rattle.answer_text.proofs.runs.add_text.Statement.{statement}
 use Rattle.answer_text.proofs.runs.add_text.Tie as tie
 
 returns : tie.Need-returns
-returns c = adds_part _ _ _ _ _ c.requires (wrote_copy _ _ _ _ _ refl c.copy.ensures.count c.copy.ensures.bytes)
+returns c = adds_part _ _ _ _ _ c.requires (wrote_copy _ _ _ _ _ refl c.copy.ensures.0 c.copy.ensures.1)
 
 pub add_text_spec : {M : Type 1} → statement M
 add_text_spec = tie.close (tie.spec
@@ -19,6 +19,6 @@ add_text_spec = tie.close (tie.spec
     (λ c. omega (arith, c.requires))
     (λ c. search rules)
     (λ c κs. simp (part_rest, length-drop) (omega (arith, c.requires)))
-    (λ c. omega (arith, c.requires, c.copy.ensures.count))
+    (λ c. omega (arith, c.requires, c.copy.ensures.0))
     (λ c. (returns c).long)
     returns)

@@ -1,5 +1,4 @@
 -- `line_causes::breaks::operates` meets its contract.
-use borrow.Author.Rules.{rules}
 use borrow.Author.Tests.{eq-eqb, ne_eqb}
 use Rattle.line_causes.specs.Breaks.{operates}
 use Rattle.line_causes.proofs.breaks.operates.Statement.{statement}

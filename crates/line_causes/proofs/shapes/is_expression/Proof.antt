@@ -1,6 +1,6 @@
 -- `line_causes::shapes::is_expression` meets its contract.
 use borrow.Author.Rules.{rules}
-use mathlib.Core.Path.{sym, ap, ◌∙◌}
+use mathlib.Core.Path.{ap}
 use mathlib.Core.Bool.{not}
 use lib.Dec.{eqb}
 use Rattle.line_causes.specs.Shapes.{is_expression}

@@ -1,9 +1,8 @@
 -- `program_words::lists::keep_prices` meets its contract.
-use mathlib.Core.Path.{◌≡◌, ap, ◌∙◌}
+use mathlib.Core.Path.{ap, ◌∙◌}
 use mathlib.Core.List.{map}
 use native.Mathlib.Omega.{arith}
 use borrow.Author.Rules.{rules}
-use lib.ListN.{length-map}
 use Rattle.program_words.specs.declared.lists.Lent.TheVariants.{Count}
 use Rattle.program_words.specs.Lists.{price_of, prices_by}
 use Rattle.program_words.proofs.lists.keep_prices.Statement.{statement}

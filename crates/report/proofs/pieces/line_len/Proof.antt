@@ -15,8 +15,8 @@ abbrev decreases-loop-i : tie.decreases-loop-i
 decreases-loop-i pieces len₀ i₀ len i = 17 - i
 
 -- 17 texts
-count : (c : tie.Start invariant-loop-i decreases-loop-i) → length (piece_texts c.args.t1) ≡ 17
-count c = pieces_count c.args.t1 ∙ omega arith
+count : (c : tie.Start invariant-loop-i decreases-loop-i) → length (piece_texts c.args.pieces) ≡ 17
+count c = pieces_count c.args.pieces ∙ omega arith
 
 loop_again : tie.Need-loop-i-preserved invariant-loop-i decreases-loop-i
 loop_again c =

@@ -13,7 +13,7 @@ room : (c : tie.Start) → length (c.args.key.now ++ decimal c.args.n) + 1 ≤ l
 unfolding decimal
 room c = rw (key_parts c.args.key.now c.args.n, length-append) at c.requires
 
-same : (c : tie.After-slice_known-2-1) → length c.put_number-at.new.1.1.0 ≡ length c.args.out.now
+same : (c : tie.After-slice_known-2-1) → length c.put_number-at.new.out ≡ length c.args.out.now
 same c = wrote_length _ _ _ _ (omega (arith, room c.before.before.before.before.before.before)) c.put_number-at.ensures
 
 returns : tie.Need-returns

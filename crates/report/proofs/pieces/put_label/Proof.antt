@@ -15,7 +15,7 @@ returns : tie.Need-returns
 returns c =
     let call = c.before.before in
     let len = call.before.before.before in
-    wrote_copy _ _ _ _ _ (rw (← len.label_len-len.ensures.0) at len.letters-text.ensures) call.copy.ensures.count call.copy.ensures.bytes
+    wrote_copy _ _ _ _ _ (rw (← len.label_len-len.ensures.0) at len.letters-text.ensures) call.copy.ensures.0 call.copy.ensures.1
 
 pub put_label_spec : {M : Type 1} → statement M
 put_label_spec = tie.close (tie.spec

@@ -16,19 +16,19 @@ abbrev decreases-loop-i : tie.decreases-loop-i
 decreases-loop-i out₀ pieces at₀ i₀ out at i = 17 - i
 
 -- 17 texts
-count : (c : tie.Start invariant-loop-i decreases-loop-i) → length (piece_texts c.args.t1) ≡ 17
-count c = pieces_count c.args.t1 ∙ omega arith
+count : (c : tie.Start invariant-loop-i decreases-loop-i) → length (piece_texts c.args.pieces) ≡ 17
+count c = pieces_count c.args.pieces ∙ omega arith
 
 -- room for the next piece
 room : (c : tie.In-loop-i invariant-loop-i decreases-loop-i) →
-    c.loop-i.at + length (piece_text (get_or c.args.t1 c.loop-i.i Nothing)) ≤ length c.loop-i.out
+    c.loop-i.at + length (piece_text (get_or c.args.pieces c.loop-i.i Nothing)) ≤ length c.loop-i.out
 room c = rw piece_at at (writing_room _ _ _ _ _ c.loop-i.invariant (omega (arith, count c.before.before.before)) c.requires)
 
 loop_again : tie.Need-loop-i-preserved invariant-loop-i decreases-loop-i
 loop_again c =
     let turn = c.before.before.before.before.before in
     let start = turn.before.before.before in
-    writing_more _ _ _ _ _ _ _ turn.loop-i.invariant (omega (arith, count start)) start.requires (rw (← piece_at start.args.t1 turn.loop-i.i) at c.put_piece-at.ensures)
+    writing_more _ _ _ _ _ _ _ turn.loop-i.invariant (omega (arith, count start)) start.requires (rw (← piece_at start.args.pieces turn.loop-i.i) at c.put_piece-at.ensures)
 
 pub put_line_spec : {M : Type 1} → statement M
 put_line_spec = tie.close (tie.spec

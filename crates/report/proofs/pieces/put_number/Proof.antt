@@ -15,8 +15,8 @@ unfolding decimal
 room c = rw length-append at c.requires
 
 -- the key is written
-keyed : (c : tie.After-copy-at) → Wrote c.args.key.now c.args.out.now c.copy-at.new.1.0 c.copy-at.result
-keyed c = wrote_copy _ _ _ _ _ refl c.copy-at.ensures.count c.copy-at.ensures.bytes
+keyed : (c : tie.After-copy-at) → Wrote c.args.key.now c.args.out.now c.copy-at.new.to c.copy-at.result
+keyed c = wrote_copy _ _ _ _ _ refl c.copy-at.ensures.0 c.copy-at.ensures.1
 
 returns : tie.Need-returns
 unfolding decimal

@@ -105,31 +105,31 @@ done c =
     let ready = l.invariant.0 in
     let script = subst (Runs _ _ _) (sym l.invariant.1.vars) ready.script in
     elim c.if-m.branch [
-    then-m w ↦
-    let at = at_a_test _ _ _ _ _ _ _ ready l.m l.store l.counts l.invariant.1 w.if-m.true in
-    let (s, k) = w.test_row-m.ensures in
-    rw (w.store-is, w.counts-is, w.cues-is, w.m-is, w.limits-is, w.fired-is) (
-      s _ _ at,
-      refl,
-      k.long,
-      λ g. test_limits _ _ _ _ _ _ _ ready l.m l.store l.counts l.invariant.1 l.limits l.invariant.2 l.invariant.3 _ _ _ w.if-m.true (s _ _ at) k g,
-      (λ q. test_fires _ ready.price _ _ _ _ l.m l.store l.counts script _ l.cues l.fired (l.invariant.4 q) _ _ _ (s _ _ at) at.ends.end _ refl),
-      l.invariant.5,
-      l.invariant.6,
-    )
-    | else-m+else-count-m+else-put w ↦
-    let i : l.m.row < c.args.script.count = omega (arith, w.if-count-m.false) in
-    let s = w.act-m.ensures _ (at_row _ _ _ _ _ _ _ ready l.m l.store l.counts l.invariant.1 w.if-m.false i) in
-    let e : length w.act-m.new.store ≡ length l.store = search rules in
-    rw (w.store-is, w.counts-is, w.cues-is, w.m-is, w.limits-is, w.fired-is) (
-      s,
-      e,
-      l.invariant.2,
-      λ g. row_limits _ _ _ _ _ _ _ ready l.m l.store l.counts l.invariant.1 l.limits l.invariant.2 l.invariant.3 _ _ _ e w.if-m.false s g,
-      (λ q. row_fires _ ready.price _ _ _ _ l.m l.store l.counts script _ l.cues l.fired (l.invariant.4 q) _ _ _ s i _ _ _ q w.put_cue-put.ensures w.if-put.false _ refl),
-      (put_keeps l.cues _ w.put_cue-put.ensures).0 ∙ l.invariant.5,
-      omega (arith, (put_keeps l.cues _ w.put_cue-put.ensures).1 w.if-put.false (omega (arith, l.invariant.5, l.invariant.6)), l.invariant.5),
-    )
+      | then-m w ↦
+          let at = at_a_test _ _ _ _ _ _ _ ready l.m l.store l.counts l.invariant.1 w.if-m.true in
+          let (s, k) = w.test_row-m.ensures in
+          rw (w.fired-is, w.store-is, w.counts-is, w.cues-is, w.m-is, w.limits-is) (
+            s _ _ at,
+            refl,
+            k.long,
+            λ g. test_limits _ _ _ _ _ _ _ ready l.m l.store l.counts l.invariant.1 l.limits l.invariant.2 l.invariant.3 _ _ _ w.if-m.true (s _ _ at) k g,
+            (λ q. test_fires _ ready.price _ _ _ _ l.m l.store l.counts script _ l.cues l.fired (l.invariant.4 q) _ _ _ (s _ _ at) at.ends.end _ refl),
+            l.invariant.5,
+            l.invariant.6,
+          )
+      | else-m+else-count-m+else-put w ↦
+          let i : l.m.row < c.args.script.count = omega (arith, w.if-count-m.false) in
+          let s = w.act-m.ensures _ (at_row _ _ _ _ _ _ _ ready l.m l.store l.counts l.invariant.1 w.if-m.false i) in
+          let e : length w.act-m.new.store ≡ length l.store = search rules in
+          rw (w.fired-is, w.store-is, w.counts-is, w.cues-is, w.m-is, w.limits-is) (
+            s,
+            e,
+            l.invariant.2,
+            λ g. row_limits _ _ _ _ _ _ _ ready l.m l.store l.counts l.invariant.1 l.limits l.invariant.2 l.invariant.3 _ _ _ e w.if-m.false s g,
+            (λ q. row_fires _ ready.price _ _ _ _ l.m l.store l.counts script _ l.cues l.fired (l.invariant.4 q) _ _ _ s i _ _ _ q w.put_cue-put.ensures w.if-put.false _ refl),
+            (put_keeps l.cues _ w.put_cue-put.ensures).0 ∙ l.invariant.5,
+            omega (arith, (put_keeps l.cues _ w.put_cue-put.ensures).1 w.if-put.false (omega (arith, l.invariant.5, l.invariant.6)), l.invariant.5),
+          )
     ]
 
 -- over

@@ -1,0 +1,7 @@
+-- `program_words::is_none` meets its contract.
+use Rattle.program_words.specs.Words.{is_none}
+use Rattle.program_words.proofs.is_none.Goals as goal
+
+pub returns : goal.returns
+unfolding is_none
+returns c = c.is_word.ensures
