@@ -9,10 +9,9 @@ use native.Mathlib.Nat.{mul-le-mul}
 use lib.Dec.{leb}
 use lib.IntN.{ℤ, pos}
 use Rattle.rules.specs.declared.Row.{Row}
-use Rattle.rules.specs.contracts.Kind.{the_type}
 use types.Run.{OneOf, miss}
 use denote.Enum.Declared.{tag_of}
-use Rattle.rules.specs.Blocks.{Plain, Test, Form, Block, pick}
+use Rattle.rules.specs.Blocks.{Test, Form, Block}
 use Rattle.rules.specs.Steps.{starts, assigns}
 use Rattle.rules.specs.Ranges.{Env, full, after_row, join, at_start}
 use Rattle.rules.specs.Trips.{Trip, trip, turns, inside, outside, after}

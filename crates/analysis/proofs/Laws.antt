@@ -13,7 +13,7 @@ use Rattle.rules.specs.Blocks.{Plain, assign, cue, Last, no_step, step_by, view_
 use Rattle.rules.specs.Trips.{Trip}
 use Rattle.rules.specs.Bounds.{FinePrices}
 use Rattle.rules.specs.declared.Prices.{Prices}
-use Rattle.rules.specs.Figures.{price, lines}
+use Rattle.rules.specs.Figures.{price}
 use Rattle.analysis_steps.specs.Tree.{head_of}
 use Rattle.analysis.specs.Tallies.{FoldState, LentTally, last_price, last_ticks, LineAdded, BlockClosed}
 

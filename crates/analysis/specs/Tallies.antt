@@ -7,7 +7,7 @@ use Rattle.rules.specs.Steps.{sets}
 use Rattle.rules.specs.Ranges.{Env}
 use Rattle.rules.specs.Trips.{Trip, is_exact}
 use Rattle.rules.specs.declared.Prices.{Prices}
-use Rattle.rules.specs.Figures.{price, Line, lines}
+use Rattle.rules.specs.Figures.{price, Line}
 use Rattle.rules.specs.declared.Verdict.{Verdict}
 use Rattle.rules.specs.declared.Verdict.TheVariants.{Passed as passed}
 use Rattle.table.specs.declared.Shape.{Shape}

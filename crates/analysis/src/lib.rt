@@ -1,5 +1,6 @@
 // The whole file: the questions 19 and 8 to 13, ticks, and the report's lines.
 #![tactic(auto)]
+
 pub mod entries;
 pub mod tallies;
 

@@ -1,5 +1,6 @@
 // The range of one variable: what a row, a pick and a test make of it.
 #![tactic(auto)]
+
 pub mod comparisons;
 
 ghost use Rattle.std.specs.Prelude.{◌≡◌, cond, ◌<◌, ◌+◌, length, take, drop};

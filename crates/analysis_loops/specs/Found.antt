@@ -2,7 +2,6 @@
 use Rattle.std.specs.Prelude.{Bool, true, false, cond, ◌&&◌, pos, ◌-ℤ◌}
 use Rattle.rules_steps.specs.declared.Step.{Step}
 use Rattle.rules.specs.declared.Comparison.{Comparison}
-use Rattle.rules.specs.Steps.{step}
 use Rattle.rules.specs.Ranges.{Range, single}
 use Rattle.rules.specs.Trips as trips
 use Rattle.rules.specs.Trips.{nothing, untested, tries, flag, keeps}

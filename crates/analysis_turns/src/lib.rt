@@ -1,5 +1,6 @@
 // The questions 19 and 8 to 12 of one loop, and the turns of one entry.
 #![tactic(auto)]
+
 pub mod figures;
 pub mod leads;
 pub mod moves;

@@ -1,5 +1,6 @@
 // Arithmetic on one value: operands, arithmetic rows, limits.
 #![tactic(auto)]
+
 ghost use Rattle.std.specs.Prelude.{◌≡◌, ◌≤◌, ◌<◌, length, take, drop};
 ghost use Rattle.ints.specs.Ints.{floor_z};
 ghost use Rattle.rules.specs.Values.{value, quotient, applied};

@@ -12,8 +12,8 @@ use Rattle.table.specs.declared.Shape.{Shape}
 use Rattle.table.specs.Code.{kind_at, rows_of}
 use Rattle.table.specs.Shapes.{shape_of, past_else, plain_of}
 use Rattle.table.proofs.Laws.{row_in}
-use Rattle.analysis_steps.specs.Tree.{Ready, end_at, head_of}
-use Rattle.analysis_steps.proofs.Laws.{PickIs, LoopIs}
+use Rattle.analysis_steps.specs.Tree.{Ready, end_at}
+use Rattle.analysis_steps.proofs.Laws.{PickIs}
 use Rattle.analysis_steps.proofs.Walking.{ready, pick_at, loop_at}
 use Rattle.analysis_steps.proofs.Sets.{clear, no_set}
 use Rattle.analysis_steps.proofs.Stepping.{room, row_room, pick_room, step_stays}

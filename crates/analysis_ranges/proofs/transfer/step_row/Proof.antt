@@ -5,8 +5,7 @@ use Rattle.rules.specs.Bounds.{Fine}
 use Rattle.rules.specs.Written.{Written}
 use Rattle.rules.specs.Ranges.{after_row}
 use Rattle.table.specs.declared.Shape.{Shape}
-use Rattle.table.specs.declared.Tag.{Tag}
-use Rattle.table.specs.Code.{kind_at, kind_by, rows_of, numbers_at}
+use Rattle.table.specs.Code.{kind_by, numbers_at}
 use Rattle.table.specs.Shapes.{shape_of, plain_of}
 use Rattle.table.proofs.Laws.{kind_is}
 use Rattle.analysis_intervals.specs.Env.{env_of}
