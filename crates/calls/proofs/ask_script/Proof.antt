@@ -26,7 +26,7 @@ figures-of-requires c κs = let s = c in (s.requires.0, fine s.args.prices.now s
 
 -- what the analysis found of it
 found : (c : tie.After-figures_of-figures) → let s = c in FiguresFound s.args.prices.now (script s.before.before.before.before.before) s.args.script.count c.figures_of-figures.result c.figures_of-figures.ensures.0
-found c = let s = c.before.before.before.before.before in found_by _ _ _ _ s.requires.0 s.args.prices.now c.prices_of-by_kind.ensures c.figures_of-figures.result _ c.figures_of-figures.ensures.1
+found c = let s = c in found_by _ _ _ _ s.requires.0 s.args.prices.now c.prices_of-by_kind.ensures c.figures_of-figures.result _ c.figures_of-figures.ensures.1
 
 ask-store-requires : tie.Need-ask_store-requires
 ask-store-requires c κs = let s = c.before.before.before.before.before.before.before in (s.requires.0.few, full_ranges s)

@@ -19,8 +19,8 @@ analyse-requires : tie.Need-analyse-figures-requires
 analyse-requires c κs = let s = c in analyse_asks _ _ _ _ s.requires.0 (fine s.args.prices.now s.requires.1 c.prices_of-by_kind.ensures) (search rules)
 
 -- what the analysis found of it
-found : (c : tie.After-analyse-figures) → let s = c in FiguresFound s.args.prices.now (script s.before.before.before.before.before.before.before.before) s.args.script.count c.analyse-figures.result c.analyse-figures.new.1.1.1.1.1.0
-found c = let s = c.before.before.before.before.before.before.before.before in found_by _ _ _ _ s.requires.0 s.args.prices.now c.prices_of-by_kind.ensures c.analyse-figures.result _ (c.analyse-figures.ensures s.args.script.vars (s.requires.0.legal, s.requires.0.blank)).0
+found : (c : tie.After-analyse-figures) → let s = c in FiguresFound s.args.prices.now (script s.before.before.before.before.before.before.before.before) s.args.script.count c.analyse-figures.result c.analyse-figures.new.lines
+found c = let s = c in found_by _ _ _ _ s.requires.0 s.args.prices.now c.prices_of-by_kind.ensures c.analyse-figures.result _ (c.analyse-figures.ensures s.args.script.vars (s.requires.0.legal, s.requires.0.blank)).0
 
 returns : tie.Need-returns-in-Refused
 returns c =

@@ -14,7 +14,7 @@ run-rows-requires : tie.Need-run_rows-ran-requires
 run-rows-requires c κs = (c.requires, cleared)
 
 -- the counts of the run
-counted : (c : tie.After-run_rows-ran) → let s = c in Counted s.args.text.now s.args.rows.now s.args.count c.run_rows-ran.new.1.1.1.1.1.1.1.0
+counted : (c : tie.After-run_rows-ran) → let s = c in Counted s.args.text.now s.args.rows.now s.args.count c.run_rows-ran.new.counts
 counted c = let g = c.requires.script in record { size = g.size; table = g.table; room = c.run_rows-ran.ensures.room }
 
 loops-of-requires : tie.Need-loops_of-loops-requires

@@ -34,7 +34,7 @@ figures-of-requires c κs = let s = c in (s.requires.0, fine s.args.prices.now s
 
 -- what the analysis found of it
 found : (c : tie.After-figures_of-figures) → let s = c in FiguresFound s.args.prices.now (script s.before.before.before.before.before.before) s.args.script.count c.figures_of-figures.result c.figures_of-figures.ensures.0
-found c = let s = c.before.before.before.before.before.before in found_by _ _ _ _ s.requires.0 s.args.prices.now c.prices_of-by_kind.ensures c.figures_of-figures.result _ c.figures_of-figures.ensures.1
+found c = let s = c in found_by _ _ _ _ s.requires.0 s.args.prices.now c.prices_of-by_kind.ensures c.figures_of-figures.result _ c.figures_of-figures.ensures.1
 
 -- demand 3 of that answer
 with_kept : (s : tie.Start) (o : Outcome) (new : List ℤ)
@@ -57,7 +57,7 @@ ask-store-requires c κs = (c.requires.0.few, full_ranges c.before.before.before
 run-accepted-requires : tie.Need-run_accepted-requires
 unfolding script_of
 run-accepted-requires c κs =
-    let s = c.before.before.before.before.before.before.before.before.before.before.before.before.before.before.before in
+    let s = c.before.before.before.before.before.before.before.before.before.before.before.before in
     let f = c.figures_of-figures in
     let q = c.ask_store-asked in
     let z = c.in_default.is in
@@ -70,7 +70,7 @@ run-accepted-requires c κs =
 returns_2 : tie.Need-returns-in-Passed
 unfolding script_of
 returns_2 c =
-    let s = c.before.before.before.before.before.before.before.before.before.before.before.before.before.before.before.before.before in
+    let s = c.before.before.before.before.before.before.before.before.before.before.before.before.before.before in
     let f = c.figures_of-figures in
     let q = c.ask_store-asked in
     let z = c.in_default.is in
@@ -79,7 +79,7 @@ returns_2 c =
 returns_3 : tie.Need-returns-in-Refused-asked
 unfolding script_of
 returns_3 c =
-    let s = c.before.before.before.before.before.before.before.before.before.before.before.before.before.before.before in
+    let s = c.before.before.before.before.before.before.before.before.before.before.before in
     let f = c.figures_of-figures in
     let q = c.ask_store-asked in
     let z = c.in_default.is in

@@ -19,7 +19,7 @@ full_ranges s = search rules
 
 -- what the analysis found of it
 found : (c : tie.After-figures_of-figures) → let s = c in FiguresFound s.args.prices.now (script s.before.before.before.before.before.before) s.args.script.count c.figures_of-figures.result c.figures_of-figures.ensures.0
-found c = let s = c.before.before.before.before.before.before in found_by _ _ _ _ s.requires.0 s.args.prices.now c.prices_of.ensures c.figures_of-figures.result _ c.figures_of-figures.ensures.1
+found c = let s = c in found_by _ _ _ _ s.requires.0 s.args.prices.now c.prices_of.ensures c.figures_of-figures.result _ c.figures_of-figures.ensures.1
 
 returns : tie.Need-returns-in-Refused
 returns c = let s = c.before.before.before.before.before.before.before.before in start_out s.args.prices.now (script s) _ _ _ (found c.before.before) _ _ c.in-Refused.is _ c.no_start.ensures

@@ -13,7 +13,7 @@ size : (s : tie.Start) → length s.args.state.now ≡ 64
 size s = sixty_four s.requires.1
 
 -- the counts of the loops
-counted : (c : tie.After-play-stop) → let s = c in Counted s.args.text.now s.args.rows.now s.args.script.count c.play-stop.new.1.1.1.1.1.1.0
+counted : (c : tie.After-play-stop) → let s = c in Counted s.args.text.now s.args.rows.now s.args.script.count c.play-stop.new.counts
 counted c = let g = c.requires.1 in record { size = g.runs.size; table = g.runs.table; room = c.play-stop.ensures.room }
 
 returns : tie.Need-returns

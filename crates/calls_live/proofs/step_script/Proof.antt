@@ -24,8 +24,8 @@ analyse-requires : tie.Need-analyse-figures-requires
 analyse-requires c κs = let s = c in analyse_asks _ _ _ _ s.requires.0 s.requires.1 (search rules)
 
 -- what the analysis found of it
-found : (c : tie.After-analyse-figures) → let s = c in AnalysisOf s.args.turn.prices (script s.before.before.before.before.before.before.before.before.before.before) s.args.turn.script.count c.analyse-figures.result c.analyse-figures.new.1.1.1.1.1.0
-found c = let s = c.before.before.before.before.before.before.before.before.before.before in (c.analyse-figures.ensures s.args.turn.script.vars (s.requires.0.legal, s.requires.0.blank)).0
+found : (c : tie.After-analyse-figures) → let s = c in AnalysisOf s.args.turn.prices (script s.before.before.before.before.before.before.before.before.before.before) s.args.turn.script.count c.analyse-figures.result c.analyse-figures.new.lines
+found c = let s = c in (c.analyse-figures.ensures s.args.turn.script.vars (s.requires.0.legal, s.requires.0.blank)).0
 
 returns : tie.Need-returns-in-Refused
 returns c prices e =
@@ -33,11 +33,11 @@ returns c prices e =
     no_step_as (judged_out prices (script s) _ _ _ (found_by _ _ _ _ s.requires.0 prices e _ _ (found c.before.before.before)) _ _ _ c.in-Refused.is) c.no_step.ensures
 
 ask-step-requires : tie.Need-ask_step-asked-requires
-ask-step-requires c κs = let s = c.before.before.before.before.before.before.before.before.before.before.before.before.before.before.before.before in (script s, step_asked s.requires.0 (full_ranges s) s.requires.1 _ _ (found c.before.before.before) c.in_default.is s.args.turn.q)
+ask-step-requires c κs = let s = c.before.before.before.before.before.before.before.before.before.before.before.before.before in (script s, step_asked s.requires.0 (full_ranges s) s.requires.1 _ _ (found c.before.before.before) c.in_default.is s.args.turn.q)
 
 step-on-requires : tie.Need-step_on-requires
 step-on-requires c κs =
-    let s = c.before.before.before.before.before.before.before.before.before.before.before.before.before.before.before.before.before.before.before.before.before.before.before in (
+    let s = c.before.before.before.before.before.before.before.before.before.before.before.before.before.before.before.before.before.before.before in (
       script s,
       step_ready s.requires.0 (full_ranges s) s.requires.1 _ _ (found c.before.before.before.before.before.before.before.before.before) c.in_default.is s.args.turn.q _ _
           (sym (c.ask_step-asked.ensures (script s) (step_asked s.requires.0 (full_ranges s) s.requires.1 _ _ (found c.before.before.before.before.before.before.before.before.before) c.in_default.is s.args.turn.q)) ∙ c.in-Passed.is),
@@ -45,7 +45,7 @@ step-on-requires c κs =
 
 returns_2 : tie.Need-returns-in-Passed
 returns_2 c prices e =
-    let s = c.before.before.before.before.before.before.before.before.before.before.before.before.before.before.before.before.before.before.before.before.before.before.before.before.before.before.before.before.before in
+    let s = c.before.before.before.before.before.before.before.before.before.before.before.before.before.before.before.before.before.before.before.before.before.before.before.before.before in
     let z = c.in_default.is in
     let a = c.ask_step-asked.ensures (script s) (step_asked s.requires.0 (full_ranges s) s.requires.1 _ _ (found c.before.before.before.before.before.before.before.before.before.before.before.before.before.before.before) z s.args.turn.q) in
     step_as (asked_in prices (script s) _ _ _ (found_by _ _ _ _ s.requires.0 prices e _ _ (found c.before.before.before.before.before.before.before.before.before.before.before.before.before.before.before)) _ _ _ z _ e _ a c.in-Passed.is)
@@ -53,7 +53,7 @@ returns_2 c prices e =
 
 returns_3 : tie.Need-returns-in-Refused-asked
 returns_3 c prices e =
-    let s = c.before.before.before.before.before.before.before.before.before.before.before.before.before.before.before.before.before.before.before.before.before in
+    let s = c.before.before.before.before.before.before.before.before.before.before.before.before.before.before.before.before in
     let z = c.in_default.is in
     let a = c.ask_step-asked.ensures (script s) (step_asked s.requires.0 (full_ranges s) s.requires.1 _ _ (found c.before.before.before.before.before.before) z s.args.turn.q) in
     no_step_as (asked_out prices (script s) _ _ _ (found_by _ _ _ _ s.requires.0 prices e _ _ (found c.before.before.before.before.before.before)) _ _ _ z _ e _ a c.in-Refused-asked.is) c.no_step-in-Refused-asked.ensures

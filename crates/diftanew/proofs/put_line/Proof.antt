@@ -28,7 +28,7 @@ element-write-answer c = omega (arith, c.requires.0)
 loop_again : tie.Need-loop-i-preserved invariant-loop-i decreases-loop-i
 loop_again c =
     let l = c.loop-i in
-    let s = c.before.before in (
+    let s = c.before.before.before in (
       omega (arith, c.loop-i-test.true),
       l.invariant.1,
       ap (λ z. set z (s.args.at + l.i) (get_or s.args.told l.i 0)) l.invariant.2

@@ -25,7 +25,7 @@ abbrev with-frame : tie.Start invariant-loop-i decreases-loop-i → List ℕ
 with-frame s = set s.args.answer.now s.args.at s.args.p.frame
 
 loop_holds : tie.Need-loop-i-init invariant-loop-i decreases-loop-i
-loop_holds c = let s = c.before.before in (omega arith, length-set s.args.answer.now s.args.at s.args.p.frame ∙ s.requires.1, paste-zero (with-frame s) (s.args.at + 1) c.numbers-n.result)
+loop_holds c = let s = c.before.before.before in (omega arith, length-set s.args.answer.now s.args.at s.args.p.frame ∙ s.requires.1, paste-zero (with-frame s) (s.args.at + 1) c.numbers-n.result)
 
 element-write-answer : tie.Need-bounds-answer-at invariant-loop-i decreases-loop-i
 element-write-answer c = omega (arith, c.requires.0)
@@ -33,7 +33,7 @@ element-write-answer c = omega (arith, c.requires.0)
 loop_again : tie.Need-loop-i-preserved invariant-loop-i decreases-loop-i
 loop_again c =
     let l = c.loop-i in
-    let s = c.before.before.before.before in
+    let s = c.before.before.before.before.before.before in
     let n = c.numbers-n.result in (
       omega (arith, c.loop-i-test.true),
       l.invariant.1,
@@ -45,7 +45,7 @@ loop_again c =
 returns : tie.Need-returns invariant-loop-i decreases-loop-i
 returns c =
     let l = c.loop-i in
-    let s = c.before.before.before.before in
+    let s = c.before.before.before.before.before in
     let e : l.i ≡ 53 = omega (arith, c.loop-i-test.false, l.invariant.0) in
     l.invariant.2 ∙ (λ j. paste (with-frame s) (s.args.at + 1) (c.numbers-n.ensures j) (e j))
 

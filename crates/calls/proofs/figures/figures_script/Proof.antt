@@ -19,8 +19,8 @@ analyse-requires : tie.Need-analyse-found-requires
 analyse-requires c κs = let s = c in analyse_asks _ _ _ _ s.requires.0 (fine s.args.prices.now s.requires.1 c.prices_of.ensures) s.requires.2
 
 -- what the analysis found of it
-found : (c : tie.After-analyse-found) → let s = c in FiguresFound s.args.prices.now (script s.before.before.before.before.before.before.before) s.args.script.count c.analyse-found.result c.analyse-found.new.1.1.1.1.1.0
-found c = let s = c.before.before.before.before.before.before.before in found_by _ _ _ _ s.requires.0 s.args.prices.now c.prices_of.ensures c.analyse-found.result _ (c.analyse-found.ensures s.args.script.vars (s.requires.0.legal, s.requires.0.blank)).0
+found : (c : tie.After-analyse-found) → let s = c in FiguresFound s.args.prices.now (script s.before.before.before.before.before.before.before) s.args.script.count c.analyse-found.result c.analyse-found.new.lines
+found c = let s = c in found_by _ _ _ _ s.requires.0 s.args.prices.now c.prices_of.ensures c.analyse-found.result _ (c.analyse-found.ensures s.args.script.vars (s.requires.0.legal, s.requires.0.blank)).0
 
 tell-lines-requires : tie.Need-tell_lines-requires
 tell-lines-requires c κs =
