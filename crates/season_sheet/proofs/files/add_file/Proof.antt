@@ -32,7 +32,7 @@ with-accepted-requires c κs =
     let a = adds c.args.file.now _ _ _ _ _ _ js h l _ _ _ c.measure-found.ensures _ c.in-Accepted.is in
     let r = room c.before.before.before.before.before.before.before.before.before.before.before.before.before.before.before.before.before.before.before.before in
     let m = c.measure-found.ensures in
-    (omega (arith, h.files), omega (arith, h.sum), m.decreases.few, omega (arith, h.few), omega (arith, h.room, a.short, r.0), omega (arith, h.numbers, m.few, r.1))
+    (omega (arith, h.files), omega (arith, h.sum), m.measured.few, omega (arith, h.few), omega (arith, h.room, a.short, r.0), omega (arith, h.numbers, m.few, r.1))
 
 with-refused-requires : tie.Need-with_refused-requires
 with-refused-requires c κs = let (js, h, l) = c.requires in (omega (arith, h.files), h.long, λ q k. omega (arith, h.each q k))
@@ -43,7 +43,7 @@ returns c = λ js h.
     let l : length js < 64 = omega (arith, h.files, h₀.files) in
     let m = c.measure-found.ensures in
     let a = adds c.args.file.now _ _ _ _ _ _ js h l _ _ _ m _ c.in-Accepted.is in
-    holds_accepted js _ _ _ _ _ _ _ h a.script _ a.judgement _ _ _ _ _ _ _ _ c.with_accepted.ensures a.figure m.decreases.few
+    holds_accepted js _ _ _ _ _ _ _ h a.script _ a.judgement _ _ _ _ _ _ _ _ c.with_accepted.ensures a.figure m.measured.few
     (c.keep_first-fresh.ensures _ _ a.kept a.text a.short a.fires m.few) (search rules) (a.same ∙ h.room) (search rules) (a.also ∙ h.numbers)
 
 returns_2 : tie.Need-returns-in-Refused

@@ -15,13 +15,13 @@ is_known_requires c κs =
 
 returns : tie.Need-returns-then-is_known
 returns c = λ ss s h e l f m.
-    let k = known_is ss s _ _ _ _ _ _ _ h e f c.is_Known.ensures in
+    let k = known_is ss s _ _ _ _ _ _ _ h e f c.is_known.ensures in
     let y = sym k ∙ c.if-is_known.true in
     (ap not (sym y), known_yes ss s _ _ _ _ _ h y c.args.len c.args.count)
 
 returns_2 : tie.Need-returns
 returns_2 c = λ ss s h e l f m.
-    let k = known_is ss s _ _ _ _ _ _ _ h e f c.is_Known.ensures in
+    let k = known_is ss s _ _ _ _ _ _ _ h e f c.is_known.ensures in
     let n = sym k ∙ c.if-is_known.false in
     (ap not (sym n), known_no ss s _ _ _ _ _ h n _ _ c.requires.place c.requires.same e l f m)
 
