@@ -1,5 +1,5 @@
 -- What a run call's outcome says is what its reply says. Assumes nothing.
-use mathlib.Core.Path.{◌≡◌, refl, sym, ◌∙◌, ap}
+use mathlib.Core.Path.{◌≡◌, refl, ◌∙◌, ap}
 use mathlib.Core.List.{List, [], ◌∷◌}
 use Prim.Native.Nat.{ℕ, ◌≤◌}
 use native.Mathlib.Omega.{arith}
@@ -13,7 +13,7 @@ use Rattle.rules.proofs.Demand3File.{file_accepted}
 use Rattle.rules.proofs.LinesAtHeads.{heads_few}
 use Rattle.rules.specs.Calls.{Judged, accepted, prices_of, judged, store_verdict, loop_rows, counts_at, RunReply, ran, refuses, run_script, ran_script, stored, run_reply, store_after}
 use Rattle.calls.specs.declared.Outcome.{Outcome}
-use Rattle.calls.specs.Told.{ToldRun, ToldNo, Told, RanAs}
+use Rattle.calls.specs.Told.{Told, RanAs}
 use Rattle.answer_text.specs.Texts.{run_text, reply_text, verdict_text, outcome_text}
 
 pub told_text : (reply : RunReply) (old new : List ℤ) (o : Outcome) → RanAs reply old new o → outcome_text o new ≡ reply_text reply old

@@ -6,14 +6,13 @@ use Prim.Native.Nat.{ℕ, zero, suc, ◌+◌, ◌*◌, ◌-◌, ◌≤◌, ◌<�
 use native.Mathlib.Omega.{arith}
 use native.Mathlib.Nat.{mul-suc}
 use lib.IntN.{ℤ, pos}
-use lib.ListN.{length, take, drop, set, length-append, length-take, length-set, take-append-drop, get_or}
+use lib.ListN.{length, take, set, length-append, length-take, length-set, take-append-drop, get_or}
 use lib.Seq.{take_all, take-append_seam}
 use lib.Dec.{eqb, eqb-suc-zero}
 use lib.Signed.{lt_z}
 use borrow.Rule.Slice.PartMut.{mid_of, put_mid}
-use Rattle.rules.specs.Report.{decimal, sign, size, joined, gap, newline, ticks_key}
+use Rattle.rules.specs.Report.{decimal, size, joined, gap, newline, ticks_key}
 use Rattle.rules.specs.Calls.{over}
-use Rattle.rules.proofs.LongestReport.{decimal_short}
 use Rattle.report.specs.Pieces.{Wrote}
 use Rattle.report.proofs.PiecesLaws.{wrote_nothing, wrote_byte, wrote_then, wrote_length}
 use Rattle.report.proofs.Laws.{below_sign, above_sign}

@@ -4,7 +4,7 @@ use Rattle.rules.specs.declared.Ending.{Ending}
 use Rattle.rules.specs.declared.Ending.TheVariants.{Ended, Spent, NoPick}
 use Rattle.rules.specs.declared.LoopCount.{LoopCount}
 use Rattle.rules.specs.Report.{decimal, sign, size, joined, loop_key, ticks_key, newline, gap}
-use Rattle.rules.specs.Answers.{Answer, store_list}
+use Rattle.rules.specs.Answers.{store_list}
 use Rattle.rules.specs.Calls.{RunReply, ran, refuses}
 use Rattle.rules.specs.declared.Verdict.{Verdict}
 use Rattle.rules.specs.declared.Verdict.TheVariants.{Passed, Refused}

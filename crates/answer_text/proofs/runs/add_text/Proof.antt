@@ -1,11 +1,9 @@
 -- `answer_text::runs::add_text` meets its contract. Assumes nothing.
 use borrow.Author.Rules.{rules}
 use native.Mathlib.Omega.{arith}
-use Prim.Native.Nat.{◌+◌, ◌≤◌, ◌-◌}
 use mathlib.Core.Path.{refl}
 use lib.ListN.{length-drop}
 use Rattle.report.proofs.PiecesLaws.{part_rest, wrote_copy}
-use Rattle.answer_text.specs.Adding.{Adds}
 use Rattle.answer_text.proofs.RunsLaws.{adds_part}
 use Rattle.answer_text.proofs.runs.add_text.Statement.{statement}
 use Rattle.answer_text.proofs.runs.add_text.Tie as tie
