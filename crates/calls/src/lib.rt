@@ -1,5 +1,6 @@
 // The two calls on a script that has been read: its report, and its run.
 #![tactic(auto)]
+
 pub mod figures;
 pub mod prices;
 

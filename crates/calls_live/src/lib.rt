@@ -43,8 +43,7 @@ fn take_byte(m: Machine, rows: &[u32], picks: &[u8]) -> Machine
 
 // A machine before it goes on: one that waits takes its byte, one that is finished stays.
 fn ready(m: Machine, rows: &[u32], picks: &[u8]) -> Machine
-    requires {
-        ((i : ℕ) → m.status ≡ Status.Over Ending.NoPick i → AtPick m rows.now) × (length rows.now ≡ 1_024)
+    requires { ((i : ℕ) → m.status ≡ Status.Over Ending.NoPick i → AtPick m rows.now) × (length rows.now ≡ 1_024)
         × (m.used ≡ 0) }
     ensures { Readied m result rows.now picks.now }
 {
@@ -72,8 +71,7 @@ fn play(
     cues: &mut [u32],
 ) -> Stop
     requires { MayPlay text.now script rows.now from store.old picks.now counts.old }
-    ensures {
-        Played script.prices (script_in text.now rows.now script.count) from result store.old
+    ensures { Played script.prices (script_in text.now rows.now script.count) from result store.old
         store.new picks.now counts.old counts.new cues.old cues.new }
 {
     let m = ready(from, rows, picks);
@@ -222,8 +220,7 @@ fn step_on(
     cues: &mut [u32],
 ) -> StepDone
     requires { (s : Script) × StepReady s text.now rows.now script lines.now store.old state.old }
-    ensures {
-        ((s : Script) → StepReady s text.now rows.now script lines.now store.old
+    ensures { ((s : Script) → StepReady s text.now rows.now script lines.now store.old
         state.old → SteppedAs (step_from s script store.old state.old picks.now
         (length cues.old)) store.old store.new state.old state.new
         cues.old cues.new result) }
@@ -283,8 +280,7 @@ fn ask_step(
     state: &[u64],
 ) -> Verdict
     requires { (s : Script) × StepAsked s rows.now script vars lines.now }
-    ensures {
-        ((s : Script) → StepAsked s rows.now script vars lines.now
+    ensures { ((s : Script) → StepAsked s rows.now script vars lines.now
         → result ≡ step_verdict script.prices s store.now state.now script.q) }
 {
     let whole: [i32; 2] = [-1_000_000_000, 1_000_000_000];
@@ -328,8 +324,7 @@ pub fn step_script(
     cues: &mut [u32],
 ) -> StepDone
     requires { Given text.now rows.now turn.script ranges × FinePrices turn.prices }
-    ensures {
-        ((prices : List ℕ) → turn.prices ≡ prices_of prices → SteppedAs (step_reply prices
+    ensures { ((prices : List ℕ) → turn.prices ≡ prices_of prices → SteppedAs (step_reply prices
         (judged_script prices (read_script text.now rows.now turn.script ranges)) store.old
         state.old (step_lent turn.q picks.now (length cues.old))) store.old
         store.new state.old state.new cues.old cues.new result) }

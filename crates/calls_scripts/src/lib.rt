@@ -1,6 +1,7 @@
 // The scripts that are to play together: each file is read into its own table and asked its own questions, 15 of its store included. No
 // store is touched.
 #![tactic(auto)]
+
 ghost use Rattle.std.specs.Prelude.{◌≡◌, List, ℕ, ◌<◌, length};
 ghost use Rattle.rules.specs.Calls.{Priced};
 ghost use Rattle.calls_lists.specs.Parts.{lent_of, ExtentOf};

@@ -1,5 +1,6 @@
 // One script's turn in a frame (change 14): it gets its ticks and runs on over its own parts of what is lent.
 #![tactic(auto)]
+
 ghost use Rattle.std.specs.Prelude.{◌≡◌, ◌||◌, ◌+◌, ◌≤◌, ◌<◌, ◌^◌};
 ghost use Rattle.calls_turns.specs.Progress.{is_spent, is_waiting, FrameFits, new_frame, turn_to, MayTurn, Turned};
 

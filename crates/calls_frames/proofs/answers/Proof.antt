@@ -29,7 +29,7 @@ may_answer : (c : tie.After-p-1 invariant-loop-k decreases-loop-k)
     → let a = c.args in
     let k = c.loop-k.k in
     let h = get_or a.all.each k nobody in
-    Inside h.places.table a.tables.now × Answerable a.q (get_or a.t1 k start_progress) (slice_of h.places.table a.tables.now) h.count (get_or a.counts.now k [])
+    Inside h.places.table a.tables.now × Answerable a.q (get_or a.progress k start_progress) (slice_of h.places.table a.tables.now) h.count (get_or a.counts.now k [])
 may_answer c = c.requires.1 c.loop-k.k c.loop-k-test.true
 
 loop_again : tie.Need-loop-k-preserved invariant-loop-k decreases-loop-k

@@ -1,6 +1,5 @@
 -- `calls_frames::play` meets its contract. The invariant: the first k scripts have had the frame, the others not. Assumes nothing.
 use mathlib.Core.Path.{◌≡◌, refl, sym, ◌∙◌, ap}
-use mathlib.Core.Logic.{⊎_elim}
 use mathlib.Core.List.{List}
 use Prim.Native.Nat.{ℕ, ◌+◌, ◌-◌, ◌*◌, ◌<◌}
 use native.Mathlib.Omega.{arith}
@@ -15,6 +14,7 @@ use Rattle.calls_frames.proofs.Playing.{Playing, playing_late, countable, playin
 use borrow.Author.Rules.{rules}
 use Rattle.calls_frames.proofs.play.Statement.{statement}
 use Rattle.calls_frames.proofs.play.Tie as tie
+use Rattle.calls_frames.proofs.play.Lts.{then-waiting, else-waiting}
 
 abbrev invariant-loop-k : tie.invariant-loop-k
 invariant-loop-k files tables stores₀ picks all prices q counts₀ by_kind each progress₀ most₀ frame₀ k₀ stores counts progress most frame k =
@@ -71,15 +71,15 @@ went c =
     let l = c.loop-k in
     let i = c.if-k-all.true in
     let e = c.waiting.ensures in
-    ⊎_elim {C = Went c}
-    (λ w.
-    rw (w.11, w.12, w.13, w.14) (
-      ap (λ (z : AfterTurn). z.frame.earlier) w.8.ensures,
+    elim c.if-waiting.branch [
+    then-waiting w ↦
+    rw (w.frame-is, w.stores-is, w.counts-is, w.progress-is) (
+      ap (λ (z : AfterTurn). z.frame.earlier) w.turn_to-t.ensures,
       λ fs ss ps roles on.
-          playing_on _ _ _ _ _ _ on _ _ _ _ _ _ (l.invariant.1 _ _ _ _ on) (omega (arith, i, on.number)) (sym e ∙ w.0.taken) w.6.result _ _ (rw (c.prices_of-by_kind.ensures, w.4.ensures) at w.6.ensures) w.8.result w.8.ensures,
-    ))
-    (λ w. rw (w.1, w.2, w.3, w.4) (refl, λ fs ss ps roles on. playing_still _ _ _ _ _ _ on _ _ _ _ _ _ (l.invariant.1 _ _ _ _ on) (omega (arith, i, on.number)) (sym e ∙ w.0.left)))
-    c.if-waiting.branch
+          playing_on _ _ _ _ _ _ on _ _ _ _ _ _ (l.invariant.1 _ _ _ _ on) (omega (arith, i, on.number)) (sym e ∙ w.if-waiting.true) w.turn-to.result _ _ (rw (c.prices_of-by_kind.ensures, w.with_ticks.ensures) at w.turn-to.ensures) w.turn_to-t.result w.turn_to-t.ensures,
+    )
+    | else-waiting w ↦ rw (w.frame-is, w.stores-is, w.counts-is, w.progress-is) (refl, λ fs ss ps roles on. playing_still _ _ _ _ _ _ on _ _ _ _ _ _ (l.invariant.1 _ _ _ _ on) (omega (arith, i, on.number)) (sym e ∙ w.if-waiting.false))
+    ]
 
 returns : tie.Need-returns-then-not-frame invariant-loop-k decreases-loop-k
 returns c fs ss ps roles on =

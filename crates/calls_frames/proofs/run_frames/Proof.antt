@@ -13,14 +13,14 @@ use Rattle.calls_frames.proofs.run_frames.Tie as tie
 ready : (c : tie.After-tables-in-Passed-1)
     → let a = c.args in
     let e = c.enter_all-all in
-    (roles : List Frames.Progress) × FramesReady a.prices.now (lent_of a.files.now a.file-lengths.now a.stores.now a.store-lengths.now a.picks.now a.pick-lengths.now) a.q roles e.new.1.1.1.1.1.1.0 e.result
+    (roles : List Frames.Progress) × FramesReady a.prices.now (lent_of a.files.now a.file_lengths.now a.stores.now a.store_lengths.now a.picks.now a.pick_lengths.now) a.q roles e.new.tables e.result
 ready c =
     let s = c in
     let e = c.enter_all-all in
-    may_play _ _ _ s.requires.0 s.requires.1 _ _ (e.ensures s.args.picks.now) c.in-Passed.is e.auto.1.1.1.1.1.1.0
+    may_play _ _ _ s.requires.0 s.requires.1 _ _ (e.ensures s.args.picks.now) c.in-Passed.is e.auto.tables
 
 play-held-requires : tie.Need-play_held-requires
-play-held-requires c κs = let a = c.args in let (roles, on) = ready c.before in (a.file-lengths.now, a.store-lengths.now, a.pick-lengths.now, roles, on)
+play-held-requires c κs = let a = c.args in let (roles, on) = ready c.before in (a.file_lengths.now, a.store_lengths.now, a.pick_lengths.now, roles, on)
 
 returns : tie.Need-returns-in-Passed
 returns c =

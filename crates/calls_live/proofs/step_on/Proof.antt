@@ -25,9 +25,9 @@ pub step_on_spec : {M : Type 1} → statement M
 step_on_spec =
     tie.close
     (tie.spec
-    (λ c. omega (arith, size c.before.before.before.before.before.before))
-    (λ c. omega (arith, size c.before.before.before.before.before.before.before))
-    (λ c. omega (arith, size c.before.before.before.before.before.before.before.before))
+    (λ c. omega (arith, sixty_four c.requires.1))
+    (λ c. omega (arith, sixty_four c.requires.1))
+    (λ c. omega (arith, sixty_four c.requires.1))
     (λ c κs. machine_asks c.requires.1)
     (λ c κs. counts_asks c.requires.1)
     (λ c κs. may_play c.requires.1 _ c.counts_in-counts.ensures _ c.machine_in-from.ensures _)
@@ -35,16 +35,16 @@ step_on_spec =
     (λ c κs. search rules)
     (λ c. c.play-stop.ensures.left)
     (λ c.
-    let g = c.before.before.before.before.before.before.before.before.before.before.before.before.before.before.before.before.before.before.before.before.before.before.before.before.before.before.requires.1 in
-    let a = ticks_least g _ c.before.before.before.before.before.before.before.before.before.before.before.before.before.before.counts-in.ensures _ c.before.before.before.before.before.before.before.before.before.before.before.before.before.before.before.before.machine-in.ensures _ c.before.before.before.before.before.before.before.before.before.play.result _ _ _ _ c.before.before.before.before.before.before.before.before.before.play.ensures in
+    let g = c.requires.1 in
+    let a = ticks_least g _ c.counts_in-counts.ensures _ c.machine_in-from.ensures _ c.play-stop.result _ _ _ _ c.play-stop.ensures in
     omega (arith, (few_ticks g).0))
     (λ c. let g = c.requires.1 in let k = c.well_formed.1.1.1.1.1.1.0 in omega (arith, (few_ticks g).1, c.play-stop.ensures.used))
     (λ c κs.
-    let g = c.before.before.before.before.before.before.before.before.before.before.before.before.before.before.before.before.before.before.before.before.before.before.before.before.before.before.before.before.requires.1 in (
-      size c.before.before.before.before.before.before.before.before.before.before.before.before.before.before.before.before.before.before.before.before.before.before.before.before.before.before.before.before,
-      listed_few g _ c.before.before.before.before.before.before.before.before.before.before.before.before.before.before.before.before.counts-in.ensures _ c.before.before.before.before.before.before.before.before.before.before.before.before.before.before.before.before.before.before.machine-in.ensures _ c.before.before.before.before.before.before.before.before.before.before.before.play.result _ _ _ _ c.before.before.before.before.before.before.before.before.before.before.before.play.ensures _ (c.before.before.before.before.before.before.loops-of.ensures _ (counted c.before.before.before.before.before.before.before.before.before.before.before)),
+    let g = c.requires.1 in (
+      sixty_four c.requires.1,
+      listed_few g _ c.counts_in-counts.ensures _ c.machine_in-from.ensures _ c.play-stop.result _ _ _ _ c.play-stop.ensures _ (c.loops_of-listed.ensures _ (counted c.before.before.before.before.before.before.before.before.before.before.before)),
       g.asked.long,
-      c.before.before.before.before.before.before.before.before.before.before.before.play.ensures.room.long,
+      c.play-stop.ensures.room.long,
     ))
     (λ c. search rules) (λ c. search rules) (λ c. search rules)
     returns)

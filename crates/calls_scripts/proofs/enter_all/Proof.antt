@@ -45,7 +45,7 @@ enter-at-requires c κs =
 entered : (c : tie.After-enter_at-e invariant-loop-k decreases-loop-k)
     → let a = c.args in
     let k = c.loop-k.k in
-    EnteredAs a.prices.now (part_of a.file-lengths.now k a.files.now) (part_of a.store-lengths.now k a.stores.now) c.enter_at-e.ensures.table c.enter_at-e.result
+    EnteredAs a.prices.now (part_of a.file_lengths.now k a.files.now) (part_of a.store_lengths.now k a.stores.now) c.enter_at-e.ensures.table c.enter_at-e.result
 entered c =
     let a = c.args in
     let p = c.places_of-places.ensures in

@@ -10,8 +10,8 @@ returns c =
     let s = c in
     let e = c.enter in
     record {
-      table = e.new.1.1.1.0;
-      wrote = record { size = e.auto.1.1.1.0 ∙ slice_length s.args.tables.now s.args.places.table s.requires.table; all = refl };
+      table = e.new.table;
+      wrote = record { size = e.auto.table ∙ slice_length s.args.tables.now s.args.places.table s.requires.table; all = refl };
       entered = e.ensures;
     }
 

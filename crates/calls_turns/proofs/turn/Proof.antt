@@ -10,8 +10,8 @@ returns c =
     let s = c in
     let e = c.resume in
     record {
-      store = e.new.1.1.1.1.1.0;
-      wrote = record { size = e.auto.1.1.1.1.1.0 ∙ slice_length s.args.stores.now s.args.script.places.store s.requires.store; all = refl };
+      store = e.new.store;
+      wrote = record { size = e.auto.store ∙ slice_length s.args.stores.now s.args.script.places.store s.requires.store; all = refl };
       went = e.ensures;
     }
 

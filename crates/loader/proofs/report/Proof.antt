@@ -29,8 +29,8 @@ returns c =
     let s = c in
     let f = c.report_file in
     let e = sym c.ask_lent-lent.ensures ∙ c.in-Passed.is in
-    let long : length f.new.1.1.0 ≡ 1_024 = f.auto.1.1.0 ∙ simp length-take (omega (arith, lent_room s.args.prices.now (length s.args.scratch.now) e)) in
-    (reported_same (lent_yes _ _ e s.args.file.now) f.ensures, scratch_kept s.args.prices.now f.new.1.1.0 s.args.scratch.now long e)
+    let long : length f.new.table ≡ 1_024 = f.auto.table ∙ simp length-take (omega (arith, lent_room s.args.prices.now (length s.args.scratch.now) e)) in
+    (reported_same (lent_yes _ _ e s.args.file.now) f.ensures, scratch_kept s.args.prices.now f.new.table s.args.scratch.now long e)
 
 returns_2 : tie.Need-returns-in-Refused
 returns_2 c = let s = c in (reported_no (lent_no _ _ s.args.file.now (sym c.ask_lent-lent.ensures ∙ c.in-Refused.is)), scratch_same)
