@@ -17,4 +17,4 @@ returns_2 c =
     record { width = omega (arith, n); narrow = omega (arith, n, decimal_short c.args.greatest) }
 
 pub column_spec : {M : Type 1} → statement M
-column_spec = tie.close (tie.spec (λ c. search rules) (λ c. search rules) put-number-requires returns returns_2)
+column_spec = tie.close (tie.spec (λ c. search rules) put-number-requires returns returns_2)

@@ -1,0 +1,5 @@
+-- The block is added to the input.
+use Rattle.season.proofs.read_block.Goals as goal
+
+pub returns : goal.returns
+returns g c = λ (input, h). (_, c.push_all-next.ensures input h)
