@@ -143,8 +143,7 @@ fn add_front(ending: Ending, row: usize, ticks: u64, used: usize, out: &mut [u8]
 // Writes the answer of a run that was not refused.
 fn put_run(o: Outcome, store: &[i32], out: &mut [u8]) -> usize
     requires { (o.loops ≤ 16) × (length store.now ≤ 17) × (length out.old ≡ 2_048) }
-    ensures {
-        Wrote (run_text o.ending o.row o.ticks o.used store.now (take o.loops o.counts))
+    ensures { Wrote (run_text o.ending o.row o.ticks o.used store.now (take o.loops o.counts))
         out.old out.new result × (result ≤ 2_048) }
 {
     let ending = o.ending;
@@ -177,8 +176,7 @@ pub fn put_answer(
     out: &mut [u8],
 ) -> usize
     requires { (length store.old ≤ 17) × (length out.old ≡ 2_048) }
-    ensures {
-        Wrote (reply_text (run_reply prices.now (judged prices.now scratch_size file.now)
+    ensures { Wrote (reply_text (run_reply prices.now (judged prices.now scratch_size file.now)
         store.old picks.now allowance) store.old)
         out.old out.new result × (result ≤ 2_048) }
 {

@@ -82,8 +82,7 @@ fn add_step_front(frame: u64, d: StepDone, out: &mut [u8]) -> usize
 // Writes the line of a step that was not refused.
 fn put_done(frame: u64, d: StepDone, cues: &[u32], out: &mut [u8]) -> usize
     requires { (length cues.now ≤ 1_024) × (length out.old ≡ 21_700) }
-    ensures {
-        Wrote (step_front frame d ++ (listed cue_text true cues.now ++ newline)) out.old out.new result
+    ensures { Wrote (step_front frame d ++ (listed cue_text true cues.now ++ newline)) out.old out.new result
         × (result ≤ 21_700) }
 {
     let a = add_step_front(frame, d, out);

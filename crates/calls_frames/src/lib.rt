@@ -1,5 +1,6 @@
 // Several scripts in one frame (change 14), after the questions 20, 1 and 16: the scripts, their frames, and the answers.
 #![tactic(auto)]
+
 ghost use Rattle.std.specs.Prelude.{◌≡◌, ◌≤◌};
 ghost use Rattle.rules.specs.Calls.{Priced, prices_of};
 ghost use Rattle.rules_frames.specs.Frames.{ready, played_by};

@@ -1,5 +1,6 @@
 // The calls for C and Rust: numbers and slices only.
 #![tactic(auto)]
+
 ghost use Rattle.std.specs.Prelude.{◌≡◌, ◌∷◌, ◌+◌, ◌≤◌, min, length, set, take};
 ghost use Rattle.std.proofs.Math.Seq.{paste};
 ghost use Rattle.rules.specs.Calls.{ending_number};
@@ -28,8 +29,7 @@ pub extern "C" fn diftanew_report(
     buffer: &mut [u8],
     place: &mut u64,
 ) -> u32
-    ensures answer {
-        Reported-in-numbers prices.now (judgement prices.now scratch.old file.now)
+    ensures answer { Reported-in-numbers prices.now (judgement prices.now scratch.old file.now)
         buffer.old buffer.new result place.new }
     ensures scratch { ScratchKept scratch.old scratch.new }
 {
@@ -143,8 +143,7 @@ pub extern "C" fn diftanew_run(
     allowance: u64,
     answer: &mut [u64; 53],
 ) -> u32
-    ensures answer {
-        Told-in-numbers prices.now (judgement prices.now scratch.old file.now)
+    ensures answer { Told-in-numbers prices.now (judgement prices.now scratch.old file.now)
         store.old store.new picks.now allowance result answer.new }
     ensures scratch { ScratchKept scratch.old scratch.new }
 {
@@ -256,8 +255,7 @@ pub extern "C" fn diftanew_frames(
     scratch: &mut [u32],
     answer: &mut [u64; 433],
 ) -> u32
-    ensures answer {
-        Framed-in-numbers prices.now (length scratch.old)
+    ensures answer { Framed-in-numbers prices.now (length scratch.old)
         (lent_of files.now file_lengths.now stores.old store_lengths.now
         picks.now pick_lengths.now)
         q stores.new result answer.new }
@@ -291,8 +289,7 @@ pub extern "C" fn diftanew_start(
     state: &mut [u64],
     answer: &mut [u64; 2],
 ) -> u32
-    ensures answer {
-        Started-in-numbers
+    ensures answer { Started-in-numbers
         (start_reply prices.now (judgement prices.now scratch.old file.now)
         store.now state.old)
         state.old state.new result answer.new }
@@ -346,8 +343,7 @@ pub extern "C" fn diftanew_step(
     cues: &mut [u32],
     answer: &mut [u64; 56],
 ) -> u32
-    ensures answer {
-        Stepped-in-numbers
+    ensures answer { Stepped-in-numbers
         (step_reply prices.now (judgement prices.now scratch.old file.now)
         store.old state.old (step_lent q picks.now (length cues.old)))
         store.old store.new state.old state.new cues.old cues.new

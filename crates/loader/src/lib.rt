@@ -1,6 +1,7 @@
 // The public calls: the report of a script file, its figures, its run, and the frames of several scripts. They take all inputs, always end,
 // and refuse by number and place.
 #![tactic(auto)]
+
 ghost use Rattle.std.specs.Prelude.{◌≡◌, length};
 ghost use Rattle.rules.specs.File.{file_script};
 ghost use Rattle.rules.specs.Report.{longest_report};
@@ -47,8 +48,7 @@ fn ask_lent(prices: &[u32], scratch: usize) -> Verdict
 // The report of a file under prices that 16 has passed, its rows in the lent table: the questions 2 to 14, 17 and 19.
 fn report_file(file: &[u8], prices: &[u32], table: &mut [u32], buffer: &mut [u8]) -> Reply
     requires { Priced prices.now × (length table.old ≡ 1_024) }
-    ensures {
-        Reported prices.now (judged_file (prices_of prices.now) (file_script file.now))
+    ensures { Reported prices.now (judged_file (prices_of prices.now) (file_script file.now))
         buffer.old buffer.new result }
 {
     let none: [i32; 2] = [0; 2];
@@ -133,8 +133,7 @@ fn run_file(
     allowance: u64,
 ) -> Outcome
     requires { Priced prices.now × (length table.old ≡ 1_024) }
-    ensures {
-        RanAs
+    ensures { RanAs
         (run_reply prices.now (judged_file (prices_of prices.now) (file_script file.now))
         store.old picks.now allowance)
         store.old store.new result }
@@ -171,8 +170,7 @@ pub fn run(
     picks: &[u8],
     allowance: u64,
 ) -> Outcome
-    ensures answer {
-        KeptCall prices.now (judgement prices.now scratch.old file.now)
+    ensures answer { KeptCall prices.now (judgement prices.now scratch.old file.now)
         store.old store.new picks.now allowance result }
     ensures scratch { ScratchKept scratch.old scratch.new }
 {
@@ -199,8 +197,7 @@ fn start_file(
     state: &mut [u64],
 ) -> Started
     requires { Priced prices.now × (length table.old ≡ 1_024) }
-    ensures {
-        StartedAs
+    ensures { StartedAs
         (start_reply prices.now (judged_file (prices_of prices.now) (file_script file.now))
         store.now state.old)
         state.old state.new result }
@@ -226,8 +223,7 @@ pub fn start(
     store: &[i32],
     state: &mut [u64],
 ) -> Started
-    ensures answer {
-        StartedAs
+    ensures answer { StartedAs
         (start_reply prices.now (judgement prices.now scratch.old file.now)
         store.now state.old)
         state.old state.new result }
@@ -252,8 +248,7 @@ fn step_file(
     cues: &mut [u32],
 ) -> StepDone
     requires { Priced prices.now × (length table.old ≡ 1_024) }
-    ensures {
-        SteppedAs
+    ensures { SteppedAs
         (step_reply prices.now (judged_file (prices_of prices.now) (file_script file.now))
         store.old state.old (step_lent q picks.now (length cues.old)))
         store.old store.new state.old state.new cues.old cues.new result }
@@ -287,8 +282,7 @@ pub fn step(
     picks: &[u8],
     cues: &mut [u32],
 ) -> StepDone
-    ensures answer {
-        SteppedAs
+    ensures answer { SteppedAs
         (step_reply prices.now (judgement prices.now scratch.old file.now)
         store.old state.old (step_lent q picks.now (length cues.old)))
         store.old store.new state.old state.new cues.old cues.new result }
@@ -326,8 +320,7 @@ pub fn frames(
     q: u64,
     scratch: &mut [u32],
 ) -> Frames
-    ensures answer {
-        FramedCall prices.now (length scratch.old)
+    ensures answer { FramedCall prices.now (length scratch.old)
         (lent_of files.now file_lengths.now stores.old store_lengths.now
         picks.now pick_lengths.now)
         q stores.new result }

@@ -38,8 +38,7 @@ fn cue_in(kind: Kind) -> Fired
 // A row's cue number behind those before it, which end at `at`.
 fn put_cue(kind: Kind, at: usize, out: &mut [u32]) -> usize
     requires { at < length out.old }
-    ensures {
-        ((text w old : List ℕ) → Wrote w old out.old at → length w < length old → Wrote
+    ensures { ((text w old : List ℕ) → Wrote w old out.old at → length w < length old → Wrote
         (w ++ cue_of (view_of (kind_of text kind))) old out.new result)
         × (result ≤ at + 1) }
 {
@@ -56,8 +55,7 @@ fn put_cue(kind: Kind, at: usize, out: &mut [u32]) -> usize
 // Puts the cue numbers of the first `count` rows at the front, and answers how many there are.
 pub fn put_cues(rows: &[u32], count: usize, out: &mut [u32]) -> usize
     requires { (count ≤ 256) × (count ≤ length out.old) × (length rows.now ≡ 1_024) }
-    ensures {
-        ((text : List ℕ) → Wrote (cues_of (script_rows text (rows_of rows.now) count)) out.old
+    ensures { ((text : List ℕ) → Wrote (cues_of (script_rows text (rows_of rows.now) count)) out.old
         out.new result)
         × (result ≤ count) }
 {

@@ -71,8 +71,7 @@ pub fn add_file(
     cues: &mut [u32],
 ) -> Sheet
     requires { SheetWithRoom sheet counts.old lengths.old reports.old fired.old cues.old }
-    ensures {
-        ((js : List Judged) → SeasonSoFar js sheet counts.old lengths.old reports.old
+    ensures { ((js : List Judged) → SeasonSoFar js sheet counts.old lengths.old reports.old
         fired.old cues.old → SeasonSoFar (js ++ (judged four_ones 1_024 file.now ∷ [])) result
         counts.new lengths.new reports.new fired.new cues.new) }
 {

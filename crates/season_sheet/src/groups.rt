@@ -27,8 +27,7 @@ fn same_cues(first: &[u32], cues: &[u32]) -> bool
 
 // Whether a file is in the group of a first file, by their reports and their cue numbers.
 fn same_group(first: &[u8], report: &[u8], fired: &[u32], cues: &[u32]) -> bool
-    ensures {
-        ((a b : Script) → first.now ≡ script_report ones a → report.now ≡ script_report ones b → fired.now ≡ cues_of a.rows → cues.now ≡ cues_of b.rows → result ≡ same_group a b) }
+    ensures { ((a b : Script) → first.now ≡ script_report ones a → report.now ≡ script_report ones b → fired.now ≡ cues_of a.rows → cues.now ≡ cues_of b.rows → result ≡ same_group a b) }
 {
     if program_words::is_word(report, first) {
         return same_cues(fired, cues);
@@ -45,11 +44,9 @@ fn is_known(
     report: &[u8],
     cues: &[u32],
 ) -> bool
-    requires {
-        (total lengths.now ≤ length firsts.now) × (length counts.now ≡ length lengths.now)
+    requires { (total lengths.now ≤ length firsts.now) × (length counts.now ≡ length lengths.now)
         × (total counts.now ≤ length fired.now) }
-    ensures {
-        ((ss : List Script) (s : Script) → cut_by lengths.now firsts.now ≡ map (script_report ones) ss
+    ensures { ((ss : List Script) (s : Script) → cut_by lengths.now firsts.now ≡ map (script_report ones) ss
         → cut_by counts.now fired.now ≡ map script_cues ss → report.now ≡ script_report ones s
         → cues.now ≡ cues_of s.rows → result ≡ among s ss) }
 {

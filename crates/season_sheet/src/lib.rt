@@ -1,5 +1,6 @@
 // The season: names, cues, groups, and the sheet of many files.
 #![tactic(auto)]
+
 pub mod cues;
 pub mod files;
 pub mod groups;

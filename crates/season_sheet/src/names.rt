@@ -28,8 +28,7 @@ pub fn start(names: &mut [u8; ROOM], lengths: &mut [usize; 66]) -> usize
 
 // One byte more of the input. Line `at` is open; after 65 lines nothing is kept.
 fn push(at: usize, b: u8, names: &mut [u8; ROOM], lengths: &mut [usize; 66]) -> usize
-    ensures {
-        ((input : List ℕ) → NamesKept input at names.old lengths.old → NamesKept (input ++ (b ∷ [])) result
+    ensures { ((input : List ℕ) → NamesKept input at names.old lengths.old → NamesKept (input ++ (b ∷ [])) result
         names.new lengths.new) }
 {
     if at >= LINES {
@@ -49,8 +48,7 @@ fn push(at: usize, b: u8, names: &mut [u8; ROOM], lengths: &mut [usize; 66]) -> 
 
 // A block more of the input.
 pub fn push_all(at: usize, block: &[u8], names: &mut [u8; ROOM], lengths: &mut [usize; 66]) -> usize
-    ensures {
-        ((input : List ℕ) → NamesKept input at names.old lengths.old → NamesKept
+    ensures { ((input : List ℕ) → NamesKept input at names.old lengths.old → NamesKept
         (input ++ block.now) result names.new lengths.new) }
 {
     let mut line = at;
@@ -74,8 +72,7 @@ fn filled(length: usize) -> usize
 
 // How many names there are: what stands after the last LF is one if it is not empty. 0 for no name or more than 64.
 pub fn count(at: usize, lengths: &[usize; 66]) -> usize
-    ensures {
-        ((input names : List ℕ) → NamesKept input at names lengths.now → result ≡ listed (names_of input)) × (result ≤ 64) }
+    ensures { ((input names : List ℕ) → NamesKept input at names lengths.now → result ≡ listed (names_of input)) × (result ≤ 64) }
 {
     if at >= LINES {
         return 0;
@@ -116,8 +113,7 @@ fn opens(name: &[u8]) -> bool
 
 // How many bytes of name k are to be opened: all, or none of a name that does not open.
 pub fn opened(k: usize, names: &[u8], lengths: &[usize; 66]) -> usize
-    ensures name {
-        ((input : List ℕ) (at : ℕ) → NamesKept input at names.now lengths.now → k < 65 → k < length
+    ensures name { ((input : List ℕ) (at : ℕ) → NamesKept input at names.now lengths.now → k < 65 → k < length
         (names_of input) → Opened (get_or (names_of input) k []) (take result (drop (256 * k) names.now)) result) }
     ensures room { result ≤ 255 }
 {

@@ -23,8 +23,7 @@ pub struct Sheet {
 
 // The sheet of no file.
 pub fn empty(counts: &mut [u64; 21]) -> Sheet
-    ensures {
-        SheetIs [] result counts.new × (result.groups ≡ 0) × (result.used ≡ 0) × (result.cued ≡ 0)
+    ensures { SheetIs [] result counts.new × (result.groups ≡ 0) × (result.used ≡ 0) × (result.cued ≡ 0)
         × (length counts.new ≡ 21) }
 {
     *counts = [0; 21];
@@ -51,8 +50,7 @@ fn if_fresh(fresh: bool, n: usize) -> usize
 
 // An accepted file more: its ticks, its report's length, how many cues it has, and whether it is in a new group.
 pub fn with_accepted(sheet: Sheet, ticks: u64, len: usize, count: usize, fresh: bool) -> Sheet
-    requires {
-        (sheet.accepted < 64) × (sheet.ticks ≤ 64_000_000_000_000) × (ticks ≤ 1_000_000_000_000) × (sheet.groups < 64)
+    requires { (sheet.accepted < 64) × (sheet.ticks ≤ 64_000_000_000_000) × (ticks ≤ 1_000_000_000_000) × (sheet.groups < 64)
         × (sheet.used + len ≤ 133_696) × (sheet.cued + count ≤ 16_384) }
     ensures { Accepting sheet ticks len count fresh result }
 {

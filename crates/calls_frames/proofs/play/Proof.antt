@@ -72,13 +72,13 @@ went c =
     let i = c.if-k-all.true in
     let e = c.waiting.ensures in
     elim c.if-waiting.branch [
-    then-waiting w ↦
-    rw (w.frame-is, w.stores-is, w.counts-is, w.progress-is) (
-      ap (λ (z : AfterTurn). z.frame.earlier) w.turn_to-t.ensures,
-      λ fs ss ps roles on.
-          playing_on _ _ _ _ _ _ on _ _ _ _ _ _ (l.invariant.1 _ _ _ _ on) (omega (arith, i, on.number)) (sym e ∙ w.if-waiting.true) w.turn-to.result _ _ (rw (c.prices_of-by_kind.ensures, w.with_ticks.ensures) at w.turn-to.ensures) w.turn_to-t.result w.turn_to-t.ensures,
-    )
-    | else-waiting w ↦ rw (w.frame-is, w.stores-is, w.counts-is, w.progress-is) (refl, λ fs ss ps roles on. playing_still _ _ _ _ _ _ on _ _ _ _ _ _ (l.invariant.1 _ _ _ _ on) (omega (arith, i, on.number)) (sym e ∙ w.if-waiting.false))
+      | then-waiting w ↦
+          rw (w.frame-is, w.stores-is, w.counts-is, w.progress-is) (
+            ap (λ (z : AfterTurn). z.frame.earlier) w.turn_to-t.ensures,
+            λ fs ss ps roles on.
+                playing_on _ _ _ _ _ _ on _ _ _ _ _ _ (l.invariant.1 _ _ _ _ on) (omega (arith, i, on.number)) (sym e ∙ w.if-waiting.true) w.turn-to.result _ _ (rw (c.prices_of-by_kind.ensures, w.with_ticks.ensures) at w.turn-to.ensures) w.turn_to-t.result w.turn_to-t.ensures,
+          )
+      | else-waiting w ↦ rw (w.frame-is, w.stores-is, w.counts-is, w.progress-is) (refl, λ fs ss ps roles on. playing_still _ _ _ _ _ _ on _ _ _ _ _ _ (l.invariant.1 _ _ _ _ on) (omega (arith, i, on.number)) (sym e ∙ w.if-waiting.false))
     ]
 
 returns : tie.Need-returns-then-not-frame invariant-loop-k decreases-loop-k

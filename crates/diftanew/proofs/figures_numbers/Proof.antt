@@ -37,7 +37,7 @@ loop_again c =
     let i = c.loop-k-test.true in
     let m = c.requires.0 in
     let s = c.args in
-    let long : length s.t2 ≡ 16 = search rules in
+    let long : length s.lines ≡ 16 = search rules in
     (omega (arith, i), rw c.put_line.ensures (lined_more _ _ l.k l.a (omega (arith, i, m)) (omega (arith, i, m)) (c.requires.1 l.k i) l.invariant.1))
 
 returns : tie.Need-returns invariant-loop-k decreases-loop-k

@@ -6,8 +6,7 @@ pub returns : goal.returns
 returns c =
     let a = c.add_ending-a.ensures in
     let b = c.add_number-b.ensures in
-    let d = c.add_number-c.ensures in
-    (
+    let d = c.add_number-c.ensures in (
       adds_is (front_text_lem _ _ _ _) (adds_join _ _ _ _ _ _ _ _ (adds_join _ _ _ _ _ _ _ _ (adds_join _ _ _ _ _ _ _ _ a.0 b.0) d.0) c.add_text.ensures),
       omega (arith, a.1, b.1, d.1, c.add_text.ensures.count),
     )
