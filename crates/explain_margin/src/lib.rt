@@ -1,6 +1,7 @@
 // What stands in the margin of a script: its figures by row, how wide its columns are, how deep a row stands and how often it is passed;
 // and where a refusal points.
 #![tactic(auto)]
+
 mod columns;
 mod figures;
 mod nest;

@@ -91,8 +91,7 @@ fn read_script(
     store: &mut [i32],
 ) -> Share
     requires { i ≤ 99 }
-    ensures {
-        (result.file ≤ length file.old) × (result.picks ≤ length picks.old) × (result.values ≤ length store.old) }
+    ensures { (result.file ≤ length file.old) × (result.picks ≤ length picks.old) × (result.values ≤ length store.old) }
 {
     let mut path = [0u8; WORD];
     let n = host.argument(i, &mut path);
@@ -156,8 +155,7 @@ fn read_scripts(
     stores: &mut [i32],
     store_lengths: &mut [usize],
 ) -> Share
-    requires fact {
-        (first ≤ 3) × (scripts ≤ 8) × (length files.old ≡ 131_080) × (length picks.old ≡ 131_072) × (length stores.old ≡ 136) }
+    requires fact { (first ≤ 3) × (scripts ≤ 8) × (length files.old ≡ 131_080) × (length picks.old ≡ 131_072) × (length stores.old ≡ 136) }
     requires fact_2 { (length file_lengths.old ≡ 8) × (length pick_lengths.old ≡ 8) × (length store_lengths.old ≡ 8) }
     ensures { (result.file ≤ 131_080) × (result.picks ≤ 131_072) × (result.values ≤ 136) }
 {
@@ -279,8 +277,7 @@ fn read_and_play(
     prices: &[u32],
     q: u64,
 )
-    requires fact {
-        (first ≤ 3) × (scripts ≤ 8) × (length files.old ≡ 131_080) × (length picks.old ≡ 131_072) × (length stores.old ≡ 136) }
+    requires fact { (first ≤ 3) × (scripts ≤ 8) × (length files.old ≡ 131_080) × (length picks.old ≡ 131_072) × (length stores.old ≡ 136) }
     requires fact_2 { (length file_lengths.old ≡ 8) × (length pick_lengths.old ≡ 8) × (length store_lengths.old ≡ 8) }
 {
     let all = read_scripts(

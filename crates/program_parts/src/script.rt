@@ -127,8 +127,7 @@ fn write_run(
     store: [i32; STORE],
     text: &[u8],
 )
-    requires {
-        text.now ≡ reply_text (run_reply prices.now (judged prices.now scratch_size file.now) (take values store) picks.now allowed)
+    requires { text.now ≡ reply_text (run_reply prices.now (judged prices.now scratch_size file.now) (take values store) picks.now allowed)
         (take values store) }
 {
     print_text(host, text);
