@@ -6,8 +6,8 @@
  * DIFTANEW_START_ANSWER; of step, to DIFTANEW_STEP_ANSWER), and no two of the lent parts overlap, but those that are only read. Nothing else
  * is asked.
  *
- * A call needs a scratch of 1,024 numbers and a stack of 16 KB (20 KB for start and step, 76 KB for frames), no heap, and nothing else; it
- * keeps no state. All calls but frames write over the first 1,024 numbers of the scratch, whatever these were; every number past them, where a patch list may lie, keeps its value, and so
+ * A call needs a scratch of 1,024 numbers and a stack of 16 KB (60 KB for frames), no heap, and nothing else; it keeps no state. All calls
+ * but frames write over the first 1,024 numbers of the scratch, whatever these were; every number past them, where a patch list may lie, keeps its value, and so
  * do all of them if the scratch is refused as too short.
  *
  * Calls on several threads at once are safe where scratch, store, state, buffer, cues and answer are each thread's own; file, prices and picks may be shared.
@@ -39,7 +39,7 @@ extern "C" {
 #define DIFTANEW_REPORT_STACK 16384
 #define DIFTANEW_FIGURES_STACK 16384
 #define DIFTANEW_RUN_STACK 16384
-#define DIFTANEW_FRAMES_STACK 77824
+#define DIFTANEW_FRAMES_STACK 61440
 /* The loops that a script has at most, and the numbers of the answer of figures. */
 #define DIFTANEW_LOOPS 16
 #define DIFTANEW_FIGURES_ANSWER 115
@@ -54,7 +54,7 @@ extern "C" {
 #define DIFTANEW_START_ANSWER 2
 #define DIFTANEW_STEP_ANSWER 56
 #define DIFTANEW_STEP_TICKS 1000000
-#define DIFTANEW_STEP_STACK 20480
+#define DIFTANEW_STEP_STACK 16384
 
 /* Refusal numbers, by document 01's questions; document 02's are 16, which is asked after 1 and before 2, 17, after 3 on its line, and 19, of a
  * hold in the place of 8 to 12; 20 is asked by frames alone, before all others. 18 is the program season's. */

@@ -171,6 +171,7 @@ pub struct Frames {
 }
 
 // A refusal.
+#[inline(never)]
 pub fn refusal(number: u32, place: usize, script: usize) -> Frames
     ensures { result ≡ no_frames number place script }
 {
@@ -185,7 +186,8 @@ pub fn refusal(number: u32, place: usize, script: usize) -> Frames
     }
 }
 
-// All frames of scripts that are held.
+// All frames of scripts that are held. Not inlined, as `refusal`: its answers need no stack while the files are read.
+#[inline(never)]
 fn play_held(
     files: &[u8],
     tables: &[u32],

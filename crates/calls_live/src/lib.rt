@@ -208,7 +208,8 @@ pub struct Paced {
     pub loops: usize,
 }
 
-// The step of a script from a state and a store that its questions have passed.
+// The step of a script from a state and a store that its questions have passed. Not inlined: it needs no stack while the file is read.
+#[inline(never)]
 fn step_on(
     text: &[u8],
     rows: &[u32],

@@ -223,6 +223,7 @@ fn put_script(p: Played, at: usize, answer: &mut [u64; 433])
 }
 
 // A call of frames as numbers.
+#[inline(never)]
 fn frames_numbers(f: Frames) -> [u64; 433]
     ensures { result ≡ frames_numbers f }
 {

@@ -1,7 +1,7 @@
 //! Safe Rust calls over the proved loader of effect scripts.
 //!
-//! A call of the library needs a scratch of 1,024 numbers and a stack of 16 KB (20 KB for start and step, 76 KB for frames), no heap, and
-//! nothing else. All calls but frames write over the first 1,024 numbers of the scratch, whatever these were; every number past them, where a patch list may lie, keeps its value, and so
+//! A call of the library needs a scratch of 1,024 numbers and a stack of 16 KB (60 KB for frames), no heap, and nothing else. All calls but
+//! frames write over the first 1,024 numbers of the scratch, whatever these were; every number past them, where a patch list may lie, keeps its value, and so
 //! do all of them if the scratch is refused as too short.
 //!
 //! The crate is `no_std`. [`report`], [`figures`] and the calls in [`live`] and [`numbers`] take no heap; [`run`] and [`frames`] take some for lists of loops and of what is lent, and
@@ -48,10 +48,10 @@ pub const FIGURES_STACK: usize = 16 * 1_024;
 pub const RUN_STACK: usize = 16 * 1_024;
 
 /// The bytes of stack that `live::start` and `live::step` need at most.
-pub const STEP_STACK: usize = 20 * 1_024;
+pub const STEP_STACK: usize = 16 * 1_024;
 
 /// The bytes of stack that a call of frames needs at most.
-pub const FRAMES_STACK: usize = 76 * 1_024;
+pub const FRAMES_STACK: usize = 60 * 1_024;
 
 /// The loops that a script has at most.
 pub const LOOPS: usize = 16;
