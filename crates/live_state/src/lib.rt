@@ -65,7 +65,7 @@ pub const QUESTION: u32 = 21;
 fn is_pick(kind: Kind) -> bool
     ensures { (text : List ℕ) → result ≡ is_pick_row (view_of (kind_of text kind)) }
 {
-    kind == Kind::Pick
+    matches!(kind, Kind::Pick)
 }
 
 fn is_cue(kind: Kind) -> bool
@@ -77,7 +77,7 @@ fn is_cue(kind: Kind) -> bool
 fn is_end(kind: Kind) -> bool
     ensures { (text : List ℕ) → result ≡ is_end_number (view_of (kind_of text kind)) }
 {
-    kind == Kind::End
+    matches!(kind, Kind::End)
 }
 
 // May a script of this status stand at row i?
@@ -277,12 +277,16 @@ pub fn ask_state(
 fn status_in(status: u64, row: usize) -> Status
     ensures { result ≡ status_in status row }
 {
-    match status {
-        WAITS => Status::Over(Ending::NoPick, row),
-        GOING | FULL => Status::Going,
-        ENDED => Status::Over(Ending::Ended, row),
-        _ => Status::Over(Ending::Range, row),
+    if status == WAITS {
+        return Status::Over(Ending::NoPick, row);
     }
+    if status <= FULL {
+        return Status::Going;
+    }
+    if status == ENDED {
+        return Status::Over(Ending::Ended, row);
+    }
+    Status::Over(Ending::Range, row)
 }
 
 // What a step gives it: a finished script gets nothing.
