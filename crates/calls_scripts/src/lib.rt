@@ -129,6 +129,15 @@ pub struct ScriptRefusal {
     pub script: usize,
 }
 
+// A refusal of the call.
+impl From<Refusal> for ScriptRefusal {
+    ghost from_gives = { λ refusal e. e ≡ record { refusal = refusal; script = 0 } };
+
+    fn from(refusal: Refusal) -> Self {
+        ScriptRefusal { refusal, script: 0 }
+    }
+}
+
 // The scripts one after the other, until one is refused.
 pub fn enter_all(
     files: &[u8],
