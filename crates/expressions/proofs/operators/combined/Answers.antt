@@ -1,25 +1,17 @@
-use mathlib.Core.Path.{◌≡◌, refl}
+use Rattle.std.proofs.Common.{◌≡◌, rules}
+use borrow.Author.Rules.{sfits_of}
+use mir.Facts.{to_z-of_z}
 use mir.Syntax.{w32, w64}
 use mir.Val.{SFits}
-use mir.Facts.{to_z-of_z}
-use borrow.Author.Rules.{rules, sfits_of}
-use borrow.Author.Tests.{eq-eqb, ne_eqb}
 use Rattle.ints.specs.Ints.{min_z, max_z}
 use Rattle.rules.specs.Expressions.{operate}
 use Rattle.rules.specs.Evaluate.{clamped, least, largest, combined}
-use Rattle.expressions.specs.Operators.{joined_by, operator_of}
-use Rattle.expressions.proofs.operators.joined.Statement.{statement}
-use Rattle.expressions.proofs.operators.joined.Tie as tie
+use Rattle.expressions.proofs.operators.combined.Goals as goal
 
-returns : tie.Need-returns-then-op-eq-FIRST
-unfolding joined_by
-returns c = (rw (eq-eqb _ _ c.if-op-eq-FIRST.true), refl)
-
-returns_2 : tie.Need-returns
-unfolding joined_by combined least largest
-returns_2 c =
-    let e = c.before.before.before.before.before.before.before.before.before.before.before.before.before.before.before.before.before.before.before.before.before.before.before in
-    let s = e.args in
+pub returns : goal.returns
+unfolding combined least largest
+returns c =
+    let s = c.args in
     let f0 : SFits w32 s.a.lo = search rules in
     let f1 : SFits w32 s.a.hi = search rules in
     let f2 : SFits w32 s.b.lo = search rules in
@@ -47,10 +39,10 @@ returns_2 c =
     let operate2-fits : SFits w64 operate2.result = sfits_of operate2.type_inv in
     let operate1 = c.operate-p in
     let operate1-fits : SFits w64 operate1.result = sfits_of operate1.type_inv in
-    let e1 : operate1.result ≡ operate (operator_of s.op) s.a.lo s.b.lo = simp (to_z-of_z f0, to_z-of_z f2) at operate1.ensures in
-    let e2 : operate2.result ≡ operate (operator_of s.op) s.a.lo s.b.hi = simp (to_z-of_z f0, to_z-of_z f3) at operate2.ensures in
-    let e3 : operate3.result ≡ operate (operator_of s.op) s.a.hi s.b.lo = simp (to_z-of_z f1, to_z-of_z f2) at operate3.ensures in
-    let e4 : operate4.result ≡ operate (operator_of s.op) s.a.hi s.b.hi = simp (to_z-of_z f1, to_z-of_z f3) at operate4.ensures in
+    let e1 : operate1.result ≡ operate s.operator s.a.lo s.b.lo = simp (to_z-of_z f0, to_z-of_z f2) at operate1.ensures in
+    let e2 : operate2.result ≡ operate s.operator s.a.lo s.b.hi = simp (to_z-of_z f0, to_z-of_z f3) at operate2.ensures in
+    let e3 : operate3.result ≡ operate s.operator s.a.hi s.b.lo = simp (to_z-of_z f1, to_z-of_z f2) at operate3.ensures in
+    let e4 : operate4.result ≡ operate s.operator s.a.hi s.b.hi = simp (to_z-of_z f1, to_z-of_z f3) at operate4.ensures in
     let l1 : lower.result ≡ min_z operate1.result operate2.result = simp (to_z-of_z operate1-fits, to_z-of_z operate2-fits) at lower.ensures in
     let l2 : lower2.result ≡ min_z operate3.result operate4.result = simp (to_z-of_z operate3-fits, to_z-of_z operate4-fits) at lower2.ensures in
     let l3 : lower3.result ≡ min_z lower.result lower2.result = simp (to_z-of_z lower-fits, to_z-of_z lower2-fits) at lower3.ensures in
@@ -58,7 +50,4 @@ returns_2 c =
     let m2 : higher2.result ≡ max_z operate3.result operate4.result = simp (to_z-of_z operate3-fits, to_z-of_z operate4-fits) at higher2.ensures in
     let m3 : higher3.result ≡ max_z higher.result higher2.result = simp (to_z-of_z higher-fits, to_z-of_z higher2-fits) at higher3.ensures in
     let v : h.result ≡ clamped lower3.result higher3.result = simp (to_z-of_z lower3-fits, to_z-of_z higher3-fits) at h.ensures in
-    (rw (ne_eqb _ _ e.if-op-eq-FIRST.false, to_z-of_z g0, to_z-of_z g1, v, l3, l1, l2, m3, m1, m2, e1, e2, e3, e4), refl)
-
-pub joined_spec : {M : Type 1} → statement M
-joined_spec = tie.close (tie.spec returns (λ c κs. search rules) (λ c κs. search rules) (λ c κs. search rules) (λ c κs. search rules) (λ c κs. search rules) (λ c κs. search rules) (λ c κs. search rules) (λ c κs. search rules) (λ c κs. search rules) (λ c κs. search rules) (λ c κs. search rules) returns_2)
+    rw (to_z-of_z g0, to_z-of_z g1, v, l3, l1, l2, m3, m1, m2, e1, e2, e3, e4)
