@@ -8,13 +8,15 @@ use lib.Dec.{eqb}
 use lib.ListN.{length, get_or, drop, drop_of_length-le}
 use lib.Seq.{drop-cons}
 use borrow.Author.Tests.{eq-eqb, ne_eqb}
-use Rattle.rules.specs.Parse.{atom}
+use Rattle.std.specs.Prelude.{None, Some}
+use Rattle.rules.specs.Parse.{parsed, shapeless, atom}
 use Rattle.rules.specs.File.{first_refusal, asks_leaves}
 use Rattle.expressions.specs.declared.leaves.Leaf.{Leaf}
+use Rattle.expressions.specs.declared.leaves.LeafFound.{LeafFound}
 use Rattle.reading.specs.declared.questions.Scan.{Scan}
-use Rattle.expressions.specs.Leaves.{cut_in, said, LeafAt}
+use Rattle.expressions.specs.Leaves.{cut_in, leaf_expr, LeafAt}
 use Rattle.expressions.specs.Operators.{is_sum}
-use Rattle.reading.specs.Asking.{noted, one_more, sizes_from, due, shut, on, stop, goes, close_act, mark_act, act, end_question, word_question, sizes_of, scan_question, bytes_ahead, MayScan, ScanStep, asked_of, operates}
+use Rattle.reading.specs.Asking.{noted, one_more, sizes_from, due, shut, on, stop, goes, close_act, mark_act, act, end_question, word_question, sizes_of, scan_question, bytes_ahead, MayScan, ScanStep, operates}
 use Rattle.reading.proofs.Asking.{follow, at_shut, leaf_steps}
 
 pub at_the_end : (vars : ℕ) (word : List ℕ) (c : Scan) → c.good ≡ true → length word ≤ c.at → end_question (cond c.due due shut) c.depth (sizes_of c) ≡ scan_question vars word c
@@ -44,32 +46,25 @@ module _ (vars : ℕ) (word : List ℕ) (c : Scan) (r : MayScan word c) where
     less = rw (r.good, e) (omega (arith, r.within));
   }
 
-  pub no_leaf : vars ≤ 16 → c.due ≡ true → (get_or word c.at 0 ≡ 40 → ⊥) → (l : Leaf) → LeafAt word c.at l → l.tag ≡ 0 → ScanStep vars word c (record { good = false; due = true; depth = c.depth; deep = c.deep; ops = c.ops; asks = c.asks; at = c.at })
-  unfolding scan_question bytes_ahead said follow
-  no_leaf f e b l h t = record {
-    same = sym (at_due_lem e ∙ leaf_steps vars c.depth (sizes_of c) (get_or word c.at 0) (drop (suc c.at) word) f (ne_eqb (get_or word c.at 0) 40 b) (said l.tag l.value (drop l.next word)) (h.same ∙ ap (λ u. cut_in (atom u)) (drop-cons word c.at 0 r.within)) ∙ rw t);
+  pub no_leaf : vars ≤ 16 → c.due ≡ true → (get_or word c.at 0 ≡ 40 → ⊥) → LeafAt word c.at None → ScanStep vars word c (record { good = false; due = true; depth = c.depth; deep = c.deep; ops = c.ops; asks = c.asks; at = c.at })
+  unfolding scan_question bytes_ahead follow
+  no_leaf f e b h = record {
+    same = sym (at_due_lem e ∙ leaf_steps vars c.depth (sizes_of c) (get_or word c.at 0) (drop (suc c.at) word) f (ne_eqb (get_or word c.at 0) 40 b) shapeless (h.same ∙ ap (λ u. cut_in (atom u)) (drop-cons word c.at 0 r.within)));
     depth = r.depth;
     ops = r.ops;
     less = rw r.good (omega arith);
   }
 
-  said_leaf : (l : Leaf) → l.tag ≤ 2 → (l.tag ≡ 0 → ⊥) → (m q : ℕ) → m ≡ max c.deep c.depth → q ≡ first_refusal c.asks (asked_of vars l.tag l.value) → (s : List ℕ)
-      → follow vars (said l.tag l.value s) (λ x r. at_shut vars c.depth (sizes_from vars c.depth x (sizes_of c)) r) ≡ word_question vars shut c.depth (record { deep = m; ops = c.ops; asks = q }) s
-  unfolding said follow sizes_from noted asked_of asks_leaves
-  said_leaf l h z m q e k s = by l.tag refl h z
-    where
-      by : (t : ℕ) → l.tag ≡ t → t ≤ 2 → (t ≡ 0 → ⊥)
-          → follow vars (said l.tag l.value s) (λ x r. at_shut vars c.depth (sizes_from vars c.depth x (sizes_of c)) r) ≡ word_question vars shut c.depth (record { deep = m; ops = c.ops; asks = q }) s
-      by zero g h z = absurd (z refl)
-      by (suc zero) g h z = rw (e, k, g)
-      by (suc (suc zero)) g h z = rw (e, k, g)
-      by (suc (suc (suc t))) g h z = absurd (omega arith)
+  noted_leaf : (x : Leaf) → (m q : ℕ) → m ≡ max c.deep c.depth → q ≡ first_refusal c.asks (asks_leaves vars (leaf_expr x)) → sizes_from vars c.depth (leaf_expr x) (sizes_of c) ≡ record { deep = m; ops = c.ops; asks = q }
+  unfolding sizes_from noted
+  noted_leaf (Leaf.Constant z) m q e k = rw (e, k)
+  noted_leaf (Leaf.Variable v) m q e k = rw (e, k)
 
-  pub leafed : vars ≤ 16 → c.due ≡ true → (get_or word c.at 0 ≡ 40 → ⊥) → (l : Leaf) → LeafAt word c.at l → (l.tag ≡ 0 → ⊥) → (m q : ℕ) → m ≡ max c.deep c.depth → q ≡ first_refusal c.asks (asked_of vars l.tag l.value)
+  pub leafed : vars ≤ 16 → c.due ≡ true → (get_or word c.at 0 ≡ 40 → ⊥) → (l : LeafFound) → LeafAt word c.at (Some l) → (m q : ℕ) → m ≡ max c.deep c.depth → q ≡ first_refusal c.asks (asks_leaves vars (leaf_expr l.leaf))
       → ScanStep vars word c (record { good = true; due = false; depth = c.depth; deep = m; ops = c.ops; asks = q; at = l.next })
-  unfolding scan_question bytes_ahead
-  leafed f e b l h t m q i j = record {
-    same = sym (at_due_lem e ∙ leaf_steps vars c.depth (sizes_of c) (get_or word c.at 0) (drop (suc c.at) word) f (ne_eqb (get_or word c.at 0) 40 b) (said l.tag l.value (drop l.next word)) (h.same ∙ ap (λ u. cut_in (atom u)) (drop-cons word c.at 0 r.within)) ∙ said_leaf l h.tags t m q i j (drop l.next word));
+  unfolding scan_question bytes_ahead follow
+  leafed f e b l h m q i j = record {
+    same = sym (at_due_lem e ∙ leaf_steps vars c.depth (sizes_of c) (get_or word c.at 0) (drop (suc c.at) word) f (ne_eqb (get_or word c.at 0) 40 b) (parsed (leaf_expr l.leaf) (drop l.next word)) (h.same ∙ ap (λ u. cut_in (atom u)) (drop-cons word c.at 0 r.within)) ∙ ap (λ a. at_shut vars c.depth a (drop l.next word)) (noted_leaf l.leaf m q i j));
     depth = omega (arith, r.depth, h.from);
     ops = omega (arith, r.ops, h.from);
     less = rw (r.good, e) (omega (arith, h.from));

@@ -1,8 +1,7 @@
 -- A word asked in one walk from its first byte to its last, without recursion: what may follow what, and a count of open parentheses.
-use Rattle.std.specs.Prelude.{◌≡◌, Bool, true, cond, ◌&&◌, List, [], ◌∷◌, ℕ, zero, suc, max, ◌+◌, ◌*◌, ◌-◌, ◌≤◌, ◌<◌, leb, ltb, eqb, ℤ, nat_abs, length, drop}
+use Rattle.std.specs.Prelude.{◌≡◌, Bool, true, cond, ◌&&◌, List, [], ◌∷◌, ℕ, zero, suc, max, ◌+◌, ◌*◌, ◌-◌, ◌≤◌, ◌<◌, leb, eqb, length, drop}
 use Rattle.rules.specs.Expressions.{Expr, constant, variable, group, apply}
 use Rattle.rules.specs.Parse.{Parsed, parsed, shapeless, is_mark, atom}
-use Rattle.rules.specs.Values.{in_limits}
 use Rattle.rules.specs.File.{first_refusal, asks_leaves}
 use Rattle.expressions.specs.Operators.{is_sum}
 use Rattle.reading.specs.declared.questions.Scan.{Scan}
@@ -111,10 +110,6 @@ pub record ScanStep (vars : ℕ) (word : List ℕ) (c r : Scan) : Type 0 where
   pub depth : r.depth ≤ r.at
   pub ops : r.ops ≤ r.at
   pub less : bytes_ahead word r < bytes_ahead word c
-
--- 4 or 5 of a leaf, by its tag
-unfoldable pub asked_of : ℕ → ℕ → ℤ → ℕ
-asked_of vars t z = cond (eqb t 2) (cond (ltb (nat_abs z) vars) 0 5) (cond (in_limits z) 0 4)
 
 -- * + -
 unfoldable pub operates : ℕ → Bool

@@ -1,13 +1,14 @@
 // What the reader asks of a word as an expression: the questions 3, 17, 4 and 5.
-ghost use Rattle.std.specs.Prelude.{◌≡◌, true, false, cond, ◌≤◌, pos, nat_abs};
+ghost use Rattle.std.specs.Prelude.{◌≡◌, true, false, cond, ◌≤◌};
 ghost use Rattle.rules.specs.Parse.{parse};
-ghost use Rattle.rules.specs.File.{asks_expr};
-ghost use Rattle.reading.specs.Asking.{due, shut as after_factor, sizes_of, end_question, MayScan, ScanStep, asked_of};
+ghost use Rattle.rules.specs.File.{asks_expr, asks_leaves};
+ghost use Rattle.expressions.specs.Leaves.{leaf_expr};
+ghost use Rattle.reading.specs.Asking.{due, shut as after_factor, sizes_of, end_question, MayScan, ScanStep};
 ghost use Rattle.reading.specs.Asking.{operates};
 
 use crate::order::first_refusal;
-use expressions::leaves::{NEITHER, VARIABLE, leaf_at};
-use expressions::operators::{sums, within};
+use expressions::leaves::{Leaf, leaf_at};
+use expressions::operators::within;
 use ints::min_max::larger_size;
 
 // A walk over a word: whether its shape is good so far, whether a factor is due, the open parentheses, the most of them at a leaf, the
@@ -25,20 +26,13 @@ struct Scan {
 }
 
 // The question that a leaf has no to.
-fn asks_leaf(tag: u8, value: i32, vars: u32) -> u32
-    requires { tag ≡ 2 → pos (nat_abs value) ≡ value }
-    ensures { result ≡ asked_of vars tag value }
+fn asks_leaf(leaf: Leaf, vars: u32) -> u32
+    ensures { result ≡ asks_leaves vars (leaf_expr leaf) }
 {
-    if tag == VARIABLE {
-        if (value as u32) < vars {
-            return 0;
-        }
-        return 5;
+    match leaf {
+        Leaf::Variable(v) => if v < vars { 0 } else { 5 },
+        Leaf::Constant(k) => if within(k as i64) { 0 } else { 4 },
     }
-    if within(value as i64) {
-        return 0;
-    }
-    4
 }
 
 // Where a factor is due: a parenthesis, or a constant or a variable.
@@ -58,10 +52,7 @@ fn step_due(word: &[u8], vars: u32, c: Scan) -> Scan
             at: at + 1,
         };
     }
-    let leaf = leaf_at(word, at);
-    let next = leaf.next;
-    let tag = leaf.tag;
-    if tag == NEITHER {
+    let Some(found) = leaf_at(word, at) else {
         return Scan {
             good: false,
             due: true,
@@ -71,26 +62,24 @@ fn step_due(word: &[u8], vars: u32, c: Scan) -> Scan
             asks: c.asks,
             at,
         };
-    }
+    };
     Scan {
         good: true,
         due: false,
         depth: c.depth,
         deep: larger_size(c.deep, c.depth),
         ops: c.ops,
-        asks: first_refusal(c.asks, asks_leaf(tag, leaf.value, vars)),
-        at: next,
+        asks: first_refusal(c.asks, asks_leaf(found.leaf, vars)),
+        at: found.next,
     }
 }
 
 // * + -
+#[tactic(auto, unfolding(crate::specs::Asking::operates, expressions::specs::Operators::is_sum))]
 fn operates(b: u8) -> bool
     ensures { result ≡ operates b }
 {
-    if b == b'*' {
-        return true;
-    }
-    sums(b)
+    matches!(b, b'*' | b'+' | b'-')
 }
 
 // After a factor: an operator, or a parenthesis.
