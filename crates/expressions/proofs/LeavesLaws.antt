@@ -89,7 +89,7 @@ first_same (b ∷ s) h = by (is_digit b) refl h
     by false e k = absurd (omega arith)
 
 -- ---- numbers not below 0
-natural_yes : (w : List ℕ) → all_digits w ≡ true → 0 < length w → (get_or w 0 0 ≡ 48 → length w ≤ 1) → is_natural w ≡ true
+pub natural_yes : (w : List ℕ) → all_digits w ≡ true → 0 < length w → (get_or w 0 0 ≡ 48 → length w ≤ 1) → is_natural w ≡ true
 unfolding is_natural all_digits
 natural_yes [] a h f = absurd (omega arith)
 natural_yes (b ∷ []) a h f = go (is_digit b) a
@@ -113,13 +113,13 @@ natural_not (b ∷ (c ∷ s)) h = rw h (go (eqb b 48))
     go true = refl
     go false = refl
 
-natural_zero : (w : List ℕ) → 1 < length w → get_or w 0 0 ≡ 48 → is_natural w ≡ false
+pub natural_zero : (w : List ℕ) → 1 < length w → get_or w 0 0 ≡ 48 → is_natural w ≡ false
 unfolding is_natural
 natural_zero [] h e = refl
 natural_zero (b ∷ []) h e = absurd (omega arith)
 natural_zero (b ∷ (c ∷ s)) h e = rw (eq-eqb b 48 e)
 
-natural_none : (w : List ℕ) → length w ≡ 0 → is_natural w ≡ false
+pub natural_none : (w : List ℕ) → length w ≡ 0 → is_natural w ≡ false
 unfolding is_natural
 natural_none [] h = refl
 natural_none (b ∷ s) h = absurd (omega arith)
