@@ -126,6 +126,27 @@ starts_same (k ∷ w) (b ∷ s) = by (starts_same w s) (eqb k b) (eqb b k) refl 
     by i false true e f = absurd (eqb-false k b e (sym (eqb-true b k f)))
     by i false false e f = refl
 
+-- ---- digits, one after the other
+pub all_more : (s : List ℕ) (i : ℕ) → i < length s → is_digit (get_or s i 0) ≡ true → all_digits (drop i s) ≡ all_digits (drop (suc i) s)
+unfolding all_digits
+all_more s i h d = rw (drop-cons s i 0, d)
+
+pub all_stop : (s : List ℕ) (i : ℕ) → i < length s → is_digit (get_or s i 0) ≡ false → all_digits (drop i s) ≡ false
+unfolding all_digits
+all_stop s i h d = rw (drop-cons s i 0, d)
+
+pub all_end : (s : List ℕ) (i : ℕ) → length s ≤ i → all_digits (drop i s) ≡ true
+unfolding all_digits
+all_end s i h = rw (drop_of_length-le s)
+
+pub value_more : (s : List ℕ) (i a : ℕ) → i < length s → value_from a (drop i s) ≡ value_from (a * 10 + (get_or s i 0 - 48)) (drop (suc i) s)
+unfolding value_from
+value_more s i a h = rw (drop-cons s i 0)
+
+pub value_end : (s : List ℕ) (i a : ℕ) → length s ≤ i → value_from a (drop i s) ≡ a
+unfolding value_from
+value_end s i a h = rw (drop_of_length-le s)
+
 -- ---- digits up to a space or an LF
 at_stop : List ℕ → Bool
 at_stop [] = true
