@@ -1,13 +1,7 @@
 -- Toward a comparison, in the parts that code asks.
 use mathlib.Core.Path.{◌≡◌, refl}
-use mathlib.Core.Bool.{true, false, ◌&&◌}
-use Prim.Native.Nat.{ℕ}
-use lib.IntN.{ℤ, pos, negsuc}
-use lib.Signed.{le_z}
-use Rattle.rules_steps.specs.declared.Step.TheVariants.{Add, Grow, Shrink}
+use mathlib.Core.Bool.{◌&&◌}
 use Rattle.rules.specs.Ranges.{Sort, rising, falling, same, differ, suits, ordered}
-use Rattle.analysis_intervals.specs.Sorts.{is_rising, is_falling}
-use Rattle.analysis_intervals.proofs.Sorts.{is_rising_lem, is_falling_lem, unordered}
 use Rattle.rules_steps.specs.declared.Step.{Step}
 use Rattle.rules.specs.Steps.{is_add}
 use Rattle.rules.specs.Trips.{toward}

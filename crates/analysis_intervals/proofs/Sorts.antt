@@ -1,7 +1,7 @@
 -- The sort of a test, from what code asks of its comparison.
 use mathlib.Core.Path.{◌≡◌, refl, sym}
 use mathlib.Core.Bool.{true, false, false≢true}
-use Rattle.rules.specs.Ranges.{Sort, rising, falling, same, differ, ordered}
+use Rattle.rules.specs.Ranges.{Sort, rising, falling, same, differ}
 use Rattle.analysis_intervals.specs.Sorts.{is_rising, is_falling, is_differ}
 
 pub is_rising_lem : (d : Sort) → is_rising d ≡ true → d ≡ rising

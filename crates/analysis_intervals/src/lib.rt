@@ -111,7 +111,7 @@ pub fn interval_at(r: &[[i32; 2]; 16], v: u8) -> Interval
 
 // The range of an expression, by its place and length.
 fn word_bounds(text: &[u8], at: u16, n: u16, r: &[[i32; 2]; 16]) -> Interval
-    requires { InText text.now at n × (length r.now ≡ 16) }
+    requires { InText text.now at n }
     ensures { range_of result ≡ bounds (env_of r.now) (expr_in (parse (take n (drop at text.now)))) }
 {
     let from = at as usize;
@@ -120,8 +120,9 @@ fn word_bounds(text: &[u8], at: u16, n: u16, r: &[[i32; 2]; 16]) -> Interval
 }
 
 // An operand's range.
+#[tactic(auto, unfolding(rules::specs::Ranges::bounds, rules::specs::Expressions::meaning, rules::specs::Blocks::expr_of))]
 pub fn bounds(text: &[u8], r: &[[i32; 2]; 16], x: Operand) -> Interval
-    requires { FineOperand x × WrittenOperand text.now x × (length r.now ≡ 16) }
+    requires { FineOperand x × WrittenOperand text.now x }
     ensures { range_of result ≡ bounds (env_of r.now) (expr_of text.now x) }
 {
     match x {
