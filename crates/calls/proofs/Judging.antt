@@ -5,10 +5,10 @@ use Prim.Native.Nat.{ℕ, ◌≤◌}
 use native.Mathlib.Omega.{arith}
 use lib.Dec.{leb, leb→le}
 use lib.ListN.{length}
-use Rattle.rules.specs.declared.Reply.{Reply}
-use Rattle.rules.specs.declared.Reply.TheVariants.{Refused}
-use Rattle.rules.specs.declared.Verdict.{Verdict}
-use Rattle.rules.specs.declared.Verdict.TheVariants.{Passed as passed}
+use Rattle.rules.specs.Replies.{Reply}
+use Rattle.rules.specs.Replies.{Refused}
+use Rattle.rules.specs.Verdicts.{Verdict}
+use Rattle.rules.specs.Verdicts.{passed}
 use Rattle.rules.specs.Questions.{tick_limit, verdict}
 use Rattle.rules.specs.Scripts.{Script, start_env, tree_of, report_ticks, Legal, Accepted}
 use Rattle.rules.specs.Report.{report_text, script_report}
@@ -23,7 +23,7 @@ module _ (prices : List ℕ) (script : Script) (count : ℕ) (s : Figures) (ls :
   asked : verdict (prices_of prices) (length script.rows) (start_env script.ranges) (tree_of script.rows) ≡ s.verdict
   asked = ap (λ n. verdict (prices_of prices) n (start_env script.ranges) (tree_of script.rows)) found.long ∙ found.figures.verdict
 
-  pub judged_no : {n p : ℕ} → s.verdict ≡ Verdict.Refused n p → judged_script prices script ≡ refuses n p
+  pub judged_no : {n p : ℕ} → s.verdict ≡ Verdict.refused n p → judged_script prices script ≡ refuses n p
   unfolding judged_by
   judged_no h = ap (judged_by script) (asked ∙ h)
 
@@ -64,7 +64,7 @@ module _ (prices : List ℕ) (script : Script) (count : ℕ) (s : Figures) (ls :
     }
 
   -- a refusal leaves the buffer
-  pub not_reported : {n p : ℕ} → s.verdict ≡ Verdict.Refused n p → (old : List ℕ) → MeasuredAs prices (judged_script prices script) old old (record { reply = Refused n p; ticks = 0 })
+  pub not_reported : {n p : ℕ} → s.verdict ≡ Verdict.refused n p → (old : List ℕ) → MeasuredAs prices (judged_script prices script) old old (record { reply = Refused n p; ticks = 0 })
   unfolding reply_of buffer_of
   not_reported h old = record {
     reply = ap (λ j. reply_of prices j (length old)) (sym (judged_no h));

@@ -12,7 +12,7 @@ use lib.Signed.{lt_z}
 use Rattle.ints.proofs.Parts.{ints}
 use Rattle.rules.specs.Report.{size, line_of, lines_of}
 use Rattle.analysis_lines.specs.Coded.{line_in, lines_in, first_lines}
-use Rattle.rules.specs.declared.Verdict.TheVariants.{Passed, Refused}
+use Rattle.rules.specs.Verdicts.{passed as Passed, refused as Refused}
 use Rattle.rules.specs.Scripts.{Script}
 use Rattle.analysis.specs.declared.Figures.{Figures as Found}
 use Rattle.calls.specs.Held.{judged_script, FiguresFound}

@@ -5,8 +5,8 @@ use Prim.Native.Nat.{ℕ, min}
 use lib.IntN.{ℤ}
 use lib.ListN.{length, take}
 use Rattle.rules.specs.declared.Prices.{Prices}
-use Rattle.rules.specs.declared.Verdict.{Verdict}
-use Rattle.rules.specs.declared.Verdict.TheVariants.{Passed, Refused}
+use Rattle.rules.specs.Verdicts.{Verdict}
+use Rattle.rules.specs.Verdicts.{passed as Passed, refused as Refused}
 use Rattle.rules.specs.Scripts.{Script, Legal}
 use Rattle.rules.specs.Answers.{Answer}
 use Rattle.rules.specs.Calls.{prices_of, Priced, RunReply, ran, refuses, store_verdict, loop_rows, counts_at, run_script, ran_script, stored, run_reply, store_after}

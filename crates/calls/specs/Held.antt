@@ -1,8 +1,8 @@
 -- A script that has been read, as code holds it: the ranges in an array of pairs, the rows in a table, beside the file's text.
 use Rattle.std.specs.Prelude.{◌≡◌, List, ℕ, ◌≤◌, ◌<◌, ℤ, length}
 use Rattle.rules.specs.Written.{Written}
-use Rattle.rules.specs.declared.Verdict.{Verdict}
-use Rattle.rules.specs.declared.Verdict.TheVariants.{Refused}
+use Rattle.rules.specs.Verdicts.{Verdict}
+use Rattle.rules.specs.Verdicts.{refused as Refused}
 use Rattle.rules.specs.Questions.{verdict}
 use Rattle.rules.specs.Scripts.{Script, BlankFrom, script_of, start_env, tree_of, Legal}
 use Rattle.rules.specs.Calls.{Judged, accepted, refuses, judged_by, prices_of, store_verdict}

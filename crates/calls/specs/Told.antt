@@ -3,7 +3,7 @@ use Rattle.std.specs.Prelude.{◌≡◌, List, ℕ, ◌≤◌, ℤ, length, take
 use Rattle.rules.specs.declared.Prices.{Prices}
 use Rattle.rules.specs.declared.Ending.TheVariants.{Ended}
 use Rattle.rules.specs.declared.LoopCount.{LoopCount}
-use Rattle.rules.specs.declared.Verdict.TheVariants.{Passed, Refused}
+use Rattle.rules.specs.Verdicts.{passed as Passed, refused as Refused}
 use Rattle.rules.specs.Blocks.{RowKind}
 use Rattle.rules.specs.Answers.{Answer}
 use Rattle.rules.specs.Scripts.{report_ticks}

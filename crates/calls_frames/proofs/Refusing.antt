@@ -3,7 +3,7 @@ use mathlib.Core.Path.{◌≡◌, refl, ap, subst}
 use mathlib.Core.List.{List}
 use Prim.Native.Nat.{ℕ}
 use lib.ListN.{length}
-use Rattle.rules.specs.declared.Verdict.TheVariants.{Passed, Refused}
+use Rattle.rules.specs.Verdicts.{passed as Passed, refused as Refused}
 use Rattle.rules.specs.Calls.{Priced, prices_of, scratch_size}
 use Rattle.rules_frames.specs.Frames
 use Rattle.rules_frames.specs.Frames.{Lent, parts_of, readiness, played_by, FramesReply, stores_after}

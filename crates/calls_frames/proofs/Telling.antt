@@ -11,7 +11,7 @@ use lib.ListN.{length, get_or, drop, replicate, length-drop, length-replicate, g
 use Rattle.rules.specs.declared.Ending.{Ending}
 use Rattle.rules.specs.declared.Ending.TheVariants.{Ended, Spent, NoPick}
 use Rattle.rules.specs.declared.Prices.{Prices}
-use Rattle.rules.specs.declared.Verdict.TheVariants.{Passed}
+use Rattle.rules.specs.Verdicts.{passed as Passed}
 use Rattle.rules_machine.specs.RowMachine.{TurnCounts, Place, more, over, counts_of}
 use Rattle.rules.specs.Answers.{store_list}
 use Rattle.rules.specs.Scripts.{none, some, Script, store_of}

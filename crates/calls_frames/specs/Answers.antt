@@ -1,7 +1,7 @@
 -- What a call of frames answers, as code holds it.
 use Rattle.std.specs.Prelude.{◌≡◌, List, [], ℕ, ◌*◌, ◌≤◌, ◌<◌, ◌^◌, ℤ, length, get_or, take, replicate}
 use Rattle.rules.specs.declared.Ending.TheVariants.{Ended}
-use Rattle.rules.specs.declared.Verdict.TheVariants.{Passed, Refused}
+use Rattle.rules.specs.Verdicts.{passed as Passed, refused as Refused}
 use Rattle.rules_frames.specs.Frames
 use Rattle.rules.specs.Calls.{prices_of, scratch_size}
 use Rattle.rules_frames.specs.Frames.{FramesReply, played, stores_after, Lent, parts_of, readiness, played_by}

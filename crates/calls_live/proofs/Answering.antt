@@ -10,7 +10,7 @@ use lib.Seq.{length-take-le}
 use Rattle.rules.specs.declared.Ending.TheVariants.{NoPick}
 use Rattle.rules.specs.declared.LoopCount.{LoopCount}
 use Rattle.rules.specs.declared.Prices.{Prices}
-use Rattle.rules.specs.declared.Verdict.TheVariants.{Passed}
+use Rattle.rules.specs.Verdicts.{passed as Passed}
 use Rattle.rules.specs.Answers.{store_list}
 use Rattle.rules.specs.Blocks.{RowKind, is_pick, view_at}
 use Rattle.rules.specs.Figures.{Line}

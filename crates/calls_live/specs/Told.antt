@@ -1,6 +1,6 @@
 -- What the two calls of a live run answer, as code holds it.
 use Rattle.std.specs.Prelude.{◌≡◌, List, ℕ, ◌≤◌, ℤ, length, take}
-use Rattle.rules.specs.declared.Verdict.TheVariants.{Passed, Refused}
+use Rattle.rules.specs.Verdicts.{passed as Passed, refused as Refused}
 use Rattle.rules.specs.Bounds.{FinePrices}
 use Rattle.rules.specs.Figures.{Line}
 use Rattle.rules.specs.Calls.{loop_rows}

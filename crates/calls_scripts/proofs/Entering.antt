@@ -7,7 +7,7 @@ use native.Mathlib.Decide.{ℕ_discrete}
 use native.Mathlib.Omega.{arith}
 use lib.ListN.{length, get_or, set, length-set}
 use lib.Seq.{get_or-set_same, get_or-set_other}
-use Rattle.rules.specs.declared.Verdict.TheVariants.{Passed, Refused}
+use Rattle.rules.specs.Verdicts.{passed as Passed, refused as Refused}
 use Rattle.rules.specs.File.{file_script}
 use Rattle.rules.specs.Calls.{prices_of, Priced, judged_file, judged, scratch_size}
 use Rattle.rules_frames.specs.Frames.{Lent, ScriptPart, Readiness, readiness, parts_of}

@@ -8,9 +8,9 @@ use lib.IntN.{ℤ}
 use lib.ListN.{length, take, drop}
 use lib.Seq.{drop_at}
 use lib.Dec.{T, leb, leb→le}
-use Rattle.rules.specs.declared.Verdict.{Verdict}
-use Rattle.rules.specs.declared.Verdict.TheVariants.{Passed, Refused}
-use Rattle.rules.specs.declared.Reply.{Reply}
+use Rattle.rules.specs.Verdicts.{Verdict}
+use Rattle.rules.specs.Verdicts.{passed as Passed, refused as Refused}
+use Rattle.rules.specs.Replies.{Reply}
 use Rattle.rules.specs.File.{file_script}
 use Rattle.rules.specs.Calls.{Judged, refuses, prices_of, prices_verdict, Priced, judged_priced, scratch_size, judged_file, judged, reply_of, buffer_of, RunReply, ran, run_reply, store_after}
 use Rattle.rules.proofs.Demand3File.{demand3_call}

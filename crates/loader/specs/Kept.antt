@@ -1,9 +1,9 @@
 -- What the two calls promise.
 use Rattle.std.specs.Prelude.{◌≡◌, cond, List, ℕ, ◌<◌, leb, ℤ, length, take, drop}
-use Rattle.rules.specs.declared.Reply.{Reply}
-use Rattle.rules.specs.declared.Reply.TheVariants.{Accepted}
-use Rattle.rules.specs.declared.Verdict.{Verdict}
-use Rattle.rules.specs.declared.Verdict.TheVariants.{Passed}
+use Rattle.rules.specs.Replies.{Reply}
+use Rattle.rules.specs.Replies.{Accepted}
+use Rattle.rules.specs.Verdicts.{Verdict}
+use Rattle.rules.specs.Verdicts.{passed as Passed}
 use Rattle.rules.specs.declared.Ending.{Ending}
 use Rattle.rules.specs.Calls.{Judged, prices_verdict, scratch_size, judged, reply_of, buffer_of, RunReply, ran, refuses, run_reply, ending_number}
 use Rattle.rules.specs.Claim.{Demand3Of}
@@ -12,7 +12,7 @@ use Rattle.calls.specs.Told.{RanAs}
 
 -- the questions 1 and 16, of a scratch of that length and the prices
 abbrev pub lent_verdict : List ℕ → ℕ → Verdict
-lent_verdict prices scratch = cond (leb scratch_size scratch) (prices_verdict 4 0 prices) (Verdict.Refused 1 scratch_size)
+lent_verdict prices scratch = cond (leb scratch_size scratch) (prices_verdict 4 0 prices) (Verdict.refused 1 scratch_size)
 
 -- the questions 1, 16 and 2 to 13 of a call
 abbrev pub judgement : List ℕ → List ℕ → List ℕ → Judged
@@ -31,12 +31,12 @@ reply_place (Reply.Refused q p) = p
 -- a run's: 0, or a refusal's number; the ending's number, or a refusal's place
 abbrev pub verdict_number : Verdict → ℕ
 verdict_number Passed = 0
-verdict_number (Verdict.Refused q p) = q
+verdict_number (Verdict.refused q p) = q
 
 -- the ending's number, or a refusal's place
 abbrev pub first_by : Verdict → Ending → ℕ
 first_by Passed ending = ending_number ending
-first_by (Verdict.Refused q p) ending = p
+first_by (Verdict.refused q p) ending = p
 
 -- what a run call's reply has for them
 abbrev pub run_number : RunReply → ℕ
