@@ -23,7 +23,7 @@ use Rattle.analysis_loops.specs.declared.Loop.{Loop}
 use Rattle.analysis_loops.specs.Loops.{LoopAt}
 use Rattle.analysis_ranges.specs.Loops.{widened}
 use Rattle.analysis_ranges.proofs.Loops.{inside_is}
-use Rattle.analysis_turns.specs.declared.Figure.{Figure}
+use Rattle.std.proofs.Common.{Result, Ok}
 use Rattle.analysis_turns.specs.Verdicts.{FigureOf}
 use Rattle.analysis_ticks.specs.Capped.{capped}
 use Rattle.analysis_ticks.proofs.Caps.{cap_times}
@@ -35,17 +35,15 @@ use Rattle.analysis.specs.declared.entries.PassCounts.{PassCounts}
 use Rattle.analysis.specs.Enter.{start_at, trip_at, walked_at, ExitOf, ExitAt}
 use Rattle.analysis.proofs.Laws.{lined_is, last_small}
 use Rattle.analysis.proofs.Numbers.{trip_number}
-use Rattle.analysis.proofs.entries.enter_loop.Statement.{statement}
-use Rattle.analysis.proofs.entries.enter_loop.Tie as tie
+use Rattle.analysis.proofs.entries.enter_loop.Goals as goal
 
-at-start-requires : tie.Need-at_start-requires
-at-start-requires c κs =
-    let p = c.requires in
-    let l = p.0 in
-    (rw c.kind_at-kind.ensures (l.ready.fine _ l.inside), p.5, rw c.kind_at-kind.ensures (l.ready.written _ l.inside))
+pub kind_at-kind-requires : goal.kind_at-kind-requires
+kind_at-kind-requires c = row_in c.args.rows.now _ (search rules)
 
-loop-at-requires : tie.Need-loop_at-one-requires
-loop-at-requires c κs = (c.requires.0, c.at_start.ensures.long)
+pub at_start-requires : goal.at_start-requires
+at_start-requires c =
+    let l = c.requires.0 in
+    (rw c.kind_at-kind.ensures (l.ready.fine _ l.inside), rw c.kind_at-kind.ensures (l.ready.written _ l.inside))
 
 -- the ranges at the loop's start
 begun : (text : List ℕ) (rows : List Row) (i : ℕ) (ρ : Env) {σ : Env} {k : Kind} → σ ≡ at_start (form_of text k) (test_of text k) ρ → k ≡ kind_at rows i → σ ≡ start_at text rows i ρ
@@ -63,14 +61,11 @@ exit_is one x = record {
   sets = λ w. ap (λ l. set_of l w) x.sets ∙ one.sets w;
 }
 
-inside-requires : tie.Need-inside-requires
-inside-requires c κs = (c.loop_at-one.ensures.small, c.at_start.ensures.long)
-
-returns : tie.Need-returns-in-Refused
-returns c =
+pub returns-in-Err : goal.returns-in-Err
+returns-in-Err c =
     let i = c.args.t.next in
-    let one = one_is c.args.text.now (rows_of c.args.rows.now) (env_of c.args.r.now) c.at_start.ensures.value c.kind_at-kind.ensures c.loop_at-one.ensures in
-    let f = subst (FigureOf (trip_of c.loop_at-one.result.trip)) c.in-Refused.is c.ask.ensures in
+    let one = one_is c.args.text.now (rows_of c.args.rows.now) (env_of c.args.r.now) c.at_start.ensures c.kind_at-kind.ensures c.loop_at-one.ensures in
+    let f = subst (FigureOf (trip_of c.loop_at-one.result.trip)) c.in-Err.is c.ask.ensures in
     λ os. record {
       begun = λ z. absurd (trip_number i (trip_of c.loop_at-one.result.trip) _ _ (f i) (sym (ap (λ (x : Tally). x.number) c.refused.ensures) ∙ z));
       exit = exit_is one c.exit_of.ensures;
@@ -79,42 +74,39 @@ returns c =
     }
 
 -- its figure: it has passed, and its turns
-figure : (τ : Trip) {f : Figure} {turns : ℕ} → f ≡ Figure.Turns turns → FigureOf τ f → FigureOf τ (Figure.Turns turns)
+figure : (τ : Trip) {f : Result ℕ ℕ} {turns : ℕ} → f ≡ Ok turns → FigureOf τ f → FigureOf τ (Ok turns)
 figure τ e h = subst (FigureOf τ) e h
 
-walked-requires : tie.Need-walked-all-requires
-walked-requires c κs =
+pub walked-all-requires : goal.walked-all-requires
+walked-all-requires c =
     let s = c in
     let l = s.requires.0 in
-    (c.loop_at-one.ensures.near, (figure (trip_of c.loop_at-one.result.trip) c.in-Turns.is c.ask.ensures).0, s.requires.1, (s.args.text.now, rw c.kind_at-kind.ensures (l.ready.written _ l.inside)))
+    (c.loop_at-one.ensures.near, (figure (trip_of c.loop_at-one.result.trip) c.in-Ok.is c.ask.ensures).0, s.requires.1, (s.args.text.now, rw c.kind_at-kind.ensures (l.ready.written _ l.inside)))
 
-times-requires : tie.Need-times-total-requires
-times-requires c κs = c.requires.1.small
+pub times-total-requires : goal.times-total-requires
+times-total-requires c = c.requires.1.small
 
-body-requires : tie.Need-body-inner-requires
-body-requires c κs = (c.loop_at-one.ensures.near, c.loop_at-one.ensures.small, omega (arith, c.times-total.ensures), c.requires.1)
+pub body-inner-requires : goal.body-inner-requires
+body-inner-requires c = (c.loop_at-one.ensures.near, c.loop_at-one.ensures.small, omega (arith, c.times-total.ensures), c.requires.1)
 
--- the body's last row, in all passes that are walked
-last : (c : tie.After-struct_known-1) → c.body-inner.result.count * c.last_ticks.result ≤ 4_096 * 1_000
-last c =
-    let s = c in
-    mul-le-mul c.body-inner.ensures.1.few (let z : c.last_ticks.result ≤ 1_000 = omega (arith, c.last_ticks.ensures s.args.text.now, last_small s.requires.2 s.args.text.now c.kind_at-kind.result) in z)
+pub overflow_mul-spent : goal.overflow_mul-spent
+overflow_mul-spent c =
+    let z : c.last_ticks.result ≤ 1_000 = omega (arith, c.last_ticks.ensures c.args.text.now, last_small c.requires.2 c.args.text.now c.kind_at-kind.result) in
+    let h = mul-le-mul c.body-inner.ensures.1.few z in
+    omega arith
 
-mul-spent : tie.Need-overflow_mul-spent
-mul-spent c = let h = last c in omega arith
+pub lined-first-requires : goal.lined-first-requires
+lined-first-requires c = let p = c.requires in (p.3, omega (arith, p.0.inside, p.0.ready.few), p.4, c.loop_at-one.ensures.near)
 
-lined-requires : tie.Need-lined-first-requires
-lined-requires c κs = let p = c.requires in (p.3, omega (arith, p.0.inside, p.0.ready.few), p.4, c.loop_at-one.ensures.near)
-
-returns_2 : tie.Need-returns-in-Turns
-returns_2 c = λ os.
+pub returns-in-Ok : goal.returns-in-Ok
+returns-in-Ok c = λ os.
     let a = c.args in
     let text = a.text.now in
     let rows = rows_of a.rows.now in
     let p = c.requires.0 in
     let r = a.round in
-    let one = one_is text rows (env_of a.r.now) c.at_start.ensures.value c.kind_at-kind.ensures c.loop_at-one.ensures in
-    let f = figure (trip_of c.loop_at-one.result.trip) c.in-Turns.is c.ask.ensures in
+    let one = one_is text rows (env_of a.r.now) c.at_start.ensures c.kind_at-kind.ensures c.loop_at-one.ensures in
+    let f = figure (trip_of c.loop_at-one.result.trip) c.in-Ok.is c.ask.ensures in
     let kd = c.kind_at-kind.ensures in
     let tr = one.trip in
     let tu = f.1 ∙ ap turns_of tr in
@@ -128,7 +120,7 @@ returns_2 c = λ os.
     let n = c.body-inner.result.count in
     let k = c.pass_counts.ensures in
     record {
-      begun = λ z. record { long = c.inside.ensures.long; value = c.inside.ensures.value ∙ ap (widened c.loop_at-one.result (inner_of (trip_of c.loop_at-one.result.trip))) (begun text rows a.t.next (env_of a.r.now) c.at_start.ensures.value kd) ∙ inside_is one };
+      begun = λ z. c.inside.ensures ∙ ap (widened c.loop_at-one.result (inner_of (trip_of c.loop_at-one.result.trip))) (begun text rows a.t.next (env_of a.r.now) c.at_start.ensures kd) ∙ inside_is one;
       exit = exit_is one c.exit_of-exit.ensures;
       stopped = λ h. absurd (h l.number);
       whole = λ z. record {
@@ -139,23 +131,3 @@ returns_2 c = λ os.
         lined = lined_is tr tu to (ap (λ m. n * m) (c.last_ticks.ensures text ∙ ap (last_ticks text a.prices) kd)) l;
       };
     }
-
-pub enter_loop_spec : {M : Type 1} → statement M
-enter_loop_spec =
-    tie.close
-    (tie.spec
-    (λ c κs. row_in c.args.rows.now _ (search rules))
-    at-start-requires
-    loop-at-requires
-    (λ c κs. search rules) (λ c. search rules) (λ c κs. search rules) (λ c κs. search rules)
-    (λ c. search rules) (λ c κs. search rules)
-    walked-requires
-    times-requires
-    body-requires
-    (λ c κs. search rules)
-    mul-spent
-    lined-requires
-    (λ c κs. search rules) (λ c κs. search rules)
-    inside-requires
-    returns
-    returns_2)
