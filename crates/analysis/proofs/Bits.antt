@@ -1,6 +1,6 @@
 -- Powers of 2, and the variables that are not known, one by one.
 use mathlib.Core.Path.{◌≡◌, refl, ap, subst}
-use mathlib.Core.Bool.{Bool, true, false, cond}
+use mathlib.Core.Bool.{cond}
 use Prim.Native.Nat.{ℕ, zero, suc, ◌+◌, ◌-◌, ◌*◌, ◌≤◌}
 use native.Mathlib.Numerals.{add-one}
 use native.Mathlib.Omega.{arith}
@@ -31,7 +31,3 @@ known_none ρ = refl
 pub known_more : (v : ℕ) (ρ : Env) → not_known (v + 1) ρ ≡ not_known v ρ + cond (is_full (ρ v)) (bit_of v) 0
 unfolding not_known
 known_more v ρ = rw add-one
-
-pub part_small : (b : Bool) (n : ℕ) → cond b n 0 ≤ n
-part_small true n = omega arith
-part_small false n = omega arith

@@ -9,8 +9,6 @@ use native.Mathlib.Nat.{mul-le-mul}
 use lib.Dec.{leb}
 use lib.IntN.{ℤ, pos}
 use Rattle.rules.specs.declared.Row.{Row}
-use types.Run.{OneOf, miss}
-use denote.Enum.Declared.{tag_of}
 use Rattle.rules.specs.Blocks.{Test, Form, Block}
 use Rattle.rules.specs.Steps.{starts, assigns}
 use Rattle.rules.specs.Ranges.{Env, full, after_row, join, at_start}
@@ -25,7 +23,6 @@ use Rattle.rules.specs.Verdicts.{Verdict}
 use Rattle.rules.specs.Verdicts.{passed, refused}
 use Rattle.rules.specs.Questions.{and_then, asked, tick_limit, of_trip, loops_verdict, blocks_verdict}
 use Rattle.table.specs.declared.Shape.{Shape}
-use Rattle.table.specs.contracts.Shape as shapes
 use lib.ListN.{length, set}
 use Rattle.analysis_lines.specs.Coded.{first_lines}
 use Rattle.table.specs.Code.{kind_at}
@@ -35,7 +32,6 @@ use Rattle.analysis_steps.specs.Body.{body_at}
 use Rattle.analysis_steps.proofs.Laws.{PickIs, LoopIs}
 use Rattle.analysis_steps.proofs.Walking.{Walking, plain_row}
 use Rattle.analysis_intervals.specs.Env.{env_of}
-use Rattle.analysis_ranges.specs.Env.{EnvIs}
 use Rattle.analysis_ticks.specs.Capped.{capped, once, over_of}
 use Rattle.analysis_ticks.proofs.Caps.{cap_mul, loop_ticks_is}
 use Rattle.analysis_ticks.specs.declared.passes.Round.{Round}
@@ -54,7 +50,7 @@ use Rattle.analysis.proofs.Laws.{last_small}
 
 -- what a walk over a block found, part by part, from a tally with these parts
 pub record Part (π : Prices) (q : Round) (k : Bool) (ρ : Env) (s : ℕ) (o : Verdict) (ls : List Line) (n : ℕ) (os : List ℕ) (b : Block) (ranges : List (List ℤ)) (r : LentTally) : Type 0 where
-  pub env : EnvIs ranges (after ρ b)
+  pub env : env_of ranges ≡ after ρ b
   pub kept : r.kept ≡ k && not (assigns q.v b)
   pub verdict : loops_verdict ρ b ≡ passed
   pub spent : r.spent ≡ capped (s + sum_over (pass_in q k) q.by q.count (λ j. ticks π j ρ b))
@@ -74,7 +70,7 @@ part_of {text} {π} {rows} {count} {at} {q} {ρ} {t} {r} {ranges} k s o ls n os 
     let b = block_at text rows count at in
     let v : tallied r (env_of ranges) ≡ folded π q (from_parts ρ k s o ls n os) b = p.value ∙ ap (λ x. folded π q x b) e in
     record {
-      env = record { long = p.env_long; value = ap (λ (x : FoldState). x.env) v };
+      env = ap (λ (x : FoldState). x.env) v;
       kept = ap (λ (x : FoldState). x.kept) v;
       verdict = sym (ap (λ (x : FoldState). x.verdict) v);
       spent = ap (λ (x : FoldState). x.spent) v;
@@ -101,20 +97,20 @@ unfolding folded and_then
 refused_in s h = s.stopped h
 
 -- a row that is neither plain nor a close begins a block; a block that is no pick is a loop
-pub block_shape : (s : Shape) → OneOf (1 ∷ 2 ∷ []) (tag_of shapes.the_type s) → IsBlock s
-block_shape Shape.Plain o = absurd (miss (1 ∷ 2 ∷ []) 0 tt o)
-block_shape Shape.Branch o = inl refl
-block_shape Shape.Loop o = inr refl
-block_shape Shape.Close o = absurd (miss (1 ∷ 2 ∷ []) 3 tt o)
+pub block_shape : (s : Shape) → (s ≡ Shape.Plain → ⊥) → (s ≡ Shape.Close → ⊥) → IsBlock s
+block_shape Shape.Plain f g = absurd (f refl)
+block_shape Shape.Branch f g = inl refl
+block_shape Shape.Loop f g = inr refl
+block_shape Shape.Close f g = absurd (g refl)
 
-pub loop_shape_lem : (s : Shape) → OneOf (0 ∷ 2 ∷ 3 ∷ []) (tag_of shapes.the_type s) → IsBlock s → s ≡ Shape.Loop
-loop_shape_lem s o (inl e) = absurd (miss (0 ∷ 2 ∷ 3 ∷ []) 1 tt (subst (λ x. OneOf (0 ∷ 2 ∷ 3 ∷ []) (tag_of shapes.the_type x)) e o))
-loop_shape_lem s o (inr e) = e
+pub loop_shape_lem : (s : Shape) → (s ≡ Shape.Branch → ⊥) → IsBlock s → s ≡ Shape.Loop
+loop_shape_lem s f (inl e) = absurd (f e)
+loop_shape_lem s f (inr e) = e
 
 -- the walk is over
-pub closing : {text : List ℕ} {π : Prices} {rows : List Row} {count at : ℕ} {outer : Round} {ρ₀ : Env} {ranges : List (List ℤ)} {t t₀ : LentTally} → Walked text rows count at t.next (tallied t (env_of ranges)) (folded π outer (tallied t₀ ρ₀)) → t.spent ≤ 1_000_000_000_001 → length t.lines ≡ 16 → length ranges ≡ 16
+pub closing : {text : List ℕ} {π : Prices} {rows : List Row} {count at : ℕ} {outer : Round} {ρ₀ : Env} {ranges : List (List ℤ)} {t t₀ : LentTally} → Walked text rows count at t.next (tallied t (env_of ranges)) (folded π outer (tallied t₀ ρ₀)) → t.spent ≤ 1_000_000_000_001 → length t.lines ≡ 16
     → PassedPart text π rows count at ρ₀ outer t₀ ranges t
-closing w s m l = record { value = w.value; place = w.place; low = w.low; high = w.high; small = s; long = m; env_long = l }
+closing w s m = record { value = w.value; place = w.place; low = w.low; high = w.high; small = s; long = m }
 
 nowhere : Env
 nowhere w = full
@@ -226,13 +222,13 @@ module _ {text : List ℕ} (π : Prices) {rows : List Row} {count : ℕ} (round 
     pub past_pick_lem : {a b : LentTally} {first second ranges : List (List ℤ)} {r : LentTally}
         → Part π part t.kept ρ 0 (over_of t.over) (first_lines t.lines t.loops) t.loops t.own A first a
         → Part π part a.kept ρ 0 (over_of a.over) (first_lines a.lines a.loops) a.loops a.own B second b
-        → BlockClosed t b i e (capped (π.pick + max a.spent b.spent)) (capped (round.count * capped (π.pick + max a.spent b.spent))) b.kept r → EnvIs ranges (join (env_of first) (env_of second)) → PassedBlock text π rows count i ρ round t ranges r
+        → BlockClosed t b i e (capped (π.pick + max a.spent b.spent)) (capped (round.count * capped (π.pick + max a.spent b.spent))) b.kept r → env_of ranges ≡ join (env_of first) (env_of second) → PassedBlock text π rows count i ρ round t ranges r
     unfolding and_then rest_of
     past_pick_lem {a} {b} {ranges} {r} pa pb c s =
         let G = pick_ticks π round (tallied t ρ) A B in
         let fg : capped (π.pick + max a.spent b.spent) ≡ capped G = omega (arith, pa.spent, pb.spent, part_ticks A, part_ticks B) in
         let all : capped (round.count * capped (π.pick + max a.spent b.spent)) ≡ capped (round.count * G) = ap (λ z. capped (round.count * z)) fg ∙ cap_mul round.count G in
-        let z : tallied r (env_of ranges) ≡ past_pick π round (tallied t ρ) i e A B = state_is (s.value ∙ ap₂ join pa.env.value pb.env.value)
+        let z : tallied r (env_of ranges) ≡ past_pick π round (tallied t ρ) i e A B = state_is (s ∙ ap₂ join pa.env pb.env)
         (c.kept ∙ pb.kept ∙ ap (λ p. p && not (assigns round.v B)) pa.kept)
         (sym (ap₂ (λ v w. and_then v w) pa.verdict pb.verdict))
         (omega (arith, c.spent, all))
@@ -248,7 +244,6 @@ module _ {text : List ℕ} (π : Prices) {rows : List Row} {count : ℕ} (round 
           high = omega (arith, c.next);
           small = omega (arith, c.spent);
           long = ap length c.same ∙ pb.long;
-          env_long = s.long;
         }
 
   -- ---- a loop
@@ -374,7 +369,7 @@ module _ {text : List ℕ} (π : Prices) {rows : List Row} {count : ℕ} (round 
       pub past_loop_lem : {inner-ranges ranges : List (List ℤ)} {b r : LentTally} {keep : Bool}
           → Part π x.round x.round.known β (x.round.count * last_ticks text π (kind_at rows i)) (over_of t.over) (first_lines t.lines t.loops ++ (line_for i (trip form σ test body) (turns form σ test body) (capped (W * round.times)) ∷ [])) (t.loops + 1) t.own (block_at text rows count (i + 1)) inner-ranges b
           → ((G : ℕ) → b.spent ≡ capped G → BlockClosed t b i e (capped (x.exit.ran.own * (G + x.exit.ran.tests * π.test) + 1 * once π form)) (capped (x.exit.ran.all * (G + x.exit.ran.tests * π.test) + round.count * once π form)) keep r)
-          → keep ≡ (t.kept && not (starts round.v form test)) && not (assigns round.v body) → EnvIs ranges (outside form σ test body)
+          → keep ≡ (t.kept && not (starts round.v form test)) && not (assigns round.v body) → env_of ranges ≡ outside form σ test body
           → {os : List ℕ} {sum : ℕ} → NotedFor (length r.own) ρ sum → os ≡ set r.own e sum → PassedBlock text π rows count i ρ round t ranges (with_own r os)
       unfolding and_then rest_of
       past_loop_lem {ranges} {b} {r} {keep} p f kp s {os} nf wrote =
@@ -388,7 +383,7 @@ module _ {text : List ℕ} (π : Prices) {rows : List Row} {count : ℕ} (round 
           = ap capped_lines (sym (same.lined (round_of x.round) (pass_in x.round x.round.known) β))
           ∙ body_lines round κ form σ test body (capped (W * round.times)) x.round en.round (ap capped (sym total_is)) β body
           ∙ ap (λ j. capped_lines (lines (in_body (round_of round) j form σ test body) (first_pass form σ test body) β body)) (sym start_is) in
-          let y : tallied (with_own r os) (env_of ranges) ≡ past_loop π round (tallied t ρ) i e form test body = state_is s.value
+          let y : tallied (with_own r os) (env_of ranges) ≡ past_loop π round (tallied t ρ) i e form test body = state_is s
           (c.kept ∙ kp)
           (sym (ap₂ (λ a w. and_then a w) en.verdict (same.loops β ∙ p.verdict)))
           (c.spent ∙ omega (arith, all_is))
@@ -404,5 +399,4 @@ module _ {text : List ℕ} (π : Prices) {rows : List Row} {count : ℕ} (round 
             high = omega (arith, c.next);
             small = omega (arith, c.spent);
             long = ap length c.same ∙ p.long;
-            env_long = s.long;
           }

@@ -1,14 +1,14 @@
 -- States part by part, what a row takes, and figures by others.
 use mathlib.Core.Path.{◌≡◌, refl, subst}
 use mathlib.Core.Bool.{Bool}
-use mathlib.Core.List.{List, [], ◌∷◌}
+use mathlib.Core.List.{List}
 use Prim.Native.Nat.{ℕ, ◌≤◌}
 use native.Mathlib.Omega.{arith}
 use Rattle.rules.specs.declared.Kind.{Kind}
 use Rattle.rules.specs.declared.Kind.TheVariants.{Set, Move, Cue, Pick, Else, End, While, Do, For, Off, Hold}
-use Rattle.rules.specs.contracts.Kind.{the_type}
-use types.Run.{OneOf, miss}
-use denote.Enum.Declared.{tag_of}
+use Rattle.rules.specs.declared.Change.{Change}
+use Rattle.rules.specs.declared.Comparison.{Comparison}
+use Rattle.rules.specs.declared.Operand.{Operand}
 use Rattle.rules.specs.Blocks.{Plain, assign, cue, Last, no_step, step_by, view_of, kind_of}
 use Rattle.rules.specs.Trips.{Trip}
 use Rattle.rules.specs.Bounds.{FinePrices}
@@ -36,10 +36,7 @@ module _ {π : Prices} (fine : FinePrices π) where
   last_small text k = last_price_small (head_of text k).last
 
 -- any row but a for
-abbrev no_for : List ℕ
-no_for = 0 ∷ 1 ∷ 2 ∷ 3 ∷ 4 ∷ 5 ∷ 6 ∷ 7 ∷ 8 ∷ 10 ∷ []
-
-pub no_last : (text : List ℕ) (π : Prices) (k : Kind) → OneOf no_for (tag_of the_type k) → 0 ≡ last_ticks text π k
+pub no_last : (text : List ℕ) (π : Prices) (k : Kind) → ((v : ℕ) (s : Operand) (c : Comparison) (x : Operand) (d : Change) → k ≡ For v s c x d → ⊥) → 0 ≡ last_ticks text π k
 unfolding head_of view_of kind_of
 no_last text π End o = refl
 no_last text π Else o = refl
@@ -49,7 +46,7 @@ no_last text π (Move v c) o = refl
 no_last text π (Cue n) o = refl
 no_last text π (While v c x) o = refl
 no_last text π (Do v c x) o = refl
-no_last text π (For v s c x d) o = absurd (miss no_for 9 tt o)
+no_last text π (For v s c x d) o = absurd (o v s c x d refl)
 no_last text π (Off v w c k) o = refl
 no_last text π (Hold v) o = refl
 

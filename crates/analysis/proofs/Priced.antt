@@ -1,10 +1,8 @@
 -- The price of a plain row, by its tag.
 use mathlib.Core.Path.{◌≡◌, refl}
-use mathlib.Core.List.{List, [], ◌∷◌}
+use mathlib.Core.List.{List}
 use Prim.Native.Nat.{ℕ}
 use native.Mathlib.Omega.{arith}
-use types.Run.{OneOf, miss}
-use denote.Enum.Declared.{tag_of}
 use Rattle.rules.specs.Blocks.{view_of, kind_of}
 use Rattle.rules.specs.declared.Prices.{Prices}
 use Rattle.rules.specs.Figures.{price}
@@ -12,22 +10,17 @@ use Rattle.table.specs.declared.Shape.{Shape}
 use Rattle.table.specs.declared.Tag.{Tag}
 use Rattle.table.specs.Code.{kind_by}
 use Rattle.table.specs.Shapes.{shape_of, plain_of}
-use Rattle.table.specs.contracts.Tag.{the_type}
-
--- any row but a cue
-abbrev no_cue : List ℕ
-no_cue = 0 ∷ 1 ∷ 2 ∷ 3 ∷ 4 ∷ 6 ∷ 7 ∷ 8 ∷ 9 ∷ 10 ∷ []
 
 -- a plain row that is no cue is arithmetic
 module _ (π : Prices) (text e : List ℕ) where
-  pub price_other : (g : Tag) → OneOf no_cue (tag_of the_type g) → shape_of (kind_by g e) ≡ Shape.Plain → π.arithmetic ≡ price π (plain_of text (kind_by g e))
+  pub price_other : (g : Tag) → (g ≡ Tag.Cue → ⊥) → shape_of (kind_by g e) ≡ Shape.Plain → π.arithmetic ≡ price π (plain_of text (kind_by g e))
   unfolding price kind_by view_of kind_of
   price_other Tag.End o h = absurd (let z : ◌≡◌ {A = ℕ} 0 1 = cc in omega arith)
   price_other Tag.Else o h = absurd (let z : ◌≡◌ {A = ℕ} 0 1 = cc in omega arith)
   price_other Tag.Pick o h = absurd (let z : ◌≡◌ {A = ℕ} 0 1 = cc in omega arith)
   price_other Tag.Set o h = refl
   price_other Tag.Move o h = refl
-  price_other Tag.Cue o h = absurd (miss no_cue 5 tt o)
+  price_other Tag.Cue o h = absurd (o refl)
   price_other Tag.While o h = absurd (let z : ◌≡◌ {A = ℕ} 0 1 = cc in omega arith)
   price_other Tag.Do o h = absurd (let z : ◌≡◌ {A = ℕ} 0 1 = cc in omega arith)
   price_other Tag.For o h = refl

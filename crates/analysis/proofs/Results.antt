@@ -64,7 +64,7 @@ module _ (π : Prices) (fine : FinePrices π) (text : List ℕ) (ranges : List (
     lines = λ z. not_both p z;
     none = free;
   }
-  result t₀ t ls e s f (of_block z l p) m u k v free =
+  result t₀ t ls e s f (of_block z o l p) m u k v free =
       let part = part_of false 0 passed [] 0 t₀.own e (s.whole z) in
       record {
         verdict = moved (verdict π count) ∙ verdict_block π count ρ b part.verdict t.over part.over l ∙ sym p;
@@ -106,6 +106,6 @@ module _ (π : Prices) (fine : FinePrices π) (text : List ℕ) (ranges : List (
     pub own_put : (f : Verdict) → FirstNo t count f → OwnPut π (script_of text ranges vars rows count) t₀.own os
     unfolding script_of
     own_put f (of_loop h p) g = absurd (let n = sym (refused_in s h) ∙ sym (moved loops_verdict) ∙ g in let z : ◌≡◌ {A = ℕ} 0 1 = cc in omega arith)
-    own_put f (of_block z l p) g = own_whole z g
+    own_put f (of_block z o l p) g = own_whole z g
     own_put f (of_file z l o p) g = own_whole z g
     own_put f (none z l o p) g = own_whole z g

@@ -1,7 +1,7 @@
 -- The verdict of the whole file, from the walk's answer.
-use mathlib.Core.Path.{◌≡◌, sym, ◌∙◌}
+use mathlib.Core.Path.{◌≡◌, sym, ap, ◌∙◌}
 use Prim.Native.Nat.{ℕ, ◌≤◌, ◌<◌}
-use borrow.Author.Tests.{lt-ltb, le-ltb, le-leb, lt-leb}
+use borrow.Author.Tests.{le-leb, lt-leb}
 use Rattle.rules.specs.Blocks.{Block}
 use Rattle.rules.specs.Ranges.{Env}
 use Rattle.rules.specs.declared.Prices.{Prices}
@@ -9,6 +9,7 @@ use Rattle.rules.specs.Passes.{any}
 use Rattle.rules.specs.Figures.{ticks}
 use Rattle.rules.specs.Verdicts.{passed, refused}
 use Rattle.rules.specs.Questions.{and_then, asked, tick_limit, loops_verdict, blocks_verdict, verdict}
+use Rattle.std.proofs.Common.{Option, Some, None}
 use Rattle.analysis_ticks.specs.Capped.{over_of}
 
 module _ (π : Prices) (count : ℕ) (ρ : Env) (b : Block) where
@@ -16,15 +17,15 @@ module _ (π : Prices) (count : ℕ) (ρ : Env) (b : Block) where
   unfolding verdict and_then
   verdict_loop n p e = rw e
 
-  module _ (l : loops_verdict ρ b ≡ passed) (o : ℕ) (e : over_of o ≡ blocks_verdict π ρ b) where
-    pub verdict_block : o < 256 → verdict π count ρ b ≡ refused 13 o
+  module _ (l : loops_verdict ρ b ≡ passed) (o : Option ℕ) (e : over_of o ≡ blocks_verdict π ρ b) where
+    pub verdict_block : {p : ℕ} → o ≡ Some p → verdict π count ρ b ≡ refused 13 p
     unfolding verdict and_then over_of
-    verdict_block h = let z : blocks_verdict π ρ b ≡ refused 13 o = sym e ∙ (rw (lt-ltb o 256 h)) in rw (l, z)
+    verdict_block {p} h = let z : blocks_verdict π ρ b ≡ refused 13 p = sym e ∙ ap over_of h in rw (l, z)
 
-    module _ (h : 256 ≤ o) where
+    module _ (h : o ≡ None) where
       blocks : blocks_verdict π ρ b ≡ passed
       unfolding over_of
-      blocks = sym e ∙ (rw (le-ltb o 256 h))
+      blocks = sym e ∙ ap over_of h
 
       pub verdict_file : 1_000_000_000_000 < ticks π any ρ b → verdict π count ρ b ≡ refused 13 count
       unfolding verdict and_then asked tick_limit

@@ -14,9 +14,9 @@ use Rattle.analysis_steps.specs.Tree.{form_of, test_of}
 use Rattle.analysis_steps.specs.Body.{body_at}
 use Rattle.analysis_steps.specs.Sets.{set_of}
 use Rattle.analysis_loops.specs.declared.Loop.{Loop}
-use Rattle.analysis_intervals.specs.Env.{range_of}
+use Rattle.analysis_intervals.specs.Env.{env_of, range_of}
 use Rattle.analysis_loops.specs.Found.{trip_of}
-use Rattle.analysis_ranges.specs.Env.{EnvIs, widened_env}
+use Rattle.analysis_ranges.specs.Env.{widened_env}
 use Rattle.analysis_ticks.specs.Capped.{capped, once}
 use Rattle.analysis_ticks.specs.declared.passes.Round.{Round}
 use Rattle.analysis_ticks.specs.Rounds.{round_of, pass_in, FineRound, walked_by, body_of}
@@ -68,14 +68,14 @@ pub record ExitAt (text : List ℕ) (rows : List Row) (count i : ℕ) (ρ : Env)
 
 -- the loop at row i has been entered from the ranges ρ: where it is not refused, r holds those at its body's start
 pub record EnteredAt (text : List ℕ) (π : Prices) (rows : List Row) (count i : ℕ) (round : Round) (ρ : Env) (t : LentTally) (r : List (List ℤ)) (e : LoopEntry) (first : LentTally) : Type 0 where
-  pub begun : first.number ≡ 0 → EnvIs r (inside (form_of text (kind_at rows i)) (start_at text rows i ρ) (test_of text (kind_at rows i)) (body_at text rows count i))
+  pub begun : first.number ≡ 0 → env_of r ≡ (inside (form_of text (kind_at rows i)) (start_at text rows i ρ) (test_of text (kind_at rows i)) (body_at text rows count i))
   pub exit : ExitAt text rows count i (start_at text rows i ρ) e.exit
   pub stopped : (first.number ≡ 0 → ⊥) → of_trip i (trip_at text rows count i ρ) ≡ refused first.number first.place
   pub whole : first.number ≡ 0 → EntryPassed text π i (test_of text (kind_at rows i)).tested round (kind_at rows i) (trip_at text rows count i ρ) t e first
 
 -- a loop has been left, ρ the ranges at its body's start: r holds those after it
 pub record LeftLoop (π : Prices) (k : Kind) (exit : Exit) (round : Round) (t body : Tally) (own : List ℕ) (ρ : Env) (r : List (List ℤ)) (x : Tally) (own' : List ℕ) : Type 0 where
-  pub env : EnvIs r (widened_env (set_of exit.set) (range_of exit.mine) exit.tested ρ)
+  pub env : env_of r ≡ (widened_env (set_of exit.set) (range_of exit.mine) exit.tested ρ)
   pub closed : (text : List ℕ) (B : ℕ) → body.spent ≡ capped B
       → let G : ℕ = B + exit.ran.tests * π.test in
       ClosedBy t body own body.next (capped (exit.ran.own * G + 1 * once π (form_of text k))) (capped (exit.ran.all * G + round.count * once π (form_of text k)))

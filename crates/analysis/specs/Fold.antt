@@ -83,7 +83,6 @@ pub record PassedPart (text : List ℕ) (π : Prices) (rows : List Row) (count a
   pub high : r.next ≤ count
   pub small : r.spent ≤ 1_000_000_000_001
   pub long : length r.lines ≡ 16
-  pub env_long : length ranges ≡ 16
 
 -- or the first loop refused
 pub record Analysed (text : List ℕ) (π : Prices) (rows : List Row) (count at : ℕ) (ρ : Env) (round : Round) (t : LentTally) (ranges : List (List ℤ)) (r : LentTally) : Type 0 where
@@ -99,7 +98,6 @@ pub record AtBlock (text : List ℕ) (π : Prices) (rows : List Row) (count i : 
   pub walk : Walkable text π rows count i round t
   pub inside : i < count
   pub is : shape_of (kind_at rows i) ≡ shape
-  pub long : length ranges ≡ 16
 
 -- the block at row i has been walked, and r.next comes after it: no loop refused; ranges: those after it
 pub record PassedBlock (text : List ℕ) (π : Prices) (rows : List Row) (count i : ℕ) (ρ : Env) (round : Round) (t : LentTally) (ranges : List (List ℤ)) (r : LentTally) : Type 0 where
@@ -110,7 +108,6 @@ pub record PassedBlock (text : List ℕ) (π : Prices) (rows : List Row) (count 
   pub high : r.next ≤ count
   pub small : r.spent ≤ 1_000_000_000_001
   pub long : length r.lines ≡ 16
-  pub env_long : length ranges ≡ 16
 
 -- or the first loop refused
 pub record PastBlock (text : List ℕ) (π : Prices) (rows : List Row) (count i : ℕ) (ρ : Env) (round : Round) (t : LentTally) (ranges : List (List ℤ)) (r : LentTally) : Type 0 where

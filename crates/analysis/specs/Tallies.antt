@@ -1,5 +1,5 @@
 -- What the walk carries: ranges, verdicts, ticks, lines and the blocks' own ticks; ticks and totals stop just past the limit.
-use Rattle.std.specs.Prelude.{◌≡◌, Bool, not, ◌&&◌, List, [], ◌∷◌, ◌++◌, ℕ, ◌+◌, ◌*◌, ◌<◌, max, length, set}
+use Rattle.std.specs.Prelude.{◌≡◌, Bool, not, ◌&&◌, List, [], ◌∷◌, ◌++◌, ℕ, Option, ◌+◌, ◌*◌, ◌<◌, max, length, set}
 use Rattle.rules.specs.declared.Row.{Row}
 use Rattle.rules.specs.declared.Kind.{Kind}
 use Rattle.rules.specs.Blocks.{Plain, Last, no_step, step_by}
@@ -37,7 +37,7 @@ pub record LentTally : Type 0 where
   pub number : ℕ
   pub kept : Bool
   pub place : ℕ
-  pub over : ℕ
+  pub over : Option ℕ
   pub spent : ℕ
   pub loops : ℕ
   pub next : ℕ

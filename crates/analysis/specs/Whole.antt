@@ -1,5 +1,5 @@
 -- The answer of the analysis: the questions 19 and 8 to 13 of the whole file, and the report's ticks and lines.
-use Rattle.std.specs.Prelude.{◌≡◌, List, ℕ, ◌≤◌, ◌<◌, ℤ, Result, Ok, Err, length}
+use Rattle.std.specs.Prelude.{◌≡◌, List, ℕ, ◌≤◌, ◌<◌, ℤ, Result, Ok, Err, Some, None, length}
 use Rattle.rules.specs.declared.Row.{Row}
 use Rattle.rules.specs.declared.Prices.{Prices}
 use Rattle.rules.specs.Verdicts.{Verdict}
@@ -15,9 +15,9 @@ use Rattle.rules.specs.declared.Refusal.{Refusal}
 -- the first question that has no, from what the walk found
 pub data FirstNo (t : Tally) (count : ℕ) (r : Verdict) : Type 0 where
   of_loop : (t.number ≡ 0 → ⊥) → r ≡ refused t.number t.place → FirstNo t count r
-  of_block : t.number ≡ 0 → t.over < 256 → r ≡ refused 13 t.over → FirstNo t count r
-  of_file : t.number ≡ 0 → 256 ≤ t.over → 1_000_000_000_000 < t.spent → r ≡ refused 13 count → FirstNo t count r
-  none : t.number ≡ 0 → 256 ≤ t.over → t.spent ≤ 1_000_000_000_000 → r ≡ passed → FirstNo t count r
+  of_block : t.number ≡ 0 → (o : ℕ) → t.over ≡ Some o → r ≡ refused 13 o → FirstNo t count r
+  of_file : t.number ≡ 0 → t.over ≡ None → 1_000_000_000_000 < t.spent → r ≡ refused 13 count → FirstNo t count r
+  none : t.number ≡ 0 → t.over ≡ None → t.spent ≤ 1_000_000_000_000 → r ≡ passed → FirstNo t count r
 
 -- what the analysis answers: a verdict, the report's ticks, and how many loops there are; 0 where it is refused
 pub record AnalysisAnswer : Type 0 where

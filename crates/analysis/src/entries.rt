@@ -1,5 +1,5 @@
 // Entering and leaving a loop: its questions 19 and 8 to 12, its line, and the passes of its body.
-ghost use Rattle.std.specs.Prelude.{◌≡◌, not, cond, ◌&&◌, List, ℕ, ◌+◌, ◌*◌, ◌≤◌, ◌<◌, length};
+ghost use Rattle.std.specs.Prelude.{◌≡◌, not, ◌&&◌, List, ℕ, ◌+◌, ◌*◌, ◌≤◌, ◌<◌, length};
 ghost use Rattle.rules.specs.Bounds.{FinePrices};
 ghost use Rattle.rules.specs.Steps.{starts};
 ghost use Rattle.table.specs.Code.{kind_at, rows_of};
@@ -12,15 +12,14 @@ ghost use Rattle.analysis.specs.Enter.{ExitOf, PassCountsOf, EnteredAt, LeftLoop
 ghost use Rattle.analysis.specs.Known.{is_full, not_known, NotedFor};
 
 use crate::tallies::{Tally, closed, last_ticks, lined, refused};
-use analysis_intervals::comparisons::both;
 use analysis_intervals::{Interval, interval_at};
 use analysis_loops::{Loop, loop_at};
 use analysis_ranges::transfer::{at_start, widen};
 use analysis_ranges::{inside, outer};
-use analysis_steps::has;
+use analysis_steps::variable_set::VariableSet;
 use analysis_ticks::passes::{Round, body, walked};
 use analysis_ticks::{loop_ticks, plus, times};
-use analysis_turns::{Figure, ask};
+use analysis_turns::ask;
 use rules::{Kind, Prices};
 use table::kind_at;
 
@@ -37,17 +36,19 @@ pub struct PassCounts {
 fn pass_counts(inner: Round, turns: u64, all: u64, count: u64) -> PassCounts
     ensures { PassCountsOf inner.known inner.count turns all count result }
 {
+    let tests = inner.count;
     if inner.known {
-        return PassCounts {
+        PassCounts {
             own: 1,
             all: count,
-            tests: inner.count,
-        };
-    }
-    PassCounts {
-        own: turns,
-        all: all,
-        tests: inner.count,
+            tests,
+        }
+    } else {
+        PassCounts {
+            own: turns,
+            all,
+            tests,
+        }
     }
 }
 
@@ -56,7 +57,7 @@ fn kept_at(kind: Kind, v: u8, kept: bool) -> bool
     ensures { (text : List ℕ) → result ≡ kept && not (starts v (form_of text kind) (test_of text kind)) }
 {
     match kind {
-        Kind::For(w, _, _, _, _) => both(kept, v != w),
+        Kind::For(w, _, _, _, _) => kept && v != w,
         _ => kept,
     }
 }
@@ -67,20 +68,18 @@ fn kept_at(kind: Kind, v: u8, kept: bool) -> bool
 pub struct Exit {
     pub tested: u8,
     pub mine: Interval,
-    pub set: [bool; 16],
+    pub set: VariableSet,
     pub ran: PassCounts,
 }
 
 fn exit_of(one: Loop, ran: PassCounts) -> Exit
     ensures { ExitOf one ran result }
 {
-    let trip = one.trip;
-    let set = one.set;
     Exit {
         tested: one.tested,
-        mine: outer(trip),
-        set: set,
-        ran: ran,
+        mine: outer(one.trip),
+        set: one.set,
+        ran,
     }
 }
 
@@ -110,7 +109,7 @@ pub fn enter_loop(
     r: &mut [[i32; 2]; 16],
 ) -> LoopEntry
     requires { AtLoop text.now (rows_of rows.now) count t.next × FineRound round × FinePrices prices × (t.loops < 16)
-        × (length lines.old ≡ 16) × (length r.old ≡ 16) }
+        × (length lines.old ≡ 16) }
     ensures { (os : List ℕ) → EnteredAt text.now prices (rows_of rows.now) count t.next round
         (env_of r.old) (with_lent t lines.old os) r.new result (with_lent result.first lines.new os) }
 {
@@ -120,12 +119,12 @@ pub fn enter_loop(
     let one = loop_at(text, rows, count, i, r);
     let trip = one.trip;
     match ask(trip) {
-        Figure::Refused(number) => LoopEntry {
+        Err(number) => LoopEntry {
             exit: exit_of(one, NONE),
-            round: round,
+            round,
             first: refused(t, number),
         },
-        Figure::Turns(turns) => {
+        Ok(turns) => {
             let kept = kept_at(kind, round.v, t.kept);
             let all = walked(kind, trip, turns, round, kept);
             let total = times(all, round.times);
@@ -135,9 +134,9 @@ pub fn enter_loop(
             let exit = exit_of(one, pass_counts(inner, turns, all, round.count));
             inside(r, one);
             LoopEntry {
-                exit: exit,
+                exit,
                 round: inner,
-                first: first,
+                first,
             }
         }
     }
@@ -156,43 +155,27 @@ pub fn leave_loop(
     r: &mut [[i32; 2]; 16],
 ) -> Tally
     requires { (4 * t.next + 3 < length rows.now) × (exit.tested < 16) × (body.next < 256)
-        × (t.spent ≤ 1_000_000_000_001) × (body.spent ≤ 1_000_000_000_001) × (length r.old ≡ 16)
+        × (t.spent ≤ 1_000_000_000_001) × (body.spent ≤ 1_000_000_000_001)
         × FinePrices prices × FineRound round × (exit.ran.tests ≤ 4_096) }
     ensures { LeftLoop prices (kind_at (rows_of rows.now) t.next) exit round t body own.old
         (env_of r.old) r.new result own.new }
 {
-    let assigned = exit.set;
-    widen(r, assigned, exit.mine, exit.tested);
+    widen(r, exit.set, exit.mine, exit.tested);
     let kind = kind_at(rows, t.next);
     let ran = exit.ran;
     let inner = plus(body.spent, ran.tests * prices.test);
     let ticks = loop_ticks(kind, prices, 1, ran.own, inner);
     let all = loop_ticks(kind, prices, round.count, ran.all, inner);
-    let begun = kept_at(kind, round.v, t.kept);
-    let set = has(assigned, round.v);
-    let kept = both(begun, !set);
+    let kept = kept_at(kind, round.v, t.kept) && !exit.set.contains(round.v);
     closed(own, t, body, body.next, ticks, all, kept)
 }
 
-// -L and L.
-const LOWEST: i32 = -1_000_000_000;
-
-const HIGHEST: i32 = 1_000_000_000;
-
 // A variable of this range is not known.
+#[tactic(auto, unfolding(rules::specs::Values::lowest, rules::specs::Values::highest), using(ints::proofs::Parts::signed))]
 fn is_full(s: Interval) -> bool
     ensures { result ≡ is_full (range_of s) }
 {
-    let lo = s.lo;
-    let hi = s.hi;
-    if lo == LOWEST { hi == HIGHEST } else { false }
-}
-
-// What a variable adds to the sum of those that are not known.
-fn part_of(unknown: bool, bit: u64) -> u64
-    ensures { result ≡ cond unknown bit 0 }
-{
-    if unknown { bit } else { 0 }
+    s.lo == Interval::FULL.lo && s.hi == Interval::FULL.hi
 }
 
 // The variables that are not known: the sum of 2^v.
@@ -202,8 +185,9 @@ fn not_known(r: &[[i32; 2]; 16]) -> u64
     let mut sum: u64 = 0;
     let mut bit: u64 = 1;
     for v in 0..16 {
-        let s = interval_at(r, v);
-        sum += part_of(is_full(s), bit);
+        if is_full(interval_at(r, v)) {
+            sum += bit;
+        }
         bit *= 2;
     }
     sum
@@ -213,8 +197,5 @@ fn not_known(r: &[[i32; 2]; 16]) -> u64
 pub fn to_note(places: usize, r: &[[i32; 2]; 16]) -> u64
     ensures { NotedFor places (env_of r.now) result }
 {
-    if places == 0 {
-        return 0;
-    }
-    not_known(r)
+    if places == 0 { 0 } else { not_known(r) }
 }

@@ -54,10 +54,8 @@ fn walk_pick(
     if b.number != 0 {
         return b;
     }
-    let x = joined(first, second);
-    *r = x;
-    let prices = script.prices;
-    leave_pick(prices.pick, round.count, own, t, a, b)
+    *r = joined(first, second);
+    leave_pick(script.prices.pick, round.count, own, t, a, b)
 }
 
 // The loop at row t.next, from the ranges before it to those after it: its body by the walk.
@@ -134,7 +132,7 @@ fn walk(
     r: &mut [[i32; 2]; 16],
 ) -> Tally
     requires { Walkable text.now script.prices (rows_of rows.now) script.count from.next round
-        (with_lent from lines.old own.old) × (length r.old ≡ 16) }
+        (with_lent from lines.old own.old) }
     ensures { Analysed text.now script.prices (rows_of rows.now) script.count from.next
         (env_of r.old) round (with_lent from lines.old own.old)
         r.new (with_lent result lines.new own.new) }
@@ -170,11 +168,8 @@ fn first_no(t: Tally, count: usize) -> Verdict
             place: t.place,
         });
     }
-    if t.over < 256 {
-        return Err(Refusal {
-            number: 13,
-            place: t.over,
-        });
+    if let Some(place) = t.over {
+        return Err(Refusal { number: 13, place });
     }
     if LIMIT < t.spent {
         return Err(Refusal {
@@ -200,7 +195,7 @@ const EMPTY: Tally = Tally {
     number: 0,
     kept: false,
     place: 0,
-    over: 256,
+    over: None,
     spent: 0,
     loops: 0,
     next: 0,

@@ -10,26 +10,24 @@ ghost use Rattle.analysis_ticks.specs.Rounds.{FineRound};
 ghost use Rattle.analysis.specs.Tallies.{with_lent, last_ticks, PlainNext, PastPlain};
 ghost use Rattle.analysis.specs.Tallies.{Restarted, LinePut, ClosedBy, PickClosed, refused_by};
 
-use analysis_intervals::comparisons::both;
 use analysis_lines::put_line;
 use analysis_loops::trips::Trip;
 use analysis_steps::sets_it;
 use analysis_ticks::passes::Round;
 use analysis_ticks::{first_over, plus, times};
 use analysis_turns::exact;
-use ints::min_max::larger;
 use rules::{Kind, LoopLine, Prices};
 use table::{Shape, Tag, tag_at};
 
 // What a walk has found: a refusal of 19 or 8 to 12 (number 0: none), whether the variable of the loop round the block is known and not
-// assigned so far, the first block over the limit (256: none), the ticks of all passes of one entry of that loop, how many lines there
+// assigned so far, the `end` row of the first block over the limit, the ticks of all passes of one entry of that loop, how many lines there
 // are so far, and the row that it looks at next.
 #[derive(Clone, Copy)]
 pub struct Tally {
     pub number: u32,
     pub kept: bool,
     pub place: usize,
-    pub over: usize,
+    pub over: Option<usize>,
     pub spent: u64,
     pub loops: usize,
     pub next: usize,
@@ -62,17 +60,15 @@ pub fn past_row(rows: &[u32], prices: Prices, round: Round, t: Tally) -> Tally
     ensures { PastPlain prices round (rows_of rows.now) t result }
 {
     let i = t.next;
-    let price = plain_price(rows, i, prices);
-    let spent = plus(t.spent, round.count * price);
-    let set = sets_it(rows, i, round.v);
+    let spent = plus(t.spent, round.count * plain_price(rows, i, prices));
+    let kept = t.kept && !sets_it(rows, i, round.v);
     Tally {
         number: 0,
-        kept: both(t.kept, !set),
+        kept,
         place: 0,
-        over: t.over,
-        spent: spent,
-        loops: t.loops,
+        spent,
         next: i + 1,
+        ..t
     }
 }
 
@@ -82,12 +78,10 @@ pub fn restarted(t: Tally, at: usize) -> Tally
 {
     Tally {
         number: 0,
-        kept: t.kept,
         place: 0,
-        over: t.over,
         spent: 0,
-        loops: t.loops,
         next: at,
+        ..t
     }
 }
 
@@ -104,25 +98,22 @@ pub fn lined(
     requires { (t.loops < 16) × (t.next < 256) × (length lines.old ≡ 16) × EndsWithin 512 trip.step }
     ensures { LinePut t lines.old (trip_of trip) turns total spent kept result lines.new }
 {
-    let i = t.next;
-    let k = t.loops;
-    let step = trip.step;
     let line = LoopLine {
-        row: i,
-        step: step,
-        turns: turns,
-        total: total,
+        row: t.next,
+        step: trip.step,
+        turns,
+        total,
         exact: exact(trip),
     };
-    put_line(lines, k, line);
+    put_line(lines, t.loops, line);
     Tally {
         number: 0,
-        kept: kept,
+        kept,
         place: 0,
         over: t.over,
-        spent: spent,
-        loops: k + 1,
-        next: i + 1,
+        spent,
+        loops: t.loops + 1,
+        next: t.next + 1,
     }
 }
 
@@ -151,7 +142,7 @@ pub fn closed(
     put_own(own, t.next, ticks);
     Tally {
         number: 0,
-        kept: kept,
+        kept,
         place: 0,
         over: first_over(inner.over, e, ticks),
         spent: plus(t.spent, all),
@@ -165,13 +156,9 @@ pub fn refused(t: Tally, number: u32) -> Tally
     ensures { result ≡ refused_by t number }
 {
     Tally {
-        number: number,
-        kept: t.kept,
+        number,
         place: t.next,
-        over: t.over,
-        spent: t.spent,
-        loops: t.loops,
-        next: t.next,
+        ..t
     }
 }
 
@@ -182,6 +169,6 @@ pub fn leave_pick(price: u64, count: u64, own: &mut [u64], t: Tally, a: Tally, b
     ensures { PickClosed price count t a b own.old result own.new }
 {
     let e = b.next;
-    let ticks = plus(price, larger(a.spent, b.spent));
+    let ticks = plus(price, a.spent.max(b.spent));
     closed(own, t, b, e, ticks, times(count, ticks), b.kept)
 }

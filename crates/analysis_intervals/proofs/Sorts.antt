@@ -1,7 +1,7 @@
 -- The sort of a test, from what code asks of its comparison.
 use mathlib.Core.Path.{◌≡◌, refl, sym}
 use mathlib.Core.Bool.{true, false, false≢true}
-use Rattle.rules.specs.Ranges.{Sort, rising, falling, same, differ, ordered}
+use Rattle.rules.specs.Ranges.{Sort, rising, falling, same, differ}
 use Rattle.analysis_intervals.specs.Sorts.{is_rising, is_falling, is_differ}
 
 pub is_rising_lem : (d : Sort) → is_rising d ≡ true → d ≡ rising
@@ -34,16 +34,3 @@ unordered P rising h k p q = absurd (false≢true (sym h))
 unordered P falling h k p q = absurd (false≢true (sym k))
 unordered P same h k p q = p
 unordered P differ h k p q = q
-
--- < <= or > >=
-pub ordered_up : (d : Sort) → is_rising d ≡ true → true ≡ ordered d
-ordered_up rising h = refl
-ordered_up falling h = refl
-ordered_up same h = sym h
-ordered_up differ h = sym h
-
-pub ordered_else : (d : Sort) → is_rising d ≡ false → is_falling d ≡ ordered d
-ordered_else rising h = sym h
-ordered_else falling h = refl
-ordered_else same h = refl
-ordered_else differ h = refl

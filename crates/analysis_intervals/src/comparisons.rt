@@ -12,44 +12,30 @@ ghost use Rattle.analysis_intervals.specs.Wide.{wide_range, Unmoved, EdgeWithin}
 use rules::Comparison;
 use rules_steps::Step;
 
-// Both.
-pub fn both(a: bool, b: bool) -> bool
-    ensures { result ≡ a && b }
-{
-    if a { b } else { false }
-}
-
+// Is it a step Add[a,b]?
+#[tactic(auto, unfolding(rules::specs::Steps::is_add))]
 pub fn is_add(step: Step) -> bool
     ensures { result ≡ is_add step }
 {
-    match step {
-        Step::Add(_, _) => true,
-        Step::Grow(_, _) => false,
-        Step::Shrink(_, _) => false,
-        Step::Unknown => false,
-    }
+    matches!(step, Step::Add(_, _))
 }
 
 // 8: is the step known?
+#[tactic(auto, unfolding(rules::specs::Questions::known))]
 pub fn known(step: Step) -> bool
     ensures { result ≡ known step }
 {
-    match step {
-        Step::Add(_, _) => true,
-        Step::Grow(_, _) => true,
-        Step::Shrink(_, _) => true,
-        Step::Unknown => false,
-    }
+    !matches!(step, Step::Unknown)
 }
 
 // Does the step move?
+#[tactic(auto, unfolding(rules::specs::Steps::moving))]
 pub fn moving(step: Step) -> bool
     ensures { result ≡ moving step }
 {
     match step {
-        Step::Add(a, b) => { if 1 <= a { true } else { b <= -1 } }
-        Step::Grow(f, _) => 2 <= f,
-        Step::Shrink(f, _) => 2 <= f,
+        Step::Add(a, b) => 1 <= a || b <= -1,
+        Step::Grow(f, _) | Step::Shrink(f, _) => 2 <= f,
         Step::Unknown => false,
     }
 }
@@ -58,62 +44,40 @@ pub fn moving(step: Step) -> bool
 pub fn rises(comparison: Comparison) -> bool
     ensures { result ≡ is_rising (sort comparison) }
 {
-    match comparison {
-        Comparison::Less => true,
-        Comparison::AtMost => true,
-        Comparison::Greater => false,
-        Comparison::AtLeast => false,
-        Comparison::Equal => false,
-        Comparison::Different => false,
-    }
+    matches!(comparison, Comparison::Less | Comparison::AtMost)
 }
 
 // > >=
 pub fn falls(comparison: Comparison) -> bool
     ensures { result ≡ is_falling (sort comparison) }
 {
-    match comparison {
-        Comparison::Less => false,
-        Comparison::AtMost => false,
-        Comparison::Greater => true,
-        Comparison::AtLeast => true,
-        Comparison::Equal => false,
-        Comparison::Different => false,
-    }
+    matches!(comparison, Comparison::Greater | Comparison::AtLeast)
 }
 
 // < <= > >=
 pub fn ordered(comparison: Comparison) -> bool
     ensures { result ≡ ordered (sort comparison) }
 {
-    if rises(comparison) {
-        true
-    } else {
-        falls(comparison)
-    }
+    !matches!(comparison, Comparison::Equal | Comparison::Different)
 }
 
 // 11: does the comparison fit?
+#[tactic(auto, unfolding(rules::specs::Ranges::suits))]
 pub fn suits(step: Step, comparison: Comparison) -> bool
     ensures { result ≡ suits step (sort comparison) }
 {
-    let up = rises(comparison);
-    let down = falls(comparison);
     match step {
-        Step::Add(a, b) => {
-            if up {
-                1 <= a
-            } else {
-                if down { b <= -1 } else { true }
-            }
-        }
-        Step::Grow(_, _) => up,
-        Step::Shrink(_, _) => down,
+        Step::Add(a, _) if rises(comparison) => 1 <= a,
+        Step::Add(_, b) if falls(comparison) => b <= -1,
+        Step::Add(_, _) => true,
+        Step::Grow(_, _) => rises(comparison),
+        Step::Shrink(_, _) => falls(comparison),
         Step::Unknown => false,
     }
 }
 
 // The opposite comparison.
+#[tactic(auto, unfolding(rules::specs::Values::opposite))]
 pub fn opposite(comparison: Comparison) -> Comparison
     ensures { result ≡ opposite comparison }
 {
@@ -131,31 +95,32 @@ pub fn opposite(comparison: Comparison) -> Comparison
 pub fn copies(comparison: Comparison, step: Step, before: bool, after: bool) -> bool
     ensures { result ≡ not (before && after) && (is_add step && (moving step && ordered (sort comparison))) }
 {
-    both(
-        !both(before, after),
-        both(is_add(step), both(moving(step), ordered(comparison))),
-    )
+    !(before && after) && is_add(step) && moving(step) && ordered(comparison)
+}
+
+// The step is a moving Add toward the comparison.
+fn toward(step: Step, comparison: Comparison) -> bool
+    ensures { result ≡ ordered (sort comparison) && (is_add step && suits step (sort comparison)) }
+{
+    ordered(comparison) && is_add(step) && suits(step, comparison)
 }
 
 // A watched variable counts: its rows stand on one side of the off, and it moves by Add toward the off's comparison.
+#[tactic(auto, using(crate::proofs::Fits::toward_parts))]
 pub fn watches(comparison: Comparison, step: Step, before: bool, after: bool) -> bool
     ensures { result ≡ not (before && after) && trips.toward step (sort (opposite comparison)) }
 {
-    let against = opposite(comparison);
-    let fits = both(is_add(step), suits(step, against));
-    both(!both(before, after), both(ordered(against), fits))
+    !(before && after) && toward(step, opposite(comparison))
 }
 
 // The step of the difference of two variables, from their steps.
+#[tactic(auto, unfolding(rules::specs::Steps::difference))]
 pub fn difference(x: Step, y: Step) -> Step
     requires { EndsWithin 256 x × EndsWithin 256 y }
     ensures { result ≡ difference x y }
 {
-    match x {
-        Step::Add(a, b) => match y {
-            Step::Add(c, d) => Step::Add(a - d, b - c),
-            _ => Step::Unknown,
-        },
+    match (x, y) {
+        (Step::Add(a, b), Step::Add(c, d)) => Step::Add(a - d, b - c),
         _ => Step::Unknown,
     }
 }
@@ -164,36 +129,30 @@ pub fn difference(x: Step, y: Step) -> Step
 pub fn chases(comparison: Comparison, step: Step, other: Step) -> bool
     ensures { result ≡ is_add other && (is_add step && ordered (sort comparison)) }
 {
-    both(is_add(other), both(is_add(step), ordered(comparison)))
+    is_add(other) && is_add(step) && ordered(comparison)
 }
 
+// !=
 pub fn is_differ(comparison: Comparison) -> bool
     ensures { result ≡ is_differ (sort comparison) }
 {
-    match comparison {
-        Comparison::Less => false,
-        Comparison::AtMost => false,
-        Comparison::Greater => false,
-        Comparison::AtLeast => false,
-        Comparison::Equal => false,
-        Comparison::Different => true,
-    }
+    matches!(comparison, Comparison::Different)
 }
 
 // The two ends of the step are equal.
+#[tactic(auto, unfolding(rules::specs::Steps::equal_ends), using(ints::proofs::Parts::signed))]
 pub fn equal_ends(step: Step) -> bool
     ensures { result ≡ equal_ends step }
 {
     match step {
         Step::Add(a, b) => a == b,
-        Step::Grow(f, g) => f == g,
-        Step::Shrink(f, g) => f == g,
+        Step::Grow(f, g) | Step::Shrink(f, g) => f == g,
         Step::Unknown => false,
     }
 }
 
 // A range of 64 bits: a start moved by one turn is not clamped.
-#[derive(Clone, Copy)]
+#[derive(Clone, Copy, Debug, PartialEq, Eq)]
 pub struct WideInterval {
     pub lo: i64,
     pub hi: i64,
@@ -204,14 +163,10 @@ pub fn edge(comparison: Comparison, n: WideInterval) -> i64
     requires { Unmoved n }
     ensures { (result ≡ edge comparison (wide_range n)) × Near 5 result × EdgeWithin (sort comparison) (wide_range n) result }
 {
-    let lo = n.lo;
-    let hi = n.hi;
     match comparison {
-        Comparison::Less => hi - 1,
-        Comparison::AtMost => hi,
-        Comparison::Greater => lo + 1,
-        Comparison::AtLeast => lo,
-        Comparison::Equal => lo,
-        Comparison::Different => lo,
+        Comparison::Less => n.hi - 1,
+        Comparison::AtMost => n.hi,
+        Comparison::Greater => n.lo + 1,
+        Comparison::AtLeast | Comparison::Equal | Comparison::Different => n.lo,
     }
 }

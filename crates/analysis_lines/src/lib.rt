@@ -1,29 +1,14 @@
 // The report's lines as a table of numbers, seven to a line: a table can be lent to the walk that fills it, and an array of lines cannot.
 #![tactic(auto)]
 
-ghost use Rattle.std.specs.Prelude.{◌≡◌, [], ◌<◌, min, eqb, length, get_or, set};
+ghost use Rattle.std.specs.Prelude.{◌≡◌, [], ◌<◌, get_or, set};
 ghost use Rattle.rules_steps.specs.Ends.{Near, EndsWithin};
 ghost use Rattle.analysis_lines.specs.Coded.{end_in, line_step, line_in, lines_in};
 
 use rules::LoopLine;
 use rules_steps::Step;
 
-// The columns of a line of the table.
-const ROW: usize = 0;
-
-const STEP: usize = 1;
-
-const FIRST: usize = 2;
-
-const SECOND: usize = 3;
-
-const TURNS: usize = 4;
-
-const TOTAL: usize = 5;
-
-const EXACT: usize = 6;
-
-// The numbers that stand in it for a step's kind.
+// The numbers that stand for a step's kind: the lent table has numbers alone.
 const ADD: u64 = 0;
 
 const GROW: u64 = 1;
@@ -36,32 +21,23 @@ const MIDDLE: i64 = 1_099_511_627_776;
 
 const MOST: u64 = 2_199_023_255_552;
 
-fn near(x: u64) -> u64
-    ensures { result ≡ min x 2_199_023_255_552 }
-{
-    if x < MOST { x } else { MOST }
-}
-
 // An end of the table.
 fn end_in(x: u64) -> i64
     ensures { result ≡ end_in x }
 {
-    near(x) as i64 - MIDDLE
+    x.min(MOST) as i64 - MIDDLE
 }
 
-fn step_in(t: u64, a: u64, b: u64) -> Step
-    ensures { result ≡ line_step t a b }
+#[tactic(auto, unfolding(crate::specs::Coded::line_step))]
+fn step_in(tag: u64, first: u64, second: u64) -> Step
+    ensures { result ≡ line_step tag first second }
 {
-    if t == ADD {
-        return Step::Add(end_in(a), end_in(b));
+    match tag {
+        ADD => Step::Add(end_in(first), end_in(second)),
+        GROW => Step::Grow(first, second),
+        SHRINK => Step::Shrink(first, second),
+        _ => Step::Unknown,
     }
-    if t == GROW {
-        return Step::Grow(a, b);
-    }
-    if t == SHRINK {
-        return Step::Shrink(a, b);
-    }
-    Step::Unknown
 }
 
 // Line k.
@@ -69,13 +45,13 @@ pub fn line_at(table: &[[u64; 7]; 16], k: usize) -> LoopLine
     requires { k < 16 }
     ensures { result ≡ get_or (lines_in table.now) k (line_in []) }
 {
-    let e = table[k];
+    let [row, tag, first, second, turns, total, exact] = table[k];
     LoopLine {
-        row: e[ROW] as usize,
-        step: step_in(e[STEP], e[FIRST], e[SECOND]),
-        turns: e[TURNS],
-        total: e[TOTAL],
-        exact: e[EXACT] == 1,
+        row: row as usize,
+        step: step_in(tag, first, second),
+        turns,
+        total,
+        exact: exact == 1,
     }
 }
 
@@ -95,6 +71,7 @@ struct StepCode {
     second: u64,
 }
 
+#[tactic(auto, unfolding(crate::specs::Coded::line_step))]
 fn step_code(step: Step) -> StepCode
     requires { EndsWithin 512 step }
     ensures { line_step result.tag result.first result.second ≡ step }
@@ -105,15 +82,15 @@ fn step_code(step: Step) -> StepCode
             first: shifted(a),
             second: shifted(b),
         },
-        Step::Grow(f, g) => StepCode {
+        Step::Grow(first, second) => StepCode {
             tag: GROW,
-            first: f,
-            second: g,
+            first,
+            second,
         },
-        Step::Shrink(f, g) => StepCode {
+        Step::Shrink(first, second) => StepCode {
             tag: SHRINK,
-            first: f,
-            second: g,
+            first,
+            second,
         },
         Step::Unknown => StepCode {
             tag: UNKNOWN,
@@ -123,20 +100,20 @@ fn step_code(step: Step) -> StepCode
     }
 }
 
-fn flag(b: bool) -> u64
-    ensures { eqb result 1 ≡ b }
-{
-    if b { 1 } else { 0 }
-}
-
 // The line becomes line k.
 pub fn put_line(table: &mut [[u64; 7]; 16], k: usize, line: LoopLine)
-    requires { (k < 16) × (length table.old ≡ 16) × EndsWithin 512 line.step }
-    ensures { (lines_in table.new ≡ set (lines_in table.old) k line) × (length table.new ≡ 16) }
+    requires { (k < 16) × EndsWithin 512 line.step }
+    ensures { lines_in table.new ≡ set (lines_in table.old) k line }
 {
-    let step = line.step;
-    let row = line.row as u64;
-    let exact = flag(line.exact);
-    let s = step_code(step);
-    table[k] = [row, s.tag, s.first, s.second, line.turns, line.total, exact];
+    let s = step_code(line.step);
+    let exact = u64::from(line.exact);
+    table[k] = [
+        line.row as u64,
+        s.tag,
+        s.first,
+        s.second,
+        line.turns,
+        line.total,
+        exact,
+    ];
 }

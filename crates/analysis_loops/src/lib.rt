@@ -13,10 +13,11 @@ ghost use Rattle.table.specs.Code.{rows_of};
 ghost use Rattle.analysis_steps.specs.Body.{AtLoop};
 
 use crate::trips::{Lead, Trip, chase_trip, lead_of, own_trip, read_trip};
-use crate::ways::{Way, head_of, is_do, is_hold, keeps, way_of};
+use crate::ways::{LoopTest, Way, head_of, is_do, is_hold, keeps, way_of};
 use analysis_intervals::comparisons::opposite;
 use analysis_intervals::{Interval, bounds, interval_at};
-use analysis_steps::body_moves;
+use analysis_steps::variable_set::VariableSet;
+use analysis_steps::{Moves, body_moves};
 use rules::Comparison;
 use rules_steps::Step;
 use table::kind_at;
@@ -73,30 +74,25 @@ fn trip_by(
 pub struct Loop {
     pub trip: Trip,
     pub tested: u8,
-    pub set: [bool; 16],
+    pub set: VariableSet,
 }
 
 // The loop at row i, from the ranges at its start.
 pub fn loop_at(text: &[u8], rows: &[u32], count: usize, i: usize, begun: &[[i32; 2]; 16]) -> Loop
-    requires { AtLoop text.now (rows_of rows.now) count i × (length begun.now ≡ 16) }
+    requires { AtLoop text.now (rows_of rows.now) count i }
     ensures { LoopAt text.now (rows_of rows.now) count i (env_of begun.now) result }
 {
     let kind = kind_at(rows, i);
-    let head = head_of(kind);
-    let v = head.tested;
-    let comparison = head.comparison;
-    let limit = head.limit;
-    let body = body_moves(rows, count, i, v);
-    let set = body.set;
-    let step = body.step;
-    let s = interval_at(begun, v);
-    let n = bounds(text, begun, limit);
+    let LoopTest {
+        tested,
+        comparison,
+        limit,
+    } = head_of(kind);
+    let Moves { set, step } = body_moves(rows, count, i, tested);
+    let start = interval_at(begun, tested);
+    let end = bounds(text, begun, limit);
     let kept = keeps(text, limit, set);
     let way = way_of(rows, count, i, is_hold(kind), step, kept);
-    let trip = trip_by(way, begun, is_do(kind), step, comparison, s, n, kept);
-    Loop {
-        trip: trip,
-        tested: v,
-        set: set,
-    }
+    let trip = trip_by(way, begun, is_do(kind), step, comparison, start, end, kept);
+    Loop { trip, tested, set }
 }

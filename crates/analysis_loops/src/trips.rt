@@ -4,8 +4,7 @@ ghost use Rattle.rules.specs.Trips as trips;
 ghost use Rattle.analysis_intervals.specs.Env.{range_of};
 ghost use Rattle.analysis_loops.specs.Found.{lead_of, trip_of, own_from, read_from, chase_from};
 
-use analysis_intervals::comparisons::both;
-use analysis_intervals::{Interval, single};
+use analysis_intervals::Interval;
 use rules::Comparison;
 use rules_steps::Step;
 
@@ -64,18 +63,16 @@ pub fn own_trip(
 ) -> Trip
     ensures { trip_of result ≡ own_from terms untested step comparison (range_of start) (range_of limit) keeps }
 {
-    let lead = lead_of(untested, Lead::Nothing);
-    let sure = both(single(start), single(limit));
     Trip {
-        step: step,
-        comparison: comparison,
-        start: start,
-        limit: limit,
+        step,
+        comparison,
+        start,
+        limit,
         moved: untested,
-        lead: lead,
-        sure: sure,
-        keeps: keeps,
-        terms: terms,
+        lead: lead_of(untested, Lead::Nothing),
+        sure: start.is_single() && limit.is_single(),
+        keeps,
+        terms,
         counter: Counter::Own,
     }
 }
@@ -93,16 +90,15 @@ pub fn read_trip(
 ) -> Trip
     ensures { trip_of result ≡ read_from (lead_of lead) step comparison (range_of start) (range_of limit) keeps ahead (range_of tested) }
 {
-    let sure = both(single(tested), both(single(start), single(limit)));
     Trip {
-        step: step,
-        comparison: comparison,
-        start: start,
-        limit: limit,
+        step,
+        comparison,
+        start,
+        limit,
         moved: ahead,
-        lead: lead,
-        sure: sure,
-        keeps: keeps,
+        lead,
+        sure: tested.is_single() && start.is_single() && limit.is_single(),
+        keeps,
         terms: true,
         counter: Counter::Other,
     }
@@ -118,16 +114,14 @@ pub fn chase_trip(
 ) -> Trip
     ensures { trip_of result ≡ chase_from untested step comparison (range_of start) (range_of other) }
 {
-    let lead = lead_of(untested, Lead::Nothing);
-    let sure = both(single(start), single(other));
     Trip {
-        step: step,
-        comparison: comparison,
-        start: start,
+        step,
+        comparison,
+        start,
         limit: other,
         moved: untested,
-        lead: lead,
-        sure: sure,
+        lead: lead_of(untested, Lead::Nothing),
+        sure: start.is_single() && other.is_single(),
         keeps: true,
         terms: true,
         counter: Counter::Difference,

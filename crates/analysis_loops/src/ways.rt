@@ -16,8 +16,9 @@ ghost use Rattle.analysis_loops.specs.Heads.{HeadOf, is_for};
 ghost use Rattle.analysis_loops.specs.Ways.{CopiedAt, WatchedAt, SoleFrom, HoldAt, ChaseAt, LimitAt, WayFrom, WayAt};
 
 use analysis_intervals::comparisons::{chases, copies, difference, known, watches};
-use analysis_steps::only_rows::{Read, Sole, sole_of};
-use analysis_steps::{body_moves, has};
+use analysis_steps::body_moves;
+use analysis_steps::only_rows::{Read, sole_of};
+use analysis_steps::variable_set::VariableSet;
 use expressions::names::keeps_in;
 use rules::{Comparison, Kind, Operand};
 use rules_steps::Step;
@@ -37,23 +38,15 @@ pub fn head_of(kind: Kind) -> LoopTest
     ensures { (text : List ℕ) → HeadOf text kind result }
 {
     match kind {
-        Kind::While(v, c, x) => LoopTest {
-            tested: v,
-            comparison: c,
-            limit: x,
+        Kind::While(tested, comparison, limit)
+        | Kind::Do(tested, comparison, limit)
+        | Kind::For(tested, _, comparison, limit, _) => LoopTest {
+            tested,
+            comparison,
+            limit,
         },
-        Kind::Do(v, c, x) => LoopTest {
-            tested: v,
-            comparison: c,
-            limit: x,
-        },
-        Kind::For(v, _, c, x, _) => LoopTest {
-            tested: v,
-            comparison: c,
-            limit: x,
-        },
-        Kind::Hold(v) => LoopTest {
-            tested: v,
+        Kind::Hold(tested) => LoopTest {
+            tested,
             comparison: Comparison::Different,
             limit: Operand::Constant(0),
         },
@@ -68,57 +61,50 @@ const NO_HEAD: LoopTest = LoopTest {
 };
 
 // A do is tested after its body.
+#[tactic(auto, unfolding(analysis_steps::specs::Tree::head_of, rules::specs::Blocks::view_of, rules::specs::Blocks::kind_of))]
 pub fn is_do(kind: Kind) -> bool
     ensures { (text : List ℕ) → result ≡ is_do (form_of text kind) }
 {
-    match kind {
-        Kind::Do(_, _, _) => true,
-        _ => false,
-    }
+    matches!(kind, Kind::Do(_, _, _))
 }
 
 // 10: is no variable of an expression assigned in the body?
-fn word_keeps(text: &[u8], at: u16, n: u16, set: [bool; 16]) -> bool
+fn word_keeps(text: &[u8], at: u16, n: u16, set: VariableSet) -> bool
     requires { InText text.now at n }
     ensures { ((body : Block) → ((w : ℕ) → set_of set w ≡ assigns w body) → result ≡ trips.keeps
         (expr_in (parse (take n (drop at text.now)))) body) }
 {
     let from = at as usize;
-    let to = from + n as usize;
-    keeps_in(&text[from..to], set)
+    keeps_in(&text[from..from + n as usize], set.has)
 }
 
 // 10: is no variable of the limit assigned in the body?
-pub fn keeps(text: &[u8], limit: Operand, set: [bool; 16]) -> bool
+pub fn keeps(text: &[u8], limit: Operand, set: VariableSet) -> bool
     requires { FineOperand limit × WrittenOperand text.now limit }
     ensures { ((body : Block) → ((w : ℕ) → set_of set w ≡ assigns w body) → result ≡ trips.keeps (expr_of text.now limit)
         body) }
 {
     match limit {
         Operand::Constant(_) => true,
-        Operand::Variable(w) => !has(set, w),
+        Operand::Variable(w) => !set.contains(w),
         Operand::Expression(at, n) => word_keeps(text, at, n, set),
     }
 }
 
 // A for.
+#[tactic(auto, unfolding(analysis_steps::specs::Tree::head_of, rules::specs::Blocks::view_of, rules::specs::Blocks::kind_of))]
 fn is_for(kind: Kind) -> bool
     ensures { (text : List ℕ) → result ≡ is_for (form_of text kind) }
 {
-    match kind {
-        Kind::For(_, _, _, _, _) => true,
-        _ => false,
-    }
+    matches!(kind, Kind::For(_, _, _, _, _))
 }
 
 // A hold.
+#[tactic(auto, unfolding(analysis_steps::specs::Tree::head_of, rules::specs::Blocks::view_of, rules::specs::Blocks::kind_of))]
 pub fn is_hold(kind: Kind) -> bool
     ensures { (text : List ℕ) → result ≡ is_hold (form_of text kind) }
 {
-    match kind {
-        Kind::Hold(_) => true,
-        _ => false,
-    }
+    matches!(kind, Kind::Hold(_))
 }
 
 // How turns are counted: by the tested variable's own step; by that of a variable copied into it, whose rows come before the copy or not;
@@ -147,12 +133,12 @@ fn copied_way(
     ensures { ((text : List ℕ) → AtLoop text (rows_of rows.now) count i → CopiedAt text
         (rows_of rows.now) count i comparison w before after result) }
 {
-    let body = body_moves(rows, count, i, w);
-    let step = body.step;
+    let step = body_moves(rows, count, i, w).step;
     if copies(comparison, step, before, after) {
-        return Way::Copied(w, before, step);
+        Way::Copied(w, before, step)
+    } else {
+        Way::Own
     }
-    Way::Own
 }
 
 // Which way the while, do or for at row i goes, by the only row of its tested variable, which has no step of its own.
@@ -166,11 +152,18 @@ fn sole_way(rows: &[u32], count: usize, i: usize) -> Way
         return Way::Own;
     }
     let head = head_of(kind);
-    let comparison = head.comparison;
     match sole_of(rows, count, i + 1, head.tested) {
-        Sole::Other => Way::Own,
-        Sole::Reads(w, read, before, after) => match read {
-            Read::Copy => copied_way(rows, count, i, comparison, w, before, after),
+        None => Way::Own,
+        Some(only) => match only.read {
+            Read::Copy => copied_way(
+                rows,
+                count,
+                i,
+                head.comparison,
+                only.other,
+                only.before,
+                only.after,
+            ),
             Read::Off(_, _) => Way::Own,
         },
     }
@@ -191,12 +184,12 @@ fn watched_way(
     ensures { ((text : List ℕ) → AtLoop text (rows_of rows.now) count i → WatchedAt text
         (rows_of rows.now) count i w comparison k before after result) }
 {
-    let body = body_moves(rows, count, i, w);
-    let step = body.step;
+    let step = body_moves(rows, count, i, w).step;
     if watches(comparison, step, before, after) {
-        return Way::Watched(w, comparison, k, before, step);
+        Way::Watched(w, comparison, k, before, step)
+    } else {
+        Way::Broken
     }
-    Way::Broken
 }
 
 // Which way the hold at row i goes, by the only row of its flag.
@@ -206,13 +199,21 @@ fn hold_way(rows: &[u32], count: usize, i: usize) -> Way
         (rows_of rows.now) count i result) }
 {
     let kind = kind_at(rows, i);
-    let head = head_of(kind);
-    let flag = head.tested;
+    let flag = head_of(kind).tested;
     match sole_of(rows, count, i + 1, flag) {
-        Sole::Other => Way::Broken,
-        Sole::Reads(w, read, before, after) => match read {
+        None => Way::Broken,
+        Some(only) => match only.read {
             Read::Copy => Way::Broken,
-            Read::Off(c, k) => watched_way(rows, count, i, w, c, k, before, after),
+            Read::Off(c, k) => watched_way(
+                rows,
+                count,
+                i,
+                only.other,
+                c,
+                k,
+                only.before,
+                only.after,
+            ),
         },
     }
 }
@@ -226,13 +227,12 @@ fn chased_way(rows: &[u32], count: usize, i: usize, head: LoopTest, step: Step, 
     if w == head.tested {
         return Way::Own;
     }
-    let body = body_moves(rows, count, i, w);
-    let other = body.step;
-    let comparison = head.comparison;
-    if chases(comparison, step, other) {
-        return Way::Chase(w, difference(step, other));
+    let other = body_moves(rows, count, i, w).step;
+    if chases(head.comparison, step, other) {
+        Way::Chase(w, difference(step, other))
+    } else {
+        Way::Own
     }
-    Way::Own
 }
 
 // Which way the loop at row i goes, by its limit, which the body assigns; step: the tested variable's own, which is known.
@@ -243,11 +243,9 @@ fn limit_way(rows: &[u32], count: usize, i: usize, step: Step) -> Way
 {
     let kind = kind_at(rows, i);
     let head = head_of(kind);
-    let limit = head.limit;
-    match limit {
-        Operand::Constant(_) => Way::Own,
+    match head.limit {
         Operand::Variable(w) => chased_way(rows, count, i, head, step, w),
-        Operand::Expression(_, _) => Way::Own,
+        Operand::Constant(_) | Operand::Expression(_, _) => Way::Own,
     }
 }
 

@@ -15,13 +15,10 @@ use Rattle.rules.specs.Ranges.{Range, Env, bounds, join, after_row, source_range
 use Rattle.rules.specs.declared.Change.{Change}
 use Rattle.rules.specs.declared.Operand.{Operand}
 use Rattle.rules.specs.Blocks.{view_of, expr_of, kind_of}
-use types.Run.{OneOf, miss}
-use denote.Enum.Declared.{tag_of}
 use Rattle.table.specs.declared.Shape.{Shape}
 use Rattle.table.specs.declared.Tag.{Tag}
 use Rattle.table.specs.Code.{kind_by, variable_in, start_in, step_in}
 use Rattle.table.specs.Shapes.{shape_of, plain_of}
-use Rattle.table.specs.contracts.Tag.{the_type}
 use Rattle.analysis_intervals.specs.Env.{env_of}
 use Rattle.analysis_ranges.specs.Env.{env_up_to}
 use Rattle.analysis_intervals.specs.Changes.{join_range, with_zero, changed_range}
@@ -103,19 +100,16 @@ module _ (text : List ℕ) (ρ : Env) (e : List ℕ) where
   unfolding after_row source_range kind_by view_of kind_of
   after_off p r u = rw (u, r, p)
 
-  abbrev other : List ℕ
-  other = 0 ∷ 1 ∷ 2 ∷ 5 ∷ 6 ∷ 7 ∷ 8 ∷ 10 ∷ []
-
-  pub after_other : (g : Tag) → OneOf other (tag_of the_type g) → shape_of (kind_by g e) ≡ Shape.Plain → ρ ≡ after_row ρ (plain_of text (kind_by g e))
+  pub after_other : (g : Tag) → (g ≡ Tag.Set → ⊥) → (g ≡ Tag.Move → ⊥) → (g ≡ Tag.Off → ⊥) → shape_of (kind_by g e) ≡ Shape.Plain → ρ ≡ after_row ρ (plain_of text (kind_by g e))
   unfolding after_row kind_by view_of kind_of
-  after_other Tag.End o h = refl
-  after_other Tag.Else o h = refl
-  after_other Tag.Pick o h = refl
-  after_other Tag.Set o h = absurd (miss other 3 tt o)
-  after_other Tag.Move o h = absurd (miss other 4 tt o)
-  after_other Tag.Cue o h = refl
-  after_other Tag.While o h = refl
-  after_other Tag.Do o h = refl
-  after_other Tag.For o h = absurd (let z : ◌≡◌ {A = ℕ} 0 1 = cc in omega arith)
-  after_other Tag.Off o h = absurd (miss other 9 tt o)
-  after_other Tag.Hold o h = refl
+  after_other Tag.End p q r h = refl
+  after_other Tag.Else p q r h = refl
+  after_other Tag.Pick p q r h = refl
+  after_other Tag.Set p q r h = absurd (p refl)
+  after_other Tag.Move p q r h = absurd (q refl)
+  after_other Tag.Cue p q r h = refl
+  after_other Tag.While p q r h = refl
+  after_other Tag.Do p q r h = refl
+  after_other Tag.For p q r h = absurd (let z : ◌≡◌ {A = ℕ} 0 1 = cc in omega arith)
+  after_other Tag.Off p q r h = absurd (r refl)
+  after_other Tag.Hold p q r h = refl

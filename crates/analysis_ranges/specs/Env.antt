@@ -1,12 +1,6 @@
--- An array of ranges that holds the function of the rules.
-use Rattle.std.specs.Prelude.{◌≡◌, Bool, cond, List, ℕ, ltb, eqb, ℤ, length}
+-- Ranges that are put together one variable after the other.
+use Rattle.std.specs.Prelude.{Bool, cond, ℕ, ltb, eqb}
 use Rattle.rules.specs.Ranges.{Range, Env, full}
-use Rattle.analysis_intervals.specs.Env.{env_of}
-
--- an array of 16 ranges that holds ρ
-pub record EnvIs (r : List (List ℤ)) (ρ : Env) : Type 0 where
-  pub long : length r ≡ 16
-  pub value : env_of r ≡ ρ
 
 -- σ for the first i variables, ρ for the others
 unfoldable pub env_up_to : ℕ → Env → Env → Env

@@ -9,24 +9,19 @@ ghost use Rattle.table.specs.Shapes.{shape_of, plain_of};
 ghost use Rattle.analysis_steps.specs.Tree.{form_of, test_of};
 ghost use Rattle.analysis_steps.specs.Sets.{set_of};
 ghost use Rattle.analysis_intervals.specs.Env.{env_of, range_of};
-ghost use Rattle.analysis_ranges.specs.Env.{EnvIs, widened_env};
+ghost use Rattle.analysis_ranges.specs.Env.{widened_env};
 
-use analysis_intervals::{
-    Interval, bounds, changed_interval, chosen, interval_at, joined_interval, with_zero,
-};
-use analysis_steps::has;
+use analysis_intervals::{Interval, bounds, chosen, interval_at};
+use analysis_steps::variable_set::VariableSet;
 use rules::Kind;
 use table::{Shape, Tag, change_at, operand_at, tag_at, variable_at};
 
 // s for v; the other ranges stay.
 fn put(r: &mut [[i32; 2]; 16], v: u8, s: Interval)
-    requires { (v < 16) × (length r.old ≡ 16) }
-    ensures { EnvIs r.new (put (env_of r.old) v (range_of s)) }
+    requires { v < 16 }
+    ensures { env_of r.new ≡ put (env_of r.old) v (range_of s) }
 {
-    let lo = s.lo;
-    let hi = s.hi;
-    let i = v as usize;
-    r[i] = [lo, hi];
+    r[v as usize] = [s.lo, s.hi];
 }
 
 // The ranges over a pick.
@@ -34,9 +29,8 @@ pub fn joined(a: [[i32; 2]; 16], b: [[i32; 2]; 16]) -> [[i32; 2]; 16]
     ensures { env_of result ≡ join (env_of a) (env_of b) }
 {
     let mut r = a;
-    for i in 0..16 {
-        let s = joined_interval(interval_at(&a, i), interval_at(&b, i));
-        put(&mut r, i, s);
+    for v in 0..16 {
+        put(&mut r, v, interval_at(&a, v).joined(interval_at(&b, v)));
     }
     r
 }
@@ -44,10 +38,9 @@ pub fn joined(a: [[i32; 2]; 16], b: [[i32; 2]; 16]) -> [[i32; 2]; 16]
 // The ranges after the plain row i.
 pub fn step_row(text: &[u8], r: &mut [[i32; 2]; 16], rows: &[u32], i: usize)
     requires { (4 * i + 3 < length rows.now) × Fine (kind_at (rows_of rows.now) i)
-        × (shape_of (kind_at (rows_of rows.now) i) ≡ Shape.Plain) × (length r.old ≡ 16) × Written text.now
+        × (shape_of (kind_at (rows_of rows.now) i) ≡ Shape.Plain) × Written text.now
         (kind_at (rows_of rows.now) i) }
-    ensures { EnvIs r.new
-        (after_row (env_of r.old) (plain_of text.now (kind_at (rows_of rows.now) i))) }
+    ensures { env_of r.new ≡ after_row (env_of r.old) (plain_of text.now (kind_at (rows_of rows.now) i)) }
 {
     match tag_at(rows, i) {
         Tag::Set => {
@@ -56,12 +49,12 @@ pub fn step_row(text: &[u8], r: &mut [[i32; 2]; 16], rows: &[u32], i: usize)
         }
         Tag::Move => {
             let v = variable_at(rows, i);
-            let s = changed_interval(interval_at(r, v), change_at(rows, i));
+            let s = interval_at(r, v).changed(change_at(rows, i));
             put(r, v, s);
         }
         Tag::Off => {
             let v = variable_at(rows, i);
-            let s = with_zero(interval_at(r, v));
+            let s = interval_at(r, v).with_zero();
             put(r, v, s);
         }
         _ => {}
@@ -70,26 +63,22 @@ pub fn step_row(text: &[u8], r: &mut [[i32; 2]; 16], rows: &[u32], i: usize)
 
 // From the ranges before a loop to those at its start: a for's start assignment.
 pub fn at_start(text: &[u8], r: &mut [[i32; 2]; 16], kind: Kind)
-    requires { Fine kind × (length r.old ≡ 16) × Written text.now kind }
-    ensures { EnvIs r.new (at_start (form_of text.now kind) (test_of text.now kind) (env_of r.old)) }
+    requires { Fine kind × Written text.now kind }
+    ensures { env_of r.new ≡ at_start (form_of text.now kind) (test_of text.now kind) (env_of r.old) }
 {
-    match kind {
-        Kind::For(v, x, _, _, _) => {
-            let s = bounds(text, r, x);
-            put(r, v, s);
-        }
-        _ => {}
+    if let Kind::For(v, x, _, _, _) = kind {
+        let s = bounds(text, r, x);
+        put(r, v, s);
     }
 }
 
 // Over a loop whose body assigns a set of variables, with its tested variable's range.
-pub fn widen(r: &mut [[i32; 2]; 16], set: [bool; 16], mine: Interval, v: u8)
-    requires { (v < 16) × (length r.old ≡ 16) }
-    ensures { EnvIs r.new (widened_env (set_of set) (range_of mine) v (env_of r.old)) }
+pub fn widen(r: &mut [[i32; 2]; 16], set: VariableSet, mine: Interval, tested: u8)
+    requires { tested < 16 }
+    ensures { env_of r.new ≡ widened_env (set_of set) (range_of mine) tested (env_of r.old) }
 {
-    for w in 0..16 {
-        let old = interval_at(r, w);
-        let s = chosen(w == v, has(set, w), mine, old);
-        put(r, w, s);
+    for v in 0..16 {
+        let old = interval_at(r, v);
+        put(r, v, chosen(v == tested, set.contains(v), mine, old));
     }
 }

@@ -9,14 +9,10 @@ use Rattle.ints.proofs.Parts.{ints, add_parts, neg_parts, min_parts, max_parts, 
 use Rattle.rules.specs.declared.Change.{Change}
 use Rattle.rules_steps.specs.declared.Step.{Step}
 use Rattle.rules_steps.specs.declared.Step.TheVariants.{Add, Grow, Shrink, Unknown}
-use Rattle.rules_steps.specs.declared.Two.{Two}
-use Rattle.rules_steps.specs.declared.Two.TheVariants.{Adds, Grows, Shrinks, Mixture}
-use Rattle.rules_steps.specs.Joins.{still, factor_limit, product, then, either}
+use Rattle.rules_steps.specs.Joins.{still, stands, factor_limit, product, then, either}
 use Rattle.rules.specs.Steps.{change_step, difference}
 use Rattle.rules_steps.specs.Ends.{Near, Factors, EndsWithin}
 use Rattle.rules.specs.Bounds.{FineChange}
-use Rattle.rules_steps.specs.Joins.{two_of}
-use Rattle.rules_steps.proofs.Joining.{TwoEnds, then_two, either_two, two_ends, then_two_lem, either_two_lem}
 
 near_more : {n m : ℕ} {a : ℤ} → n ≤ m → Near n a → Near m a
 near_more {n} {m} {a} h k = omega (ints, neg_parts (pos (n * 1_000_000_000)), neg_parts (pos (m * 1_000_000_000)))
@@ -55,27 +51,45 @@ products : (f g h i : ℕ) → Factors (product f h) (product g i)
 unfolding product
 products f g h i = record { first = omega arith; second = omega arith }
 
-sequence_ends : (n m : ℕ) (two : Two) → TwoEnds n m two → EndsWithin (n + m) (then_two two)
-sequence_ends n m (Adds a b c d) ((p, q), (x, y)) = (near_sum p x, near_sum q y)
-sequence_ends n m (Grows f g h k) e = products f g h k
-sequence_ends n m (Shrinks f g h k) e = products f g h k
-sequence_ends n m Mixture e = tt
-
 pub then_ends : (n m : ℕ) (s t : Step) → EndsWithin n s → EndsWithin m t → EndsWithin (n + m) (then s t)
-then_ends n m s t p q = rw (then_two_lem n m s t p q) (sequence_ends n m (two_of s t) (two_ends n m s t p q))
+unfolding then
+then_ends n m (Add a b) (Add c d) (p, q) (x, y) = (near_sum p x, near_sum q y)
+then_ends n m (Add a b) (Grow f g) h k = ends_cond (n + m) (stands a b) (Grow f g) Unknown k tt
+then_ends n m (Add a b) (Shrink f g) h k = ends_cond (n + m) (stands a b) (Shrink f g) Unknown k tt
+then_ends n m (Add a b) Unknown h k = tt
+then_ends n m (Grow f g) (Add a b) h k = ends_cond (n + m) (stands a b) (Grow f g) Unknown h tt
+then_ends n m (Grow f g) (Grow p q) h k = products f g p q
+then_ends n m (Grow f g) (Shrink p q) h k = tt
+then_ends n m (Grow f g) Unknown h k = tt
+then_ends n m (Shrink f g) (Add a b) h k = ends_cond (n + m) (stands a b) (Shrink f g) Unknown h tt
+then_ends n m (Shrink f g) (Grow p q) h k = tt
+then_ends n m (Shrink f g) (Shrink p q) h k = products f g p q
+then_ends n m (Shrink f g) Unknown h k = tt
+then_ends n m Unknown t h k = tt
 
 -- over a pick
 widest : {f g h i : ℕ} → Factors f g × Factors h i → Factors (min f h) (max g i)
 widest (p, q) = record { first = omega arith; second = omega arith }
 
-pick_ends : (n : ℕ) (two : Two) → TwoEnds n n two → EndsWithin n (either_two two)
-pick_ends n (Adds a b c d) ((p, q), (x, y)) = (near_min p x, near_max q y)
-pick_ends n (Grows f g h k) e = widest e
-pick_ends n (Shrinks f g h k) e = widest e
-pick_ends n Mixture e = tt
+one_fits : Factors 1 1
+unfolding factor_limit
+one_fits = record { first = omega arith; second = omega arith }
 
 pub either_ends : (n : ℕ) (s t : Step) → EndsWithin n s → EndsWithin n t → EndsWithin n (either s t)
-either_ends n s t p q = rw (either_two_lem s t) (pick_ends n (two_of s t) (two_ends n n s t p q))
+unfolding either
+either_ends n (Add a b) (Add c d) (p, q) (x, y) = (near_min p x, near_max q y)
+either_ends n (Add a b) (Grow f g) h k = ends_cond n (stands a b) (Grow (min 1 f) (max 1 g)) Unknown (widest (one_fits, k)) tt
+either_ends n (Add a b) (Shrink f g) h k = ends_cond n (stands a b) (Shrink (min 1 f) (max 1 g)) Unknown (widest (one_fits, k)) tt
+either_ends n (Add a b) Unknown h k = tt
+either_ends n (Grow f g) (Add a b) h k = ends_cond n (stands a b) (Grow (min f 1) (max g 1)) Unknown (widest (h, one_fits)) tt
+either_ends n (Grow f g) (Grow p q) h k = widest (h, k)
+either_ends n (Grow f g) (Shrink p q) h k = tt
+either_ends n (Grow f g) Unknown h k = tt
+either_ends n (Shrink f g) (Add a b) h k = ends_cond n (stands a b) (Shrink (min f 1) (max g 1)) Unknown (widest (h, one_fits)) tt
+either_ends n (Shrink f g) (Grow p q) h k = tt
+either_ends n (Shrink f g) (Shrink p q) h k = widest (h, k)
+either_ends n (Shrink f g) Unknown h k = tt
+either_ends n Unknown t h k = tt
 
 -- a row
 pub change_ends : (c : Change) → FineChange c → EndsWithin 1 (change_step c)

@@ -5,7 +5,7 @@ use mathlib.Core.List.{List, [], ◌∷◌}
 use Prim.Native.Nat.{ℕ, zero, suc, ◌+◌, ◌≤◌, ◌<◌}
 use native.Mathlib.Omega.{arith}
 use lib.Dec.{eqb, ltb}
-use lib.ListN.{length, get_or, set, length-set, get_or-eq_default}
+use lib.ListN.{length, get_or, set, get_or-eq_default}
 use lib.Seq.{get_or-set_same, get_or-set_other}
 use borrow.Author.Tests.{eqb-true, eqb-false, ltb-true, ltb-false, lt-ltb, le-ltb}
 use Rattle.rules.specs.declared.Kind.{Kind}
@@ -16,6 +16,7 @@ use Rattle.rules.proofs.Laws.{no_true, put_set}
 use Rattle.table.specs.declared.Shape.{Shape}
 use Rattle.table.specs.Shapes.{shape_by, shape_of, last_row, plain_by, plain_of}
 use Rattle.table.proofs.Laws.{shape_text}
+use Rattle.analysis_steps.specs.declared.variable_set.VariableSet.{VariableSet}
 use Rattle.analysis_steps.specs.Tree.{head_by, head_of, form_of, test_of}
 use Rattle.analysis_steps.specs.Sets.{set_of, none, with_one, with_row, both_of, assigns_from}
 
@@ -42,9 +43,9 @@ or_cond false true = refl
 or_cond false false = refl
 
 -- one variable stored
-pub set_one : (l : List Bool) (v : ℕ) → v < length l → set_of (set l v true) ≡ with_one (set_of l) v
+pub set_one : (s : VariableSet) (v : ℕ) → v < length s.has → set_of (record { has = set s.has v true }) ≡ with_one (set_of s) v
 unfolding set_of with_one
-set_one l v h = put_set l v true false h ∙ (λ d w. or_cond (get_or l w false) (eqb w v) d)
+set_one s v h = put_set s.has v true false h ∙ (λ d w. or_cond (get_or s.has w false) (eqb w v) d)
 
 -- the rows that assign v, and those that assign none
 pub row_one : (x : ℕ → Bool) (v : ℕ) (p : Plain) → ((w : ℕ) → sets w p ≡ eqb w v) → with_one x v ≡ with_row x p
@@ -144,9 +145,9 @@ none_in (true ∷ l) e w = no_true e
 none_in (false ∷ l) e zero = refl
 none_in (false ∷ l) e (suc w) = none_in l e w
 
-pub no_set : (l : List Bool) → clear l ≡ true → set_of l ≡ none
+pub no_set : (s : VariableSet) → clear s.has ≡ true → set_of s ≡ none
 unfolding set_of none
-no_set l e = λ d w. none_in l e w d
+no_set s e = λ d w. none_in s.has e w d
 
 -- a loop's set, joined to those before
 pub both_loop : (x : ℕ → Bool) (b : Block) (p : Plain) → both_of x (with_row (assigns_from none b) p) ≡ with_row (assigns_from x b) p
@@ -158,41 +159,40 @@ pub body_set : (v : ℕ) (text : List ℕ) (k : Kind) → shape_of k ≡ Shape.L
 unfolding none with_row assigns_from
 body_set v text k h i b = rw (head_row text k h) (sym (body_assigns v (head_of text k).last i b))
 
--- the union of two arrays, up to variable i
-module _ (a b : List Bool) where
-  pub record Joined (i : ℕ) (r : List Bool) : Type 0 where
+-- the union of two sets, up to variable i
+module _ (a b : VariableSet) where
+  pub record Joined (i : ℕ) (r : VariableSet) : Type 0 where
     pub some : i ≤ 16
-    pub long : length r ≡ 16
     pub value : (w : ℕ) → set_of r w ≡ set_of a w || (ltb w i && set_of b w)
 
-  pub joined_none : length a ≡ 16 → Joined 0 a
-  joined_none l = record { some = omega arith; long = l; value = λ w. rw (le-ltb w 0 (omega arith)) (sym (or_false (set_of a w))) }
+  pub joined_none : Joined 0 a
+  joined_none = record { some = omega arith; value = λ w. rw (le-ltb w 0 (omega arith)) (sym (or_false (set_of a w))) }
 
-  module _ (i : ℕ) (r : List Bool) (h : i < 16) (j : Joined i r) where
+  module _ (i : ℕ) (r : VariableSet) (n : length r.has ≡ 16) (h : i < 16) (j : Joined i r) where
     -- variable i is as it was
     as_before : set_of r i ≡ set_of a i
     as_before = j.value i ∙ rw (le-ltb i i (omega arith)) (or_false (set_of a i))
 
-    one_at : (w : ℕ) (same : Bool) → eqb w i ≡ same → set_of (set r i (set_of r i || set_of b i)) w ≡ set_of a w || (ltb w (i + 1) && set_of b w)
+    one_at : (w : ℕ) (same : Bool) → eqb w i ≡ same → set_of (record { has = set r.has i (set_of r i || set_of b i) }) w ≡ set_of a w || (ltb w (i + 1) && set_of b w)
     unfolding set_of
     one_at w true e =
         let q = eqb-true w i e in
-        rw (q, get_or-set_same r i (get_or r i false || get_or b i false) false (omega (arith, j.long)), lt-ltb i (i + 1) (omega arith), as_before)
+        rw (q, get_or-set_same r.has i (get_or r.has i false || get_or b.has i false) false (omega arith), lt-ltb i (i + 1) (omega arith), as_before)
     one_at w false e =
         let q = eqb-false w i e in
-        rw (get_or-set_other r i w (get_or r i false || get_or b i false) false q) (j.value w ∙ ap (λ t. get_or a w false || (t && get_or b w false)) (later w (ltb w i) refl q))
+        rw (get_or-set_other r.has i w (get_or r.has i false || get_or b.has i false) false q) (j.value w ∙ ap (λ t. get_or a.has w false || (t && get_or b.has w false)) (later w (ltb w i) refl q))
       where
         later : (w : ℕ) (t : Bool) → ltb w i ≡ t → (w ≡ i → ⊥) → ltb w i ≡ ltb w (i + 1)
         later w true e q = let l = ltb-true w i e in e ∙ sym (lt-ltb w (i + 1) (omega arith))
         later w false e q = let l = ltb-false w i e in e ∙ sym (le-ltb w (i + 1) (omega arith))
 
-    pub joined_next : Joined (i + 1) (set r i (set_of r i || set_of b i))
-    joined_next = record { some = omega arith; long = simp length-set j.long; value = λ w. one_at w (eqb w i) refl }
+    pub joined_next : Joined (i + 1) (record { has = set r.has i (set_of r i || set_of b i) })
+    joined_next = record { some = omega arith; value = λ w. one_at w (eqb w i) refl }
 
-  pub joined_all : (r : List Bool) → length b ≡ 16 → Joined 16 r → set_of r ≡ both_of (set_of a) (set_of b)
+  pub joined_all : (r : VariableSet) → length b.has ≡ 16 → Joined 16 r → set_of r ≡ both_of (set_of a) (set_of b)
   unfolding both_of set_of
   joined_all r l j = λ d w. (j.value w ∙ ap (λ t. set_of a w || t) (all w (ltb w 16) refl)) d
     where
       all : (w : ℕ) (t : Bool) → ltb w 16 ≡ t → ltb w 16 && set_of b w ≡ set_of b w
       all w true e = rw e
-      all w false e = let h = ltb-false w 16 e in rw (e, get_or-eq_default b false {n = w} (omega arith))
+      all w false e = let h = ltb-false w 16 e in rw (e, get_or-eq_default b.has false {n = w} (omega arith))

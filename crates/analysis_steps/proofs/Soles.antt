@@ -1,13 +1,12 @@
 -- The walk that finds the only assignment of a variable.
 use mathlib.Core.Path.{◌≡◌, refl, ap, ◌∙◌}
 use mathlib.Core.Bool.{Bool, true, false, cond, ◌||◌}
-use mathlib.Core.List.{List, [], ◌∷◌}
+use mathlib.Core.List.{List}
 use Prim.Native.Nat.{ℕ}
-use types.Run.{OneOf, miss}
-use denote.Enum.Declared.{tag_of}
 use lib.Dec.{eqb}
 use lib.IntN.{ℤ}
 use Rattle.rules.specs.declared.Row.{Row}
+use Rattle.rules.specs.declared.Operand.{Operand}
 use Rattle.rules.specs.declared.Operand.TheVariants.{Constant, Variable, Expression}
 use Rattle.rules.specs.declared.Kind.{Kind}
 use Rattle.rules.specs.declared.Kind.TheVariants.{Set, Move, Cue, Pick, Else, End, While, Do, For, Off, Hold}
@@ -17,10 +16,10 @@ use Rattle.rules.specs.Written.{Composed, Written}
 use Rattle.rules.specs.Blocks.{Plain, Source, from, off, assign, view_of, expr_of, kind_of, with_last, Block, done, plain, pick, loop}
 use Rattle.rules.specs.Steps.{sets, starts, assigns, other, sole, behind, sole_at, sole_row, sole_of}
 use Rattle.rules.proofs.Sole.{behind_none, behind_twice}
-use Rattle.rules.specs.contracts.Kind.{the_type}
 use Rattle.table.specs.declared.Shape.{Shape}
 use Rattle.table.specs.Shapes.{shape_of, plain_of}
 use Rattle.analysis_steps.specs.declared.StepOver.{StepOver}
+use Rattle.analysis_steps.specs.declared.variable_set.VariableSet.{VariableSet}
 use Rattle.analysis_steps.specs.Tree.{block_at, head_of, form_of, test_of}
 use Rattle.analysis_steps.specs.Sets.{set_of, none, with_row, assigns_from}
 use Rattle.analysis_steps.specs.Body.{MovesOf}
@@ -28,7 +27,7 @@ use Rattle.analysis_steps.specs.Soles.{sole_from}
 use Rattle.analysis_steps.proofs.Sets.{or_false, pick_adds, loop_adds}
 
 -- what a block assigns, found from no set
-pub rest_is : {text : List ℕ} {rows : List Row} {count at v : ℕ} {z n : List Bool} {m : StepOver} → set_of z ≡ none → MovesOf text rows count at v z n m → (u : ℕ) → set_of n u ≡ assigns u (block_at text rows count at)
+pub rest_is : {text : List ℕ} {rows : List Row} {count at v : ℕ} {z n : VariableSet} {m : StepOver} → set_of z ≡ none → MovesOf text rows count at v z n m → (u : ℕ) → set_of n u ≡ assigns u (block_at text rows count at)
 unfolding assigns_from none
 rest_is {text} {rows} {count} {at} e k u = ap (λ (y : ℕ → Bool). y u) (k.sets.value ∙ ap (λ x. assigns_from x (block_at text rows count at)) e)
 
@@ -40,10 +39,6 @@ copy_reads text v e rest = rw e
 pub off_reads : (text : List ℕ) (v : ℕ) {k : Kind} {u w : ℕ} {c : Comparison} {n : ℤ} → k ≡ Off u w c n → (rest : Block) → sole_row v (plain_of text k) rest ≡ sole_at v w (off w c n) rest
 unfolding sole_row view_of kind_of
 off_reads text v e rest = rw e
-
--- the kinds of row that read no variable
-abbrev no_read : List ℕ
-no_read = 0 ∷ 1 ∷ 2 ∷ 4 ∷ 6 ∷ 7 ∷ 8 ∷ 9 ∷ 10 ∷ []
 
 module _ (v : ℕ) where
   pub from_nothing : {x : ℕ → Bool} → x ≡ none → (b : Block) → sole_from v x b ≡ sole_of v b
@@ -86,7 +81,7 @@ module _ (v : ℕ) where
         by false false = ap (λ z. cond (x v) other (sole w y z (assigns w rest))) (or_false (x w))
 
     -- any other row
-    pub constant_is : (text : List ℕ) {k : Kind} {u : ℕ} {n : ℤ} → k ≡ Set u (Constant n) → (rest : Block) → behind x v (sole_row v (plain_of text k) rest) ≡ other
+    constant_is : (text : List ℕ) {k : Kind} {u : ℕ} {n : ℤ} → k ≡ Set u (Constant n) → (rest : Block) → behind x v (sole_row v (plain_of text k) rest) ≡ other
     unfolding sole_row behind view_of kind_of expr_of
     constant_is text e rest = rw e
 
@@ -98,21 +93,27 @@ module _ (v : ℕ) where
     composed_by u (group e) h rest = refl
     composed_by u (apply o d e) h rest = refl
 
-    pub composed_is : (text : List ℕ) {k : Kind} {u at n : ℕ} → k ≡ Set u (Expression at n) → Written text k → (rest : Block) → behind x v (sole_row v (plain_of text k) rest) ≡ other
+    composed_is : (text : List ℕ) {k : Kind} {u at n : ℕ} → k ≡ Set u (Expression at n) → Written text k → (rest : Block) → behind x v (sole_row v (plain_of text k) rest) ≡ other
     unfolding view_of kind_of expr_of
     composed_is text {u = u} e h rest = let w = rw e at h in rw e (composed_by u _ w.composed rest)
 
+    -- a set of what is no variable
+    pub set_is : (text : List ℕ) {k : Kind} {u : ℕ} (y : Operand) → ((w : ℕ) → y ≡ Variable w → ⊥) → k ≡ Set u y → Written text k → (rest : Block) → behind x v (sole_row v (plain_of text k) rest) ≡ other
+    set_is text (Constant n) f e h rest = constant_is text e rest
+    set_is text (Variable w) f e h rest = absurd (f w refl)
+    set_is text (Expression at n) f e h rest = composed_is text e h rest
+
     -- neither a set nor an off
-    pub change_is : (text : List ℕ) (k : Kind) → OneOf no_read (tag_of the_type k) → (rest : Block) → behind x v (sole_row v (plain_of text k) rest) ≡ other
+    pub change_is : (text : List ℕ) (k : Kind) → ((u : ℕ) (y : Operand) → k ≡ Set u y → ⊥) → ((u w : ℕ) (c : Comparison) (n : ℤ) → k ≡ Off u w c n → ⊥) → (rest : Block) → behind x v (sole_row v (plain_of text k) rest) ≡ other
     unfolding view_of kind_of sole_row behind
-    change_is text End o rest = refl
-    change_is text Else o rest = refl
-    change_is text Pick o rest = refl
-    change_is text (Set u y) o rest = absurd (miss no_read 3 tt o)
-    change_is text (Move u c) o rest = refl
-    change_is text (Off u w c k) o rest = absurd (miss no_read 5 tt o)
-    change_is text (Cue n) o rest = refl
-    change_is text (While u c y) o rest = refl
-    change_is text (Do u c y) o rest = refl
-    change_is text (For u s c y d) o rest = refl
-    change_is text (Hold u) o rest = refl
+    change_is text End f g rest = refl
+    change_is text Else f g rest = refl
+    change_is text Pick f g rest = refl
+    change_is text (Set u y) f g rest = absurd (f u y refl)
+    change_is text (Move u c) f g rest = refl
+    change_is text (Off u w c k) f g rest = absurd (g u w c k refl)
+    change_is text (Cue n) f g rest = refl
+    change_is text (While u c y) f g rest = refl
+    change_is text (Do u c y) f g rest = refl
+    change_is text (For u s c y d) f g rest = refl
+    change_is text (Hold u) f g rest = refl

@@ -1,4 +1,5 @@
 -- The loop of a walk over the rows of a block, for any fold `f` from the first row to the last.
+use borrow.Author.Rules.{rules}
 use mathlib.Core.Path.{◌≡◌, refl, sym, ap, ◌∙◌}
 use mathlib.Core.List.{List}
 use Prim.Native.Nat.{ℕ, ◌+◌, ◌≤◌, ◌<◌}
@@ -72,3 +73,12 @@ module _ {text : List ℕ} (rows : List Row) (count : ℕ) where
 
       pub at_last : Whole text rows count → count ≤ i → Walked text rows count at i y (f x₀)
       at_last built l = stopped (let e : i ≡ count = omega arith in rw e (last_law text rows count built))
+
+-- a pick whose first part is closed at m, and the second part, which starts at s
+pub first_part : {text : List ℕ} {rows : List Row} {count at i : ℕ} → Ready text rows count at → i < count → shape_of (kind_at rows i) ≡ Shape.Branch → {m : ℕ} → m ≡ end_at text rows count (i + 1)
+    → PickIs text rows count i m (past_else (kind_at rows m) m) (end_at text rows count (past_else (kind_at rows m) m))
+first_part r l h p = pick_at _ _ _ l r.built h p refl refl
+
+pub second_part : {text : List ℕ} {rows : List Row} {count at i : ℕ} → Ready text rows count at → i < count → shape_of (kind_at rows i) ≡ Shape.Branch → {m : ℕ} → m ≡ end_at text rows count (i + 1)
+    → {s : ℕ} → s ≡ past_else (kind_at rows m) m → Ready text rows count s
+second_part r l h p e = let k = first_part r l h p in ready r (search rules)

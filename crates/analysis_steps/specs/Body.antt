@@ -1,5 +1,5 @@
 -- The body of a loop: its rows, and a for's step row at their end.
-use Rattle.std.specs.Prelude.{◌≡◌, Bool, List, ℕ, ◌+◌, ◌-◌, ◌<◌, length}
+use Rattle.std.specs.Prelude.{◌≡◌, List, ℕ, ◌+◌, ◌-◌, ◌<◌}
 use Rattle.rules.specs.declared.Row.{Row}
 use Rattle.rules.specs.Blocks.{Block}
 use Rattle.rules.specs.Steps.{assigns, step}
@@ -9,6 +9,7 @@ use Rattle.table.specs.Code.{kind_at}
 use Rattle.table.specs.Shapes.{shape_of}
 use Rattle.analysis_steps.specs.declared.Moves.{Moves}
 use Rattle.analysis_steps.specs.declared.StepOver.{StepOver}
+use Rattle.analysis_steps.specs.declared.variable_set.VariableSet.{VariableSet}
 use Rattle.analysis_steps.specs.Sets.{set_of, assigns_from}
 use Rattle.analysis_steps.specs.Tree.{Ready, Walked, block_at, with_last_of}
 
@@ -23,8 +24,7 @@ pub record AtLoop (text : List ℕ) (rows : List Row) (count i : ℕ) : Type 0 w
   pub loops : shape_of (kind_at rows i) ≡ Shape.Loop
 
 -- what the block from row `at` does: the variables that it assigns beside those before, the step of v, the row that closes it
-pub record MovesOf (text : List ℕ) (rows : List Row) (count at v : ℕ) (before after : List Bool) (r : StepOver) : Type 0 where
-  pub long : length after ≡ 16
+pub record MovesOf (text : List ℕ) (rows : List Row) (count at v : ℕ) (before after : VariableSet) (r : StepOver) : Type 0 where
   pub sets : Walked text rows count at r.next (set_of after) (assigns_from (set_of before))
   pub moves : Walked text rows count at r.next r.step (step v)
   pub near : EndsWithin (r.next - at) r.step

@@ -1,11 +1,12 @@
--- Sets of variables: an array of bools as the function of the variable's number.
-use Rattle.std.specs.Prelude.{◌≡◌, Bool, false, ◌||◌, List, ℕ, eqb, length, get_or}
+-- Sets of variables as functions of a variable's number.
+use Rattle.std.specs.Prelude.{Bool, false, ◌||◌, ℕ, eqb, get_or}
 use Rattle.rules.specs.Blocks.{Plain, Block}
 use Rattle.rules.specs.Steps.{sets, assigns}
+use Rattle.analysis_steps.specs.declared.variable_set.VariableSet.{VariableSet}
 
--- the set that an array holds
-unfoldable pub set_of : List Bool → ℕ → Bool
-set_of l w = get_or l w false
+-- whether w is in the set
+unfoldable pub set_of : VariableSet → ℕ → Bool
+set_of s w = get_or s.has w false
 
 -- with one variable more
 unfoldable pub with_one : (ℕ → Bool) → ℕ → ℕ → Bool
@@ -26,8 +27,3 @@ both_of x y w = x w || y w
 -- no variable
 unfoldable pub none : ℕ → Bool
 none w = false
-
--- an array of 16 bools that holds the set x
-pub record SetIs (l : List Bool) (x : ℕ → Bool) : Type 0 where
-  pub long : length l ≡ 16
-  pub value : set_of l ≡ x

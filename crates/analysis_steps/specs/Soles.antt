@@ -1,5 +1,5 @@
 -- The only assignment of a variable, as the code finds it.
-use Rattle.std.specs.Prelude.{◌≡◌, Bool, true, List, ℕ, ◌+◌, ◌<◌}
+use Rattle.std.specs.Prelude.{◌≡◌, Bool, true, List, ℕ, Option, Some, None, ◌+◌, ◌<◌}
 use Rattle.rules.specs.declared.Row.{Row}
 use Rattle.rules.specs.Expressions.{variable}
 use Rattle.rules.specs.Blocks.{Source, from, off, Block}
@@ -8,7 +8,8 @@ use Rattle.rules.specs.Steps.{sets, other, sole, behind, sole_at, sole_row, sole
 use Rattle.table.specs.Code.{kind_at}
 use Rattle.table.specs.Shapes.{plain_of}
 use Rattle.analysis_steps.specs.declared.only_rows.Read.{Read}
-use Rattle.analysis_steps.specs.declared.only_rows.Sole.{Sole}
+use Rattle.analysis_steps.specs.declared.only_rows.SoleRead.{SoleRead}
+use Rattle.analysis_steps.specs.declared.variable_set.VariableSet.{VariableSet}
 use Rattle.analysis_steps.specs.Tree.{Ready, block_at}
 use Rattle.analysis_steps.specs.Sets.{set_of}
 
@@ -18,14 +19,14 @@ source_of w Read.Copy = from (variable w)
 source_of w (Read.Off c k) = off w c k
 
 -- the definition's answer
-abbrev pub sole_is : Sole → rules.Sole
-sole_is Sole.Other = other
-sole_is (Sole.Reads w x before after) = sole w (source_of w x) before after
+abbrev pub sole_is : Option SoleRead → rules.Sole
+sole_is None = other
+sole_is (Some r) = sole r.other (source_of r.other r.read) r.before r.after
 
 -- the variable that is read is one of the 16
-abbrev pub SmallSole : Sole → Type 0
-SmallSole Sole.Other = Unit {0}
-SmallSole (Sole.Reads w x before after) = w < 16
+abbrev pub SmallSole : Option SoleRead → Type 0
+SmallSole None = Unit {0}
+SmallSole (Some r) = r.other < 16
 
 -- with rows in front that assign a set
 unfoldable pub sole_from : ℕ → (ℕ → Bool) → Block → rules.Sole
@@ -47,11 +48,11 @@ pub record AtRead (text : List ℕ) (rows : List Row) (count i v w : ℕ) (x : R
   pub reads : (rest : Block) → sole_row v (plain_of text (kind_at rows i)) rest ≡ sole_at v w (source_of w x) rest
 
 -- what is found at a row that assigns v, behind rows that assign a set
-pub record ReadAt (text : List ℕ) (rows : List Row) (count i v : ℕ) (before : List Bool) (r : Sole) : Type 0 where
+pub record ReadAt (text : List ℕ) (rows : List Row) (count i v : ℕ) (before : VariableSet) (r : Option SoleRead) : Type 0 where
   pub value : sole_is r ≡ behind (set_of before) v (sole_row v (plain_of text (kind_at rows i)) (block_at text rows count (i + 1)))
   pub small : SmallSole r
 
 -- what is found in the block from row `at` on
-pub record SoleAt (text : List ℕ) (rows : List Row) (count at v : ℕ) (r : Sole) : Type 0 where
+pub record SoleAt (text : List ℕ) (rows : List Row) (count at v : ℕ) (r : Option SoleRead) : Type 0 where
   pub value : sole_is r ≡ sole_of v (block_at text rows count at)
   pub small : SmallSole r

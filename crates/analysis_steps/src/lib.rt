@@ -4,6 +4,7 @@
 
 pub mod only_rows;
 pub mod rows;
+pub mod variable_set;
 
 ghost use Rattle.std.specs.Prelude.{◌≡◌, List, ℕ, ◌+◌, ◌*◌, ◌<◌, length};
 ghost use Rattle.rules.specs.Steps.{sets, row_step};
@@ -11,51 +12,12 @@ ghost use Rattle.rules.specs.Bounds.{Fine};
 ghost use Rattle.table.specs.Code.{kind_at, rows_of};
 ghost use Rattle.table.specs.Shapes.{plain_of};
 ghost use Rattle.analysis_steps.specs.Tree.{Ready};
-ghost use Rattle.analysis_steps.specs.Sets.{set_of, with_one, with_row, both_of, SetIs};
 ghost use Rattle.analysis_steps.specs.Body.{AtLoop, MovesOf, BodyMoves};
 
 use crate::rows::{change_step, only};
+use crate::variable_set::VariableSet;
 use rules_steps::Step;
 use table::{Shape, Tag, assigns, change_at, past_else, shape_at, tag_at, variable_at};
-
-// Adds v to the set.
-fn add(set: &mut [bool; 16], v: u8)
-    requires { (v < 16) × (length set.old ≡ 16) }
-    ensures { SetIs set.new (with_one (set_of set.old) v) }
-{
-    let i = v as usize;
-    set[i] = true;
-}
-
-// Adds the variable that a plain row assigns, or a for's step row.
-pub fn add_row(set: &mut [bool; 16], rows: &[u32], i: usize)
-    requires { (4 * i + 3 < length rows.now) × Fine (kind_at (rows_of rows.now) i) × (length set.old ≡ 16) }
-    ensures { ((text : List ℕ) → SetIs set.new
-        (with_row (set_of set.old) (plain_of text (kind_at (rows_of rows.now) i)))) }
-{
-    if assigns(rows, i) {
-        add(set, variable_at(rows, i));
-    }
-}
-
-// Adds a set.
-fn add_all(set: &mut [bool; 16], more: [bool; 16])
-    requires { length set.old ≡ 16 }
-    ensures { SetIs set.new (both_of (set_of set.old) (set_of more)) }
-{
-    for i in 0..16 {
-        set[i] = set[i] | more[i];
-    }
-}
-
-// Is v in the set?
-pub fn has(set: [bool; 16], v: u8) -> bool
-    requires { v < 16 }
-    ensures { result ≡ set_of set v }
-{
-    let i = v as usize;
-    set[i]
-}
 
 // Does a plain row assign v, or a for's step row?
 pub fn sets_it(rows: &[u32], i: usize, v: u8) -> bool
@@ -74,51 +36,48 @@ fn row_step(rows: &[u32], i: usize, v: u8) -> Step
         return Step::STILL;
     }
     match tag_at(rows, i) {
-        Tag::Set => Step::Unknown,
-        Tag::Off => Step::Unknown,
+        Tag::Set | Tag::Off => Step::Unknown,
         _ => change_step(change_at(rows, i)),
     }
 }
 
 // The step of one variable over some rows, and the row after them.
-#[derive(Clone, Copy)]
+#[derive(Clone, Copy, Debug, PartialEq, Eq)]
 pub struct StepOver {
     pub step: Step,
     pub next: usize,
 }
 
 // What the block that starts at row `at` does: its variables are added to the set; the step of v, and the row that closes the block.
-pub fn moves_of(rows: &[u32], count: usize, at: usize, v: u8, set: &mut [bool; 16]) -> StepOver
-    requires { ((text : List ℕ) × Ready text (rows_of rows.now) count at) × (v < 16) × (length set.old ≡ 16) }
+pub fn moves_of(rows: &[u32], count: usize, at: usize, v: u8, set: &mut VariableSet) -> StepOver
+    requires { ((text : List ℕ) × Ready text (rows_of rows.now) count at) × (v < 16) }
     ensures { ((text : List ℕ) → Ready text (rows_of rows.now) count at → MovesOf text
         (rows_of rows.now) count at v set.old set.new result) }
 {
     let mut step = Step::STILL;
     let mut i = at;
+    // i goes past a whole block at a time
     while i < count {
         match shape_at(rows, i) {
             Shape::Plain => {
-                add_row(set, rows, i);
+                set.insert_assigned(rows, i);
                 if sets_it(rows, i, v) {
                     step = step.then(row_step(rows, i, v));
                 }
-                i = i + 1;
+                i += 1;
             }
             Shape::Branch => {
-                let a = moves_of(rows, count, i + 1, v, set);
-                let e = a.next;
-                let b = moves_of(rows, count, past_else(rows, e), v, set);
-                let x = a.step;
-                let y = b.step;
-                step = step.then(x.either(y));
-                i = b.next + 1;
+                let first = moves_of(rows, count, i + 1, v, set);
+                let second = moves_of(rows, count, past_else(rows, first.next), v, set);
+                step = step.then(first.step.either(second.step));
+                i = second.next + 1;
             }
             Shape::Loop => {
-                let mut inner = [false; 16];
+                let mut inner = VariableSet::new();
                 let body = moves_of(rows, count, i + 1, v, &mut inner);
-                add_row(&mut inner, rows, i);
-                step = step.then(only(has(inner, v), Step::Unknown));
-                add_all(set, inner);
+                inner.insert_assigned(rows, i);
+                step = step.then(only(inner.contains(v), Step::Unknown));
+                set.extend(inner);
                 i = body.next + 1;
             }
             Shape::Close => {
@@ -130,9 +89,9 @@ pub fn moves_of(rows: &[u32], count: usize, at: usize, v: u8, set: &mut [bool; 1
 }
 
 // What a loop's body does: the variables that it assigns, and the step of one variable.
-#[derive(Clone, Copy)]
+#[derive(Clone, Copy, Debug, PartialEq, Eq)]
 pub struct Moves {
-    pub set: [bool; 16],
+    pub set: VariableSet,
     pub step: Step,
 }
 
@@ -142,12 +101,9 @@ pub fn body_moves(rows: &[u32], count: usize, i: usize, v: u8) -> Moves
     ensures { ((text : List ℕ) → AtLoop text (rows_of rows.now) count i → BodyMoves text
         (rows_of rows.now) count i v result) }
 {
-    let mut set = [false; 16];
+    let mut set = VariableSet::new();
     let body = moves_of(rows, count, i + 1, v, &mut set);
-    add_row(&mut set, rows, i);
-    let step = body.step;
-    Moves {
-        set: set,
-        step: step.then(row_step(rows, i, v)),
-    }
+    set.insert_assigned(rows, i);
+    let step = body.step.then(row_step(rows, i, v));
+    Moves { set, step }
 }

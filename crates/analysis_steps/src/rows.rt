@@ -15,34 +15,28 @@ pub fn only(moves: bool, step: Step) -> Step
 }
 
 // The step of an arithmetic row.
+#[tactic(auto, unfolding(rules::specs::Steps::change_step))]
 pub fn change_step(change: Change) -> Step
     requires { FineChange change }
     ensures { result ≡ change_step change }
 {
     match change {
         Change::Add(c) => {
-            let x = c as i64;
+            let x = i64::from(c);
             Step::Add(x, x)
         }
         Change::Sub(c) => {
-            let x = -(c as i64);
+            let x = -i64::from(c);
             Step::Add(x, x)
         }
+        Change::Mul(1) | Change::Div(1) => Step::STILL,
         Change::Mul(c) => {
-            let f = c as u64;
-            if c == 1 {
-                Step::STILL
-            } else {
-                Step::Grow(f, f)
-            }
+            let f = u64::from(c);
+            Step::Grow(f, f)
         }
         Change::Div(c) => {
-            let f = c as u64;
-            if c == 1 {
-                Step::STILL
-            } else {
-                Step::Shrink(f, f)
-            }
+            let f = u64::from(c);
+            Step::Shrink(f, f)
         }
     }
 }

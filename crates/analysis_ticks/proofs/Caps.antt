@@ -1,14 +1,15 @@
 -- Capped sums and products.
 use mathlib.Core.Path.{◌≡◌, refl}
 use mathlib.Core.Bool.{Bool, true, false}
-use mathlib.Core.List.{List, [], ◌∷◌}
-use types.Run.{OneOf, miss}
-use denote.Enum.Declared.{tag_of}
-use Rattle.rules.specs.contracts.Kind.{the_type}
+use mathlib.Core.List.{List}
+use Rattle.std.proofs.Common.{Some, None}
+use Rattle.rules.specs.declared.Change.{Change}
+use Rattle.rules.specs.declared.Comparison.{Comparison}
+use Rattle.rules.specs.declared.Operand.{Operand}
 use Prim.Native.Nat.{ℕ, zero, suc, ◌+◌, ◌*◌, ◌≤◌, ◌<◌}
 use native.Mathlib.Nat.{mul-le-mul, mul_comm}
 use native.Mathlib.Omega.{arith}
-use borrow.Author.Tests.{leb-true, leb-false, lt-ltb, le-ltb, le-leb, lt-leb}
+use borrow.Author.Tests.{leb-true, leb-false, le-leb, lt-leb}
 use lib.Dec.{leb}
 use Rattle.rules.specs.declared.Kind.{Kind}
 use Rattle.rules.specs.declared.Kind.TheVariants.{Set, Move, Cue, Pick, Else, End, While, Do, For, Off, Hold}
@@ -55,22 +56,19 @@ loop_ticks_is π hold all = refl
 loop_ticks_is π (for x) all = omega arith
 
 -- any row but a do or a for
-abbrev one_test : List ℕ
-one_test = 0 ∷ 1 ∷ 2 ∷ 3 ∷ 4 ∷ 5 ∷ 6 ∷ 7 ∷ 10 ∷ []
-
-pub once_one : (π : Prices) (text : List ℕ) (k : Kind) → OneOf one_test (tag_of the_type k) → π.test ≡ once π (form_of text k)
+pub once_one : (π : Prices) (text : List ℕ) (k : Kind) → ((v : ℕ) (c : Comparison) (x : Operand) → k ≡ Do v c x → ⊥) → ((v : ℕ) (s : Operand) (c : Comparison) (x : Operand) (d : Change) → k ≡ For v s c x d → ⊥) → π.test ≡ once π (form_of text k)
 unfolding head_of view_of kind_of
-once_one π text (Set v x) o = refl
-once_one π text (Move v c) o = refl
-once_one π text (Cue n) o = refl
-once_one π text Pick o = refl
-once_one π text Else o = refl
-once_one π text End o = refl
-once_one π text (While v c x) o = refl
-once_one π text (Do v c x) o = absurd (miss one_test 8 tt o)
-once_one π text (For v s c x d) o = absurd (miss one_test 9 tt o)
-once_one π text (Off v w c k) o = refl
-once_one π text (Hold v) o = refl
+once_one π text (Set v x) p q = refl
+once_one π text (Move v c) p q = refl
+once_one π text (Cue n) p q = refl
+once_one π text Pick p q = refl
+once_one π text Else p q = refl
+once_one π text End p q = refl
+once_one π text (While v c x) p q = refl
+once_one π text (Do v c x) p q = absurd (p v c x refl)
+once_one π text (For v s c x d) p q = absurd (q v s c x d refl)
+once_one π text (Off v w c k) p q = refl
+once_one π text (Hold v) p q = refl
 
 pub once_small : {π : Prices} → FinePrices π → (form : Form) → once π form ≤ 2_000
 once_small fine while = omega arith
@@ -79,15 +77,15 @@ once_small fine hold = omega arith
 once_small fine (for x) = omega arith
 
 -- ---- the first block over the limit
-module _ (over e ticks F : ℕ) (h : ticks ≡ capped F) where
-  pub over_kept : over < 256 → over_of over ≡ and_then (over_of over) (asked 13 e (leb F tick_limit) passed)
+module _ (e ticks F : ℕ) (h : ticks ≡ capped F) where
+  pub over_kept : (o : ℕ) → over_of (Some o) ≡ and_then (over_of (Some o)) (asked 13 e (leb F tick_limit) passed)
   unfolding over_of and_then
-  over_kept l = rw (lt-ltb over 256 l)
+  over_kept o = refl
 
-  pub over_none : 256 ≤ over → ticks ≤ 1_000_000_000_000 → over_of over ≡ and_then (over_of over) (asked 13 e (leb F tick_limit) passed)
+  pub over_none : ticks ≤ 1_000_000_000_000 → over_of None ≡ and_then (over_of None) (asked 13 e (leb F tick_limit) passed)
   unfolding over_of and_then asked tick_limit
-  over_none l k = rw (le-ltb over 256 l, le-leb F 1_000_000_000_000 (omega arith))
+  over_none k = rw (le-leb F 1_000_000_000_000 (omega arith))
 
-  pub over_first : 256 ≤ over → 1_000_000_000_000 < ticks → e < 256 → over_of e ≡ and_then (over_of over) (asked 13 e (leb F tick_limit) passed)
+  pub over_first : 1_000_000_000_000 < ticks → over_of (Some e) ≡ and_then (over_of None) (asked 13 e (leb F tick_limit) passed)
   unfolding over_of and_then asked tick_limit
-  over_first l k m = rw (le-ltb over 256 l, lt-ltb e 256 m, lt-leb F 1_000_000_000_000 (omega arith))
+  over_first k = rw (lt-leb F 1_000_000_000_000 (omega arith))

@@ -8,6 +8,8 @@ use native.Mathlib.Numerals.{add-one}
 use native.Mathlib.Omega.{arith}
 use lib.IntN.{ℤ, pos, ◌+ℤ◌, ◌-ℤ◌, ◌*ℤ◌}
 use lib.Signed.{◌≤ℤ◌}
+use mir.Syntax.{w64}
+use mir.Val.{SFits}
 use Rattle.ints.proofs.Parts.{P, N, ints, add_parts, minus_parts, neg_parts, lone}
 use Rattle.ints.proofs.Scale.{mul_P, mul_N}
 use Rattle.rules.specs.declared.Comparison.{Comparison}
@@ -67,12 +69,12 @@ module _ (f : ℕ → ℕ) (n : ℕ) where
   sum_first = let m : n - 0 ≡ n = omega arith in rw m (omega arith)
 
 -- the limit of pass i, and the turns up to it
-pub limit_first : (limit by : ℤ) → limit ≡ limit +ℤ by *ℤ pos 0
-limit_first limit by = omega (ints, add_parts limit (by *ℤ pos 0), mul_P by 0, mul_N by 0)
-
 pub record Limit (limit by : ℤ) (i : ℕ) : Type 0 where
+  pub by64 : SFits w64 by
+  pub count : SFits w64 (pos i)
+  pub product : SFits w64 (by *ℤ pos i)
+  pub sum : SFits w64 (limit +ℤ by *ℤ pos i)
   pub near : Near 3_000_000 (limit +ℤ by *ℤ pos i)
-  pub next : (limit +ℤ by *ℤ pos i) +ℤ by ≡ limit +ℤ by *ℤ pos (i + 1)
 
 pub limit_at : (limit by : ℤ) (i : ℕ) → Near 5 limit → Near 512 by → i ≤ 4_096 → Limit limit by i
 limit_at limit by i h k l =
@@ -81,7 +83,10 @@ limit_at limit by i h k l =
     let s = add_parts limit (by *ℤ pos i) in
     record {
       near = omega (ints, s, mul_P by i, mul_N by i, mul-le-mul p l, mul-le-mul q l, neg_parts (pos 5_000_000_000), neg_parts (pos 3_000_000_000_000_000));
-      next = omega (ints, s, mul_P by i, mul_N by i, mul_P by (i + 1), mul_N by (i + 1), add_parts (limit +ℤ by *ℤ pos i) by, add_parts limit (by *ℤ pos (i + 1)));
+      by64 = omega ints;
+      count = omega ints;
+      product = omega (ints, mul_P by i, mul_N by i, mul-le-mul p l, mul-le-mul q l);
+      sum = omega (ints, s, mul_P by i, mul_N by i, mul-le-mul p l, mul-le-mul q l);
     }
 
 pub term_few : (l : AddLoop) → Near 5 l.start → Near 3_000_000 l.limit → climb l ≤ 3_100_000_000_000_000

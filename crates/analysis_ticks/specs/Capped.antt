@@ -1,5 +1,5 @@
 -- Ticks in the code: a number above the limit of question 13 counts as the first one above it.
-use Rattle.std.specs.Prelude.{◌≡◌, cond, ℕ, ◌+◌, min, ltb, leb}
+use Rattle.std.specs.Prelude.{◌≡◌, ℕ, Option, Some, None, ◌+◌, min, leb}
 use Rattle.rules.specs.Blocks.{Form, while, do_while, hold, for}
 use Rattle.rules.specs.declared.Prices.{Prices}
 use Rattle.rules.specs.Verdicts.{Verdict}
@@ -17,10 +17,11 @@ once π do_while = 0
 once π hold = π.test
 once π (for x) = π.arithmetic + π.test
 
--- the first block over the limit, as a verdict; 256 and more: none
-unfoldable pub over_of : ℕ → Verdict
-over_of o = cond (ltb o 256) (refused 13 o) passed
+-- the first block over the limit, as a verdict
+unfoldable pub over_of : Option ℕ → Verdict
+over_of None = passed
+over_of (Some o) = refused 13 o
 
 -- one block more, of F ticks, that ends at row e
-pub record OverOf (over e ticks r : ℕ) : Type 0 where
+pub record OverOf (over : Option ℕ) (e ticks : ℕ) (r : Option ℕ) : Type 0 where
   pub value : (F : ℕ) → ticks ≡ capped F → over_of r ≡ and_then (over_of over) (asked 13 e (leb F tick_limit) passed)

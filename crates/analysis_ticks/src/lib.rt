@@ -17,25 +17,23 @@ pub const MOST: u64 = 1_000_000_000_001;
 pub fn cap(n: u64) -> u64
     ensures { result ≡ capped n }
 {
-    if n <= MOST { n } else { MOST }
+    n.min(MOST)
 }
 
+// A sum, or the first number over the limit.
 pub fn plus(x: u64, y: u64) -> u64
     requires { (x ≤ 1_000_000_000_001) × (y ≤ 1_000_000_000_001) }
     ensures { result ≡ capped (x + y) }
 {
-    let s = x + y;
-    if s <= MOST { s } else { MOST }
+    cap(x + y)
 }
 
+// A product, or the first number over the limit.
 pub fn times(n: u64, b: u64) -> u64
     requires { b ≤ 1_000_000_000_001 }
     ensures { result ≡ capped (n * b) }
 {
-    if b == 0 {
-        return 0;
-    }
-    if n <= MOST / b { n * b } else { MOST }
+    cap(n.saturating_mul(b))
 }
 
 // What an entry takes beside its turns: a while or a hold its last test, a for its start too, a do nothing.
@@ -55,20 +53,19 @@ pub fn loop_ticks(kind: Kind, prices: Prices, n: u64, m: u64, b: u64) -> u64
     requires { FinePrices prices × (n ≤ 4_096) × (b ≤ 1_000_000_000_001) }
     ensures { (text : List ℕ) (B : ℕ) → b ≡ capped B → result ≡ capped (m * B + n * once prices (form_of text kind)) }
 {
-    let all = times(m, b);
-    plus(all, n * besides(kind, prices))
+    plus(times(m, b), n * besides(kind, prices))
 }
 
 // The limit of question 13.
 pub const LIMIT: u64 = 1_000_000_000_000;
 
 // The first `end` row over the limit of question 13, with a block of these ticks that ends at row e.
-pub fn first_over(over: usize, e: usize, ticks: u64) -> usize
-    requires { (e < 256) × (ticks ≤ 1_000_000_000_001) }
+pub fn first_over(over: Option<usize>, e: usize, ticks: u64) -> Option<usize>
+    requires { ticks ≤ 1_000_000_000_001 }
     ensures { OverOf over e ticks result }
 {
-    if over < 256 {
-        return over;
+    match over {
+        Some(_) => over,
+        None => { if ticks <= LIMIT { None } else { Some(e) } }
     }
-    if ticks <= LIMIT { over } else { e }
 }

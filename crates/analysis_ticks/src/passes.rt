@@ -12,12 +12,12 @@ ghost use Rattle.rules.specs.Questions.{of_trip};
 ghost use Rattle.analysis_steps.specs.Tree.{form_of, test_of};
 ghost use Rattle.analysis_loops.specs.Found.{free_of, trip_of};
 ghost use Rattle.analysis_ticks.specs.Capped.{capped};
-ghost use Rattle.analysis_ticks.specs.Rounds.{round_of, pass_in, FineRound, sums_by, triangle_by, climb_to, Rises, walked_by, branch_of};
+ghost use Rattle.analysis_ticks.specs.Rounds.{round_of, pass_in, FineRound, sums_by, triangle_by, climb_to, Rises, walked_by, branch_of, is_base};
 ghost use Rattle.analysis_ticks.specs.Rounds.{body_of};
 
 use crate::{cap, times};
-use analysis_intervals::comparisons::{both, edge, is_add, ordered};
-use analysis_intervals::{Interval, whole};
+use analysis_intervals::Interval;
+use analysis_intervals::comparisons::{WideInterval, edge, is_add, ordered, rises};
 use analysis_loops::trips::{Counter, Trip};
 use analysis_turns::exact;
 use analysis_turns::moves::climb;
@@ -26,7 +26,7 @@ use rules_steps::Step;
 
 // The passes of a block: `count` of one entry of the loop round it, its variable moved by `by` in each, `times` over; if known, its
 // variable v holds x in the first.
-#[derive(Clone, Copy)]
+#[derive(Clone, Copy, Debug, PartialEq, Eq)]
 pub struct Round {
     pub count: u64,
     pub by: i64,
@@ -40,33 +40,25 @@ pub struct Round {
 fn is_base(counter: Counter, terms: bool) -> bool
     ensures { result ≡ not (free_of counter) && terms }
 {
-    match counter {
-        Counter::Own => terms,
-        Counter::Other => false,
-        Counter::Difference => false,
-    }
+    matches!(counter, Counter::Own) && terms
 }
 
 // The outer loop: of a base kind, exact, with an Add step, < <= > or >=, and at most 4,096 turns.
 fn sums(trip: Trip, turns: u64) -> bool
     ensures { result ≡ sums_by (trip_of trip) turns }
 {
-    let step = trip.step;
-    let comparison = trip.comparison;
-    let counter = trip.counter;
-    let few = both(ordered(comparison), turns <= 4_096);
-    let base = is_base(counter, trip.terms);
-    both(base, both(exact(trip), both(is_add(step), few)))
+    is_base(trip.counter, trip.terms)
+        && exact(trip)
+        && is_add(trip.step)
+        && ordered(trip.comparison)
+        && turns <= 4_096
 }
 
+// A constant.
 fn is_constant(x: Operand) -> bool
     ensures { (text : List ℕ) → WrittenOperand text x → result ≡ from_constant (for (expr_of text x)) }
 {
-    match x {
-        Operand::Constant(_) => true,
-        Operand::Variable(_) => false,
-        Operand::Expression(_, _) => false,
-    }
+    matches!(x, Operand::Constant(_))
 }
 
 // The variable v alone.
@@ -74,39 +66,39 @@ fn is_alone(v: u8, x: Operand) -> bool
     ensures { (text : List ℕ) → WrittenOperand text x → result ≡ is_alone v (expr_of text x) }
 {
     match x {
-        Operand::Constant(_) => false,
         Operand::Variable(w) => w == v,
-        Operand::Expression(_, _) => false,
+        Operand::Constant(_) | Operand::Expression(_, _) => false,
     }
 }
 
-// < and <=
-fn upward(comparison: Comparison) -> bool
-    ensures { result ≡ upward comparison }
+// A base kind that moves by Add.
+fn adds(trip: Trip) -> bool
+    ensures { result ≡ is_base (trip_of trip) && is_add trip.step }
 {
-    match comparison {
-        Comparison::Less => true,
-        Comparison::AtMost => true,
-        Comparison::Greater => false,
-        Comparison::AtLeast => false,
-        Comparison::Equal => false,
-        Comparison::Different => false,
-    }
+    is_base(trip.counter, trip.terms) && is_add(trip.step)
+}
+
+// Under < or <=, to v alone.
+fn is_up_to(comparison: Comparison, v: u8, x: Operand) -> bool
+    ensures { (text : List ℕ) → WrittenOperand text x → result ≡ upward comparison && is_alone v (expr_of text x) }
+{
+    rises(comparison) && is_alone(v, x)
+}
+
+// Both.
+fn climbs_to(trip: Trip, v: u8, x: Operand) -> bool
+    ensures { (text : List ℕ) → WrittenOperand text x → result ≡ is_base (trip_of trip)
+        && (is_add trip.step && (upward trip.comparison && is_alone v (expr_of text x))) }
+{
+    adds(trip) && is_up_to(trip.comparison, v, x)
 }
 
 // The inner loop: a for from a constant, by Add, under < or <=, to v alone.
 fn triangle(kind: Kind, trip: Trip, v: u8) -> bool
     ensures { ((text : List ℕ) → Written text kind → result ≡ triangle_by (form_of text kind) (test_of text kind).limit (trip_of trip) v) }
 {
-    let step = trip.step;
-    let comparison = trip.comparison;
-    let counter = trip.counter;
     match kind {
-        Kind::For(_, s, _, x, _) => {
-            let up = both(upward(comparison), is_alone(v, x));
-            let base = is_base(counter, trip.terms);
-            both(is_constant(s), both(base, both(is_add(step), up)))
-        }
+        Kind::For(_, s, _, x, _) => is_constant(s) && climbs_to(trip, v, x),
         _ => false,
     }
 }
@@ -122,23 +114,26 @@ fn first_end(step: Step) -> i64
     }
 }
 
+// The turns of a rising Add in pass i, whose limit is `by` further for each pass before it.
+fn climb_in(i: u64, start: i64, limit: i64, step: i64, by: i64) -> u64
+    requires { (i < 4_096) × Near 5 start × Near 5 limit × Near 1024 step × (pos 1 ≤ℤ step) × Near 512 by }
+    ensures { (result ≡ climb (record { start = start; limit = limit +ℤ by *ℤ pos i; step = step })) × (result ≤ 3_100_000_000_000_000) }
+{
+    climb(AddLoop {
+        start,
+        limit: limit + by * i as i64,
+        step,
+    })
+}
+
 // The turns of a rising Add, added over `count` limits: the first one, and then each `by` further.
 fn climbs(start: i64, limit: i64, step: i64, by: i64, count: u64) -> u64
     requires { Near 5 start × Near 5 limit × Near 1024 step × (pos 1 ≤ℤ step) × Near 512 by × (count ≤ 4_096) }
     ensures { result ≡ sum (λ i. climb (record { start = start; limit = limit +ℤ by *ℤ pos i; step = step })) 0 count }
 {
-    let mut at = limit;
     let mut all: u64 = 0;
-    let mut i: u64 = 0;
-    while i < count {
-        let l = AddLoop {
-            start: start,
-            limit: at,
-            step: step,
-        };
-        all = all + climb(l);
-        at = at + by;
-        i = i + 1;
+    for i in 0..count {
+        all += climb_in(i, start, limit, step, by);
     }
     all
 }
@@ -148,12 +143,18 @@ fn summed(trip: Trip, round: Round) -> u64
     requires { Rises trip × FineRound round }
     ensures { result ≡ sum (λ i. climb_to (trip_of trip) (round.x +ℤ round.by *ℤ pos i)) 0 round.count }
 {
-    let step = trip.step;
-    let comparison = trip.comparison;
-    let start = whole(trip.start);
-    let x = round.x;
-    let limit = edge(comparison, whole(Interval { lo: x, hi: x }));
-    climbs(start.lo, limit, first_end(step), round.by, round.count)
+    let first = Interval {
+        lo: round.x,
+        hi: round.x,
+    };
+    let limit = edge(trip.comparison, WideInterval::from(first));
+    climbs(
+        i64::from(trip.start.lo),
+        limit,
+        first_end(trip.step),
+        round.by,
+        round.count,
+    )
 }
 
 // The turns of a loop in all passes of one entry of the loop round it: only a triangle asks for a sum. Kept: the variable round it is not
@@ -164,14 +165,15 @@ pub fn walked(kind: Kind, trip: Trip, turns: u64, round: Round, kept: bool) -> u
     ensures { ((text : List ℕ) → Written text kind → result ≡ capped
         (walked_by (round_of round) (pass_in round kept) (form_of text kind) (test_of text kind).limit (trip_of trip) turns)) }
 {
-    let valued = both(round.known, kept);
+    let valued = round.known && kept;
     if !valued {
         return times(turns, round.count);
     }
     if triangle(kind, trip, round.v) {
-        return cap(summed(trip, round));
+        cap(summed(trip, round))
+    } else {
+        times(turns, round.count)
     }
-    times(turns, round.count)
 }
 
 // The passes of a pick's branch: all alike.
@@ -179,14 +181,12 @@ pub fn branch(round: Round) -> Round
     requires { FineRound round }
     ensures { (result ≡ branch_of round) × FineRound result }
 {
-    let often = times(round.count, round.times);
     Round {
         count: 1,
         by: 0,
-        times: often,
-        x: round.x,
-        v: round.v,
+        times: times(round.count, round.times),
         known: false,
+        ..round
     }
 }
 
@@ -196,25 +196,22 @@ pub fn body(trip: Trip, v: u8, turns: u64, total: u64, round: Round) -> Round
     ensures { (result ≡ body_of (trip_of trip) v turns total round) × FineRound result }
 {
     if sums(trip, turns) {
-        let step = trip.step;
-        let start = trip.start;
-        let often = times(round.count, round.times);
-        let by = first_end(step);
-        return Round {
+        Round {
             count: turns,
-            by: by,
-            times: often,
-            x: start.lo,
-            v: v,
+            by: first_end(trip.step),
+            times: times(round.count, round.times),
+            x: trip.start.lo,
+            v,
             known: true,
-        };
-    }
-    Round {
-        count: 1,
-        by: 0,
-        times: total,
-        x: 0,
-        v: v,
-        known: false,
+        }
+    } else {
+        Round {
+            count: 1,
+            by: 0,
+            times: total,
+            x: 0,
+            v,
+            known: false,
+        }
     }
 }

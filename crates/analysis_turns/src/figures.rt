@@ -1,8 +1,8 @@
 // The turns of a step from a start to a limit, and whether they can be counted.
-ghost use Rattle.std.specs.Prelude.{◌≡◌, true, cond, suc, ◌≤◌, pos, nat_abs, ◌-ℤ◌, ◌≤ℤ◌};
+ghost use Rattle.std.specs.Prelude.{◌≡◌, true, ◌&&◌, suc, ◌≤◌, pos, ◌≤ℤ◌};
 ghost use Rattle.rules_steps.specs.Ends.{Near, EndsWithin};
 ghost use Rattle.rules.specs.Steps.{moving};
-ghost use Rattle.rules.specs.Ranges.{sort};
+ghost use Rattle.rules.specs.Ranges.{single, sort};
 ghost use Rattle.rules.specs.Turns.{powers, scale, share, apart, while_turns, moved, at_test};
 ghost use Rattle.rules.specs.Questions.{has_figure};
 ghost use Rattle.analysis_intervals.specs.Wide.{wide_range, Unmoved};
@@ -22,8 +22,8 @@ fn powers(t: u64, e: u64, f: u64) -> u64
     let mut at = t;
     let mut k: u64 = 0;
     while at <= e {
-        at = at * f;
-        k = k + 1;
+        at *= f;
+        k += 1;
     }
     k
 }
@@ -39,47 +39,26 @@ fn scale(t: i64, e: i64, f: u64) -> u64
     powers(t as u64, e as u64, f)
 }
 
-// The distance of two numbers.
-fn distance(x: i64, y: i64) -> u64
-    requires { Near 1024 x × Near 1024 y }
-    ensures { result ≡ nat_abs (x -ℤ y) }
-{
-    if x < y {
-        (y - x) as u64
-    } else {
-        (x - y) as u64
-    }
-}
-
 // Do s and n share a number?
 fn share(s: WideInterval, n: WideInterval) -> bool
     ensures { result ≡ share (wide_range s) (wide_range n) }
 {
-    let a = s.lo;
-    let b = s.hi;
-    let c = n.lo;
-    let d = n.hi;
-    if a <= d { c <= b } else { false }
-}
-
-fn one_if(t: bool) -> u64
-    ensures { result ≡ cond t 1 0 }
-{
-    if t { 1 } else { 0 }
+    s.lo <= n.hi && n.lo <= s.hi
 }
 
 // The turns under !=.
+#[tactic(auto, unfolding(rules::specs::Turns::apart), using(ints::proofs::Parts::signed))]
 fn apart(a: i64, s: WideInterval, n: WideInterval) -> u64
     requires { Near 1024 a × (a ≡ pos 0 → ⊥) × NearEnds s × NearEnds n }
     ensures { result ≡ apart a (wide_range s) (wide_range n) }
 {
     if a == 1 {
-        return distance(n.hi, s.lo);
+        n.hi.abs_diff(s.lo)
+    } else if a == -1 {
+        s.hi.abs_diff(n.lo)
+    } else {
+        n.lo.abs_diff(s.lo) / a.unsigned_abs()
     }
-    if a == -1 {
-        return distance(s.hi, n.lo);
-    }
-    distance(n.lo, s.lo) / distance(a, 0)
 }
 
 // The turns of a step Add[a,b]: s what the first test sees, n the limit's range, e its end.
@@ -111,10 +90,11 @@ fn add_turns(
     if is_differ(comparison) {
         return apart(a, s, n);
     }
-    one_if(share(s, n))
+    u64::from(share(s, n))
 }
 
 // The turns of a while or a for.
+#[tactic(auto, unfolding(rules::specs::Turns::while_turns))]
 pub fn while_turns(
     step: Step,
     comparison: Comparison,
@@ -125,74 +105,67 @@ pub fn while_turns(
     requires { Countable step (sort comparison) s n e }
     ensures { result ≡ while_turns step (sort comparison) (wide_range s) (wide_range n) e }
 {
-    let low = s.lo;
-    let high = s.hi;
     match step {
         Step::Add(a, b) => add_turns(a, b, comparison, s, n, e),
-        Step::Grow(f, _) => scale(low, e, f),
-        Step::Shrink(f, _) => scale(e, high, f),
+        Step::Grow(f, _) => scale(s.lo, e, f),
+        Step::Shrink(f, _) => scale(e, s.hi, f),
         Step::Unknown => 0,
     }
 }
 
 // The start moved by one turn, not clamped.
+#[tactic(auto, unfolding(rules::specs::Turns::moved))]
 fn moved(step: Step, s: WideInterval) -> WideInterval
     requires { EndsWithin 512 step × (moving step ≡ true) × Unmoved s }
     ensures { (wide_range result ≡ moved step (wide_range s)) × FirstTested step result }
 {
-    let lo = s.lo;
-    let hi = s.hi;
     match step {
         Step::Add(a, b) => WideInterval {
-            lo: lo + a,
-            hi: hi + b,
+            lo: s.lo + a,
+            hi: s.hi + b,
         },
         Step::Grow(f, _) => WideInterval {
-            lo: lo * f as i64,
-            hi: hi * f as i64,
+            lo: s.lo * f as i64,
+            hi: s.hi * f as i64,
         },
         Step::Shrink(f, _) => WideInterval {
-            lo: floor(lo, f),
-            hi: floor(hi, f),
+            lo: floor(s.lo, f),
+            hi: floor(s.hi, f),
         },
         Step::Unknown => s,
     }
 }
 
 // What the first counted test sees.
+#[tactic(auto, unfolding(rules::specs::Turns::at_test))]
 pub fn at_test(is_moved: bool, step: Step, s: WideInterval) -> WideInterval
     requires { EndsWithin 512 step × (moving step ≡ true) × Unmoved s }
     ensures { (wide_range result ≡ at_test is_moved step (wide_range s)) × FirstTested step result }
 {
-    if is_moved {
-        return moved(step, s);
-    }
-    s
+    if is_moved { moved(step, s) } else { s }
+}
+
+// Two single numbers.
+#[tactic(auto, using(ints::proofs::Parts::signed))]
+fn are_single(r: WideInterval, n: WideInterval) -> bool
+    ensures { result ≡ single (wide_range r) && single (wide_range n) }
+{
+    r.lo == r.hi && n.lo == n.hi
 }
 
 // The terms of the figure under !=, a the step, r what the first test sees.
+#[tactic(auto, unfolding(crate::specs::Needs::meeting), using(ints::proofs::Parts::signed))]
 fn meets(a: i64, r: WideInterval, n: WideInterval) -> bool
     requires { Near 1024 a × (a ≡ pos 0 → ⊥) × NearEnds r × NearEnds n }
     ensures { result ≡ meeting a (wide_range r) (wide_range n) }
 {
-    let low = r.lo;
-    let high = r.hi;
-    let first = n.lo;
-    let last = n.hi;
     if a == 1 {
-        return high <= first;
+        r.hi <= n.lo
+    } else if a == -1 {
+        n.hi <= r.lo
+    } else {
+        are_single(r, n) && r.lo + a * apart(a, r, n) as i64 == n.lo
     }
-    if a == -1 {
-        return last <= low;
-    }
-    if low != high {
-        return false;
-    }
-    if first != last {
-        return false;
-    }
-    let k = apart(a, r, n) as i64;
-    low + a * k == first
 }
 
 // 12: s the start, r what the first test sees, n the limit's range, e its end.
@@ -207,16 +180,9 @@ pub fn has_figure(
     requires { EndsWithin 512 step × (moving step ≡ true) × FirstTested step r × NearEnds n }
     ensures { result ≡ has_figure step (sort comparison) (wide_range s) (wide_range r) (wide_range n) e }
 {
-    let start = s.lo;
     match step {
-        Step::Add(a, b) => {
-            if is_differ(comparison) {
-                if a == b { meets(a, r, n) } else { false }
-            } else {
-                true
-            }
-        }
-        Step::Grow(_, _) => 1 <= start,
+        Step::Add(a, b) => !is_differ(comparison) || (a == b && meets(a, r, n)),
+        Step::Grow(_, _) => 1 <= s.lo,
         Step::Shrink(_, _) => 1 <= e,
         Step::Unknown => true,
     }

@@ -15,26 +15,24 @@ fn misses(comparison: Comparison, s: Interval, e: i64) -> bool
     ensures { result ≡ misses (sort comparison) (env.range_of s) e }
 {
     if rises(comparison) {
-        let lo = s.lo as i64;
-        return e < lo;
+        e < i64::from(s.lo)
+    } else if falls(comparison) {
+        i64::from(s.hi) < e
+    } else {
+        false
     }
-    if falls(comparison) {
-        let hi = s.hi as i64;
-        return hi < e;
-    }
-    false
 }
 
 // [0, 0]
+#[tactic(auto, using(ints::proofs::Parts::signed))]
 fn is_zero(s: Interval) -> bool
     ensures { result ≡ is_zero (env.range_of s) }
 {
-    let lo = s.lo;
-    let hi = s.hi;
-    if lo == 0 { hi == 0 } else { false }
+    s.lo == 0 && s.hi == 0
 }
 
 // The turns from the first counted test on, with what comes before it.
+#[tactic(auto, unfolding(rules::specs::Trips::led))]
 pub fn led(lead: Lead, comparison: Comparison, e: i64, more: u64) -> u64
     requires { more ≤ 2_048_000_000_001 }
     ensures { result ≡ led (lead_of lead) (sort comparison) e more }

@@ -16,8 +16,8 @@ ghost use Rattle.analysis_turns.specs.Verdicts.{FigureOf};
 
 use crate::figures::{at_test, has_figure, while_turns};
 use crate::leads::led;
+use analysis_intervals::Interval;
 use analysis_intervals::comparisons::{WideInterval, edge, equal_ends, known, moving, suits};
-use analysis_intervals::{Interval, whole};
 use analysis_loops::trips::{Counter, Trip};
 
 // The range of the difference of two numbers.
@@ -25,8 +25,8 @@ fn gap(s: Interval, n: Interval) -> WideInterval
     ensures { (wide_range result ≡ start_of Counter.Difference (env.range_of s) (env.range_of n)) × Unmoved result }
 {
     WideInterval {
-        lo: s.lo as i64 - n.hi as i64,
-        hi: s.hi as i64 - n.lo as i64,
+        lo: i64::from(s.lo) - i64::from(n.hi),
+        hi: i64::from(s.hi) - i64::from(n.lo),
     }
 }
 
@@ -35,8 +35,7 @@ fn start_of(counter: Counter, s: Interval, n: Interval) -> WideInterval
     ensures { (wide_range result ≡ start_of counter (env.range_of s) (env.range_of n)) × Unmoved result }
 {
     match counter {
-        Counter::Own => whole(s),
-        Counter::Other => whole(s),
+        Counter::Own | Counter::Other => WideInterval::from(s),
         Counter::Difference => gap(s, n),
     }
 }
@@ -47,61 +46,47 @@ fn limit_of(counter: Counter, n: Interval) -> WideInterval
     ensures { (wide_range result ≡ limit_of counter (env.range_of n)) × Unmoved result }
 {
     match counter {
-        Counter::Own => whole(n),
-        Counter::Other => whole(n),
+        Counter::Own | Counter::Other => WideInterval::from(n),
         Counter::Difference => NONE,
     }
 }
 
-// The turns of one entry, or the number of the first question that has no.
-#[derive(Clone, Copy)]
-pub enum Figure {
-    Turns(u64),
-    Refused(u32),
-}
-
-// The questions 19 and 8 to 12 of a trip in their order, then its turns.
-pub fn ask(trip: Trip) -> Figure
+// The questions 19 and 8 to 12 of a trip in their order: the number of the first that has no, or the turns of one entry.
+pub fn ask(trip: Trip) -> Result<u64, u32>
     requires { EndsWithin 512 trip.step }
     ensures { FigureOf (trip_of trip) result }
 {
     let step = trip.step;
     let comparison = trip.comparison;
     if !trip.terms {
-        return Figure::Refused(19);
+        return Err(19);
     }
     if !known(step) {
-        return Figure::Refused(8);
+        return Err(8);
     }
-    let moves = moving(step);
-    if !moves {
-        return Figure::Refused(9);
+    if !moving(step) {
+        return Err(9);
     }
     if !trip.keeps {
-        return Figure::Refused(10);
+        return Err(10);
     }
     if !suits(step, comparison) {
-        return Figure::Refused(11);
+        return Err(11);
     }
-    let counter = trip.counter;
-    let s = trip.start;
-    let n = trip.limit;
-    let start = start_of(counter, s, n);
-    let limit = limit_of(counter, n);
+    let start = start_of(trip.counter, trip.start, trip.limit);
+    let limit = limit_of(trip.counter, trip.limit);
     let e = edge(comparison, limit);
     let r = at_test(trip.moved, step, start);
     if !has_figure(step, comparison, start, r, limit, e) {
-        return Figure::Refused(12);
+        return Err(12);
     }
     let more = while_turns(step, comparison, r, limit, e);
-    let lead = trip.lead;
-    Figure::Turns(led(lead, comparison, e, more))
+    Ok(led(trip.lead, comparison, e, more))
 }
 
 // Exact: the ends of the step are equal, and the starts and the limit are single numbers.
 pub fn exact(trip: Trip) -> bool
     ensures { result ≡ is_exact (trip_of trip) }
 {
-    let step = trip.step;
-    equal_ends(step) && trip.sure
+    equal_ends(trip.step) && trip.sure
 }

@@ -46,17 +46,14 @@ fn by_one(l: AddLoop) -> AddLoop
 fn turns_to(n: i64) -> u64
     ensures { result ≡ turns_to n }
 {
-    if n < 0 {
-        return 0;
-    }
-    n as u64 + 1
+    if n < 0 { 0 } else { n as u64 + 1 }
 }
 
 // Add rising: the start to zero, then the step divided away.
+#[tactic(auto, unfolding(rules::specs::Turns::climb))]
 pub fn climb(l: AddLoop) -> u64
     requires { Near 4_000_000 l.start × Near 4_000_000 l.limit × Near 1024 l.step × (pos 1 ≤ℤ l.step) }
     ensures { result ≡ climb l }
 {
-    let last = by_one(from_zero(l));
-    turns_to(last.limit)
+    turns_to(by_one(from_zero(l)).limit)
 }

@@ -1,3 +1,2 @@
 -- Laws of joined steps.
 pub mod Near
-pub mod Joining

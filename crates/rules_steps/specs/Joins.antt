@@ -1,10 +1,8 @@
 -- A step, and two steps joined: "In sequence" and "Over a pick".
-use Rattle.std.specs.Prelude.{Bool, false, cond, ◌&&◌, ℕ, ◌*◌, min, max, ℤ, pos, ◌+ℤ◌}
+use Rattle.std.specs.Prelude.{Bool, cond, ◌&&◌, ℕ, ◌*◌, min, max, ℤ, pos, ◌+ℤ◌}
 use Rattle.ints.specs.Ints.{eq_z, min_z, max_z}
 use Rattle.rules_steps.specs.declared.Step.{Step}
 use Rattle.rules_steps.specs.declared.Step.TheVariants.{Add, Grow, Shrink, Unknown}
-use Rattle.rules_steps.specs.declared.Two.{Two}
-use Rattle.rules_steps.specs.declared.Two.TheVariants.{Adds, Grows, Shrinks, Mixture}
 
 -- Add[0,0], the standing step
 abbrev pub still : Step
@@ -13,13 +11,6 @@ still = Add (pos 0) (pos 0)
 -- whether ends a and b make the standing step
 abbrev pub stands : ℤ → ℤ → Bool
 stands a b = eq_z a (pos 0) && eq_z b (pos 0)
-
--- whether a step is the standing step
-abbrev pub is_still : Step → Bool
-is_still (Add a b) = stands a b
-is_still (Grow f g) = false
-is_still (Shrink f g) = false
-is_still Unknown = false
 
 -- "A factor above 2,000,000,001 counts as that number"
 unfoldable pub factor_limit : ℕ
@@ -60,19 +51,3 @@ either (Shrink f g) (Grow h i) = Unknown
 either (Shrink f g) (Shrink h i) = Shrink (min f h) (max g i)
 either (Shrink f g) Unknown = Unknown
 either Unknown t = Unknown
-
--- the cases that code tells apart for both: two of one kind, with the ends of both; Add[0,0] beside Grow or Shrink, as factor 1; any other mixture
-abbrev pub two_of : Step → Step → Two
-two_of (Add a b) (Add c d) = Adds a b c d
-two_of (Add a b) (Grow h k) = cond (stands a b) (Grows 1 1 h k) Mixture
-two_of (Add a b) (Shrink h k) = cond (stands a b) (Shrinks 1 1 h k) Mixture
-two_of (Add a b) Unknown = Mixture
-two_of (Grow f g) (Add c d) = cond (stands c d) (Grows f g 1 1) Mixture
-two_of (Grow f g) (Grow h k) = Grows f g h k
-two_of (Grow f g) (Shrink h k) = Mixture
-two_of (Grow f g) Unknown = Mixture
-two_of (Shrink f g) (Add c d) = cond (stands c d) (Shrinks f g 1 1) Mixture
-two_of (Shrink f g) (Grow h k) = Mixture
-two_of (Shrink f g) (Shrink h k) = Shrinks f g h k
-two_of (Shrink f g) Unknown = Mixture
-two_of Unknown t = Mixture

@@ -1,11 +1,9 @@
 // The step of a variable, and two steps joined: in sequence, or over a pick.
 #![tactic(auto)]
 
-ghost use Rattle.std.specs.Prelude.{◌≡◌, cond, ◌≤◌};
-ghost use Rattle.rules_steps.specs.Joins.{is_still, factor_limit, product, then, either, two_of};
+ghost use Rattle.std.specs.Prelude.{◌≡◌, ◌≤◌};
+ghost use Rattle.rules_steps.specs.Joins.{factor_limit, product, then, either};
 ghost use Rattle.rules_steps.specs.Ends.{EndsWithin};
-
-use ints::min_max::{higher, larger, lower, smaller};
 
 // How a variable moves in one turn: the least and the most change, a factor, a divisor, or not known.
 #[derive(Clone, Copy, Debug, PartialEq, Eq)]
@@ -20,97 +18,48 @@ impl Step {
     // Add[0,0], the standing step.
     pub const STILL: Step = Step::Add(0, 0);
 
-    // This step and then the next.
+    // This step and then the next. The standing step beside Grow or Shrink is neutral.
+    #[tactic(auto, unfolding(crate::specs::Joins::then), using(ints::proofs::Parts::signed))]
     pub fn then(self, next: Step) -> Step
         requires { EndsWithin 512 self × EndsWithin 512 next }
         ensures { result ≡ then self next }
     {
-        let two = two_of(self, next);
-        match two {
-            Two::Adds(a, b, c, d) => Step::Add(a + c, b + d),
-            Two::Grows(f, g, h, k) => Step::Grow(product(f, h), product(g, k)),
-            Two::Shrinks(f, g, h, k) => Step::Shrink(product(f, h), product(g, k)),
-            Two::Mixture => Step::Unknown,
+        match (self, next) {
+            (Step::Add(a, b), Step::Add(c, d)) => Step::Add(a + c, b + d),
+            (Step::Grow(f, g), Step::Grow(h, k)) => Step::Grow(product(f, h), product(g, k)),
+            (Step::Shrink(f, g), Step::Shrink(h, k)) => Step::Shrink(product(f, h), product(g, k)),
+            (_, Step::Unknown) => Step::Unknown,
+            (Step::STILL, step) | (step, Step::STILL) => step,
+            _ => Step::Unknown,
         }
     }
 
-    // This step or the other one.
+    // This step or the other one. The standing step beside Grow or Shrink is factor 1.
+    #[tactic(auto, unfolding(crate::specs::Joins::either), using(ints::proofs::Parts::signed))]
     pub fn either(self, other: Step) -> Step
         ensures { result ≡ either self other }
     {
-        let two = two_of(self, other);
-        match two {
-            Two::Adds(a, b, c, d) => Step::Add(lower(a, c), higher(b, d)),
-            Two::Grows(f, g, h, k) => Step::Grow(smaller(f, h), larger(g, k)),
-            Two::Shrinks(f, g, h, k) => Step::Shrink(smaller(f, h), larger(g, k)),
-            Two::Mixture => Step::Unknown,
+        match (self, other) {
+            (Step::Add(a, b), Step::Add(c, d)) => Step::Add(a.min(c), b.max(d)),
+            (Step::Grow(f, g), Step::Grow(h, k)) => Step::Grow(f.min(h), g.max(k)),
+            (Step::Shrink(f, g), Step::Shrink(h, k)) => Step::Shrink(f.min(h), g.max(k)),
+            (Step::STILL, Step::Grow(f, g)) => Step::Grow(f.min(1), g.max(1)),
+            (Step::Grow(f, g), Step::STILL) => Step::Grow(f.min(1), g.max(1)),
+            (Step::STILL, Step::Shrink(f, g)) => Step::Shrink(f.min(1), g.max(1)),
+            (Step::Shrink(f, g), Step::STILL) => Step::Shrink(f.min(1), g.max(1)),
+            _ => Step::Unknown,
         }
     }
-}
-
-// Two steps to be joined: of one kind, with the ends of both, or a mixture.
-#[derive(Clone, Copy, Debug, PartialEq, Eq)]
-pub enum Two {
-    Adds(i64, i64, i64, i64),
-    Grows(u64, u64, u64, u64),
-    Shrinks(u64, u64, u64, u64),
-    Mixture,
-}
-
-// The two steps; the standing step beside Grow or Shrink is factor 1.
-fn two_of(first: Step, second: Step) -> Two
-    ensures { result ≡ two_of first second }
-{
-    match first {
-        Step::Add(a, b) => match second {
-            Step::Add(c, d) => Two::Adds(a, b, c, d),
-            Step::Grow(h, k) => when(stands(first), Two::Grows(1, 1, h, k)),
-            Step::Shrink(h, k) => when(stands(first), Two::Shrinks(1, 1, h, k)),
-            Step::Unknown => Two::Mixture,
-        },
-        Step::Grow(f, g) => match second {
-            Step::Add(_, _) => when(stands(second), Two::Grows(f, g, 1, 1)),
-            Step::Grow(h, k) => Two::Grows(f, g, h, k),
-            Step::Shrink(_, _) => Two::Mixture,
-            Step::Unknown => Two::Mixture,
-        },
-        Step::Shrink(f, g) => match second {
-            Step::Add(_, _) => when(stands(second), Two::Shrinks(f, g, 1, 1)),
-            Step::Grow(_, _) => Two::Mixture,
-            Step::Shrink(h, k) => Two::Shrinks(f, g, h, k),
-            Step::Unknown => Two::Mixture,
-        },
-        Step::Unknown => Two::Mixture,
-    }
-}
-
-// The two steps, or a mixture.
-fn when(alike: bool, two: Two) -> Two
-    ensures { result ≡ cond alike two Two.Mixture }
-{
-    if alike { two } else { Two::Mixture }
 }
 
 // A factor above this number counts as this number.
 const CAP: u64 = 2_000_000_001;
 
 // The product of two factors.
+#[tactic(auto, unfolding(crate::specs::Joins::product, crate::specs::Joins::factor_limit))]
 fn product(f: u64, g: u64) -> u64
     requires { (f ≤ factor_limit) × (g ≤ factor_limit) }
     ensures { result ≡ product f g }
 {
-    let p = f * g;
-    if p <= CAP { p } else { CAP }
-}
-
-// Whether it is the standing step.
-fn stands(step: Step) -> bool
-    ensures { result ≡ is_still step }
-{
-    match step {
-        Step::Add(a, b) => a == 0 && b == 0,
-        Step::Grow(_, _) => false,
-        Step::Shrink(_, _) => false,
-        Step::Unknown => false,
-    }
+    CAP.min(f * g)
 }

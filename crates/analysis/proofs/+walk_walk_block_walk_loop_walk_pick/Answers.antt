@@ -1,6 +1,5 @@
 -- `analysis::walk` and the functions for a block, which call it, meet their contracts.
 use borrow.Author.Rules.{rules}
-use borrow.Enum.Refused.{opened}
 use native.Mathlib.Omega.{arith}
 use Prim.Native.Nat.{◌+◌}
 use mathlib.Core.Path.{refl, sym, ap, subst, ◌∙◌}
@@ -35,7 +34,7 @@ walk_pick-walk-a-requires t c =
     let a = c.args in
     let u = pick_at _ _ _ s.inside s.walk.ready.built s.is refl refl refl in
     let h = pick_room a.script.prices a.round (env_of a.r.now) (with_lent a.t a.lines.now a.own.now) u s.walk.room in
-    (omega (arith, s.inside, (c.restarted-begun.ensures [] []).next), (restart_walkable (ready s.walk.ready (omega (arith, s.inside))) s.walk.prices c.branch-part.ensures.1 (c.restarted-begun.ensures _ _) s.walk.long (omega arith) (omega arith), s.long))
+    (omega (arith, s.inside, (c.restarted-begun.ensures [] []).next), (restart_walkable (ready s.walk.ready (omega (arith, s.inside))) s.walk.prices c.branch-part.ensures.1 (c.restarted-begun.ensures _ _) s.walk.long (omega arith) (omega arith)))
 
 pub walk_pick-returns-then-a-ne0 : goal.walk_pick-returns-then-a-ne0
 walk_pick-returns-then-a-ne0 t c =
@@ -66,7 +65,7 @@ walk_pick-walk-b-requires t c =
     let u = pick_at _ _ _ s.inside s.walk.ready.built s.is p.place c.past_else.ensures refl in
     let h = pick_room π a.round ρ x u s.walk.room in
     let n = (part_by π a.round ρ x u c.branch-part.ensures.0 (c.restarted-begun.ensures _ _) p).count in
-    (omega (arith, s.inside, u.first, u.second, u.last, (c.restarted-again.ensures [] []).next), (restart_walkable (ready s.walk.ready u.some) s.walk.prices c.branch-part.ensures.1 (c.restarted-again.ensures _ _) p.long (omega arith) (omega arith), s.long))
+    (omega (arith, s.inside, u.first, u.second, u.last, (c.restarted-again.ensures [] []).next), (restart_walkable (ready s.walk.ready u.some) s.walk.prices c.branch-part.ensures.1 (c.restarted-again.ensures _ _) p.long (omega arith) (omega arith)))
 
 pub walk_pick-returns-then-b-ne0 : goal.walk_pick-returns-then-b-ne0
 walk_pick-returns-then-b-ne0 t c =
@@ -110,7 +109,7 @@ walk_pick-returns t c =
           (part_by π a.round ρ x u c.branch-part.ensures.0 (c.restarted-begun.ensures _ _) p)
           (part_by π a.round ρ x u c.branch-part.ensures.0 (c.restarted-again.ensures _ _) q)
           (c.leave_pick.ensures _ _ _)
-          (record { long = search rules; value = c.joined-x.ensures });
+          c.joined.ensures;
     }
 
 -- ---- a loop that ends at row e
@@ -120,7 +119,7 @@ walk_loop-enter_loop-entered-requires t c =
     let a = c.args in
     let w = s.walk in
     let u = loop_at _ _ _ s.inside w.ready.built s.is refl in
-    (record { ready = w.ready; inside = s.inside; loops = s.is }, w.fine, w.prices, omega (arith, loop_room a.script.prices a.round (env_of a.r.now) (with_lent a.t a.lines.now a.own.now) u w.room), w.long, s.long)
+    (record { ready = w.ready; inside = s.inside; loops = s.is }, w.fine, w.prices, omega (arith, loop_room a.script.prices a.round (env_of a.r.now) (with_lent a.t a.lines.now a.own.now) u w.room), w.long)
 
 pub walk_loop-returns-then-first-ne0 : goal.walk_loop-returns-then-first-ne0
 walk_loop-returns-then-first-ne0 t c =
@@ -140,7 +139,7 @@ walk_loop-walk-body-requires t c =
     let n = (e.ensures a.own.now).whole c.if-first-ne0.false in
     let w = s.walk in
     let u = loop_at _ _ _ s.inside w.ready.built s.is refl in
-    (omega (arith, s.inside, n.lined.next), (body_walkable a.script.prices a.round (env_of a.r.now) (with_lent a.t a.lines.now a.own.now) u e.result n (ready w.ready (omega (arith, s.inside))) w.prices w.room, ((e.ensures []).begun c.if-first-ne0.false).long))
+    (omega (arith, s.inside, n.lined.next), body_walkable a.script.prices a.round (env_of a.r.now) (with_lent a.t a.lines.now a.own.now) u e.result n (ready w.ready (omega (arith, s.inside))) w.prices w.room)
 
 pub walk_loop-returns-then-body-ne0 : goal.walk_loop-returns-then-body-ne0
 walk_loop-returns-then-body-ne0 t c =
@@ -153,7 +152,7 @@ walk_loop-returns-then-body-ne0 t c =
     record {
       stopped = λ h.
           body_refused a.script.prices a.round (env_of a.r.now) (with_lent a.t a.lines.now a.own.now) u _ _ (e.whole l).verdict
-          (sym (ap (λ ρ. loops_verdict ρ (block_at a.text.now rows a.script.count (a.t.next + 1))) (e.begun l).value) ∙ refused_in (walked_from (e.whole l).lined.next c.walk-body.ensures) h);
+          (sym (ap (λ ρ. loops_verdict ρ (block_at a.text.now rows a.script.count (a.t.next + 1))) (e.begun l)) ∙ refused_in (walked_from (e.whole l).lined.next c.walk-body.ensures) h);
       whole = λ z. absurd (c.if-body-ne0.true z);
     }
 
@@ -167,7 +166,7 @@ walk_loop-leave_loop-left-requires t c =
     let p = (walked_from ((c.enter_loop-entered.ensures c.args.own.now).whole l).lined.next c.walk-body.ensures).whole c.if-body-ne0.false in
     let u = loop_at _ _ _ s.inside w.ready.built s.is p.place in
     let f = w.ready.few in
-    (row_in c.args.rows.now _ (omega (arith, s.inside, w.ready.reach)), e.exit.small, omega arith, w.small, p.small, (e.begun l).long, w.prices, w.fine, omega (arith, n.ran.tests, n.fine.few))
+    (row_in c.args.rows.now _ (omega (arith, s.inside, w.ready.reach)), e.exit.small, omega arith, w.small, p.small, w.prices, w.fine, omega (arith, n.ran.tests, n.fine.few))
 
 pub walk_loop-returns : goal.walk_loop-returns
 walk_loop-returns t c =
@@ -188,13 +187,10 @@ walk_loop-returns t c =
           let u = loop_at _ _ _ s.inside s.walk.ready.built s.is p.place in
           let n = e.whole l in
           past_loop_lem a.script.prices a.round (env_of a.r.now) (with_lent a.t a.lines.now a.own.now) u one n
-          (body_by a.script.prices a.round (env_of a.r.now) (with_lent a.t a.lines.now a.own.now) u one n (e.begun l).value p)
+          (body_by a.script.prices a.round (env_of a.r.now) (with_lent a.t a.lines.now a.own.now) u one n (e.begun l) p)
           (λ G h. left.closed text G h _ _ _)
           (ap (λ b. (a.t.kept && not (starts v (form_of text k) (test_of text k))) && not b) (x.sets v))
-          (record {
-            long = left.env.long;
-            value = left.env.value ∙ ap (widened_env (set_of one.exit.set) (range_of one.exit.mine) one.exit.tested) (e.begun l).value ∙ outside_after (form_of text k) _ (test_of text k) _ x.sets x.mine x.tested;
-          })
+          (left.env ∙ ap (widened_env (set_of one.exit.set) (range_of one.exit.mine) one.exit.tested) (e.begun l) ∙ outside_after (form_of text k) _ (test_of text k) _ x.sets x.mine x.tested)
           (λ h. c.to_note-unknown.ensures (search rules))
           c.put_own.ensures;
     }
@@ -206,54 +202,54 @@ walk_block-shape_at-requires t c = let a = c.requires.0 in let f = a.walk.ready.
 pub walk_block-walk_pick-requires : goal.walk_block-walk_pick-requires
 walk_block-walk_pick-requires t c =
     let a = c.requires.0 in
-    (omega arith, record { walk = a.walk; inside = a.inside; is = sym c.shape_at.ensures ∙ c.in-Branch.is; long = a.long })
+    (omega arith, record { walk = a.walk; inside = a.inside; is = sym c.shape_at.ensures ∙ c.in-Branch.is })
 
 pub walk_block-walk_loop-requires : goal.walk_block-walk_loop-requires
 walk_block-walk_loop-requires t c =
     let a = c.requires.0 in
     let e = c.shape_at.ensures in
-    (omega arith, record { walk = a.walk; inside = a.inside; is = sym e ∙ loop_shape_lem _ (opened c.in_default.in_default-own.keys2) (subst IsBlock (sym e) c.requires.1); long = a.long })
+    (omega arith, record { walk = a.walk; inside = a.inside; is = sym e ∙ loop_shape_lem _ c.in_default.not-Branch (subst IsBlock (sym e) c.requires.1) })
 
 -- ---- the walk
 pub walk-loop-t-init : goal.walk-loop-t-init
-walk-loop-t-init t c = let w = c.requires.0 in (search rules, refl, record { walk = begin _ _ _ _ _ w.ready.within; number = w.number; small = w.small; long = w.long })
+walk-loop-t-init t c = let w = c.requires in (refl, record { walk = begin _ _ _ _ _ w.ready.within; number = w.number; small = w.small; long = w.long })
 
 pub walk-shape_at-requires : goal.walk-shape_at-requires
-walk-shape_at-requires t c = let l = c.loop-t-test.true in let k = c.requires.0.ready in row_in c.args.rows.now _ (search rules)
+walk-shape_at-requires t c = let l = c.loop-t-test.true in let k = c.requires.ready in row_in c.args.rows.now _ (search rules)
 
 pub walk-step_row-requires : goal.walk-step_row-requires
 walk-step_row-requires t c =
-    let k = c.requires.0.ready in
+    let k = c.requires.ready in
     let l = c.loop-t-test.true in
-    (row_in c.args.rows.now _ (search rules), k.fine _ l, sym c.shape_at.ensures ∙ c.in-Plain.is, c.loop-t.invariant.0, k.written _ l)
+    (row_in c.args.rows.now _ (search rules), k.fine _ l, sym c.shape_at.ensures ∙ c.in-Plain.is, k.written _ l)
 
 pub walk-past_row-t-requires : goal.walk-past_row-t-requires
 walk-past_row-t-requires t c =
-    let w = c.requires.0 in
-    ((row_in c.args.rows.now _ (search rules), sym c.shape_at.ensures ∙ c.in-Plain.is), w.prices, w.fine, c.loop-t.invariant.2.small)
+    let w = c.requires in
+    ((row_in c.args.rows.now _ (search rules), sym c.shape_at.ensures ∙ c.in-Plain.is), w.prices, w.fine, c.loop-t.invariant.1.small)
 
 pub walk-loop-t-smaller-in-Plain : goal.walk-loop-t-smaller-in-Plain
 walk-loop-t-smaller-in-Plain t c = let e = (c.past_row-t.ensures [] [] []).next in let l = c.loop-t-test.true in search rules
 
 pub walk-loop-t-preserved-in-Plain : goal.walk-loop-t-preserved-in-Plain
 walk-loop-t-preserved-in-Plain t c =
-    (c.step_row.ensures.long, c.loop-t.invariant.1, go_plain c.loop-t.invariant.2 c.loop-t-test.true c.requires.0.ready.built (sym c.shape_at.ensures ∙ c.in-Plain.is) c.step_row.ensures.value (c.past_row-t.ensures _ _ _))
+    (c.loop-t.invariant.0, go_plain c.loop-t.invariant.1 c.loop-t-test.true c.requires.ready.built (sym c.shape_at.ensures ∙ c.in-Plain.is) c.step_row.ensures (c.past_row-t.ensures _ _ _))
 
 pub walk-walk_block-t-requires : goal.walk-walk_block-t-requires
 walk-walk_block-t-requires t c =
-    let w = c.requires.0 in
-    let k = c.loop-t.invariant.2 in
+    let w = c.requires in
+    let k = c.loop-t.invariant.1 in
     let l = c.loop-t-test.true in (
       omega (arith, k.walk.low),
       (
-        record { walk = record { ready = ready w.ready k.walk.high; prices = w.prices; number = k.number; small = k.small; fine = w.fine; room = omega (arith, room k, w.room); long = k.long }; inside = l; is = refl; long = c.loop-t.invariant.0 },
-        subst IsBlock c.shape_at.ensures (block_shape _ c.in_default.in_default-own.keys3),
+        record { walk = record { ready = ready w.ready k.walk.high; prices = w.prices; number = k.number; small = k.small; fine = w.fine; room = omega (arith, room k, w.room); long = k.long }; inside = l; is = refl },
+        subst IsBlock c.shape_at.ensures (block_shape _ c.in_default.not-Plain c.in_default.not-Close),
       ),
     )
 
 pub walk-returns-then-t-ne0 : goal.walk-returns-then-t-ne0
 walk-returns-then-t-ne0 t c = record {
-  stopped = λ h. block_stops c.loop-t.invariant.2 _ _ (c.walk_block-t.ensures.stopped h);
+  stopped = λ h. block_stops c.loop-t.invariant.1 _ _ (c.walk_block-t.ensures.stopped h);
   whole = λ z. absurd (c.if-t-ne0.true z);
 }
 
@@ -261,20 +257,20 @@ pub walk-loop-t-smaller : goal.walk-loop-t-smaller
 walk-loop-t-smaller t c = let p = c.walk_block-t.ensures.whole c.if-t-ne0.false in let l = c.loop-t-test.true in search rules
 
 pub walk-loop-t-preserved : goal.walk-loop-t-preserved
-walk-loop-t-preserved t c = let p = c.walk_block-t.ensures.whole c.if-t-ne0.false in (p.env_long, search rules, go_block c.loop-t.invariant.2 c.if-t-ne0.false p)
+walk-loop-t-preserved t c = let p = c.walk_block-t.ensures.whole c.if-t-ne0.false in (search rules, go_block c.loop-t.invariant.1 c.if-t-ne0.false p)
 
 pub walk-returns-in-Close : goal.walk-returns-in-Close
 walk-returns-in-Close t c =
-    let k = c.loop-t.invariant.2 in
+    let k = c.loop-t.invariant.1 in
     record {
       stopped = λ h. absurd (h k.number);
-      whole = λ z. closing (at_close _ _ _ _ _ (fold_none _ _ _ k.small) k.walk c.loop-t-test.true c.requires.0.ready.built (sym c.shape_at.ensures ∙ c.in-Close.is)) k.small k.long c.loop-t.invariant.0;
+      whole = λ z. closing (at_close _ _ _ _ _ (fold_none _ _ _ k.small) k.walk c.loop-t-test.true c.requires.ready.built (sym c.shape_at.ensures ∙ c.in-Close.is)) k.small k.long;
     }
 
 pub walk-returns : goal.walk-returns
 walk-returns t c =
-    let k = c.loop-t.invariant.2 in
+    let k = c.loop-t.invariant.1 in
     record {
       stopped = λ h. absurd (h k.number);
-      whole = λ z. closing (at_last _ _ _ _ _ (fold_none _ _ _ k.small) k.walk c.requires.0.ready.built c.loop-t-test.false) k.small k.long c.loop-t.invariant.0;
+      whole = λ z. closing (at_last _ _ _ _ _ (fold_none _ _ _ k.small) k.walk c.requires.ready.built c.loop-t-test.false) k.small k.long;
     }

@@ -22,7 +22,7 @@ decreases-walk_pick l = 3 * (l.script.count - l.t.next)
 
 abbrev pub invariant-walk-loop-t : goal.invariant-walk-loop-t
 invariant-walk-loop-t l =
-    (length l.r ≡ 16) × (length l.own ≡ length l.initial.own) × Going l.text l.script.prices (rows_of l.rows) l.script.count l.round l.initial.t.next (tallied (with_lent l.initial.t l.initial.lines l.initial.own) (env_of l.initial.r)) (env_of l.r) (with_lent l.t l.lines l.own)
+    (length l.own ≡ length l.initial.own) × Going l.text l.script.prices (rows_of l.rows) l.script.count l.round l.initial.t.next (tallied (with_lent l.initial.t l.initial.lines l.initial.own) (env_of l.initial.r)) (env_of l.r) (with_lent l.t l.lines l.own)
 
 abbrev pub decreases-walk-loop-t : goal.decreases-walk-loop-t
 decreases-walk-loop-t l = l.script.count - l.t.next

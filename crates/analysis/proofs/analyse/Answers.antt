@@ -1,5 +1,4 @@
 -- `analysis::analyse` meets its contract.
-use borrow.Author.Rules.{rules}
 use native.Mathlib.Omega.{arith}
 use Rattle.ints.proofs.Parts.{ints}
 use mathlib.Core.Path.{◌≡◌, refl, ap}
@@ -24,16 +23,15 @@ walk-t-requires c =
     let all : a.count ≤ length rows = omega (arith, c.requires.2, rows_length a.rows.now) in
     let (vars, l) = c.requires.0 in
     let n = few_in a.text.now a.ranges vars rows a.count l.0 c.requires.1 all in (
-      record {
-        ready = ready a.text.now a.ranges vars rows a.count l.0 c.requires.1 all c.requires.5 c.requires.6;
-        prices = c.requires.3;
-        number = refl;
-        small = omega arith;
-        fine = record { few = omega arith; near = omega ints; small = omega arith; var = omega arith };
-        room = omega arith;
-        long = c.requires.4;
-      },
-      search rules,
+    record {
+      ready = ready a.text.now a.ranges vars rows a.count l.0 c.requires.1 all c.requires.5 c.requires.6;
+      prices = c.requires.3;
+      number = refl;
+      small = omega arith;
+      fine = record { few = omega arith; near = omega ints; small = omega arith; var = omega arith };
+      room = omega arith;
+      long = c.requires.4;
+    }
     )
 
 -- the answer, from its ticks and its number of lines

@@ -1,43 +1,27 @@
 -- `analysis_steps::moves_of` meets its contract: what the rows walked do, and the block that is left.
 use borrow.Author.Rules.{rules}
-use Prim.Native.Nat.{ℕ, ◌+◌, ◌<◌}
-use mathlib.Core.Path.{◌≡◌, refl, sym, ap, ◌∙◌}
-use mathlib.Core.List.{List}
-use Rattle.rules.specs.declared.Row.{Row}
+use mathlib.Core.Path.{◌≡◌, sym, ap, ◌∙◌}
 use Rattle.rules_steps.specs.declared.Step.TheVariants.{Unknown}
 use Rattle.rules_steps.specs.Joins.{then}
 use Rattle.rules.specs.Steps.{row_step}
 use Rattle.analysis_steps.proofs.Ends.{ends_only}
-use Rattle.table.specs.declared.Shape.{Shape}
 use Rattle.table.specs.Code.{kind_at, rows_of}
-use Rattle.table.specs.Shapes.{shape_of, past_else, plain_of}
+use Rattle.table.specs.Shapes.{plain_of}
 use Rattle.table.proofs.Laws.{row_in}
-use Rattle.analysis_steps.specs.Tree.{Ready, end_at}
-use Rattle.analysis_steps.proofs.Laws.{PickIs}
-use Rattle.analysis_steps.proofs.Walking.{ready, pick_at, loop_at}
-use Rattle.analysis_steps.proofs.Sets.{clear, no_set}
+use Rattle.analysis_steps.proofs.Walking.{ready, pick_at, loop_at, first_part, second_part}
 use Rattle.analysis_steps.proofs.Stepping.{room, row_room, pick_room, step_stays}
 use Rattle.analysis_steps.proofs.Moving.{begins, with_plain, with_pick, with_loop, closes, ends}
 use Rattle.analysis_steps.proofs.+moves_of.Goals as goal
 use Rattle.analysis_steps.proofs.+moves_of.Goals.{then-sets_it, else-sets_it}
 
-pick_1 : {text : List ℕ} {rows : List Row} {count at i : ℕ} → Ready text rows count at → i < count → shape_of (kind_at rows i) ≡ Shape.Branch → {m : ℕ} → m ≡ end_at text rows count (i + 1)
-    → PickIs text rows count i m (past_else (kind_at rows m) m) (end_at text rows count (past_else (kind_at rows m) m))
-pick_1 r l h p = pick_at _ _ _ l r.built h p refl refl
-
--- the second part of the pick
-second : {text : List ℕ} {rows : List Row} {count at i : ℕ} → Ready text rows count at → i < count → shape_of (kind_at rows i) ≡ Shape.Branch → {m : ℕ} → m ≡ end_at text rows count (i + 1)
-    → {s : ℕ} → s ≡ past_else (kind_at rows m) m → Ready text rows count s
-second r l h p e = let k = pick_1 r l h p in ready r (search rules)
-
 pub loop-i-init : goal.loop-i-init
-loop-i-init t c = λ text r. begins _ _ _ _ _ r c.requires.2
+loop-i-init t c = λ text r. begins _ _ _ _ _ r
 
 pub shape_at-requires : goal.shape_at-requires
 shape_at-requires t c = let (text, r) = c.requires.0 in row_in c.args.rows.now _ (search rules)
 
-pub add_row-requires : goal.add_row-requires
-add_row-requires t c = let (text, r) = c.requires.0 in (row_in c.args.rows.now _ (search rules), r.fine _ c.loop-i-test.true, (c.loop-i.invariant text r).long)
+pub insert_assigned-requires : goal.insert_assigned-requires
+insert_assigned-requires t c = let (text, r) = c.requires.0 in (row_in c.args.rows.now _ (search rules), r.fine _ c.loop-i-test.true)
 
 pub sets_it-requires : goal.sets_it-requires
 sets_it-requires t c = let (text, r) = c.requires.0 in row_in c.args.rows.now _ (search rules)
@@ -59,34 +43,34 @@ loop-i-preserved-in-Plain t c = λ text r.
       | then-sets_it w ↦ w.step-is ∙ w.then-step.ensures ∙ ap (then s) (w.row_step.ensures text)
       | else-sets_it w ↦ w.step-is ∙ sym (step_stays s v p (sym (c.sets_it.ensures text) ∙ w.if-sets_it.false))
     ] in
-    with_plain _ _ _ _ _ r (c.loop-i.invariant text r) c.loop-i-test.true (sym c.shape_at.ensures ∙ c.in-Plain.is) (c.add_row.ensures text) e
+    with_plain _ _ _ _ _ r (c.loop-i.invariant text r) c.loop-i-test.true (sym c.shape_at.ensures ∙ c.in-Plain.is) (c.insert_assigned.ensures text) e
 
-pub moves_of-a-requires : goal.moves_of-a-requires
-moves_of-a-requires t c = let (text, r) = c.requires.0 in let k = c.loop-i.invariant text r in (search rules, ((text, ready r (search rules)), search rules, k.long))
+pub moves_of-first-requires : goal.moves_of-first-requires
+moves_of-first-requires t c = let (text, r) = c.requires.0 in let k = c.loop-i.invariant text r in (search rules, ((text, ready r (search rules)), search rules))
 
 pub past_else-requires : goal.past_else-requires
 past_else-requires t c =
     let (text, r) = c.requires.0 in
-    let k = pick_1 r c.loop-i-test.true (sym c.shape_at.ensures ∙ c.in-Branch.is) (c.moves_of-a.ensures text (ready r (search rules))).sets.place in
+    let k = first_part r c.loop-i-test.true (sym c.shape_at.ensures ∙ c.in-Branch.is) (c.moves_of-first.ensures text (ready r (search rules))).sets.place in
     row_in c.args.rows.now _ (search rules)
 
-pub moves_of-b-requires : goal.moves_of-b-requires
-moves_of-b-requires t c =
+pub moves_of-second-requires : goal.moves_of-second-requires
+moves_of-second-requires t c =
     let (text, r) = c.requires.0 in
     let w = c.loop-i.invariant text r in
     let h = sym c.shape_at.ensures ∙ c.in-Branch.is in
-    let f = c.moves_of-a.ensures text (ready r (search rules)) in
-    let k = pick_1 r c.loop-i-test.true h f.sets.place in
+    let f = c.moves_of-first.ensures text (ready r (search rules)) in
+    let k = first_part r c.loop-i-test.true h f.sets.place in
     let e = c.past_else.ensures in
-    (search rules, ((text, second r c.loop-i-test.true h f.sets.place e), search rules, f.long))
+    (search rules, ((text, second_part r c.loop-i-test.true h f.sets.place e), search rules))
 
 pub then-step-requires-in-Branch : goal.then-step-requires-in-Branch
 then-step-requires-in-Branch t c =
     let (text, r) = c.requires.0 in
     let k = (c.loop-i.invariant text r).moves in
     let h = sym c.shape_at.ensures ∙ c.in-Branch.is in
-    let f = c.moves_of-a.ensures text (ready r (search rules)) in
-    let g = c.moves_of-b.ensures text (second r c.loop-i-test.true h f.sets.place c.past_else.ensures) in
+    let f = c.moves_of-first.ensures text (ready r (search rules)) in
+    let g = c.moves_of-second.ensures text (second_part r c.loop-i-test.true h f.sets.place c.past_else.ensures) in
     let u = pick_at _ _ _ c.loop-i-test.true r.built h f.sets.place c.past_else.ensures g.sets.place in
     (room _ _ _ _ r k, rw c.either.ensures (pick_room _ _ _ _ r k c.loop-i-test.true u (f.moves, f.near) (g.moves, g.near)))
 
@@ -94,8 +78,8 @@ pub overflow_add-i-in-Branch-2 : goal.overflow_add-i-in-Branch-2
 overflow_add-i-in-Branch-2 t c =
     let (text, r) = c.requires.0 in
     let h = sym c.shape_at.ensures ∙ c.in-Branch.is in
-    let f = c.moves_of-a.ensures text (ready r (search rules)) in
-    let g = c.moves_of-b.ensures text (second r c.loop-i-test.true h f.sets.place c.past_else.ensures) in
+    let f = c.moves_of-first.ensures text (ready r (search rules)) in
+    let g = c.moves_of-second.ensures text (second_part r c.loop-i-test.true h f.sets.place c.past_else.ensures) in
     let u = pick_at _ _ _ c.loop-i-test.true r.built h f.sets.place c.past_else.ensures g.sets.place in
     let few = r.few in
     search rules
@@ -104,30 +88,27 @@ pub loop-i-smaller-in-Branch : goal.loop-i-smaller-in-Branch
 loop-i-smaller-in-Branch t c =
     let (text, r) = c.requires.0 in
     let h = sym c.shape_at.ensures ∙ c.in-Branch.is in
-    let f = c.moves_of-a.ensures text (ready r (search rules)) in
-    let g = c.moves_of-b.ensures text (second r c.loop-i-test.true h f.sets.place c.past_else.ensures) in
+    let f = c.moves_of-first.ensures text (ready r (search rules)) in
+    let g = c.moves_of-second.ensures text (second_part r c.loop-i-test.true h f.sets.place c.past_else.ensures) in
     let u = pick_at _ _ _ c.loop-i-test.true r.built h f.sets.place c.past_else.ensures g.sets.place in
     search rules
 
 pub loop-i-preserved-in-Branch : goal.loop-i-preserved-in-Branch
 loop-i-preserved-in-Branch t c = λ text r.
     let h = sym c.shape_at.ensures ∙ c.in-Branch.is in
-    let f = c.moves_of-a.ensures text (ready r (search rules)) in
-    let g = c.moves_of-b.ensures text (second r c.loop-i-test.true h f.sets.place c.past_else.ensures) in
+    let f = c.moves_of-first.ensures text (ready r (search rules)) in
+    let g = c.moves_of-second.ensures text (second_part r c.loop-i-test.true h f.sets.place c.past_else.ensures) in
     let u = pick_at _ _ _ c.loop-i-test.true r.built h f.sets.place c.past_else.ensures g.sets.place in
     with_pick _ _ _ _ _ r (c.loop-i.invariant text r) c.loop-i-test.true u f g (c.then-step-in-Branch.ensures ∙ ap (then c.loop-i.step) c.either.ensures)
 
 pub moves_of-body-requires : goal.moves_of-body-requires
-moves_of-body-requires t c = let (text, r) = c.requires.0 in let k = c.loop-i.invariant text r in (search rules, ((text, ready r (search rules)), search rules, search rules))
+moves_of-body-requires t c = let (text, r) = c.requires.0 in let k = c.loop-i.invariant text r in (search rules, ((text, ready r (search rules)), search rules))
 
-pub add_row-requires-in-Loop : goal.add_row-requires-in-Loop
-add_row-requires-in-Loop t c = let (text, r) = c.requires.0 in (row_in c.args.rows.now _ (search rules), r.fine _ c.loop-i-test.true, (c.moves_of-body.ensures text (ready r (search rules))).long)
+pub insert_assigned-requires-in-Loop : goal.insert_assigned-requires-in-Loop
+insert_assigned-requires-in-Loop t c = let (text, r) = c.requires.0 in (row_in c.args.rows.now _ (search rules), r.fine _ c.loop-i-test.true)
 
 pub then-step-requires-in-Loop : goal.then-step-requires-in-Loop
-then-step-requires-in-Loop t c = let (text, r) = c.requires.0 in (room _ _ _ _ r (c.loop-i.invariant text r).moves, rw c.only.ensures (ends_only 512 c.has.result Unknown tt))
-
-pub add_all-requires : goal.add_all-requires
-add_all-requires t c = let (text, r) = c.requires.0 in (c.loop-i.invariant text r).long
+then-step-requires-in-Loop t c = let (text, r) = c.requires.0 in (room _ _ _ _ r (c.loop-i.invariant text r).moves, rw c.only.ensures (ends_only 512 c.contains.result Unknown tt))
 
 pub overflow_add-i-in-Loop-2 : goal.overflow_add-i-in-Loop-2
 overflow_add-i-in-Loop-2 t c =
@@ -143,11 +124,10 @@ loop-i-smaller t c =
     search rules
 
 pub loop-i-preserved : goal.loop-i-preserved
-unfolding clear
 loop-i-preserved t c = λ text r.
     let h = sym c.shape_at.ensures ∙ c.in-Loop.is in
     let f = c.moves_of-body.ensures text (ready r (search rules)) in
-    with_loop _ _ _ _ _ r (c.loop-i.invariant text r) c.loop-i-test.true (loop_at _ _ _ c.loop-i-test.true r.built h f.sets.place) h (no_set _ refl) f (c.add_row-in-Loop.ensures text) c.add_all.ensures c.has.ensures (c.then-step-in-Loop.ensures ∙ ap (then c.loop-i.step) c.only.ensures)
+    with_loop _ _ _ _ _ r (c.loop-i.invariant text r) c.loop-i-test.true (loop_at _ _ _ c.loop-i-test.true r.built h f.sets.place) h c.new-inner.ensures f _ (c.insert_assigned-in-Loop.ensures text) c.extend.ensures c.contains.ensures (c.then-step-in-Loop.ensures ∙ ap (then c.loop-i.step) c.only.ensures)
 
 pub returns-in-Close : goal.returns-in-Close
 returns-in-Close t c = λ text r. closes _ _ _ _ _ r (c.loop-i.invariant text r) c.loop-i-test.true (sym c.shape_at.ensures ∙ c.in-Close.is)
