@@ -66,12 +66,7 @@ returns-in-Err c =
     let i = c.args.t.next in
     let one = one_is c.args.text.now (rows_of c.args.rows.now) (env_of c.args.r.now) c.at_start.ensures c.kind_at-kind.ensures c.loop_at-one.ensures in
     let f = subst (FigureOf (trip_of c.loop_at-one.result.trip)) c.in-Err.is c.ask.ensures in
-    λ os. record {
-      begun = λ z. absurd (trip_number i (trip_of c.loop_at-one.result.trip) _ _ (f i) (sym (ap (λ (x : Tally). x.number) c.refused.ensures) ∙ z));
-      exit = exit_is one c.exit_of.ensures;
-      stopped = λ h. ap (of_trip i) (sym one.trip) ∙ f i ∙ (λ j. refused (sym c.refused.ensures j).number (sym c.refused.ensures j).place);
-      whole = λ z. absurd (trip_number i (trip_of c.loop_at-one.result.trip) _ _ (f i) (sym (ap (λ (x : Tally). x.number) c.refused.ensures) ∙ z));
-    }
+    λ os. ap (of_trip i) (sym one.trip) ∙ f i
 
 -- its figure: it has passed, and its turns
 figure : (τ : Trip) {f : Result ℕ ℕ} {turns : ℕ} → f ≡ Ok turns → FigureOf τ f → FigureOf τ (Ok turns)
@@ -120,10 +115,9 @@ returns-in-Ok c = λ os.
     let n = c.body-inner.result.count in
     let k = c.pass_counts.ensures in
     record {
-      begun = λ z. c.inside.ensures ∙ ap (widened c.loop_at-one.result (inner_of (trip_of c.loop_at-one.result.trip))) (begun text rows a.t.next (env_of a.r.now) c.at_start.ensures kd) ∙ inside_is one;
+      begun = c.inside.ensures ∙ ap (widened c.loop_at-one.result (inner_of (trip_of c.loop_at-one.result.trip))) (begun text rows a.t.next (env_of a.r.now) c.at_start.ensures kd) ∙ inside_is one;
       exit = exit_is one c.exit_of-exit.ensures;
-      stopped = λ h. absurd (h l.number);
-      whole = λ z. record {
+      whole = record {
         verdict = ap (of_trip a.t.next) (sym tr) ∙ f.0 a.t.next;
         round = b.0 ∙ (λ j. body_of (tr j) (one.tested j) (tu j) (to j) r);
         fine = b.1;
