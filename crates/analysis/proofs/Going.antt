@@ -42,7 +42,7 @@ use Rattle.analysis.specs.Enter.{walked_at, EntryPassed}
 use Rattle.analysis.specs.Known.{not_known, NotedFor}
 use Rattle.analysis.specs.Tallies.{FoldState, LentTally, tallied, last_ticks, line_for, Restarted, PastRow, LineAdded, BlockClosed}
 use Rattle.analysis.specs.Own.{put_own}
-use Rattle.analysis.specs.Fold.{loop_count, front_of, rest_of, capped_line, capped_lines, folded, Walkable, PassedPart, Analysed, IsBlock, PassedBlock}
+use Rattle.analysis.specs.Fold.{loop_count, front_of, rest_of, capped_line, capped_lines, folded, Walkable, PassedPart, IsBlock, PassedBlock}
 use Rattle.analysis.proofs.Laws.{state_is}
 use Rattle.analysis.proofs.Folding.{cap_lines, later_in, fold_plain, first_pick, first_loop, fold_first, past_plain, pick_ticks, past_pick, own_ticks, ticks_of_all, past_loop, SameBody, same_body}
 use Rattle.analysis.proofs.Bodies.{body_known, body_sum, body_lines, own_passes, cap_often}

@@ -8,7 +8,6 @@ use mathlib.Core.List.{List}
 use Prim.Native.Nat.{ℕ, ◌*◌, ◌≤◌}
 use Rattle.rules.specs.declared.Row.{Row}
 use Rattle.rules.specs.declared.Kind.{Kind}
-use Rattle.rules.specs.Verdicts.{refused}
 use Rattle.rules.specs.Steps.{starts}
 use Rattle.rules.specs.Ranges.{Env, at_start}
 use Rattle.rules.specs.Trips.{Trip, turns_of, inner_of, outer_of}
@@ -29,12 +28,10 @@ use Rattle.analysis_ticks.specs.Capped.{capped}
 use Rattle.analysis_ticks.proofs.Caps.{cap_times}
 use Rattle.analysis_ticks.specs.Rounds.{round_of, pass_in, walked_by, body_of}
 use Rattle.analysis.specs.Tallies.{last_ticks}
-use Rattle.analysis.specs.declared.tallies.Tally.{Tally}
 use Rattle.analysis.specs.declared.entries.Exit.{Exit}
 use Rattle.analysis.specs.declared.entries.PassCounts.{PassCounts}
 use Rattle.analysis.specs.Enter.{start_at, trip_at, walked_at, ExitOf, ExitAt}
 use Rattle.analysis.proofs.Laws.{lined_is, last_small}
-use Rattle.analysis.proofs.Numbers.{trip_number}
 use Rattle.analysis.proofs.entries.enter_loop.Goals as goal
 
 pub kind_at-kind-requires : goal.kind_at-kind-requires
