@@ -42,7 +42,7 @@ use Rattle.analysis.specs.Enter.{walked_at, EntryPassed}
 use Rattle.analysis.specs.Known.{not_known, NotedFor}
 use Rattle.analysis.specs.Tallies.{FoldState, LentTally, tallied, last_ticks, line_for, Restarted, PastRow, LineAdded, BlockClosed}
 use Rattle.analysis.specs.Own.{put_own}
-use Rattle.analysis.specs.Fold.{loop_count, front_of, rest_of, capped_line, capped_lines, folded, Walkable, PassedPart, Analysed, IsBlock, PassedBlock}
+use Rattle.analysis.specs.Fold.{loop_count, front_of, rest_of, capped_line, capped_lines, folded, Walkable, PassedPart, IsBlock, PassedBlock}
 use Rattle.analysis.proofs.Laws.{state_is}
 use Rattle.analysis.proofs.Folding.{cap_lines, later_in, fold_plain, first_pick, first_loop, fold_first, past_plain, pick_ticks, past_pick, own_ticks, ticks_of_all, past_loop, SameBody, same_body}
 use Rattle.analysis.proofs.Bodies.{body_known, body_sum, body_lines, own_passes, cap_often}
@@ -83,18 +83,12 @@ part_of {text} {π} {rows} {count} {at} {q} {ρ} {t} {r} {ranges} k s o ls n os 
 
 -- a tally with another list of own ticks
 abbrev pub with_own : LentTally → List ℕ → LentTally
-with_own r os = record { number = r.number; kept = r.kept; place = r.place; over = r.over; spent = r.spent; loops = r.loops; next = r.next; lines = r.lines; own = os }
+with_own r os = record { kept = r.kept; over = r.over; spent = r.spent; loops = r.loops; next = r.next; lines = r.lines; own = os }
 
 -- what is noted only where the list has a place is noted
 noted : (os : List ℕ) (e : ℕ) {x y : ℕ} → (0 < length os → x ≡ y) → set os e x ≡ set os e y
 noted [] e h = refl
 noted (o ∷ os) e h = ap (set (o ∷ os) e) (h (omega arith))
-
--- or which loop it refused
-pub refused_in : {text : List ℕ} {π : Prices} {rows : List Row} {count at : ℕ} {q : Round} {ρ : Env} {t r : LentTally} {ranges : List (List ℤ)} → Analysed text π rows count at ρ q t ranges r → (r.number ≡ 0 → ⊥)
-    → loops_verdict ρ (block_at text rows count at) ≡ refused r.number r.place
-unfolding folded and_then
-refused_in s h = s.stopped h
 
 -- a row that is neither plain nor a close begins a block; a block that is no pick is a loop
 pub block_shape : (s : Shape) → (s ≡ Shape.Plain → ⊥) → (s ≡ Shape.Close → ⊥) → IsBlock s
@@ -121,18 +115,17 @@ pub restart_walkable : {text : List ℕ} {π : Prices} {rows : List Row} {count 
 restart_walkable {text} {π} {rows} {count} {q} {t} {r} k fine o h g l m =
     let p = ap (λ (x : FoldState). x.spent) (h.value nowhere) in
     let n = ap (λ (x : FoldState). x.loops) (h.value nowhere) in
-    subst (λ z. Walkable text π rows count z q r) (sym h.next) (record { ready = k; prices = fine; number = h.number; small = omega arith; fine = o; room = omega arith; long = ap length h.same ∙ g })
+    subst (λ z. Walkable text π rows count z q r) (sym h.next) (record { ready = k; prices = fine; small = omega arith; fine = o; room = omega arith; long = ap length h.same ∙ g })
 
 pub lined_walkable : {text : List ℕ} {π : Prices} {rows : List Row} {count i turns total s : ℕ} {kept : Bool} {q : Round} {τ : Trip} {t r : LentTally} → Ready text rows count (i + 1) → FinePrices π → FineRound q → LineAdded t i τ turns total s kept r → s ≤ 1_000_000_000_001
     → t.loops + 1 + loop_count (block_at text rows count (i + 1)) ≤ 16 → Walkable text π rows count r.next q r
 lined_walkable {text} {π} {rows} {count} {q} {t} {r} k fine o h l m =
     let p = ap (λ (x : FoldState). x.spent) (h.value nowhere) in
     let n = ap (λ (x : FoldState). x.loops) (h.value nowhere) in
-    subst (λ z. Walkable text π rows count z q r) (sym h.next) (record { ready = k; prices = fine; number = h.number; small = omega arith; fine = o; room = omega arith; long = h.long })
+    subst (λ z. Walkable text π rows count z q r) (sym h.next) (record { ready = k; prices = fine; small = omega arith; fine = o; room = omega arith; long = h.long })
 
 pub record Going (text : List ℕ) (π : Prices) (rows : List Row) (count : ℕ) (round : Round) (at : ℕ) (x₀ : FoldState) (ρ : Env) (t : LentTally) : Type 0 where
   pub walk : Walking text rows count (folded π round) at x₀ t.next (tallied t ρ)
-  pub number : t.number ≡ 0
   pub small : t.spent ≤ 1_000_000_000_001
   pub long : length t.lines ≡ 16
 
@@ -149,7 +142,6 @@ module _ {text : List ℕ} {π : Prices} {rows : List Row} {count : ℕ} {round 
       let e : tallied r σ ≡ past_plain π round (tallied t ρ) p = c.value σ ∙ state_is a refl refl refl refl refl refl refl in
       record {
         walk = rw c.next (plain_row rows count (folded π round) at x₀ k.walk l built h (λ rest. fold_plain π round (tallied t ρ) t.next p rest ∙ ap (λ y. folded π round y rest) (sym e)));
-        number = c.number;
         small = let z = ap (λ (x : FoldState). x.spent) (c.value σ) in omega arith;
         long = ap length c.same ∙ k.long;
       }
@@ -158,12 +150,11 @@ module _ {text : List ℕ} {π : Prices} {rows : List Row} {count : ℕ} {round 
   first_then : folded π round x₀ (block_at text rows count at) ≡ folded π round (folded π round (tallied t ρ) (front_of (block_at text rows count t.next))) (rest_of (block_at text rows count t.next))
   first_then = k.walk.value ∙ fold_first π round (tallied t ρ) (block_at text rows count t.next) k.small
 
-  pub go_block : {ranges : List (List ℤ)} {r : LentTally} → r.number ≡ 0 → PassedBlock text π rows count t.next ρ round t ranges r → Going text π rows count round at x₀ (env_of ranges) r
-  go_block {ranges} {r} z p =
+  pub go_block : {ranges : List (List ℤ)} {r : LentTally} → PassedBlock text π rows count t.next ρ round t ranges r → Going text π rows count round at x₀ (env_of ranges) r
+  go_block {ranges} {r} p =
       let w = k.walk in
       record {
         walk = record { low = omega arith; high = p.high; value = first_then ∙ ap₂ (folded π round) (sym p.value) p.rest; place = w.place ∙ p.place };
-        number = z;
         small = p.small;
         long = p.long;
       }
@@ -173,8 +164,11 @@ module _ {text : List ℕ} {π : Prices} {rows : List Row} {count : ℕ} {round 
   block_stops n p h = ap (λ (x : FoldState). x.verdict) first_then ∙ ap (λ v. and_then v (loops_verdict (after ρ (front_of (block_at text rows count t.next))) (rest_of (block_at text rows count t.next)))) h
 
 -- a walk from row a, by the row of its tally
-pub walked_from : {text : List ℕ} {π : Prices} {rows : List Row} {count a b : ℕ} {q : Round} {ρ : Env} {t r : LentTally} {ranges : List (List ℤ)} → b ≡ a → Analysed text π rows count b ρ q t ranges r → Analysed text π rows count a ρ q t ranges r
-walked_from {text} {π} {rows} {count} {q} {ρ} {t} {r} {ranges} e h = subst (λ z. Analysed text π rows count z ρ q t ranges r) e h
+pub walked_from : {text : List ℕ} {π : Prices} {rows : List Row} {count a b : ℕ} {q : Round} {ρ : Env} {t r : LentTally} {ranges : List (List ℤ)} → b ≡ a → PassedPart text π rows count b ρ q t ranges r → PassedPart text π rows count a ρ q t ranges r
+walked_from {text} {π} {rows} {count} {q} {ρ} {t} {r} {ranges} e h = subst (λ z. PassedPart text π rows count z ρ q t ranges r) e h
+
+pub stopped_from : (text : List ℕ) (rows : List Row) (count : ℕ) (ρ : Env) {a b n p : ℕ} → b ≡ a → loops_verdict ρ (block_at text rows count b) ≡ refused n p → loops_verdict ρ (block_at text rows count a) ≡ refused n p
+stopped_from text rows count ρ {n = n} {p = p} e h = subst (λ z. loops_verdict ρ (block_at text rows count z) ≡ refused n p) e h
 
 -- ---- a block at row i, from the ranges ρ and the tally t
 module _ {text : List ℕ} (π : Prices) {rows : List Row} {count : ℕ} (round : Round) {i : ℕ} (ρ : Env) (t : LentTally) where

@@ -3,7 +3,6 @@ pub mod Laws
 pub mod Parts
 pub mod Priced
 pub mod Bits
-pub mod Numbers
 pub mod Bodies
 pub mod Counts
 pub mod Folding

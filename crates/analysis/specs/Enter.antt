@@ -1,5 +1,5 @@
 -- Entering and leaving a loop.
-use Rattle.std.specs.Prelude.{◌≡◌, Bool, not, cond, ◌&&◌, List, ℕ, ◌+◌, ◌*◌, ◌<◌, ℤ}
+use Rattle.std.specs.Prelude.{◌≡◌, Bool, not, cond, ◌&&◌, List, ℕ, ◌+◌, ◌*◌, ◌<◌, ℤ, Result, Ok, Err}
 use Rattle.rules.specs.declared.Row.{Row}
 use Rattle.rules.specs.declared.Kind.{Kind}
 use Rattle.rules.specs.Verdicts.{passed, refused}
@@ -24,7 +24,8 @@ use Rattle.analysis.specs.declared.entries.Exit.{Exit}
 use Rattle.analysis.specs.declared.entries.LoopEntry.{LoopEntry}
 use Rattle.analysis.specs.declared.entries.PassCounts.{PassCounts}
 use Rattle.analysis.specs.declared.tallies.Tally.{Tally}
-use Rattle.analysis.specs.Tallies.{LentTally, last_ticks, LineAdded, ClosedBy}
+use Rattle.rules.specs.declared.Refusal.{Refusal}
+use Rattle.analysis.specs.Tallies.{LentTally, with_lent, last_ticks, LineAdded, ClosedBy}
 
 -- the ranges at the start of the loop at row i, and its trip
 abbrev pub start_at : List ℕ → List Row → ℕ → Env → Env
@@ -66,12 +67,16 @@ pub record ExitAt (text : List ℕ) (rows : List Row) (count i : ℕ) (ρ : Env)
   pub mine : range_of x.mine ≡ outer_of (trips.trip (form_of text (kind_at rows i)) ρ (test_of text (kind_at rows i)) (body_at text rows count i))
   pub sets : (w : ℕ) → set_of x.set w ≡ assigns w (body_at text rows count i)
 
--- the loop at row i has been entered from the ranges ρ: where it is not refused, r holds those at its body's start
+-- the loop at row i has been entered from the ranges ρ and is not refused: r holds those at its body's start
 pub record EnteredAt (text : List ℕ) (π : Prices) (rows : List Row) (count i : ℕ) (round : Round) (ρ : Env) (t : LentTally) (r : List (List ℤ)) (e : LoopEntry) (first : LentTally) : Type 0 where
-  pub begun : first.number ≡ 0 → env_of r ≡ (inside (form_of text (kind_at rows i)) (start_at text rows i ρ) (test_of text (kind_at rows i)) (body_at text rows count i))
+  pub begun : env_of r ≡ (inside (form_of text (kind_at rows i)) (start_at text rows i ρ) (test_of text (kind_at rows i)) (body_at text rows count i))
   pub exit : ExitAt text rows count i (start_at text rows i ρ) e.exit
-  pub stopped : (first.number ≡ 0 → ⊥) → of_trip i (trip_at text rows count i ρ) ≡ refused first.number first.place
-  pub whole : first.number ≡ 0 → EntryPassed text π i (test_of text (kind_at rows i)).tested round (kind_at rows i) (trip_at text rows count i ρ) t e first
+  pub whole : EntryPassed text π i (test_of text (kind_at rows i)).tested round (kind_at rows i) (trip_at text rows count i ρ) t e first
+
+-- or it is refused
+abbrev pub Entered : List ℕ → Prices → List Row → ℕ → ℕ → Round → Env → LentTally → List (List ℤ) → Result LoopEntry Refusal → List (List ℕ) → List ℕ → Type 0
+Entered text π rows count i round ρ t r (Ok e) ls os = EnteredAt text π rows count i round ρ t r e (with_lent e.first ls os)
+Entered text π rows count i round ρ t r (Err x) ls os = of_trip i (trip_at text rows count i ρ) ≡ refused x.number x.place
 
 -- a loop has been left, ρ the ranges at its body's start: r holds those after it
 pub record LeftLoop (π : Prices) (k : Kind) (exit : Exit) (round : Round) (t body : Tally) (own : List ℕ) (ρ : Env) (r : List (List ℤ)) (x : Tally) (own' : List ℕ) : Type 0 where

@@ -1,5 +1,5 @@
 -- The analysis as one fold over a block: ranges, verdicts, ticks, lines, the blocks' own ticks, in all passes of one entry of the loop round it. Ticks and totals stop just past the limit.
-use Rattle.std.specs.Prelude.{◌≡◌, ◌⊎◌, not, ◌&&◌, List, [], ◌∷◌, ◌++◌, ℕ, ◌+◌, ◌≤◌, ◌<◌, ℤ, length}
+use Rattle.std.specs.Prelude.{◌≡◌, ◌⊎◌, not, ◌&&◌, List, [], ◌∷◌, ◌++◌, ℕ, ◌+◌, ◌≤◌, ◌<◌, ℤ, Result, Ok, Err, length}
 use Rattle.rules.specs.declared.Row.{Row}
 use Rattle.rules.specs.Blocks.{Block, done, plain, pick, loop}
 use Rattle.rules.specs.Steps.{assigns}
@@ -19,7 +19,9 @@ use Rattle.analysis_intervals.specs.Env.{env_of}
 use Rattle.analysis_ticks.specs.Capped.{capped}
 use Rattle.analysis_ticks.specs.declared.passes.Round.{Round}
 use Rattle.analysis_ticks.specs.Rounds.{round_of, pass_in, FineRound}
-use Rattle.analysis.specs.Tallies.{FoldState, LentTally, tallied}
+use Rattle.analysis.specs.Tallies.{FoldState, LentTally, with_lent, tallied}
+use Rattle.rules.specs.declared.Refusal.{Refusal}
+use Rattle.analysis.specs.declared.tallies.Tally.{Tally}
 use Rattle.analysis.specs.Own.{put_own}
 
 -- how many loops a block has
@@ -69,7 +71,6 @@ folded π r x b = record {
 pub record Walkable (text : List ℕ) (π : Prices) (rows : List Row) (count at : ℕ) (round : Round) (t : LentTally) : Type 0 where
   pub ready : Ready text rows count at
   pub prices : FinePrices π
-  pub number : t.number ≡ 0
   pub small : t.spent ≤ 1_000_000_000_001
   pub fine : FineRound round
   pub room : t.loops + loop_count (block_at text rows count at) ≤ 16
@@ -85,9 +86,9 @@ pub record PassedPart (text : List ℕ) (π : Prices) (rows : List Row) (count a
   pub long : length r.lines ≡ 16
 
 -- or the first loop refused
-pub record Analysed (text : List ℕ) (π : Prices) (rows : List Row) (count at : ℕ) (ρ : Env) (round : Round) (t : LentTally) (ranges : List (List ℤ)) (r : LentTally) : Type 0 where
-  pub stopped : (r.number ≡ 0 → ⊥) → (folded π round (tallied t ρ) (block_at text rows count at)).verdict ≡ refused r.number r.place
-  pub whole : r.number ≡ 0 → PassedPart text π rows count at ρ round t ranges r
+abbrev pub Analysed : List ℕ → Prices → List Row → ℕ → ℕ → Env → Round → LentTally → List (List ℤ) → Result Tally Refusal → List (List ℕ) → List ℕ → Type 0
+Analysed text π rows count at ρ round t ranges (Ok r) ls os = PassedPart text π rows count at ρ round t ranges (with_lent r ls os)
+Analysed text π rows count at ρ round t ranges (Err e) ls os = (folded π round (tallied t ρ) (block_at text rows count at)).verdict ≡ refused e.number e.place
 
 -- a row that begins a block
 abbrev pub IsBlock : Shape → Type 0
@@ -110,6 +111,6 @@ pub record PassedBlock (text : List ℕ) (π : Prices) (rows : List Row) (count 
   pub long : length r.lines ≡ 16
 
 -- or the first loop refused
-pub record PastBlock (text : List ℕ) (π : Prices) (rows : List Row) (count i : ℕ) (ρ : Env) (round : Round) (t : LentTally) (ranges : List (List ℤ)) (r : LentTally) : Type 0 where
-  pub stopped : (r.number ≡ 0 → ⊥) → (folded π round (tallied t ρ) (front_of (block_at text rows count i))).verdict ≡ refused r.number r.place
-  pub whole : r.number ≡ 0 → PassedBlock text π rows count i ρ round t ranges r
+abbrev pub PastBlock : List ℕ → Prices → List Row → ℕ → ℕ → Env → Round → LentTally → List (List ℤ) → Result Tally Refusal → List (List ℕ) → List ℕ → Type 0
+PastBlock text π rows count i ρ round t ranges (Ok r) ls os = PassedBlock text π rows count i ρ round t ranges (with_lent r ls os)
+PastBlock text π rows count i ρ round t ranges (Err e) ls os = (folded π round (tallied t ρ) (front_of (block_at text rows count i))).verdict ≡ refused e.number e.place

@@ -34,9 +34,7 @@ pub record FoldState : Type 0 where
 
 -- the code's tally, with what is lent for the lines and for the blocks' own ticks beside it
 pub record LentTally : Type 0 where
-  pub number : ℕ
   pub kept : Bool
-  pub place : ℕ
   pub over : Option ℕ
   pub spent : ℕ
   pub loops : ℕ
@@ -47,9 +45,7 @@ pub record LentTally : Type 0 where
 -- a tally of the code's with what is lent
 abbrev pub with_lent : Tally → List (List ℕ) → List ℕ → LentTally
 with_lent t ls os = record {
-  number = t.number;
   kept = t.kept;
-  place = t.place;
   over = t.over;
   spent = t.spent;
   loops = t.loops;
@@ -82,8 +78,6 @@ last_ticks text π k = last_price π (head_of text k).last
 
 -- r is t at row `at`, with other ticks spent; its lines and its verdict stay
 pub record Restarted (t : LentTally) (kept : Bool) (spent at : ℕ) (r : LentTally) : Type 0 where
-  pub number : r.number ≡ 0
-  pub place : r.place ≡ 0
   pub next : r.next ≡ at
   pub same : r.lines ≡ t.lines
   pub value : (ρ : Env) → tallied r ρ ≡ record {
@@ -116,8 +110,6 @@ line_for i τ turns total = record { row = i; step = τ.step; turns = turns; tot
 
 -- r is t with one line more, at its end: that of the loop at row i
 pub record LineAdded (t : LentTally) (i : ℕ) (τ : Trip) (turns total spent : ℕ) (kept : Bool) (r : LentTally) : Type 0 where
-  pub number : r.number ≡ 0
-  pub place : r.place ≡ 0
   pub next : r.next ≡ i + 1
   pub long : length r.lines ≡ 16
   pub value : (ρ : Env) → tallied r ρ ≡ record {
@@ -137,8 +129,6 @@ LinePut t ls τ turns total spent kept r ms = (os : List ℕ) → LineAdded (wit
 
 -- the block from row i to row e; ticks: its own; all: those in all passes
 pub record BlockClosed (t inner : LentTally) (i e ticks all : ℕ) (keep : Bool) (r : LentTally) : Type 0 where
-  pub number : r.number ≡ 0
-  pub place : r.place ≡ 0
   pub kept : r.kept ≡ keep
   pub spent : r.spent ≡ capped (t.spent + all)
   pub over : OverOf inner.over e ticks r.over
@@ -159,7 +149,3 @@ larger_part price a b = capped (price + max a.spent b.spent)
 -- a pick whose parts found a and b, in `count` passes
 abbrev pub PickClosed : ℕ → ℕ → Tally → Tally → Tally → List ℕ → Tally → List ℕ → Type 0
 PickClosed price count t a b own r own' = ClosedBy t b own b.next (larger_part price a b) (capped (count * larger_part price a b)) b.kept r own'
-
--- t, refused at the row that was looked at
-abbrev pub refused_by : Tally → ℕ → Tally
-refused_by t number = record { number = number; kept = t.kept; place = t.next; over = t.over; spent = t.spent; loops = t.loops; next = t.next }

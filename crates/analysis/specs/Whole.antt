@@ -12,12 +12,11 @@ use Rattle.analysis.specs.Own.{OwnPut}
 use Rattle.analysis.specs.declared.Figures.{Figures}
 use Rattle.rules.specs.declared.Refusal.{Refusal}
 
--- the first question that has no, from what the walk found
+-- question 13, from what the walk found
 pub data FirstNo (t : Tally) (count : ℕ) (r : Verdict) : Type 0 where
-  of_loop : (t.number ≡ 0 → ⊥) → r ≡ refused t.number t.place → FirstNo t count r
-  of_block : t.number ≡ 0 → (o : ℕ) → t.over ≡ Some o → r ≡ refused 13 o → FirstNo t count r
-  of_file : t.number ≡ 0 → t.over ≡ None → 1_000_000_000_000 < t.spent → r ≡ refused 13 count → FirstNo t count r
-  none : t.number ≡ 0 → t.over ≡ None → t.spent ≤ 1_000_000_000_000 → r ≡ passed → FirstNo t count r
+  of_block : (o : ℕ) → t.over ≡ Some o → r ≡ refused 13 o → FirstNo t count r
+  of_file : t.over ≡ None → 1_000_000_000_000 < t.spent → r ≡ refused 13 count → FirstNo t count r
+  none : t.over ≡ None → t.spent ≤ 1_000_000_000_000 → r ≡ passed → FirstNo t count r
 
 -- what the analysis answers: a verdict, the report's ticks, and how many loops there are; 0 where it is refused
 pub record AnalysisAnswer : Type 0 where

@@ -8,10 +8,10 @@ ghost use Rattle.analysis_steps.specs.Body.{AtLoop};
 ghost use Rattle.analysis_intervals.specs.Env.{env_of, range_of};
 ghost use Rattle.analysis_ticks.specs.Rounds.{FineRound};
 ghost use Rattle.analysis.specs.Tallies.{with_lent};
-ghost use Rattle.analysis.specs.Enter.{ExitOf, PassCountsOf, EnteredAt, LeftLoop};
+ghost use Rattle.analysis.specs.Enter.{ExitOf, PassCountsOf, Entered, LeftLoop};
 ghost use Rattle.analysis.specs.Known.{is_full, not_known, NotedFor};
 
-use crate::tallies::{Tally, closed, last_ticks, lined, refused};
+use crate::tallies::{Tally, closed, last_ticks, lined};
 use analysis_intervals::{Interval, interval_at};
 use analysis_loops::{Loop, loop_at};
 use analysis_ranges::transfer::{at_start, widen};
@@ -20,7 +20,7 @@ use analysis_steps::variable_set::VariableSet;
 use analysis_ticks::passes::{Round, body, walked};
 use analysis_ticks::{loop_ticks, plus, times};
 use analysis_turns::ask;
-use rules::{Kind, Prices};
+use rules::{Kind, Prices, Refusal};
 use table::kind_at;
 
 // How often a loop's passes are taken as they are walked: in its longest entry, and in all passes of the loop round it; and how many
@@ -83,19 +83,13 @@ fn exit_of(one: Loop, ran: PassCounts) -> Exit
     }
 }
 
-// A loop that has been entered: what leaves it, the passes of its body, and what has been found: its line, or its refusal.
+// A loop that has been entered: what leaves it, the passes of its body, and what has been found, its line with it.
 #[derive(Clone, Copy)]
 pub struct LoopEntry {
     pub exit: Exit,
     pub round: Round,
     pub first: Tally,
 }
-
-const NONE: PassCounts = PassCounts {
-    own: 0,
-    all: 0,
-    tests: 0,
-};
 
 // From the ranges before the loop at row t.next to those at its body's start: its questions 19 and 8 to 12, then its line.
 pub fn enter_loop(
@@ -107,11 +101,11 @@ pub fn enter_loop(
     lines: &mut [[u64; 7]; 16],
     t: Tally,
     r: &mut [[i32; 2]; 16],
-) -> LoopEntry
+) -> Result<LoopEntry, Refusal>
     requires { AtLoop text.now (rows_of rows.now) count t.next × FineRound round × FinePrices prices × (t.loops < 16)
         × (length lines.old ≡ 16) }
-    ensures { (os : List ℕ) → EnteredAt text.now prices (rows_of rows.now) count t.next round
-        (env_of r.old) (with_lent t lines.old os) r.new result (with_lent result.first lines.new os) }
+    ensures { (os : List ℕ) → Entered text.now prices (rows_of rows.now) count t.next round
+        (env_of r.old) (with_lent t lines.old os) r.new result lines.new os }
 {
     let i = t.next;
     let kind = kind_at(rows, i);
@@ -119,11 +113,7 @@ pub fn enter_loop(
     let one = loop_at(text, rows, count, i, r);
     let trip = one.trip;
     match ask(trip) {
-        Err(number) => LoopEntry {
-            exit: exit_of(one, NONE),
-            round,
-            first: refused(t, number),
-        },
+        Err(number) => Err(Refusal { number, place: i }),
         Ok(turns) => {
             let kept = kept_at(kind, round.v, t.kept);
             let all = walked(kind, trip, turns, round, kept);
@@ -133,11 +123,11 @@ pub fn enter_loop(
             let first = lined(lines, t, trip, turns, total, spent, inner.known);
             let exit = exit_of(one, pass_counts(inner, turns, all, round.count));
             inside(r, one);
-            LoopEntry {
+            Ok(LoopEntry {
                 exit,
                 round: inner,
                 first,
-            }
+            })
         }
     }
 }

@@ -34,28 +34,22 @@ fn walk_pick(
     own: &mut [u64],
     t: Tally,
     r: &mut [[i32; 2]; 16],
-) -> Tally
+) -> Result<Tally, Refusal>
     requires { AtBlock text.now script.prices (rows_of rows.now) script.count t.next Shape.Branch round
         (with_lent t lines.old own.old) r.old }
     ensures { PastBlock text.now script.prices (rows_of rows.now) script.count t.next
         (env_of r.old) round (with_lent t lines.old own.old)
-        r.new (with_lent result lines.new own.new) }
+        r.new result lines.new own.new }
 {
     let mut first = *r;
     let mut second = *r;
     let part = branch(round);
     let begun = restarted(t, t.next + 1);
-    let a = walk(text, rows, script, part, lines, own, begun, &mut first);
-    if a.number != 0 {
-        return a;
-    }
+    let a = walk(text, rows, script, part, lines, own, begun, &mut first)?;
     let again = restarted(a, past_else(rows, a.next));
-    let b = walk(text, rows, script, part, lines, own, again, &mut second);
-    if b.number != 0 {
-        return b;
-    }
+    let b = walk(text, rows, script, part, lines, own, again, &mut second)?;
     *r = joined(first, second);
-    leave_pick(script.prices.pick, round.count, own, t, a, b)
+    Ok(leave_pick(script.prices.pick, round.count, own, t, a, b))
 }
 
 // The loop at row t.next, from the ranges before it to those after it: its body by the walk.
@@ -69,28 +63,29 @@ fn walk_loop(
     own: &mut [u64],
     t: Tally,
     r: &mut [[i32; 2]; 16],
-) -> Tally
+) -> Result<Tally, Refusal>
     requires { AtBlock text.now script.prices (rows_of rows.now) script.count t.next Shape.Loop round
         (with_lent t lines.old own.old) r.old }
     ensures { PastBlock text.now script.prices (rows_of rows.now) script.count t.next
         (env_of r.old) round (with_lent t lines.old own.old)
-        r.new (with_lent result lines.new own.new) }
+        r.new result lines.new own.new }
 {
     let unknown = to_note(own.len(), r);
-    let entered = enter_loop(text, rows, script.count, round, script.prices, lines, t, r);
-    let first = entered.first;
-    if first.number != 0 {
-        return first;
-    }
-    let inner = entered.round;
+    let entered = enter_loop(text, rows, script.count, round, script.prices, lines, t, r)?;
     let mut inside = *r;
-    let body = walk(text, rows, script, inner, lines, own, first, &mut inside);
-    if body.number != 0 {
-        return body;
-    }
+    let body = walk(
+        text,
+        rows,
+        script,
+        entered.round,
+        lines,
+        own,
+        entered.first,
+        &mut inside,
+    )?;
     let left = leave_loop(rows, entered.exit, round, script.prices, own, t, body, r);
     put_own(own, body.next, unknown);
-    left
+    Ok(left)
 }
 
 // The pick or loop at row t.next, from the ranges before it to those after it.
@@ -104,13 +99,13 @@ fn walk_block(
     own: &mut [u64],
     t: Tally,
     r: &mut [[i32; 2]; 16],
-) -> Tally
+) -> Result<Tally, Refusal>
     requires { AtBlock text.now script.prices (rows_of rows.now) script.count t.next
         (shape_of (kind_at (rows_of rows.now) t.next)) round
         (with_lent t lines.old own.old) r.old × IsBlock (shape_of (kind_at (rows_of rows.now) t.next)) }
     ensures { PastBlock text.now script.prices (rows_of rows.now) script.count t.next
         (env_of r.old) round (with_lent t lines.old own.old)
-        r.new (with_lent result lines.new own.new) }
+        r.new result lines.new own.new }
 {
     match shape_at(rows, t.next) {
         Shape::Branch => walk_pick(text, rows, script, round, lines, own, t, r),
@@ -130,12 +125,12 @@ fn walk(
     own: &mut [u64],
     from: Tally,
     r: &mut [[i32; 2]; 16],
-) -> Tally
+) -> Result<Tally, Refusal>
     requires { Walkable text.now script.prices (rows_of rows.now) script.count from.next round
         (with_lent from lines.old own.old) }
     ensures { Analysed text.now script.prices (rows_of rows.now) script.count from.next
         (env_of r.old) round (with_lent from lines.old own.old)
-        r.new (with_lent result lines.new own.new) }
+        r.new result lines.new own.new }
 {
     let mut t = from;
     while t.next < script.count {
@@ -145,29 +140,20 @@ fn walk(
                 t = past_row(rows, script.prices, round, t);
             }
             Shape::Close => {
-                return t;
+                return Ok(t);
             }
             _ => {
-                t = walk_block(text, rows, script, round, lines, own, t, r);
-                if t.number != 0 {
-                    return t;
-                }
+                t = walk_block(text, rows, script, round, lines, own, t, r)?;
             }
         }
     }
-    t
+    Ok(t)
 }
 
-// 19 and 8 to 12 before 13; of 13 the first block before the file.
+// 13: the first block before the file.
 fn first_no(t: Tally, count: usize) -> Verdict
     ensures { FirstNo t count (verdict_of result) }
 {
-    if t.number != 0 {
-        return Err(Refusal {
-            number: t.number,
-            place: t.place,
-        });
-    }
     if let Some(place) = t.over {
         return Err(Refusal { number: 13, place });
     }
@@ -192,9 +178,7 @@ const ALONE: Round = Round {
 
 // Nothing is found yet.
 const EMPTY: Tally = Tally {
-    number: 0,
     kept: false,
-    place: 0,
     over: None,
     spent: 0,
     loops: 0,
@@ -227,7 +211,7 @@ pub fn analyse(
 {
     let script = PricedRows { count, prices };
     let mut r = ranges;
-    let t = walk(text, rows, script, ALONE, lines, own, EMPTY, &mut r);
+    let t = walk(text, rows, script, ALONE, lines, own, EMPTY, &mut r)?;
     first_no(t, count)?;
     Ok(Figures {
         ticks: t.spent,

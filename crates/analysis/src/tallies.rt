@@ -8,7 +8,7 @@ ghost use Rattle.table.specs.Shapes.{shape_of, plain_of};
 ghost use Rattle.analysis_loops.specs.Found.{trip_of};
 ghost use Rattle.analysis_ticks.specs.Rounds.{FineRound};
 ghost use Rattle.analysis.specs.Tallies.{with_lent, last_ticks, PlainNext, PastPlain};
-ghost use Rattle.analysis.specs.Tallies.{Restarted, LinePut, ClosedBy, PickClosed, refused_by};
+ghost use Rattle.analysis.specs.Tallies.{Restarted, LinePut, ClosedBy, PickClosed};
 
 use analysis_lines::put_line;
 use analysis_loops::trips::Trip;
@@ -19,14 +19,12 @@ use analysis_turns::exact;
 use rules::{Kind, LoopLine, Prices};
 use table::{Shape, Tag, tag_at};
 
-// What a walk has found: a refusal of 19 or 8 to 12 (number 0: none), whether the variable of the loop round the block is known and not
+// What a walk has found: whether the variable of the loop round the block is known and not
 // assigned so far, the `end` row of the first block over the limit, the ticks of all passes of one entry of that loop, how many lines there
 // are so far, and the row that it looks at next.
 #[derive(Clone, Copy)]
 pub struct Tally {
-    pub number: u32,
     pub kept: bool,
-    pub place: usize,
     pub over: Option<usize>,
     pub spent: u64,
     pub loops: usize,
@@ -63,9 +61,7 @@ pub fn past_row(rows: &[u32], prices: Prices, round: Round, t: Tally) -> Tally
     let spent = plus(t.spent, round.count * plain_price(rows, i, prices));
     let kept = t.kept && !sets_it(rows, i, round.v);
     Tally {
-        number: 0,
         kept,
-        place: 0,
         spent,
         next: i + 1,
         ..t
@@ -77,8 +73,6 @@ pub fn restarted(t: Tally, at: usize) -> Tally
     ensures { (ls : List (List ℕ)) (os : List ℕ) → Restarted (with_lent t ls os) t.kept 0 at (with_lent result ls os) }
 {
     Tally {
-        number: 0,
-        place: 0,
         spent: 0,
         next: at,
         ..t
@@ -107,9 +101,7 @@ pub fn lined(
     };
     put_line(lines, t.loops, line);
     Tally {
-        number: 0,
         kept,
-        place: 0,
         over: t.over,
         spent,
         loops: t.loops + 1,
@@ -141,24 +133,11 @@ pub fn closed(
 {
     put_own(own, t.next, ticks);
     Tally {
-        number: 0,
         kept,
-        place: 0,
         over: first_over(inner.over, e, ticks),
         spent: plus(t.spent, all),
         loops: inner.loops,
         next: e + 1,
-    }
-}
-
-// A refusal of the loop at row t.next.
-pub fn refused(t: Tally, number: u32) -> Tally
-    ensures { result ≡ refused_by t number }
-{
-    Tally {
-        number,
-        place: t.next,
-        ..t
     }
 }
 

@@ -10,7 +10,8 @@ use lib.ListN.{length, get_or, take, length-append, length-take}
 use lib.Seq.{get_or-take}
 use lib.Dec.{T}
 use mir.Syntax.{w64}
-use mir.Val.{Fits, SFits}
+use mir.Val.{Fits, SFits, to_z, of_z}
+use mir.Facts.{to_z-of_z}
 use borrow.Author.Tests.{le-leb, lt-leb}
 use Rattle.ints.proofs.Parts.{ints, add_parts, minus_parts}
 use Rattle.rules.specs.declared.LoopLine.{LoopLine}
@@ -24,6 +25,15 @@ use Rattle.report.specs.declared.pieces.Piece.TheVariants.{Fixed, Number}
 use Rattle.report.specs.Pieces.{piece_text, piece_texts, Wrote}
 use Rattle.report.proofs.PiecesLaws.{joined_append}
 use Rattle.report.specs.Lines.{head_text, loops_text}
+
+-- how far a number is from 0, as code finds it
+pub abs_size : {z : ℤ} {r : ℕ} → SFits w64 z → r ≡ nat_abs (to_z w64 (of_z w64 z)) → r ≡ size z
+unfolding size
+abs_size {z} f e = e ∙ ap nat_abs (to_z-of_z f) ∙ by z
+  where
+    by : (z : ℤ) → nat_abs z ≡ size z
+    by (pos n) = refl
+    by (negsuc n) = refl
 
 -- a number below 0: one more, and that turned round
 pub record Below (z : ℤ) : Type 0 where

@@ -11,7 +11,7 @@ ghost use Rattle.analysis_lines.specs.Coded.{lines_in, first_lines, LineTable};
 ghost use Rattle.report.specs.Pieces.{piece_text, piece_texts, Wrote};
 ghost use Rattle.report.specs.Lines.{end_number, head_text, loops_text};
 
-use crate::pieces::{Label, Piece};
+use crate::pieces::{Label, Piece, key_len, line_len, put_key, put_line};
 use analysis_lines::line_at;
 use rules::{LoopLine, Refusal};
 use rules_steps::Step;
@@ -20,47 +20,25 @@ use rules_steps::Step;
 pub fn size(z: i64) -> u64
     ensures { result ≡ size z }
 {
-    if z < 0 {
-        return (0 - (z + 1)) as u64 + 1;
-    }
-    z as u64
+    z.unsigned_abs()
 }
 
 // An end of a step: a change, or a factor.
-#[derive(Clone, Copy)]
+#[derive(Clone, Copy, Debug, PartialEq, Eq)]
 enum End {
     Change(i64),
     Factor(u64),
 }
 
-// A step's two ends.
-#[derive(Clone, Copy)]
-struct Ends {
-    first: End,
-    second: End,
-}
-
-// Both ends of a step, as its kind has them.
-fn both_ends(step: Step) -> Ends
-    ensures { (end_number result.first ≡ first_end step) × (end_number result.second ≡ second_end step) }
+// A step's two ends, as its kind has them.
+#[tactic(auto, unfolding(rules::specs::Report::first_end, rules::specs::Report::second_end))]
+fn both_ends(step: Step) -> (End, End)
+    ensures { (end_number result.0 ≡ first_end step) × (end_number result.1 ≡ second_end step) }
 {
     match step {
-        Step::Add(a, b) => Ends {
-            first: End::Change(a),
-            second: End::Change(b),
-        },
-        Step::Grow(f, g) => Ends {
-            first: End::Factor(f),
-            second: End::Factor(g),
-        },
-        Step::Shrink(f, g) => Ends {
-            first: End::Factor(f),
-            second: End::Factor(g),
-        },
-        Step::Unknown => Ends {
-            first: End::Factor(0),
-            second: End::Factor(0),
-        },
+        Step::Add(a, b) => (End::Change(a), End::Change(b)),
+        Step::Grow(f, g) | Step::Shrink(f, g) => (End::Factor(f), End::Factor(g)),
+        Step::Unknown => (End::Factor(0), End::Factor(0)),
     }
 }
 
@@ -71,15 +49,17 @@ fn end_sign(end: End) -> Piece
     match end {
         End::Change(z) => {
             if z < 0 {
-                return Piece::Fixed(Label::Minus);
+                Piece::Fixed(Label::Minus)
+            } else {
+                Piece::Nothing
             }
-            Piece::Nothing
         }
         End::Factor(_) => Piece::Nothing,
     }
 }
 
 // An end's digits.
+#[tactic(auto, unfolding(rules::specs::Report::size))]
 fn end_size(end: End) -> Piece
     ensures { piece_text result ≡ decimal (size (end_number end)) }
 {
@@ -90,6 +70,7 @@ fn end_size(end: End) -> Piece
 }
 
 // The name of a step's kind.
+#[tactic(auto, unfolding(rules::specs::Report::step_name))]
 fn step_name(step: Step) -> Piece
     ensures { piece_text result ≡ step_name step }
 {
@@ -102,29 +83,28 @@ fn step_name(step: Step) -> Piece
 }
 
 // exact or most.
+#[tactic(auto, unfolding(rules::specs::Report::exact_name))]
 fn exact_name(exact: bool) -> Piece
     ensures { piece_text result ≡ exact_name exact }
 {
     if exact {
-        return Piece::Fixed(Label::Exact);
+        Piece::Fixed(Label::Exact)
+    } else {
+        Piece::Fixed(Label::Most)
     }
-    Piece::Fixed(Label::Most)
 }
 
 // A loop's line.
 fn loop_line(line: LoopLine) -> [Piece; 17]
     ensures { joined (piece_texts result) ≡ loop_line (line_of line) }
 {
-    let step = line.step;
-    let both = both_ends(step);
-    let a = both.first;
-    let b = both.second;
+    let (a, b) = both_ends(line.step);
     let gap = Piece::Fixed(Label::Space);
     [
         Piece::Fixed(Label::Loop),
         Piece::Number(line.row as u64),
         gap,
-        step_name(step),
+        step_name(line.step),
         gap,
         end_sign(a),
         end_size(a),
@@ -145,9 +125,9 @@ fn loop_line(line: LoopLine) -> [Piece; 17]
 fn head_len(rows: usize, loops: usize) -> usize
     ensures { (result ≡ length (head_text rows loops)) × (result ≤ 84) }
 {
-    let first = crate::pieces::key_len(Label::Report, 1)
-        + crate::pieces::key_len(Label::Rows, rows as u64);
-    first + crate::pieces::key_len(Label::Loops, loops as u64)
+    key_len(Label::Report, 1)
+        + key_len(Label::Rows, rows as u64)
+        + key_len(Label::Loops, loops as u64)
 }
 
 // The loops' lines: how many bytes they have.
@@ -156,11 +136,8 @@ fn loops_len(lines: &[[u64; 7]; 16], loops: usize) -> usize
     ensures { (result ≡ length (loops_text (lines_in lines.now) loops)) × (result ≤ 5440) }
 {
     let mut len: usize = 0;
-    let mut k: usize = 0;
-    while k < loops {
-        let line = line_at(lines, k);
-        len += crate::pieces::line_len(loop_line(line));
-        k += 1;
+    for k in 0..loops {
+        len += line_len(loop_line(line_at(lines, k)));
     }
     len
 }
@@ -170,8 +147,7 @@ pub fn report_len(rows: usize, lines: &[[u64; 7]; 16], loops: usize, ticks: u64)
     requires { LineTable loops lines.now }
     ensures { result ≡ length (report_text rows (first_lines lines.now loops) ticks) }
 {
-    let before = head_len(rows, loops) + loops_len(lines, loops);
-    before + crate::pieces::key_len(Label::Ticks, ticks)
+    head_len(rows, loops) + loops_len(lines, loops) + key_len(Label::Ticks, ticks)
 }
 
 // Writes the lines before the loops'.
@@ -179,9 +155,9 @@ fn put_head(rows: usize, loops: usize, buffer: &mut [u8]) -> usize
     requires { length (head_text rows loops) ≤ length buffer.old }
     ensures { Wrote (head_text rows loops) buffer.old buffer.new result }
 {
-    let a = crate::pieces::put_key(Label::Report, 1, buffer);
-    let b = a + crate::pieces::put_key(Label::Rows, rows as u64, &mut buffer[a..]);
-    b + crate::pieces::put_key(Label::Loops, loops as u64, &mut buffer[b..])
+    let a = put_key(Label::Report, 1, buffer);
+    let b = a + put_key(Label::Rows, rows as u64, &mut buffer[a..]);
+    b + put_key(Label::Loops, loops as u64, &mut buffer[b..])
 }
 
 // Writes the loops' lines, each into the unused rest of the buffer.
@@ -190,11 +166,8 @@ fn put_loops(lines: &[[u64; 7]; 16], loops: usize, buffer: &mut [u8]) -> usize
     ensures { Wrote (loops_text (lines_in lines.now) loops) buffer.old buffer.new result }
 {
     let mut at: usize = 0;
-    let mut k: usize = 0;
-    while k < loops {
-        let line = line_at(lines, k);
-        at += crate::pieces::put_line(loop_line(line), &mut buffer[at..]);
-        k += 1;
+    for k in 0..loops {
+        at += put_line(loop_line(line_at(lines, k)), &mut buffer[at..]);
     }
     at
 }
@@ -212,7 +185,7 @@ fn put_lines(
 {
     let a = put_head(rows, loops, buffer);
     let b = a + put_loops(lines, loops, &mut buffer[a..]);
-    b + crate::pieces::put_key(Label::Ticks, ticks, &mut buffer[b..])
+    b + put_key(Label::Ticks, ticks, &mut buffer[b..])
 }
 
 // Writes the report, if the buffer is long enough (question 14).

@@ -4,7 +4,7 @@ ghost use Rattle.rules.specs.Report.{decimal_in, decimal, joined, key_line};
 ghost use Rattle.report.specs.Pieces.{label_text, piece_text, piece_texts, Wrote};
 
 // The fixed texts of a report.
-#[derive(Clone, Copy)]
+#[derive(Clone, Copy, Debug, PartialEq, Eq)]
 pub enum Label {
     Report,
     Rows,
@@ -22,52 +22,33 @@ pub enum Label {
 }
 
 // A part of a line: no bytes, a fixed text, or a number in decimal.
-#[derive(Clone, Copy)]
+#[derive(Clone, Copy, Debug, PartialEq, Eq)]
 pub enum Piece {
     Nothing,
     Fixed(Label),
     Number(u64),
 }
 
-// The bytes of a fixed text, and then zeros.
-fn letters(label: Label) -> [u8; 7]
-    ensures { take (length (label_text label)) result ≡ label_text label }
+// The bytes of a fixed text.
+#[tactic(auto, unfolding(rules::specs::Report::report_key, rules::specs::Report::rows_key, rules::specs::Report::loops_key, rules::specs::Report::loop_key, rules::specs::Report::ticks_key, rules::specs::Report::gap, rules::specs::Report::newline))]
+fn letters(label: Label) -> &'static [u8]
+    ensures text { result.now ≡ label_text label }
+    ensures few { length result.now ≤ 7 }
 {
     match label {
-        Label::Report => [b'r', b'e', b'p', b'o', b'r', b't', b'='],
-        Label::Rows => [b'r', b'o', b'w', b's', b'=', 0, 0],
-        Label::Loops => [b'l', b'o', b'o', b'p', b's', b'=', 0],
-        Label::Loop => [b'l', b'o', b'o', b'p', b'=', 0, 0],
-        Label::Ticks => [b't', b'i', b'c', b'k', b's', b'=', 0],
-        Label::Space => [b' ', 0, 0, 0, 0, 0, 0],
-        Label::Newline => [b'\n', 0, 0, 0, 0, 0, 0],
-        Label::Minus => [b'-', 0, 0, 0, 0, 0, 0],
-        Label::Add => [b'a', b'd', b'd', 0, 0, 0, 0],
-        Label::Grow => [b'g', b'r', b'o', b'w', 0, 0, 0],
-        Label::Shrink => [b's', b'h', b'r', b'i', b'n', b'k', 0],
-        Label::Exact => [b'e', b'x', b'a', b'c', b't', 0, 0],
-        Label::Most => [b'm', b'o', b's', b't', 0, 0, 0],
-    }
-}
-
-// How many bytes a fixed text has.
-fn label_len(label: Label) -> usize
-    ensures { (result ≡ length (label_text label)) × (result ≤ 7) }
-{
-    match label {
-        Label::Report => 7,
-        Label::Rows => 5,
-        Label::Loops => 6,
-        Label::Loop => 5,
-        Label::Ticks => 6,
-        Label::Space => 1,
-        Label::Newline => 1,
-        Label::Minus => 1,
-        Label::Add => 3,
-        Label::Grow => 4,
-        Label::Shrink => 6,
-        Label::Exact => 5,
-        Label::Most => 4,
+        Label::Report => b"report=",
+        Label::Rows => b"rows=",
+        Label::Loops => b"loops=",
+        Label::Loop => b"loop=",
+        Label::Ticks => b"ticks=",
+        Label::Space => b" ",
+        Label::Newline => b"\n",
+        Label::Minus => b"-",
+        Label::Add => b"add",
+        Label::Grow => b"grow",
+        Label::Shrink => b"shrink",
+        Label::Exact => b"exact",
+        Label::Most => b"most",
     }
 }
 
@@ -88,7 +69,7 @@ fn digits_len(k: u32, n: u64) -> usize
 pub fn key_len(key: Label, n: u64) -> usize
     ensures { (result ≡ length (key_line (label_text key) n)) × (result ≤ 28) }
 {
-    label_len(key) + digits_len(20, n) + 1
+    letters(key).len() + digits_len(20, n) + 1
 }
 
 // How many bytes a piece has.
@@ -97,7 +78,7 @@ fn piece_len(piece: Piece) -> usize
 {
     match piece {
         Piece::Nothing => 0,
-        Piece::Fixed(label) => label_len(label),
+        Piece::Fixed(label) => letters(label).len(),
         Piece::Number(n) => digits_len(20, n),
     }
 }
@@ -107,11 +88,8 @@ pub fn line_len(pieces: [Piece; 17]) -> usize
     ensures { (result ≡ length (joined (piece_texts pieces))) × (result ≤ 340) }
 {
     let mut len: usize = 0;
-    let mut i: usize = 0;
-    while i < 17 {
-        let piece = pieces[i];
+    for piece in pieces {
         len += piece_len(piece);
-        i += 1;
     }
     len
 }
@@ -125,11 +103,11 @@ fn put_digits(k: u32, n: u64, out: &mut [u8]) -> usize
         return 0;
     }
     if n < 10 {
-        out[0] = 48 + n as u8;
+        out[0] = b'0' + n as u8;
         return 1;
     }
     let at = put_digits(k - 1, n / 10, out);
-    out[at] = 48 + (n % 10) as u8;
+    out[at] = b'0' + (n % 10) as u8;
     at + 1
 }
 
@@ -138,9 +116,7 @@ fn put_label(label: Label, out: &mut [u8]) -> usize
     requires { length (label_text label) ≤ length out.old }
     ensures { Wrote (label_text label) out.old out.new result }
 {
-    let text = letters(label);
-    let len = label_len(label);
-    byte_slices::copy(&text[..len], out)
+    byte_slices::copy(letters(label), out)
 }
 
 // Writes a key, as its bytes, and a number after it.
@@ -167,9 +143,7 @@ pub fn put_key(key: Label, n: u64, out: &mut [u8]) -> usize
     requires { length (key_line (label_text key) n) ≤ length out.old }
     ensures { Wrote (key_line (label_text key) n) out.old out.new result }
 {
-    let text = letters(key);
-    let len = label_len(key);
-    put_entry(&text[..len], n, out)
+    put_entry(letters(key), n, out)
 }
 
 // Writes a piece.
@@ -190,11 +164,8 @@ pub fn put_line(pieces: [Piece; 17], out: &mut [u8]) -> usize
     ensures { Wrote (joined (piece_texts pieces)) out.old out.new result }
 {
     let mut at: usize = 0;
-    let mut i: usize = 0;
-    while i < 17 {
-        let piece = pieces[i];
+    for piece in pieces {
         at += put_piece(piece, &mut out[at..]);
-        i += 1;
     }
     at
 }

@@ -11,13 +11,15 @@ use Rattle.table.specs.Code.{rows_of}
 use Rattle.table.proofs.Laws.{rows_length}
 use Rattle.analysis_ticks.specs.Capped.{over_of}
 use Rattle.analysis.proofs.Legals.{ready, few_in}
+use Rattle.rules.specs.Questions.{and_then}
+use Rattle.analysis.specs.Fold.{folded}
 use Rattle.analysis.specs.Whole.{FoundOf}
-use Rattle.analysis.proofs.Results.{not_both, result, own_put}
+use Rattle.analysis.proofs.Results.{not_both, result, own_put, stopped, stopped_own}
 use Rattle.analysis.proofs.analyse.Goals as goal
 use Rattle.analysis.proofs.analyse.Goals.{After-first_no}
 
-pub walk-t-requires : goal.walk-t-requires
-walk-t-requires c =
+pub walk-requires : goal.walk-requires
+walk-requires c =
     let a = c.args in
     let rows = rows_of a.rows.now in
     let all : a.count ≤ length rows = omega (arith, c.requires.2, rows_length a.rows.now) in
@@ -26,7 +28,6 @@ walk-t-requires c =
     record {
       ready = ready a.text.now a.ranges vars rows a.count l.0 c.requires.1 all c.requires.5 c.requires.6;
       prices = c.requires.3;
-      number = refl;
       small = omega arith;
       fine = record { few = omega arith; near = omega ints; small = omega arith; var = omega arith };
       room = omega arith;
@@ -34,23 +35,35 @@ walk-t-requires c =
     }
     )
 
+pub returns-in_err-t : goal.returns-in_err-t
+unfolding folded and_then
+returns-in_err-t c =
+    rw (passed_on c.from_residual.result c.in_err-t.field-0.0 c.from_residual.ensures) (λ vars l.
+    let a = c.args in
+    let rows = rows_of a.rows.now in
+    let all : a.count ≤ length rows = omega (arith, c.requires.2, rows_length a.rows.now) in
+    let e = c.in_err-t.field-0.0 in (
+      stopped a.prices c.requires.3 a.text.now a.ranges vars rows a.count l.0 c.requires.1 all l.1 e.number e.place c.in_err-t.ensures c.walk.new.lines,
+      stopped_own a.prices c.requires.3 a.text.now a.ranges vars rows a.count l.0 c.requires.1 all l.1 e.number e.place c.in_err-t.ensures a.own.now c.walk.new.own,
+    ))
+
 -- the answer, from its ticks and its number of lines
-answer : (c : After-first_no) → let a = c.args in let f = verdict_of c.first_no.result in let t = c.walk-t.result in
+answer : (c : After-first_no) → let a = c.args in let f = verdict_of c.first_no.result in let t = c.in_ok-t.t in
     (n : ℕ) → (f ≡ passed → n ≡ t.spent) → (k : ℕ) → (f ≡ passed → k ≡ t.loops) → ((f ≡ passed → ⊥) → (n ≡ 0) × (k ≡ 0))
-    → FoundOf a.prices a.text.now a.ranges (rows_of a.rows.now) a.count (record { verdict = f; ticks = n; loops = k }) c.walk-t.new.lines a.own.now c.walk-t.new.own
+    → FoundOf a.prices a.text.now a.ranges (rows_of a.rows.now) a.count (record { verdict = f; ticks = n; loops = k }) c.walk.new.lines a.own.now c.walk.new.own
 unfolding lines_of over_of
 answer c n u k v free vars l =
     let a = c.args in
     let rows = rows_of a.rows.now in
     let all : a.count ≤ length rows = omega (arith, c.requires.2, rows_length a.rows.now) in
     let f = c.first_no in (
-      result a.prices c.requires.3 a.text.now a.ranges vars rows a.count l.0 c.requires.1 all l.1 _ c.walk-t.result _ refl c.walk-t.ensures (verdict_of f.result) f.ensures n u k v free,
-      own_put a.prices c.requires.3 a.text.now a.ranges vars rows a.count l.0 c.requires.1 all l.1 _ c.walk-t.result _ refl c.walk-t.ensures (verdict_of f.result) f.ensures,
+      result a.prices c.requires.3 a.text.now a.ranges vars rows a.count l.0 c.requires.1 all l.1 _ c.in_ok-t.t _ refl c.in_ok-t.ensures (verdict_of f.result) f.ensures n u k v free,
+      own_put a.prices c.requires.3 a.text.now a.ranges vars rows a.count l.0 c.requires.1 all l.1 _ c.in_ok-t.t _ refl c.in_ok-t.ensures,
     )
 
 pub returns-in_err-first_no : goal.returns-in_err-first_no
 returns-in_err-first_no c =
-    rw (passed_on c.from_residual.result c.in_err-first_no.field-0.0 c.from_residual.ensures) (rw (ap verdict_of c.in_err-first_no.was) at
+    rw (passed_on c.from_residual-in_err-first_no.result c.in_err-first_no.field-0.0 c.from_residual-in_err-first_no.ensures) (rw (ap verdict_of c.in_err-first_no.was) at
     (answer (goal.at.returns-in_err-first_no c).After-first_no 0 (not_both (ap verdict_of c.in_err-first_no.was)) 0 (not_both (ap verdict_of c.in_err-first_no.was)) (λ _. (refl, refl))))
 
 pub returns : goal.returns

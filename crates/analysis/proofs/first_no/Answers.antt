@@ -2,21 +2,18 @@
 use mathlib.Core.Path.{◌≡◌, refl}
 use Prim.Native.Nat.{ℕ}
 use Rattle.std.proofs.Common.{Option, Some, None}
-use Rattle.analysis.specs.Whole.{of_loop, of_block, of_file, none}
+use Rattle.analysis.specs.Whole.{of_block, of_file, none}
 use Rattle.analysis.proofs.first_no.Goals as goal
 
 none_of : (o : Option ℕ) → ((p : ℕ) → o ≡ Some p → ⊥) → o ≡ None
 none_of (Some p) f = absurd (f p refl)
 none_of None f = refl
 
-pub returns-then-t-ne0 : goal.returns-then-t-ne0
-returns-then-t-ne0 c = of_loop c.if-t-ne0.true refl
-
 pub returns-in-Some : goal.returns-in-Some
-returns-in-Some c = of_block c.if-t-ne0.false _ c.in-Some.is refl
+returns-in-Some c = of_block _ c.in-Some.is refl
 
 pub returns-then-t-gt-LIMIT : goal.returns-then-t-gt-LIMIT
-returns-then-t-gt-LIMIT c = of_file c.if-t-ne0.false (none_of _ c.in_default.not-Some) c.if-t-gt-LIMIT.true refl
+returns-then-t-gt-LIMIT c = of_file (none_of _ c.in_default.not-Some) c.if-t-gt-LIMIT.true refl
 
 pub returns : goal.returns
-returns c = none c.if-t-ne0.false (none_of _ c.in_default.not-Some) c.if-t-gt-LIMIT.false refl
+returns c = none (none_of _ c.in_default.not-Some) c.if-t-gt-LIMIT.false refl

@@ -8,7 +8,6 @@ use mathlib.Core.List.{List}
 use Prim.Native.Nat.{ℕ, ◌*◌, ◌≤◌}
 use Rattle.rules.specs.declared.Row.{Row}
 use Rattle.rules.specs.declared.Kind.{Kind}
-use Rattle.rules.specs.Verdicts.{refused}
 use Rattle.rules.specs.Steps.{starts}
 use Rattle.rules.specs.Ranges.{Env, at_start}
 use Rattle.rules.specs.Trips.{Trip, turns_of, inner_of, outer_of}
@@ -29,12 +28,10 @@ use Rattle.analysis_ticks.specs.Capped.{capped}
 use Rattle.analysis_ticks.proofs.Caps.{cap_times}
 use Rattle.analysis_ticks.specs.Rounds.{round_of, pass_in, walked_by, body_of}
 use Rattle.analysis.specs.Tallies.{last_ticks}
-use Rattle.analysis.specs.declared.tallies.Tally.{Tally}
 use Rattle.analysis.specs.declared.entries.Exit.{Exit}
 use Rattle.analysis.specs.declared.entries.PassCounts.{PassCounts}
 use Rattle.analysis.specs.Enter.{start_at, trip_at, walked_at, ExitOf, ExitAt}
 use Rattle.analysis.proofs.Laws.{lined_is, last_small}
-use Rattle.analysis.proofs.Numbers.{trip_number}
 use Rattle.analysis.proofs.entries.enter_loop.Goals as goal
 
 pub kind_at-kind-requires : goal.kind_at-kind-requires
@@ -66,12 +63,7 @@ returns-in-Err c =
     let i = c.args.t.next in
     let one = one_is c.args.text.now (rows_of c.args.rows.now) (env_of c.args.r.now) c.at_start.ensures c.kind_at-kind.ensures c.loop_at-one.ensures in
     let f = subst (FigureOf (trip_of c.loop_at-one.result.trip)) c.in-Err.is c.ask.ensures in
-    λ os. record {
-      begun = λ z. absurd (trip_number i (trip_of c.loop_at-one.result.trip) _ _ (f i) (sym (ap (λ (x : Tally). x.number) c.refused.ensures) ∙ z));
-      exit = exit_is one c.exit_of.ensures;
-      stopped = λ h. ap (of_trip i) (sym one.trip) ∙ f i ∙ (λ j. refused (sym c.refused.ensures j).number (sym c.refused.ensures j).place);
-      whole = λ z. absurd (trip_number i (trip_of c.loop_at-one.result.trip) _ _ (f i) (sym (ap (λ (x : Tally). x.number) c.refused.ensures) ∙ z));
-    }
+    λ os. ap (of_trip i) (sym one.trip) ∙ f i
 
 -- its figure: it has passed, and its turns
 figure : (τ : Trip) {f : Result ℕ ℕ} {turns : ℕ} → f ≡ Ok turns → FigureOf τ f → FigureOf τ (Ok turns)
@@ -120,10 +112,9 @@ returns-in-Ok c = λ os.
     let n = c.body-inner.result.count in
     let k = c.pass_counts.ensures in
     record {
-      begun = λ z. c.inside.ensures ∙ ap (widened c.loop_at-one.result (inner_of (trip_of c.loop_at-one.result.trip))) (begun text rows a.t.next (env_of a.r.now) c.at_start.ensures kd) ∙ inside_is one;
+      begun = c.inside.ensures ∙ ap (widened c.loop_at-one.result (inner_of (trip_of c.loop_at-one.result.trip))) (begun text rows a.t.next (env_of a.r.now) c.at_start.ensures kd) ∙ inside_is one;
       exit = exit_is one c.exit_of-exit.ensures;
-      stopped = λ h. absurd (h l.number);
-      whole = λ z. record {
+      whole = record {
         verdict = ap (of_trip a.t.next) (sym tr) ∙ f.0 a.t.next;
         round = b.0 ∙ (λ j. body_of (tr j) (one.tested j) (tu j) (to j) r);
         fine = b.1;

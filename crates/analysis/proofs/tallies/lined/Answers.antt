@@ -15,4 +15,4 @@ returns c =
     let a = c.args in
     let p = c.put_line.ensures in
     let h : a.t.loops < length (lines_in a.lines.now) = rw (length-map a.lines.now line_in) (search rules) in
-    λ os. record { number = refl; place = refl; next = refl; long = search rules; value = λ ρ. state_is refl refl refl refl refl (ap (λ l. lines_of (take (a.t.loops + 1) l)) p ∙ line_set _ _ _ h ∙ ap (λ e. lines_of (take a.t.loops (lines_in a.lines.now)) ++ (record { row = a.t.next; step = a.trip.step; turns = a.turns; total = a.total; exact = e } ∷ [])) c.exact.ensures) refl refl }
+    λ os. record { next = refl; long = search rules; value = λ ρ. state_is refl refl refl refl refl (ap (λ l. lines_of (take (a.t.loops + 1) l)) p ∙ line_set _ _ _ h ∙ ap (λ e. lines_of (take a.t.loops (lines_in a.lines.now)) ++ (record { row = a.t.next; step = a.trip.step; turns = a.turns; total = a.total; exact = e } ∷ [])) c.exact.ensures) refl refl }

@@ -34,8 +34,6 @@ returns c = λ text ls os.
       | else-t w ↦ w.kept-is ∙ w.if-t.false ∙ sym (ap (λ b. b && not (sets a.round.v row)) w.if-t.false)
     ] in
     record {
-      number = refl;
-      place = refl;
       next = refl;
       same = refl;
       value = λ ρ. state_is refl e refl (c.plus-spent.ensures ∙ ap (λ p. capped (a.t.spent + a.round.count * p)) (c.plain_price.ensures text)) refl refl refl refl;
