@@ -7,7 +7,6 @@ ghost use Rattle.rules.specs.Evaluate.{clamped, combined};
 ghost use Rattle.rules.specs.Parse.{after_term, after_factor};
 ghost use Rattle.expressions.specs.Operators.{in_run, StandsAt};
 
-use ints::min_max::{higher, lower};
 use rules::{Operator, Value};
 
 // An operator's result.
@@ -57,10 +56,7 @@ pub fn combined(operator: Operator, a: Value, b: Value) -> Value
     let q = operate(operator, a.lo, b.hi);
     let r = operate(operator, a.hi, b.lo);
     let s = operate(operator, a.hi, b.hi);
-    let v = held(
-        lower(lower(p, q), lower(r, s)),
-        higher(higher(p, q), higher(r, s)),
-    );
+    let v = held(p.min(q).min(r.min(s)), p.max(q).max(r.max(s)));
     Value {
         lo: v.lo,
         hi: v.hi,
