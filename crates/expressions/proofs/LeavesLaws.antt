@@ -195,9 +195,6 @@ pub record Upto (s : List ℕ) (at v i : ℕ) : Type 0 where
   pub count : at + digit_count (drop at s) ≡ i + digit_count (drop i s)
   pub value : min (digit_value 0 (drop at s)) ceiling ≡ min (digit_value v (drop i s)) ceiling
 
-pub upto_none : (s : List ℕ) (at : ℕ) → Upto s at 0 at
-upto_none s at = record { small = omega arith; count = refl; value = refl }
-
 pub upto_more : (s : List ℕ) (at v i : ℕ) → Upto s at v i → i < length s → is_digit (get_or s i 0) ≡ true → (r : ℕ) → r ≡ min (v * 10 + (get_or s i 0 - 48)) 2_000_000_001 → Upto s at r (suc i)
 unfolding ceiling
 upto_more s at v i u h d r e = record {

@@ -40,9 +40,6 @@ module _ (b : Blocks) (k : Block) where
   unfolding nest_of
   block_opens h l = rw (lt-ltb b.depth 8 h, add-one b.depth, open_next b.depth k b.kinds (omega arith))
 
-  pub block_deep : b.depth ≡ 8 → wrong 7 ≡ cond (ltb b.depth 8) (nest (open_of k ∷ (nest_of b).open_blocks) b.loops) (wrong 7)
-  block_deep h = let l : 8 ≤ b.depth = omega arith in rw (le-ltb b.depth 8 l)
-
 -- a pick opens as any block
 pub pick_opens : (b : Blocks) → cond (ltb b.depth 8) (nest (in_pick ∷ (nest_of b).open_blocks) b.loops) (wrong 7) ≡ opens in_pick (nest_of b).open_blocks b.loops
 unfolding opens nest_of

@@ -2,7 +2,6 @@
 mod Asking
 mod Scanning
 pub mod Cut
-pub mod Variables
 pub mod TextLaws
 pub mod Line
 pub mod WordsLaws

@@ -1,6 +1,6 @@
 -- Laws of the questions on one word. Assumes nothing.
 use mathlib.Core.Path.{◌≡◌, refl, sym}
-use mathlib.Core.Bool.{Bool, true, false, cond, ◌&&◌}
+use mathlib.Core.Bool.{true}
 use mathlib.Core.List.{List, [], ◌∷◌}
 use Prim.Native.Nat.{ℕ, ◌+◌, ◌-◌, ◌≤◌, ◌<◌}
 use native.Mathlib.Omega.{arith}
@@ -11,35 +11,18 @@ use denote.Enum.Declared.{tag_of}
 use Rattle.ints.proofs.Parts.{ints}
 use Rattle.rules.specs.declared.Change.{Change}
 use Rattle.rules.specs.declared.Name.{Name}
-use Rattle.rules.specs.declared.Operand.{Operand}
 use Rattle.rules.specs.declared.Word.{Word}
 use Rattle.rules.specs.declared.Word.TheVariants.{Missing, Number, Variable, Compares, Keyword, Other}
 use Rattle.rules.specs.Parse.{Parsed, shapeless, then_parse, factor_of, expression, read_expression, parse}
-use Rattle.rules.specs.File.{Wrong, asks_end, asks_number, asks_variable, asks_expr, asks_change, asks_step, asks_one, variable_of, number_of, change_of, step_of, first_word}
+use Rattle.rules.specs.File.{Wrong, asks_number, asks_variable, asks_expr, asks_change, asks_step, asks_one, variable_of, number_of, change_of, step_of, first_word}
 use Rattle.rules.specs.contracts.Name.{the_type}
 use Rattle.rules.specs.contracts.Word as word
 use Rattle.rules.proofs.ReadLegal.{variable_yes, number_yes}
 use Rattle.reading.specs.Words.{text_in}
-use Rattle.reading.specs.Meaning.{operand_at}
 
 -- a variable that passes question 5 is small
 pub small_variable : (vars v : ℕ) → vars ≤ 16 → asks_variable vars (Variable v) ≡ 0 → v < 256
 small_variable vars v h e = omega (arith, variable_yes vars (Variable v) e)
-
--- the number 1
-pub one_yes : (z : ℤ) (q : ℕ) → q ≡ asks_number (pos 1) (pos 1) (Number z) → q ≡ 0 → 0 ≡ asks_one (Number z)
-one_yes z q e h = go (le_z (pos 1) z && le_z z (pos 1)) e
-  where
-    go : (b : Bool) → q ≡ cond b 0 4 → ◌≡◌ {A = ℕ} 0 (cond b 0 3)
-    go true f = refl
-    go false f = absurd (omega arith)
-
-pub one_no : (z : ℤ) (q : ℕ) → q ≡ asks_number (pos 1) (pos 1) (Number z) → (q ≡ 0 → ⊥) → 3 ≡ asks_one (Number z)
-one_no z q e h = go (le_z (pos 1) z && le_z z (pos 1)) e
-  where
-    go : (b : Bool) → q ≡ cond b 0 4 → ◌≡◌ {A = ℕ} 3 (cond b 0 3)
-    go true f = absurd (h f)
-    go false f = refl
 
 -- a number inside limits is inside wider ones
 pub number_wider : (lo hi low high : ℤ) (w : Word) → low ≤ℤ lo → hi ≤ℤ high → asks_number lo hi w ≡ 0 → asks_number low high w ≡ 0
@@ -96,28 +79,6 @@ no_variable (Variable v) o = absurd (miss no_variables 2 tt o)
 no_variable (Compares c) o = (λ _. refl, refl)
 no_variable (Keyword n) o = (λ _. refl, refl)
 no_variable Other o = (λ _. refl, refl)
-
-abbrev words : List ℕ
-words = 1 ∷ 2 ∷ 3 ∷ 4 ∷ 5 ∷ []
-
-pub some_word : (w : Word) → OneOf words (tag_of word.the_type w) → 3 ≡ asks_end w
-some_word Missing o = absurd (miss words 0 tt o)
-some_word (Number z) o = refl
-some_word (Variable v) o = refl
-some_word (Compares c) o = refl
-some_word (Keyword n) o = refl
-some_word Other o = refl
-
-abbrev no_operands : List ℕ
-no_operands = 0 ∷ 3 ∷ 4 ∷ 5 ∷ []
-
-pub no_operand : (base at end : ℕ) (w : Word) → OneOf no_operands (tag_of word.the_type w) → Operand.Expression (base + (at + 1)) (end - (at + 1)) ≡ operand_at base at end w
-no_operand base at end Missing o = refl
-no_operand base at end (Number z) o = absurd (miss no_operands 1 tt o)
-no_operand base at end (Variable v) o = absurd (miss no_operands 2 tt o)
-no_operand base at end (Compares c) o = refl
-no_operand base at end (Keyword n) o = refl
-no_operand base at end Other o = refl
 
 abbrev pub no_keywords : List ℕ
 no_keywords = 0 ∷ 1 ∷ 2 ∷ 3 ∷ 5 ∷ []
