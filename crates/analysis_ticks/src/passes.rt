@@ -12,7 +12,8 @@ ghost use Rattle.rules.specs.Questions.{of_trip};
 ghost use Rattle.analysis_steps.specs.Tree.{form_of, test_of};
 ghost use Rattle.analysis_loops.specs.Found.{free_of, trip_of};
 ghost use Rattle.analysis_ticks.specs.Capped.{capped};
-ghost use Rattle.analysis_ticks.specs.Rounds.{round_of, pass_in, FineRound, sums_by, triangle_by, climb_to, Rises, walked_by, branch_of, is_base};
+ghost use Rattle.analysis_ticks.specs.Rounds.{round_of, pass_in, FineRound, sums_by, triangle_by};
+ghost use Rattle.analysis_ticks.specs.Rounds.{climb_to, Rises, walked_by, branch_of, is_base};
 ghost use Rattle.analysis_ticks.specs.Rounds.{body_of};
 
 use crate::{cap, times};

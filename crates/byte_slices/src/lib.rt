@@ -23,10 +23,8 @@ pub fn find(s: &[u8], from: usize, to: usize, b: u8) -> usize
     ensures before { (k : ℕ) → from ≤ k → k < result → slice_index s.now k ≢ b }
     ensures found { result < to → slice_index s.now result ≡ b }
 {
-    for at in from..to {
-        if s[at] == b {
-            return at;
-        }
+    match s[from..to].iter().position(|x| *x == b) {
+        Some(n) => from + n,
+        None => to,
     }
-    to
 }

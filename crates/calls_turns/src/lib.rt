@@ -1,7 +1,7 @@
 // One script's turn in a frame (change 14): it gets its ticks and runs on over its own parts of what is lent.
 #![tactic(auto)]
 
-ghost use Rattle.std.specs.Prelude.{◌≡◌, ◌||◌, ◌+◌, ◌≤◌, ◌<◌, ◌^◌};
+ghost use Rattle.std.specs.Prelude.{◌≡◌, ◌+◌, ◌≤◌, ◌<◌, ◌^◌};
 ghost use Rattle.calls_turns.specs.Progress.{is_spent, is_waiting, FrameFits, new_frame, turn_to, MayTurn, Turned};
 
 use calls_scripts::Held;
@@ -9,7 +9,7 @@ use rules::{Ending, Prices};
 use run_actions::{Machine, Status};
 
 // A script in its frames: its machine, and the last frame that it ran in.
-#[derive(Clone, Copy)]
+#[derive(Clone, Copy, Debug, PartialEq, Eq)]
 pub struct Progress {
     pub machine: Machine,
     pub frame: u64,
@@ -31,34 +31,21 @@ pub const START: Progress = Progress {
 fn is_spent(ending: Ending) -> bool
     ensures { result ≡ is_spent ending }
 {
-    match ending {
-        Ending::Ended => false,
-        Ending::Spent => true,
-        Ending::Range => false,
-        Ending::NoPick => false,
-    }
+    matches!(ending, Ending::Spent)
 }
 
 // Is it not finished?
 pub fn waiting(p: Progress) -> bool
     ensures { result ≡ is_waiting p.machine.status }
 {
-    let m = p.machine;
-    let status = m.status;
-    match status {
+    match p.machine.status {
         Status::Going => true,
         Status::Over(ending, _) => is_spent(ending),
     }
 }
 
-fn either(a: bool, b: bool) -> bool
-    ensures { result ≡ (a || b) }
-{
-    if a { true } else { b }
-}
-
 // A frame so far: the frames before it, the ticks that its scripts took, and whether one of them still waits.
-#[derive(Clone, Copy)]
+#[derive(Clone, Copy, Debug, PartialEq, Eq)]
 pub struct Frame {
     pub earlier: u64,
     pub ticks: u64,
@@ -77,7 +64,7 @@ pub fn new_frame(earlier: u64) -> Frame
 }
 
 // After a turn: the script, and the frame so far.
-#[derive(Clone, Copy)]
+#[derive(Clone, Copy, Debug, PartialEq, Eq)]
 pub struct AfterTurn {
     pub progress: Progress,
     pub frame: Frame,
@@ -93,7 +80,7 @@ pub fn turn_to(from: Machine, to: Machine, q: u64, frame: Frame) -> AfterTurn
         machine: to,
         frame: frame.earlier + 1,
     };
-    let waits = either(frame.waits, waiting(progress));
+    let waits = frame.waits || waiting(progress);
     let frame = Frame {
         earlier: frame.earlier,
         ticks,

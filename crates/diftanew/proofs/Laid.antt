@@ -9,7 +9,9 @@ use lib.Seq.{take_all, take_at, drop_at, set_at, append_snoc, length-take-le, pa
 use Rattle.rules.specs.declared.LoopCount.{LoopCount}
 use Rattle.calls.specs.declared.Outcome.{Outcome}
 use Rattle.calls_frames.specs.declared.Played.{Played}
-use Rattle.diftanew.specs.Numbers.{head_numbers, loop_numbers, numbers_of, script_numbers, all_numbers, in_a_row, filled}
+use Rattle.rules.specs.Calls.{ending_number}
+use Rattle.calls_frames.specs.Answers.{no_frames}
+use Rattle.diftanew.specs.Numbers.{frames_numbers, refused_numbers, head_numbers, loop_numbers, numbers_of, script_numbers, all_numbers, in_a_row, filled}
 
 -- a run's answer has 53 numbers
 up_to_length : (first k : ℕ) (counts : List LoopCount) (head : List ℕ) → length (loop_numbers first k counts head) ≡ length head
@@ -128,3 +130,13 @@ module _ (head : List ℕ) (lines : List (List ℕ)) where
       let D : List ℕ = head ++ in_a_row (take k lines) in
       let size : 7 * (16 - k) ≡ 115 - length D = omega (arith, l.long) in
       l.laid ∙ ap (λ z. D ++ replicate z 0) size ∙ ap (λ z. filled 115 (head ++ in_a_row (take z lines))) e
+
+-- the second number written again
+pub kept_second : (n : ℕ) (l : List ℕ) → set (n ∷ l) 1 (get_or (n ∷ l) 1 0) ≡ n ∷ l
+kept_second n [] = refl
+kept_second n (x ∷ l) = refl
+
+-- of a refused call of frames all numbers but two are 0
+pub refused_frames : (n p script : ℕ) → frames_numbers (no_frames n p script) ≡ set (refused_numbers 433 p) 1 script
+unfolding frames_numbers all_numbers numbers_of head_numbers loop_numbers ending_number
+refused_frames n p script = refl

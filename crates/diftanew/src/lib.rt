@@ -4,20 +4,20 @@
 ghost use Rattle.std.specs.Prelude.{◌≡◌, ◌∷◌, ◌+◌, ◌≤◌, min, length, set, take};
 ghost use Rattle.std.proofs.Math.Seq.{paste};
 ghost use Rattle.rules.specs.Calls.{ending_number};
-ghost use Rattle.loader.specs.Kept.{judgement, verdict_number, ScratchKept};
-ghost use Rattle.loader.specs.Framing.{most_by};
+ghost use Rattle.loader.specs.Kept.{judgement, ScratchKept};
+ghost use Rattle.calls_frames.specs.Answers.{frames_answer};
 ghost use Rattle.calls_lists.specs.Parts.{lent_of};
-ghost use Rattle.diftanew.specs.Numbers.{Reported-in-numbers, first_number, numbers_of, Told-in-numbers, frames_numbers};
+ghost use Rattle.diftanew.specs.Numbers.{Reported-in-numbers, refused_numbers, loop_numbers, numbers_of, Told-in-numbers, frames_numbers};
 ghost use Rattle.rules_live.specs.LiveCalls.{start_reply, step_reply};
 ghost use Rattle.calls_live.specs.Told.{step_lent};
 ghost use Rattle.diftanew.specs.Numbers.{Started-in-numbers, step_numbers, Stepped-in-numbers};
-ghost use Rattle.diftanew.specs.Numbers.{Sevens, filled, in_a_row, script_by, Figured-in-numbers, Framed-in-numbers};
+ghost use Rattle.diftanew.specs.Numbers.{Sevens, filled, in_a_row, Figured-in-numbers, Framed-in-numbers};
 
 use calls::Outcome;
 use calls::figures::Figures;
 use calls_frames::{Frames, Played};
 use calls_live::StepDone;
-use rules::{Ending, Reply, Verdict};
+use rules::{Ending, LoopCount, Refusal};
 
 // The report of a file under four lent prices. Answers 0 for an accepted file, with the report's length in place, or the refusal's number
 // with its place.
@@ -33,15 +33,14 @@ pub extern "C" fn diftanew_report(
         buffer.old buffer.new result place.new }
     ensures scratch { ScratchKept scratch.old scratch.new }
 {
-    let r = loader::report(file, prices, scratch, buffer);
-    match r {
-        Reply::Accepted(n) => {
-            *place = n as u64;
+    match loader::report(file, prices, scratch, buffer) {
+        Ok(length) => {
+            *place = length as u64;
             0
         }
-        Reply::Refused(q, p) => {
-            *place = p as u64;
-            q
+        Err(refusal) => {
+            *place = refusal.place as u64;
+            refusal.number
         }
     }
 }
@@ -58,76 +57,42 @@ fn ending_number(ending: Ending) -> u64
     }
 }
 
-// The first number of an answer: the ending, or a refusal's place.
-fn first_number(o: Outcome) -> u64
-    ensures { result ≡ first_number o }
+// A refusal's place, and zeros behind it. Answers its number.
+fn refuse<const N: usize>(refusal: Refusal, answer: &mut [u64; N]) -> u32
+    requires { 1 ≤ N }
+    ensures number { result ≡ refusal.number }
+    ensures numbers { answer.new ≡ refused_numbers N refusal.place }
 {
-    let verdict = o.verdict;
-    let ending = o.ending;
-    match verdict {
-        Verdict::Passed => ending_number(ending),
-        Verdict::Refused(_, place) => place as u64,
+    answer.fill(0);
+    answer[0] = refusal.place as u64;
+    refusal.number
+}
+
+// The counts of up to 16 loops, each with its head row, from `first` on. A file has no more loops.
+fn put_counts(counts: [LoopCount; 16], loops: usize, first: usize, numbers: &mut [u64])
+    requires { first + 48 ≤ length numbers.old }
+    ensures { numbers.new ≡ loop_numbers first (min loops 16) counts numbers.old }
+{
+    for k in 0..loops.min(16) {
+        let c = counts[k];
+        numbers[first + 3 * k] = c.row as u64;
+        numbers[first + 1 + 3 * k] = c.all;
+        numbers[first + 2 + 3 * k] = c.most;
     }
 }
 
-// 0, or a refusal's number.
-fn verdict_number(verdict: Verdict) -> u32
-    ensures { result ≡ verdict_number verdict }
-{
-    match verdict {
-        Verdict::Passed => 0,
-        Verdict::Refused(number, _) => number,
-    }
-}
-
-// A number of an accepted call, or a refusal's place.
-fn or_place(verdict: Verdict, n: u64) -> u64
-    ensures { result ≡ most_by verdict n }
-{
-    match verdict {
-        Verdict::Passed => n,
-        Verdict::Refused(_, place) => place as u64,
-    }
-}
-
-// A number of an accepted call, or the script that is refused.
-fn or_script(verdict: Verdict, n: u64, script: usize) -> u64
-    ensures { result ≡ script_by verdict n script }
-{
-    match verdict {
-        Verdict::Passed => n,
-        Verdict::Refused(_, _) => script as u64,
-    }
-}
-
-// A file has no more loops.
-fn at_most_16(n: usize) -> usize
-    ensures { result ≡ min n 16 }
-{
-    if n < 16 { n } else { 16 }
-}
-
-// An outcome as numbers.
+// A run as numbers.
 fn numbers(o: Outcome) -> [u64; 53]
     ensures { result ≡ numbers_of o }
 {
-    let loops = o.loops;
     let counts = o.counts;
-    let n = at_most_16(loops);
     let mut a = [0u64; 53];
-    a[0] = first_number(o);
+    a[0] = ending_number(o.ending);
     a[1] = o.row as u64;
     a[2] = o.ticks;
     a[3] = o.used as u64;
-    a[4] = loops as u64;
-    let mut k: usize = 0;
-    while k < n {
-        let c = counts[k];
-        a[5 + 3 * k] = c.row as u64;
-        a[6 + 3 * k] = c.all;
-        a[7 + 3 * k] = c.most;
-        k += 1;
-    }
+    a[4] = o.loops as u64;
+    put_counts(counts, o.loops, 5, &mut a[..]);
     a
 }
 
@@ -147,11 +112,13 @@ pub extern "C" fn diftanew_run(
         store.old store.new picks.now allowance result answer.new }
     ensures scratch { ScratchKept scratch.old scratch.new }
 {
-    let o = loader::run(file, prices, scratch, store, picks, allowance);
-    let n = numbers(o);
-    *answer = n;
-    let verdict = o.verdict;
-    verdict_number(verdict)
+    match loader::run(file, prices, scratch, store, picks, allowance) {
+        Ok(outcome) => {
+            *answer = numbers(outcome);
+            0
+        }
+        Err(refusal) => refuse(refusal, answer),
+    }
 }
 
 // A loop's seven numbers, from `at` on.
@@ -159,29 +126,22 @@ fn put_line(told: [u64; 7], at: usize, answer: &mut [u64; 115])
     requires { (at + 7 ≤ 115) × (length answer.old ≡ 115) }
     ensures { answer.new ≡ paste answer.old at told 7 }
 {
-    let mut i: usize = 0;
-    while i < 7 {
-        answer[at + i] = told[i];
-        i += 1;
-    }
+    answer[at..at + 7].copy_from_slice(&told);
 }
 
 // What a report says as numbers, its loops' one after the other.
 fn figures_numbers(f: Figures, lines: [[u64; 7]; 16]) -> [u64; 115]
     requires { (f.loops ≤ 16) × Sevens f.loops lines }
-    ensures { result ≡ filled 115 (most_by f.verdict f.ticks ∷ f.vars ∷ f.loops ∷ in_a_row (take f.loops lines)) }
+    ensures { result ≡ filled 115 (f.ticks ∷ f.vars ∷ f.loops ∷ in_a_row (take f.loops lines)) }
 {
-    let verdict = f.verdict;
     let loops = f.loops;
     let mut a = [0u64; 115];
-    a[0] = or_place(verdict, f.ticks);
+    a[0] = f.ticks;
     a[1] = f.vars as u64;
     a[2] = loops as u64;
-    let mut k: usize = 0;
-    while k < loops {
+    for k in 0..loops {
         let told = lines[k];
         put_line(told, 3 + 7 * k, &mut a);
-        k += 1;
     }
     a
 }
@@ -198,13 +158,14 @@ pub extern "C" fn diftanew_figures(
     ensures answer { Figured-in-numbers prices.now (judgement prices.now scratch.old file.now) result answer.new }
     ensures scratch { ScratchKept scratch.old scratch.new }
 {
-    let none: [u64; 7] = [0; 7];
-    let mut lines = [none; 16];
-    let f = loader::figures(file, prices, scratch, &mut lines);
-    let n = figures_numbers(f, lines);
-    *answer = n;
-    let verdict = f.verdict;
-    verdict_number(verdict)
+    let mut lines = [[0u64; 7]; 16];
+    match loader::figures(file, prices, scratch, &mut lines) {
+        Ok(figures) => {
+            *answer = figures_numbers(figures, lines);
+            0
+        }
+        Err(refusal) => refuse(refusal, answer),
+    }
 }
 
 // One script's 54 numbers, from `at` on: its frame, then the numbers of a run's answer.
@@ -215,29 +176,21 @@ fn put_script(p: Played, at: usize, answer: &mut [u64; 433])
     let o = p.outcome;
     let n = numbers(o);
     answer[at] = p.frame;
-    let mut i: usize = 0;
-    while i < 53 {
-        answer[at + 1 + i] = n[i];
-        i += 1;
-    }
+    answer[at + 1..at + 54].copy_from_slice(&n);
 }
 
 // A call of frames as numbers.
 #[inline(never)]
 fn frames_numbers(f: Frames) -> [u64; 433]
-    ensures { result ≡ frames_numbers f }
+    ensures { result ≡ frames_numbers (frames_answer (Ok f)) }
 {
-    let verdict = f.verdict;
     let scripts = f.scripts;
     let mut a = [0u64; 433];
-    a[0] = or_place(verdict, f.most);
-    let mut k: usize = 0;
-    while k < 8 {
+    a[0] = f.most;
+    for k in 0..8 {
         let p = scripts[k];
         put_script(p, 1 + 54 * k, &mut a);
-        k += 1;
     }
-    a[1] = or_script(verdict, a[1], f.script);
     a
 }
 
@@ -262,7 +215,7 @@ pub extern "C" fn diftanew_frames(
         q stores.new result answer.new }
     ensures scratch { scratch.new ≡ scratch.old }
 {
-    let f = loader::frames(
+    match loader::frames(
         files,
         file_lengths,
         stores,
@@ -272,11 +225,17 @@ pub extern "C" fn diftanew_frames(
         prices,
         q,
         scratch,
-    );
-    let n = frames_numbers(f);
-    *answer = n;
-    let verdict = f.verdict;
-    verdict_number(verdict)
+    ) {
+        Ok(frames) => {
+            *answer = frames_numbers(frames);
+            0
+        }
+        Err(refused) => {
+            let number = refuse(refused.refusal, answer);
+            answer[1] = refused.script as u64;
+            number
+        }
+    }
 }
 
 // The start of a live run under four lent prices. Answers 0, with the report's ticks and the number of loops, or the refusal's number,
@@ -296,38 +255,30 @@ pub extern "C" fn diftanew_start(
         state.old state.new result answer.new }
     ensures scratch { ScratchKept scratch.old scratch.new }
 {
-    let s = loader::start(file, prices, scratch, store, state);
-    let verdict = s.verdict;
-    let first = or_place(verdict, s.ticks);
-    *answer = [first, s.loops as u64];
-    verdict_number(verdict)
+    match loader::start(file, prices, scratch, store, state) {
+        Ok(started) => {
+            *answer = [started.ticks, started.loops as u64];
+            0
+        }
+        Err(refusal) => refuse(refusal, answer),
+    }
 }
 
 // A step's answer as numbers.
 fn step_numbers(s: StepDone) -> [u64; 56]
     ensures { result ≡ step_numbers s }
 {
-    let verdict = s.verdict;
-    let loops = s.loops;
     let counts = s.counts;
-    let n = at_most_16(loops);
     let mut a = [0u64; 56];
-    a[0] = or_place(verdict, s.status);
+    a[0] = s.status;
     a[1] = s.row as u64;
     a[2] = s.ticks;
     a[3] = s.all_ticks;
     a[4] = s.used as u64;
     a[5] = s.all_used;
     a[6] = s.cues as u64;
-    a[7] = loops as u64;
-    let mut k: usize = 0;
-    while k < n {
-        let c = counts[k];
-        a[8 + 3 * k] = c.row as u64;
-        a[9 + 3 * k] = c.all;
-        a[10 + 3 * k] = c.most;
-        k += 1;
-    }
+    a[7] = s.loops as u64;
+    put_counts(counts, s.loops, 8, &mut a[..]);
     a
 }
 
@@ -351,9 +302,11 @@ pub extern "C" fn diftanew_step(
         result answer.new }
     ensures scratch { ScratchKept scratch.old scratch.new }
 {
-    let s = loader::step(file, prices, scratch, store, state, q, picks, cues);
-    let n = step_numbers(s);
-    *answer = n;
-    let verdict = s.verdict;
-    verdict_number(verdict)
+    match loader::step(file, prices, scratch, store, state, q, picks, cues) {
+        Ok(done) => {
+            *answer = step_numbers(done);
+            0
+        }
+        Err(refusal) => refuse(refusal, answer),
+    }
 }

@@ -2,21 +2,25 @@
 use mathlib.Core.Path.{◌≡◌, refl, sym, ◌∙◌, ap, subst}
 use mathlib.Core.Bool.{Bool, true, false, cond}
 use mathlib.Core.List.{List, [], ◌∷◌}
-use Prim.Native.Nat.{ℕ, zero, suc, ◌≤◌, ◌<◌}
+use Prim.Native.Nat.{ℕ, suc, ◌≤◌, ◌<◌}
 use native.Mathlib.Omega.{arith}
 use lib.Dec.{eqb, ltb, leb}
 use lib.ListN.{length, get_or, drop, drop_of_length-le, length-drop}
 use lib.Seq.{drop-cons}
-use lib.IntN.{ℤ, pos, neg_ℤ, nat_abs}
-use borrow.Author.Tests.{leb-true, leb-false, lt-ltb, eq-eqb, ne_eqb, eqb-true}
+use lib.IntN.{pos, neg_ℤ}
+use borrow.Author.Tests.{leb-true, leb-false, lt-ltb, eq-eqb, ne_eqb}
 use Rattle.rules.specs.declared.Operator.TheVariants.{Add, Sub, Mul}
-use Rattle.rules.specs.Expressions.{Expr, constant, variable, group, apply, Numbers, meaning}
+use Rattle.rules.specs.Expressions.{Expr, group, apply, Numbers, meaning}
 use Rattle.rules.specs.Parse.{Parsed, parsed, shapeless, then_parse, atom, Ahead, operator, other, ahead, after_term, after_factor, close, factor_of, read_expression, read_factor}
 use Rattle.rules.proofs.Parsing.{factor_is}
 use Rattle.expressions.specs.declared.leaves.Leaf.{Leaf}
-use Rattle.expressions.specs.declared.leaves.WholeNumber.{WholeNumber}
-use Rattle.expressions.specs.Leaves.{cut_expr, cut_in, said, neither, leaf_of, LeafAt}
-use Rattle.expressions.specs.Operators.{operator_of, joined_by, is_sum}
+use Rattle.expressions.specs.declared.leaves.Digits.{Digits}
+use Rattle.expressions.specs.declared.leaves.LeafFound.{LeafFound}
+use Rattle.expressions.specs.Leaves.{cut_expr, cut_in, leaf_expr, variable_leaf, constant_leaf, negative_leaf, LeafAt}
+use Rattle.expressions.specs.Operators.{joined_by}
+use Rattle.std.specs.Prelude.{Option, None, Some}
+use Rattle.std.specs.Option.{option_map, option_and_then}
+use Rattle.rules.specs.declared.Operator.{Operator}
 use Rattle.expressions.specs.Evaluating.{shut, Gives}
 
 -- ---- what is read
@@ -34,87 +38,53 @@ unfolding then_parse
 onward_is (parsed x r) h = record { x = x; r = r; first = refl; then = h }
 onward_is shapeless {e = e} {s = s} h = not_parsed e s h
 
--- ---- leaves
-module _ {A : Type 0} (n : Numbers A) (f : ℕ → A) (text : List ℕ) (at : ℕ) (l : Leaf) (h : LeafAt text at l) where
-  leaf_same : (x : Expr) (s : List ℕ) → atom (drop at text) ≡ parsed x s → said l.tag l.value (drop l.next text) ≡ parsed (cut_expr x) s
-  unfolding cut_in
-  leaf_same x s e = h.same ∙ ap cut_in e
-
-  said_variable : l.tag ≡ 2 → (x : Expr) (s : List ℕ) → atom (drop at text) ≡ parsed x s → parsed (variable (nat_abs l.value)) (drop l.next text) ≡ parsed (cut_expr x) s
-  unfolding said
-  said_variable t x s e = rw t at (leaf_same x s e)
-
-  said_constant : (l.tag ≡ 2 → ⊥) → (x : Expr) (s : List ℕ) → atom (drop at text) ≡ parsed x s → parsed (constant l.value) (drop l.next text) ≡ parsed (cut_expr x) s
-  unfolding said
-  said_constant t x s e = by (eqb l.tag 1) (rw (ne_eqb l.tag 2 t) at (leaf_same x s e))
-    where
-      by : (b : Bool) → cond b (parsed (constant l.value) (drop l.next text)) shapeless ≡ parsed (cut_expr x) s → parsed (constant l.value) (drop l.next text) ≡ parsed (cut_expr x) s
-      by true k = k
-      by false k = not_parsed (cut_expr x) s k
-
-  pub operand_variable : l.tag ≡ 2 → Gives n f text (atom (drop at text)) at (f (nat_abs l.value)) l.next
-  unfolding meaning
-  operand_variable t = record {
-    from = h.from;
-    same = λ x s e.
-        let k = said_variable t x s e in
-        let c : variable (nat_abs l.value) ≡ cut_expr x = cc in
-        (ap (λ y. meaning n f y) c, cc);
-  }
-
-  pub operand_constant : (l.tag ≡ 2 → ⊥) → Gives n f text (atom (drop at text)) at (n.of_constant l.value) l.next
-  unfolding meaning
-  operand_constant t = record {
-    from = h.from;
-    same = λ x s e.
-        let k = said_constant t x s e in
-        let c : constant l.value ≡ cut_expr x = cc in
-        (ap (λ y. meaning n f y) c, cc);
-  }
-
 -- ---- leaves by their digits: what is none of them says nothing
 module _ {A : Type 0} (n : Numbers A) (f : ℕ → A) (text : List ℕ) (at : ℕ) where
-  pub no_leaf : {v : A} (k : ℕ) → LeafAt text at (neither k) → Gives n f text (atom (drop at text)) at v k
-  unfolding said cut_in
-  no_leaf k h = record { from = h.from; same = λ x s e. not_parsed (cut_expr x) s (h.same ∙ ap cut_in e) }
+  pub no_leaf : {v : A} (k : ℕ) → at ≤ k → LeafAt text at None → Gives n f text (atom (drop at text)) at v k
+  unfolding cut_in
+  no_leaf k l h = record { from = l; same = λ x s e. not_parsed (cut_expr x) s (h.same ∙ ap cut_in e) }
 
-  module _ (w : WholeNumber) where
-    pub variable_gives : LeafAt text at (leaf_of 2 false w) → Gives n f text (atom (drop at text)) at (f w.value) w.next
-    unfolding leaf_of
-    variable_gives h = by w.good h
+  leaf_gives : (l : LeafFound) → LeafAt text at (Some l) → Gives n f text (atom (drop at text)) at (meaning n f (leaf_expr l.leaf)) l.next
+  unfolding cut_in
+  leaf_gives l h = record {
+    from = h.from;
+    same = λ x s e.
+        let k : parsed (leaf_expr l.leaf) (drop l.next text) ≡ parsed (cut_expr x) s = h.same ∙ ap cut_in e in
+        let c : leaf_expr l.leaf ≡ cut_expr x = cc in
+        (ap (λ y. meaning n f y) c, cc);
+  }
+
+  module _ (d : Digits) (on : at ≤ d.next) where
+    pub variable_gives : (r : Option Digits) → ((x : Digits) → r ≡ Some x → x ≡ d) → LeafAt text at (option_map variable_leaf r) → Gives n f text (atom (drop at text)) at (f d.value) d.next
+    unfolding meaning
+    variable_gives None q h = no_leaf d.next on h
+    variable_gives (Some x) q h = subst (λ x. Gives n f text (atom (drop at text)) at (f x.value) x.next) (q x refl) (leaf_gives (variable_leaf x) h)
+
+    pub constant_gives : (r : Option Digits) → ((x : Digits) → r ≡ Some x → x ≡ d) → LeafAt text at (option_map constant_leaf r) → Gives n f text (atom (drop at text)) at (n.of_constant (pos d.value)) d.next
+    unfolding meaning
+    constant_gives None q h = no_leaf d.next on h
+    constant_gives (Some x) q h = subst (λ x. Gives n f text (atom (drop at text)) at (n.of_constant (pos x.value)) x.next) (q x refl) (leaf_gives (constant_leaf x) h)
+
+    pub negative_gives : (r : Option Digits) → ((x : Digits) → r ≡ Some x → x ≡ d) → LeafAt text at (option_and_then negative_leaf r) → Gives n f text (atom (drop at text)) at (n.of_constant (neg_ℤ (pos d.value))) d.next
+    unfolding meaning
+    negative_gives None q h = no_leaf d.next on h
+    negative_gives (Some x) q h = by (eqb x.value 0) h
       where
-        by : (b : Bool) → LeafAt text at (cond b (record { tag = 2; value = pos w.value; next = w.next }) (neither w.next)) → Gives n f text (atom (drop at text)) at (f w.value) w.next
-        by true k = operand_variable n f text at _ k refl
-        by false k = no_leaf w.next k
-
-    constant_by : (z : ℤ) (b : Bool) → LeafAt text at (cond b (record { tag = 1; value = z; next = w.next }) (neither w.next)) → Gives n f text (atom (drop at text)) at (n.of_constant z) w.next
-    constant_by z true k = operand_constant n f text at _ k (λ (q : ◌≡◌ {A = ℕ} 1 2). omega arith)
-    constant_by z false k = no_leaf w.next k
-
-    pub constant_gives : LeafAt text at (leaf_of 1 false w) → Gives n f text (atom (drop at text)) at (n.of_constant (pos w.value)) w.next
-    unfolding leaf_of
-    constant_gives h = constant_by (pos w.value) w.good h
-
-    pub negative_gives : LeafAt text at (leaf_of 1 true w) → Gives n f text (atom (drop at text)) at (n.of_constant (neg_ℤ (pos w.value))) w.next
-    unfolding leaf_of
-    negative_gives h = by w.good (eqb w.value 0) h
-      where
-        by : (b z : Bool) → LeafAt text at (cond b (cond z (neither w.next) (record { tag = 1; value = neg_ℤ (pos w.value); next = w.next })) (neither w.next)) → Gives n f text (atom (drop at text)) at (n.of_constant (neg_ℤ (pos w.value))) w.next
-        by true true k = no_leaf w.next k
-        by true false k = constant_by (neg_ℤ (pos w.value)) true k
-        by false z k = no_leaf w.next k
+        by : (z : Bool) → LeafAt text at (cond z None (Some (record { leaf = Leaf.Constant (neg_ℤ (pos x.value)); next = x.next }))) → Gives n f text (atom (drop at text)) at (n.of_constant (neg_ℤ (pos d.value))) d.next
+        by true k = no_leaf d.next on k
+        by false k = subst (λ x. Gives n f text (atom (drop at text)) at (n.of_constant (neg_ℤ (pos x.value))) x.next) (q x refl) (leaf_gives (record { leaf = Leaf.Constant (neg_ℤ (pos x.value)); next = x.next }) k)
 
 -- ---- the next byte
 abbrev byte : List ℕ → ℕ → ℕ
 byte text i = get_or text i 0
 
-pub no_factor : (text : List ℕ) (i : ℕ) → i < length text → (byte text i ≡ 42 → ⊥) → after_factor (drop i text) ≡ other
+pub no_factor : (text : List ℕ) (i : ℕ) → (i < length text → byte text i ≡ 42 → ⊥) → after_factor (drop i text) ≡ other
 unfolding after_factor
-no_factor text i h e = rw (drop-cons text i 0 h, ne_eqb (byte text i) 42 e)
-
-pub end_factor : (text : List ℕ) (i : ℕ) → length text ≤ i → after_factor (drop i text) ≡ other
-unfolding after_factor
-end_factor text i h = rw (drop_of_length-le text h)
+no_factor text i f = by (leb (length text) i) refl
+  where
+    by : (t : Bool) → leb (length text) i ≡ t → after_factor (drop i text) ≡ other
+    by true e = rw (drop_of_length-le text (leb-true (length text) i e))
+    by false e = let h = leb-false (length text) i e in rw (drop-cons text i 0 h, ne_eqb (byte text i) 42 (f h))
 
 pub more_factor : (text : List ℕ) (i : ℕ) → i < length text → byte text i ≡ 42 → after_factor (drop i text) ≡ operator Mul (drop (suc i) text)
 unfolding after_factor
@@ -124,29 +94,17 @@ pub end_term : (text : List ℕ) (i : ℕ) → length text ≤ i → after_term 
 unfolding after_term
 end_term text i h = rw (drop_of_length-le text h)
 
-pub no_term : (text : List ℕ) (i : ℕ) → i < length text → is_sum (byte text i) ≡ false → after_term (drop i text) ≡ other
-unfolding after_term is_sum
-no_term text i h e = rw (drop-cons text i 0 h) (by (eqb (byte text i) 43) (eqb (byte text i) 45) e)
-  where
-    by : (p q : Bool) → cond p true q ≡ false → cond p (operator Add (drop (suc i) text)) (cond q (operator Sub (drop (suc i) text)) other) ≡ other
-    by true q k = absurd (let z : ◌≡◌ {A = ℕ} 0 1 = cc in omega arith)
-    by false true k = absurd (let z : ◌≡◌ {A = ℕ} 0 1 = cc in omega arith)
-    by false false k = refl
+pub no_term : (text : List ℕ) (i : ℕ) → i < length text → (byte text i ≡ 43 → ⊥) → (byte text i ≡ 45 → ⊥) → after_term (drop i text) ≡ other
+unfolding after_term
+no_term text i h f g = rw (drop-cons text i 0 h, ne_eqb (byte text i) 43 f, ne_eqb (byte text i) 45 g)
 
-pub more_term : (text : List ℕ) (i : ℕ) → i < length text → is_sum (byte text i) ≡ true → after_term (drop i text) ≡ operator (operator_of (byte text i)) (drop (suc i) text)
-unfolding after_term is_sum operator_of
-more_term text i h e = rw (drop-cons text i 0 h) (by (eqb (byte text i) 43) (eqb (byte text i) 45) refl refl e)
-  where
-    by : (p q : Bool) → eqb (byte text i) 43 ≡ p → eqb (byte text i) 45 ≡ q → cond p true q ≡ true
-        → cond p (operator Add (drop (suc i) text)) (cond q (operator Sub (drop (suc i) text)) other) ≡ operator (cond (eqb (byte text i) 42) Mul (cond p Add Sub)) (drop (suc i) text)
-    by true q a b k = rw (eqb-true (byte text i) 43 a)
-    by false true a b k = rw (eqb-true (byte text i) 45 b)
-    by false false a b k = absurd (let z : ◌≡◌ {A = ℕ} 0 1 = cc in omega arith)
+pub plus_term : (text : List ℕ) (i : ℕ) → i < length text → byte text i ≡ 43 → after_term (drop i text) ≡ operator Add (drop (suc i) text)
+unfolding after_term
+plus_term text i h e = rw (drop-cons text i 0 h, eq-eqb (byte text i) 43 e)
 
-pub sums_later : (b : ℕ) → is_sum b ≡ true → eqb b 0 ≡ false
-unfolding is_sum
-sums_later zero e = absurd (let z : ◌≡◌ {A = ℕ} 0 1 = cc in omega arith)
-sums_later (suc b) e = ne_eqb (suc b) 0 (λ (k : suc b ≡ 0). omega arith)
+pub minus_term : (text : List ℕ) (i : ℕ) → i < length text → byte text i ≡ 45 → after_term (drop i text) ≡ operator Sub (drop (suc i) text)
+unfolding after_term
+minus_term text i h e = rw (drop-cons text i 0 h, e)
 
 -- ---- a factor
 record GroupClosed (y : Expr) (r : List ℕ) (x : Expr) (s : List ℕ) : Type 0 where
@@ -203,60 +161,52 @@ module _ {A : Type 0} (n : Numbers A) (f : ℕ → A) (text : List ℕ) (at : �
 module _ {A : Type 0} (n : Numbers A) (f : ℕ → A) (text : List ℕ) (part : List ℕ → Parsed) (look : List ℕ → Ahead) (chain : (Expr → Expr) → List ℕ → Parsed)
     (is : (left : Expr → Expr) (s : List ℕ) → chain left s ≡ then_parse (part s) λ x r. ahead (look r) (λ o t. chain (apply o (left x)) t) (parsed (left x) r)) where
   -- before a part: what stands before it with its operator, and the text from it on
-  pub record Partly (e : Expr) (s : List ℕ) (op : ℕ) (a : A) (i : ℕ) : Type 0 where
+  pub record Partly (e : Expr) (s : List ℕ) (before : Option (Operator × A)) (i : ℕ) : Type 0 where
     pub left : Expr → Expr
-    pub value : (x : Expr) (v : A) → v ≡ meaning n f (cut_expr x) → joined_by n op a v ≡ meaning n f (cut_expr (left x))
+    pub value : (x : Expr) (v : A) → v ≡ meaning n f (cut_expr x) → joined_by n before v ≡ meaning n f (cut_expr (left x))
     pub rest : chain left (drop i text) ≡ parsed e s
 
-  pub record ChainBegun (at op : ℕ) (a : A) (i : ℕ) : Type 0 where
+  pub record ChainBegun (at : ℕ) (before : Option (Operator × A)) (i : ℕ) : Type 0 where
     pub from : at ≤ i
-    pub same : (e : Expr) (s : List ℕ) → chain (λ x. x) (drop at text) ≡ parsed e s → Partly e s op a i
+    pub same : (e : Expr) (s : List ℕ) → chain (λ x. x) (drop at text) ≡ parsed e s → Partly e s before i
 
   -- after a part: the tree read so far, and what is left to read
-  pub record Tree (e : Expr) (s : List ℕ) (a : A) (i : ℕ) : Type 0 where
-    pub tree : Expr
-    pub value : a ≡ meaning n f (cut_expr tree)
-    pub rest : ahead (look (drop i text)) (λ o t. chain (apply o tree) t) (parsed tree (drop i text)) ≡ parsed e s
+  record Tree (e : Expr) (s : List ℕ) (a : A) (i : ℕ) : Type 0 where
+    tree : Expr
+    value : a ≡ meaning n f (cut_expr tree)
+    rest : ahead (look (drop i text)) (λ o t. chain (apply o tree) t) (parsed tree (drop i text)) ≡ parsed e s
 
-  pub record Chained (at : ℕ) (a : A) (i : ℕ) : Type 0 where
-    pub from : at ≤ i
-    pub same : (e : Expr) (s : List ℕ) → chain (λ x. x) (drop at text) ≡ parsed e s → Tree e s a i
+  pub begins : (at : ℕ) → ChainBegun at None at
+  begins at = record { from = omega arith; same = λ e s k. record { left = λ x. x; value = λ x v h. h; rest = k } }
 
-  pub begins : (at : ℕ) (a : A) → ChainBegun at 0 a at
-  unfolding joined_by
-  begins at a = record { from = omega arith; same = λ e s k. record { left = λ x. x; value = λ x v h. h; rest = k } }
-
-  pub reads : {at op : ℕ} {a : A} {i : ℕ} → ChainBegun at op a i → {v : A} {k : ℕ} → Gives n f text (part (drop i text)) i v k → {w : A} {j : ℕ} → (w ≡ joined_by n op a v) × (j ≡ k) → Chained at w j
-  reads {i = i} b {v = v} g {j = j} (h, m) = record {
-    from = omega (arith, b.from, g.from, m);
-    same = λ e s q.
+  module _ {at : ℕ} {before : Option (Operator × A)} {i : ℕ} (b : ChainBegun at before i) {v : A} {k : ℕ} (g : Gives n f text (part (drop i text)) i v k) {w : A} (h : w ≡ joined_by n before v) where
+    reads : (e : Expr) (s : List ℕ) → chain (λ x. x) (drop at text) ≡ parsed e s → Tree e s w k
+    reads e s q =
         let p = b.same e s q in
         let o = onward_is (part (drop i text)) (sym (is p.left (drop i text)) ∙ p.rest) in
         let (u, d) = g.same o.x o.r o.first in
-        let c : drop j text ≡ o.r = ap (λ y. drop y text) m ∙ d in
-        record { tree = p.left o.x; value = h ∙ p.value o.x v u; rest = rw c o.then };
-  }
+        record { tree = p.left o.x; value = h ∙ p.value o.x v u; rest = rw d o.then }
 
-  pub goes : {at : ℕ} {a : A} {i : ℕ} → Chained at a i → (op : ℕ) → eqb op 0 ≡ false → look (drop i text) ≡ operator (operator_of op) (drop (suc i) text) → ChainBegun at op a (suc i)
-  unfolding ahead joined_by meaning cut_expr
-  goes {a = a} {i = i} c op h l = record {
-    from = omega (arith, c.from);
-    same = λ e s k.
-        let p = c.same e s k in
-        record {
-          left = apply (operator_of op) p.tree;
-          value = λ x v u. rw h (λ t. n.of_operator (operator_of op) (p.value t) (u t));
-          rest = rw l at p.rest;
-        };
-  }
+    pub goes : (o : Operator) → look (drop k text) ≡ operator o (drop (suc k) text) → ChainBegun at (Some (o, w)) (suc k)
+    unfolding ahead meaning cut_expr
+    goes o l = record {
+      from = omega (arith, b.from, g.from);
+      same = λ e s q.
+          let p = reads e s q in
+          record {
+            left = apply o p.tree;
+            value = λ x v u. λ t. n.of_operator o (p.value t) (u t);
+            rest = rw l at p.rest;
+          };
+    }
 
-  pub stops : {at : ℕ} {a : A} {i : ℕ} → Chained at a i → look (drop i text) ≡ other → Gives n f text (chain (λ x. x) (drop at text)) at a i
-  unfolding ahead
-  stops {i = i} c l = record {
-    from = c.from;
-    same = λ e s k.
-        let p = c.same e s k in
-        let r : parsed p.tree (drop i text) ≡ parsed e s = rw l at p.rest in
-        let t : p.tree ≡ e = cc in
-        (p.value ∙ ap (λ y. meaning n f (cut_expr y)) t, cc);
-  }
+    pub stops : look (drop k text) ≡ other → Gives n f text (chain (λ x. x) (drop at text)) at w k
+    unfolding ahead
+    stops l = record {
+      from = omega (arith, b.from, g.from);
+      same = λ e s q.
+          let p = reads e s q in
+          let r : parsed p.tree (drop k text) ≡ parsed e s = rw l at p.rest in
+          let t : p.tree ≡ e = cc in
+          (p.value ∙ ap (λ y. meaning n f (cut_expr y)) t, cc);
+    }

@@ -7,7 +7,7 @@ use native.Mathlib.Omega.{arith}
 use lib.Dec.{leb, eqb}
 use lib.ListN.{length, get_or, drop, drop_of_length-le}
 use lib.Seq.{drop-cons, drop-drop}
-use lib.IntN.{pos, neg_ℤ, nat_abs, ◌-ℤ◌, +ℤ_idl}
+use lib.IntN.{pos, neg_ℤ, ◌-ℤ◌, +ℤ_idl}
 use mir.Syntax.{w32}
 use mir.Val.{SFits, to_z}
 use mir.ValLaws.{to_z_pos}
@@ -17,9 +17,11 @@ use Rattle.rules.specs.declared.Word.TheVariants.{Number, Variable}
 use Rattle.rules.specs.Expressions.{constant}
 use Rattle.rules.specs.Text.{is_digit, all_digits, value_from, is_natural, is_negative, is_variable, comparison_word, block_word, plain_word, word_of}
 use Rattle.rules.specs.Parse.{shapeless, is_mark, up_to_mark, from_mark, leaf, atom}
-use Rattle.expressions.specs.Leaves.{ceiling, digit_count, digit_value, DigitsAt, at_mark, WholeAt, cut_z, cut_expr, cut_in, said, neither, leaf_of, LeafAt}
+use Rattle.expressions.specs.Leaves.{ceiling, digit_count, digit_value, DigitsAt, at_mark, WholeDigits, WholeAt, cut_z, cut_expr, cut_in, variable_leaf, constant_leaf, negative_leaf, LeafAt}
 use Rattle.expressions.specs.declared.leaves.Digits.{Digits}
-use Rattle.expressions.specs.declared.leaves.WholeNumber.{WholeNumber}
+use Rattle.rules.proofs.Laws.{no_true}
+use Rattle.std.specs.Prelude.{Option, None, Some}
+use Rattle.std.specs.Option.{option_map, option_and_then}
 
 pub digit_low : (b : ℕ) → is_digit b ≡ true → 48 ≤ b
 unfolding is_digit
@@ -87,7 +89,7 @@ first_same (b ∷ s) h = by (is_digit b) refl h
     by false e k = absurd (omega arith)
 
 -- ---- numbers not below 0
-natural_yes : (w : List ℕ) → all_digits w ≡ true → 0 < length w → (get_or w 0 0 ≡ 48 → length w ≤ 1) → is_natural w ≡ true
+pub natural_yes : (w : List ℕ) → all_digits w ≡ true → 0 < length w → (get_or w 0 0 ≡ 48 → length w ≤ 1) → is_natural w ≡ true
 unfolding is_natural all_digits
 natural_yes [] a h f = absurd (omega arith)
 natural_yes (b ∷ []) a h f = go (is_digit b) a
@@ -111,13 +113,13 @@ natural_not (b ∷ (c ∷ s)) h = rw h (go (eqb b 48))
     go true = refl
     go false = refl
 
-natural_zero : (w : List ℕ) → 1 < length w → get_or w 0 0 ≡ 48 → is_natural w ≡ false
+pub natural_zero : (w : List ℕ) → 1 < length w → get_or w 0 0 ≡ 48 → is_natural w ≡ false
 unfolding is_natural
 natural_zero [] h e = refl
 natural_zero (b ∷ []) h e = absurd (omega arith)
 natural_zero (b ∷ (c ∷ s)) h e = rw (eq-eqb b 48 e)
 
-natural_none : (w : List ℕ) → length w ≡ 0 → is_natural w ≡ false
+pub natural_none : (w : List ℕ) → length w ≡ 0 → is_natural w ≡ false
 unfolding is_natural
 natural_none [] h = refl
 natural_none (b ∷ s) h = absurd (omega arith)
@@ -220,45 +222,59 @@ pub first_at : (s : List ℕ) (at : ℕ) → 0 < digit_count (drop at s) → get
 first_at s at h = ap (λ l. get_or l 0 0) (drop-cons s at 0 (count_within s at h))
 
 -- ---- a number up to the next mark
-pub whole_bad : (s : List ℕ) (at : ℕ) (d : Digits) → DigitsAt (drop at s) at d → is_natural (up_to_mark (drop at s)) ≡ false → WholeAt s at (record { good = false; value = d.value; next = d.next })
+module _ (s : List ℕ) (at : ℕ) (d : Digits) (h : DigitsAt (drop at s) at d) where
+  counted : d.next ≡ at + digit_count (drop at s)
+  counted = h.next
+
+  pub whole_absent : d.next ≡ at → is_natural (up_to_mark (drop at s)) ≡ false
+  whole_absent e = whole_none (drop at s) (omega (arith, h.next))
+
+  there : drop d.next s ≡ drop (digit_count (drop at s)) (drop at s)
+  there = ap (λ n. drop n s) h.next ∙ sym (drop-drop (digit_count (drop at s)) at s)
+
+  pub whole_stopped : at_mark (drop d.next s) ≡ false → is_natural (up_to_mark (drop at s)) ≡ false
+  whole_stopped m = natural_not (up_to_mark (drop at s)) (stopped (drop at s) (sym (ap at_mark there) ∙ m))
+
+  pub digits_within : (d.next ≡ at → ⊥) → at < length s
+  digits_within f = count_within s at (omega (arith, h.next))
+
+  pub whole_leading : at + 1 < d.next → get_or s at 0 ≡ 48 → is_natural (up_to_mark (drop at s)) ≡ false
+  whole_leading l z = whole_zero (drop at s) (omega (arith, h.next)) (first_at s at (omega (arith, h.next)) ∙ z)
+
+  pub whole_found : (d.next ≡ at → ⊥) → at_mark (drop d.next s) ≡ true → (get_or s at 0 ≡ 48 → d.next ≤ at + 1) → WholeDigits s at d
+  unfolding ceiling
+  whole_found f m z =
+      let some : 0 < digit_count (drop at s) = omega (arith, h.next) in
+      let nought : get_or (drop at s) 0 0 ≡ 48 → digit_count (drop at s) ≤ 1 = λ e. omega (arith, h.next, z (sym (first_at s at some) ∙ e)) in
+      let k = sym (ap at_mark there) ∙ m in
+      record {
+        from = omega (arith, h.next);
+        natural = sym (whole_mark (drop at s) some nought) ∙ k;
+        value = h.value ∙ ap (λ n. min n 2_000_000_001) (whole_value (drop at s) k);
+        rest = there ∙ whole_rest (drop at s) k;
+      }
+
+  -- the number that digits make, or none
+  pub digits_whole : (r : Option Digits) × WholeAt s at r × ((x : Digits) → r ≡ Some x → x ≡ d)
+  digits_whole = by (eqb d.next at) (at_mark (drop d.next s)) (eqb (get_or s at 0) 48) (leb d.next (at + 1)) refl refl refl refl
+    where
+      absent : is_natural (up_to_mark (drop at s)) ≡ false → (r : Option Digits) × WholeAt s at r × ((x : Digits) → r ≡ Some x → x ≡ d)
+      absent e = (None, e, λ x q. cc)
+
+      found : WholeDigits s at d → (r : Option Digits) × WholeAt s at r × ((x : Digits) → r ≡ Some x → x ≡ d)
+      found w = (Some d, w, λ x q. cc)
+
+      by : (a m z l : Bool) → eqb d.next at ≡ a → at_mark (drop d.next s) ≡ m → eqb (get_or s at 0) 48 ≡ z → leb d.next (at + 1) ≡ l → (r : Option Digits) × WholeAt s at r × ((x : Digits) → r ≡ Some x → x ≡ d)
+      by true m z l e f g k = absent (whole_absent (eqb-true d.next at e))
+      by false false z l e f g k = absent (whole_stopped f)
+      by false true true false e f g k = absent (whole_leading (leb-false d.next (at + 1) k) (eqb-true (get_or s at 0) 48 g))
+      by false true true true e f g k = found (whole_found (eqb-false d.next at e) f (λ q. leb-true d.next (at + 1) k))
+      by false true false l e f g k = found (whole_found (eqb-false d.next at e) f (λ q. absurd (eqb-false (get_or s at 0) 48 g q)))
+
+pub whole_small : (s : List ℕ) (at : ℕ) (r : Option Digits) → WholeAt s at r → (x : Digits) → r ≡ Some x → x.value ≤ 2_000_000_001
 unfolding ceiling
-whole_bad s at d h n = record {
-  from = omega (arith, h.next);
-  good = sym n;
-  value = λ e. absurd (let z : ◌≡◌ {A = ℕ} 0 1 = cc in omega arith);
-  rest = λ e. absurd (let z : ◌≡◌ {A = ℕ} 0 1 = cc in omega arith);
-  small = omega (arith, h.value);
-}
-
-pub whole_good : (s : List ℕ) (at : ℕ) (d : Digits) → DigitsAt (drop at s) at d → 0 < digit_count (drop at s) → (get_or (drop at s) 0 0 ≡ 48 → digit_count (drop at s) ≤ 1)
-    → (g : Bool) → g ≡ at_mark (drop d.next s) → WholeAt s at (record { good = g; value = d.value; next = d.next })
-unfolding ceiling
-whole_good s at d h some nought g e =
-    let there : drop d.next s ≡ drop (digit_count (drop at s)) (drop at s) = ap (λ n. drop n s) h.next ∙ sym (drop-drop (digit_count (drop at s)) at s) in
-    let m = e ∙ ap at_mark there in
-    record {
-      from = omega (arith, h.next);
-      good = m ∙ whole_mark (drop at s) some nought;
-      value = λ k. h.value ∙ ap (λ n. min n 2_000_000_001) (whole_value (drop at s) (sym m ∙ k));
-      rest = λ k. there ∙ whole_rest (drop at s) (sym m ∙ k);
-      small = omega (arith, h.value);
-    }
-
--- the number that digits make, good or not
-pub digits_whole : (s : List ℕ) (at : ℕ) (d : Digits) → DigitsAt (drop at s) at d → (g : Bool) × WholeAt s at (record { good = g; value = d.value; next = d.next })
-digits_whole s at d h = some (leb (digit_count u) 0) refl
-  where
-    u : List ℕ
-    u = drop at s
-
-    first : 0 < digit_count u → (m z : Bool) → leb (digit_count u) 1 ≡ m → eqb (get_or u 0 0) 48 ≡ z → (g : Bool) × WholeAt s at (record { good = g; value = d.value; next = d.next })
-    first p true z k e = (at_mark (drop d.next s), whole_good s at d h p (λ q. leb-true (digit_count u) 1 k) (at_mark (drop d.next s)) refl)
-    first p false true k e = (false, whole_bad s at d h (whole_zero u (leb-false (digit_count u) 1 k) (eqb-true (get_or u 0 0) 48 e)))
-    first p false false k e = (at_mark (drop d.next s), whole_good s at d h p (λ q. absurd (eqb-false (get_or u 0 0) 48 e q)) (at_mark (drop d.next s)) refl)
-
-    some : (b : Bool) → leb (digit_count u) 0 ≡ b → (g : Bool) × WholeAt s at (record { good = g; value = d.value; next = d.next })
-    some true e = (false, whole_bad s at d h (whole_none u (omega (arith, leb-true (digit_count u) 0 e))))
-    some false e = first (leb-false (digit_count u) 0 e) (leb (digit_count u) 1) (eqb (get_or u 0 0) 48) refl refl
+whole_small s at None h x e = absurd (let z : ◌≡◌ {A = ℕ} 0 1 = cc in omega arith)
+whole_small s at (Some d) h x e = let k : d ≡ x = cc in rw (← k) (omega (arith, h.value))
 
 -- digits as a number of 32 bits, and with `-` before them
 pub digits_small : (u : List ℕ) (at : ℕ) (d : Digits) → DigitsAt u at d → d.value ≤ 2_000_000_001
@@ -307,54 +323,24 @@ atom_open b t e =
     let g : b ≡ 118 → ⊥ = λ (x : b ≡ 118). omega arith in
     rw (word_other b t f g, natural_other b (up_to_mark t) (rw e), leaf_plain (b ∷ up_to_mark t) (from_mark t))
 
-tag_small : (t : ℕ) (b : Bool) (n : WholeNumber) → t ≤ 2 → (leaf_of t b n).tag ≤ 2
-unfolding leaf_of
-tag_small t b n h = by n.good b (eqb n.value 0) refl refl
-  where
-    by : (g c z : Bool) → n.good ≡ g → eqb n.value 0 ≡ z → (leaf_of t c n).tag ≤ 2
-    by true true true k e = rw (k, e) (omega arith)
-    by true true false k e = rw (k, e) h
-    by true false z k e = rw k h
-    by false c z k e = rw k (omega arith)
-
--- ---- a variable's number is not below 0
-index_whole : (t : ℕ) (n : WholeNumber) → pos (nat_abs (leaf_of t false n).value) ≡ (leaf_of t false n).value
-unfolding leaf_of
-index_whole t n = by n.good refl
-  where
-    by : (g : Bool) → n.good ≡ g → pos (nat_abs (leaf_of t false n).value) ≡ (leaf_of t false n).value
-    by true k = rw k
-    by false k = rw k
-
-index_negative : (n : WholeNumber) → (leaf_of 1 true n).tag ≡ 2 → ⊥
-unfolding leaf_of
-index_negative n q = by n.good (eqb n.value 0) refl refl
-  where
-    by : (g z : Bool) → n.good ≡ g → eqb n.value 0 ≡ z → ⊥
-    by true true k e = omega (arith, rw (k, e) at q)
-    by true false k e = omega (arith, rw (k, e) at q)
-    by false z k e = omega (arith, rw k at q)
-
 -- ---- the leaf at a place
-pub leaf_past : (s : List ℕ) (at : ℕ) → length s ≤ at → LeafAt s at (neither at)
-unfolding said atom cut_in
-leaf_past s at h = record { from = omega arith; same = rw (drop_of_length-le s h); index = λ (q : ◌≡◌ {A = ℕ} 0 2). absurd (omega arith); tags = omega arith }
+pub leaf_past : (s : List ℕ) (at : ℕ) → length s ≤ at → LeafAt s at None
+unfolding atom cut_in
+leaf_past s at h = record { from = tt; same = rw (drop_of_length-le s h) }
 
 module _ (s : List ℕ) (at : ℕ) (within : at < length s) where
   split : drop at s ≡ get_or s at 0 ∷ drop (suc at) s
   split = drop-cons s at 0 within
 
-  pub leaf_variable : get_or s at 0 ≡ 118 → (n : WholeNumber) → WholeAt s (suc at) n → LeafAt s at (leaf_of 2 false n)
-  unfolding said atom cut_in cut_expr leaf_of
-  leaf_variable e n h = by n.good refl
-    where
-      by : (g : Bool) → n.good ≡ g → LeafAt s at (leaf_of 2 false n)
-      by true k = record { from = rw k (omega (arith, h.from)); same = rw (k, split, word_variable (get_or s at 0) (drop (suc at) s) e, sym h.good ∙ k, h.value k, h.rest k); index = λ q. index_whole 2 n; tags = tag_small 2 false n (omega arith) }
-      by false k = record { from = rw k (omega (arith, h.from)); same = rw (k, split, word_variable (get_or s at 0) (drop (suc at) s) e, sym h.good ∙ k, leaf_plain (get_or s at 0 ∷ up_to_mark (drop (suc at) s)) (from_mark (drop (suc at) s))); index = λ q. index_whole 2 n; tags = tag_small 2 false n (omega arith) }
+  pub leaf_variable : get_or s at 0 ≡ 118 → (n : Option Digits) → WholeAt s (suc at) n → LeafAt s at (option_map variable_leaf n)
+  unfolding atom cut_in cut_expr
+  leaf_variable e None h = record { from = tt; same = rw (split, word_variable (get_or s at 0) (drop (suc at) s) e, h, leaf_plain (get_or s at 0 ∷ up_to_mark (drop (suc at) s)) (from_mark (drop (suc at) s))) }
+  leaf_variable e (Some d) h = record { from = omega (arith, h.from); same = rw (split, word_variable (get_or s at 0) (drop (suc at) s) e, h.natural, h.value, h.rest) }
 
-  pub leaf_negative : get_or s at 0 ≡ 45 → (n : WholeNumber) → WholeAt s (suc at) n → LeafAt s at (leaf_of 1 true n)
-  unfolding said atom cut_in cut_expr cut_z leaf_of ceiling
-  leaf_negative e n h = by n.good refl
+  pub leaf_negative : get_or s at 0 ≡ 45 → (n : Option Digits) → WholeAt s (suc at) n → LeafAt s at (option_and_then negative_leaf n)
+  unfolding atom cut_in cut_expr cut_z ceiling
+  leaf_negative e None h = record { from = tt; same = rw (split, word_negative (get_or s at 0) (drop (suc at) s) e, h, leaf_plain (get_or s at 0 ∷ up_to_mark (drop (suc at) s)) (from_mark (drop (suc at) s))) }
+  leaf_negative e (Some d) h = by (eqb d.value 0) refl
     where
       t : List ℕ
       t = drop (suc at) s
@@ -363,21 +349,17 @@ module _ (s : List ℕ) (at : ℕ) (within : at < length s) where
       negative zero f = absurd (f refl)
       negative (suc m) f = refl
 
-      by : (g : Bool) → n.good ≡ g → LeafAt s at (leaf_of 1 true n)
-      by true k = go (eqb n.value 0) refl
-        where
-          go : (z : Bool) → eqb n.value 0 ≡ z → LeafAt s at (leaf_of 1 true n)
-          go true z =
-              let y : eqb (value_from 0 (up_to_mark t)) 0 ≡ true = eq-eqb (value_from 0 (up_to_mark t)) 0 (omega (arith, h.value k, eqb-true n.value 0 z)) in
-              record { from = rw (k, z) (omega (arith, h.from)); same = rw (k, z, split, word_negative (get_or s at 0) t e, sym h.good ∙ k, y, leaf_plain (get_or s at 0 ∷ up_to_mark t) (from_mark t)); index = λ q. absurd (index_negative n q); tags = tag_small 1 true n (omega arith) }
-          go false z =
-              let f : value_from 0 (up_to_mark t) ≡ 0 → ⊥ = λ (x : value_from 0 (up_to_mark t) ≡ 0). eqb-false n.value 0 z (omega (arith, h.value k)) in
-              record { from = rw (k, z) (omega (arith, h.from)); same = rw (k, z, split, word_negative (get_or s at 0) t e, sym h.good ∙ k, ne_eqb (value_from 0 (up_to_mark t)) 0 f, h.value k, h.rest k, negative (value_from 0 (up_to_mark t)) f); index = λ q. absurd (index_negative n q); tags = tag_small 1 true n (omega arith) }
-      by false k = record { from = rw k (omega (arith, h.from)); same = rw (k, split, word_negative (get_or s at 0) t e, sym h.good ∙ k, leaf_plain (get_or s at 0 ∷ up_to_mark t) (from_mark t)); index = λ q. absurd (index_negative n q); tags = tag_small 1 true n (omega arith) }
+      by : (z : Bool) → eqb d.value 0 ≡ z → LeafAt s at (negative_leaf d)
+      by true z =
+          let y : eqb (value_from 0 (up_to_mark t)) 0 ≡ true = eq-eqb (value_from 0 (up_to_mark t)) 0 (omega (arith, h.value, eqb-true d.value 0 z)) in
+          record { from = rw z tt; same = rw (z, split, word_negative (get_or s at 0) t e, h.natural, y, leaf_plain (get_or s at 0 ∷ up_to_mark t) (from_mark t)) }
+      by false z =
+          let f : value_from 0 (up_to_mark t) ≡ 0 → ⊥ = λ (x : value_from 0 (up_to_mark t) ≡ 0). eqb-false d.value 0 z (omega (arith, h.value)) in
+          record { from = rw z (omega (arith, h.from)); same = rw (z, split, word_negative (get_or s at 0) t e, h.natural, ne_eqb (value_from 0 (up_to_mark t)) 0 f, h.value, h.rest, negative (value_from 0 (up_to_mark t)) f) }
 
-  pub leaf_other : (get_or s at 0 ≡ 45 → ⊥) → (get_or s at 0 ≡ 118 → ⊥) → (n : WholeNumber) → WholeAt s at n → LeafAt s at (leaf_of 1 false n)
-  unfolding said atom cut_in cut_expr cut_z leaf_of up_to_mark from_mark is_natural
-  leaf_other f g n h = by (is_mark b) refl
+  pub leaf_other : (get_or s at 0 ≡ 45 → ⊥) → (get_or s at 0 ≡ 118 → ⊥) → (n : Option Digits) → WholeAt s at n → LeafAt s at (option_map constant_leaf n)
+  unfolding atom cut_in cut_expr cut_z up_to_mark from_mark is_natural
+  leaf_other f g n h = by (is_mark b) refl n h
     where
       b : ℕ
       b = get_or s at 0
@@ -385,23 +367,20 @@ module _ (s : List ℕ) (at : ℕ) (within : at < length s) where
       t : List ℕ
       t = drop (suc at) s
 
-      by : (m : Bool) → is_mark b ≡ m → LeafAt s at (leaf_of 1 false n)
-      by true m =
-          let k : n.good ≡ false = h.good ∙ ap (λ l. is_natural (up_to_mark l)) split ∙ rw m in
-          record { from = rw k h.from; same = rw (k, split, word_other b t f g, natural_other b (up_to_mark t) (mark_digit b m), leaf_plain (b ∷ up_to_mark t) (from_mark t)); index = λ q. index_whole 1 n; tags = tag_small 1 false n (omega arith) }
-      by false m = go n.good refl
-        where
-          up : up_to_mark (drop at s) ≡ b ∷ up_to_mark t
-          up = ap up_to_mark split ∙ rw m
+      up : is_mark b ≡ false → up_to_mark (drop at s) ≡ b ∷ up_to_mark t
+      up m = ap up_to_mark split ∙ rw m
 
-          on : from_mark (drop at s) ≡ from_mark t
-          on = ap from_mark split ∙ rw m
+      on : is_mark b ≡ false → from_mark (drop at s) ≡ from_mark t
+      on m = ap from_mark split ∙ rw m
 
-          go : (q : Bool) → n.good ≡ q → LeafAt s at (leaf_of 1 false n)
-          go true k = record {
-            from = rw k h.from;
-            same = rw (k, h.value k ∙ ap (λ l. min (value_from 0 l) ceiling) up, h.rest k ∙ on, split, word_other b t f g, ap is_natural (sym up) ∙ sym h.good ∙ k);
-            index = λ q. index_whole 1 n;
-            tags = tag_small 1 false n (omega arith);
-          }
-          go false k = record { from = rw k h.from; same = rw (k, split, word_other b t f g, ap is_natural (sym up) ∙ sym h.good ∙ k, leaf_plain (b ∷ up_to_mark t) (from_mark t)); index = λ q. index_whole 1 n; tags = tag_small 1 false n (omega arith) }
+      at_once : is_mark b ≡ true → is_natural (up_to_mark (drop at s)) ≡ false
+      at_once m = ap (λ l. is_natural (up_to_mark l)) split ∙ rw m
+
+      by : (m : Bool) → is_mark b ≡ m → (n : Option Digits) → WholeAt s at n → LeafAt s at (option_map constant_leaf n)
+      by true m None h = record { from = tt; same = rw (split, word_other b t f g, natural_other b (up_to_mark t) (mark_digit b m), leaf_plain (b ∷ up_to_mark t) (from_mark t)) }
+      by true m (Some d) h = no_true (sym (at_once m) ∙ h.natural)
+      by false m None h = record { from = tt; same = rw (split, word_other b t f g, ap is_natural (sym (up m)) ∙ h, leaf_plain (b ∷ up_to_mark t) (from_mark t)) }
+      by false m (Some d) h = record {
+        from = h.from;
+        same = rw (h.value ∙ ap (λ l. min (value_from 0 l) ceiling) (up m), h.rest ∙ on m, split, word_other b t f g, ap is_natural (sym (up m)) ∙ h.natural);
+      }

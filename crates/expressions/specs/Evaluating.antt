@@ -1,24 +1,19 @@
 -- What the evaluators' functions give: the analysis has a range for each variable, a run a number.
-use Rattle.std.specs.Prelude.{◌≡◌, false, cond, List, [], ℕ, suc, ◌≤◌, ltb, get_or, drop, ℤ, pos}
+use Rattle.std.specs.Prelude.{◌≡◌, cond, List, [], ℕ, suc, ◌≤◌, ltb, get_or, drop, ℤ, pos}
 use Rattle.rules.specs.declared.Value.{Value}
 use Rattle.rules.specs.Expressions.{Expr, Numbers, meaning}
 use Rattle.rules.specs.Parse.{Parsed, parsed}
-use Rattle.rules.specs.Values.{number}
 use Rattle.rules.specs.Ranges.{Env}
 use Rattle.rules.specs.Evaluate.{not_past}
-use Rattle.rules.specs.Scripts.{store_of}
-use Rattle.expressions.specs.declared.operators.PartRange.{PartRange}
-use Rattle.expressions.specs.declared.operators.PartValue.{PartValue}
 use Rattle.expressions.specs.Leaves.{cut_expr}
-use Rattle.expressions.specs.Operators.{ranges, run_numbers, value_of, part_result}
 
--- a number, before the byte `next`
-abbrev pub came_to : ℤ → ℕ → PartValue
-came_to z next = record { number = z; past = false; next = next }
+-- a number of a list by its index, 0 past the last
+abbrev pub entry : List ℤ → ℕ → ℤ
+entry s i = get_or s i (pos 0)
 
 -- each variable's ends, from two lists
 unfoldable pub values_of : List ℤ → List ℤ → ℕ → Value
-values_of los his w = not_past (get_or los w (pos 0)) (get_or his w (pos 0))
+values_of los his w = not_past (entry los w) (entry his w)
 
 -- each variable's range, from a list of pairs of ends
 unfoldable pub ends_of : List (List ℤ) → Env
@@ -32,11 +27,3 @@ shut next end = cond (ltb next end) (suc next) next
 pub record Gives {A : Type 0} (n : Numbers A) (f : ℕ → A) (text : List ℕ) (p : Parsed) (at : ℕ) (v : A) (next : ℕ) : Type 0 where
   pub from : at ≤ next
   pub same : (x : Expr) (s : List ℕ) → p ≡ parsed x s → (v ≡ meaning n f (cut_expr x)) × (drop next text ≡ s)
-
--- r is what was read, over ranges
-abbrev pub GivesRange : List ℤ → List ℤ → List ℕ → Parsed → ℕ → PartRange → Type 0
-GivesRange los his text p at r = Gives ranges (values_of los his) text p at (value_of r) r.next
-
--- the same in a run
-abbrev pub GivesRun : List ℤ → List ℕ → Parsed → ℕ → PartValue → Type 0
-GivesRun store text p at r = Gives run_numbers (λ w. number (store_of store w)) text p at (part_result r) r.next

@@ -14,10 +14,7 @@ fn member(set: [bool; 16], w: u32) -> bool
     ensures { result ≡ get_or set w false }
 {
     let i = w as usize;
-    if i < 16 {
-        return set[i];
-    }
-    false
+    i < 16 && set[i]
 }
 
 // Does a variable of the set stand at i: a `v` and its number?
@@ -26,10 +23,7 @@ fn names(word: &[u8], i: usize, set: [bool; 16]) -> bool
     requires { i < length word.now }
     ensures { result ≡ eqb (get_or word.now i 0) 118 && get_or set (digit_value 0 (drop (i + 1) word.now)) false }
 {
-    if word[i] == b'v' {
-        return member(set, digits_at(word, i + 1).value);
-    }
-    false
+    word[i] == b'v' && member(set, digits_at(word, i + 1).value)
 }
 
 // 10: is no variable of such an expression in the set that a body assigns?
@@ -37,12 +31,10 @@ pub fn keeps_in(word: &[u8], set: [bool; 16]) -> bool
     requires { PassedWord word.now }
     ensures { (body : Block) → ((w : ℕ) → get_or set w false ≡ assigns w body) → result ≡ keeps (expr_in (parse word.now)) body }
 {
-    let mut i: usize = 0;
-    while i < word.len() {
+    for i in 0..word.len() {
         if names(word, i, set) {
             return false;
         }
-        i += 1;
     }
     true
 }

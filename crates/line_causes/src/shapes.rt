@@ -4,6 +4,7 @@ ghost use Rattle.rules.specs.Text.{equals};
 ghost use Rattle.line_causes.specs.Shapes.{is_variable, is_ordered, is_comparison, is_step, is_bare, is_test, is_expression, fits};
 
 use program_words::{is_number, is_word};
+use reading::order::LineQuestion;
 use reading::questions::question;
 use reading::text::starts_with;
 
@@ -81,10 +82,11 @@ pub fn is_test(t: &[u8]) -> bool
     is_either(t, b"while", b"do")
 }
 
+#[tactic(auto, unfolding(crate::specs::Shapes::is_expression))]
 fn is_expression(t: &[u8]) -> bool
     ensures { result ≡ is_expression t.now }
 {
-    question(t, 16) != 3
+    !matches!(question(t, 16), Err(LineQuestion::Shape))
 }
 
 // Whether a word is what a letter wants.

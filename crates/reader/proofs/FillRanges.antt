@@ -10,7 +10,10 @@ use lib.ListN.{length, get_or, take, drop, set, replicate, length-set, length-dr
 use lib.Seq.{drop-drop, take-suc-set, get_or-set_other}
 use Rattle.rules.specs.File.{refused, range_lines}
 use Rattle.rules.proofs.Laws.{pairs_length, pairs_set}
-use Rattle.reader.specs.declared.lines.Ranged.{Ranged}
+use Rattle.std.specs.Prelude.{Result, Err}
+use Rattle.reading.specs.declared.order.LineQuestion.{LineQuestion}
+use Rattle.reading.specs.Answers.{question_number}
+use Rattle.reader.specs.declared.lines.RangeLine.{RangeLine}
 use Rattle.reader.specs.Lines.{file_lines, range_read, RangeRead}
 use Rattle.reader.specs.Head.{RangeArray, ranges_of, RangesRead}
 use Rattle.rules.specs.Scripts.{pair_range, pair_ranges, BlankFrom}
@@ -40,26 +43,26 @@ less_one n i h = omega arith
 
 module _ (file : List ℕ) (at n : ℕ) (ranges : List (List ℤ)) (next i : ℕ) (u : RangesUpto file at n ranges next i) (small : n ≤ 16) (h : i < n) where
   -- the next line, and then the others
-  step : (r : Ranged) → RangeRead (drop next file) r
+  step : (r : Result RangeLine LineQuestion) → RangeRead (drop next file) r
       → range_lines n 3 (file_lines (drop at file)) [] ≡ range_read (drop next file) (3 + i) (λ x ls. range_lines (n - (i + 1)) (suc (3 + i)) ls (take i (pair_ranges ranges) ++ (x ∷ []))) r
   unfolding range_lines
   step r f = u.same ∙ ap (λ m. range_lines m (3 + i) (file_lines (drop next file)) (take i (pair_ranges ranges))) (less_one n i h) ∙ f.line (3 + i) (λ x ls. range_lines (n - (i + 1)) (suc (3 + i)) ls (take i (pair_ranges ranges) ++ (x ∷ [])))
 
-  pub ranges_more : (a b : ℤ) (k : ℕ) → RangeRead (drop next file) (Ranged.Range a b k) → RangesUpto file at n (set ranges i (a ∷ (b ∷ []))) (next + k) (i + 1)
+  pub ranges_more : (a b : ℤ) (k : ℕ) → RangeRead (drop next file) (Ok (record { lo = a; hi = b; length = k })) → RangesUpto file at n (set ranges i (a ∷ (b ∷ []))) (next + k) (i + 1)
   unfolding range_read
   ranges_more a b k f = record {
     few = omega arith;
     within = omega (arith, f.within, length-drop next file, u.within);
     pairs = record { long = length-set ranges i (a ∷ (b ∷ [])) ∙ u.pairs.long; blank = blank_more ranges i (a ∷ (b ∷ [])) u.pairs.blank };
-    same = step (Ranged.Range a b k) f
+    same = step (Ok (record { lo = a; hi = b; length = k })) f
         ∙ ap (λ (ls : List (List ℕ)). range_lines (n - (i + 1)) (suc (3 + i)) ls (take i (pair_ranges ranges) ++ (record { lo = a; hi = b } ∷ []))) (ap file_lines (drop-drop k next file))
         ∙ ap (λ rs. range_lines (n - (i + 1)) (suc (3 + i)) (file_lines (drop (next + k) file)) rs) (sym (pairs_more ranges i (a ∷ (b ∷ [])) (omega (arith, u.pairs.long))))
         ∙ rw (add-one i) (ap (λ p. range_lines (n - suc i) p (file_lines (drop (next + k) file)) (take (suc i) (pair_ranges (set ranges i (a ∷ (b ∷ [])))))) (omega arith));
   }
 
-  pub ranges_wrong : (q : ℕ) → RangeRead (drop next file) (Ranged.Wrong q) → range_lines n 3 (file_lines (drop at file)) [] ≡ refused q (3 + i)
+  pub ranges_wrong : (q : LineQuestion) → RangeRead (drop next file) (Err q) → range_lines n 3 (file_lines (drop at file)) [] ≡ refused (question_number q) (3 + i)
   unfolding range_read
-  ranges_wrong q f = step (Ranged.Wrong q) f
+  ranges_wrong q f = step (Err q) f
 
 pub ranges_all : (file : List ℕ) (at n : ℕ) (ranges : List (List ℤ)) (next i : ℕ) → RangesUpto file at n ranges next i → n ≤ i → RangesRead file at n (Ok next) ranges
 unfolding range_lines ranges_of

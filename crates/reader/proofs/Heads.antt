@@ -13,17 +13,18 @@ use borrow.Author.Tests.{le-leb, lt-leb}
 use Rattle.rules.specs.Ranges.{Range}
 use Rattle.rules.specs.Scripts.{Script, pair_ranges}
 use Rattle.rules.specs.File.{Reading, refused, then_lines, last_line, row_lines, no_rows, count_line, vars_key, script_line, rows_key, row_part, range_part, lines_script, file_script}
-use Rattle.reader.specs.declared.lines.CountLine.{CountLine}
+use Rattle.reading.specs.declared.order.LineQuestion.{LineQuestion}
+use Rattle.reading.specs.Answers.{question_number}
 use Rattle.reader.specs.Lines.{file_lines, count_of, CountRead}
 use Rattle.reader.specs.Head.{HeadAnswer, RangeArray, ranges_of, RangesWithin, RangesRead, no_head, HeadWithin, CountPart, HeadRead, NotTooLong, passing, head_read}
 
 -- a part that the next one follows
-pub after_count : {B : Type 0} (key file : List ℕ) (at most p n k : ℕ) (f : ℕ → List (List ℕ) → Reading B) → CountRead key (drop at file) most (CountLine.Count n k)
+pub after_count : {B : Type 0} (key file : List ℕ) (at most p n k : ℕ) (f : ℕ → List (List ℕ) → Reading B) → CountRead key (drop at file) most (Ok (record { count = n; length = k }))
     → then_lines (count_line key most p (file_lines (drop at file))) f ≡ f n (file_lines (drop (at + k) file))
 unfolding then_lines count_of
 after_count key file at most p n k f h = ap (λ r. then_lines r f) (h.line p) ∙ ap (λ (s : List ℕ). f n (file_lines s)) (drop-drop k at file)
 
-pub after_wrong : {B : Type 0} (key rest : List ℕ) (most p q : ℕ) (f : ℕ → List (List ℕ) → Reading B) → CountRead key rest most (CountLine.Wrong q) → then_lines (count_line key most p (file_lines rest)) f ≡ refused q p
+pub after_wrong : {B : Type 0} (key rest : List ℕ) (most p : ℕ) (q : LineQuestion) (f : ℕ → List (List ℕ) → Reading B) → CountRead key rest most (Err q) → then_lines (count_line key most p (file_lines rest)) f ≡ refused (question_number q) p
 unfolding then_lines count_of
 after_wrong key rest most p q f h = ap (λ r. then_lines r f) (h.line p)
 
@@ -47,15 +48,15 @@ module _ (file : List ℕ) (at vars : ℕ) where
   abbrev rows_on : List Range → ℕ → List (List ℕ) → Reading Script
   rows_on rs n more = then_lines (row_lines vars n (4 + vars) more no_rows) (λ rows rest. last_line (4 + vars + n) rs rows rest)
 
-  pub count_refused : (h : HeadAnswer) (q : ℕ) → h ≡ no_head q (3 + vars) → CountRead rows_key (drop at file) 256 (CountLine.Wrong q) → CountPart file at vars h
+  pub count_refused : (h : HeadAnswer) (q : LineQuestion) → h ≡ no_head (question_number q) (3 + vars) → CountRead rows_key (drop at file) 256 (Err q) → CountPart file at vars h
   unfolding head_read passing row_part
   count_refused h q e r = rw e (record {
     script = λ ranges. sym (after_wrong rows_key (drop at file) 256 (3 + vars) q (rows_on (take vars (pair_ranges ranges))) r);
     same = λ z. absurd (let y : ◌≡◌ {A = ℕ} 0 1 = cc in omega arith);
-    within = none_within file q (3 + vars);
+    within = none_within file (question_number q) (3 + vars);
   })
 
-  pub count_says : (n k : ℕ) → CountRead rows_key (drop at file) 256 (CountLine.Count n k) → at ≤ length file → vars ≤ 16 → CountPart file at vars (record { verdict = Passed; vars = vars; count = n; at = at + k })
+  pub count_says : (n k : ℕ) → CountRead rows_key (drop at file) 256 (Ok (record { count = n; length = k })) → at ≤ length file → vars ≤ 16 → CountPart file at vars (record { verdict = Passed; vars = vars; count = n; at = at + k })
   unfolding head_read passing row_part
   count_says n k r h small = record {
     script = λ ranges. sym (after_count rows_key file at 256 (3 + vars) n k (rows_on (take vars (pair_ranges ranges))) r);
@@ -88,11 +89,11 @@ module _ {file : List ℕ} {at n : ℕ} {r : Result ℕ Refusal} {ranges : List 
   }
 
 -- the first line, and then the others
-pub script_then : (file : List ℕ) (n k : ℕ) → length file ≤ 16_384 → script_line (file_lines file) ≡ count_of file 1 (CountLine.Count n k) → then_lines (count_line vars_key 16 2 (file_lines (drop k file))) range_part ≡ file_script file
+pub script_then : (file : List ℕ) (n k : ℕ) → length file ≤ 16_384 → script_line (file_lines file) ≡ count_of file 1 (Ok (record { count = n; length = k })) → then_lines (count_line vars_key 16 2 (file_lines (drop k file))) range_part ≡ file_script file
 unfolding file_script lines_script then_lines count_of
 script_then file n k h e = rw (le-leb (length file) 16_384 h, e) refl
 
-pub script_refused : (file : List ℕ) (q : ℕ) → length file ≤ 16_384 → script_line (file_lines file) ≡ count_of file 1 (CountLine.Wrong q) → refused q 1 ≡ file_script file
+pub script_refused : (file : List ℕ) (q : LineQuestion) → length file ≤ 16_384 → script_line (file_lines file) ≡ count_of file 1 (Err q) → refused (question_number q) 1 ≡ file_script file
 unfolding file_script lines_script then_lines count_of
 script_refused file q h e = rw (le-leb (length file) 16_384 h, e) refl
 

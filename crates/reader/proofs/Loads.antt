@@ -11,11 +11,10 @@ use lib.Seq.{length-take-le}
 use Rattle.rules.specs.declared.Row.{Row}
 use Rattle.rules.specs.Verdicts.{Verdict}
 use Rattle.rules.specs.Verdicts.{passed as Passed, refused as Refused}
-use Rattle.rules.specs.Questions
 use Rattle.rules.specs.Questions.{asked}
 use Rattle.rules.proofs.Laws.{kinds_first, pairs_length}
 use Rattle.rules.specs.Blocks.{kinds_of}
-use borrow.Author.Tests.{eq-eqb, ne_eqb, eqb-true, eqb-false, ltb-true, ltb-false}
+use borrow.Author.Tests.{eqb-true, eqb-false, ltb-true, ltb-false}
 use Rattle.rules.specs.Ranges.{Range}
 use Rattle.rules.specs.Scripts.{Script, pair_ranges, BlankFrom, script_of}
 use Rattle.rules.specs.Text.{prefixed, split}
@@ -23,10 +22,13 @@ use Rattle.rules.specs.File.{Reading, read, refused, then_lines, unless, turn_of
 use Rattle.reader.specs.Open.{nest_of}
 use Rattle.reader.proofs.NestingLaws.{closed_depth, open_depth}
 use Rattle.reader.specs.Lines.{file_lines}
-use Rattle.reader.specs.Head.{HeadAnswer, HeadRead, passing, head_read}
-use Rattle.reader.specs.Read.{LoadAnswer, rows_verdict, if_read, read_answer, loaded_answer, WrittenRows, RowsPart, ReadAs}
+use Rattle.reader.specs.Head.{HeadAnswer, HeadRead, head_answer, passing, head_read}
+use Rattle.reader.specs.declared.head.Head.{Head}
+use Rattle.reader.specs.declared.nesting.Blocks.{Blocks}
+use Rattle.std.specs.Prelude.{Ok, not}
+use Rattle.reader.specs.Read.{LoadAnswer, end_verdict, if_read, read_answer, loaded_answer, WrittenRows, RowsPart, ReadAs}
 use Rattle.reader.proofs.NextLine.{split_some}
-use Rattle.reader.proofs.FillRows.{Stop, given, RowsRead}
+use Rattle.reader.proofs.FillRows.{RowsRead}
 
 -- bytes after the last line
 rest_some : (s : List ℕ) → 0 < length s → asks_rest (file_lines s) ≡ 3
@@ -43,86 +45,56 @@ unfolding split
 rest_none [] h = refl
 rest_none (x ∷ t) h = absurd (omega arith)
 
-module _ (file : List ℕ) (at vars n : ℕ) (l : Stop) (f : RowsRead file at vars n l) (ranges : List Range) where
-  pub rows_refused : (l.number ≡ 0 → ⊥) → then_lines (row_lines vars n (4 + vars) (file_lines (drop at file)) no_rows) (last_line (4 + vars + n) ranges) ≡ refused l.number l.place
-  unfolding then_lines given
-  rows_refused z = rw (f.same, ne_eqb l.number 0 z) refl
+module _ (file : List ℕ) (at vars n next : ℕ) (blocks : Blocks) (rows : List Row) (f : RowsRead file at vars n next blocks rows) (ranges : List Range) where
+  -- the rows are read: the line after the last
+  last : then_lines (row_lines vars n (4 + vars) (file_lines (drop at file)) no_rows) (last_line (4 + vars + n) ranges)
+      ≡ last_line (4 + vars + n) ranges (record { kinds = take n (kinds_of file rows); nest = nest_of blocks }) (file_lines (drop next file))
+  unfolding then_lines
+  last = rw f.same refl
 
-  module _ (z : l.number ≡ 0) where
-    -- the rows are read: the line after the last
-    last : then_lines (row_lines vars n (4 + vars) (file_lines (drop at file)) no_rows) (last_line (4 + vars + n) ranges)
-        ≡ last_line (4 + vars + n) ranges (record { kinds = take n (kinds_of file l.rows); nest = nest_of l.blocks }) (file_lines (drop l.at file))
-    unfolding then_lines given
-    last = rw (f.same, eq-eqb l.number 0 z) refl
+  ends_at : length file ≤ next → file_lines (drop next file) ≡ [] ∷ []
+  ends_at h = rest_none (drop next file) (omega (arith, length-drop next file))
 
-    ends_at : length file ≤ l.at → file_lines (drop l.at file) ≡ [] ∷ []
-    ends_at h = rest_none (drop l.at file) (omega (arith, length-drop l.at file))
+  by_depth : {A : Type 0} → (asks_closed (nest_of blocks).open_blocks ≡ 0 → A) → (asks_closed (nest_of blocks).open_blocks ≡ 6 → A) → A
+  by_depth {A = A} f g = go (eqb blocks.depth 0) refl
+    where
+      go : (b : Bool) → eqb blocks.depth 0 ≡ b → A
+      go true e = f (closed_depth blocks (eqb-true _ _ e))
+      go false e = g (open_depth blocks (eqb-false _ _ e))
 
-    by_depth : {A : Type 0} → (asks_closed (nest_of l.blocks).open_blocks ≡ 0 → A) → (asks_closed (nest_of l.blocks).open_blocks ≡ 6 → A) → A
-    by_depth {A = A} f g = go (eqb l.blocks.depth 0) refl
+  pub bytes_after : next < length file → then_lines (row_lines vars n (4 + vars) (file_lines (drop at file)) no_rows) (last_line (4 + vars + n) ranges) ≡ refused 3 (4 + vars + n)
+  unfolding last_line unless first_refusal turn_of
+  bytes_after h =
+      let r : asks_rest (file_lines (drop next file)) ≡ 3 = rest_some (drop next file) (omega (arith, length-drop next file)) in
+      last ∙ by_depth (λ e. rw (r, e) refl) (λ e. rw (r, e) refl)
+
+  pub left_open : length file ≤ next → (blocks.depth ≡ 0 → ⊥) → then_lines (row_lines vars n (4 + vars) (file_lines (drop at file)) no_rows) (last_line (4 + vars + n) ranges) ≡ refused 6 (4 + vars + n)
+  unfolding last_line unless first_refusal asks_rest
+  left_open h o = last ∙ rw (ends_at h, open_depth blocks o) refl
+
+  pub all_read : length file ≤ next → blocks.depth ≡ 0
+      → then_lines (row_lines vars n (4 + vars) (file_lines (drop at file)) no_rows) (last_line (4 + vars + n) ranges) ≡ read (record { ranges = ranges; rows = take n (kinds_of file rows) }) ([] ∷ [])
+  unfolding last_line unless first_refusal asks_rest
+  all_read h o = last ∙ rw (ends_at h, closed_depth blocks o) refl
+
+-- a head and what follows it: the first no, or the script
+module _ (file : List ℕ) (ranges : List (List ℤ)) (h : Head) where
+  pub rows_refused : (q p : ℕ) → row_lines h.vars h.count (4 + h.vars) (file_lines (drop h.at file)) no_rows ≡ refused q p → refused q p ≡ head_read file ranges (head_answer (Ok h))
+  unfolding head_read passing then_lines
+  rows_refused q p e = rw e
+
+  module _ (next : ℕ) (blocks : Blocks) (rows : List Row) (f : RowsRead file h.at h.vars h.count next blocks rows) where
+    pub load_read : (v : Verdict) → v ≡ end_verdict (ltb next (length file)) blocks.depth (4 + h.vars + h.count)
+        → passing v (read (script_of file ranges h.vars rows h.count) ([] ∷ [])) ≡ head_read file ranges (head_answer (Ok h))
+    unfolding head_read passing end_verdict asked script_of
+    load_read v k = rw k (go (ltb next (length file)) (eqb blocks.depth 0) refl refl)
       where
-        go : (b : Bool) → eqb l.blocks.depth 0 ≡ b → A
-        go true e = f (closed_depth l.blocks (eqb-true _ _ e))
-        go false e = g (open_depth l.blocks (eqb-false _ _ e))
-
-    pub bytes_after : l.at < length file → then_lines (row_lines vars n (4 + vars) (file_lines (drop at file)) no_rows) (last_line (4 + vars + n) ranges) ≡ refused 3 (4 + vars + n)
-    unfolding last_line unless first_refusal turn_of
-    bytes_after h =
-        let r : asks_rest (file_lines (drop l.at file)) ≡ 3 = rest_some (drop l.at file) (omega (arith, length-drop l.at file)) in
-        last ∙ by_depth (λ e. rw (r, e) refl) (λ e. rw (r, e) refl)
-
-    pub left_open : length file ≤ l.at → (l.blocks.depth ≡ 0 → ⊥) → then_lines (row_lines vars n (4 + vars) (file_lines (drop at file)) no_rows) (last_line (4 + vars + n) ranges) ≡ refused 6 (4 + vars + n)
-    unfolding last_line unless first_refusal asks_rest
-    left_open h o = last ∙ rw (ends_at h, open_depth l.blocks o) refl
-
-    pub all_read : length file ≤ l.at → l.blocks.depth ≡ 0
-        → then_lines (row_lines vars n (4 + vars) (file_lines (drop at file)) no_rows) (last_line (4 + vars + n) ranges) ≡ read (record { ranges = ranges; rows = take n (kinds_of file l.rows) }) ([] ∷ [])
-    unfolding last_line unless first_refusal asks_rest
-    all_read h o = last ∙ rw (ends_at h, closed_depth l.blocks o) refl
-
--- a head and what follows it: the first no of both, and the script
-module _ (file : List ℕ) (ranges : List (List ℤ)) (h : HeadAnswer) (l : Stop) (f : RowsRead file h.at h.vars h.count l) where
-  abbrev tail : Reading Script
-  tail = then_lines (row_lines h.vars h.count (4 + h.vars) (file_lines (drop h.at file)) no_rows) (last_line (4 + h.vars + h.count) (take h.vars (pair_ranges ranges)))
-
-  abbrev later : Verdict
-  later = rows_verdict l.number l.place (ltb l.at (length file)) l.blocks.depth (4 + h.vars + h.count)
-
-  abbrev whole : Reading Script
-  whole = read (script_of file ranges h.vars l.rows h.count) ([] ∷ [])
-
-  tail_read : passing later whole ≡ tail
-  unfolding passing rows_verdict asked script_of
-  tail_read = go (eqb l.number 0) (ltb l.at (length file)) (eqb l.blocks.depth 0) refl refl refl
-    where
-      go : (a b d : Bool) → eqb l.number 0 ≡ a → ltb l.at (length file) ≡ b → eqb l.blocks.depth 0 ≡ d → passing later whole ≡ tail
-      go false b d x y w = rw x (sym (rows_refused file h.at h.vars h.count l f _ (eqb-false _ _ x)))
-      go true true d x y w = rw (x, y) (sym (bytes_after file h.at h.vars h.count l f _ (eqb-true _ _ x) (ltb-true _ _ y)))
-      go true false false x y w = rw (x, y, w) (sym (left_open file h.at h.vars h.count l f _ (eqb-true _ _ x) (ltb-false _ _ y) (eqb-false _ _ w)))
-      go true false true x y w = rw (x, y, w) (sym (all_read file h.at h.vars h.count l f _ (eqb-true _ _ x) (ltb-false _ _ y) (eqb-true _ _ w)))
-
-  pub load_read : passing (Questions.and_then h.verdict later) whole ≡ head_read file ranges h
-  unfolding head_read passing Questions.and_then
-  load_read = go h.verdict
-    where
-      go : (v : Verdict) → passing (Questions.and_then v later) whole ≡ passing v tail
-      go Passed = tail_read
-      go (Refused q p) = refl
-
-pub then_passed : (v w u : Verdict) → u ≡ Questions.and_then v w → u ≡ Passed → v ≡ Passed
-unfolding Questions.and_then
-then_passed Passed w u e z = refl
-then_passed (Refused q p) w u e z = absurd (let y : ◌≡◌ {A = ℕ} 0 1 = cc in omega arith)
-
--- the rows have all been read
-pub rows_passed : (v u : Verdict) (q line : ℕ) (more : Bool) (d end : ℕ) → u ≡ Questions.and_then v (rows_verdict q line more d end) → u ≡ Passed → q ≡ 0
-unfolding Questions.and_then rows_verdict asked
-rows_passed (Refused p i) u q line more d end e z = absurd (let y : ◌≡◌ {A = ℕ} 0 1 = cc in omega arith)
-rows_passed Passed u q line more d end e z = go (eqb q 0) refl e
-  where
-    go : (t : Bool) → eqb q 0 ≡ t → u ≡ asked q line t (rows_verdict 0 line more d end) → q ≡ 0
-    go true f g = eqb-true q 0 f
-    go false f g = absurd (let y : ◌≡◌ {A = ℕ} 0 1 = cc in omega arith)
+        go : (b d : Bool) → ltb next (length file) ≡ b → eqb blocks.depth 0 ≡ d
+            → passing (asked 3 (4 + h.vars + h.count) (not b) (asked 6 (4 + h.vars + h.count) d Passed)) (read (script_of file ranges h.vars rows h.count) ([] ∷ []))
+            ≡ then_lines (row_lines h.vars h.count (4 + h.vars) (file_lines (drop h.at file)) no_rows) (last_line (4 + h.vars + h.count) (take h.vars (pair_ranges ranges)))
+        go true d y w = sym (bytes_after file h.at h.vars h.count next blocks rows f _ (ltb-true _ _ y))
+        go false false y w = sym (left_open file h.at h.vars h.count next blocks rows f _ (ltb-false _ _ y) (eqb-false _ _ w))
+        go false true y w = sym (all_read file h.at h.vars h.count next blocks rows f _ (ltb-false _ _ y) (eqb-true _ _ w))
 
 -- a file that was read is the reading of its script
 pub loaded : (file : List ℕ) (v : Verdict) (vars count : ℕ) (rows : List Row) (ranges : List (List ℤ)) (reading : Reading Script)

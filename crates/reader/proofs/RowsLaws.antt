@@ -8,8 +8,6 @@ use lib.Dec.{ltb}
 use lib.IntN.{ℤ}
 use lib.ListN.{length, get_or, take, drop, length-drop}
 use lib.Seq.{drop-drop}
-use types.Run.{OneOf}
-use denote.Enum.Declared.{tag_of}
 use borrow.Author.Tests.{ltb-true, ltb-false}
 use Rattle.rules.specs.declared.Comparison.{Comparison}
 use Rattle.rules.specs.declared.Kind.{Kind}
@@ -24,31 +22,35 @@ use Rattle.rules.specs.Parse.{Parsed, parsed, shapeless, parse, expr_in, depth, 
 use Rattle.rules.specs.Values.{lowest, highest}
 use Rattle.rules.specs.Written.{Composed, InText, WrittenOperand, Written}
 use Rattle.rules.specs.File.{RowRead, Read, Wrong, first_refusal, asks_end, asks_number, asks_variable, asks_size, asks_leaves, asks_expr, asks_step, asks_test, asks_for, checked, variable_of, comparison_of, while_row, do_row, named_row, first_word, words_row, row_of}
-use Rattle.rules.specs.contracts.Word as word
 use Rattle.rules.proofs.ReadLegal.{refusal_yes}
 use Rattle.reader.proofs.Bare.{bare, bare_in}
 use Rattle.reader.proofs.Words.{Alone, alone}
 use Rattle.reading.specs.declared.text.LineWords.{LineWords}
 use Rattle.reading.specs.Words.{cut_word, parts, following, spelling, line_word, line_text, LineRead}
 use Rattle.reading.proofs.Cut.{lowest_below, cut_number, cut_number_of, cut_variable, cut_variable_of, row_cut}
+use Rattle.std.specs.Prelude.{Result, Ok, Err}
+use Rattle.reading.specs.declared.order.LineQuestion.{LineQuestion}
+use Rattle.reading.specs.Answers.{question_number}
 use Rattle.reader.specs.declared.rows.RowLine.{RowLine}
 use Rattle.reader.specs.Rows.{Bare, Rowed, TextRow, RowAt}
 use Rattle.reading.specs.Meaning.{line_expr, Means, Meant, Small, operand_at, line_operand, OperandFits}
-use Rattle.reading.proofs.WordsLaws.{small_variable, no_keyword, no_keywords, none_asks, parse_none}
+use Rattle.reading.proofs.WordsLaws.{small_variable, none_asks, parse_none}
 
 -- a row's line, whose questions are asked: Q of its words, q by code
 module _ (s : List ℕ) (base end q Q : ℕ) (r : RowKind) (e : q ≡ Q) where
-  pub line_read : (k : Kind) → q ≡ 0 → ((file : List ℕ) → drop base file ≡ s → (kind_of file k ≡ r) × Written file k) → Rowed s base (checked Q r) end (RowLine.Read k end)
+  pub line_read : (k : Kind) → q ≡ 0 → ((file : List ℕ) → drop base file ≡ s → (kind_of file k ≡ r) × Written file k) → Rowed s base (checked Q r) end (Ok (record { kind = k; end = end }))
   unfolding checked
   line_read k z f = record { line = λ file d. rw (sym e ∙ z) (ap Read (f file d).0); written = λ file d. (f file d).1; ends = refl }
 
-  pub line_wrong : (q ≡ 0 → ⊥) → Rowed s base (checked Q r) end (RowLine.Wrong q)
+  pub line_wrong : (x : LineQuestion) → q ≡ question_number x → Rowed s base (checked Q r) end (Err x)
   unfolding checked
-  line_wrong n = record { line = λ file d. no q e n; written = λ file d. tt; ends = tt }
+  line_wrong x w = record { line = λ file d. rw (sym e ∙ w) (no x); written = λ file d. tt; ends = tt }
     where
-      no : (p : ℕ) → p ≡ Q → (p ≡ 0 → ⊥) → Wrong p ≡ checked Q r
-      no zero g m = absurd (m refl)
-      no (suc p) g m = rw (← g)
+      no : (x : LineQuestion) → Wrong (question_number x) ≡ checked (question_number x) r
+      no LineQuestion.Shape = refl
+      no LineQuestion.Size = refl
+      no LineQuestion.Limits = refl
+      no LineQuestion.Variable = refl
 
 -- a row's words, whose questions all have yes: of two words, of a test, of four words, of a for
 pub two_yes : (a b c q : ℕ) → q ≡ first_refusal a (first_refusal b c) → q ≡ 0 → (a ≡ 0) × (b ≡ 0) × (c ≡ 0)
@@ -193,21 +195,30 @@ module _ (s : List ℕ) (base end : ℕ) (after : Bool) (vars : ℕ) (w : ℕ �
   the_row = cond after (do_row vars w ex) (while_row vars w ex)
 
   pub test_read : (k : Kind) (v : ℕ) (c : Comparison) (x : Operand) → q ≡ 0 → k ≡ cond after (Kind.Do v c x) (Kind.While v c x)
-      → v ≡ variable_of (w 1) → c ≡ comparison_of (w 2) → ((file : List ℕ) → drop base file ≡ s → (expr_of file x ≡ expr_in (ex 3)) × WrittenOperand file x) → Rowed s base the_row end (RowLine.Read k end)
+      → v ≡ variable_of (w 1) → c ≡ comparison_of (w 2) → ((file : List ℕ) → drop base file ≡ s → (expr_of file x ≡ expr_in (ex 3)) × WrittenOperand file x) → Rowed s base the_row end (Ok (record { kind = k; end = end }))
   unfolding do_row while_row kind_of
   test_read k v c x z f a b i = go after f
     where
-      go : (t : Bool) → k ≡ cond t (Kind.Do v c x) (Kind.While v c x) → Rowed s base (cond t (do_row vars w ex) (while_row vars w ex)) end (RowLine.Read k end)
+      go : (t : Bool) → k ≡ cond t (Kind.Do v c x) (Kind.While v c x) → Rowed s base (cond t (do_row vars w ex) (while_row vars w ex)) end (Ok (record { kind = k; end = end }))
       go true g = rw g (line_read s base end q _ _ e _ z λ file d. let (h, j) = i file d in (rw (a, b, h), j))
       go false g = rw g (line_read s base end q _ _ e _ z λ file d. let (h, j) = i file d in (rw (a, b, h), j))
 
-  pub test_wrong : (q ≡ 0 → ⊥) → Rowed s base the_row end (RowLine.Wrong q)
+  pub test_wrong : (x : LineQuestion) → q ≡ question_number x → Rowed s base the_row end (Err x)
   unfolding do_row while_row
-  test_wrong n = go after
+  test_wrong x n = go after
     where
-      go : (t : Bool) → Rowed s base (cond t (do_row vars w ex) (while_row vars w ex)) end (RowLine.Wrong q)
-      go true = line_wrong s base end q _ _ e n
-      go false = line_wrong s base end q _ _ e n
+      go : (t : Bool) → Rowed s base (cond t (do_row vars w ex) (while_row vars w ex)) end (Err x)
+      go true = line_wrong s base end q _ _ e x n
+      go false = line_wrong s base end q _ _ e x n
+
+-- a first word that is no keyword
+first_other : (vars : ℕ) (w : ℕ → Word) (x : ℕ → Parsed) (y : Word) → ((n : Name) → y ≡ Keyword n → ⊥) → Wrong 3 ≡ first_word vars w x y
+first_other vars w x Missing o = refl
+first_other vars w x (Number z) o = refl
+first_other vars w x (Variable v) o = refl
+first_other vars w x (Compares c) o = refl
+first_other vars w x (Keyword n) o = absurd (o n refl)
+first_other vars w x Other o = refl
 
 -- the row of a line
 module _ (s : List ℕ) (at base vars : ℕ) (l : LineWords) (few : vars ≤ 16) (read : LineRead s at l) where
@@ -215,11 +226,11 @@ module _ (s : List ℕ) (at base vars : ℕ) (l : LineWords) (few : vars ≤ 16)
   unfolding row_of following spelling
   whole = row_cut vars (line_word l) (following (drop at s)) (line_expr s l) _ few read.word (λ k h. ap parse (read.text k h))
 
-  pub row_other : (x : Word) → x ≡ line_word l 0 → OneOf no_keywords (tag_of word.the_type x) → RowAt s at base vars (RowLine.Wrong 3)
+  pub row_other : (x : Word) → x ≡ line_word l 0 → ((n : Name) → x ≡ Keyword n → ⊥) → RowAt s at base vars (Err LineQuestion.Shape)
   unfolding words_row
-  row_other x e o = record { line = λ file d. (no_keyword x o).1 vars (line_word l) (line_expr s l) ∙ ap (first_word vars (line_word l) (line_expr s l)) e ∙ whole; written = λ file d. tt; ends = tt }
+  row_other x e o = record { line = λ file d. first_other vars (line_word l) (line_expr s l) x o ∙ ap (first_word vars (line_word l) (line_expr s l)) e ∙ whole; written = λ file d. tt; ends = tt }
 
-  pub row_named : (x : Word) → x ≡ line_word l 0 → (name : Name) (r : RowLine) → x ≡ Keyword name → TextRow s base l (λ w y. named_row vars w y name) r → RowAt s at base vars r
+  pub row_named : (x : Word) → x ≡ line_word l 0 → (name : Name) (r : Result RowLine LineQuestion) → x ≡ Keyword name → TextRow s base l (λ w y. named_row vars w y name) r → RowAt s at base vars r
   unfolding words_row
   row_named x e name r f t =
       let same : named_row vars (line_word l) (line_expr s l) name ≡ row_of vars (parts (drop at s)) = ap (first_word vars (line_word l) (line_expr s l)) (sym f ∙ e) ∙ whole in

@@ -11,6 +11,7 @@ use Rattle.rules.specs.Verdicts.{passed as Passed, refused as Refused}
 use Rattle.rules.specs.Questions.{asked}
 use Rattle.rules.specs.File.{Reading, read, refused, row_key, row_of}
 use Rattle.reading.specs.Words.{before}
+use Rattle.reading.specs.declared.order.LineQuestion.{LineQuestion}
 use Rattle.reader.specs.declared.rows.RowLine.{RowLine}
 use Rattle.reader.specs.Rows.{Rowed}
 use Rattle.reader.specs.declared.Loaded.{Loaded}
@@ -20,16 +21,16 @@ use Rattle.table.specs.Code.{rows_of}
 use Rattle.table.specs.Paired.{Table}
 
 -- what a row line reads: the row, and its length without the LF; `rest` begins at the file's byte `base`
-abbrev pub LineRead : List ℕ → ℕ → ℕ → RowLine → Type 0
+abbrev pub LineRead : List ℕ → ℕ → ℕ → Result RowLine LineQuestion → Type 0
 LineRead rest base vars r = Rowed rest base (row_of vars (next_texts row_key (file_lines rest))) (before 10 rest) r
 
 -- the expressions of the first n rows stand in the file
 abbrev pub WrittenRows : List ℕ → List Row → ℕ → Type 0
 WrittenRows file rows n = (i : ℕ) → i < n → Written file (get_or rows i (record { kind = Kind.End })).kind
 
--- the questions of the rows in order: the one that stopped them, 3 of bytes after the last row, 6 of blocks that are open there
-unfoldable pub rows_verdict : ℕ → ℕ → Bool → ℕ → ℕ → Verdict
-rows_verdict stopped line more depth end = asked stopped line (eqb stopped 0) (asked 3 end (not more) (asked 6 end (eqb depth 0) Passed))
+-- the questions after the rows: 3 of bytes after the last row, 6 of blocks that are open there
+unfoldable pub end_verdict : Bool → ℕ → ℕ → Verdict
+end_verdict more depth end = asked 3 end (not more) (asked 6 end (eqb depth 0) Passed)
 
 -- a number of a file that is read; refused, 0
 abbrev pub if_read : Verdict → ℕ → ℕ

@@ -1,11 +1,22 @@
 // A file's lines before its rows, in order: the questions 2, 3 and 4, and the ranges.
 ghost use Rattle.std.specs.Prelude.{◌≡◌, ◌≤◌, length, drop};
 ghost use Rattle.rules.specs.File.{then_lines, vars_key, count_line, range_part, file_script};
-ghost use Rattle.reader.specs.Lines.{file_lines};
+ghost use Rattle.reader.specs.Lines.{file_lines, refusal_of};
 ghost use Rattle.reader.specs.Head.{RangesRead, head_answer, CountPart, HeadRead, NotTooLong};
 
-use crate::lines::{CountLine, Ranged, count_line, range_line, script_line};
+use crate::lines::{count_line, range_line, script_line};
+use reading::order::LineQuestion;
 use rules::Refusal;
+
+// A question of a line that has no.
+pub fn refused(question: LineQuestion, place: usize) -> Refusal
+    ensures { result ≡ refusal_of question place }
+{
+    Refusal {
+        number: question.number(),
+        place,
+    }
+}
 
 // The n range lines from byte `at` on, into the lent array: the byte where they end, or the first no with its line.
 fn read_ranges(
@@ -18,24 +29,15 @@ fn read_ranges(
     ensures { RangesRead file.now at n result ranges.new }
 {
     let none: [i32; 2] = [0; 2];
-    let blank = [none; 16];
-    *ranges = blank;
+    *ranges = [none; 16];
     let mut next = at;
-    let mut i: usize = 0;
-    while i < n {
-        let r = range_line(&file[next..]);
-        match r {
-            Ranged::Range(a, b, k) => {
-                ranges[i] = [a, b];
-                next = next + k;
-                i += 1;
+    for i in 0..n {
+        match range_line(&file[next..]) {
+            Ok(line) => {
+                ranges[i] = [line.lo, line.hi];
+                next += line.length;
             }
-            Ranged::Wrong(number) => {
-                return Err(Refusal {
-                    number,
-                    place: 3 + i,
-                });
-            }
+            Err(q) => return Err(refused(q, 3 + i)),
         }
     }
     Ok(next)
@@ -54,17 +56,13 @@ fn load_count(file: &[u8], at: usize, vars: usize) -> Result<Head, Refusal>
     requires { (at ≤ length file.now) × (vars ≤ 16) }
     ensures { CountPart file.now at vars (head_answer result) }
 {
-    let c = count_line(&file[at..], b"rows=", 256);
-    match c {
-        CountLine::Count(count, k) => Ok(Head {
+    match count_line(&file[at..], b"rows=", 256) {
+        Ok(line) => Ok(Head {
             vars,
-            count,
-            at: at + k,
+            count: line.count,
+            at: at + line.length,
         }),
-        CountLine::Wrong(number) => Err(Refusal {
-            number,
-            place: 3 + vars,
-        }),
+        Err(q) => Err(refused(q, 3 + vars)),
     }
 }
 
@@ -88,10 +86,9 @@ fn load_vars(file: &[u8], at: usize, ranges: &mut [[i32; 2]; 16]) -> Result<Head
     ensures { HeadRead file.now
         (then_lines (count_line vars_key 16 2 (file_lines (drop at file.now))) range_part) (head_answer result) ranges.new }
 {
-    let c = count_line(&file[at..], b"vars=", 16);
-    match c {
-        CountLine::Count(n, k) => load_ranges(file, at + k, n, ranges),
-        CountLine::Wrong(number) => Err(Refusal { number, place: 2 }),
+    match count_line(&file[at..], b"vars=", 16) {
+        Ok(line) => load_ranges(file, at + line.length, line.count, ranges),
+        Err(q) => Err(refused(q, 2)),
     }
 }
 
@@ -108,9 +105,8 @@ pub fn load_head(file: &[u8], ranges: &mut [[i32; 2]; 16]) -> Result<Head, Refus
             place: LONGEST_FILE,
         });
     }
-    let c = script_line(file);
-    match c {
-        CountLine::Count(_, k) => load_vars(file, k, ranges),
-        CountLine::Wrong(number) => Err(Refusal { number, place: 1 }),
+    match script_line(file) {
+        Ok(line) => load_vars(file, line.length, ranges),
+        Err(q) => Err(refused(q, 1)),
     }
 }

@@ -9,36 +9,32 @@ pub mod rows;
 ghost use Rattle.std.specs.Prelude.{◌≡◌, ◌+◌, ◌≤◌, length};
 ghost use Rattle.rules.specs.Verdicts.{verdict_of};
 ghost use Rattle.rules.specs.File.{file_script};
-ghost use Rattle.reader.specs.Read.{LineRead, rows_verdict, load_answer, LoadedAs};
+ghost use Rattle.reader.specs.Open.{block_number};
+ghost use Rattle.reader.specs.Read.{LineRead, end_verdict, load_answer, LoadedAs};
 
-use crate::head::load_head;
+use crate::head::{load_head, refused};
 use crate::lines::keyed;
-use crate::nesting::{Blocks, nest_row};
+use crate::nesting::{Block, BlockQuestion, Blocks, nest_row};
 use crate::rows::{RowLine, row_of};
+use reading::order::LineQuestion;
 use rules::{BLANK, Refusal, Row, Verdict};
 use table::put_next;
 
 // The next line's row. The rest begins at the file's byte `base`.
-fn row_line(rest: &[u8], base: usize, vars: u32) -> RowLine
+fn row_line(rest: &[u8], base: usize, vars: u32) -> Result<RowLine, LineQuestion>
     requires { (vars ≤ 16) × (base + length rest.now ≤ 16_384) }
     ensures { LineRead rest.now base vars result }
 {
     if keyed(rest, b"row=") {
         return row_of(rest, 3, base, vars);
     }
-    RowLine::Wrong(3)
+    Err(LineQuestion::Shape)
 }
 
-// The questions after the head: of the line where the rows stopped, 3 of bytes after the last row, 6 of blocks that are open there.
-fn ask_rows(stopped: u32, line: usize, more: bool, depth: usize, end: usize) -> Verdict
-    ensures { verdict_of result ≡ rows_verdict stopped line more depth end }
+// The questions after the rows: 3 of bytes after the last row, 6 of blocks that are open there.
+fn ask_end(more: bool, depth: usize, end: usize) -> Verdict
+    ensures { verdict_of result ≡ end_verdict more depth end }
 {
-    if stopped != 0 {
-        return Err(Refusal {
-            number: stopped,
-            place: line,
-        });
-    }
     if more {
         return Err(Refusal {
             number: 3,
@@ -61,9 +57,19 @@ pub struct Loaded {
     pub count: usize,
 }
 
+// A row's question that has no.
+fn misplaced(question: BlockQuestion, place: usize) -> Refusal
+    ensures { result ≡ record { number = block_number question; place = place } }
+{
+    Refusal {
+        number: question.number(),
+        place,
+    }
+}
+
 // No block is open.
 const NONE_OPEN: Blocks = Blocks {
-    kinds: [0; 8],
+    kinds: [Block::Loop; 8],
     depth: 0,
     loops: 0,
 };
@@ -78,32 +84,20 @@ pub fn load(file: &[u8], ranges: &mut [[i32; 2]; 16], table: &mut [u32]) -> Resu
     let mut rows = [BLANK; 256];
     let mut blocks = NONE_OPEN;
     let mut next = head.at;
-    let mut stopped: u32 = 0;
-    let mut i: usize = 0;
-    while i < head.count {
-        let l = row_line(&file[next..], next, head.vars as u32);
-        match l {
-            RowLine::Read(kind, end) => {
-                let p = nest_row(kind, blocks);
-                stopped = p.number;
-                if stopped != 0 {
-                    break;
-                }
-                let after = p.blocks;
-                blocks = after;
-                rows[i] = Row { kind };
-                next = next + end + 1;
-                i += 1;
-            }
-            RowLine::Wrong(q) => {
-                stopped = q;
-                break;
-            }
-        }
+    for i in 0..head.count {
+        let place = 4 + head.vars + i;
+        let row = match row_line(&file[next..], next, head.vars as u32) {
+            Ok(row) => row,
+            Err(q) => return Err(refused(q, place)),
+        };
+        blocks = match nest_row(row.kind, blocks) {
+            Ok(after) => after,
+            Err(q) => return Err(misplaced(q, place)),
+        };
+        rows[i] = Row { kind: row.kind };
+        next += row.end + 1;
     }
-    let line = 4 + head.vars + i;
-    let end = 4 + head.vars + head.count;
-    ask_rows(stopped, line, next < file.len(), blocks.depth, end)?;
+    ask_end(next < file.len(), blocks.depth, 4 + head.vars + head.count)?;
     let mut open = table::NONE_OPEN;
     for j in 0..head.count {
         open = put_next(table, j, rows[j].kind, open);

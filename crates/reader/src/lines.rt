@@ -3,11 +3,11 @@ ghost use Rattle.std.specs.Prelude.{◌≡◌, true, ltb, pos, nat_abs, ◌≤�
 ghost use Rattle.reading.specs.Words.{before};
 ghost use Rattle.reader.specs.Lines.{keyed, clean, CountRead, ScriptRead, RangeRead};
 
-use reading::order::first_refusal;
+use reading::order::{LineQuestion, first_refusal};
 use reading::text::{line_words, position, starts_with, word};
 use reading::words::{asks_end, asks_number, asks_one, asks_order, number_of};
 
-// Whether an LF ends the next line.
+// Whether an LF ends the next line: mostly the text's last byte.
 fn has_line(rest: &[u8]) -> bool
     ensures { result ≡ ltb (before 10 rest.now) (length rest.now) }
 {
@@ -25,73 +25,72 @@ fn has_line(rest: &[u8]) -> bool
 pub fn keyed(rest: &[u8], key: &[u8]) -> bool
     ensures { result ≡ keyed key.now rest.now }
 {
-    if has_line(rest) {
-        return starts_with(rest, key);
-    }
-    false
+    has_line(rest) && starts_with(rest, key)
 }
 
 // What a count line says: the count, and the line's length with its LF.
-#[derive(Clone, Copy)]
-pub enum CountLine {
-    Count(usize, usize),
-    Wrong(u32),
+#[derive(Debug, Clone, Copy)]
+pub struct Count {
+    pub count: usize,
+    pub length: usize,
 }
 
 // `vars=V` and `rows=R`
-pub fn count_line(rest: &[u8], key: &[u8], most: i32) -> CountLine
+pub fn count_line(rest: &[u8], key: &[u8], most: i32) -> Result<Count, LineQuestion>
     requires { (pos 0 ≤ℤ most) × (most ≤ℤ pos 1_000_000_000) × (clean key.now ≡ true) }
     ensures { CountRead key.now rest.now (nat_abs most) result }
 {
-    if keyed(rest, key) {
-        let line = line_words(rest, key.len() - 1);
-        let x = word(line, 0);
-        let q = first_refusal(asks_number(0, most, x), asks_end(word(line, 1)));
-        if q == 0 {
-            return CountLine::Count(number_of(x) as usize, line.end + 1);
-        }
-        return CountLine::Wrong(q);
+    if !keyed(rest, key) {
+        return Err(LineQuestion::Shape);
     }
-    CountLine::Wrong(3)
+    let line = line_words(rest, key.len() - 1);
+    let x = word(line, 0);
+    first_refusal(asks_number(0, most, x), asks_end(word(line, 1)))?;
+    Ok(Count {
+        count: number_of(x) as usize,
+        length: line.end + 1,
+    })
 }
 
 // `script=1`
-pub fn script_line(rest: &[u8]) -> CountLine
+pub fn script_line(rest: &[u8]) -> Result<Count, LineQuestion>
     ensures { ScriptRead rest.now result }
 {
-    if keyed(rest, b"script=") {
-        let line = line_words(rest, 6);
-        let q = first_refusal(asks_one(word(line, 0)), asks_end(word(line, 1)));
-        if q == 0 {
-            return CountLine::Count(1, line.end + 1);
-        }
-        return CountLine::Wrong(q);
+    if !keyed(rest, b"script=") {
+        return Err(LineQuestion::Shape);
     }
-    CountLine::Wrong(3)
+    let line = line_words(rest, 6);
+    first_refusal(asks_one(word(line, 0)), asks_end(word(line, 1)))?;
+    Ok(Count {
+        count: 1,
+        length: line.end + 1,
+    })
 }
 
 // What a range line says: its ends, and its length with its LF.
-#[derive(Clone, Copy)]
-pub enum Ranged {
-    Range(i32, i32, usize),
-    Wrong(u32),
+#[derive(Debug, Clone, Copy)]
+pub struct RangeLine {
+    pub lo: i32,
+    pub hi: i32,
+    pub length: usize,
 }
 
 // `range=LO HI`
-pub fn range_line(rest: &[u8]) -> Ranged
+pub fn range_line(rest: &[u8]) -> Result<RangeLine, LineQuestion>
     ensures { RangeRead rest.now result }
 {
-    if keyed(rest, b"range=") {
-        let line = line_words(rest, 5);
-        let lo = word(line, 0);
-        let hi = word(line, 1);
-        let ends = first_refusal(asks_end(word(line, 2)), asks_order(lo, hi));
-        let high = first_refusal(asks_number(-1_000_000_000, 1_000_000_000, hi), ends);
-        let q = first_refusal(asks_number(-1_000_000_000, 1_000_000_000, lo), high);
-        if q == 0 {
-            return Ranged::Range(number_of(lo), number_of(hi), line.end + 1);
-        }
-        return Ranged::Wrong(q);
+    if !keyed(rest, b"range=") {
+        return Err(LineQuestion::Shape);
     }
-    Ranged::Wrong(3)
+    let line = line_words(rest, 5);
+    let lo = word(line, 0);
+    let hi = word(line, 1);
+    let ends = first_refusal(asks_end(word(line, 2)), asks_order(lo, hi));
+    let high = first_refusal(asks_number(-1_000_000_000, 1_000_000_000, hi), ends);
+    first_refusal(asks_number(-1_000_000_000, 1_000_000_000, lo), high)?;
+    Ok(RangeLine {
+        lo: number_of(lo),
+        hi: number_of(hi),
+        length: line.end + 1,
+    })
 }

@@ -2,7 +2,7 @@
 mod Asking
 mod Scanning
 pub mod Cut
-pub mod Keywords
+pub mod Variables
 pub mod TextLaws
 pub mod Line
 pub mod WordsLaws

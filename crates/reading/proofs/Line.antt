@@ -13,8 +13,9 @@ use borrow.Author.Tests.{eq-eqb, ne_eqb, eqb-true, eqb-false, ltb-true, ltb-fals
 use Rattle.rules.specs.declared.Word.TheVariants.{Missing}
 use Rattle.rules.specs.Text.{prefixed, split, word_of, words_of}
 use Rattle.reading.proofs.TextLaws.{stop_within}
-use Rattle.reading.specs.Words.{before, stops, stop, front, cut_word, HasEnd, parts, following, spelling, word_in, text_in, Reads, LineRead, missing_tag}
+use Rattle.reading.specs.Words.{before, stops, stop, front, cut_word, HasEnd, parts, following, spelling, word_in, text_in, Reads, LineRead}
 use Rattle.reading.specs.declared.text.WordFound.{WordFound}
+use Rattle.reading.specs.declared.text.Tag.{Tag}
 
 -- a line's words: the word at the front, and those after the byte that ends it
 record Cuts (s : List ℕ) : Type 0 where
@@ -90,7 +91,7 @@ module _ (b : ℕ) (t : List ℕ) (n : b ≡ 10 → ⊥) (h : HasEnd (b ∷ t)) 
   more_texts k = rw (after_words b t n, (cuts t (after_some b t n h)).words)
 
 -- a word of n bytes after the byte `at`
-module _ (s : List ℕ) (at : ℕ) (t : ℕ) (z : ℤ) (n : ℕ) (h : HasEnd (drop at s)) (other : get_or s at 0 ≡ 10 → ⊥) (r : Reads (drop (at + 1) s) (record { tag = t; value = z; end = n })) where
+module _ (s : List ℕ) (at : ℕ) (t : Tag) (z : ℤ) (n : ℕ) (h : HasEnd (drop at s)) (other : get_or s at 0 ≡ 10 → ⊥) (r : Reads (drop (at + 1) s) (record { tag = t; value = z; end = n })) where
   head : drop at s ≡ get_or s at 0 ∷ drop (at + 1) s
   head = rw (add-one at) (drop-cons s at 0 (ends_within s at h))
 
@@ -147,17 +148,17 @@ module _ (s : List ℕ) (at m p : ℕ) (h : Reached s at m p) where
   reach_text r n = ap (spelling (drop at s)) (let e : m ≡ m + 0 = omega arith in e) ∙ h.texts 0 ∙ n.text
 
 -- ---- i words stand in the arrays, the last one ends at the byte `end`, and there is nothing after them
-pub record Filled (s : List ℕ) (at : ℕ) (tags : List ℕ) (values : List ℤ) (ends : List ℕ) (end i : ℕ) : Type 0 where
+pub record Filled (s : List ℕ) (at : ℕ) (tags : List Tag) (values : List ℤ) (ends : List ℕ) (end i : ℕ) : Type 0 where
   pub few : i ≤ 8
   pub reached : Reached s at i end
   pub here : get_or ends i 0 ≡ end
-  pub word : (k : ℕ) → k < i → word_in (get_or tags k 0) (get_or values k (pos 0)) ≡ cut_word (following (drop at s) k)
+  pub word : (k : ℕ) → k < i → word_in (get_or tags k Tag.Missing) (get_or values k (pos 0)) ≡ cut_word (following (drop at s) k)
   pub text : (k : ℕ) → k < i → text_in s (get_or ends k 0) (get_or ends (k + 1) 0) ≡ spelling (drop at s) k
   pub long : (k : ℕ) → get_or ends k 0 ≤ length s
-  pub blank : (k : ℕ) → i ≤ k → k < 8 → (get_or tags k 0 ≡ missing_tag) × (get_or ends (k + 1) 0 ≡ 0)
+  pub blank : (k : ℕ) → i ≤ k → k < 8 → (get_or tags k Tag.Missing ≡ Tag.Missing) × (get_or ends (k + 1) 0 ≡ 0)
   pub sizes : (length tags ≡ 8) × (length values ≡ 8) × (length ends ≡ 9)
 
-blank_from : (x k n : ℕ) → k < n → get_or (replicate n x) k 0 ≡ x
+blank_from : {A : Type 0} (x : A) (k n : ℕ) → k < n → get_or (replicate n x) k x ≡ x
 blank_from x k zero h = absurd (omega arith)
 blank_from x zero (suc n) h = refl
 blank_from x (suc k) (suc n) h = blank_from x k n (omega arith)
@@ -167,7 +168,7 @@ none_from k zero = refl
 none_from zero (suc n) = refl
 none_from (suc k) (suc n) = none_from k n
 
-pub filled_none : (s : List ℕ) (at : ℕ) → HasEnd (drop at s) → Filled s at (replicate 8 missing_tag) (replicate 8 (pos 0)) (set (replicate 9 0) 0 at) at 0
+pub filled_none : (s : List ℕ) (at : ℕ) → HasEnd (drop at s) → Filled s at (replicate 8 Tag.Missing) (replicate 8 (pos 0)) (set (replicate 9 0) 0 at) at 0
 filled_none s at h = record {
   few = omega arith;
   reached = reach_none s at h;
@@ -175,7 +176,7 @@ filled_none s at h = record {
   word = λ k l. absurd (omega arith);
   text = λ k l. absurd (omega arith);
   long = λ k. go k;
-  blank = λ k _ l. (blank_from missing_tag k 8 l, rw (add-one k) (none_from k 8));
+  blank = λ k _ l. (blank_from Tag.Missing k 8 l, rw (add-one k) (none_from k 8));
   sizes = (refl, refl, refl);
 }
   where
@@ -183,7 +184,7 @@ filled_none s at h = record {
     go zero = omega (arith, ends_within s at h)
     go (suc k) = rw (none_from k 8) (omega arith)
 
-module _ (s : List ℕ) (at : ℕ) (tags : List ℕ) (values : List ℤ) (ends : List ℕ) (end i : ℕ) (f : Filled s at tags values ends end i) where
+module _ (s : List ℕ) (at : ℕ) (tags : List Tag) (values : List ℤ) (ends : List ℕ) (end i : ℕ) (f : Filled s at tags values ends end i) where
   -- one word more
   module _ (room : i < 8) (r : WordFound) (n : WordRead s end r) where
     filled_more : Filled s at (set tags i r.tag) (set values i r.value) (set ends (i + 1) r.end) r.end (i + 1)
@@ -195,18 +196,18 @@ module _ (s : List ℕ) (at : ℕ) (tags : List ℕ) (values : List ℤ) (ends :
       text = λ k h. texts k h (eqb k i) refl;
       long = λ k. longs k (eqb k (i + 1)) refl;
       blank = λ k h l. (
-        get_or-set_other tags i k r.tag 0 (λ (e : k ≡ i). let z : ⊥ = omega arith in z) ∙ (f.blank k (omega arith) l).0,
+        get_or-set_other tags i k r.tag Tag.Missing (λ (e : k ≡ i). let z : ⊥ = omega arith in z) ∙ (f.blank k (omega arith) l).0,
         get_or-set_other ends (i + 1) (k + 1) r.end 0 (λ (e : k + 1 ≡ i + 1). let z : ⊥ = omega arith in z) ∙ (f.blank k (omega arith) l).1,
       );
       sizes = (length-set tags i r.tag ∙ f.sizes.0, length-set values i r.value ∙ f.sizes.1, length-set ends (i + 1) r.end ∙ f.sizes.2);
     }
       where
-        words : (k : ℕ) → k < i + 1 → (b : Bool) → eqb k i ≡ b → word_in (get_or (set tags i r.tag) k 0) (get_or (set values i r.value) k (pos 0)) ≡ cut_word (following (drop at s) k)
-        words k h true e = rw (eqb-true k i e, get_or-set_same tags i r.tag 0 (omega (arith, f.sizes.0)), get_or-set_same values i r.value (pos 0) (omega (arith, f.sizes.1)))
+        words : (k : ℕ) → k < i + 1 → (b : Bool) → eqb k i ≡ b → word_in (get_or (set tags i r.tag) k Tag.Missing) (get_or (set values i r.value) k (pos 0)) ≡ cut_word (following (drop at s) k)
+        words k h true e = rw (eqb-true k i e, get_or-set_same tags i r.tag Tag.Missing (omega (arith, f.sizes.0)), get_or-set_same values i r.value (pos 0) (omega (arith, f.sizes.1)))
             (n.word ∙ ap cut_word (sym (here s at i end f.reached)))
         words k h false e =
             let o = eqb-false k i e in
-            rw (get_or-set_other tags i k r.tag 0 o, get_or-set_other values i k r.value (pos 0) o) (f.word k (omega (arith, o)))
+            rw (get_or-set_other tags i k r.tag Tag.Missing o, get_or-set_other values i k r.value (pos 0) o) (f.word k (omega (arith, o)))
 
         texts : (k : ℕ) → k < i + 1 → (b : Bool) → eqb k i ≡ b → text_in s (get_or (set ends (i + 1) r.end) k 0) (get_or (set ends (i + 1) r.end) (k + 1) 0) ≡ spelling (drop at s) k
         texts k h true e =
@@ -231,7 +232,7 @@ module _ (s : List ℕ) (at : ℕ) (tags : List ℕ) (values : List ℤ) (ends :
   -- all words of the line, or its first eight
   module _ (none : (k : ℕ) → i ≤ k → k < 8 → (following (drop at s) k ≡ Missing) × (spelling (drop at s) k ≡ [])) (n : ℕ) (e : n ≡ end + before 10 (drop end s)) where
     pub filled_read : LineRead s at (record { tags = tags; values = values; ends = ends; end = n })
-    unfolding word_in cut_word
+    unfolding cut_word
     filled_read = record {
       word = λ k h. words k h (ltb k i) refl;
       text = λ k h. texts k h (ltb k i) refl;
@@ -239,7 +240,7 @@ module _ (s : List ℕ) (at : ℕ) (tags : List ℕ) (values : List ℤ) (ends :
       end = e ∙ f.reached.line;
     }
       where
-        words : (k : ℕ) → k < 8 → (b : Bool) → ltb k i ≡ b → word_in (get_or tags k 0) (get_or values k (pos 0)) ≡ cut_word (following (drop at s) k)
+        words : (k : ℕ) → k < 8 → (b : Bool) → ltb k i ≡ b → word_in (get_or tags k Tag.Missing) (get_or values k (pos 0)) ≡ cut_word (following (drop at s) k)
         words k h true l = f.word k (ltb-true k i l)
         words k h false l = rw ((f.blank k (ltb-false k i l) h).0, (none k (ltb-false k i l) h).0)
 

@@ -1,41 +1,50 @@
 -- Laws of words and of numbers of any length. Assumes nothing.
 use mathlib.Core.Path.{◌≡◌, refl, sym, ap, ◌∙◌}
-use mathlib.Core.Bool.{Bool, true, false, not, cond}
+use mathlib.Core.Bool.{Bool, true, false, not, cond, ◌&&◌}
 use mathlib.Core.List.{List, [], ◌∷◌}
 use Prim.Native.Nat.{ℕ, zero, suc, ◌+◌, ◌*◌, ◌-◌, ◌≤◌, ◌<◌, min}
 use native.Mathlib.Omega.{arith}
 use lib.ListN.{length, get_or, take, drop, drop_of_length-le, length-drop}
 use lib.Seq.{drop-cons, take_all, length-take-le, get_or-take}
-use lib.Dec.{eqb}
-use lib.IntN.{pos, neg_ℤ, ◌-ℤ◌, +ℤ_idl}
-use mir.Syntax.{w32}
-use mir.Val.{SFits, to_z}
-use mir.ValLaws.{to_z_pos}
-use borrow.Author.Tests.{eq-eqb, ne_eqb}
+use lib.Dec.{eqb, leb, ltb}
+use lib.IntN.{pos, neg_ℤ}
+use borrow.Author.Tests.{eq-eqb, ne_eqb, eqb-true, eqb-false, leb-true, leb-false, ltb-false}
 use Rattle.rules.specs.declared.Word.{Word}
 use Rattle.rules.specs.declared.Word.TheVariants.{Number, Variable, Other}
 use Rattle.rules.specs.Text.{prefixed, split, starts_with, equals, is_digit, all_digits, value_from, is_natural, is_negative, is_variable, comparison_word, block_word, plain_word, word_of}
-use Rattle.reading.specs.declared.text.DigitsRead.{DigitsRead}
-use Rattle.expressions.specs.Leaves.{ceiling, cut_z}
-use Rattle.reading.specs.Words.{before, marks, stops, stop, front, cut_word, digits_of, natural_of}
-use Rattle.expressions.proofs.LeavesLaws.{digit_low}
+use Rattle.std.specs.Prelude.{Option, None, Some}
+use Rattle.std.specs.List.{position_or_len, position}
+use Rattle.std.specs.Option.{unwrap_or}
+use Rattle.std.specs.Cmp.Lexicographic.{pointwise}
+use Rattle.std.proofs.lemmas.List.Recursion.{is_position_or_len}
+use Rattle.std.proofs.lemmas.List.Sums.{prefix_len-le-length}
+use Rattle.rules.proofs.Laws.{no_true}
+use Rattle.expressions.specs.declared.leaves.Digits.{Digits}
+use Rattle.reading.specs.declared.text.Tag.{Tag}
+use Rattle.expressions.specs.Leaves.{ceiling, cut_z, digit_count, digit_value, DigitsAt}
+use Rattle.reading.specs.Words.{before, marks, stops, stop, front, cut_word, natural_of, Reads}
+use Rattle.expressions.proofs.LeavesLaws.{count_within, digit_low, natural_yes, natural_not, natural_zero, natural_none}
 
 -- the part &s[a..]
 pub part_rest : (s : List ℕ) (a : ℕ) → take (length s - a) (drop a s) ≡ drop a s
 part_rest s a = take_all (length s - a) (drop a s) (simp length-drop (omega arith))
 
 -- ---- where a byte stands
-pub before_here : (b : ℕ) (s : List ℕ) (i : ℕ) → i < length s → get_or s i 0 ≡ b → before b (drop i s) ≡ 0
+pub before_position : (b : ℕ) (s : List ℕ) → before b s ≡ position_or_len (λ x. eqb x b) s
 unfolding before
-before_here b s i h e = rw (drop-cons s i 0 h, eq-eqb _ _ e)
+before_position b s = is_position_or_len (before b) (λ x. eqb x b) refl (λ x s. ap (λ (n : ℕ). cond (eqb x b) 0 n) (omega arith)) s
 
-pub before_on : (b : ℕ) (s : List ℕ) (i : ℕ) → i < length s → (get_or s i 0 ≡ b → ⊥) → before b (drop i s) ≡ suc (before b (drop (suc i) s))
-unfolding before
-before_on b s i h e = rw (drop-cons s i 0 h, ne_eqb _ _ e)
+pub stop_position : (s : List ℕ) → stop s ≡ position_or_len stops s
+unfolding stop
+stop_position s = is_position_or_len stop stops refl (λ x s. ap (λ (n : ℕ). cond (stops x) 0 n) (omega arith)) s
 
-pub before_end : (b : ℕ) (s : List ℕ) (i : ℕ) → length s ≤ i → before b (drop i s) ≡ 0
-unfolding before
-before_end b s i h = rw (drop_of_length-le s)
+-- a place that was found, or the length
+pub position_found : (p : ℕ → Bool) (s : List ℕ) (r : Option ℕ) → r ≡ position p s → unwrap_or r (length s) ≡ position_or_len p s
+position_found p s r e = rw e (by (ltb (position_or_len p s) (length s)) refl)
+  where
+    by : (t : Bool) → ltb (position_or_len p s) (length s) ≡ t → unwrap_or (cond {A = Option ℕ} t (Some (position_or_len p s)) None) (length s) ≡ position_or_len p s
+    by true f = refl
+    by false f = omega (arith, ltb-false (position_or_len p s) (length s) f, prefix_len-le-length (λ x. not (p x)) s)
 
 -- ---- where a word ends
 pub stop_here : (s : List ℕ) (i : ℕ) → i < length s → stops (get_or s i 0) ≡ true → stop (drop i s) ≡ 0
@@ -104,30 +113,20 @@ split_last b (x ∷ s) h = go (eqb x b) (λ k. split_last b s k) h
     go true ih k = absurd (omega arith)
     go false ih k = ap (prefixed x) (ih (omega arith))
 
--- ---- keys and words
-pub starts_short : (w s : List ℕ) → length s < length w → starts_with w s ≡ false
+-- ---- keys
+pub starts_same : (w s : List ℕ) → pointwise eqb w (take (length w) s) ≡ starts_with w s
 unfolding starts_with
-starts_short [] s h = absurd (omega arith)
-starts_short (k ∷ w) [] h = refl
-starts_short (k ∷ w) (b ∷ s) h = go (eqb b k) (starts_short w s (omega arith))
+starts_same [] s = refl
+starts_same (k ∷ w) [] = refl
+starts_same (k ∷ w) (b ∷ s) = by (starts_same w s) (eqb k b) (eqb b k) refl refl
   where
-    go : (t : Bool) → starts_with w s ≡ false → cond t (starts_with w s) false ≡ false
-    go true e = e
-    go false e = refl
+    by : pointwise eqb w (take (length w) s) ≡ starts_with w s → (t u : Bool) → eqb k b ≡ t → eqb b k ≡ u → t && pointwise eqb w (take (length w) s) ≡ cond u (starts_with w s) false
+    by i true true e f = i
+    by i true false e f = absurd (eqb-false b k f (sym (eqb-true k b e)))
+    by i false true e f = absurd (eqb-false k b e (sym (eqb-true b k f)))
+    by i false false e f = refl
 
-pub starts_same : (w s : List ℕ) (i : ℕ) → i < length w → i < length s → get_or s i 0 ≡ get_or w i 0 → starts_with (drop i w) (drop i s) ≡ starts_with (drop (suc i) w) (drop (suc i) s)
-unfolding starts_with
-starts_same w s i h k e = rw (drop-cons w i 0 h, drop-cons s i 0 k, eq-eqb _ _ e)
-
-pub starts_other : (w s : List ℕ) (i : ℕ) → i < length w → i < length s → (get_or s i 0 ≡ get_or w i 0 → ⊥) → starts_with (drop i w) (drop i s) ≡ false
-unfolding starts_with
-starts_other w s i h k e = rw (drop-cons w i 0 h, drop-cons s i 0 k, ne_eqb _ _ e)
-
-pub starts_end : (w s : List ℕ) (i : ℕ) → length w ≤ i → starts_with (drop i w) (drop i s) ≡ true
-unfolding starts_with
-starts_end w s i h = rw (drop_of_length-le w)
-
--- ---- digits
+-- ---- digits, one after the other
 pub all_more : (s : List ℕ) (i : ℕ) → i < length s → is_digit (get_or s i 0) ≡ true → all_digits (drop i s) ≡ all_digits (drop (suc i) s)
 unfolding all_digits
 all_more s i h d = rw (drop-cons s i 0, d)
@@ -148,114 +147,108 @@ pub value_end : (s : List ℕ) (i a : ℕ) → length s ≤ i → value_from a (
 unfolding value_from
 value_end s i a h = rw (drop_of_length-le s)
 
--- digits after a value that is cut off: the result, cut off, is the same
-pub value_cut : (s : List ℕ) (a b : ℕ) → min a ceiling ≡ min b ceiling → min (value_from a s) ceiling ≡ min (value_from b s) ceiling
-unfolding value_from ceiling
-value_cut [] a b h = h
-value_cut (x ∷ s) a b h = value_cut s (a * 10 + (x - 48)) (b * 10 + (x - 48)) (omega arith)
+-- ---- digits up to a space or an LF
+at_stop : List ℕ → Bool
+at_stop [] = true
+at_stop (b ∷ s) = stops b
 
--- the first i bytes are digits, of value v where that is cut off
-pub record Upto (s : List ℕ) (v i : ℕ) : Type 0 where
-  pub within : i ≤ length s
-  pub small : v ≤ 2_000_000_001
-  pub all : all_digits s ≡ all_digits (drop i s)
-  pub value : min (value_from 0 s) ceiling ≡ min (value_from v (drop i s)) ceiling
+at_place : (s : List ℕ) (i : ℕ) → i < length s → at_stop (drop i s) ≡ stops (get_or s i 0)
+unfolding at_stop
+at_place s i h = rw (drop-cons s i 0 h)
 
-pub upto_none : (s : List ℕ) → Upto s 0 0
-upto_none s = record { within = omega arith; small = omega arith; all = refl; value = refl }
+at_end : (s : List ℕ) (i : ℕ) → length s ≤ i → at_stop (drop i s) ≡ true
+unfolding at_stop
+at_end s i h = rw (drop_of_length-le s h)
 
-pub upto_more : (s : List ℕ) (i v : ℕ) → Upto s v i → i < length s → is_digit (get_or s i 0) ≡ true → (r : ℕ) → r ≡ min (v * 10 + (get_or s i 0 - 48)) 2_000_000_001 → Upto s r (suc i)
-unfolding ceiling
-upto_more s i v u h d r e = record {
-  within = h;
-  small = omega arith;
-  all = u.all ∙ all_more s i h d;
-  value = u.value ∙ ap (λ (n : ℕ). min n ceiling) (value_more s i v h) ∙ value_cut (drop (suc i) s) _ _ (omega arith);
-}
+record Ended (u : List ℕ) : Type 0 where
+  all : all_digits (front u) ≡ true
+  long : stop u ≡ digit_count u
+  value : (n : ℕ) → value_from n (front u) ≡ digit_value n u
 
-pub upto_end : (s : List ℕ) (i v : ℕ) → Upto s v i → length s ≤ i → DigitsRead.Of v i ≡ digits_of s
-unfolding digits_of ceiling
-upto_end s i v u h =
-    let e : v ≡ min (value_from 0 s) ceiling = omega (arith, u.value, u.small, value_end s i v h) in
-    let l : i ≡ length s = omega (arith, u.within) in
-    rw (u.all, all_end s i h, ← e, ← l)
-
-pub upto_stop : (s : List ℕ) (i v : ℕ) → Upto s v i → i < length s → is_digit (get_or s i 0) ≡ false → DigitsRead.None ≡ digits_of s
-unfolding digits_of
-upto_stop s i v u h d = rw (u.all, all_stop s i h d)
-
--- a number not below 0
-pub natural_none : (s : List ℕ) → length s ≡ 0 → DigitsRead.None ≡ natural_of s
-unfolding natural_of is_natural
-natural_none [] h = refl
-natural_none (b ∷ s) h = absurd (omega arith)
-
-pub natural_zero : (s : List ℕ) → 1 < length s → get_or s 0 0 ≡ 48 → DigitsRead.None ≡ natural_of s
-unfolding natural_of is_natural
-natural_zero [] h e = absurd (omega arith)
-natural_zero (b ∷ []) h e = absurd (omega arith)
-natural_zero (b ∷ (c ∷ s)) h e = rw (eq-eqb b 48 e)
-
-pub natural_long : (s : List ℕ) → (get_or s 0 0 ≡ 48 → ⊥) → (length s ≡ 0 → ⊥) → digits_of s ≡ natural_of s
-unfolding natural_of is_natural digits_of all_digits
-natural_long [] h k = absurd (k refl)
-natural_long (b ∷ []) h k = go (is_digit b)
+ended : (u : List ℕ) → at_stop (drop (digit_count u) u) ≡ true → Ended u
+unfolding at_stop digit_count digit_value stop front all_digits value_from
+ended [] h = record { all = refl; long = refl; value = λ n. refl }
+ended (b ∷ s) h = by (ended s) (is_digit b) refl h
   where
-    go : (t : Bool) → cond (cond t true false) (DigitsRead.Of (min (value_from 0 (b ∷ [])) ceiling) 1) DigitsRead.None ≡ cond t (DigitsRead.Of (min (value_from 0 (b ∷ [])) ceiling) 1) DigitsRead.None
-    go true = refl
-    go false = refl
-natural_long (b ∷ (c ∷ s)) h k = rw (ne_eqb b 48 h)
+    by : (at_stop (drop (digit_count s) s) ≡ true → Ended s) → (d : Bool) → is_digit b ≡ d → at_stop (drop (cond d (suc (digit_count s)) 0) (b ∷ s)) ≡ true → Ended (b ∷ s)
+    by f true e k =
+        let m = digit_on b e in
+        let i = f k in
+        record { all = rw (m, e) i.all; long = rw (m, e) (ap suc i.long); value = λ n. rw (m, e) (i.value (n * 10 + (b - 48))) }
+    by f false e k = record { all = rw k; long = rw (k, e); value = λ n. rw (k, e) }
 
-pub natural_one : (s : List ℕ) → length s ≤ 1 → (length s ≡ 0 → ⊥) → digits_of s ≡ natural_of s
-unfolding natural_of is_natural digits_of all_digits
-natural_one [] h k = absurd (k refl)
-natural_one (b ∷ []) h k = go (is_digit b)
+stopped : (u : List ℕ) → at_stop (drop (digit_count u) u) ≡ false → all_digits (front u) ≡ false
+unfolding at_stop digit_count stop front all_digits
+stopped [] h = no_true (sym h)
+stopped (b ∷ s) h = by (stopped s) (is_digit b) refl h
   where
-    go : (t : Bool) → cond (cond t true false) (DigitsRead.Of (min (value_from 0 (b ∷ [])) ceiling) 1) DigitsRead.None ≡ cond t (DigitsRead.Of (min (value_from 0 (b ∷ [])) ceiling) 1) DigitsRead.None
-    go true = refl
-    go false = refl
-natural_one (b ∷ (c ∷ s)) h k = absurd (omega arith)
+    by : (at_stop (drop (digit_count s) s) ≡ false → all_digits (front s) ≡ false) → (d : Bool) → is_digit b ≡ d → at_stop (drop (cond d (suc (digit_count s)) 0) (b ∷ s)) ≡ false → all_digits (front (b ∷ s)) ≡ false
+    by f true e k = rw (digit_on b e, e) (f k)
+    by f false e k = rw (k, e)
 
--- what `digits` and `natural` found
-found_yes : (s : List ℕ) (test : Bool) (v n : ℕ) → cond test (DigitsRead.Of (min (value_from 0 s) ceiling) (length s)) DigitsRead.None ≡ DigitsRead.Of v n
-    → (test ≡ true) × (v ≡ min (value_from 0 s) ceiling) × (n ≡ length s)
-found_yes s true v n e = (refl, cc, cc)
-found_yes s false v n e = let z : ◌≡◌ {A = ℕ} 0 1 = cc in absurd (omega arith)
-
-found_no : (s : List ℕ) (test : Bool) → cond test (DigitsRead.Of (min (value_from 0 s) ceiling) (length s)) DigitsRead.None ≡ DigitsRead.None → test ≡ false
-found_no s true e = let z : ◌≡◌ {A = ℕ} 0 1 = cc in absurd (omega arith)
-found_no s false e = refl
-
-pub is_natural_lem : (s : List ℕ) (v n : ℕ) → natural_of s ≡ DigitsRead.Of v n → (is_natural s ≡ true) × (v ≡ min (value_from 0 s) ceiling) × (n ≡ length s)
+-- what was found of the word at the front
+no_digits : (s : List ℕ) → is_natural s ≡ false → None ≡ natural_of s
 unfolding natural_of
-is_natural_lem s v n e = found_yes s (is_natural s) v n e
+no_digits s e = rw e
 
-pub not_natural : (s : List ℕ) → natural_of s ≡ DigitsRead.None → is_natural s ≡ false
+module _ (s : List ℕ) (d : Digits) (h : DigitsAt s 0 d) where
+  count : d.next ≡ digit_count s
+  count = omega (arith, h.next)
+
+  ends_at : (d.next < length s → stops (get_or s d.next 0) ≡ true) → at_stop (drop (digit_count s) s) ≡ true
+  ends_at f = ap (λ n. at_stop (drop n s)) (sym count) ∙ by (leb (length s) d.next) refl
+    where
+      by : (t : Bool) → leb (length s) d.next ≡ t → at_stop (drop d.next s) ≡ true
+      by true e = at_end s d.next (leb-true (length s) d.next e)
+      by false e = let l = leb-false (length s) d.next e in at_place s d.next l ∙ f l
+
+  pub natural_within : (d.next ≡ 0 → ⊥) → 0 < length s
+  natural_within f = count_within s 0 (omega (arith, count))
+
+  pub natural_stopped : d.next < length s → stops (get_or s d.next 0) ≡ false → None ≡ natural_of (front s)
+  natural_stopped l e = no_digits (front s) (natural_not (front s) (stopped s (ap (λ n. at_stop (drop n s)) (sym count) ∙ at_place s d.next l ∙ e)))
+
+  pub natural_absent : d.next ≡ 0 → None ≡ natural_of (front s)
+  natural_absent z = by (at_stop (drop (digit_count s) s)) refl
+    where
+      by : (t : Bool) → at_stop (drop (digit_count s) s) ≡ t → None ≡ natural_of (front s)
+      by true e = no_digits (front s) (natural_none (front s) (omega (arith, front_length s, (ended s e).long, count)))
+      by false e = no_digits (front s) (natural_not (front s) (stopped s e))
+
+  module _ (f : d.next < length s → stops (get_or s d.next 0) ≡ true) where
+    whole : Ended s
+    whole = ended s (ends_at f)
+
+    pub natural_leading : get_or s 0 0 ≡ 48 → 1 < d.next → None ≡ natural_of (front s)
+    natural_leading z l = no_digits (front s) (natural_zero (front s) (omega (arith, front_length s, whole.long, count)) (front_at s 0 (omega (arith, whole.long, count)) ∙ z))
+
+    pub natural_found : (d.next ≡ 0 → ⊥) → (get_or s 0 0 ≡ 48 → d.next ≤ 1) → Some d ≡ natural_of (front s)
+    unfolding natural_of ceiling
+    natural_found p z =
+        let first : get_or (front s) 0 0 ≡ get_or s 0 0 = front_at s 0 (omega (arith, whole.long, count)) in
+        let yes : is_natural (front s) ≡ true = natural_yes (front s) whole.all (omega (arith, front_length s, whole.long, count)) (λ (e : get_or (front s) 0 0 ≡ 48). omega (arith, front_length s, whole.long, count, z (sym first ∙ e))) in
+        let v : d.value ≡ min (value_from 0 (front s)) 2_000_000_001 = h.value ∙ ap (λ n. min n 2_000_000_001) (sym (whole.value 0)) in
+        let n : d.next ≡ length (front s) = omega (arith, front_length s, whole.long, count) in
+        rw (yes, ← v, ← n)
+
+found_yes : (s : List ℕ) (test : Bool) (d : Digits) → cond test (Some (record { value = min (value_from 0 s) ceiling; next = length s })) None ≡ Some d
+    → (test ≡ true) × (d.value ≡ min (value_from 0 s) ceiling) × (d.next ≡ length s)
+found_yes s true d e =
+    let k : ◌≡◌ {A = Digits} (record { value = min (value_from 0 s) ceiling; next = length s }) d = cc in
+    (refl, sym (ap (λ (x : Digits). x.value) k), sym (ap (λ (x : Digits). x.next) k))
+found_yes s false d e = absurd (let z : ◌≡◌ {A = ℕ} 0 1 = cc in omega arith)
+
+pub is_natural_lem : (s : List ℕ) (d : Digits) → natural_of s ≡ Some d → (is_natural s ≡ true) × (d.value ≡ min (value_from 0 s) ceiling) × (d.next ≡ length s)
 unfolding natural_of
-not_natural s e = found_no s (is_natural s) e
+is_natural_lem s d e = found_yes s (is_natural s) d e
 
-pub digits_many : (s : List ℕ) (v n : ℕ) → digits_of s ≡ DigitsRead.Of v n → n ≡ length s
-unfolding digits_of
-digits_many s v n e = (found_yes s (all_digits s) v n e).2
-
--- without digits only there is no number
-not_digits : (s : List ℕ) → all_digits s ≡ false → is_natural s ≡ false
-unfolding all_digits is_natural
-not_digits [] h = refl
-not_digits (b ∷ []) h = go (is_digit b) h
+pub not_natural : (s : List ℕ) → natural_of s ≡ None → is_natural s ≡ false
+unfolding natural_of
+not_natural s e = by (is_natural s) e
   where
-    go : (t : Bool) → cond t true false ≡ false → t ≡ false
-    go true k = k
-    go false k = refl
-not_digits (b ∷ (c ∷ s)) h = rw h (go (eqb b 48))
-  where
-    go : (t : Bool) → cond t false false ≡ false
-    go true = refl
-    go false = refl
-
-pub natural_other : (s : List ℕ) → digits_of s ≡ DigitsRead.None → DigitsRead.None ≡ natural_of s
-unfolding digits_of natural_of
-natural_other s e = rw (not_digits s (found_no s (all_digits s) e))
+    by : (t : Bool) → cond {A = Option Digits} t (Some (record { value = min (value_from 0 s) ceiling; next = length s })) None ≡ None → t ≡ false
+    by true k = absurd (let z : ◌≡◌ {A = ℕ} 0 1 = cc in omega arith)
+    by false k = refl
 
 -- ---- words
 cut_cond : (b : Bool) (x y : Word) → cut_word (cond b x y) ≡ cond b (cut_word x) (cut_word y)
@@ -267,9 +260,9 @@ pub cut_plain : (s : List ℕ) → cut_word (plain_word s) ≡ plain_word s
 unfolding plain_word block_word comparison_word
 cut_plain s = simp cut_cond (unfold cut_word in refl)
 
-pub word_number : (s : List ℕ) (v n : ℕ) → natural_of s ≡ DigitsRead.Of v n → Number (pos v) ≡ cut_word (word_of s)
+pub word_number : (s : List ℕ) (d : Digits) → natural_of s ≡ Some d → Number (pos d.value) ≡ cut_word (word_of s)
 unfolding word_of cut_word cut_z
-word_number s v n e = let (t, h, _) = is_natural_lem s v n e in rw (t, h)
+word_number s d e = let (t, h, _) = is_natural_lem s d e in rw (t, h)
 
 pub word_none : (s : List ℕ) → length s ≡ 0 → Other ≡ cut_word (word_of s)
 unfolding word_of is_natural is_negative is_variable plain_word block_word comparison_word equals cut_word
@@ -288,7 +281,7 @@ word_marked [] h n = absurd (omega arith)
 word_marked (b ∷ t) h n = rw n
 
 module _ (s : List ℕ) (some : 0 < length s) (none : is_natural s ≡ false) where
-  pub mark_none : natural_of (drop 1 s) ≡ DigitsRead.None → plain_word s ≡ cut_word (word_of s)
+  pub mark_none : natural_of (drop 1 s) ≡ None → plain_word s ≡ cut_word (word_of s)
   mark_none e = rw (word_marked s some none, not_natural (drop 1 s) e) (go (eqb (get_or s 0 0) 45) (eqb (get_or s 0 0) 118))
     where
       go : (p q : Bool) → plain_word s ≡ cut_word (cond (cond p false false) (Number (neg_ℤ (pos (value_from 0 (drop 1 s))))) (cond (cond q false false) (Variable (value_from 0 (drop 1 s))) (plain_word s)))
@@ -306,17 +299,17 @@ module _ (s : List ℕ) (some : 0 < length s) (none : is_natural s ≡ false) wh
       go false true f g h = absurd (let z : ◌≡◌ {A = ℕ} 0 1 = cc in omega arith)
       go false false f g h = rw (word_marked s some none, g, f) (sym (cut_plain s))
 
-  module _ (v n : ℕ) (e : natural_of (drop 1 s) ≡ DigitsRead.Of v n) where
-    pub mark_variable : get_or s 0 0 ≡ 118 → Variable v ≡ cut_word (word_of s)
+  module _ (d : Digits) (e : natural_of (drop 1 s) ≡ Some d) where
+    pub mark_variable : get_or s 0 0 ≡ 118 → Variable d.value ≡ cut_word (word_of s)
     unfolding cut_word
     mark_variable h =
-        let (t, k, _) = is_natural_lem (drop 1 s) v n e in
+        let (t, k, _) = is_natural_lem (drop 1 s) d e in
         rw (word_marked s some none, h, t, k)
 
-    pub mark_negative : get_or s 0 0 ≡ 45 → (v ≡ 0 → ⊥) → Number (neg_ℤ (pos v)) ≡ cut_word (word_of s)
+    pub mark_negative : get_or s 0 0 ≡ 45 → (d.value ≡ 0 → ⊥) → Number (neg_ℤ (pos d.value)) ≡ cut_word (word_of s)
     unfolding cut_word cut_z ceiling
     mark_negative h z =
-        let (t, k, _) = is_natural_lem (drop 1 s) v n e in
+        let (t, k, _) = is_natural_lem (drop 1 s) d e in
         let y : eqb (value_from 0 (drop 1 s)) 0 ≡ false = ne_eqb (value_from 0 (drop 1 s)) 0 (λ (x : value_from 0 (drop 1 s) ≡ 0). z (omega arith)) in
         rw (word_marked s some none, h, t, y, k) (negative (value_from 0 (drop 1 s)) (λ (x : value_from 0 (drop 1 s) ≡ 0). z (omega arith)))
       where
@@ -324,25 +317,65 @@ module _ (s : List ℕ) (some : 0 < length s) (none : is_natural s ≡ false) wh
         negative zero f = absurd (f refl)
         negative (suc n) f = refl
 
-    pub mark_zero : get_or s 0 0 ≡ 45 → v ≡ 0 → plain_word s ≡ cut_word (word_of s)
+    pub mark_zero : get_or s 0 0 ≡ 45 → d.value ≡ 0 → plain_word s ≡ cut_word (word_of s)
     unfolding ceiling
     mark_zero h z =
-        let (t, k, _) = is_natural_lem (drop 1 s) v n e in
+        let (t, k, _) = is_natural_lem (drop 1 s) d e in
         let y : eqb (value_from 0 (drop 1 s)) 0 ≡ true = eq-eqb (value_from 0 (drop 1 s)) 0 (omega arith) in
         rw (word_marked s some none, h, t, y) (sym (cut_plain s))
 
-    pub mark_other : (get_or s 0 0 ≡ 45 → ⊥) → (get_or s 0 0 ≡ 118 → ⊥) → plain_word s ≡ cut_word (word_of s)
-    mark_other h k = rw (word_marked s some none, ne_eqb _ _ h, ne_eqb _ _ k) (sym (cut_plain s))
-
--- ---- signed numbers of the machine
-pub minus_fits : (v : ℕ) → v ≤ 2_000_000_001 → SFits w32 (neg_ℤ (pos v))
-minus_fits zero h = record { sfits = omega arith }
-minus_fits (suc v) h = record { sfits = omega arith }
-
-pub minus_is : (v : ℕ) → v ≤ 2_000_000_001 → pos 0 -ℤ to_z w32 v ≡ neg_ℤ (pos v)
-minus_is v h = rw (to_z_pos w32 v (omega arith)) (+ℤ_idl (neg_ℤ (pos v)))
-
 -- a number that `natural` found is cut off
-pub natural_small : (s : List ℕ) (v n : ℕ) → natural_of s ≡ DigitsRead.Of v n → v ≤ 2_000_000_001
+pub natural_small : (s : List ℕ) (d : Digits) → natural_of s ≡ Some d → d.value ≤ 2_000_000_001
 unfolding ceiling
-natural_small s v n e = let (_, h, _) = is_natural_lem s v n e in omega arith
+natural_small s d e = let (_, h, _) = is_natural_lem s d e in omega arith
+
+-- ---- the word at the front of a text, which is no number without a sign, by its first byte
+module _ (s : List ℕ) (p : 0 < stop s) (q : is_natural (front s) ≡ false) where
+  some : 0 < length (front s)
+  some = omega (arith, front_length s)
+
+  first : get_or (front s) 0 0 ≡ get_or s 0 0
+  first = front_at s 0 p
+
+  pub plain_first : marks (get_or s 0 0) ≡ false → plain_word (front s) ≡ cut_word (word_of (front s))
+  plain_first m = mark_plain (front s) some q (ap marks first ∙ m)
+
+  -- r is the number after it
+  module _ (r : Option Digits) (e : r ≡ natural_of (front (take (length s - 1) (drop 1 s)))) where
+    found : natural_of (drop 1 (front s)) ≡ r
+    found = sym (e ∙ ap (λ (t : List ℕ). natural_of (front t)) (part_rest s 1) ∙ ap natural_of (front_rest s p))
+
+    pub plain_none : r ≡ None → plain_word (front s) ≡ cut_word (word_of (front s))
+    plain_none k = mark_none (front s) some q (found ∙ k)
+
+    module _ (d : Digits) (k : r ≡ Some d) where
+      pub marked_small : d.value ≤ 2_000_000_001
+      marked_small = natural_small (drop 1 (front s)) d (found ∙ k)
+
+      pub marked_end : d.next + 1 ≡ stop s
+      marked_end =
+          let (_, _, n) = is_natural_lem (drop 1 (front s)) d (found ∙ k) in
+          omega (arith, n, length-drop 1 (front s), front_length s, some)
+
+      pub marked_within : d.next + 1 ≤ length s
+      marked_within = omega (arith, marked_end, stop_within s)
+
+      pub reads_variable : get_or s 0 0 ≡ 118 → Reads s (record { tag = Tag.Variable; value = pos d.value; end = d.next + 1 })
+      reads_variable v = record { word = mark_variable (front s) some q d (found ∙ k) (first ∙ v); end = marked_end }
+
+      -- the first byte is a `-`
+      module _ (m : marks (get_or s 0 0) ≡ true) (o : get_or s 0 0 ≡ 118 → ⊥) where
+        dash : get_or s 0 0 ≡ 45
+        unfolding marks
+        dash = by (eqb (get_or s 0 0) 118) (eqb (get_or s 0 0) 45) refl refl m
+          where
+            by : (t u : Bool) → eqb (get_or s 0 0) 118 ≡ t → eqb (get_or s 0 0) 45 ≡ u → cond t true u ≡ true → get_or s 0 0 ≡ 45
+            by true u f g h = absurd (o (eqb-true (get_or s 0 0) 118 f))
+            by false true f g h = eqb-true (get_or s 0 0) 45 g
+            by false false f g h = no_true h
+
+        pub plain_zero : d.value ≡ 0 → plain_word (front s) ≡ cut_word (word_of (front s))
+        plain_zero z = mark_zero (front s) some q d (found ∙ k) (first ∙ dash) z
+
+        pub reads_negative : (d.value ≡ 0 → ⊥) → Reads s (record { tag = Tag.Number; value = neg_ℤ (pos d.value); end = d.next + 1 })
+        reads_negative z = record { word = mark_negative (front s) some q d (found ∙ k) (first ∙ dash) z; end = marked_end }

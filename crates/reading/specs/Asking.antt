@@ -1,11 +1,12 @@
 -- A word asked in one walk from its first byte to its last, without recursion: what may follow what, and a count of open parentheses.
-use Rattle.std.specs.Prelude.{◌≡◌, Bool, true, cond, ◌&&◌, List, [], ◌∷◌, ℕ, zero, suc, max, ◌+◌, ◌*◌, ◌-◌, ◌≤◌, ◌<◌, leb, ltb, eqb, ℤ, nat_abs, length, drop}
+use Rattle.std.specs.Prelude.{◌≡◌, Bool, true, cond, ◌&&◌, List, [], ◌∷◌, ℕ, zero, suc, max, ◌+◌, ◌*◌, ◌-◌, ◌≤◌, ◌<◌, leb, eqb, length, drop, Result, Ok, Err}
 use Rattle.rules.specs.Expressions.{Expr, constant, variable, group, apply}
 use Rattle.rules.specs.Parse.{Parsed, parsed, shapeless, is_mark, atom}
-use Rattle.rules.specs.Values.{in_limits}
 use Rattle.rules.specs.File.{first_refusal, asks_leaves}
 use Rattle.expressions.specs.Operators.{is_sum}
+use Rattle.reading.specs.declared.order.LineQuestion.{LineQuestion}
 use Rattle.reading.specs.declared.questions.Scan.{Scan}
+use Rattle.reading.specs.Answers.{question_number, answer_number}
 
 -- what is counted on the way: the most parentheses open at a leaf, the operators, and the leaves' first no
 pub record Sizes : Type 0 where
@@ -88,33 +89,33 @@ word_question vars m d a (b ∷ s) = goes (act vars m d a b s) (λ m d a. word_q
 
 -- what is to come of a scan
 abbrev pub sizes_of : Scan → Sizes
-sizes_of c = record { deep = c.deep; ops = c.ops; asks = c.asks }
+sizes_of c = record { deep = c.deep; ops = c.ops; asks = answer_number c.asks }
 
 -- the question of a word that a scan has read so far
 unfoldable pub scan_question : ℕ → List ℕ → Scan → ℕ
-scan_question vars word c = cond c.good (word_question vars (cond c.due due shut) c.depth (sizes_of c) (drop c.at word)) 3
+scan_question vars word c = word_question vars (cond c.due due shut) c.depth (sizes_of c) (drop c.at word)
 
 -- how much of a word a scan has before it
 unfoldable pub bytes_ahead : List ℕ → Scan → ℕ
-bytes_ahead word c = cond c.good (suc (2 * (length word - c.at) + cond c.due 1 0)) 0
+bytes_ahead word c = 2 * (length word - c.at) + cond c.due 1 0
 
 -- a scan that goes on: no count is past the place
 pub record MayScan (word : List ℕ) (c : Scan) : Type 0 where
-  pub good : c.good ≡ true
   pub within : c.at < length word
   pub depth : c.depth ≤ c.at
   pub ops : c.ops ≤ c.at
 
 -- one step of a scan
-pub record ScanStep (vars : ℕ) (word : List ℕ) (c r : Scan) : Type 0 where
+pub record ScanOn (vars : ℕ) (word : List ℕ) (c r : Scan) : Type 0 where
   pub same : scan_question vars word r ≡ scan_question vars word c
   pub depth : r.depth ≤ r.at
   pub ops : r.ops ≤ r.at
   pub less : bytes_ahead word r < bytes_ahead word c
 
--- 4 or 5 of a leaf, by its tag
-unfoldable pub asked_of : ℕ → ℕ → ℤ → ℕ
-asked_of vars t z = cond (eqb t 2) (cond (ltb (nat_abs z) vars) 0 5) (cond (in_limits z) 0 4)
+-- or the word's question, if its shape is wrong there
+abbrev pub ScanStep : ℕ → List ℕ → Scan → Result Scan LineQuestion → Type 0
+ScanStep vars word c (Ok r) = ScanOn vars word c r
+ScanStep vars word c (Err q) = question_number q ≡ scan_question vars word c
 
 -- * + -
 unfoldable pub operates : ℕ → Bool

@@ -1,12 +1,13 @@
 -- Where a line or a word ends, and words whose numbers are cut off past every limit: code keeps 32 bits of a number of any length.
-use Rattle.std.specs.Prelude.{Bool, true, cond, List, [], ◌∷◌, ◌≡◌, ℕ, zero, suc, min, ◌+◌, ◌*◌, ◌-◌, ◌<◌, ◌≤◌, eqb, length, get_or, take, drop, ℤ, pos, negsuc}
+use Rattle.std.specs.Prelude.{Bool, true, cond, List, [], ◌∷◌, ◌≡◌, ℕ, suc, min, ◌+◌, ◌-◌, ◌<◌, ◌≤◌, eqb, length, get_or, take, drop, ℤ, pos, negsuc, Option, None, Some}
 use Rattle.rules.specs.declared.Comparison.TheVariants.{Less, AtMost, Greater, AtLeast, Equal, Different}
 use Rattle.rules.specs.declared.Name.{Name}
 use Rattle.rules.specs.declared.Word.{Word}
 use Rattle.rules.specs.declared.Word.TheVariants.{Missing, Number, Variable, Compares, Keyword, Other}
-use Rattle.rules.specs.Text.{split, all_digits, value_from, is_natural, word_of, words_of}
+use Rattle.rules.specs.Text.{split, value_from, is_natural, word_of, words_of}
 use Rattle.expressions.specs.Leaves.{ceiling, cut_z}
-use Rattle.reading.specs.declared.text.DigitsRead.{DigitsRead}
+use Rattle.expressions.specs.declared.leaves.Digits.{Digits}
+use Rattle.reading.specs.declared.text.Tag.{Tag}
 use Rattle.reading.specs.declared.text.WordFound.{WordFound}
 use Rattle.reading.specs.declared.text.LineWords.{LineWords}
 
@@ -41,85 +42,41 @@ cut_word (Compares c) = Compares c
 cut_word (Keyword n) = Keyword n
 cut_word Other = Other
 
--- digits, as a number and how many
-unfoldable pub digits_of : List ℕ → DigitsRead
-digits_of s = cond (all_digits s) (DigitsRead.Of (min (value_from 0 s) ceiling) (length s)) DigitsRead.None
-
 -- a text as a number not below 0, and its digits
-unfoldable pub natural_of : List ℕ → DigitsRead
-natural_of s = cond (is_natural s) (DigitsRead.Of (min (value_from 0 s) ceiling) (length s)) DigitsRead.None
-
--- a text as one number: its first byte lowest, a 1 after the last
-unfoldable pub packed : List ℕ → ℕ
-packed [] = 1
-packed (b ∷ s) = packed s * 256 + b
-
--- every number is a byte
-unfoldable pub Bytes : List ℕ → Type 0
-Bytes [] = Unit {0}
-Bytes (b ∷ s) = (b < 256) × Bytes s
-
--- n is the number of the text s
-pub record Packs (s : List ℕ) (n : ℕ) : Type 0 where
-  pub same : n ≡ packed s
-  pub bytes : Bytes s
-
--- every keyword and comparison: set, add, sub, mul, div, cue, off, for, while, do, end, else, pick, hold, < <= > >= == !=
-unfoldable pub keywords : List (List ℕ × Word)
-keywords =
-    ((115 ∷ 101 ∷ 116 ∷ []), Keyword Name.Set) ∷
-    ((97 ∷ 100 ∷ 100 ∷ []), Keyword Name.Add) ∷
-    ((115 ∷ 117 ∷ 98 ∷ []), Keyword Name.Sub) ∷
-    ((109 ∷ 117 ∷ 108 ∷ []), Keyword Name.Mul) ∷
-    ((100 ∷ 105 ∷ 118 ∷ []), Keyword Name.Div) ∷
-    ((99 ∷ 117 ∷ 101 ∷ []), Keyword Name.Cue) ∷
-    ((111 ∷ 102 ∷ 102 ∷ []), Keyword Name.Off) ∷
-    ((102 ∷ 111 ∷ 114 ∷ []), Keyword Name.For) ∷
-    ((119 ∷ 104 ∷ 105 ∷ 108 ∷ 101 ∷ []), Keyword Name.While) ∷
-    ((100 ∷ 111 ∷ []), Keyword Name.Do) ∷
-    ((101 ∷ 110 ∷ 100 ∷ []), Keyword Name.End) ∷
-    ((101 ∷ 108 ∷ 115 ∷ 101 ∷ []), Keyword Name.Else) ∷
-    ((112 ∷ 105 ∷ 99 ∷ 107 ∷ []), Keyword Name.Pick) ∷
-    ((104 ∷ 111 ∷ 108 ∷ 100 ∷ []), Keyword Name.Hold) ∷
-    ((60 ∷ []), Compares Less) ∷
-    ((60 ∷ 61 ∷ []), Compares AtMost) ∷
-    ((62 ∷ []), Compares Greater) ∷
-    ((62 ∷ 61 ∷ []), Compares AtLeast) ∷
-    ((61 ∷ 61 ∷ []), Compares Equal) ∷
-    ((33 ∷ 61 ∷ []), Compares Different) ∷
-    []
-
--- the word of a packed text
-unfoldable pub packed_word : List (List ℕ × Word) → ℕ → Word
-packed_word [] n = Other
-packed_word ((w, x) ∷ t) n = cond (eqb n (packed w)) x (packed_word t n)
-
--- the word at a place of the table
-unfoldable pub word_at : List (List ℕ × Word) → ℕ → Word
-word_at [] i = Other
-word_at ((w, x) ∷ t) zero = x
-word_at ((w, x) ∷ t) (suc i) = word_at t i
+unfoldable pub natural_of : List ℕ → Option Digits
+natural_of s = cond (is_natural s) (Some (record { value = min (value_from 0 s) ceiling; next = length s })) None
 
 -- a variable is never below 0
-unfoldable pub variable_word : ℤ → Word
+abbrev pub variable_word : ℤ → Word
 variable_word (pos v) = Variable v
 variable_word (negsuc v) = Other
 
--- the tag of a word that is not there
-abbrev pub missing_tag : ℕ
-missing_tag = 21
-
--- the tag of a number
-abbrev pub number_tag : ℕ
-number_tag = 22
-
--- the tag of a variable
-abbrev pub variable_tag : ℕ
-variable_tag = 23
-
--- the word that a tag and a value say; below those tags, a keyword's or comparison's place in the table, and after it any other word
-unfoldable pub word_in : ℕ → ℤ → Word
-word_in t z = cond (eqb t missing_tag) Missing (cond (eqb t number_tag) (Number z) (cond (eqb t variable_tag) (variable_word z) (word_at keywords t)))
+-- the word that a tag and a value say
+abbrev pub word_in : Tag → ℤ → Word
+word_in Tag.Set z = Keyword Name.Set
+word_in Tag.Add z = Keyword Name.Add
+word_in Tag.Sub z = Keyword Name.Sub
+word_in Tag.Mul z = Keyword Name.Mul
+word_in Tag.Div z = Keyword Name.Div
+word_in Tag.Cue z = Keyword Name.Cue
+word_in Tag.Off z = Keyword Name.Off
+word_in Tag.For z = Keyword Name.For
+word_in Tag.While z = Keyword Name.While
+word_in Tag.Do z = Keyword Name.Do
+word_in Tag.End z = Keyword Name.End
+word_in Tag.Else z = Keyword Name.Else
+word_in Tag.Pick z = Keyword Name.Pick
+word_in Tag.Hold z = Keyword Name.Hold
+word_in Tag.Less z = Compares Less
+word_in Tag.AtMost z = Compares AtMost
+word_in Tag.Greater z = Compares Greater
+word_in Tag.AtLeast z = Compares AtLeast
+word_in Tag.Equal z = Compares Equal
+word_in Tag.Different z = Compares Different
+word_in Tag.Missing z = Missing
+word_in Tag.Number z = Number z
+word_in Tag.Variable z = variable_word z
+word_in Tag.Other z = Other
 
 -- the word at the front of a text is read, its number cut off
 pub record Reads (s : List ℕ) (r : WordFound) : Type 0 where
@@ -149,7 +106,7 @@ text_in s at end = take (end - (at + 1)) (drop (at + 1) s)
 
 -- word k of a line's words
 abbrev pub line_word : LineWords → ℕ → Word
-line_word l k = word_in (get_or l.tags k 0) (get_or l.values k (pos 0))
+line_word l k = word_in (get_or l.tags k Tag.Missing) (get_or l.values k (pos 0))
 
 -- its text
 abbrev pub line_text : List ℕ → LineWords → ℕ → List ℕ

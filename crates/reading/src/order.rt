@@ -1,26 +1,43 @@
-// The questions of a line in their order: which of two that have no comes first.
+// The questions of a line's words: which of two that have no comes first.
 ghost use Rattle.std.specs.Prelude.{◌≡◌};
-ghost use Rattle.rules.specs.File.{turn_of, first_refusal};
+ghost use Rattle.rules.specs.File.{first_refusal};
+ghost use Rattle.reading.specs.Answers.{question_number, answer_number};
 
-// A question's turn on its line: 17 comes between 3 and 4.
-fn turn(q: u32) -> u64
-    ensures { result ≡ turn_of q }
-{
-    if q == 17 {
-        return 7;
-    }
-    2 * q as u64
+// The questions of a line's words, in the order in which a line asks them.
+#[derive(Debug, Clone, Copy, PartialEq, Eq, PartialOrd, Ord)]
+pub enum LineQuestion {
+    Shape,
+    Size,
+    Limits,
+    Variable,
 }
 
-// The question that comes first; 0 is none.
-pub fn first_refusal(p: u32, q: u32) -> u32
-    ensures { result ≡ first_refusal p q }
+impl LineQuestion {
+    // Its number in the documents.
+    pub fn number(self) -> u32
+        ensures { result ≡ question_number self }
+    {
+        match self {
+            LineQuestion::Shape => 3,
+            LineQuestion::Size => 17,
+            LineQuestion::Limits => 4,
+            LineQuestion::Variable => 5,
+        }
+    }
+}
+
+// What a word answers: yes, or the first question that has no.
+pub type Answer = Result<(), LineQuestion>;
+
+// Of two answers the no that comes first.
+pub fn first_refusal(p: Answer, q: Answer) -> Answer
+    ensures { answer_number result ≡ first_refusal (answer_number p) (answer_number q) }
 {
-    if p == 0 {
+    let Err(a) = p else {
         return q;
-    }
-    if q == 0 {
+    };
+    let Err(b) = q else {
         return p;
-    }
-    if turn(p) <= turn(q) { p } else { q }
+    };
+    Err(a.min(b))
 }

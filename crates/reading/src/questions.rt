@@ -1,187 +1,136 @@
 // What the reader asks of a word as an expression: the questions 3, 17, 4 and 5.
-ghost use Rattle.std.specs.Prelude.{◌≡◌, true, false, cond, ◌≤◌, pos, nat_abs};
+ghost use Rattle.std.specs.Prelude.{◌≡◌, true, false, cond, ◌≤◌};
 ghost use Rattle.rules.specs.Parse.{parse};
-ghost use Rattle.rules.specs.File.{asks_expr};
-ghost use Rattle.reading.specs.Asking.{due, shut as after_factor, sizes_of, end_question, MayScan, ScanStep, asked_of};
+ghost use Rattle.rules.specs.File.{asks_expr, asks_leaves};
+ghost use Rattle.expressions.specs.Leaves.{leaf_expr};
+ghost use Rattle.reading.specs.Asking.{due, shut as after_factor, sizes_of, end_question, MayScan, ScanStep};
 ghost use Rattle.reading.specs.Asking.{operates};
+ghost use Rattle.reading.specs.Answers.{answer_number};
 
-use crate::order::first_refusal;
-use expressions::leaves::{NEITHER, VARIABLE, leaf_at};
-use expressions::operators::{sums, within};
-use ints::min_max::larger_size;
+use crate::order::{Answer, LineQuestion, first_refusal};
+use expressions::leaves::{Leaf, leaf_at};
+use expressions::operators::within;
 
-// A walk over a word: whether its shape is good so far, whether a factor is due, the open parentheses, the most of them at a leaf, the
-// operators, the
-// leaves' first no, and the next byte.
+// A walk over a word, whose shape is good so far: whether a factor is due, the open parentheses, the most of them at a leaf, the
+// operators, the leaves' first no, and the next byte.
 #[derive(Clone, Copy)]
 struct Scan {
-    good: bool,
     due: bool,
     depth: usize,
     deep: usize,
     ops: usize,
-    asks: u32,
+    asks: Answer,
     at: usize,
 }
 
+// The most parentheses open together, and the most operators of an expression: question 17.
+const DEEPEST: usize = 8;
+
+const MOST_OPERATORS: usize = 15;
+
+// Before the first byte.
+const START: Scan = Scan {
+    due: true,
+    depth: 0,
+    deep: 0,
+    ops: 0,
+    asks: Ok(()),
+    at: 0,
+};
+
 // The question that a leaf has no to.
-fn asks_leaf(tag: u8, value: i32, vars: u32) -> u32
-    requires { tag ≡ 2 → pos (nat_abs value) ≡ value }
-    ensures { result ≡ asked_of vars tag value }
+fn asks_leaf(leaf: Leaf, vars: u32) -> Answer
+    ensures { answer_number result ≡ asks_leaves vars (leaf_expr leaf) }
 {
-    if tag == VARIABLE {
-        if (value as u32) < vars {
-            return 0;
-        }
-        return 5;
+    match leaf {
+        Leaf::Variable(v) if v < vars => Ok(()),
+        Leaf::Variable(_) => Err(LineQuestion::Variable),
+        Leaf::Constant(k) if within(k as i64) => Ok(()),
+        Leaf::Constant(_) => Err(LineQuestion::Limits),
     }
-    if within(value as i64) {
-        return 0;
-    }
-    4
 }
 
 // Where a factor is due: a parenthesis, or a constant or a variable.
-fn step_due(word: &[u8], vars: u32, c: Scan) -> Scan
+fn step_due(word: &[u8], vars: u32, c: Scan) -> Result<Scan, LineQuestion>
     requires { (vars ≤ 16) × (c.due ≡ true) × MayScan word.now c }
     ensures { ScanStep vars word.now c result }
 {
-    let at = c.at;
-    if word[at] == b'(' {
-        return Scan {
-            good: true,
-            due: true,
+    if word[c.at] == b'(' {
+        return Ok(Scan {
             depth: c.depth + 1,
-            deep: c.deep,
-            ops: c.ops,
-            asks: c.asks,
-            at: at + 1,
-        };
+            at: c.at + 1,
+            ..c
+        });
     }
-    let leaf = leaf_at(word, at);
-    let next = leaf.next;
-    let tag = leaf.tag;
-    if tag == NEITHER {
-        return Scan {
-            good: false,
-            due: true,
-            depth: c.depth,
-            deep: c.deep,
-            ops: c.ops,
-            asks: c.asks,
-            at,
-        };
-    }
-    Scan {
-        good: true,
+    let Some(found) = leaf_at(word, c.at) else {
+        return Err(LineQuestion::Shape);
+    };
+    Ok(Scan {
         due: false,
-        depth: c.depth,
-        deep: larger_size(c.deep, c.depth),
-        ops: c.ops,
-        asks: first_refusal(c.asks, asks_leaf(tag, leaf.value, vars)),
-        at: next,
-    }
+        deep: c.deep.max(c.depth),
+        asks: first_refusal(c.asks, asks_leaf(found.leaf, vars)),
+        at: found.next,
+        ..c
+    })
 }
 
 // * + -
+#[tactic(auto, unfolding(crate::specs::Asking::operates, expressions::specs::Operators::is_sum))]
 fn operates(b: u8) -> bool
     ensures { result ≡ operates b }
 {
-    if b == b'*' {
-        return true;
-    }
-    sums(b)
+    matches!(b, b'*' | b'+' | b'-')
 }
 
 // After a factor: an operator, or a parenthesis.
-fn step_after(word: &[u8], vars: u32, c: Scan) -> Scan
+fn step_after(word: &[u8], vars: u32, c: Scan) -> Result<Scan, LineQuestion>
     requires { (c.due ≡ false) × MayScan word.now c }
     ensures { ScanStep vars word.now c result }
 {
-    let at = c.at;
-    let depth = c.depth;
-    let b = word[at];
+    let b = word[c.at];
     if operates(b) {
-        return Scan {
-            good: true,
+        return Ok(Scan {
             due: true,
-            depth,
-            deep: c.deep,
             ops: c.ops + 1,
-            asks: c.asks,
-            at: at + 1,
-        };
+            at: c.at + 1,
+            ..c
+        });
     }
-    if b == b')' {
-        if 0 < depth {
-            return Scan {
-                good: true,
-                due: false,
-                depth: depth - 1,
-                deep: c.deep,
-                ops: c.ops,
-                asks: c.asks,
-                at: at + 1,
-            };
-        }
+    if b == b')' && 0 < c.depth {
+        return Ok(Scan {
+            depth: c.depth - 1,
+            at: c.at + 1,
+            ..c
+        });
     }
-    Scan {
-        good: false,
-        due: false,
-        depth,
-        deep: c.deep,
-        ops: c.ops,
-        asks: c.asks,
-        at,
-    }
+    Err(LineQuestion::Shape)
 }
 
 // After the last byte: 3 if a factor is due or a parenthesis is open, then 17, 4 and 5.
-fn verdict(c: Scan) -> u32
-    ensures { result ≡ end_question (cond c.due due after_factor) c.depth (sizes_of c) }
+fn verdict(c: Scan) -> Answer
+    ensures { answer_number result ≡ end_question (cond c.due due after_factor) c.depth (sizes_of c) }
 {
-    if c.due {
-        return 3;
+    if c.due || 0 < c.depth {
+        return Err(LineQuestion::Shape);
     }
-    if 0 < c.depth {
-        return 3;
+    if c.deep <= DEEPEST && c.ops <= MOST_OPERATORS {
+        return c.asks;
     }
-    let asks = c.asks;
-    if c.deep <= 8 {
-        if c.ops <= 15 {
-            return asks;
-        }
-    }
-    first_refusal(17, asks)
+    first_refusal(Err(LineQuestion::Size), c.asks)
 }
 
-// The first of the questions 3, 17, 4 and 5 that a word has no to as an expression; 0 for none.
-pub fn question(word: &[u8], vars: u32) -> u32
+// The first of the questions 3, 17, 4 and 5 that a word has no to as an expression.
+pub fn question(word: &[u8], vars: u32) -> Answer
     requires { vars ≤ 16 }
-    ensures { result ≡ asks_expr vars (parse word.now) }
+    ensures { answer_number result ≡ asks_expr vars (parse word.now) }
 {
-    let mut c = Scan {
-        good: true,
-        due: true,
-        depth: 0,
-        deep: 0,
-        ops: 0,
-        asks: 0,
-        at: 0,
-    };
-    loop {
-        let at = c.at;
-        if c.good {
-            if at >= word.len() {
-                return verdict(c);
-            }
-            if c.due {
-                c = step_due(word, vars, c);
-            } else {
-                c = step_after(word, vars, c);
-            }
+    let mut c = START;
+    while c.at < word.len() {
+        c = if c.due {
+            step_due(word, vars, c)?
         } else {
-            return 3;
-        }
+            step_after(word, vars, c)?
+        };
     }
+    verdict(c)
 }

@@ -4,135 +4,107 @@ ghost use Rattle.rules.specs.Values.{highest};
 ghost use Rattle.rules.specs.File.{asks_end, asks_number, asks_variable, asks_expr, asks_comparison, asks_ordered, asks_change, asks_step};
 ghost use Rattle.rules.specs.File.{asks_one, asks_order, number_of, variable_of, comparison_of, change_of, step_of};
 ghost use Rattle.rules.specs.Parse.{parse};
+ghost use Rattle.reading.specs.Answers.{answer_number};
 ghost use Rattle.reading.specs.Words.{text_in};
 ghost use Rattle.reading.specs.Meaning.{line_expr, Meant, OperandFits, line_operand};
 
+use crate::order::{Answer, LineQuestion};
 use crate::questions::question;
 use crate::text::{LineWords, word};
 use rules::{Change, Comparison, Name, Operand, Word};
 
 // Question 4 of a number.
-fn inside(lo: i32, hi: i32, z: i32) -> u32
-    ensures { result ≡ asks_number lo hi (Word.Number z) }
+fn inside(lo: i32, hi: i32, z: i32) -> Answer
+    ensures { answer_number result ≡ asks_number lo hi (Word.Number z) }
 {
-    if lo <= z {
-        if z <= hi {
-            return 0;
-        }
-        return 4;
+    if lo <= z && z <= hi {
+        return Ok(());
     }
-    4
+    Err(LineQuestion::Limits)
 }
 
 // A number from lo to hi.
-pub fn asks_number(lo: i32, hi: i32, w: Word) -> u32
-    ensures { result ≡ asks_number lo hi w }
+pub fn asks_number(lo: i32, hi: i32, w: Word) -> Answer
+    ensures { answer_number result ≡ asks_number lo hi w }
 {
     match w {
         Word::Number(z) => inside(lo, hi, z),
-        _ => 3,
+        _ => Err(LineQuestion::Shape),
     }
 }
 
 // Question 5 of a variable.
-fn below(vars: u32, v: u32) -> u32
-    ensures { result ≡ asks_variable vars (Word.Variable v) }
+fn below(vars: u32, v: u32) -> Answer
+    ensures { answer_number result ≡ asks_variable vars (Word.Variable v) }
 {
-    if v < vars { 0 } else { 5 }
+    if v < vars {
+        return Ok(());
+    }
+    Err(LineQuestion::Variable)
 }
 
 // A variable below V.
-pub fn asks_variable(vars: u32, w: Word) -> u32
-    ensures { result ≡ asks_variable vars w }
+pub fn asks_variable(vars: u32, w: Word) -> Answer
+    ensures { answer_number result ≡ asks_variable vars w }
 {
     match w {
         Word::Variable(v) => below(vars, v),
-        _ => 3,
+        _ => Err(LineQuestion::Shape),
     }
 }
 
 // The questions of a word that is to be an expression: the bytes from `at + 1` to `end`.
-fn asks_text(s: &[u8], at: usize, end: usize, vars: u32) -> u32
+fn asks_text(s: &[u8], at: usize, end: usize, vars: u32) -> Answer
     requires { (end ≤ length s.now) × (vars ≤ 16) }
-    ensures { result ≡ asks_expr vars (parse (text_in s.now at end)) }
+    ensures { answer_number result ≡ asks_expr vars (parse (text_in s.now at end)) }
 {
     if at < end {
         return question(&s[at + 1..end], vars);
     }
-    3
+    Err(LineQuestion::Shape)
 }
 
 // The same of word k of a line: a constant or a variable alone is not read again.
-pub fn asks_expression(s: &[u8], line: LineWords, k: usize, vars: u32) -> u32
+pub fn asks_expression(s: &[u8], line: LineWords, k: usize, vars: u32) -> Answer
     requires { Meant s.now vars line × (k < 8) }
-    ensures { result ≡ asks_expr vars (line_expr s.now line k) }
+    ensures { answer_number result ≡ asks_expr vars (line_expr s.now line k) }
 {
-    let w = word(line, k);
-    match w {
+    match word(line, k) {
         Word::Number(z) => inside(-1_000_000_000, 1_000_000_000, z),
         Word::Variable(v) => below(vars, v),
-        _ => {
-            let at = line.ends[k];
-            let end = line.ends[k + 1];
-            asks_text(s, at, end, vars)
-        }
+        _ => asks_text(s, line.ends[k], line.ends[k + 1], vars),
     }
 }
 
 // A comparison.
-pub fn asks_comparison(w: Word) -> u32
-    ensures { result ≡ asks_comparison w }
+pub fn asks_comparison(w: Word) -> Answer
+    ensures { answer_number result ≡ asks_comparison w }
 {
     match w {
-        Word::Missing => 3,
-        Word::Number(_) => 3,
-        Word::Variable(_) => 3,
-        Word::Compares(_) => 0,
-        Word::Keyword(_) => 3,
-        Word::Other => 3,
+        Word::Compares(_) => Ok(()),
+        _ => Err(LineQuestion::Shape),
     }
 }
 
 // < <= > or >=.
-fn ordered(c: Comparison) -> u32
-    ensures { result ≡ asks_ordered (Word.Compares c) }
-{
-    match c {
-        Comparison::Less => 0,
-        Comparison::AtMost => 0,
-        Comparison::Greater => 0,
-        Comparison::AtLeast => 0,
-        Comparison::Equal => 3,
-        Comparison::Different => 3,
-    }
-}
-
-// One of these comparisons.
-pub fn asks_ordered(w: Word) -> u32
-    ensures { result ≡ asks_ordered w }
+pub fn asks_ordered(w: Word) -> Answer
+    ensures { answer_number result ≡ asks_ordered w }
 {
     match w {
-        Word::Missing => 3,
-        Word::Number(_) => 3,
-        Word::Variable(_) => 3,
-        Word::Compares(c) => ordered(c),
-        Word::Keyword(_) => 3,
-        Word::Other => 3,
+        Word::Compares(
+            Comparison::Less | Comparison::AtMost | Comparison::Greater | Comparison::AtLeast,
+        ) => Ok(()),
+        _ => Err(LineQuestion::Shape),
     }
 }
 
 // The number 1.
-pub fn asks_one(w: Word) -> u32
-    ensures { result ≡ asks_one w }
+pub fn asks_one(w: Word) -> Answer
+    ensures { answer_number result ≡ asks_one w }
 {
     match w {
-        Word::Number(z) => {
-            if inside(1, 1, z) == 0 {
-                return 0;
-            }
-            3
-        }
-        _ => 3,
+        Word::Number(1) => Ok(()),
+        _ => Err(LineQuestion::Shape),
     }
 }
 
@@ -147,10 +119,13 @@ pub fn number_of(w: Word) -> i32
 }
 
 // LO at most HI.
-pub fn asks_order(lo: Word, hi: Word) -> u32
-    ensures { result ≡ asks_order lo hi }
+pub fn asks_order(lo: Word, hi: Word) -> Answer
+    ensures { answer_number result ≡ asks_order lo hi }
 {
-    if number_of(lo) <= number_of(hi) { 0 } else { 4 }
+    if number_of(lo) <= number_of(hi) {
+        return Ok(());
+    }
+    Err(LineQuestion::Limits)
 }
 
 // A number that is not below 0.
@@ -177,14 +152,12 @@ pub fn operand_of(base: usize, line: LineWords, k: usize) -> Operand
     requires { (k < 8) × OperandFits base line k }
     ensures { result ≡ line_operand base line k }
 {
-    let w = word(line, k);
-    match w {
+    match word(line, k) {
         Word::Number(z) => Operand::Constant(z),
         Word::Variable(v) => Operand::Variable(v as u8),
         _ => {
-            let at = line.ends[k];
+            let begin = line.ends[k] + 1;
             let end = line.ends[k + 1];
-            let begin = at + 1;
             Operand::Expression((base + begin) as u16, (end - begin) as u16)
         }
     }
@@ -195,25 +168,19 @@ pub fn comparison_of(w: Word) -> Comparison
     ensures { result ≡ comparison_of w }
 {
     match w {
-        Word::Missing => Comparison::Less,
-        Word::Number(_) => Comparison::Less,
-        Word::Variable(_) => Comparison::Less,
         Word::Compares(c) => c,
-        Word::Keyword(_) => Comparison::Less,
-        Word::Other => Comparison::Less,
+        _ => Comparison::Less,
     }
 }
 
 // The constant of an arithmetic row.
-pub fn asks_change(name: Name, w: Word) -> u32
-    ensures { result ≡ asks_change name w }
+pub fn asks_change(name: Name, w: Word) -> Answer
+    ensures { answer_number result ≡ asks_change name w }
 {
     match name {
-        Name::Add => asks_number(0, 1_000_000_000, w),
-        Name::Sub => asks_number(0, 1_000_000_000, w),
-        Name::Mul => asks_number(1, 1_000_000_000, w),
-        Name::Div => asks_number(1, 1_000_000_000, w),
-        _ => 3,
+        Name::Add | Name::Sub => asks_number(0, 1_000_000_000, w),
+        Name::Mul | Name::Div => asks_number(1, 1_000_000_000, w),
+        _ => Err(LineQuestion::Shape),
     }
 }
 
@@ -232,12 +199,12 @@ pub fn change_of(name: Name, w: Word) -> Change
 }
 
 // A for's step row.
-pub fn asks_step(x: Word, w: Word) -> u32
-    ensures { result ≡ asks_step x w }
+pub fn asks_step(x: Word, w: Word) -> Answer
+    ensures { answer_number result ≡ asks_step x w }
 {
     match x {
         Word::Keyword(n) => asks_change(n, w),
-        _ => 3,
+        _ => Err(LineQuestion::Shape),
     }
 }
 
@@ -253,11 +220,11 @@ pub fn step_of(x: Word, w: Word) -> Change
 }
 
 // No word: nothing stands after the last.
-pub fn asks_end(w: Word) -> u32
-    ensures { result ≡ asks_end w }
+pub fn asks_end(w: Word) -> Answer
+    ensures { answer_number result ≡ asks_end w }
 {
     match w {
-        Word::Missing => 0,
-        _ => 3,
+        Word::Missing => Ok(()),
+        _ => Err(LineQuestion::Shape),
     }
 }

@@ -8,18 +8,17 @@ ghost use Rattle.table.specs.Packing.{IsComparison};
 ghost use Rattle.run_actions.specs.States.{is_going, stopped_at, over_at, on_at, PutDone, CueDone, PickDone, AfterByte};
 ghost use Rattle.run_actions.specs.States.{RoomAt, EntryBegun, TurnBegun};
 
-use ints::min_max::larger;
 use rules::{ALL, Ending, MOST, Prices, TURNS};
 
 // Going, or over: the ending and its row.
-#[derive(Clone, Copy)]
+#[derive(Clone, Copy, Debug, PartialEq, Eq)]
 pub enum Status {
     Going,
     Over(Ending, usize),
 }
 
 // Before a row, or before the test of the loop that ends there; the ticks that are left, the bytes used.
-#[derive(Clone, Copy)]
+#[derive(Clone, Copy, Debug, PartialEq, Eq)]
 pub struct Machine {
     pub row: usize,
     pub testing: bool,
@@ -32,11 +31,7 @@ pub struct Machine {
 pub fn going(m: Machine) -> bool
     ensures { result ≡ is_going m.status }
 {
-    let status = m.status;
-    match status {
-        Status::Going => true,
-        Status::Over(_, _) => false,
-    }
+    matches!(m.status, Status::Going)
 }
 
 // The run ends at row `at`, with so many ticks left and bytes used.
@@ -46,8 +41,8 @@ fn stopped(m: Machine, left: u64, used: usize, ending: Ending, at: usize) -> Mac
     Machine {
         row: m.row,
         testing: m.testing,
-        left: left,
-        used: used,
+        left,
+        used,
         status: Status::Over(ending, at),
     }
 }
@@ -64,9 +59,9 @@ pub fn on(m: Machine, left: u64, row: usize, testing: bool) -> Machine
     ensures { result ≡ on_at m left row testing }
 {
     Machine {
-        row: row,
-        testing: testing,
-        left: left,
+        row,
+        testing,
+        left,
         used: m.used,
         status: Status::Going,
     }
@@ -157,7 +152,7 @@ pub fn begin(k: usize, counts: &mut [[u64; 3]; 16])
     ensures { EntryBegun k counts.old counts.new }
 {
     let turns = counts[k][TURNS];
-    counts[k] = [0, counts[k][ALL] + turns, larger(counts[k][MOST], turns)];
+    counts[k] = [0, counts[k][ALL] + turns, counts[k][MOST].max(turns)];
 }
 
 // A turn of loop k begins.

@@ -7,7 +7,6 @@ ghost use Rattle.rules.specs.Calls.{is_loop_row};
 ghost use Rattle.table.specs.Code.{rows_of, kind_at};
 ghost use Rattle.run_loops.specs.Loops.{Counted, LoopsOf};
 
-use ints::min_max::larger;
 use rules::{ALL, LoopCount, MOST, TURNS};
 use table::Shape;
 
@@ -19,7 +18,7 @@ pub const NO_COUNT: LoopCount = LoopCount {
 };
 
 // At most 16 loops, with their counts in row order.
-#[derive(Clone, Copy)]
+#[derive(Clone, Copy, Debug, PartialEq, Eq)]
 pub struct Loops {
     pub count: usize,
     pub counts: [LoopCount; 16],
@@ -30,12 +29,7 @@ pub fn is_loop(rows: &[u32], i: usize) -> bool
     requires { 4 * i + 3 < length rows.now }
     ensures { (text : List ℕ) → result ≡ is_loop_row (view_of (kind_of text (kind_at (rows_of rows.now) i))) }
 {
-    match table::shape_at(rows, i) {
-        Shape::Plain => false,
-        Shape::Branch => false,
-        Shape::Loop => true,
-        Shape::Close => false,
-    }
+    matches!(table::shape_at(rows, i), Shape::Loop)
 }
 
 // The counts of the loop at a row: the current entry is added to those before it.
@@ -46,7 +40,7 @@ fn count_of(row: usize, c: [u64; 3]) -> LoopCount
     LoopCount {
         row,
         all: c[ALL] + c[TURNS],
-        most: larger(c[MOST], c[TURNS]),
+        most: c[MOST].max(c[TURNS]),
     }
 }
 
@@ -57,13 +51,11 @@ pub fn loops_of(rows: &[u32], count: usize, counts: &[[u64; 3]; 16]) -> Loops
 {
     let mut listed = [NO_COUNT; 16];
     let mut k: usize = 0;
-    let mut j: usize = 0;
-    while j < count {
+    for j in 0..count {
         if is_loop(rows, j) {
             listed[k] = count_of(j, counts[k]);
             k += 1;
         }
-        j += 1;
     }
     Loops {
         count: k,

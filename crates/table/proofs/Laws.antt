@@ -68,40 +68,34 @@ not_else Tag.Off e o i = refl
 not_else Tag.Hold e o i = refl
 
 -- a row that is no set, no change, no for and no off
-abbrev idle : List ℕ
-idle = 0 ∷ 1 ∷ 2 ∷ 5 ∷ 6 ∷ 7 ∷ 10 ∷ []
-
-pub not_assigned : (text : List ℕ) (g : Tag) (e : List ℕ) → OneOf idle (tag_of the_type g) → (w : ℕ) → sets w (plain_of text (kind_by g e)) ≡ false
+pub not_assigned : (text : List ℕ) (g : Tag) (e : List ℕ) → (g ≡ Tag.Set → ⊥) → (g ≡ Tag.Move → ⊥) → (g ≡ Tag.For → ⊥) → (g ≡ Tag.Off → ⊥) → (w : ℕ) → sets w (plain_of text (kind_by g e)) ≡ false
 unfolding kind_by view_of kind_of sets
-not_assigned text Tag.End e o w = refl
-not_assigned text Tag.Else e o w = refl
-not_assigned text Tag.Pick e o w = refl
-not_assigned text Tag.Set e o w = absurd (miss idle 3 tt o)
-not_assigned text Tag.Move e o w = absurd (miss idle 4 tt o)
-not_assigned text Tag.Cue e o w = refl
-not_assigned text Tag.While e o w = refl
-not_assigned text Tag.Do e o w = refl
-not_assigned text Tag.For e o w = absurd (miss idle 8 tt o)
-not_assigned text Tag.Off e o w = absurd (miss idle 9 tt o)
-not_assigned text Tag.Hold e o w = refl
+not_assigned text Tag.End e a b c d w = refl
+not_assigned text Tag.Else e a b c d w = refl
+not_assigned text Tag.Pick e a b c d w = refl
+not_assigned text Tag.Set e a b c d w = absurd (a refl)
+not_assigned text Tag.Move e a b c d w = absurd (b refl)
+not_assigned text Tag.Cue e a b c d w = refl
+not_assigned text Tag.While e a b c d w = refl
+not_assigned text Tag.Do e a b c d w = refl
+not_assigned text Tag.For e a b c d w = absurd (c refl)
+not_assigned text Tag.Off e a b c d w = absurd (d refl)
+not_assigned text Tag.Hold e a b c d w = refl
 
 -- a row that begins no loop
-abbrev no_loop_lem : List ℕ
-no_loop_lem = 0 ∷ 1 ∷ 2 ∷ 3 ∷ 4 ∷ 5 ∷ 9 ∷ []
-
-pub not_loop : (text : List ℕ) (g : Tag) (e : List ℕ) → OneOf no_loop_lem (tag_of the_type g) → end_op (view_of (kind_of text (kind_by g e))) ≡ 0
+pub not_loop : (text : List ℕ) (g : Tag) (e : List ℕ) → (g ≡ Tag.While → ⊥) → (g ≡ Tag.Do → ⊥) → (g ≡ Tag.For → ⊥) → (g ≡ Tag.Hold → ⊥) → end_op (view_of (kind_of text (kind_by g e))) ≡ 0
 unfolding kind_by view_of kind_of
-not_loop text Tag.End e o = refl
-not_loop text Tag.Else e o = refl
-not_loop text Tag.Pick e o = refl
-not_loop text Tag.Set e o = refl
-not_loop text Tag.Move e o = refl
-not_loop text Tag.Cue e o = refl
-not_loop text Tag.While e o = absurd (miss no_loop_lem 6 tt o)
-not_loop text Tag.Do e o = absurd (miss no_loop_lem 7 tt o)
-not_loop text Tag.For e o = absurd (miss no_loop_lem 8 tt o)
-not_loop text Tag.Off e o = refl
-not_loop text Tag.Hold e o = absurd (miss no_loop_lem 10 tt o)
+not_loop text Tag.End e a b c d = refl
+not_loop text Tag.Else e a b c d = refl
+not_loop text Tag.Pick e a b c d = refl
+not_loop text Tag.Set e a b c d = refl
+not_loop text Tag.Move e a b c d = refl
+not_loop text Tag.Cue e a b c d = refl
+not_loop text Tag.While e a b c d = absurd (a refl)
+not_loop text Tag.Do e a b c d = absurd (b refl)
+not_loop text Tag.For e a b c d = absurd (c refl)
+not_loop text Tag.Off e a b c d = refl
+not_loop text Tag.Hold e a b c d = absurd (d refl)
 
 -- ---- numbers that are put
 -- a number of another row

@@ -13,7 +13,7 @@ use Rattle.rules.specs.declared.Comparison.{Comparison}
 use Rattle.rules.specs.declared.Comparison.TheVariants.{Different}
 use Rattle.rules.specs.declared.Change.{Change}
 use Rattle.table.specs.declared.Tag.{Tag}
-use Rattle.table.specs.Code.{constant_in, operand_in, is_expression, comparison_by, change_in, limit_in, step_in, tag_in, kind_by, kind_in}
+use Rattle.table.specs.Code.{constant_in, operand_in, is_expression, comparison_by, change_in, step_in, tag_in, kind_by, kind_in}
 use Rattle.table.specs.Packing.{IsComparison, ComparisonCoded, FirstIs, TestIn, TestRow, Stands}
 
 -- ---- the tag of an op, by the range that it is in

@@ -17,9 +17,9 @@ use Rattle.rules.specs.Calls.{is_loop_row, loop_rows}
 use Rattle.rules_machine.specs.RowMachine.{Opens, Pairs, push, closes_row, pair_row, pairs}
 use Rattle.table.specs.declared.Open.{Open}
 use Rattle.table.specs.declared.Role.{Role}
-use Rattle.table.specs.Code.{number, op_in, partner_in, kind_in, numbers_at}
+use Rattle.table.specs.Code.{op_in, partner_in, kind_in, numbers_at}
 use Rattle.table.specs.Packing.{TestOf, Stands, Only, RowPut}
-use Rattle.table.specs.Paired.{SameTest, Kept, PartnerPut, end_op, EndPut, role_by, role_of, head_of, number_of, pushed_on, popped_off, open_after, Room, stack_of, loops_before, Waiting, EndRow, PairedBy, PairedTo, Ready, NextPut}
+use Rattle.table.specs.Paired.{Kept, PartnerPut, end_op, EndPut, role_by, role_of, head_of, number_of, pushed_on, popped_off, open_after, Room, stack_of, loops_before, Waiting, EndRow, PairedBy, Ready, NextPut}
 use Rattle.table.proofs.Same.{test_of, kind_same, kept_same, test_trans, test_sym, end_small, end_kind}
 
 -- rows before j, and row j

@@ -14,7 +14,7 @@ use Rattle.rules.specs.Blocks.{no_step, step_by, View, is_plain, is_pick, is_els
 use Rattle.rules.specs.Calls.{is_loop_row}
 use Rattle.rules.proofs.Laws.{no_true}
 use Rattle.table.specs.declared.Tag.{Tag}
-use Rattle.table.specs.Code.{constant_in, operand_in, comparison_by, change_in, number, op_in, variable_in, comparison_in, limit_kind_in, change_kind_in, partner_in, start_in, limit_in, step_in, tag_in, row_tag, kind_by, kind_in, numbers_at}
+use Rattle.table.specs.Code.{constant_in, operand_in, comparison_by, change_in, number, op_in, variable_in, comparison_in, limit_kind_in, change_kind_in, partner_in, limit_in, step_in, tag_in, row_tag, kind_by, kind_in, numbers_at}
 use Rattle.table.specs.Packing.{IsComparison, TestIn, TestOf, NumbersPut}
 use Rattle.table.specs.Paired.{columns_in, SameTest, Kept, PartnerPut, end_op, EndsWith, EndPut}
 use Rattle.table.proofs.Numbers.{tag_end}

@@ -3,7 +3,7 @@ use mathlib.Core.Path.{◌≡◌, refl, sym, ap, subst, ◌∙◌}
 use mathlib.Core.Bool.{Bool, true, false, cond, ◌&&◌}
 use mathlib.Core.Logic.{inr}
 use mathlib.Core.List.{List, [], ◌∷◌}
-use Prim.Native.Nat.{ℕ, zero, suc, ◌+◌, ◌-◌, ◌*◌, ◌/◌, ◌≤◌, ◌<◌}
+use Prim.Native.Nat.{ℕ, zero, suc, ◌+◌, ◌*◌, ◌≤◌, ◌<◌}
 use native.Mathlib.Numerals.{add-one}
 use native.Mathlib.Omega.{arith}
 use lib.Dec.{ltb}
@@ -11,20 +11,19 @@ use borrow.Author.Tests.{ltb-true}
 use lib.ListN.{length, get_or, take, drop}
 use lib.Seq.{drop-cons, ext_get_or, get_or-take, length-take-le}
 use Rattle.rules.specs.declared.Row.{Row}
-use Rattle.rules.specs.declared.Kind.{Kind}
-use Rattle.rules.specs.Blocks.{Form, Test, Last, View, is_plain, is_pick, is_else, is_end, is_loop, RowKind, End, view_of, view_at, kind_of, kinds_of, end_at}
+use Rattle.rules.specs.Blocks.{View, is_plain, is_pick, is_else, is_end, is_loop, RowKind, End, view_of, view_at, kind_of, kinds_of, end_at}
 use Rattle.rules.specs.Nesting.{in_loop, in_pick, in_else, Nest, Nested, nested, wrong, nest, opens, elses, ends, nest_row, and_rows, nest_rows}
 use Rattle.rules.specs.Nesting
 use Rattle.rules.specs.Calls.{is_loop_row, loop_rows}
-use Rattle.rules.proofs.Laws.{no_true, kinds_length, kinds_first, kind_of_lem}
+use Rattle.rules.proofs.Laws.{no_true, kinds_first, kind_of_lem}
 use Rattle.rules.proofs.TreeOf.{wrong_not, tree_of_lem}
-use Rattle.rules.proofs.Rows.{LoopAt, block_loop}
+use Rattle.rules.proofs.Rows.{block_loop}
 use Rattle.rules.proofs.LinesAtHeads.{heads_few}
 use Rattle.rules_machine.specs.RowMachine.{Opens, Partners, pairs}
 use Rattle.rules_machine.proofs.PairsIn.{partners}
 use Rattle.table.specs.declared.Open.{Open}
-use Rattle.table.specs.Code.{number, partner_in, kind_in, numbers_at, no_row, kind_at, rows_of, Packed}
-use Rattle.table.specs.Paired.{role_by, role_of, open_after, Room, stack_of, EndRow, PairedBy, PairedTo, Ready, NextPut, script_rows, Closing, Packable, LoopEnd, Table}
+use Rattle.table.specs.Code.{partner_in, kind_in, numbers_at, no_row, kind_at, rows_of, Packed}
+use Rattle.table.specs.Paired.{role_by, role_of, open_after, Room, stack_of, EndRow, PairedTo, Ready, NextPut, script_rows, Closing, Packable, LoopEnd, Table}
 use Rattle.table.proofs.Laws.{kind_in_lem, rows_length}
 use Rattle.table.proofs.Same.{test_of}
 use Rattle.table.proofs.Pairing.{up_to, loop_place, role_text}

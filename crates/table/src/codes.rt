@@ -1,5 +1,6 @@
 // The ops: what a row does. An `end` says what it closes: a pick, a loop with no step row, a for. An op's remainder by 4 is the kind
-// of what a set takes, of a for's start, or of a change.
+// of what a set takes, of a for's start, or of a change. Numbers and no enums: the lent table holds them (docs/SPEED.md, numbers in lent
+// tables).
 pub const END: u32 = 0;
 
 pub const END_TEST: u32 = 1;

@@ -19,7 +19,7 @@ ghost use Rattle.table.specs.Paired.{Ready, NextPut};
 use rules::{Change, Comparison, Kind, Operand, Prices};
 
 // How many rows a script in a table has, and what each kind of row takes.
-#[derive(Clone, Copy)]
+#[derive(Debug, Clone, Copy, PartialEq, Eq)]
 pub struct PricedRows {
     pub count: usize,
     pub prices: Prices,
@@ -77,7 +77,7 @@ pub fn change(kind: u32, c: u32) -> Change
 }
 
 // The kinds of row.
-#[derive(Clone, Copy)]
+#[derive(Debug, Clone, Copy, PartialEq, Eq)]
 pub enum Tag {
     End,
     Else,
@@ -267,7 +267,7 @@ pub fn kind_at(rows: &[u32], i: usize) -> Kind
 }
 
 // What a walk tells apart: a plain row, a pick, a loop's head, an else or end.
-#[derive(Clone, Copy)]
+#[derive(Debug, Clone, Copy, PartialEq, Eq)]
 pub enum Shape {
     Plain,
     Branch,
@@ -281,17 +281,10 @@ pub fn shape_at(rows: &[u32], i: usize) -> Shape
     ensures { result ≡ shape_of (kind_at (rows_of rows.now) i) }
 {
     match tag_at(rows, i) {
-        Tag::End => Shape::Close,
-        Tag::Else => Shape::Close,
+        Tag::End | Tag::Else => Shape::Close,
         Tag::Pick => Shape::Branch,
-        Tag::Set => Shape::Plain,
-        Tag::Move => Shape::Plain,
-        Tag::Cue => Shape::Plain,
-        Tag::While => Shape::Loop,
-        Tag::Do => Shape::Loop,
-        Tag::For => Shape::Loop,
-        Tag::Off => Shape::Plain,
-        Tag::Hold => Shape::Loop,
+        Tag::While | Tag::Do | Tag::For | Tag::Hold => Shape::Loop,
+        Tag::Set | Tag::Move | Tag::Cue | Tag::Off => Shape::Plain,
     }
 }
 
@@ -311,17 +304,11 @@ pub fn assigns(rows: &[u32], i: usize) -> bool
     requires { 4 * i + 3 < length rows.now }
     ensures { Assigns rows.now i result }
 {
-    match tag_at(rows, i) {
-        Tag::Set => true,
-        Tag::Move => true,
-        Tag::For => true,
-        Tag::Off => true,
-        _ => false,
-    }
+    matches!(tag_at(rows, i), Tag::Set | Tag::Move | Tag::For | Tag::Off)
 }
 
-// A kind and its value.
-#[derive(Clone, Copy)]
+// A kind and its value, as the table has them.
+#[derive(Debug, Clone, Copy, PartialEq, Eq)]
 struct OperandCode {
     kind: u32,
     value: u32,
@@ -501,12 +488,11 @@ pub fn put_row(rows: &mut [u32], i: usize, kind: Kind)
     requires { (4 * i + 3 < length rows.old) × Fine kind }
     ensures { RowPut i kind rows.old rows.new }
 {
-    let e = row_code(kind);
-    put_numbers(rows, i, e);
+    put_numbers(rows, i, row_code(kind));
 }
 
 // The blocks that are open: their head rows (after an else, its row), how many loops began before each, the depth, the loops so far.
-#[derive(Clone, Copy)]
+#[derive(Debug, Clone, Copy, PartialEq, Eq)]
 pub struct Open {
     pub heads: [u8; 8],
     pub numbers: [u8; 8],
@@ -523,7 +509,7 @@ pub const NONE_OPEN: Open = Open {
 };
 
 // What a row does to the blocks.
-#[derive(Clone, Copy)]
+#[derive(Debug, Clone, Copy, PartialEq, Eq)]
 enum Role {
     Plain,
     Pick,
@@ -532,6 +518,7 @@ enum Role {
     Loop,
 }
 
+#[tactic(auto, unfolding(rules::specs::Blocks::view_of, rules::specs::Blocks::kind_of))]
 fn role_of(kind: Kind) -> Role
     ensures { result ≡ role_of kind }
 {
@@ -539,68 +526,55 @@ fn role_of(kind: Kind) -> Role
         Kind::End => Role::End,
         Kind::Else => Role::Else,
         Kind::Pick => Role::Pick,
-        Kind::Set(_, _) => Role::Plain,
-        Kind::Move(_, _) => Role::Plain,
-        Kind::Cue(_) => Role::Plain,
-        Kind::While(_, _, _) => Role::Loop,
-        Kind::Do(_, _, _) => Role::Loop,
-        Kind::For(_, _, _, _, _) => Role::Loop,
-        Kind::Off(_, _, _, _) => Role::Plain,
-        Kind::Hold(_) => Role::Loop,
+        Kind::While(..) | Kind::Do(..) | Kind::For(..) | Kind::Hold(_) => Role::Loop,
+        Kind::Set(..) | Kind::Move(..) | Kind::Cue(_) | Kind::Off(..) => Role::Plain,
     }
 }
 
-// A block begins at row i, and `loops` loops have begun with it.
-fn pushed(blocks: Open, i: usize, loops: u8) -> Open
-    requires { (blocks.depth < 8) × (i < 256) }
-    ensures { result ≡ pushed_on i loops blocks }
-{
-    let depth = blocks.depth;
-    let mut heads = blocks.heads;
-    let mut numbers = blocks.numbers;
-    heads[depth] = i as u8;
-    numbers[depth] = blocks.loops;
-    Open {
-        heads,
-        numbers,
-        depth: depth + 1,
-        loops,
+impl Open {
+    // A block begins at row i, and `loops` loops have begun with it.
+    fn pushed(self, i: usize, loops: u8) -> Open
+        requires { (self.depth < 8) × (i < 256) }
+        ensures { result ≡ pushed_on i loops self }
+    {
+        let mut heads = self.heads;
+        let mut numbers = self.numbers;
+        heads[self.depth] = i as u8;
+        numbers[self.depth] = self.loops;
+        Open {
+            heads,
+            numbers,
+            depth: self.depth + 1,
+            loops,
+        }
     }
-}
 
-// The innermost block is closed.
-fn popped(blocks: Open) -> Open
-    requires { 1 ≤ blocks.depth }
-    ensures { result ≡ popped_off blocks }
-{
-    let heads = blocks.heads;
-    let numbers = blocks.numbers;
-    Open {
-        heads,
-        numbers,
-        depth: blocks.depth - 1,
-        loops: blocks.loops,
+    // The innermost block is closed.
+    fn popped(self) -> Open
+        requires { 1 ≤ self.depth }
+        ensures { result ≡ popped_off self }
+    {
+        Open {
+            depth: self.depth - 1,
+            ..self
+        }
     }
-}
 
-// The head row of the innermost block.
-fn innermost(blocks: Open) -> usize
-    requires { (1 ≤ blocks.depth) × (blocks.depth ≤ 8) }
-    ensures { result ≡ head_of blocks }
-{
-    let heads = blocks.heads;
-    let top = blocks.depth - 1;
-    heads[top] as usize
-}
+    // The head row of the innermost block.
+    fn innermost(self) -> usize
+        requires { (1 ≤ self.depth) × (self.depth ≤ 8) }
+        ensures { result ≡ head_of self }
+    {
+        self.heads[self.depth - 1] as usize
+    }
 
-// How many loops began before the innermost block.
-fn loops_before(blocks: Open) -> u32
-    requires { (1 ≤ blocks.depth) × (blocks.depth ≤ 8) }
-    ensures { result ≡ number_of blocks }
-{
-    let numbers = blocks.numbers;
-    let top = blocks.depth - 1;
-    numbers[top] as u32
+    // How many loops began before the innermost block.
+    fn loops_before(self) -> u32
+        requires { (1 ≤ self.depth) × (self.depth ≤ 8) }
+        ensures { result ≡ number_of self }
+    {
+        self.numbers[self.depth - 1] as u32
+    }
 }
 
 // Row h gets the partner i.
@@ -618,9 +592,7 @@ fn end_op(rows: &[u32], h: usize) -> u32
     ensures { EndsWith (numbers_at rows.now h) result }
 {
     match tag_at(rows, h) {
-        Tag::While => codes::END_TEST,
-        Tag::Do => codes::END_TEST,
-        Tag::Hold => codes::END_TEST,
+        Tag::While | Tag::Do | Tag::Hold => codes::END_TEST,
         Tag::For => codes::END_FOR,
         _ => codes::END,
     }
@@ -660,22 +632,22 @@ pub fn put_next(rows: &mut [u32], i: usize, kind: Kind, blocks: Open) -> Open
         }
         Role::Pick => {
             put_row(rows, i, kind);
-            pushed(blocks, i, loops)
+            blocks.pushed(i, loops)
         }
         Role::Else => {
-            set_partner(rows, innermost(blocks), i);
+            set_partner(rows, blocks.innermost(), i);
             put_row(rows, i, kind);
-            pushed(popped(blocks), i, loops)
+            blocks.popped().pushed(i, loops)
         }
         Role::End => {
-            let h = innermost(blocks);
+            let h = blocks.innermost();
             set_partner(rows, h, i);
-            put_end(rows, h, i, loops_before(blocks));
-            popped(blocks)
+            put_end(rows, h, i, blocks.loops_before());
+            blocks.popped()
         }
         Role::Loop => {
             put_row(rows, i, kind);
-            pushed(blocks, i, loops + 1)
+            blocks.pushed(i, loops + 1)
         }
     }
 }

@@ -12,7 +12,8 @@ ghost use Rattle.values.specs.Results.{result_in};
 
 use rules::{Change, Operand};
 
-// What stands for a result past ±L: more than any 32-bit number.
+// What stands for a result past ±L: more than any 32-bit number. No Option: with one number, constants and variables take the short way
+// (docs/SPEED.md).
 pub const PAST: i64 = 4_000_000_000;
 
 // The number of a variable.
@@ -20,8 +21,7 @@ pub fn stored(v: u8, store: &[i32]) -> i32
     requires { v < length store.now }
     ensures { result ≡ store_of store.now v }
 {
-    let at = v as usize;
-    store[at]
+    store[v as usize]
 }
 
 // What the expression at `at`, n bytes long, comes to, or PAST.
@@ -31,11 +31,10 @@ fn come_to(text: &[u8], at: u16, n: u16, store: &[i32]) -> i64
 {
     let from = at as usize;
     let to = from + n as usize;
-    let v = expressions::value_in(&text[from..to], store);
-    if v.past {
-        return PAST;
+    match expressions::value_in(&text[from..to], store) {
+        Some(v) => v as i64,
+        None => PAST,
     }
-    v.lo as i64
 }
 
 // The value of an operand, or PAST.
@@ -55,11 +54,7 @@ pub fn floor(z: i64, k: u64) -> i64
     requires { (1 ≤ k) × (k ≤ 4_000_000_000_000) }
     ensures { result ≡ floor_z z k }
 {
-    let d = k as i64;
-    if z < 0 {
-        return (z + 1) / d - 1;
-    }
-    z / d
+    z.div_euclid(k as i64)
 }
 
 // The quotient of a `div` row: the next lower whole number.

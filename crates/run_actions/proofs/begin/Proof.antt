@@ -5,7 +5,7 @@ use Rattle.run_actions.proofs.begin.Statement.{statement}
 use Rattle.run_actions.proofs.begin.Tie as tie
 
 returns : tie.Need-returns
-returns c = let s = c in rw c.larger.ensures (begins s.args.counts.now s.args.k s.requires)
+returns c = let s = c in rw c.max.ensures (begins s.args.counts.now s.args.k s.requires)
 
 pub begin_spec : {M : Type 1} → statement M
 begin_spec =

@@ -1,30 +1,26 @@
-use mathlib.Core.Path.{◌≡◌, sym, ◌∙◌}
-use Prim.Native.Nat.{◌<◌, ◌≤◌}
-use native.Mathlib.Omega.{arith}
-use lib.ListN.{get_or, drop}
-use Rattle.expressions.specs.Leaves.{digit_count}
-use Rattle.expressions.proofs.LeavesLaws.{whole_none, whole_zero, whole_bad, whole_good, count_within, first_at}
+use Rattle.std.proofs.Common.{sym, ◌∙◌}
+use Rattle.expressions.proofs.LeavesLaws.{whole_absent, whole_stopped, whole_leading, whole_found, digits_within}
 use Rattle.expressions.proofs.leaves.whole_at.Goals as goal
-use Rattle.expressions.proofs.leaves.whole_at.Goals.{then-s-at-eq48+else-at-next, else-s-at-eq48}
+use Rattle.expressions.proofs.leaves.whole_at.Goals.{then-digits-at-via-then-digits-at, then-digits-at-via-else-digits-at+then-not-at_mark}
+use Rattle.expressions.proofs.leaves.whole_at.Goals.{else-s-at-eq48-via-then-s-at-eq48+else-at-digits, else-s-at-eq48-via-else-s-at-eq48}
 
-pub returns-then-next-at : goal.returns-then-next-at
-returns-then-next-at c = let d = c.digits_at-d.ensures in
-    whole_bad _ _ _ d (whole_none _ (omega (arith, d.next, c.if-next-at.true)))
+pub returns-then-digits-at : goal.returns-then-digits-at
+returns-then-digits-at c =
+    let d = c.digits_at-digits.ensures in
+    elim c.then-digits-at.branch [
+      | then-digits-at-via-then-digits-at w ↦ whole_absent c.args.s.now c.args.at c.digits_at-digits.result d w.if-digits-at.true
+      | then-digits-at-via-else-digits-at+then-not-at_mark w ↦ whole_stopped c.args.s.now c.args.at c.digits_at-digits.result d (sym w.at_mark.ensures ∙ w.if-not-at_mark.true)
+    ]
 
 pub bounds-s-at : goal.bounds-s-at
-bounds-s-at c = let d = c.digits_at-d.ensures in
-    omega (arith, d.next, c.if-next-at.false, count_within c.args.s.now c.args.at (omega (arith, d.next, c.if-next-at.false)))
+bounds-s-at c = digits_within _ _ _ c.digits_at-digits.ensures c.if-digits-at.false
 
-pub returns-then-at-next : goal.returns-then-at-next
-returns-then-at-next c = let d = c.digits_at-d.ensures in
-    let a = c.args in
-    whole_bad _ _ _ d (whole_zero _ (omega (arith, d.next, c.if-at-next.true)) (first_at a.s.now a.at (omega (arith, d.next, c.if-at-next.true)) ∙ c.if-s-at-eq48.true))
+pub returns-then-at-digits : goal.returns-then-at-digits
+returns-then-at-digits c = whole_leading _ _ _ c.digits_at-digits.ensures c.if-at-digits.true c.if-s-at-eq48.true
 
 pub returns : goal.returns
-returns c =
-    let d = c.digits_at-d.ensures in
-    let a = c.args in
-    let some : 0 < digit_count (drop a.at a.s.now) = omega (arith, d.next, c.if-next-at.false) in
-    let zero : get_or (drop a.at a.s.now) 0 0 ≡ 48 → digit_count (drop a.at a.s.now) ≤ 1 =
-    elim c.if-s-at-eq48.branch [ then-s-at-eq48+else-at-next w ↦ λ z. omega (arith, d.next, w.if-at-next.false) | else-s-at-eq48 w ↦ λ z. absurd (w.if-s-at-eq48.false (sym (first_at a.s.now a.at some) ∙ z)) ] in
-    whole_good _ _ _ d some zero _ c.at_mark.ensures
+returns c = whole_found _ _ _ c.digits_at-digits.ensures c.if-digits-at.false (sym c.at_mark.ensures ∙ c.if-not-at_mark.false)
+    (elim c.else-s-at-eq48.branch [
+      | else-s-at-eq48-via-then-s-at-eq48+else-at-digits w ↦ λ z. w.if-at-digits.false
+      | else-s-at-eq48-via-else-s-at-eq48 w ↦ λ z. absurd (w.if-s-at-eq48.false z)
+    ])

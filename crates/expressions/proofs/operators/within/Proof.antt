@@ -1,4 +1,5 @@
 -- `expressions::operators::within` meets its contract. Assumes nothing.
+use borrow.Author.Rules.{rules}
 use mathlib.Core.Path.{◌≡◌}
 use mathlib.Core.Bool.{true, false}
 use lib.IntN.{negsuc}
@@ -8,19 +9,19 @@ use Rattle.rules.specs.Values.{lowest, highest}
 use Rattle.expressions.proofs.operators.within.Statement.{statement}
 use Rattle.expressions.proofs.operators.within.Tie as tie
 
-returns : tie.Need-returns-then-z-geminus1000000000
+returns : tie.Need-returns-then-z
 unfolding lowest highest
 returns c =
     let f = c.ranges.z in
-    let a : le_z (negsuc 999999999) c.args.z ≡ true = simp (to_z-of_z f) at c.if-z-geminus1000000000.true in
+    let a : le_z (negsuc 999999999) c.args.z ≡ true = simp (to_z-of_z f) at c.if-z.true in
     simp (to_z-of_z f, a)
 
-returns_2 : tie.Need-returns-else-z-geminus1000000000
+returns_2 : tie.Need-returns-else-z
 unfolding lowest highest
 returns_2 c =
     let f = c.ranges.z in
-    let a : le_z (negsuc 999999999) c.args.z ≡ false = simp (to_z-of_z f) at c.if-z-geminus1000000000.false in
+    let a : le_z (negsuc 999999999) c.args.z ≡ false = simp (to_z-of_z f) at c.if-z.false in
     simp (to_z-of_z f, a)
 
 pub within_spec : {M : Type 1} → statement M
-within_spec = tie.close (tie.spec returns returns_2)
+within_spec = tie.close (tie.spec (λ c. search rules) returns returns_2)

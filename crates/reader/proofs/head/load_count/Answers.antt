@@ -6,25 +6,25 @@ use Rattle.reader.specs.Lines.{clean, CountRead}
 use Rattle.reader.proofs.Heads.{count_refused, count_says}
 use borrow.Author.Rules.{rules}
 use Rattle.reader.proofs.head.load_count.Goals as goal
-use Rattle.reader.proofs.head.load_count.Goals.{After-count_line-c}
+use Rattle.reader.proofs.head.load_count.Goals.{After-count_line}
 
-pub count_line-c-requires : goal.count_line-c-requires
+pub count_line-requires : goal.count_line-requires
 unfolding clean
-count_line-c-requires c = (search rules, search rules, refl)
+count_line-requires c = (search rules, search rules, refl)
 
 -- the line that was read
-line : (c : After-count_line-c) → CountRead rows_key (drop c.args.at c.args.file.now) 256 c.count_line-c.result
-line c = rw (part_rest c.args.file.now c.args.at) at c.count_line-c.ensures
+line : (c : After-count_line) → CountRead rows_key (drop c.args.at c.args.file.now) 256 c.count_line.result
+line c = rw (part_rest c.args.file.now c.args.at) at c.count_line.ensures
 
 pub overflow_add-result : goal.overflow_add-result
 overflow_add-result c =
-    let w = (subst (CountRead _ _ _) c.in-Count.is (line (goal.at.overflow_add-result c).After-count_line-c)).within in
+    let w = (subst (CountRead _ _ _) c.in-Ok.is (line (goal.at.overflow_add-result c).After-count_line)).within in
     let l = length-drop c.args.at c.args.file.now in
     let h = c.requires in
     search rules
 
-pub returns-in-Count : goal.returns-in-Count
-returns-in-Count c = count_says _ _ _ _ _ (subst (CountRead _ _ _) c.in-Count.is (line (goal.at.returns-in-Count c).After-count_line-c)) c.requires.0 c.requires.1
+pub returns-in-Ok : goal.returns-in-Ok
+returns-in-Ok c = count_says _ _ _ _ _ (subst (CountRead _ _ _) c.in-Ok.is (line (goal.at.returns-in-Ok c).After-count_line)) c.requires.0 c.requires.1
 
-pub returns-in-Wrong : goal.returns-in-Wrong
-returns-in-Wrong c = count_refused _ _ _ _ _ refl (subst (CountRead _ _ _) c.in-Wrong.is (line (goal.at.returns-in-Wrong c).After-count_line-c))
+pub returns-in-Err : goal.returns-in-Err
+returns-in-Err c = rw c.refused.ensures (count_refused _ _ _ _ _ refl (subst (CountRead _ _ _) c.in-Err.is (line (goal.at.returns-in-Err c).After-count_line)))

@@ -1,5 +1,7 @@
 use Rattle.std.proofs.Common.{ℕ, Bool, true, List}
-use mathlib.Core.Path.{◌≡◌, refl, sym, ◌∙◌}
+use mathlib.Core.Path.{◌≡◌, refl, sym, ap, ◌∙◌}
+use Rattle.rules.proofs.PassedOn.{passed_on}
+use Rattle.reading.specs.Answers.{answer_number}
 use Rattle.reading.specs.Words.{line_word}
 use Rattle.rules.specs.File.{first_refusal, asks_end, asks_one, script_key}
 use Rattle.reader.proofs.Counts.{script_read, script_wrong, script_none}
@@ -7,7 +9,7 @@ use Rattle.reader.proofs.NextLine.{Keyed, keyed_at, KeyLine, key_line_lem, at_no
 use Rattle.reader.specs.Lines.{clean, keyed}
 use borrow.Author.Rules.{rules}
 use Rattle.reader.proofs.lines.script_line.Goals as goal
-use Rattle.reader.proofs.lines.script_line.Goals.{After-first_refusal-q, After-line_words-line}
+use Rattle.reader.proofs.lines.script_line.Goals.{After-first_refusal, After-line_words-line}
 
 -- the line has the key
 key_at : {b : Bool} (rest : List ℕ) → b ≡ keyed script_key rest → b ≡ true → Keyed script_key rest 6
@@ -16,23 +18,25 @@ key_at rest e h = keyed_at _ _ _ refl refl (sym e ∙ h)
 
 -- its words
 line : (c : After-line_words-line) → KeyLine script_key c.args.rest.now c.line_words-line.result
-line c = key_line_lem _ _ _ _ (key_at c.args.rest.now c.keyed.ensures c.if-keyed.true) c.line_words-line.ensures
+line c = key_line_lem _ _ _ _ (key_at c.args.rest.now c.keyed.ensures c.if-not-keyed.false) c.line_words-line.ensures
 
-asked : (c : After-first_refusal-q) → let w = line_word c.line_words-line.result in c.first_refusal-q.result ≡ first_refusal (asks_one (w 0)) (asks_end (w 1))
-asked c = rw (c.first_refusal-q.ensures, c.asks_end.ensures, c.word-then-keyed.ensures, c.asks_one.ensures, c.word.ensures)
+asked : (c : After-first_refusal) → let w = line_word c.line_words-line.result in answer_number c.first_refusal.result ≡ first_refusal (asks_one (w 0)) (asks_end (w 1))
+asked c = rw (c.first_refusal.ensures, c.asks_end.ensures, c.word-2.ensures, c.asks_one.ensures, c.word.ensures)
 
 pub line_words-line-requires : goal.line_words-line-requires
-line_words-line-requires c = (key_at c.args.rest.now c.keyed.ensures c.if-keyed.true).ends
+line_words-line-requires c = (key_at c.args.rest.now c.keyed.ensures c.if-not-keyed.false).ends
 
 pub overflow_add-result : goal.overflow_add-result
 overflow_add-result c = let h = (line (goal.at.overflow_add-result c).After-line_words-line).long in search rules
 
-pub returns-then-q-eq0 : goal.returns-then-q-eq0
-returns-then-q-eq0 c = script_read _ _ (line (goal.at.returns-then-q-eq0 c).After-line_words-line) _ (asked (goal.at.returns-then-q-eq0 c).After-first_refusal-q) c.if-q-eq0.true
-
-pub returns-then-keyed : goal.returns-then-keyed
-returns-then-keyed c = script_wrong _ _ (line (goal.at.returns-then-keyed c).After-line_words-line) _ (asked (goal.at.returns-then-keyed c).After-first_refusal-q) c.if-q-eq0.false
-
 pub returns : goal.returns
+returns c = script_read _ _ (line (goal.at.returns c).After-line_words-line) _ (asked (goal.at.returns c).After-first_refusal) (ap answer_number c.in_ok-first_refusal.was)
+
+pub returns-in_err-first_refusal : goal.returns-in_err-first_refusal
+returns-in_err-first_refusal c =
+    rw (passed_on c.from_residual.result c.in_err-first_refusal.field-0.0 c.from_residual.ensures)
+    (script_wrong _ _ (line (goal.at.returns-in_err-first_refusal c).After-line_words-line) _ (asked (goal.at.returns-in_err-first_refusal c).After-first_refusal) c.in_err-first_refusal.field-0.0 (ap answer_number c.in_err-first_refusal.was))
+
+pub returns-then-not-keyed : goal.returns-then-not-keyed
 unfolding clean
-returns c = script_none _ (at_none script_key _ refl (sym c.keyed.ensures ∙ c.if-keyed.false))
+returns-then-not-keyed c = script_none _ (at_none script_key _ refl (sym c.keyed.ensures ∙ c.if-not-keyed.true))

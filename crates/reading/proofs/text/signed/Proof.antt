@@ -1,4 +1,4 @@
-use Rattle.reading.proofs.TextLaws.{minus_fits, minus_is}
+use Rattle.expressions.proofs.LeavesLaws.{minus_fits, minus_is}
 use mir.Syntax.{w32}
 use mir.ValLaws.{to_z_pos, to_z-of_z}
 use native.Mathlib.Omega.{arith}
