@@ -2,18 +2,17 @@
 use mathlib.Core.Path.{◌≡◌, refl, sym, ap, ◌∙◌}
 use mathlib.Core.Bool.{true, false}
 use mathlib.Core.List.{List, [], ◌∷◌, append_assoc, append-nil}
-use Prim.Native.Nat.{ℕ, zero, suc, ◌+◌, ◌≤◌, ◌<◌, ◌^◌}
+use Prim.Native.Nat.{ℕ, zero, suc, ◌+◌, ◌≤◌, ◌<◌}
 use native.Mathlib.Omega.{arith}
-use lib.IntN.{ℤ, pos, negsuc, nat_abs, ◌+ℤ◌, ◌-ℤ◌}
-use lib.Signed.{lt_z, non_neg}
+use lib.IntN.{ℤ, pos, negsuc, nat_abs}
+use lib.Signed.{lt_z}
 use lib.ListN.{length, get_or, take, length-append, length-take}
 use lib.Seq.{get_or-take}
-use lib.Dec.{T}
 use mir.Syntax.{w64}
-use mir.Val.{Fits, SFits, to_z, of_z}
+use mir.Val.{SFits, to_z, of_z}
 use mir.Facts.{to_z-of_z}
 use borrow.Author.Tests.{le-leb, lt-leb}
-use Rattle.ints.proofs.Parts.{ints, add_parts, minus_parts}
+use Rattle.ints.proofs.Parts.{ints}
 use Rattle.rules.specs.declared.LoopLine.{LoopLine}
 use Rattle.rules.specs.Replies.{Accepted, Refused}
 use Rattle.rules.specs.Calls.{buffer_reply, written}
@@ -35,37 +34,7 @@ abs_size {z} f e = e ∙ ap nat_abs (to_z-of_z f) ∙ by z
     by (pos n) = refl
     by (negsuc n) = refl
 
--- a number below 0: one more, and that turned round
-pub record Below (z : ℤ) : Type 0 where
-  pub up : SFits w64 (z +ℤ pos 1)
-  pub down : SFits w64 (pos 0 -ℤ (z +ℤ pos 1))
-  pub rest : ℕ
-  pub is : pos 0 -ℤ (z +ℤ pos 1) ≡ pos rest
-  pub whole : rest + 1 ≡ size z
-  pub small : rest < 2 ^ 63
-
-pub below : (z : ℤ) → lt_z z (pos 0) ≡ true → SFits w64 z → Below z
-unfolding size
-below (pos n) t f = absurd (omega (ints, t))
-below (negsuc n) t f = record {
-  up = omega (ints, add_parts (negsuc n) (pos 1));
-  down = omega (ints, add_parts (negsuc n) (pos 1), minus_parts (pos 0) (negsuc n +ℤ pos 1));
-  rest = n;
-  is = omega (ints, add_parts (negsuc n) (pos 1), minus_parts (pos 0) (negsuc n +ℤ pos 1));
-  whole = omega arith;
-  small = omega (ints, f);
-}
-
--- a number not below 0
-pub above : (z : ℤ) → lt_z z (pos 0) ≡ false → SFits w64 z → T (non_neg z) × Fits w64 (nat_abs z)
-above (pos n) t f = (tt, record { fits = omega (ints, f) })
-above (negsuc n) t f = absurd (omega (ints, t))
-
-pub above_size : (z : ℤ) → lt_z z (pos 0) ≡ false → nat_abs z ≡ size z
-unfolding size
-above_size (pos n) t = refl
-above_size (negsuc n) t = absurd (omega (ints, t))
-
+-- the sign of a number below 0, and of one that is not
 pub below_sign : (z : ℤ) → lt_z z (pos 0) ≡ true → 45 ∷ [] ≡ sign z
 unfolding sign
 below_sign (pos n) t = absurd (omega (ints, t))

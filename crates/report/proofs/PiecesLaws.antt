@@ -6,7 +6,7 @@ use native.Mathlib.Nat.{mul-suc}
 use native.Mathlib.Numerals.{add-one, sub-one}
 use native.Mathlib.Omega.{arith}
 use lib.ListN.{length, get_or, take, drop, set, length-append, length-drop, drop_of_length-le, take-append-drop, length-map, get_or-map}
-use lib.Seq.{take-suc, take_all, take-append_seam, drop-append_seam, take-length, drop-cons, set-append_seam, drop-drop}
+use lib.Seq.{take-suc, take_all, take-append_seam, drop-append_seam, drop-cons, set-append_seam, drop-drop}
 use borrow.Rule.Slice.PartMut.{mid_of, put_mid}
 use borrow.Author.Tests.{lt-ltb, le-ltb}
 use Rattle.rules.specs.Calls.{over}

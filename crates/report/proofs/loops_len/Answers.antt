@@ -1,9 +1,7 @@
-use borrow.Author.Rules.{rules}
 use native.Mathlib.Omega.{arith}
-use mathlib.Core.Path.{◌≡◌, ap, ◌∙◌}
+use mathlib.Core.Path.{ap, ◌∙◌}
 use lib.ListN.{length}
-use Rattle.rules.specs.Report.{line_of, loop_line, loop_lines}
-use Rattle.analysis_lines.specs.Coded.{first_lines}
+use Rattle.rules.specs.Report.{line_of, loop_line}
 use Rattle.analysis_lines.proofs.Laws.{lent_room}
 use Rattle.report.proofs.PiecesLaws.{measured_none, measured_more, measured_all}
 use Rattle.report.specs.Lines.{loops_text}

@@ -1,11 +1,9 @@
 use borrow.Author.Rules.{rules}
 use native.Mathlib.Omega.{arith}
-use mathlib.Core.Path.{◌≡◌, ap, ◌∙◌}
-use mathlib.Core.List.{[]}
+use mathlib.Core.Path.{ap, ◌∙◌}
 use Prim.Native.Nat.{◌+◌, ◌≤◌}
-use lib.ListN.{length, get_or, length-drop}
-use Rattle.rules.specs.Report.{joined, line_of, loop_line, loop_lines}
-use Rattle.analysis_lines.specs.Coded.{first_lines}
+use lib.ListN.{length, length-drop}
+use Rattle.rules.specs.Report.{joined, line_of, loop_line}
 use Rattle.analysis_lines.proofs.Laws.{lent_room}
 use Rattle.report.specs.Pieces.{piece_texts}
 use Rattle.report.proofs.PiecesLaws.{writing_none, writing_room, writing_more, writing_all, part_rest}

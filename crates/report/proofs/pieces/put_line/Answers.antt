@@ -1,10 +1,9 @@
 use borrow.Author.Rules.{rules}
 use native.Mathlib.Omega.{arith}
 use mathlib.Core.Path.{◌≡◌, ◌∙◌}
-use Prim.Native.Nat.{◌+◌, ◌≤◌}
-use lib.ListN.{length, get_or, length-drop}
-use Rattle.report.specs.declared.pieces.Piece.TheVariants.{Nothing}
-use Rattle.report.specs.Pieces.{piece_text, piece_texts}
+use Prim.Native.Nat.{◌≤◌}
+use lib.ListN.{length, length-drop}
+use Rattle.report.specs.Pieces.{piece_texts}
 use Rattle.report.proofs.PiecesLaws.{writing_none, writing_room, writing_more, writing_all, pieces_count, piece_at, part_rest}
 use Rattle.report.proofs.pieces.put_line.Goals as goal
 
