@@ -17,8 +17,8 @@ use Rattle.rules.specs.Figures as figures
 use Rattle.rules.specs.Figures.{price, loop_ticks, ticks, Line, alike, often, total_of, in_body, line, lines}
 use Rattle.rules.proofs.Triangles.{over_same}
 use Rattle.rules.proofs.Walk.{over_then, turns_walk}
-use Rattle.rules.specs.declared.Verdict.{Verdict}
-use Rattle.rules.specs.declared.Verdict.TheVariants.{Passed as passed, Refused as refused}
+use Rattle.rules.specs.Verdicts.{Verdict}
+use Rattle.rules.specs.Verdicts.{passed, refused}
 use Rattle.rules.specs.Questions.{and_then, asked, tick_limit, of_trip, loops_verdict, blocks_verdict}
 use Rattle.analysis_ticks.specs.Capped.{capped}
 use Rattle.analysis_ticks.proofs.Caps.{cap_mul}

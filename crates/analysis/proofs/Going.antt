@@ -21,8 +21,8 @@ use Rattle.rules.specs.Passes.{Pass, any, start_pass, sum_over, sums, first_pass
 use Rattle.rules.specs.Figures.{ticks, Line, alike, often, total_of, in_body, line, lines}
 use Rattle.rules.proofs.Triangles.{over_same, over_past}
 use Rattle.rules.proofs.Walk.{over_add, over_once, turns_walk, passes_walk}
-use Rattle.rules.specs.declared.Verdict.{Verdict}
-use Rattle.rules.specs.declared.Verdict.TheVariants.{Passed as passed, Refused as refused}
+use Rattle.rules.specs.Verdicts.{Verdict}
+use Rattle.rules.specs.Verdicts.{passed, refused}
 use Rattle.rules.specs.Questions.{and_then, asked, tick_limit, of_trip, loops_verdict, blocks_verdict}
 use Rattle.table.specs.declared.Shape.{Shape}
 use Rattle.table.specs.contracts.Shape as shapes

@@ -12,8 +12,8 @@ use Rattle.ints.proofs.Scale.{mul_P, mul_N}
 use Rattle.ints.proofs.Diffs.{of, nat, ◌≼◌, eq_yes, cond_elim, cond_false, both, nor}
 use Rattle.rules_steps.specs.declared.Step.{Step}
 use Rattle.rules_steps.specs.declared.Step.TheVariants.{Add, Grow, Shrink, Unknown}
-use Rattle.rules.specs.declared.Verdict.{Verdict}
-use Rattle.rules.specs.declared.Verdict.TheVariants.{Passed as passed, Refused as refused}
+use Rattle.rules.specs.Verdicts.{Verdict}
+use Rattle.rules.specs.Verdicts.{passed, refused}
 use Rattle.rules.specs.Values.{lowest, highest, upward}
 use Rattle.rules.specs.Blocks.{Plain, assign, cue, Test, Form, while, do_while, hold, for, Block, done, plain, pick, loop}
 use Rattle.rules_steps.specs.Joins.{still, then, either}

@@ -15,8 +15,8 @@ use Rattle.rules.specs.Passes.{any}
 use Rattle.rules.specs.Figures.{ticks, alike, lines}
 use Rattle.rules.proofs.Walk.{over_once}
 use Rattle.analysis_ticks.specs.declared.passes.Round.{Round}
-use Rattle.rules.specs.declared.Verdict.{Verdict}
-use Rattle.rules.specs.declared.Verdict.TheVariants.{Passed as passed, Refused as refused}
+use Rattle.rules.specs.Verdicts.{Verdict}
+use Rattle.rules.specs.Verdicts.{passed, refused}
 use Rattle.rules.specs.Questions.{and_then, loops_verdict, verdict}
 use Rattle.rules.specs.Scripts as scripts
 use Rattle.rules.specs.Scripts.{pair_ranges, BlankFrom, script_of, tree_of, Legal}

@@ -13,7 +13,7 @@ use Rattle.rules.specs.Steps.{sets, starts, assigns, step, first_end}
 use Rattle.rules.specs.Ranges.{Env, after_row, join, at_start}
 use Rattle.rules.specs.Trips.{trip, turns, inside, outside, after}
 use Rattle.rules.specs.declared.Prices.{Prices}
-use Rattle.rules.specs.declared.Verdict.TheVariants.{Passed as passed}
+use Rattle.rules.specs.Verdicts.{passed}
 use Rattle.rules.specs.Questions.{of_trip, loops_verdict}
 use Rattle.rules.specs.Passes.{Pass, any, later, start_pass, pass_at, sum, sum_over, sums, first_pass, turns_in, over_passes}
 use Rattle.rules.specs.Figures as figures

@@ -7,7 +7,7 @@ use Rattle.rules.specs.Ranges.{Env}
 use Rattle.rules.specs.declared.Prices.{Prices}
 use Rattle.rules.specs.Passes.{any}
 use Rattle.rules.specs.Figures.{ticks}
-use Rattle.rules.specs.declared.Verdict.TheVariants.{Passed as passed, Refused as refused}
+use Rattle.rules.specs.Verdicts.{passed, refused}
 use Rattle.rules.specs.Questions.{and_then, asked, tick_limit, loops_verdict, blocks_verdict, verdict}
 use Rattle.analysis_ticks.specs.Capped.{over_of}
 

@@ -9,7 +9,7 @@ use Rattle.rules.specs.Bounds.{FinePrices}
 use Rattle.rules.specs.declared.Prices.{Prices}
 use Rattle.rules.specs.Passes.{sum_over}
 use Rattle.rules.specs.Figures.{ticks, Line, lines}
-use Rattle.rules.specs.declared.Verdict.TheVariants.{Refused as refused}
+use Rattle.rules.specs.Verdicts.{refused}
 use Rattle.rules.specs.Questions.{and_then, loops_verdict, blocks_verdict}
 use Rattle.table.specs.declared.Shape.{Shape}
 use Rattle.table.specs.Code.{kind_at}

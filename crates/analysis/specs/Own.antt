@@ -4,7 +4,7 @@ use Rattle.rules.specs.Blocks.{Block, done, plain, pick, loop}
 use Rattle.rules.specs.Ranges.{Env, after_row, join, at_start}
 use Rattle.rules.specs.Trips.{inside, outside, after}
 use Rattle.rules.specs.declared.Prices.{Prices}
-use Rattle.rules.specs.declared.Verdict.TheVariants.{Passed as passed}
+use Rattle.rules.specs.Verdicts.{passed}
 use Rattle.rules.specs.Passes.{any}
 use Rattle.rules.specs.Figures.{ticks}
 use Rattle.rules.specs.Questions.{loops_verdict}

@@ -8,8 +8,8 @@ use Rattle.rules.specs.Ranges.{Env}
 use Rattle.rules.specs.Trips.{Trip, is_exact}
 use Rattle.rules.specs.declared.Prices.{Prices}
 use Rattle.rules.specs.Figures.{price, Line}
-use Rattle.rules.specs.declared.Verdict.{Verdict}
-use Rattle.rules.specs.declared.Verdict.TheVariants.{Passed as passed}
+use Rattle.rules.specs.Verdicts.{Verdict}
+use Rattle.rules.specs.Verdicts.{passed}
 use Rattle.table.specs.declared.Shape.{Shape}
 use Rattle.table.specs.Code.{kind_at, rows_of}
 use Rattle.table.specs.Shapes.{shape_of, plain_of}

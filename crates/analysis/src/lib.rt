@@ -12,14 +12,15 @@ ghost use Rattle.table.specs.Shapes.{shape_of};
 ghost use Rattle.analysis_intervals.specs.Env.{env_of};
 ghost use Rattle.analysis.specs.Tallies.{with_lent};
 ghost use Rattle.analysis.specs.Fold.{Walkable, Analysed, IsBlock, AtBlock, PastBlock};
-ghost use Rattle.analysis.specs.Whole.{FirstNo, LegalRows, FoundOf};
+ghost use Rattle.rules.specs.Verdicts.{verdict_of};
+ghost use Rattle.analysis.specs.Whole.{analysis_answer, FirstNo, LegalRows, FoundOf};
 
 use crate::entries::{enter_loop, leave_loop, to_note};
 use crate::tallies::{Tally, leave_pick, past_row, put_own, restarted};
 use analysis_ranges::transfer::{joined, step_row};
 use analysis_ticks::LIMIT;
 use analysis_ticks::passes::{Round, branch};
-use rules::{Prices, Verdict};
+use rules::{Prices, Refusal, Verdict};
 use table::{PricedRows, Shape, past_else, shape_at};
 
 // The pick at row t.next, from the ranges before it to those after it: its two parts by the walk.
@@ -161,18 +162,27 @@ fn walk(
 
 // 19 and 8 to 12 before 13; of 13 the first block before the file.
 fn first_no(t: Tally, count: usize) -> Verdict
-    ensures { FirstNo t count result }
+    ensures { FirstNo t count (verdict_of result) }
 {
     if t.number != 0 {
-        return Verdict::Refused(t.number, t.place);
+        return Err(Refusal {
+            number: t.number,
+            place: t.place,
+        });
     }
     if t.over < 256 {
-        return Verdict::Refused(13, t.over);
+        return Err(Refusal {
+            number: 13,
+            place: t.over,
+        });
     }
-    if t.spent <= LIMIT {
-        return Verdict::Passed;
+    if LIMIT < t.spent {
+        return Err(Refusal {
+            number: 13,
+            place: count,
+        });
     }
-    Verdict::Refused(13, count)
+    Ok(())
 }
 
 // The one pass of a file's rows.
@@ -196,10 +206,9 @@ const EMPTY: Tally = Tally {
     next: 0,
 };
 
-// The questions 19 and 8 to 13 of a file, and the report's figures, 0 for a refused file.
-#[derive(Clone, Copy)]
+// The figures of a file's report: its ticks, and how many loops it has.
+#[derive(Clone, Copy, Debug, PartialEq, Eq)]
 pub struct Figures {
-    pub verdict: Verdict,
     pub ticks: u64,
     pub loops: usize,
 }
@@ -214,30 +223,19 @@ pub fn analyse(
     prices: Prices,
     lines: &mut [[u64; 7]; 16],
     own: &mut [u64],
-) -> Figures
+) -> Result<Figures, Refusal>
     requires { ((vars : ℕ) × LegalRows text.now ranges (rows_of rows.now) count vars) × (count ≤ 256)
         × (4 * count ≤ length rows.now) × FinePrices prices × (length lines.old ≡ 16) × (length text.now ≤ 16_384)
         × ((i : ℕ) → i < count → Written text.now (kind_at (rows_of rows.now) i)) }
     ensures { FoundOf prices text.now ranges (rows_of rows.now) count
-        result lines.new own.old own.new }
+        (analysis_answer result) lines.new own.old own.new }
 {
-    let script = PricedRows {
-        count: count,
-        prices: prices,
-    };
+    let script = PricedRows { count, prices };
     let mut r = ranges;
     let t = walk(text, rows, script, ALONE, lines, own, EMPTY, &mut r);
-    let verdict = first_no(t, count);
-    match verdict {
-        Verdict::Passed => Figures {
-            verdict: verdict,
-            ticks: t.spent,
-            loops: t.loops,
-        },
-        Verdict::Refused(_, _) => Figures {
-            verdict: verdict,
-            ticks: 0,
-            loops: 0,
-        },
-    }
+    first_no(t, count)?;
+    Ok(Figures {
+        ticks: t.spent,
+        loops: t.loops,
+    })
 }

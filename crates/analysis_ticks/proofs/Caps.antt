@@ -16,7 +16,7 @@ use Rattle.rules.specs.Blocks.{Form, while, do_while, hold, for, view_of, kind_o
 use Rattle.rules.specs.Bounds.{FinePrices}
 use Rattle.rules.specs.declared.Prices.{Prices}
 use Rattle.rules.specs.Figures.{loop_ticks}
-use Rattle.rules.specs.declared.Verdict.TheVariants.{Passed as passed}
+use Rattle.rules.specs.Verdicts.{passed}
 use Rattle.rules.specs.Questions.{and_then, asked, tick_limit}
 use Rattle.analysis_steps.specs.Tree.{form_of, head_of}
 use Rattle.analysis_ticks.specs.Capped.{capped, once, over_of}

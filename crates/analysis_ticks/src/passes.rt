@@ -7,7 +7,7 @@ ghost use Rattle.rules.specs.Written.{WrittenOperand, Written};
 ghost use Rattle.rules.specs.Steps.{is_add, first_end};
 ghost use Rattle.rules.specs.Turns.{climb};
 ghost use Rattle.rules.specs.Passes.{sum, from_constant, is_alone};
-ghost use Rattle.rules.specs.declared.Verdict.TheVariants.{Passed as passed};
+ghost use Rattle.rules.specs.Verdicts.{passed};
 ghost use Rattle.rules.specs.Questions.{of_trip};
 ghost use Rattle.analysis_steps.specs.Tree.{form_of, test_of};
 ghost use Rattle.analysis_loops.specs.Found.{free_of, trip_of};

@@ -1,7 +1,7 @@
 -- What one loop's figure says.
 use Rattle.std.specs.Prelude.{◌≡◌, ℕ}
 use Rattle.rules.specs.Trips.{Trip, turns_of}
-use Rattle.rules.specs.declared.Verdict.TheVariants.{Passed as passed, Refused as refused}
+use Rattle.rules.specs.Verdicts.{passed, refused}
 use Rattle.rules.specs.Questions.{of_trip}
 use Rattle.analysis_turns.specs.declared.Figure.{Figure}
 

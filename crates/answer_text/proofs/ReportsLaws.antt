@@ -6,7 +6,7 @@ use native.Mathlib.Omega.{arith}
 use borrow.Author.Tests.{le-leb}
 use lib.ListN.{length, take, length-append}
 use lib.Seq.{take-append_seam}
-use Rattle.rules.specs.declared.Reply.TheVariants.{Accepted, Refused}
+use Rattle.rules.specs.Replies.{Accepted, Refused}
 use Rattle.rules.specs.Report.{decimal, joined, key_line, newline, gap, script_report}
 use Rattle.rules.specs.Calls.{Judged, accepted, refuses, prices_of, judged, buffer_reply, over, written, reply_of, buffer_of}
 use Rattle.rules.proofs.LongestReport.{longest_report_lem, decimal_short, key_short}

@@ -11,8 +11,8 @@ use Rattle.rules.specs.Report.{decimal, joined, ticks_key, newline, gap}
 use Rattle.rules.specs.Calls.{over}
 use Rattle.rules.specs.declared.Ending.TheVariants.{Ended, Spent, NoPick}
 use Rattle.rules.specs.declared.Ending.{Ending}
-use Rattle.rules.specs.declared.Verdict.{Verdict}
-use Rattle.rules.specs.declared.Verdict.TheVariants.{Passed}
+use Rattle.rules.specs.Verdicts.{Verdict}
+use Rattle.rules.specs.Verdicts.{passed as Passed}
 use Rattle.rules_live.specs.LiveCalls.{StepReply, stepped, cues_stepped}
 use Rattle.calls_live.specs.declared.StepDone.{StepDone}
 use Rattle.calls_live.specs.Told.{SteppedAs}

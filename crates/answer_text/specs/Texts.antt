@@ -6,8 +6,8 @@ use Rattle.rules.specs.declared.LoopCount.{LoopCount}
 use Rattle.rules.specs.Report.{decimal, sign, size, joined, loop_key, ticks_key, newline, gap}
 use Rattle.rules.specs.Answers.{store_list}
 use Rattle.rules.specs.Calls.{RunReply, ran, refuses}
-use Rattle.rules.specs.declared.Verdict.{Verdict}
-use Rattle.rules.specs.declared.Verdict.TheVariants.{Passed, Refused}
+use Rattle.rules.specs.Verdicts.{Verdict}
+use Rattle.rules.specs.Verdicts.{passed as Passed, refused as Refused}
 use Rattle.rules_season.specs.Season.{refusal_text}
 use Rattle.calls.specs.declared.Outcome.{Outcome}
 

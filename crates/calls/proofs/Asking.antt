@@ -7,7 +7,7 @@ use native.Mathlib.Numerals.{add-one}
 use native.Mathlib.Omega.{arith}
 use lib.ListN.{length, drop, drop_of_length-le}
 use lib.Seq.{drop-cons, drop-drop}
-use Rattle.rules.specs.declared.Verdict.TheVariants.{Passed, Refused}
+use Rattle.rules.specs.Verdicts.{passed as Passed, refused as Refused}
 use Rattle.rules.specs.Calls.{prices_verdict}
 use Rattle.calls.specs.First.{fine_first}
 

@@ -5,25 +5,26 @@ use Prim.Native.Nat.{ℕ, ◌≤◌}
 use native.Mathlib.Omega.{arith}
 use lib.Dec.{leb, leb→le}
 use lib.ListN.{length}
-use Rattle.rules.specs.declared.Reply.{Reply}
-use Rattle.rules.specs.declared.Reply.TheVariants.{Refused}
-use Rattle.rules.specs.declared.Verdict.{Verdict}
-use Rattle.rules.specs.declared.Verdict.TheVariants.{Passed as passed}
+use Rattle.rules.specs.Verdicts.{Verdict}
+use Rattle.rules.specs.Verdicts.{passed}
 use Rattle.rules.specs.Questions.{tick_limit, verdict}
 use Rattle.rules.specs.Scripts.{Script, start_env, tree_of, report_ticks, Legal, Accepted}
 use Rattle.rules.specs.Report.{report_text, script_report}
 use Rattle.analysis_lines.specs.Coded.{first_lines}
 use Rattle.rules.specs.Calls.{accepted, refuses, judged_by, prices_of, buffer_reply, written, reply_of, buffer_of}
 use Rattle.rules.proofs.Accepted.{then_yes, asked_yes}
-use Rattle.analysis.specs.declared.Figures.{Figures}
+use Rattle.std.specs.Prelude.{Result, Ok, Err}
+use Rattle.rules.specs.declared.Refusal.{Refusal}
+use Rattle.rules.specs.Replies.{reply_by}
+use Rattle.analysis.specs.Whole.{AnalysisAnswer}
 use Rattle.calls.specs.Held.{judged_script, FiguresFound}
 use Rattle.calls.specs.Told.{judged_ticks, MeasuredAs}
 
-module _ (prices : List ℕ) (script : Script) (count : ℕ) (s : Figures) (ls : List (List ℕ)) (found : FiguresFound prices script count s ls) where
+module _ (prices : List ℕ) (script : Script) (count : ℕ) (s : AnalysisAnswer) (ls : List (List ℕ)) (found : FiguresFound prices script count s ls) where
   asked : verdict (prices_of prices) (length script.rows) (start_env script.ranges) (tree_of script.rows) ≡ s.verdict
   asked = ap (λ n. verdict (prices_of prices) n (start_env script.ranges) (tree_of script.rows)) found.long ∙ found.figures.verdict
 
-  pub judged_no : {n p : ℕ} → s.verdict ≡ Verdict.Refused n p → judged_script prices script ≡ refuses n p
+  pub judged_no : {n p : ℕ} → s.verdict ≡ Verdict.refused n p → judged_script prices script ≡ refuses n p
   unfolding judged_by
   judged_no h = ap (judged_by script) (asked ∙ h)
 
@@ -52,8 +53,8 @@ module _ (prices : List ℕ) (script : Script) (count : ℕ) (s : Figures) (ls :
     text_is = λ j. report_text (sym found.long j) (found.figures.lines z j) (found.figures.ticks z j)
 
     -- the report written
-    pub reported : (r : Reply) (old new : List ℕ)
-        → (r ≡ buffer_reply (report_text count (first_lines ls s.loops) s.ticks) (length old)) × (new ≡ written (report_text count (first_lines ls s.loops) s.ticks) old)
+    pub reported : (r : Result ℕ Refusal) (old new : List ℕ)
+        → (reply_by r ≡ buffer_reply (report_text count (first_lines ls s.loops) s.ticks) (length old)) × (new ≡ written (report_text count (first_lines ls s.loops) s.ticks) old)
         → MeasuredAs prices (judged_script prices script) old new (record { reply = r; ticks = s.ticks })
     unfolding reply_of buffer_of
     reported r old new (a, b) = record {
@@ -64,7 +65,7 @@ module _ (prices : List ℕ) (script : Script) (count : ℕ) (s : Figures) (ls :
     }
 
   -- a refusal leaves the buffer
-  pub not_reported : {n p : ℕ} → s.verdict ≡ Verdict.Refused n p → (old : List ℕ) → MeasuredAs prices (judged_script prices script) old old (record { reply = Refused n p; ticks = 0 })
+  pub not_reported : {n p : ℕ} → s.verdict ≡ Verdict.refused n p → (old : List ℕ) → MeasuredAs prices (judged_script prices script) old old (record { reply = Err (record { number = n; place = p }); ticks = 0 })
   unfolding reply_of buffer_of
   not_reported h old = record {
     reply = ap (λ j. reply_of prices j (length old)) (sym (judged_no h));

@@ -12,9 +12,10 @@ use lib.Signed.{lt_z}
 use Rattle.ints.proofs.Parts.{ints}
 use Rattle.rules.specs.Report.{size, line_of, lines_of}
 use Rattle.analysis_lines.specs.Coded.{line_in, lines_in, first_lines}
-use Rattle.rules.specs.declared.Verdict.TheVariants.{Passed, Refused}
+use Rattle.std.specs.Prelude.{Ok, Err}
+use Rattle.rules.specs.Verdicts.{passed as Passed, refused as Refused}
 use Rattle.rules.specs.Scripts.{Script}
-use Rattle.analysis.specs.declared.Figures.{Figures as Found}
+use Rattle.analysis.specs.Whole.{AnalysisAnswer}
 use Rattle.calls.specs.Held.{judged_script, FiguresFound}
 use Rattle.calls.proofs.Judging.{judged_no, judged_yes}
 use Rattle.calls.specs.Figures.{twos, line_numbers, LinesTold, FiguresAs}
@@ -80,14 +81,14 @@ first_length l zero h = refl
 first_length [] (suc k) h = absurd (omega arith)
 first_length (x ∷ l) (suc k) h = ap suc (first_length l k (omega arith))
 
-module _ (prices : List ℕ) (script : Script) (count : ℕ) (s : Found) (ls : List (List ℕ)) (found : FiguresFound prices script count s ls) where
+module _ (prices : List ℕ) (script : Script) (count : ℕ) (s : AnalysisAnswer) (ls : List (List ℕ)) (found : FiguresFound prices script count s ls) where
   pub figures_yes : s.verdict ≡ Passed → (vars : ℕ) → vars ≡ length script.ranges → (new : List (List ℕ)) → LinesTold s.loops ls new
-      → FiguresAs prices (judged_script prices script) new (record { verdict = s.verdict; ticks = s.ticks; vars = vars; loops = s.loops })
+      → FiguresAs prices (judged_script prices script) new (Ok (record { ticks = s.ticks; vars = vars; loops = s.loops }))
   figures_yes z vars e new h =
       let f = found.figures in
-      subst (λ j. FiguresAs prices j new (record { verdict = s.verdict; ticks = s.ticks; vars = vars; loops = s.loops })) (sym (judged_yes prices script count s ls found z))
-      (z, f.ticks z, e, sym (first_length ls s.loops (omega (arith, f.loops z, f.long z))) ∙ ap length (f.lines z), h.told ∙ ap (map line_numbers) (f.lines z), h.long)
+      subst (λ j. FiguresAs prices j new (Ok (record { ticks = s.ticks; vars = vars; loops = s.loops }))) (sym (judged_yes prices script count s ls found z))
+      (f.ticks z, e, sym (first_length ls s.loops (omega (arith, f.loops z, f.long z))) ∙ ap length (f.lines z), h.told ∙ ap (map line_numbers) (f.lines z), h.long)
 
-  pub figures_no : {q p : ℕ} → s.verdict ≡ Refused q p → (new : List (List ℕ)) → FiguresAs prices (judged_script prices script) new (record { verdict = s.verdict; ticks = 0; vars = 0; loops = 0 })
-  figures_no z new =
-      subst (λ j. FiguresAs prices j new (record { verdict = s.verdict; ticks = 0; vars = 0; loops = 0 })) (sym (judged_no prices script count s ls found z)) (z, refl, refl, refl)
+  pub figures_no : {q p : ℕ} → s.verdict ≡ Refused q p → (new : List (List ℕ)) → FiguresAs prices (judged_script prices script) new (Err (record { number = q; place = p }))
+  figures_no {q} {p} z new =
+      subst (λ j. FiguresAs prices j new (Err (record { number = q; place = p }))) (sym (judged_no prices script count s ls found z)) (refl, refl)

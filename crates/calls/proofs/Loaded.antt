@@ -5,7 +5,7 @@ use Prim.Native.Nat.{ℕ}
 use native.Mathlib.Omega.{arith}
 use lib.IntN.{ℤ}
 use lib.ListN.{length}
-use Rattle.rules.specs.declared.Verdict.TheVariants.{Passed, Refused}
+use Rattle.rules.specs.Verdicts.{passed as Passed, refused as Refused}
 use Rattle.rules.specs.Scripts.{Script, Legal}
 use Rattle.rules.specs.File
 use Rattle.rules.specs.File.{Reading, file_script}
@@ -13,13 +13,16 @@ use Rattle.rules.specs.Calls.{refuses, prices_of, judged_file}
 use Rattle.rules.proofs.ReadLegal.{read_legal, read_short}
 use Rattle.table.specs.Code.{rows_of}
 use Rattle.reader.specs.declared.Loaded.{Loaded}
-use Rattle.reader.specs.Read.{ReadAnswer, read_answer, loaded_answer, LoadedAs}
+use Rattle.reader.specs.Read.{LoadAnswer, ReadAnswer, read_answer, loaded_answer, LoadedAs}
 use Rattle.reader.proofs.Packs.{read_few}
 use Rattle.calls.specs.Held.{read_script, Given, judged_script}
 
-module _ (prices file : List ℕ) (l : Loaded) (ranges : List (List ℤ)) (t : List ℕ) (e : LoadedAs file (file_script file) l ranges t) where
+module _ (prices file : List ℕ) (l : LoadAnswer) (ranges : List (List ℤ)) (t : List ℕ) (e : LoadedAs file (file_script file) l ranges t) where
+  abbrev loaded_as : Loaded
+  loaded_as = record { vars = l.vars; count = l.count }
+
   abbrev script : Script
-  script = read_script file t l ranges
+  script = read_script file t loaded_as ranges
 
   -- the file is refused
   pub file_refused : {q p : ℕ} → l.verdict ≡ Refused q p → judged_file (prices_of prices) (file_script file) ≡ refuses q p
@@ -52,7 +55,7 @@ module _ (prices file : List ℕ) (l : Loaded) (ranges : List (List ℤ)) (t : L
     unfolding judged_file
     file_read = rw loaded.1
 
-    pub file_given : Given file t l ranges
+    pub file_given : Given file t loaded_as ranges
     file_given =
         let legal : Legal script = read_legal file script loaded.0 loaded.1 in
         record {

@@ -5,8 +5,8 @@ use Prim.Native.Nat.{ℕ, min}
 use lib.IntN.{ℤ}
 use lib.ListN.{length, take}
 use Rattle.rules.specs.declared.Prices.{Prices}
-use Rattle.rules.specs.declared.Verdict.{Verdict}
-use Rattle.rules.specs.declared.Verdict.TheVariants.{Passed, Refused}
+use Rattle.rules.specs.Verdicts.{Verdict}
+use Rattle.rules.specs.Verdicts.{passed as Passed, refused as Refused}
 use Rattle.rules.specs.Scripts.{Script, Legal}
 use Rattle.rules.specs.Answers.{Answer}
 use Rattle.rules.specs.Calls.{prices_of, Priced, RunReply, ran, refuses, store_verdict, loop_rows, counts_at, run_script, ran_script, stored, run_reply, store_after}
@@ -14,27 +14,31 @@ use Rattle.rules.proofs.Demand3File.{Says, fine_prices, store_in}
 use Rattle.rules_machine.proofs.RunCapped.{run_capped}
 use Rattle.run_machine.specs.Steps.{Runnable}
 use Rattle.runner.proofs.Start.{runnable}
-use Rattle.analysis.specs.declared.Figures.{Figures}
+use Rattle.std.specs.Prelude.{Result, Ok, Err}
+use Rattle.rules.specs.declared.Refusal.{Refusal}
+use Rattle.analysis.specs.Whole.{AnalysisAnswer}
 use Rattle.calls.specs.declared.Outcome.{Outcome}
 use Rattle.calls.specs.Held.{judged_script, FiguresFound}
-use Rattle.calls.specs.Told.{ToldNo, Told, RanAs, ran_rows}
+use Rattle.calls.specs.Told.{ToldNo, Told, ending_in, ticks_in, counts_in, RanAs, ran_rows}
 use Rattle.calls.proofs.Judging.{judged_no, judged_yes, is_accepted}
 
 -- an answer that tells the reply has its ending, ticks and counts
-pub told_says : (o : Outcome) (reply : RunReply) → Told o reply → Says reply o.ending o.ticks (take o.loops o.counts)
-told_says o (ran a cs) t = (t.ending, t.ticks, t.counts)
-told_says o (refuses q p) t = tt
+pub told_says : (o : Result Outcome Refusal) (reply : RunReply) → Told o reply → Says reply (ending_in o) (ticks_in o) (counts_in o)
+told_says (Ok o) (ran a cs) t = (t.ending, t.ticks, t.counts)
+told_says (Ok o) (refuses q p) t = tt
+told_says (Err r) (ran a cs) t = absurd t
+told_says (Err r) (refuses q p) t = tt
 
 -- a refusal leaves the store
-refused_as : {reply : RunReply} {q p : ℕ} {store : List ℤ} {o : Outcome} → reply ≡ refuses q p → ToldNo o q p → RanAs reply store store o
+refused_as : {reply : RunReply} {q p : ℕ} {store : List ℤ} → reply ≡ refuses q p → RanAs reply store store (Err (record { number = q; place = p }))
 unfolding store_after
-refused_as {reply} {q} {p} {store} {o} e t = subst (λ r. RanAs r store store o) (sym e) (record { told = t; store = refl })
+refused_as {reply} {q} {p} {store} e = subst (λ r. RanAs r store store (Err (record { number = q; place = p }))) (sym e) (record { told = record { number = refl; place = refl }; store = refl })
 
-module _ (prices : List ℕ) (script : Script) (count : ℕ) (s : Figures) (ls : List (List ℕ)) (found : FiguresFound prices script count s ls) (store : List ℤ) (picks : List ℕ) (allowance : ℕ) where
+module _ (prices : List ℕ) (script : Script) (count : ℕ) (s : AnalysisAnswer) (ls : List (List ℕ)) (found : FiguresFound prices script count s ls) (store : List ℤ) (picks : List ℕ) (allowance : ℕ) where
   -- refused by 8 to 13
-  pub ran_no : {n p : ℕ} → s.verdict ≡ Refused n p → (o : Outcome) → ToldNo o n p → RanAs (run_reply prices (judged_script prices script) store picks allowance) store store o
+  pub ran_no : {n p : ℕ} → s.verdict ≡ Refused n p → RanAs (run_reply prices (judged_script prices script) store picks allowance) store store (Err (record { number = n; place = p }))
   unfolding run_reply
-  ran_no h o t = refused_as (ap (λ j. run_reply prices j store picks allowance) (judged_no prices script count s ls found h)) t
+  ran_no h = refused_as (ap (λ j. run_reply prices j store picks allowance) (judged_no prices script count s ls found h))
 
   module _ (z : s.verdict ≡ Passed) (v : Verdict) (asked : v ≡ store_verdict 0 script.ranges store) where
     replied : (w : Verdict) → v ≡ w → run_reply prices (judged_script prices script) store picks allowance ≡ stored (prices_of prices) script w store picks allowance
@@ -42,9 +46,9 @@ module _ (prices : List ℕ) (script : Script) (count : ℕ) (s : Figures) (ls :
     replied w e = ap (λ j. run_reply prices j store picks allowance) (judged_yes prices script count s ls found z) ∙ ap (λ x. stored (prices_of prices) script x store picks allowance) (sym asked ∙ e)
 
     -- refused by 15
-    pub ran_out : (q p : ℕ) → v ≡ Refused q p → (o : Outcome) → ToldNo o q p → RanAs (run_reply prices (judged_script prices script) store picks allowance) store store o
+    pub ran_out : (q p : ℕ) → v ≡ Refused q p → RanAs (run_reply prices (judged_script prices script) store picks allowance) store store (Err (record { number = q; place = p }))
     unfolding stored
-    ran_out q p e o t = refused_as (replied (Refused q p) e) t
+    ran_out q p e = refused_as (replied (Refused q p) e)
 
     module _ (y : v ≡ Passed) (legal : Legal script) where
       passes : store_verdict 0 script.ranges store ≡ Passed
@@ -65,9 +69,9 @@ module _ (prices : List ℕ) (script : Script) (count : ℕ) (s : Figures) (ls :
       replied_run q = replied Passed y ∙ ap (λ (a : Answer). ran a (counts_at a.entries (loop_rows 0 script.rows))) (same_run q)
 
 -- the run of the rows is the answer
-pub ran_all : (prices : List ℕ) → Priced prices → (π : Prices) → π ≡ prices_of prices → (script : Script) (count : ℕ) (s : Figures) (ls : List (List ℕ)) → FiguresFound prices script count s ls
+pub ran_all : (prices : List ℕ) → Priced prices → (π : Prices) → π ≡ prices_of prices → (script : Script) (count : ℕ) (s : AnalysisAnswer) (ls : List (List ℕ)) → FiguresFound prices script count s ls
     → (store : List ℤ) (picks : List ℕ) (allowance : ℕ) → s.verdict ≡ Passed → (v : Verdict) → v ≡ store_verdict 0 script.ranges store → v ≡ Passed → Legal script
-    → (least : ℕ) → least ≡ min allowance s.ticks → (new : List ℤ) (o : Outcome)
+    → (least : ℕ) → least ≡ min allowance s.ticks → (new : List ℤ) (o : Result Outcome Refusal)
     → RanAs (ran_rows π script.rows store picks least) store new o → RanAs (run_reply prices (judged_script prices script) store picks allowance) store new o
 unfolding ran_script run_script
 ran_all prices q π f script count s ls found store picks allowance z v asked y legal least e new o =

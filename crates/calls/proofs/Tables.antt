@@ -15,8 +15,7 @@ use Rattle.rules.proofs.Demand3File.{prices_pass, fine_prices}
 use Rattle.table.specs.Code.{rows_of, kind_at}
 use Rattle.table.proofs.Laws.{rows_length}
 use Rattle.reader.specs.declared.Loaded.{Loaded}
-use Rattle.analysis.specs.declared.Figures.{Figures}
-use Rattle.analysis.specs.Whole.{AnalysisOf, LegalRows}
+use Rattle.analysis.specs.Whole.{AnalysisAnswer, AnalysisOf, LegalRows}
 use Rattle.run_machine.specs.Steps.{Runnable}
 use Rattle.runner.specs.Answered.{MayRun}
 use Rattle.calls.specs.Held.{read_script, Given, FiguresFound}
@@ -39,7 +38,7 @@ module _ (text t : List ℕ) (l : Loaded) (ranges : List (List ℤ)) (g : Given 
   analyse_asks f n = ((l.vars, (g.legal, g.blank)), g.size, omega (arith, g.size, g.table.size), f, n, g.short, g.written)
 
   -- what the analysis found, under the lent prices
-  pub found_by : (prices : List ℕ) {π : Prices} → π ≡ prices_of prices → (s : Figures) (lines : List (List ℕ)) → AnalysisOf π (read_script text t l ranges) l.count s lines → FiguresFound prices (read_script text t l ranges) l.count s lines
+  pub found_by : (prices : List ℕ) {π : Prices} → π ≡ prices_of prices → (s : AnalysisAnswer) (lines : List (List ℕ)) → AnalysisOf π (read_script text t l ranges) l.count s lines → FiguresFound prices (read_script text t l ranges) l.count s lines
   found_by prices e s lines f = record { long = long_rows; figures = subst (λ ρ. AnalysisOf ρ (read_script text t l ranges) l.count s lines) e f }
 
   -- it may run from a store of its variables

@@ -1,9 +1,8 @@
 -- What a report says as numbers, for callers that do not read text.
-use Rattle.std.specs.Prelude.{◌≡◌, Bool, cond, List, [], ◌∷◌, map, ℕ, ◌-◌, ℤ, pos, negsuc, length, take, drop}
+use Rattle.std.specs.Prelude.{◌≡◌, Bool, cond, List, [], ◌∷◌, map, ℕ, ◌-◌, ℤ, pos, negsuc, Result, Ok, Err, length, take, drop}
 use Rattle.rules_steps.specs.declared.Step.{Step}
 use Rattle.rules_steps.specs.declared.Step.TheVariants.{Add, Grow, Shrink, Unknown}
-use Rattle.rules.specs.declared.Verdict.{Verdict}
-use Rattle.rules.specs.declared.Verdict.TheVariants.{Passed, Refused}
+use Rattle.rules.specs.declared.Refusal.{Refusal}
 use Rattle.rules.specs.Calls.{Judged, accepted, refuses, prices_of}
 use Rattle.rules.specs.Figures.{Line}
 use Rattle.rules.specs.Report.{first_end, second_end}
@@ -38,13 +37,11 @@ pub record LinesTold (loops : ℕ) (old new : List (List ℕ)) : Type 0 where
   pub rest : drop loops new ≡ drop loops old
   pub long : length new ≡ 16
 
--- those of a refused file
-abbrev pub no_figures : Verdict → Figures
-no_figures v = record { verdict = v; ticks = 0; vars = 0; loops = 0 }
-
 -- the figures of a report, the loops' numbers in the first lines of the table
-abbrev pub FiguresAs : List ℕ → Judged → List (List ℕ) → Figures → Type 0
-FiguresAs prices (accepted script) new r =
-    (r.verdict ≡ Passed) × (r.ticks ≡ report_ticks (prices_of prices) script) × (r.vars ≡ length script.ranges)
+abbrev pub FiguresAs : List ℕ → Judged → List (List ℕ) → Result Figures Refusal → Type 0
+FiguresAs prices (accepted script) new (Ok r) =
+    (r.ticks ≡ report_ticks (prices_of prices) script) × (r.vars ≡ length script.ranges)
     × (r.loops ≡ length (report_lines script)) × (take r.loops new ≡ map line_numbers (report_lines script)) × (length new ≡ 16)
-FiguresAs prices (refuses q p) new r = (r.verdict ≡ Refused q p) × (r.ticks ≡ 0) × (r.vars ≡ 0) × (r.loops ≡ 0)
+FiguresAs prices (accepted script) new (Err r) = ⊥
+FiguresAs prices (refuses q p) new (Ok r) = ⊥
+FiguresAs prices (refuses q p) new (Err r) = (r.number ≡ q) × (r.place ≡ p)

@@ -1,16 +1,15 @@
 -- A script that has been read, as code holds it: the ranges in an array of pairs, the rows in a table, beside the file's text.
 use Rattle.std.specs.Prelude.{◌≡◌, List, ℕ, ◌≤◌, ◌<◌, ℤ, length}
 use Rattle.rules.specs.Written.{Written}
-use Rattle.rules.specs.declared.Verdict.{Verdict}
-use Rattle.rules.specs.declared.Verdict.TheVariants.{Refused}
+use Rattle.rules.specs.Verdicts.{Verdict}
+use Rattle.rules.specs.Verdicts.{refused as Refused}
 use Rattle.rules.specs.Questions.{verdict}
 use Rattle.rules.specs.Scripts.{Script, BlankFrom, script_of, start_env, tree_of, Legal}
 use Rattle.rules.specs.Calls.{Judged, accepted, refuses, judged_by, prices_of, store_verdict}
 use Rattle.table.specs.Code.{rows_of, kind_at}
 use Rattle.table.specs.Paired.{Table}
 use Rattle.reader.specs.declared.Loaded.{Loaded}
-use Rattle.analysis.specs.declared.Figures.{Figures}
-use Rattle.analysis.specs.Whole.{AnalysisOf}
+use Rattle.analysis.specs.Whole.{AnalysisAnswer, AnalysisOf}
 
 -- the script that is read: the first pairs of the array of ranges, and the first rows of the table, beside the text
 abbrev pub read_script : List ℕ → List ℕ → Loaded → List (List ℤ) → Script
@@ -36,6 +35,6 @@ admitted (accepted script) store = store_verdict 0 script.ranges store
 admitted (refuses q p) store = Refused q p
 
 -- what the analysis found of a script of `count` rows
-pub record FiguresFound (prices : List ℕ) (script : Script) (count : ℕ) (s : Figures) (lines : List (List ℕ)) : Type 0 where
+pub record FiguresFound (prices : List ℕ) (script : Script) (count : ℕ) (s : AnalysisAnswer) (lines : List (List ℕ)) : Type 0 where
   pub long : length script.rows ≡ count
   pub figures : AnalysisOf (prices_of prices) script count s lines

@@ -4,12 +4,12 @@ ghost use Rattle.rules.specs.Calls.{Priced};
 ghost use Rattle.rules.specs.Report.{first_end, second_end, line_of};
 ghost use Rattle.analysis_lines.specs.Coded.{first_lines};
 ghost use Rattle.calls.specs.Held.{read_script, Given, judged_script};
-ghost use Rattle.calls.specs.Figures.{twos, step_number, flag_number, line_numbers, no_figures, LinesTold, FiguresAs};
+ghost use Rattle.calls.specs.Figures.{twos, step_number, flag_number, line_numbers, LinesTold, FiguresAs};
 
 use crate::prices::prices_of;
 use analysis_lines::line_at;
 use reader::Loaded;
-use rules::{LoopLine, Verdict};
+use rules::{LoopLine, Refusal};
 use rules_steps::Step;
 
 // A number of 64 bits that may be below 0, as C casts it.
@@ -87,35 +87,17 @@ fn tell_lines(lines: &mut [[u64; 7]; 16], loops: usize)
     requires { (loops ≤ 16) × (length lines.old ≡ 16) }
     ensures { LinesTold loops lines.old lines.new }
 {
-    let mut k: usize = 0;
-    while k < loops {
-        let line = line_at(lines, k);
-        let numbers = line_numbers(line);
-        lines[k] = numbers;
-        k += 1;
+    for k in 0..loops {
+        lines[k] = line_numbers(line_at(lines, k));
     }
 }
 
-// The questions of a script after it has been read, and what its report says: ticks, how many variables and loops it has; 0 of a
-// refused one.
-#[derive(Clone, Copy)]
+// What a script's report says: its ticks, and how many variables and loops it has.
+#[derive(Clone, Copy, Debug, PartialEq, Eq)]
 pub struct Figures {
-    pub verdict: Verdict,
     pub ticks: u64,
     pub vars: usize,
     pub loops: usize,
-}
-
-// Those of a refused file.
-pub fn no_figures(verdict: Verdict) -> Figures
-    ensures { result ≡ no_figures verdict }
-{
-    Figures {
-        verdict: verdict,
-        ticks: 0,
-        vars: 0,
-        loops: 0,
-    }
 }
 
 // The figures of a script, with the numbers of its loops in the first lines of the lent table.
@@ -126,7 +108,7 @@ pub fn figures_script(
     ranges: [[i32; 2]; 16],
     prices: &[u32],
     lines: &mut [[u64; 7]; 16],
-) -> Figures
+) -> Result<Figures, Refusal>
     requires { Given text.now rows.now script ranges × Priced prices.now × (length lines.old ≡ 16) }
     ensures { FiguresAs prices.now (judged_script prices.now
         (read_script text.now rows.now script ranges)) lines.new result }
@@ -140,18 +122,11 @@ pub fn figures_script(
         prices_of(prices),
         lines,
         &mut own,
-    );
-    let verdict = found.verdict;
-    match verdict {
-        Verdict::Passed => {
-            tell_lines(lines, found.loops);
-            Figures {
-                verdict: verdict,
-                ticks: found.ticks,
-                vars: script.vars,
-                loops: found.loops,
-            }
-        }
-        Verdict::Refused(_, _) => no_figures(verdict),
-    }
+    )?;
+    tell_lines(lines, found.loops);
+    Ok(Figures {
+        ticks: found.ticks,
+        vars: script.vars,
+        loops: found.loops,
+    })
 }

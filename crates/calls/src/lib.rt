@@ -14,19 +14,19 @@ ghost use Rattle.analysis.specs.Whole.{AnalysisOf};
 ghost use Rattle.run_machine.specs.Steps.{script_in};
 ghost use Rattle.runner.specs.Answered.{MayRun};
 ghost use Rattle.calls.specs.Held.{read_script, Given, judged_script, admitted};
-ghost use Rattle.calls.specs.Told.{MeasuredAs, ToldNo, RanAs, ran_rows};
+ghost use Rattle.calls.specs.Told.{MeasuredAs, RanAs, ending_in, ticks_in, counts_in, ran_rows};
+ghost use Rattle.rules.specs.Verdicts.{verdict_of, refused};
+ghost use Rattle.analysis.specs.Whole.{analysis_answer};
 
 use crate::prices::prices_of;
 use analysis::Figures;
-use ints::min_max::smaller;
 use reader::Loaded;
-use rules::{Ending, LoopCount, Prices, Reply, Verdict};
-use run_loops::NO_COUNT;
+use rules::{Ending, LoopCount, Prices, Refusal, Verdict};
 
-// What a report call answers, and the script's ticks: 0 of a refused one.
-#[derive(Clone, Copy)]
+// What a report call answers, its length or a refusal, and the script's ticks: 0 of a refused one, but not of one that 14 refuses.
+#[derive(Clone, Copy, Debug, PartialEq, Eq)]
 pub struct Measured {
-    pub reply: Reply,
+    pub reply: Result<usize, Refusal>,
     pub ticks: u64,
 }
 
@@ -44,24 +44,19 @@ pub fn measure_script(
         (judged_script prices.now (read_script text.now rows.now script ranges)) buffer.old
         buffer.new result }
 {
-    let none: [u64; 7] = [0; 7];
-    let mut lines = [none; 16];
+    let mut lines = [[0u64; 7]; 16];
     let mut own = [0u64; 0];
     let by_kind = prices_of(prices);
     let count = script.count;
-    let figures = analysis::analyse(text, rows, count, ranges, by_kind, &mut lines, &mut own);
-    let verdict = figures.verdict;
-    if let Verdict::Refused(number, place) = verdict {
-        let no = Reply::Refused(number, place);
-        return Measured {
-            reply: no,
+    match analysis::analyse(text, rows, count, ranges, by_kind, &mut lines, &mut own) {
+        Ok(figures) => Measured {
+            reply: report::write_report(count, &lines, figures.loops, figures.ticks, buffer),
+            ticks: figures.ticks,
+        },
+        Err(refusal) => Measured {
+            reply: Err(refusal),
             ticks: 0,
-        };
-    }
-    let reply = report::write_report(count, &lines, figures.loops, figures.ticks, buffer);
-    Measured {
-        reply: reply,
-        ticks: figures.ticks,
+        },
     }
 }
 
@@ -72,56 +67,41 @@ fn between(lo: i32, x: i32, hi: i32) -> bool
     lo <= x && x <= hi
 }
 
+// No to 15, at an index of the store.
+fn wrong_at(place: usize) -> Verdict
+    ensures { verdict_of result ≡ refused 15 place }
+{
+    Err(Refusal { number: 15, place })
+}
+
 // 15: the first index of the store that is wrong, missing or extra.
 pub fn ask_store(vars: usize, ranges: &[[i32; 2]; 16], store: &[i32]) -> Verdict
     requires { (vars ≤ 16) × (length ranges.now ≡ 16) }
-    ensures { result ≡ store_verdict 0 (take vars (pair_ranges ranges.now)) store.now }
+    ensures { verdict_of result ≡ store_verdict 0 (take vars (pair_ranges ranges.now)) store.now }
 {
-    let mut i: usize = 0;
-    while i < vars {
+    for i in 0..vars {
         if i >= store.len() {
-            return Verdict::Refused(15, i);
+            return wrong_at(i);
         }
-        let fine = between(ranges[i][0], store[i], ranges[i][1]);
-        if !fine {
-            return Verdict::Refused(15, i);
+        if !between(ranges[i][0], store[i], ranges[i][1]) {
+            return wrong_at(i);
         }
-        i += 1;
     }
     if vars < store.len() {
-        return Verdict::Refused(15, vars);
+        return wrong_at(vars);
     }
-    Verdict::Passed
+    Ok(())
 }
 
-// What a run call answers: a refusal, or the run's figures.
-#[derive(Clone, Copy)]
+// What a run comes to: its ending and the row there, its ticks, the bytes used, and its loops with their counts.
+#[derive(Clone, Copy, Debug, PartialEq, Eq)]
 pub struct Outcome {
-    pub verdict: Verdict,
     pub ending: Ending,
     pub row: usize,
     pub ticks: u64,
     pub used: usize,
     pub loops: usize,
     pub counts: [LoopCount; 16],
-}
-
-// A refusal.
-pub fn refusal(number: u32, place: usize) -> Outcome
-    ensures { ToldNo result number place }
-{
-    let none = [NO_COUNT; 16];
-    let ending = Ending::Ended;
-    let verdict = Verdict::Refused(number, place);
-    Outcome {
-        verdict: verdict,
-        ending: ending,
-        row: 0,
-        ticks: 0,
-        used: 0,
-        loops: 0,
-        counts: none,
-    }
 }
 
 // The run of an accepted script from a store inside its ranges.
@@ -136,7 +116,7 @@ fn run_accepted(
 ) -> Outcome
     requires { MayRun text.now prices rows.now count store.old allowance }
     ensures { RanAs (ran_rows prices (script_in text.now rows.now count) store.old
-        picks.now allowance) store.old store.new result }
+        picks.now allowance) store.old store.new (Ok result) }
 {
     let mut turns: [[u64; 3]; 16] = [[0; 3]; 16];
     let ran = runner::run_rows(
@@ -144,16 +124,13 @@ fn run_accepted(
     );
     let loops = run_loops::loops_of(rows, count, &turns);
     let counts = loops.counts;
-    let ending = ran.ending;
-    let verdict = Verdict::Passed;
     Outcome {
-        verdict: verdict,
-        ending: ending,
+        ending: ran.ending,
         row: ran.row,
         ticks: ran.ticks,
         used: ran.used,
         loops: loops.count,
-        counts: counts,
+        counts,
     }
 }
 
@@ -164,13 +141,12 @@ pub fn figures_of(
     script: Loaded,
     ranges: [[i32; 2]; 16],
     prices: Prices,
-) -> Figures
+) -> Result<Figures, Refusal>
     requires { Given text.now rows.now script ranges × FinePrices prices }
     ensures { (lines : List (List ℕ)) × AnalysisOf prices (read_script text.now rows.now script ranges)
-        script.count result lines }
+        script.count (analysis_answer result) lines }
 {
-    let none: [u64; 7] = [0; 7];
-    let mut lines = [none; 16];
+    let mut lines = [[0u64; 7]; 16];
     let mut own = [0u64; 0];
     analysis::analyse(
         text,
@@ -193,16 +169,11 @@ pub fn ask_script(
     store: &[i32],
 ) -> Verdict
     requires { Given text.now rows.now script ranges × Priced prices.now }
-    ensures { result ≡ admitted (judged_script prices.now
+    ensures { verdict_of result ≡ admitted (judged_script prices.now
         (read_script text.now rows.now script ranges)) store.now }
 {
-    let by_kind = prices_of(prices);
-    let figures = figures_of(text, rows, script, ranges, by_kind);
-    let verdict = figures.verdict;
-    match verdict {
-        Verdict::Passed => ask_store(script.vars, &ranges, store),
-        Verdict::Refused(_, _) => verdict,
-    }
+    figures_of(text, rows, script, ranges, prices_of(prices))?;
+    ask_store(script.vars, &ranges, store)
 }
 
 // The run call: the questions 19, 8 to 13 and 15, and the run. A refusal leaves the store as it was.
@@ -215,32 +186,25 @@ pub fn run_script(
     store: &mut [i32],
     picks: &[u8],
     allowance: u64,
-) -> Outcome
+) -> Result<Outcome, Refusal>
     requires { Given text.now rows.now script ranges × Priced prices.now }
     ensures run { RanAs (run_reply prices.now
         (judged_script prices.now (read_script text.now rows.now script ranges)) store.old
         picks.now allowance) store.old store.new result }
     ensures demand3 { Demand3Of prices.now
         (judged_script prices.now (read_script text.now rows.now script ranges)) store.old
-        picks.now allowance result.ending result.ticks (take result.loops result.counts) }
+        picks.now allowance (ending_in result) (ticks_in result) (counts_in result) }
 {
     let by_kind = prices_of(prices);
-    let figures = figures_of(text, rows, script, ranges, by_kind);
-    let verdict = figures.verdict;
-    if let Verdict::Refused(number, place) = verdict {
-        return refusal(number, place);
-    }
-    let asked = ask_store(script.vars, &ranges, &store[..]);
-    match asked {
-        Verdict::Passed => run_accepted(
-            text,
-            rows,
-            script.count,
-            by_kind,
-            store,
-            picks,
-            smaller(allowance, figures.ticks),
-        ),
-        Verdict::Refused(q, p) => refusal(q, p),
-    }
+    let figures = figures_of(text, rows, script, ranges, by_kind)?;
+    ask_store(script.vars, &ranges, &store[..])?;
+    Ok(run_accepted(
+        text,
+        rows,
+        script.count,
+        by_kind,
+        store,
+        picks,
+        allowance.min(figures.ticks),
+    ))
 }

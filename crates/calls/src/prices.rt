@@ -1,9 +1,10 @@
 // The four prices that a caller lends, in this order: arithmetic, cue, pick, test. Question 16.
 ghost use Rattle.std.specs.Prelude.{◌≡◌, ◌&&◌, leb, length, drop};
+ghost use Rattle.rules.specs.Verdicts.{verdict_of, refused};
 ghost use Rattle.rules.specs.Calls.{prices_of, prices_verdict};
 ghost use Rattle.calls.specs.First.{fine_first};
 
-use rules::{Prices, Verdict};
+use rules::{Prices, Refusal, Verdict};
 
 // Is it 1 to 1,000?
 fn fine(price: u32) -> bool
@@ -22,28 +23,26 @@ fn fine_at(prices: &[u32], i: usize) -> bool
     false
 }
 
-// 16: the first price, from 0, that is wrong, missing or extra.
-pub fn ask_prices(prices: &[u32]) -> Verdict
-    ensures { result ≡ prices_verdict 4 0 prices.now }
+// No to 16, at an index of the prices.
+fn wrong_at(place: usize) -> Verdict
+    ensures { verdict_of result ≡ refused 16 place }
 {
-    let mut i: usize = 0;
-    while i < 4 {
-        if !fine_at(prices, i) {
-            return Verdict::Refused(16, i);
-        }
-        i += 1;
-    }
-    if 4 < prices.len() {
-        return Verdict::Refused(16, 4);
-    }
-    Verdict::Passed
+    Err(Refusal { number: 16, place })
 }
 
-// Ticks have 64 bits.
-fn wide(price: u32) -> u64
-    ensures { result ≡ price }
+// 16: the first price, from 0, that is wrong, missing or extra.
+pub fn ask_prices(prices: &[u32]) -> Verdict
+    ensures { verdict_of result ≡ prices_verdict 4 0 prices.now }
 {
-    price as u64
+    for i in 0..4 {
+        if !fine_at(prices, i) {
+            return wrong_at(i);
+        }
+    }
+    if 4 < prices.len() {
+        return wrong_at(4);
+    }
+    Ok(())
 }
 
 // The struct of four prices.
@@ -52,9 +51,9 @@ pub fn prices_of(prices: &[u32]) -> Prices
     ensures { result ≡ prices_of prices.now }
 {
     Prices {
-        arithmetic: wide(prices[0]),
-        cue: wide(prices[1]),
-        pick: wide(prices[2]),
-        test: wide(prices[3]),
+        arithmetic: u64::from(prices[0]),
+        cue: u64::from(prices[1]),
+        pick: u64::from(prices[2]),
+        test: u64::from(prices[3]),
     }
 }

@@ -11,7 +11,7 @@ use lib.ListN.{length, get_or, drop, replicate, length-drop, length-replicate, g
 use Rattle.rules.specs.declared.Ending.{Ending}
 use Rattle.rules.specs.declared.Ending.TheVariants.{Ended, Spent, NoPick}
 use Rattle.rules.specs.declared.Prices.{Prices}
-use Rattle.rules.specs.declared.Verdict.TheVariants.{Passed}
+use Rattle.rules.specs.Verdicts.{passed as Passed}
 use Rattle.rules_machine.specs.RowMachine.{TurnCounts, Place, more, over, counts_of}
 use Rattle.rules.specs.Answers.{store_list}
 use Rattle.rules.specs.Scripts.{none, some, Script, store_of}
@@ -122,7 +122,6 @@ module _ (π : Prices) (q : ℕ) (p : Frames.Progress) (n : ℕ) (x : Progress) 
         let l = subst (λ ks. HeadCounts (loop_rows 0 ks) (tally_of (loop_rows 0 ks) counts) (record { count = r.outcome.loops; counts = r.outcome.counts })) (sym held.rows) (a.loops file (counted_in π q p n x store picks counts s file t count held)) in
         record {
           frame = a.frame ∙ sym frame_is;
-          verdict = a.verdict;
           ending = ap (λ (z : Ran). z.ending) (is_ran a) ∙ sym ending_is;
           row = ap (λ (z : Ran). z.row) (is_ran a) ∙ sym row_is;
           ticks = ap (λ (z : Ran). z.ticks) (is_ran a) ∙ sym ticks_are;

@@ -1,7 +1,7 @@
 -- What a call of frames answers, as code holds it.
-use Rattle.std.specs.Prelude.{◌≡◌, List, [], ℕ, ◌*◌, ◌≤◌, ◌<◌, ◌^◌, ℤ, length, get_or, take, replicate}
+use Rattle.std.specs.Prelude.{◌≡◌, List, [], ℕ, ◌*◌, ◌≤◌, ◌<◌, ◌^◌, ℤ, Result, Ok, Err, length, get_or, take, replicate}
 use Rattle.rules.specs.declared.Ending.TheVariants.{Ended}
-use Rattle.rules.specs.declared.Verdict.TheVariants.{Passed, Refused}
+use Rattle.rules.specs.Verdicts.{Verdict, passed as Passed, refused as Refused}
 use Rattle.rules_frames.specs.Frames
 use Rattle.rules.specs.Calls.{prices_of, scratch_size}
 use Rattle.rules_frames.specs.Frames.{FramesReply, played, stores_after, Lent, parts_of, readiness, played_by}
@@ -9,6 +9,7 @@ use Rattle.runner.specs.Answered.{ran_of}
 use Rattle.run_loops.specs.Loops.{no_count, NoneFrom, Counted, LoopsOf}
 use Rattle.calls_scripts.specs.declared.Held.{Held}
 use Rattle.calls_scripts.specs.declared.HeldScripts.{HeldScripts}
+use Rattle.calls_scripts.specs.declared.ScriptRefusal.{ScriptRefusal}
 use Rattle.calls_scripts.specs.Held.{slice_of, Inside, nobody, refused_script}
 use Rattle.calls_turns.specs.declared.Progress.{Progress}
 use Rattle.calls_turns.specs.Progress.{start_progress}
@@ -17,11 +18,23 @@ use Rattle.calls_frames.specs.declared.Frames as code
 
 -- past the last script
 abbrev pub no_answer : Played
-no_answer = record { frame = 0; outcome = record { verdict = Passed; ending = Ended; row = 0; ticks = 0; used = 0; loops = 0; counts = replicate 16 no_count } }
+no_answer = record { frame = 0; outcome = record { ending = Ended; row = 0; ticks = 0; used = 0; loops = 0; counts = replicate 16 no_count } }
+
+-- what a call of frames answers: a verdict, the script that is refused, from 1, or 0, the most ticks in one frame, and the scripts' answers
+pub record FramesAnswer : Type 0 where
+  pub verdict : Verdict
+  pub script : ℕ
+  pub most : ℕ
+  pub scripts : List Played
 
 -- a refusal, of that script
-abbrev pub no_frames : ℕ → ℕ → ℕ → code.Frames
+abbrev pub no_frames : ℕ → ℕ → ℕ → FramesAnswer
 no_frames q p script = record { verdict = Refused q p; script = script; most = 0; scripts = replicate 8 no_answer }
+
+-- the answer as code holds it
+abbrev pub frames_answer : Result code.Frames ScriptRefusal → FramesAnswer
+frames_answer (Ok f) = record { verdict = Passed; script = 0; most = f.most; scripts = f.scripts }
+frames_answer (Err r) = no_frames r.refusal.number r.refusal.place r.script
 
 -- a script whose ticks and counts fit, with `count` rows in its table
 pub record Answerable (q : ℕ) (p : Progress) (t : List ℕ) (count : ℕ) (counts : List (List ℕ)) : Type 0 where
@@ -32,7 +45,6 @@ pub record Answerable (q : ℕ) (p : Progress) (t : List ℕ) (count : ℕ) (cou
 -- its answer is that of its machine
 pub record AnsweredBy (q : ℕ) (p : Progress) (t : List ℕ) (count : ℕ) (counts : List (List ℕ)) (r : Played) : Type 0 where
   pub frame : r.frame ≡ p.frame
-  pub verdict : r.outcome.verdict ≡ Passed
   pub ran : record { ending = r.outcome.ending; row = r.outcome.row; ticks = r.outcome.ticks; used = r.outcome.used } ≡ ran_of p.machine (p.frame * q)
   pub loops : LoopsOf t count counts (record { count = r.outcome.loops; counts = r.outcome.counts })
 
@@ -49,7 +61,6 @@ pub record AllAnswered (q : ℕ) (all : HeldScripts) (tables : List ℕ) (progre
 -- a script's answer, of document 02's
 pub record ToldPlayed (x : Played) (a : Frames.Played) : Type 0 where
   pub frame : x.frame ≡ a.frame
-  pub verdict : x.outcome.verdict ≡ Passed
   pub ending : x.outcome.ending ≡ a.ending
   pub row : x.outcome.row ≡ a.row
   pub ticks : x.outcome.ticks ≡ a.ticks
@@ -63,7 +74,7 @@ abbrev pub no_played : Frames.Played
 no_played = record { frame = 0; ending = Ended; row = 0; ticks = 0; used = 0; store = []; counts = [] }
 
 -- all answers, and the most ticks in one frame
-pub record ToldFrames (f : code.Frames) (rs : List Frames.Played) (m : ℕ) : Type 0 where
+pub record ToldFrames (f : FramesAnswer) (rs : List Frames.Played) (m : ℕ) : Type 0 where
   pub verdict : f.verdict ≡ Passed
   pub most : f.most ≡ m
   pub few : length rs ≤ 8
@@ -71,16 +82,16 @@ pub record ToldFrames (f : code.Frames) (rs : List Frames.Played) (m : ℕ) : Ty
   pub rest : (j : ℕ) → length rs ≤ j → get_or f.scripts j no_answer ≡ no_answer
 
 -- the answer is what the reply says
-abbrev pub FramesAnswered : code.Frames → FramesReply → Type 0
+abbrev pub FramesAnswered : FramesAnswer → FramesReply → Type 0
 FramesAnswered f (played rs m) = ToldFrames f rs m
 FramesAnswered f (FramesReply.refuses q p) = f ≡ no_frames q p f.script
 
 -- the answer, and the stores after it
-pub record Framed (reply : FramesReply) (old new : List ℤ) (f : code.Frames) : Type 0 where
+pub record Framed (reply : FramesReply) (old new : List ℤ) (f : FramesAnswer) : Type 0 where
   pub told : FramesAnswered f reply
   pub stores : new ≡ stores_after reply old
 
 -- the same after 20, 1 and 16, and which script is refused
-pub record FramedScripts (prices : List ℕ) (l : Lent) (q : ℕ) (new : List ℤ) (f : code.Frames) : Type 0 where
+pub record FramedScripts (prices : List ℕ) (l : Lent) (q : ℕ) (new : List ℤ) (f : FramesAnswer) : Type 0 where
   pub framed : Framed (played_by (prices_of prices) q (readiness prices scratch_size (parts_of l))) l.stores new f
   pub script : f.script ≡ refused_script prices (parts_of l)

@@ -6,15 +6,14 @@ ghost use Rattle.rules.specs.Calls.{Priced, prices_of};
 ghost use Rattle.rules_frames.specs.Frames.{ready, played_by};
 ghost use Rattle.calls_lists.specs.Parts.{lent_of, Fitted};
 ghost use Rattle.calls_frames.specs.Playing.{MayPlay, ForReady, Uncounted, PlayedOut};
-ghost use Rattle.calls_frames.specs.Answers.{no_answer, no_frames, Answerable, AnsweredBy, AllAnswerable, AllAnswered};
+ghost use Rattle.calls_frames.specs.Answers.{no_answer, frames_answer, Answerable, AnsweredBy, AllAnswerable, AllAnswered};
 ghost use Rattle.calls_frames.specs.Answers.{Framed, FramedScripts};
 
 use calls::Outcome;
 use calls::prices::prices_of;
-use calls_scripts::HeldScripts;
+use calls_scripts::{HeldScripts, ScriptRefusal};
 use calls_turns::{Progress, START, new_frame, turn, turn_to, waiting};
-use ints::min_max::larger;
-use rules::{Ending, Verdict};
+use rules::Ending;
 use run_loops::NO_COUNT;
 use runner::with_ticks;
 
@@ -69,7 +68,7 @@ fn play(
             }
             k += 1;
         } else {
-            most = larger(most, frame.ticks);
+            most = most.max(frame.ticks);
             if !frame.waits {
                 return Ended { progress, most };
             }
@@ -80,7 +79,7 @@ fn play(
 }
 
 // A script's answer: the frame that it finished in, and what a run answers.
-#[derive(Clone, Copy)]
+#[derive(Clone, Copy, Debug, PartialEq, Eq)]
 pub struct Played {
     pub frame: u64,
     pub outcome: Outcome,
@@ -90,17 +89,14 @@ pub struct Played {
 fn nothing() -> Played
     ensures { result ≡ no_answer }
 {
-    let none = [NO_COUNT; 16];
-    let ending = Ending::Ended;
-    let verdict = Verdict::Passed;
+    let counts = [NO_COUNT; 16];
     let outcome = Outcome {
-        verdict,
-        ending,
+        ending: Ending::Ended,
         row: 0,
         ticks: 0,
         used: 0,
         loops: 0,
-        counts: none,
+        counts,
     };
     Played { frame: 0, outcome }
 }
@@ -113,17 +109,14 @@ fn answer_of(p: Progress, rows: &[u32], count: usize, q: u64, counts: &[[u64; 3]
     let m = p.machine;
     let ran = runner::ran_of(m, p.frame * q);
     let loops = run_loops::loops_of(rows, count, counts);
-    let list = loops.counts;
-    let ending = ran.ending;
-    let verdict = Verdict::Passed;
+    let counts = loops.counts;
     let outcome = Outcome {
-        verdict,
-        ending,
+        ending: ran.ending,
         row: ran.row,
         ticks: ran.ticks,
         used: ran.used,
         loops: loops.count,
-        counts: list,
+        counts,
     };
     Played {
         frame: p.frame,
@@ -145,8 +138,7 @@ fn answers(
     let each = all.each;
     let none = nothing();
     let mut list = [none; 8];
-    let mut k = 0;
-    while k < all.number {
+    for k in 0..all.number {
         let h = each[k];
         let places = h.places;
         let t = places.table;
@@ -155,38 +147,18 @@ fn answers(
         let p = progress[k];
         let a = answer_of(p, &tables[from..to], h.count, q, &counts[k]);
         list[k] = a;
-        k += 1;
     }
     list
 }
 
-// What a call of frames answers: a refusal, with the script that it is of, from 1, or 0 where it is of the call; or the most ticks that all
-// together took in one frame and each script's answer.
-#[derive(Clone, Copy)]
+// What frames come to: the most ticks that all together took in one frame, and each script's answer.
+#[derive(Clone, Copy, Debug, PartialEq, Eq)]
 pub struct Frames {
-    pub verdict: Verdict,
-    pub script: usize,
     pub most: u64,
     pub scripts: [Played; 8],
 }
 
-// A refusal.
-#[inline(never)]
-pub fn refusal(number: u32, place: usize, script: usize) -> Frames
-    ensures { result ≡ no_frames number place script }
-{
-    let none = nothing();
-    let scripts = [none; 8];
-    let verdict = Verdict::Refused(number, place);
-    Frames {
-        verdict,
-        script,
-        most: 0,
-        scripts,
-    }
-}
-
-// All frames of scripts that are held. Not inlined, as `refusal`: its answers need no stack while the files are read.
+// All frames of scripts that are held. Not inlined: its answers need no stack while the files are read.
 #[inline(never)]
 fn play_held(
     files: &[u8],
@@ -200,17 +172,13 @@ fn play_held(
     requires { MayPlay prices.now files.now tables.now stores.old picks.now q all }
     ensures { ForReady prices.now files.now tables.now stores.old
         picks.now q all
-        (λ l roles. Framed (played_by (prices_of prices.now) q (ready roles)) l.stores stores.new result)
-        × (result.script ≡ all.script) }
+        (λ l roles. Framed (played_by (prices_of prices.now) q (ready roles)) l.stores stores.new (frames_answer (Ok result))) }
 {
     let mut counts: [[[u64; 3]; 16]; 8] = [[[0; 3]; 16]; 8];
     let ended = play(files, tables, stores, picks, all, prices, q, &mut counts);
     let progress = ended.progress;
     let scripts = answers(progress, all, tables, q, &counts);
-    let verdict = Verdict::Passed;
     Frames {
-        verdict,
-        script: all.script,
         most: ended.most,
         scripts,
     }
@@ -226,12 +194,12 @@ pub fn run_frames(
     pick_lengths: &[usize],
     prices: &[u32],
     q: u64,
-) -> Frames
+) -> Result<Frames, ScriptRefusal>
     requires { Priced prices.now × Fitted (lent_of files.now file_lengths.now stores.old store_lengths.now
         picks.now pick_lengths.now) q }
     ensures { FramedScripts prices.now (lent_of files.now file_lengths.now
         stores.old store_lengths.now picks.now pick_lengths.now)
-        q stores.new result }
+        q stores.new (frames_answer result) }
 {
     let mut tables = [0u32; 8_192];
     let all = calls_scripts::enter_all(
@@ -242,10 +210,6 @@ pub fn run_frames(
         pick_lengths,
         prices,
         &mut tables[..],
-    );
-    let verdict = all.verdict;
-    match verdict {
-        Verdict::Passed => play_held(files, &tables[..], stores, picks, all, prices, q),
-        Verdict::Refused(number, place) => refusal(number, place, all.script),
-    }
+    )?;
+    Ok(play_held(files, &tables[..], stores, picks, all, prices, q))
 }

@@ -10,14 +10,11 @@ fn covers(lengths: &[usize], n: usize) -> bool
     ensures { result ≡ eqb (total lengths.now) n }
 {
     let mut left = n;
-    let mut i = 0;
-    while i < lengths.len() {
-        let next = lengths[i];
-        if left < next {
+    for next in lengths {
+        if left < *next {
             return false;
         }
-        left -= next;
-        i += 1;
+        left -= *next;
     }
     left == 0
 }
@@ -26,16 +23,7 @@ fn covers(lengths: &[usize], n: usize) -> bool
 fn counted(files: usize, stores: usize, picks: usize) -> bool
     ensures { result ≡ (within 1 8 files && (eqb stores files && eqb picks files)) }
 {
-    if files < 1 {
-        return false;
-    }
-    if 8 < files {
-        return false;
-    }
-    if stores != files {
-        return false;
-    }
-    picks == files
+    1 <= files && files <= 8 && stores == files && picks == files
 }
 
 // Is q from 1 to 1,000,000?
@@ -46,6 +34,7 @@ fn in_frame(q: u64) -> bool
 }
 
 // 20: 1 to 8 scripts, lists of as many lengths that add up to what is lent, and q from 1 to 1,000,000.
+#[tactic(auto, unfolding(rules_frames::specs::Frames::fitting, rules_frames::specs::Frames::counted, rules_frames::specs::Frames::covered))]
 pub fn fitting(
     files: &[u8],
     file_lengths: &[usize],
@@ -60,23 +49,15 @@ pub fn fitting(
         picks.now pick_lengths.now)
         q }
 {
-    if !counted(file_lengths.len(), store_lengths.len(), pick_lengths.len()) {
-        return false;
-    }
-    if !covers(file_lengths, files.len()) {
-        return false;
-    }
-    if !covers(store_lengths, stores.len()) {
-        return false;
-    }
-    if !covers(pick_lengths, picks.len()) {
-        return false;
-    }
-    in_frame(q)
+    counted(file_lengths.len(), store_lengths.len(), pick_lengths.len())
+        && covers(file_lengths, files.len())
+        && covers(store_lengths, stores.len())
+        && covers(pick_lengths, picks.len())
+        && in_frame(q)
 }
 
 // The part of one script: from where those before it end, to where it ends.
-#[derive(Clone, Copy)]
+#[derive(Clone, Copy, Debug, PartialEq, Eq)]
 pub struct Extent {
     pub from: usize,
     pub to: usize,
@@ -88,10 +69,8 @@ pub fn part(lengths: &[usize], k: usize) -> Extent
     ensures { ExtentOf lengths.now k result }
 {
     let mut from = 0;
-    let mut i = 0;
-    while i < k {
+    for i in 0..k {
         from += lengths[i];
-        i += 1;
     }
     Extent {
         from,

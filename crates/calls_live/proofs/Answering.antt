@@ -1,31 +1,25 @@
 -- What a step answers and writes. Assumes nothing.
 use mathlib.Core.Path.{◌≡◌, refl, sym, ◌∙◌, ap, subst}
-use mathlib.Core.Bool.{Bool, true, false}
+use mathlib.Core.Bool.{true}
 use mathlib.Core.List.{List, [], ◌∷◌, ◌++◌}
-use Prim.Native.Nat.{ℕ, zero, suc, ◌+◌, ◌-◌, ◌*◌, ◌≤◌, ◌<◌, min}
+use Prim.Native.Nat.{ℕ, suc, ◌+◌, ◌-◌, ◌≤◌, min}
 use native.Mathlib.Omega.{arith}
 use lib.IntN.{ℤ}
-use lib.ListN.{length, get_or, take, drop, replicate, length-drop, take-append-drop}
+use lib.ListN.{length, take, drop, replicate, length-drop, take-append-drop}
 use lib.Seq.{length-take-le}
-use Rattle.rules.specs.declared.Ending.TheVariants.{NoPick}
-use Rattle.rules.specs.declared.LoopCount.{LoopCount}
-use Rattle.rules.specs.declared.Prices.{Prices}
-use Rattle.rules.specs.declared.Verdict.TheVariants.{Passed}
+use Rattle.std.specs.Prelude.{Ok}
 use Rattle.rules.specs.Answers.{store_list}
-use Rattle.rules.specs.Blocks.{RowKind, is_pick, view_at}
-use Rattle.rules.specs.Figures.{Line}
+use Rattle.rules.specs.Blocks.{is_pick, view_at}
 use Rattle.rules.specs.Calls.{loop_rows, over}
-use Rattle.rules.specs.Scripts.{Script, store_of, report_ticks, report_lines}
+use Rattle.rules.specs.Scripts.{Script, report_lines}
 use Rattle.rules.proofs.Laws.{list_of_store}
 use Rattle.rules_machine.specs.RowMachine.{TurnCounts, counts_of, pairs}
-use Rattle.rules_live.specs.Live.{Stand, StepLent, Stepped, step_of, keeps, store_at, counts_at_stand, row_at, status_number, StepAnswer, step_answer}
-use Rattle.rules_live.specs.LiveState.{at, loop_number, tally_in, row_fits, phase_fits, state_stand, place_row, phase_at, carried_at, loop_numbers, state_numbers}
+use Rattle.rules_live.specs.Live.{Stand, Stepped, step_of, counts_at_stand, status_number, step_answer}
+use Rattle.rules_live.specs.LiveState.{at, tally_in, row_fits, phase_fits, state_stand, place_row, phase_at, carried_at, loop_numbers, state_numbers}
 use Rattle.rules_live.specs.LiveCalls.{after_step, store_stepped, state_stepped, cues_stepped}
-use Rattle.table.specs.declared.PricedRows.{PricedRows}
 use Rattle.table.proofs.Pairing.{heads_rise}
 use Rattle.analysis_lines.specs.Coded.{first_lines}
 use Rattle.run_actions.specs.declared.Machine.{Machine}
-use Rattle.run_actions.specs.declared.Status.TheVariants.{Going, Over}
 use Rattle.run_actions.specs.States.{tally_of, place_of}
 use Rattle.run_machine.specs.Steps.{script_in, EndsLoop}
 use Rattle.run_machine.proofs.Rows.{size_is}
@@ -34,16 +28,15 @@ use Rattle.runner.specs.Goes.{stood_by}
 use Rattle.run_loops.specs.declared.Loops.{Loops}
 use Rattle.run_loops.specs.Loops.{HeadCounts}
 use Rattle.live_state.specs.declared.Standing.{Standing}
-use Rattle.live_state.specs.Numbers.{machine_in, counts_in, AllHoldTurns, due_number, head_numbers, WrittenAs}
+use Rattle.live_state.specs.Numbers.{machine_in, counts_in, AllHoldTurns, due_number, WrittenAs}
 use Rattle.live_state.proofs.StateLaws.{lines_long}
 use Rattle.live_state.proofs.Reading.{Fits, given_most, tally_says}
 use Rattle.live_state.proofs.Passing.{StatePasses, state_passes, left_small, waits_at, test_at, at_the_end, fresh_held, waits_status, no_spent, loops_fit, counts_small, all_hold_turns}
 use Rattle.calls_live.specs.declared.Paced.{Paced}
 use Rattle.calls_live.specs.declared.Settled.{Settled}
-use Rattle.calls_live.specs.declared.StepDone.{StepDone}
 use Rattle.calls_live.specs.Plays.{ready_by, stop_from, MayPlay, Played, SettledAs}
 use Rattle.calls_live.specs.Told.{StepReady, step_from, SteppedAs}
-use Rattle.calls_live.proofs.Stepping.{left_of_lem, unused_of, store_of_lem, counts_of_lem, row_of, Same, StepSays, step_says}
+use Rattle.calls_live.proofs.Stepping.{left_of_lem, unused_of, store_of_lem, counts_of_lem, row_of, StepSays, step_says}
 
 counts_length : (c : TurnCounts) (hs : List ℕ) → length (counts_of c hs) ≡ length hs
 unfolding counts_of
@@ -180,8 +173,7 @@ module _ {script : Script} {text t : List ℕ} {by : Paced} {table : List (List 
               ++ (loop_numbers (lines i) heads (sym counts_are i) ++ replicate (48 - length (loop_numbers (lines i) heads (sym counts_are i))) 0))
 
           pub answers : WrittenAs standing by.ticks (first_lines table listed.count) listed counts' ns' → length store' ≡ length store
-              → SteppedAs (step_from script by store ns picks (length cues)) store store' ns ns' cues cues' (record {
-                verdict = Passed;
+              → SteppedAs (step_from script by store ns picks (length cues)) store store' ns ns' cues cues' (Ok (record {
                 status = rest.status;
                 row = rest.row;
                 ticks = m.left - r.machine.left;
@@ -191,11 +183,10 @@ module _ {script : Script} {text t : List ℕ} {by : Paced} {table : List (List 
                 cues = r.fired;
                 loops = listed.count;
                 counts = listed.counts;
-              })
+              }))
           unfolding after_step step_answer store_stepped state_stepped cues_stepped
           answers w l = record {
             told = record {
-              verdict = refl;
               status = kept.0;
               row = settled.row ∙ row_of r.machine store' picks (tally_of heads counts') by.prices script (at ns 3) r.full r.machine.status done.over done.spent ∙ sym says.stand.row;
               ticks = sym ticks_are;

@@ -1,40 +1,40 @@
 -- The questions of the two calls. Assumes nothing.
 use mathlib.Core.Path.{◌≡◌, refl, sym, ◌∙◌, ap, subst}
 use mathlib.Core.Bool.{Bool, true, false, cond}
-use mathlib.Core.List.{List, [], ◌∷◌, ◌++◌, map}
-use Prim.Native.Nat.{ℕ, zero, suc, ◌+◌, ◌-◌, ◌*◌, ◌≤◌, ◌<◌, min}
+use mathlib.Core.List.{List, [], ◌∷◌, map}
+use Prim.Native.Nat.{ℕ, zero, suc, ◌≤◌, ◌<◌}
 use native.Mathlib.Omega.{arith}
-use borrow.Author.Tests.{le-leb, lt-leb, eq-eqb, ne_eqb, leb-true}
-use lib.Dec.{leb, eqb}
+use borrow.Author.Tests.{le-leb, lt-leb, leb-true}
+use lib.Dec.{leb}
 use lib.IntN.{ℤ, pos, negsuc}
-use lib.ListN.{length, take, drop, replicate, length-take, length-append}
+use lib.ListN.{length, take, replicate, length-take}
 use Rattle.rules.specs.declared.Prices.{Prices}
-use Rattle.rules.specs.declared.Verdict.{Verdict}
-use Rattle.rules.specs.declared.Verdict.TheVariants.{Passed, Refused}
+use Rattle.rules.specs.Verdicts.{Verdict}
+use Rattle.rules.specs.Verdicts.{passed as Passed, refused as Refused}
 use Rattle.rules.specs.Bounds.{FinePrices}
 use Rattle.rules.specs.Claim.{line_rows}
 use Rattle.rules.specs.Figures.{Line}
 use Rattle.rules.specs.Questions.{loops_verdict, verdict}
 use Rattle.rules.specs.Ranges.{Range}
 use Rattle.rules.specs.Values.{lowest, highest}
-use Rattle.rules.specs.Scripts.{All, none, some, Script, Accepted, script_of, pair_ranges, start_env, tree_of, report_ticks, report_lines}
-use Rattle.rules.specs.Calls.{loop_rows, prices_of, store_verdict}
+use Rattle.rules.specs.Scripts.{All, none, some, Script, Accepted, script_of, pair_ranges, start_env, tree_of, report_lines}
+use Rattle.rules.specs.Calls.{prices_of, store_verdict}
 use Rattle.rules.proofs.Accepted.{then_yes}
 use Rattle.rules.proofs.Demand3File.{store_passes}
 use Rattle.rules.proofs.Laws.{pairs_length}
 use Rattle.rules.proofs.LinesAtHeads.{lines_at_heads}
-use Rattle.rules_machine.specs.RowMachine.{TurnCounts}
 use Rattle.rules_live.specs.Live.{StepLent, step_of}
-use Rattle.rules_live.specs.LiveState.{state_stand, state_verdict, loop_numbers, state_numbers}
-use Rattle.rules_live.specs.LiveCalls.{and_then, start_reply, started_by, size_verdict, start_state, state_started, StartReply, started, whole_range, wide_verdict, ticks_verdict, step_verdict, StepReply, after_step, stepped_by, step_reply, store_stepped, state_stepped, cues_stepped}
+use Rattle.rules_live.specs.LiveState.{state_stand, state_verdict}
+use Rattle.rules_live.specs.LiveCalls.{and_then, whole_range, wide_verdict, ticks_verdict, step_verdict, StepReply, after_step, stepped_by, step_reply, store_stepped, state_stepped, cues_stepped}
 use Rattle.analysis_ticks.specs.Capped.{capped}
-use Rattle.analysis.specs.declared.Figures.{Figures}
+use Rattle.std.specs.Prelude.{Result, Err}
+use Rattle.rules.specs.declared.Refusal.{Refusal}
+use Rattle.analysis.specs.Whole.{AnalysisAnswer}
 use Rattle.analysis.specs.Fold.{capped_lines}
 use Rattle.analysis.specs.Whole.{AnalysisOf}
 use Rattle.analysis.proofs.Totals.{lines_true}
-use Rattle.analysis_lines.specs.Coded.{first_lines}
 use Rattle.reader.specs.declared.Loaded.{Loaded}
-use Rattle.run_machine.specs.Steps.{Runnable, script_in}
+use Rattle.run_machine.specs.Steps.{Runnable}
 use Rattle.runner.proofs.Start.{runnable}
 use Rattle.live_state.specs.Numbers.{StateAsked}
 use Rattle.live_state.proofs.StateLaws.{lines_long}
@@ -43,7 +43,7 @@ use Rattle.calls.proofs.Tables.{found_by}
 use Rattle.calls.proofs.Judging.{judged_no, judged_yes, is_accepted, ticks_few}
 use Rattle.calls_live.specs.declared.Paced.{Paced}
 use Rattle.calls_live.specs.declared.StepDone.{StepDone}
-use Rattle.calls_live.specs.Told.{ToldNoStep, SteppedAs, StepReady, StepAsked}
+use Rattle.calls_live.specs.Told.{SteppedAs, StepReady, StepAsked}
 
 -- ---- 15, 21 and 22 of a step
 abbrev pub whole : List ℤ
@@ -133,7 +133,7 @@ abbrev list_of : Prices → List ℕ
 list_of π = π.arithmetic ∷ π.cue ∷ π.pick ∷ π.test ∷ []
 
 module _ {text t : List ℕ} {l : Loaded} {ranges : List (List ℤ)} (g : Given text t l ranges) (sixteen : length ranges ≡ 16) {π : Prices} (fine : FinePrices π)
-    (s : Figures) (ls : List (List ℕ)) (found : AnalysisOf π (read_script text t l ranges) l.count s ls) (z : s.verdict ≡ Passed) where
+    (s : AnalysisAnswer) (ls : List (List ℕ)) (found : AnalysisOf π (read_script text t l ranges) l.count s ls) (z : s.verdict ≡ Passed) where
   abbrev script : Script
   script = read_script text t l ranges
 
@@ -183,11 +183,11 @@ module _ {text t : List ℕ} {l : Loaded} {ranges : List (List ℤ)} (g : Given 
         }
 
 -- ---- its reply
-pub no_step_as : {reply : StepReply} {q p : ℕ} {store : List ℤ} {ns cues : List ℕ} {r : StepDone} → reply ≡ StepReply.refuses q p → ToldNoStep r q p → SteppedAs reply store store ns ns cues cues r
+pub no_step_as : {reply : StepReply} {q p : ℕ} {store : List ℤ} {ns cues : List ℕ} → reply ≡ StepReply.refuses q p → SteppedAs reply store store ns ns cues cues (Err (record { number = q; place = p }))
 unfolding store_stepped state_stepped cues_stepped
-no_step_as {store = store} {ns} {cues} {r} e t = subst (λ x. SteppedAs x store store ns ns cues cues r) (sym e) (record { told = t; new_store = refl; new_state = refl; new_cues = refl })
+no_step_as {q = q} {p} {store} {ns} {cues} e = subst (λ x. SteppedAs x store store ns ns cues cues (Err (record { number = q; place = p }))) (sym e) (record { told = (refl, refl); new_store = refl; new_state = refl; new_cues = refl })
 
-module _ (prices : List ℕ) (script : Script) (count : ℕ) (s : Figures) (ls : List (List ℕ)) (found : FiguresFound prices script count s ls) (store : List ℤ) (ns : List ℕ) (l : StepLent) where
+module _ (prices : List ℕ) (script : Script) (count : ℕ) (s : AnalysisAnswer) (ls : List (List ℕ)) (found : FiguresFound prices script count s ls) (store : List ℤ) (ns : List ℕ) (l : StepLent) where
   pub judged_out : {q p : ℕ} → s.verdict ≡ Refused q p → step_reply prices (judged_script prices script) store ns l ≡ StepReply.refuses q p
   unfolding step_reply
   judged_out e = ap (λ j. step_reply prices j store ns l) (judged_no prices script count s ls found e)
@@ -207,5 +207,5 @@ module _ (prices : List ℕ) (script : Script) (count : ℕ) (s : Figures) (ls :
     unfolding stepped_by
     asked_in f = by_verdict Passed f
 
-pub step_as : {reply other : StepReply} {store store' : List ℤ} {ns ns' cues cues' : List ℕ} {r : StepDone} → reply ≡ other → SteppedAs other store store' ns ns' cues cues' r → SteppedAs reply store store' ns ns' cues cues' r
+pub step_as : {reply other : StepReply} {store store' : List ℤ} {ns ns' cues cues' : List ℕ} {r : Result StepDone Refusal} → reply ≡ other → SteppedAs other store store' ns ns' cues cues' r → SteppedAs reply store store' ns ns' cues cues' r
 step_as {store = store} {store'} {ns} {ns'} {cues} {cues'} {r} e h = subst (λ x. SteppedAs x store store' ns ns' cues cues' r) (sym e) h

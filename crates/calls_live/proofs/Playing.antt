@@ -2,22 +2,21 @@
 use mathlib.Core.Path.{◌≡◌, refl, sym, ◌∙◌, ap, subst}
 use mathlib.Core.Bool.{Bool, true, false, cond}
 use mathlib.Core.List.{List, [], ◌∷◌}
-use Prim.Native.Nat.{ℕ, zero, suc, ◌+◌, ◌-◌, ◌*◌, ◌≤◌, ◌<◌, ◌^◌, min}
-use native.Mathlib.Nat.{mul-le-mul_left, mul-le-mul_right}
+use Prim.Native.Nat.{ℕ, suc, ◌+◌, ◌*◌, ◌≤◌, ◌<◌, min}
+use native.Mathlib.Nat.{mul-le-mul_right}
 use native.Mathlib.Numerals.{add-one}
 use native.Mathlib.Omega.{arith}
 use lib.Dec.{eqb}
 use lib.IntN.{ℤ}
-use lib.ListN.{length, get_or, take, drop}
+use lib.ListN.{length, get_or, drop}
 use Rattle.rules.specs.declared.Ending.{Ending}
 use Rattle.rules.specs.declared.Ending.TheVariants.{Ended, Spent, NoPick}
-use Rattle.rules.specs.declared.Prices.{Prices}
 use Rattle.rules.specs.Blocks.{RowKind}
 use Rattle.rules.specs.Calls.{loop_rows}
 use Rattle.rules.specs.Run.{State}
 use Rattle.rules.proofs.Laws.{no_true}
-use Rattle.rules_machine.specs.RowMachine.{TurnCounts, fresh, testing, Place, Next, more, over, to, picked, chosen, phase_rank, rank, Opens, next, pairs}
-use Rattle.rules_live.specs.Live.{Stand, stops_here, keeps, status_number, row_of_next}
+use Rattle.rules_machine.specs.RowMachine.{TurnCounts, fresh, testing, Place, more, over, picked, chosen, phase_rank, rank, Opens, pairs}
+use Rattle.rules_live.specs.Live.{stops_here, keeps, status_number}
 use Rattle.rules_live.specs.LiveState.{place_row, phase_number, phase_at, carried_at}
 use Rattle.table.specs.declared.PricedRows.{PricedRows}
 use Rattle.table.specs.Code.{partner_in, numbers_at}
@@ -27,7 +26,7 @@ use Rattle.run_actions.specs.declared.Status.TheVariants.{Going, Over}
 use Rattle.run_actions.specs.States.{count_in, Rising, tally_of, phase_of, state_of, place_of, by_status, next_of, is_going}
 use Rattle.run_actions.proofs.Heads.{counts_at_lem}
 use Rattle.table.proofs.Pairing.{heads_rise}
-use Rattle.run_machine.specs.Steps.{script_in, Room, EndsLoop}
+use Rattle.run_machine.specs.Steps.{script_in, EndsLoop}
 use Rattle.run_machine.proofs.Rows.{size_is, partner_of}
 use Rattle.runner.specs.Runs.{place_in, RoomToEnd, MayGo}
 use Rattle.runner.specs.declared.live.Stop.{Stop as Stopped}

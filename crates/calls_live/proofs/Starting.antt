@@ -2,26 +2,26 @@
 use mathlib.Core.Path.{◌≡◌, refl, sym, ◌∙◌, ap, subst}
 use mathlib.Core.Bool.{cond}
 use mathlib.Core.List.{List, [], ◌∷◌, ◌++◌}
-use Prim.Native.Nat.{ℕ, zero, suc, ◌+◌, ◌-◌, ◌*◌, ◌≤◌, ◌<◌, min}
+use Prim.Native.Nat.{ℕ, zero, suc, ◌+◌, ◌-◌, ◌*◌, ◌≤◌, min}
 use native.Mathlib.Omega.{arith}
 use borrow.Author.Tests.{eq-eqb, ne_eqb}
 use lib.IntN.{ℤ}
 use lib.ListN.{length, replicate}
 use Rattle.rules.specs.declared.Prices.{Prices}
-use Rattle.rules.specs.declared.Verdict.{Verdict}
-use Rattle.rules.specs.declared.Verdict.TheVariants.{Passed, Refused}
+use Rattle.rules.specs.Verdicts.{Verdict}
+use Rattle.rules.specs.Verdicts.{passed as Passed, refused as Refused}
 use Rattle.rules.specs.Figures.{Line}
 use Rattle.rules.specs.Scripts.{Script, report_ticks, report_lines}
 use Rattle.rules.specs.Calls.{loop_rows, prices_of, store_verdict}
 use Rattle.rules_machine.specs.RowMachine.{TurnCounts}
-use Rattle.rules_live.specs.Live.{beginning, counts_at_stand, status_number}
+use Rattle.rules_live.specs.Live.{counts_at_stand, status_number}
 use Rattle.rules_live.specs.LiveState.{place_row, phase_at, phase_number, carried_at, loop_numbers, state_numbers}
 use Rattle.rules_live.specs.LiveCalls.{and_then, StartReply, started, size_verdict, start_state, started_by, start_reply, state_started}
-use Rattle.analysis.specs.declared.Figures.{Figures}
+use Rattle.std.specs.Prelude.{Ok, Err}
+use Rattle.analysis.specs.Whole.{AnalysisAnswer}
 use Rattle.live_state.proofs.StateLaws.{lines_long}
 use Rattle.calls.specs.Held.{judged_script, FiguresFound}
 use Rattle.calls.proofs.Judging.{judged_no, judged_yes}
-use Rattle.calls_live.specs.declared.Started.{Started}
 use Rattle.calls_live.specs.Told.{StartedAs}
 
 -- ---- zeros
@@ -59,18 +59,18 @@ starts_empty π script store few =
     ∙ ap (λ (l : List ℕ). (0 ∷ 0 ∷ 0 ∷ 0 ∷ 0 ∷ 0 ∷ replicate 10 0) ++ l) (zeros_join n (48 - n) ∙ ap (λ k. replicate k 0) e))
 
 -- ---- its reply
-module _ (prices : List ℕ) (script : Script) (count : ℕ) (s : Figures) (ls : List (List ℕ)) (found : FiguresFound prices script count s ls) (store : List ℤ) (ns : List ℕ) where
+module _ (prices : List ℕ) (script : Script) (count : ℕ) (s : AnalysisAnswer) (ls : List (List ℕ)) (found : FiguresFound prices script count s ls) (store : List ℤ) (ns : List ℕ) where
   abbrev reply : StartReply
   reply = start_reply prices (judged_script prices script) store ns
 
-  no_start : (v : Verdict) {q p : ℕ} → reply ≡ StartReply.refuses q p → v ≡ Refused q p → (r : Started) → (r.verdict ≡ v) × (r.ticks ≡ 0) × (r.loops ≡ 0) → StartedAs reply ns ns r
+  no_start : {q p : ℕ} → reply ≡ StartReply.refuses q p → StartedAs reply ns ns (Err (record { number = q; place = p }))
   unfolding state_started
-  no_start v e f r (a, b, c) = subst (λ x. StartedAs x ns ns r) (sym e) (record { told = (a ∙ f, b, c); new_state = refl })
+  no_start {q} {p} e = subst (λ x. StartedAs x ns ns (Err (record { number = q; place = p }))) (sym e) (record { told = (refl, refl); new_state = refl })
 
   -- refused by 8 to 13
-  pub start_out : {q p : ℕ} → s.verdict ≡ Refused q p → (r : Started) → (r.verdict ≡ s.verdict) × (r.ticks ≡ 0) × (r.loops ≡ 0) → StartedAs reply ns ns r
+  pub start_out : {q p : ℕ} → s.verdict ≡ Refused q p → StartedAs reply ns ns (Err (record { number = q; place = p }))
   unfolding start_reply
-  start_out e r t = no_start s.verdict (ap (λ j. start_reply prices j store ns) (judged_no prices script count s ls found e)) e r t
+  start_out e = no_start (ap (λ j. start_reply prices j store ns) (judged_no prices script count s ls found e))
 
   module _ (z : s.verdict ≡ Passed) (v : Verdict) (stored : v ≡ store_verdict 0 script.ranges store) where
     by_store : (w : Verdict) → v ≡ w → reply ≡ started_by (prices_of prices) script store (and_then w (size_verdict ns))
@@ -78,23 +78,23 @@ module _ (prices : List ℕ) (script : Script) (count : ℕ) (s : Figures) (ls :
     by_store w e = ap (λ j. start_reply prices j store ns) (judged_yes prices script count s ls found z) ∙ ap (λ x. started_by (prices_of prices) script store (and_then x (size_verdict ns))) (sym stored ∙ e)
 
     -- by 15
-    pub stored_out : {q p : ℕ} → v ≡ Refused q p → (r : Started) → (r.verdict ≡ v) × (r.ticks ≡ 0) × (r.loops ≡ 0) → StartedAs reply ns ns r
+    pub stored_out : {q p : ℕ} → v ≡ Refused q p → StartedAs reply ns ns (Err (record { number = q; place = p }))
     unfolding started_by and_then
-    stored_out {q} {p} e r t = no_start v (by_store (Refused q p) e) e r t
+    stored_out {q} {p} e = no_start (by_store (Refused q p) e)
 
     module _ (yes : v ≡ Passed) where
       -- by 21
-      pub size_out : (length ns ≡ 64 → ⊥) → (r : Started) → (r.verdict ≡ Refused 21 64) × (r.ticks ≡ 0) × (r.loops ≡ 0) → StartedAs reply ns ns r
+      pub size_out : (length ns ≡ 64 → ⊥) → StartedAs reply ns ns (Err (record { number = 21; place = 64 }))
       unfolding started_by and_then size_verdict
-      size_out f r t = no_start (Refused 21 64) (by_store Passed yes ∙ rw (ne_eqb (length ns) 64 f)) refl r t
+      size_out f = no_start (by_store Passed yes ∙ rw (ne_eqb (length ns) 64 f))
 
-      pub starts : length ns ≡ 64 → (new : List ℕ) → new ≡ replicate 64 0 → StartedAs reply ns new (record { verdict = s.verdict; ticks = s.ticks; loops = s.loops })
+      pub starts : length ns ≡ 64 → (new : List ℕ) → new ≡ replicate 64 0 → StartedAs reply ns new (Ok (record { ticks = s.ticks; loops = s.loops }))
       unfolding started_by and_then size_verdict state_started
       starts l new e =
           let many : s.loops ≡ length (report_lines script) = sym (lines_long ls s.loops (omega (arith, found.figures.loops z, found.figures.long z))) ∙ ap length (found.figures.lines z) in
           let said : reply ≡ started (report_ticks (prices_of prices) script) (length (report_lines script)) (start_state (prices_of prices) script store)
           = by_store Passed yes ∙ ap (λ b. started_by (prices_of prices) script store (cond b Passed (Refused 21 64))) (eq-eqb (length ns) 64 l) in
-          subst (λ x. StartedAs x ns new (record { verdict = s.verdict; ticks = s.ticks; loops = s.loops })) (sym said) (record {
-            told = (z, found.figures.ticks z, many);
+          subst (λ x. StartedAs x ns new (Ok (record { ticks = s.ticks; loops = s.loops }))) (sym said) (record {
+            told = (found.figures.ticks z, many);
             new_state = e ∙ starts_empty (prices_of prices) script store (omega (arith, found.figures.loops z));
           })

@@ -1,29 +1,26 @@
 -- A step of the definitions is the step in code. Assumes nothing.
 use mathlib.Core.Path.{◌≡◌, refl, sym, ◌∙◌, ap, subst}
-use mathlib.Core.Bool.{Bool, true, false, cond, not}
-use mathlib.Core.List.{List, [], ◌∷◌, ◌++◌}
-use Prim.Native.Nat.{ℕ, zero, suc, ◌+◌, ◌-◌, ◌*◌, ◌≤◌, ◌<◌, min}
+use mathlib.Core.Bool.{Bool, true, false, not}
+use mathlib.Core.List.{List, [], ◌∷◌}
+use Prim.Native.Nat.{ℕ, zero, suc, ◌+◌, ◌-◌, ◌≤◌}
 use native.Mathlib.Omega.{arith}
 use borrow.Author.Tests.{ne_eqb}
 use lib.Dec.{eqb}
 use lib.IntN.{ℤ}
-use lib.ListN.{length, get_or, take, drop, replicate, length-take, length-drop}
+use lib.ListN.{length, drop}
 use lib.Seq.{length-take-le}
 use Rattle.rules.specs.declared.Ending.{Ending}
 use Rattle.rules.specs.declared.Ending.TheVariants.{Ended, Spent, NoPick}
 use Rattle.rules.specs.declared.Prices.{Prices}
-use Rattle.rules.specs.Calls.{loop_rows}
-use Rattle.rules.specs.Run.{State}
 use Rattle.rules.specs.Scripts.{Script, store_of}
-use Rattle.rules.specs.Values.{Store}
 use Rattle.rules.proofs.Laws.{no_true}
-use Rattle.rules_machine.specs.RowMachine.{TurnCounts, fresh, testing, Place, Next, more, over, picked, chosen, next, pairs}
-use Rattle.rules_live.specs.Live.{Stand, going, waits, full, finished, Stop, stops_here, having, StepLent, Stepped, left_at, unused_at, keeps, stepped_to, lent_to, runs_on, by_byte, answered, step, step_of, matching_end, matching_head, store_at, counts_at_stand, row_of_next, row_at, status_number}
+use Rattle.rules_machine.specs.RowMachine.{TurnCounts, Place, more, picked, chosen, next}
+use Rattle.rules_live.specs.Live.{Stand, waits, finished, Stop, stops_here, having, StepLent, Stepped, left_at, unused_at, keeps, stepped_to, lent_to, runs_on, by_byte, answered, step, step_of, matching_end, matching_head, store_at, counts_at_stand, row_of_next, row_at, status_number}
 use Rattle.rules_live.specs.LiveState.{phase_in, stand_in, place_row, phase_at, carried_at}
 use Rattle.run_actions.specs.declared.Machine.{Machine}
 use Rattle.run_actions.specs.declared.Status.{Status}
 use Rattle.run_actions.specs.declared.Status.TheVariants.{Going, Over}
-use Rattle.run_actions.specs.States.{phase_of, state_of, place_of, is_going}
+use Rattle.run_actions.specs.States.{phase_of, place_of, is_going}
 use Rattle.runner.specs.Goes.{stood_by}
 use Rattle.live_state.specs.Numbers.{due_in, status_in, given_at}
 use Rattle.calls_live.specs.Plays.{ready_by, stop_from, row_stopped}

@@ -5,7 +5,6 @@ use Rattle.rules.specs.declared.Ending.TheVariants.{Ended, Spent, NoPick}
 use Rattle.rules.specs.declared.Prices.{Prices}
 use Rattle.rules.specs.Blocks.{RowKind, is_pick, view_at}
 use Rattle.rules.specs.Calls.{loop_rows}
-use Rattle.rules.specs.Run.{State}
 use Rattle.rules_machine.specs.RowMachine.{TurnCounts, fresh, Place, Next, more, over, picked, next, pairs}
 use Rattle.rules_live.specs.Live.{Stand, Stop, stops_here, runs_on, keeps, row_of_next, status_number}
 use Rattle.rules_live.specs.LiveState.{place_row, phase_at, carried_at}

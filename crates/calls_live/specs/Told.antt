@@ -1,6 +1,7 @@
 -- What the two calls of a live run answer, as code holds it.
-use Rattle.std.specs.Prelude.{◌≡◌, List, ℕ, ◌≤◌, ℤ, length, take}
-use Rattle.rules.specs.declared.Verdict.TheVariants.{Passed, Refused}
+use Rattle.std.specs.Prelude.{◌≡◌, List, ℕ, ◌≤◌, ℤ, Result, Ok, Err, length, take}
+use Rattle.rules.specs.declared.Refusal.{Refusal}
+use Rattle.rules.specs.Verdicts.{passed as Passed}
 use Rattle.rules.specs.Bounds.{FinePrices}
 use Rattle.rules.specs.Figures.{Line}
 use Rattle.rules.specs.Calls.{loop_rows}
@@ -16,20 +17,21 @@ use Rattle.calls_live.specs.declared.Started.{Started}
 use Rattle.calls_live.specs.declared.StepDone.{StepDone}
 
 -- ---- the start
--- the answer is what the reply says; of a refusal ticks and loops are 0
-abbrev pub TellsStart : Started → StartReply → Type 0
-TellsStart r (started ticks loops state) = (r.verdict ≡ Passed) × (r.ticks ≡ ticks) × (r.loops ≡ loops)
-TellsStart r (StartReply.refuses q p) = (r.verdict ≡ Refused q p) × (r.ticks ≡ 0) × (r.loops ≡ 0)
+-- the answer is what the reply says
+abbrev pub TellsStart : Result Started Refusal → StartReply → Type 0
+TellsStart (Ok r) (started ticks loops state) = (r.ticks ≡ ticks) × (r.loops ≡ loops)
+TellsStart (Ok r) (StartReply.refuses q p) = ⊥
+TellsStart (Err r) (started ticks loops state) = ⊥
+TellsStart (Err r) (StartReply.refuses q p) = (r.number ≡ q) × (r.place ≡ p)
 
 -- the answer of a start, and the state after it
-pub record StartedAs (reply : StartReply) (old new : List ℕ) (r : Started) : Type 0 where
+pub record StartedAs (reply : StartReply) (old new : List ℕ) (r : Result Started Refusal) : Type 0 where
   pub told : TellsStart r reply
   pub new_state : new ≡ state_started reply old
 
 -- ---- a step
 -- what a step does
 pub record ToldStep (r : StepDone) (a : StepAnswer) : Type 0 where
-  pub verdict : r.verdict ≡ Passed
   pub status : r.status ≡ a.status
   pub row : r.row ≡ a.row
   pub ticks : r.ticks ≡ a.ticks
@@ -41,26 +43,15 @@ pub record ToldStep (r : StepDone) (a : StepAnswer) : Type 0 where
   pub counts : take r.loops r.counts ≡ a.counts
   pub rest : NoneFrom r.loops r.counts
 
--- a refusal: its number and place; all figures are 0
-pub record ToldNoStep (r : StepDone) (q p : ℕ) : Type 0 where
-  pub verdict : r.verdict ≡ Refused q p
-  pub status : r.status ≡ 0
-  pub row : r.row ≡ 0
-  pub ticks : r.ticks ≡ 0
-  pub all_ticks : r.all_ticks ≡ 0
-  pub used : r.used ≡ 0
-  pub all_used : r.all_used ≡ 0
-  pub cues : r.cues ≡ 0
-  pub loops : r.loops ≡ 0
-  pub rest : NoneFrom 0 r.counts
-
--- the answer is what the reply says
-abbrev pub TellsStep : StepDone → StepReply → Type 0
-TellsStep r (stepped a store state) = ToldStep r a
-TellsStep r (StepReply.refuses q p) = ToldNoStep r q p
+-- the answer is what the reply says: a step, or a refusal's number and place
+abbrev pub TellsStep : Result StepDone Refusal → StepReply → Type 0
+TellsStep (Ok r) (stepped a store state) = ToldStep r a
+TellsStep (Ok r) (StepReply.refuses q p) = ⊥
+TellsStep (Err r) (stepped a store state) = ⊥
+TellsStep (Err r) (StepReply.refuses q p) = (r.number ≡ q) × (r.place ≡ p)
 
 -- the answer of a step, and store, state and cues after it: "A refused call leaves store, state and cues untouched"
-pub record SteppedAs (reply : StepReply) (store store' : List ℤ) (state state' cues cues' : List ℕ) (r : StepDone) : Type 0 where
+pub record SteppedAs (reply : StepReply) (store store' : List ℤ) (state state' cues cues' : List ℕ) (r : Result StepDone Refusal) : Type 0 where
   pub told : TellsStep r reply
   pub new_store : store' ≡ store_stepped reply store
   pub new_state : state' ≡ state_stepped reply state

@@ -8,17 +8,16 @@ ghost use Rattle.rules.specs.Bounds.{FinePrices};
 ghost use Rattle.rules.specs.Calls.{prices_of, Priced};
 ghost use Rattle.rules_live.specs.LiveCalls.{start_reply, step_verdict, step_reply};
 ghost use Rattle.calls.specs.Held.{read_script, Given, judged_script};
-ghost use Rattle.calls_live.specs.Told.{ToldNoStep, StepReady, step_from, SteppedAs};
+ghost use Rattle.rules.specs.Verdicts.{verdict_of};
+ghost use Rattle.calls_live.specs.Told.{StepReady, step_from, SteppedAs};
 ghost use Rattle.calls_live.specs.Told.{StepAsked, step_lent, StartedAs};
 ghost use Rattle.calls_live.specs.Plays.{AtPick, ByteTaken, Readied, MayPlay, Played, SettledAs};
 
 use calls::prices::prices_of;
-use ints::min_max::smaller;
 use live_state::{LEFT, STATE, Standing, TICKS, USED};
 use reader::Loaded;
-use rules::{Ending, LoopCount, Prices, Verdict};
+use rules::{Ending, LoopCount, Prices, Refusal, Verdict};
 use run_actions::{Machine, Status};
-use run_loops::NO_COUNT;
 use runner::live::{Begin, Stop};
 use table::PricedRows;
 
@@ -116,7 +115,7 @@ fn settle_by(ending: Ending, i: usize, m: Machine, carried: u64) -> Settled
             row: i,
             at: i,
             due: false,
-            left: smaller(m.left, carried),
+            left: m.left.min(carried),
         },
         Ending::Ended => Settled {
             status: live_state::ENDED,
@@ -146,7 +145,7 @@ fn settle(stop: Stop, carried: u64) -> Settled
             row: m.row,
             at: m.row,
             due: false,
-            left: smaller(m.left, carried),
+            left: m.left.min(carried),
         };
     }
     let status = m.status;
@@ -162,11 +161,9 @@ fn settle(stop: Stop, carried: u64) -> Settled
     }
 }
 
-// What a step answers: a refusal, or status and row, the ticks and the bytes of this step and of all, its cues, and the loops' counts so
-// far.
-#[derive(Clone, Copy)]
+// What a step comes to: status and row, the ticks and the bytes of this step and of all, its cues, and the loops' counts so far.
+#[derive(Clone, Copy, Debug, PartialEq, Eq)]
 pub struct StepDone {
-    pub verdict: Verdict,
     pub status: u64,
     pub row: usize,
     pub ticks: u64,
@@ -176,26 +173,6 @@ pub struct StepDone {
     pub cues: usize,
     pub loops: usize,
     pub counts: [LoopCount; 16],
-}
-
-// A refusal.
-pub fn no_step(number: u32, place: usize) -> StepDone
-    ensures { ToldNoStep result number place }
-{
-    let none = [NO_COUNT; 16];
-    let verdict = Verdict::Refused(number, place);
-    StepDone {
-        verdict: verdict,
-        status: 0,
-        row: 0,
-        ticks: 0,
-        all_ticks: 0,
-        used: 0,
-        all_used: 0,
-        cues: 0,
-        loops: 0,
-        counts: none,
-    }
 }
 
 // What a step goes by: the script's rows and prices, q, and the ticks and loops of its report.
@@ -224,7 +201,7 @@ fn step_on(
     ensures { ((s : Script) → StepReady s text.now rows.now script lines.now store.old
         state.old → SteppedAs (step_from s script store.old state.old picks.now
         (length cues.old)) store.old store.new state.old state.new
-        cues.old cues.new result) }
+        cues.old cues.new (Ok result)) }
 {
     let carried = state[LEFT];
     let ticks_before = state[TICKS];
@@ -234,7 +211,7 @@ fn step_on(
     let prices = script.prices;
     let by = PricedRows {
         count: script.count,
-        prices: prices,
+        prices,
     };
     let stop = play(text, rows, by, from, store, picks, &mut counts, cues);
     let listed = run_loops::loops_of(rows, script.count, &counts);
@@ -250,26 +227,22 @@ fn step_on(
         used: used_before + m.used as u64,
     };
     live_state::write_state(state, standing, script.ticks, lines, listed, &counts);
-    let loop_counts = listed.counts;
-    let verdict = Verdict::Passed;
+    let counts = listed.counts;
     StepDone {
-        verdict: verdict,
         status: rest.status,
         row: rest.row,
-        ticks: ticks,
+        ticks,
         all_ticks: standing.ticks,
         used: m.used,
         all_used: standing.used,
         cues: stop.fired,
         loops: listed.count,
-        counts: loop_counts,
+        counts,
     }
 }
 
-// The most ticks that a step is given, and the number of that question.
+// The most ticks that a step is given: question 22.
 pub const MOST_TICKS: u64 = 1_000_000;
-
-pub const TICKS_QUESTION: u32 = 22;
 
 // The questions of a step after the script has been judged: 15 read so that every value from −L to L passes, 21, 22.
 fn ask_step(
@@ -282,27 +255,23 @@ fn ask_step(
 ) -> Verdict
     requires { (s : Script) × StepAsked s rows.now script vars lines.now }
     ensures { ((s : Script) → StepAsked s rows.now script vars lines.now
-        → result ≡ step_verdict script.prices s store.now state.now script.q) }
+        → verdict_of result ≡ step_verdict script.prices s store.now state.now script.q) }
 {
-    let whole: [i32; 2] = [-1_000_000_000, 1_000_000_000];
-    let ranges = [whole; 16];
-    let stored = calls::ask_store(vars, &ranges, store);
-    if let Verdict::Refused(_, _) = stored {
-        return stored;
-    }
+    let ranges = [[-1_000_000_000, 1_000_000_000]; 16];
+    calls::ask_store(vars, &ranges, store)?;
     let prices = script.prices;
     let by = PricedRows {
         count: script.count,
-        prices: prices,
+        prices,
     };
-    let stated = live_state::ask_state(state, rows, by, script.ticks, lines, script.loops);
-    if let Verdict::Refused(_, _) = stated {
-        return stated;
-    }
+    live_state::ask_state(state, rows, by, script.ticks, lines, script.loops)?;
     if script.q > MOST_TICKS {
-        return Verdict::Refused(TICKS_QUESTION, 0);
+        return Err(Refusal {
+            number: 22,
+            place: 0,
+        });
     }
-    Verdict::Passed
+    Ok(())
 }
 
 // What a step is lent beside the script's rows and ranges: how many there are, the prices, and q.
@@ -323,15 +292,14 @@ pub fn step_script(
     state: &mut [u64],
     picks: &[u8],
     cues: &mut [u32],
-) -> StepDone
+) -> Result<StepDone, Refusal>
     requires { Given text.now rows.now turn.script ranges × FinePrices turn.prices }
     ensures { ((prices : List ℕ) → turn.prices ≡ prices_of prices → SteppedAs (step_reply prices
         (judged_script prices (read_script text.now rows.now turn.script ranges)) store.old
         state.old (step_lent turn.q picks.now (length cues.old))) store.old
         store.new state.old state.new cues.old cues.new result) }
 {
-    let none: [u64; 7] = [0; 7];
-    let mut lines = [none; 16];
+    let mut lines = [[0u64; 7]; 16];
     let mut own = [0u64; 0];
     let script = turn.script;
     let prices = turn.prices;
@@ -343,42 +311,23 @@ pub fn step_script(
         prices,
         &mut lines,
         &mut own,
-    );
-    let verdict = figures.verdict;
-    if let Verdict::Refused(number, place) = verdict {
-        return no_step(number, place);
-    }
+    )?;
     let by = Paced {
         count: script.count,
-        prices: prices,
+        prices,
         q: turn.q,
         ticks: figures.ticks,
         loops: figures.loops,
     };
-    let asked = ask_step(rows, by, script.vars, &lines, &store[..], &state[..]);
-    match asked {
-        Verdict::Passed => step_on(text, rows, by, &lines, store, state, picks, cues),
-        Verdict::Refused(number, place) => no_step(number, place),
-    }
+    ask_step(rows, by, script.vars, &lines, &store[..], &state[..])?;
+    Ok(step_on(text, rows, by, &lines, store, state, picks, cues))
 }
 
-// What `start` answers: a refusal, or the report's ticks and how many loops there are.
-#[derive(Clone, Copy)]
+// What `start` answers: the report's ticks and how many loops there are.
+#[derive(Clone, Copy, Debug, PartialEq, Eq)]
 pub struct Started {
-    pub verdict: Verdict,
     pub ticks: u64,
     pub loops: usize,
-}
-
-// A refusal.
-pub fn no_start(verdict: Verdict) -> Started
-    ensures { (result.verdict ≡ verdict) × (result.ticks ≡ 0) × (result.loops ≡ 0) }
-{
-    Started {
-        verdict: verdict,
-        ticks: 0,
-        loops: 0,
-    }
 }
 
 // The start call: the questions 19, 8 to 13, 15 and 21. The state becomes that of a run that has not begun: every number of it is 0.
@@ -390,28 +339,23 @@ pub fn start_script(
     prices: &[u32],
     store: &[i32],
     state: &mut [u64],
-) -> Started
+) -> Result<Started, Refusal>
     requires { Given text.now rows.now script ranges × Priced prices.now }
     ensures { StartedAs (start_reply prices.now (judged_script prices.now
         (read_script text.now rows.now script ranges)) store.now state.old)
         state.old state.new result }
 {
-    let figures = calls::figures_of(text, rows, script, ranges, prices_of(prices));
-    let verdict = figures.verdict;
-    if let Verdict::Refused(_, _) = verdict {
-        return no_start(verdict);
-    }
-    let stored = calls::ask_store(script.vars, &ranges, store);
-    if let Verdict::Refused(_, _) = stored {
-        return no_start(stored);
-    }
+    let figures = calls::figures_of(text, rows, script, ranges, prices_of(prices))?;
+    calls::ask_store(script.vars, &ranges, store)?;
     if state.len() != STATE {
-        return no_start(Verdict::Refused(live_state::QUESTION, STATE));
+        return Err(Refusal {
+            number: live_state::QUESTION,
+            place: STATE,
+        });
     }
     live_state::clear(state);
-    Started {
-        verdict: verdict,
+    Ok(Started {
         ticks: figures.ticks,
         loops: figures.loops,
-    }
+    })
 }

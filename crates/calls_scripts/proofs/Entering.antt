@@ -1,5 +1,5 @@
 -- The first scripts have entered. Assumes nothing.
-use mathlib.Core.Path.{◌≡◌, sym, ◌∙◌, ap}
+use mathlib.Core.Path.{◌≡◌, refl, sym, ◌∙◌, ap}
 use mathlib.Core.List.{List}
 use Prim.Native.Nat.{ℕ, ◌+◌, ◌<◌}
 use native.Mathlib.Numerals.{add-one}
@@ -7,7 +7,7 @@ use native.Mathlib.Decide.{ℕ_discrete}
 use native.Mathlib.Omega.{arith}
 use lib.ListN.{length, get_or, set, length-set}
 use lib.Seq.{get_or-set_same, get_or-set_other}
-use Rattle.rules.specs.declared.Verdict.TheVariants.{Passed, Refused}
+use Rattle.rules.specs.Verdicts.{passed as Passed, refused as Refused}
 use Rattle.rules.specs.File.{file_script}
 use Rattle.rules.specs.Calls.{prices_of, Priced, judged_file, judged, scratch_size}
 use Rattle.rules_frames.specs.Frames.{Lent, ScriptPart, Readiness, readiness, parts_of}
@@ -17,8 +17,7 @@ use Rattle.calls.specs.Held.{admitted}
 use Rattle.calls_lists.specs.Parts.{part_of}
 use Rattle.calls_scripts.specs.declared.Places.{Places}
 use Rattle.calls_scripts.specs.declared.Held.{Held}
-use Rattle.calls_scripts.specs.declared.Entered.{Entered}
-use Rattle.calls_scripts.specs.Held.{table_lengths, Lengths, PlacesOf, PutAt, EnteredAs, no_part, nobody, HeldBy, refused_script}
+use Rattle.calls_scripts.specs.Held.{table_lengths, Lengths, PlacesOf, PutAt, Entered, EnteredAs, no_part, nobody, HeldBy, refused_script}
 use Rattle.calls_scripts.proofs.Readiness.{answer_to, cast_no, cast_yes, which_no, which_none, judged_file_lem, plays_at}
 use Rattle.calls_scripts.proofs.Tables.{tables_whole, put_length, put_part, put_others}
 
@@ -64,7 +63,7 @@ module _ (prices : List ℕ) (l : Lent) where
         by : (j : ℕ) → j < k + 1 → Dec (j ≡ k) → Enters j (part_of table_lengths j tables') (record { verdict = Passed; count = (get_or (set each k now) j nobody).count })
         by j l (yes z) =
             rw (z, get_or-set_same each k now nobody (omega (arith, h.long)), put_part table_lengths k p.table at.table tables tables' t few (tables_whole tables h.whole) put)
-            (record { verdict = sym passes ∙ entered.verdict; held = entered.held })
+            (record { verdict = sym passes ∙ entered.verdict; held = λ z. entered.held passes })
         by j l (no z) =
             rw (get_or-set_other each k j now nobody z, put_others table_lengths k p.table at.table tables tables' t few (tables_whole tables h.whole) put j (omega arith) z) (h.enters j (omega (arith, z)))
 
@@ -103,6 +102,6 @@ module _ (prices : List ℕ) (l : Lent) where
                 let a = plays_at (cast_accepts prices scratch_size parts qs e) j (omega (arith, count)) in
                 record {
                   places = h.places j (omega arith);
-                  held = (h.enters j (omega arith)).held _ (sym (judged_file_lem prices priced _) ∙ ap (λ (x : ScriptPart). judged prices scratch_size x.file) (sym (part_at_lem j m)) ∙ a.yes_13);
+                  held = (h.enters j (omega arith)).held refl _ (sym (judged_file_lem prices priced _) ∙ ap (λ (x : ScriptPart). judged prices scratch_size x.file) (sym (part_at_lem j m)) ∙ a.yes_13);
                 },
           )

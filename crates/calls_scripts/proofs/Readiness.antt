@@ -5,8 +5,8 @@ use Prim.Native.Nat.{ℕ, zero, suc, ◌<◌}
 use native.Mathlib.Omega.{arith}
 use lib.IntN.{ℤ}
 use lib.ListN.{length, get_or}
-use Rattle.rules.specs.declared.Verdict.{Verdict}
-use Rattle.rules.specs.declared.Verdict.TheVariants.{Passed, Refused}
+use Rattle.rules.specs.Verdicts.{Verdict}
+use Rattle.rules.specs.Verdicts.{passed as Passed, refused as Refused}
 use Rattle.rules.specs.Scripts.{Script, script_of}
 use Rattle.rules.specs.File.{file_script}
 use Rattle.rules.specs.Calls.{Judged, accepted, prices_of, Priced, judged_priced, judged_file, scratch_size, judged, store_verdict}

@@ -1,7 +1,7 @@
 -- A script as it is held for the frames, and all of them.
-use Rattle.std.specs.Prelude.{◌≡◌, List, [], ◌∷◌, ◌++◌, ℕ, zero, suc, ◌-◌, ◌≤◌, ◌<◌, ◌^◌, ℤ, length, get_or, take, drop, replicate}
-use Rattle.rules.specs.declared.Verdict.{Verdict}
-use Rattle.rules.specs.declared.Verdict.TheVariants.{Passed, Refused}
+use Rattle.std.specs.Prelude.{◌≡◌, List, [], ◌∷◌, ◌++◌, ℕ, zero, suc, ◌-◌, ◌≤◌, ◌<◌, ◌^◌, ℤ, Result, Ok, Err, length, get_or, take, drop, replicate}
+use Rattle.rules.specs.Verdicts.{Verdict}
+use Rattle.rules.specs.Verdicts.{passed as Passed, refused as Refused}
 use Rattle.rules.specs.Written.{Written}
 use Rattle.rules.specs.Scripts.{Script}
 use Rattle.rules.specs.File.{file_script}
@@ -15,7 +15,8 @@ use Rattle.calls_lists.specs.Parts.{part_of, ExtentOf}
 use Rattle.calls.specs.Held.{admitted}
 use Rattle.calls_scripts.specs.declared.Places.{Places}
 use Rattle.calls_scripts.specs.declared.Held.{Held}
-use Rattle.calls_scripts.specs.declared.Entered.{Entered}
+use Rattle.calls_scripts.specs.declared.ScriptRefusal.{ScriptRefusal}
+use Rattle.rules.specs.declared.Refusal.{Refusal}
 use Rattle.calls_scripts.specs.declared.HeldScripts as code
 
 -- ---- where a script stands
@@ -60,10 +61,20 @@ pub record HeldAs (file : List ℕ) (script : Script) (count : ℕ) (t : List �
   pub written : (i : ℕ) → i < count → Written file (kind_at (rows_of t) i)
   pub table : Table file (rows_of t) count t
 
+-- a script's own questions, and how many rows it has
+pub record Entered : Type 0 where
+  pub verdict : Verdict
+  pub count : ℕ
+
+-- as code answers it
+abbrev pub entered_by : Result ℕ Refusal → Entered
+entered_by (Ok n) = record { verdict = Passed; count = n }
+entered_by (Err r) = record { verdict = Refused r.number r.place; count = 0 }
+
 -- its own questions, and it is held if they have yes
 pub record EnteredAs (prices file : List ℕ) (store : List ℤ) (t : List ℕ) (e : Entered) : Type 0 where
   pub verdict : e.verdict ≡ admitted (judged_file (prices_of prices) (file_script file)) store
-  pub held : (script : Script) → judged_file (prices_of prices) (file_script file) ≡ accepted script → HeldAs file script e.count t
+  pub held : e.verdict ≡ Passed → (script : Script) → judged_file (prices_of prices) (file_script file) ≡ accepted script → HeldAs file script e.count t
 
 -- it may be read at its places
 pub record MayEnterAt (prices files : List ℕ) (stores : List ℤ) (tables : List ℕ) (p : Places) : Type 0 where
@@ -125,8 +136,18 @@ unfoldable pub refused_script : List ℕ → List ScriptPart → ℕ
 refused_script prices [] = 0
 refused_script prices (h ∷ hs) = first_no (admitted (judged prices scratch_size h.file) h.store) (refused_script prices hs)
 
--- the same of what code answers
-pub record HeldScriptsAs (prices : List ℕ) (l : Lent) (tables : List ℕ) (c : code.HeldScripts) : Type 0 where
-  pub script : c.script ≡ refused_script prices (parts_of l)
+-- no script is refused, and all are held
+pub record AllHeld (prices : List ℕ) (l : Lent) (tables : List ℕ) (c : code.HeldScripts) : Type 0 where
+  pub none : refused_script prices (parts_of l) ≡ 0
   pub number : c.number ≡ length l.file_lengths
-  pub held : HeldBy c.verdict prices l tables c.each
+  pub held : HeldBy Passed prices l tables c.each
+
+-- a script is refused: which one, and by what
+pub record OneRefused (prices : List ℕ) (l : Lent) (tables : List ℕ) (r : ScriptRefusal) : Type 0 where
+  pub script : r.script ≡ refused_script prices (parts_of l)
+  pub refused : HeldBy (Refused r.refusal.number r.refusal.place) prices l tables []
+
+-- the same of what code answers
+abbrev pub HeldScriptsAs : List ℕ → Lent → List ℕ → Result code.HeldScripts ScriptRefusal → Type 0
+HeldScriptsAs prices l tables (Ok c) = AllHeld prices l tables c
+HeldScriptsAs prices l tables (Err r) = OneRefused prices l tables r

@@ -6,13 +6,13 @@ ghost use Rattle.std.specs.Prelude.{◌≡◌, List, ℕ, ◌<◌, length};
 ghost use Rattle.rules.specs.Calls.{Priced};
 ghost use Rattle.calls_lists.specs.Parts.{lent_of, ExtentOf};
 ghost use Rattle.calls_scripts.specs.Held.{table_lengths, Lengths, PlacesOf, MayEnterAt, MayEnter};
-ghost use Rattle.calls_scripts.specs.Held.{EnteredAs, EnteredAt, HeldScriptsAs};
+ghost use Rattle.calls_scripts.specs.Held.{entered_by, EnteredAs, EnteredAt, HeldScriptsAs};
 
 use calls_lists::{Extent, part};
-use rules::Verdict;
+use rules::Refusal;
 
 // Where a script's file, table, store and picks stand in what is lent.
-#[derive(Clone, Copy)]
+#[derive(Clone, Copy, Debug, PartialEq, Eq)]
 pub struct Places {
     pub file: Extent,
     pub table: Extent,
@@ -21,7 +21,7 @@ pub struct Places {
 }
 
 // A script that has been read: its places, and the number of its rows in the table.
-#[derive(Clone, Copy)]
+#[derive(Clone, Copy, Debug, PartialEq, Eq)]
 pub struct Held {
     pub places: Places,
     pub count: usize,
@@ -75,31 +75,15 @@ fn places_of(
     }
 }
 
-// A script's own questions, and the number of its rows.
-#[derive(Clone, Copy)]
-pub struct Entered {
-    pub verdict: Verdict,
-    pub count: usize,
-}
-
-// The questions 2 to 13, 17 and 19 of a file, and 15 of its store. Its rows are put into the table.
-fn enter(file: &[u8], prices: &[u32], store: &[i32], table: &mut [u32]) -> Entered
+// The questions 2 to 13, 17 and 19 of a file, and 15 of its store: the number of its rows, which are put into the table.
+fn enter(file: &[u8], prices: &[u32], store: &[i32], table: &mut [u32]) -> Result<usize, Refusal>
     requires { Priced prices.now × (length table.old ≡ 1_024) }
-    ensures { EnteredAs prices.now file.now store.now table.new result }
+    ensures { EnteredAs prices.now file.now store.now table.new (entered_by result) }
 {
-    let mut ranges: [[i32; 2]; 16] = [[0; 2]; 16];
-    let l = reader::load(file, &mut ranges, table);
-    let first = l.verdict;
-    match first {
-        Verdict::Passed => Entered {
-            verdict: calls::ask_script(file, &table[..], l, ranges, prices, store),
-            count: l.count,
-        },
-        Verdict::Refused(q, p) => Entered {
-            verdict: Verdict::Refused(q, p),
-            count: 0,
-        },
-    }
+    let mut ranges = [[0i32; 2]; 16];
+    let script = reader::load(file, &mut ranges, table)?;
+    calls::ask_script(file, &table[..], script, ranges, prices, store)?;
+    Ok(script.count)
 }
 
 // The same by a script's places in what is lent.
@@ -109,10 +93,10 @@ fn enter_at(
     tables: &mut [u32],
     places: Places,
     prices: &[u32],
-) -> Entered
+) -> Result<usize, Refusal>
     requires { MayEnterAt prices.now files.now stores.now tables.old places }
     ensures { EnteredAt prices.now files.now stores.now tables.old
-        tables.new places result }
+        tables.new places (entered_by result) }
 {
     let f = places.file;
     let file_from = f.from;
@@ -131,14 +115,27 @@ fn enter_at(
     )
 }
 
-// All scripts and how many they are, each accepted with its store; or the first no, with its number and place and which script has
-// it, from 1.
-#[derive(Clone, Copy)]
+// All scripts and how many they are, each accepted with its store.
+#[derive(Clone, Copy, Debug, PartialEq, Eq)]
 pub struct HeldScripts {
-    pub verdict: Verdict,
-    pub script: usize,
     pub number: usize,
     pub each: [Held; 8],
+}
+
+// The first no, and which script has it, from 1; 0 where it is of the call.
+#[derive(Clone, Copy, Debug, PartialEq, Eq)]
+pub struct ScriptRefusal {
+    pub refusal: Refusal,
+    pub script: usize,
+}
+
+// A refusal of the call.
+impl From<Refusal> for ScriptRefusal {
+    ghost from_gives = { λ refusal e. e ≡ record { refusal = refusal; script = 0 } };
+
+    fn from(refusal: Refusal) -> Self {
+        ScriptRefusal { refusal, script: 0 }
+    }
 }
 
 // The scripts one after the other, until one is refused.
@@ -150,7 +147,7 @@ pub fn enter_all(
     pick_lengths: &[usize],
     prices: &[u32],
     tables: &mut [u32],
-) -> HeldScripts
+) -> Result<HeldScripts, ScriptRefusal>
     requires { MayEnter prices.now files.now file_lengths.now stores.now store_lengths.now
         pick_lengths.now tables.old }
     ensures { (picks : List ℕ) → HeldScriptsAs prices.now (lent_of files.now
@@ -159,33 +156,19 @@ pub fn enter_all(
 {
     let mut each = [NOBODY; 8];
     let number = file_lengths.len();
-    let mut k = 0;
-    while k < number {
+    for k in 0..number {
         let places = places_of(k, file_lengths, store_lengths, pick_lengths);
-        let e = enter_at(files, stores, tables, places, prices);
-        let asked = e.verdict;
-        match asked {
-            Verdict::Passed => {
-                each[k] = Held {
-                    places,
-                    count: e.count,
-                };
-                k += 1;
+        match enter_at(files, stores, tables, places, prices) {
+            Ok(count) => {
+                each[k] = Held { places, count };
             }
-            Verdict::Refused(q, p) => {
-                return HeldScripts {
-                    verdict: Verdict::Refused(q, p),
+            Err(refusal) => {
+                return Err(ScriptRefusal {
+                    refusal,
                     script: k + 1,
-                    number,
-                    each,
-                };
+                });
             }
         }
     }
-    HeldScripts {
-        verdict: Verdict::Passed,
-        script: 0,
-        number,
-        each,
-    }
+    Ok(HeldScripts { number, each })
 }

@@ -3,3 +3,4 @@ pub mod StateLaws
 pub mod Reading
 pub mod Passing
 pub mod Writing
+pub mod RowKinds

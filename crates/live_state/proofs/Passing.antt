@@ -10,7 +10,7 @@ use lib.ListN.{length, get_or, take, drop}
 use lib.Seq.{get_or-drop}
 use Rattle.rules.specs.declared.Ending.TheVariants.{Spent, NoPick}
 use Rattle.rules.specs.declared.Prices.{Prices}
-use Rattle.rules.specs.declared.Verdict.TheVariants.{Passed as passed, Refused as refused}
+use Rattle.rules.specs.Verdicts.{passed, refused}
 use Rattle.rules.specs.Blocks.{View, is_plain, is_pick, is_else, is_end, is_loop, view_at}
 use Rattle.rules.specs.Bounds.{FinePrices}
 use Rattle.rules.specs.Calls.{is_loop_row}

@@ -14,8 +14,8 @@ use Rattle.rules.specs.declared.LoopLine.{LoopLine}
 use Rattle.rules.specs.declared.Prices.{Prices}
 use Rattle.rules.specs.Figures.{Line}
 use Rattle.rules.specs.Report.{line_of, lines_of}
-use Rattle.rules.specs.declared.Verdict.{Verdict}
-use Rattle.rules.specs.declared.Verdict.TheVariants.{Passed as passed, Refused as refused}
+use Rattle.rules.specs.Verdicts.{Verdict}
+use Rattle.rules.specs.Verdicts.{passed, refused}
 use Rattle.rules.specs.Blocks.{RowKind, View, is_plain, is_pick, is_else, is_end, is_loop, view_of, view_at, kind_of}
 use Rattle.rules.specs.Calls.{is_loop_row}
 use Rattle.rules.specs.Scripts.{Script, report_ticks, report_lines}

@@ -3,6 +3,7 @@
 
 ghost use Rattle.std.specs.Prelude.{◌≡◌, ◌&&◌, List, [], ◌∷◌, ◌++◌, ℕ, ◌+◌, ◌-◌, ◌*◌, ◌≤◌, ◌<◌, leb, length, take, drop, replicate};
 ghost use Rattle.rules.specs.Blocks.{view_of, kind_of};
+ghost use Rattle.rules.specs.Verdicts.{verdict_of, refused};
 ghost use Rattle.rules.specs.Report.{line_of};
 ghost use Rattle.rules.specs.Scripts.{Script};
 ghost use Rattle.rules_frames.specs.InTime.{dearest};
@@ -15,8 +16,7 @@ ghost use Rattle.live_state.specs.Numbers.{status_in, given_at, machine_in, AllH
 ghost use Rattle.live_state.specs.Numbers.{due_number, head_numbers, LoopPut, WrittenAs};
 
 use analysis_lines::line_at;
-use ints::min_max::{larger, smaller};
-use rules::{ALL, Ending, Kind, LoopCount, LoopLine, MOST, Prices, TURNS, Verdict};
+use rules::{ALL, Ending, Kind, LoopCount, LoopLine, MOST, Prices, Refusal, TURNS, Verdict};
 use run_actions::{Machine, Status};
 use run_loops::Loops;
 use table::{PricedRows, kind_at};
@@ -65,55 +65,19 @@ pub const QUESTION: u32 = 21;
 fn is_pick(kind: Kind) -> bool
     ensures { (text : List ℕ) → result ≡ is_pick_row (view_of (kind_of text kind)) }
 {
-    match kind {
-        Kind::End => false,
-        Kind::Else => false,
-        Kind::Pick => true,
-        Kind::Set(_, _) => false,
-        Kind::Move(_, _) => false,
-        Kind::Cue(_) => false,
-        Kind::While(_, _, _) => false,
-        Kind::Do(_, _, _) => false,
-        Kind::For(_, _, _, _, _) => false,
-        Kind::Off(_, _, _, _) => false,
-        Kind::Hold(_) => false,
-    }
+    matches!(kind, Kind::Pick)
 }
 
 fn is_cue(kind: Kind) -> bool
     ensures { (text : List ℕ) → result ≡ is_cue (view_of (kind_of text kind)) }
 {
-    match kind {
-        Kind::End => false,
-        Kind::Else => false,
-        Kind::Pick => false,
-        Kind::Set(_, _) => false,
-        Kind::Move(_, _) => false,
-        Kind::Cue(_) => true,
-        Kind::While(_, _, _) => false,
-        Kind::Do(_, _, _) => false,
-        Kind::For(_, _, _, _, _) => false,
-        Kind::Off(_, _, _, _) => false,
-        Kind::Hold(_) => false,
-    }
+    matches!(kind, Kind::Cue(_))
 }
 
 fn is_end(kind: Kind) -> bool
     ensures { (text : List ℕ) → result ≡ is_end_number (view_of (kind_of text kind)) }
 {
-    match kind {
-        Kind::End => true,
-        Kind::Else => false,
-        Kind::Pick => false,
-        Kind::Set(_, _) => false,
-        Kind::Move(_, _) => false,
-        Kind::Cue(_) => false,
-        Kind::While(_, _, _) => false,
-        Kind::Do(_, _, _) => false,
-        Kind::For(_, _, _, _, _) => false,
-        Kind::Off(_, _, _, _) => false,
-        Kind::Hold(_) => false,
-    }
+    matches!(kind, Kind::End)
 }
 
 // May a script of this status stand at row i?
@@ -174,10 +138,10 @@ fn phase_fits(rows: &[u32], count: usize, status: u64, i: usize, due: u64) -> bo
 fn dearest_of(prices: Prices) -> u64
     ensures { result ≡ dearest prices }
 {
-    larger(
-        larger(prices.arithmetic, prices.cue),
-        larger(prices.pick, prices.test),
-    )
+    prices
+        .arithmetic
+        .max(prices.cue)
+        .max(prices.pick.max(prices.test))
 }
 
 // May it have so much left?
@@ -190,17 +154,21 @@ fn left_fits(prices: Prices, status: u64, left: u64) -> bool
     left == 0
 }
 
+// No to the question, at a place of the state.
 fn no(place: usize) -> Verdict
-    ensures { result ≡ Verdict.Refused 21 place }
+    ensures { verdict_of result ≡ refused 21 place }
 {
-    Verdict::Refused(QUESTION, place)
+    Err(Refusal {
+        number: QUESTION,
+        place,
+    })
 }
 
 // The first six numbers.
 fn ask_head(state: &[u64], rows: &[u32], script: PricedRows, ticks: u64) -> Verdict
     requires { ((s : Script) × RowsIn s rows.now script.count) × (length state.now ≡ 64) }
     ensures { ((s : Script) → RowsIn s rows.now script.count
-        → result ≡ first_no 0 (head_checks script.prices s ticks state.now)) }
+        → verdict_of result ≡ first_no 0 (head_checks script.prices s ticks state.now)) }
 {
     let status = state[STATUS];
     let row = state[ROW] as usize;
@@ -222,22 +190,20 @@ fn ask_head(state: &[u64], rows: &[u32], script: PricedRows, ticks: u64) -> Verd
     if state[USED] > state[TICKS] {
         return no(USED);
     }
-    Verdict::Passed
+    Ok(())
 }
 
 // Are the numbers from one place to another 0?
 fn ask_zeros(state: &[u64], from: usize, to: usize) -> Verdict
     requires { (from ≤ to) × (to ≤ length state.now) }
-    ensures { result ≡ first_no from (zero_checks (take (to - from) (drop from state.now))) }
+    ensures { verdict_of result ≡ first_no from (zero_checks (take (to - from) (drop from state.now))) }
 {
-    let mut j = from;
-    while j < to {
+    for j in from..to {
         if state[j] != 0 {
             return no(j);
         }
-        j += 1;
     }
-    Verdict::Passed
+    Ok(())
 }
 
 // All turns of a loop: no fewer than those of the current entry, no more than its line's total.
@@ -257,7 +223,7 @@ fn most_fit(turns: u64, most: u64, all: u64, limit: u64) -> bool
 // The three numbers of a loop, from place j on.
 fn ask_loop(state: &[u64], j: usize, line: LoopLine) -> Verdict
     requires { j + 2 < length state.now }
-    ensures { result ≡ first_no j (loop_checks (line_of line ∷ []) (drop j state.now)) }
+    ensures { verdict_of result ≡ first_no j (loop_checks (line_of line ∷ []) (drop j state.now)) }
 {
     let turns = state[j + TURNS];
     let all = state[j + ALL];
@@ -271,23 +237,18 @@ fn ask_loop(state: &[u64], j: usize, line: LoopLine) -> Verdict
     if !most_fit(turns, most, all, line.turns) {
         return no(j + MOST);
     }
-    Verdict::Passed
+    Ok(())
 }
 
 // Those of all loops.
 fn ask_loops(state: &[u64], lines: &[[u64; 7]; 16], loops: usize) -> Verdict
     requires { (length state.now ≡ 64) × (loops ≤ 16) × (length lines.now ≡ 16) }
-    ensures { result ≡ first_no 16 (loop_checks (first_lines lines.now loops) (drop 16 state.now)) }
+    ensures { verdict_of result ≡ first_no 16 (loop_checks (first_lines lines.now loops) (drop 16 state.now)) }
 {
-    let mut k: usize = 0;
-    while k < loops {
-        let asked = ask_loop(state, LOOPS + EACH_LOOP * k, line_at(lines, k));
-        if let Verdict::Refused(_, _) = asked {
-            return asked;
-        }
-        k += 1;
+    for k in 0..loops {
+        ask_loop(state, LOOPS + EACH_LOOP * k, line_at(lines, k))?;
     }
-    Verdict::Passed
+    Ok(())
 }
 
 // 21 of a script in a table, with its report's ticks and lines.
@@ -301,23 +262,14 @@ pub fn ask_state(
 ) -> Verdict
     requires { (s : Script) × StateAsked script.prices s rows.now script.count ticks lines.now loops }
     ensures { ((s : Script) → StateAsked script.prices s rows.now script.count ticks lines.now loops
-        → result ≡ state_verdict script.prices s state.now) }
+        → verdict_of result ≡ state_verdict script.prices s state.now) }
 {
     if state.len() != STATE {
         return no(STATE);
     }
-    let head = ask_head(state, rows, script, ticks);
-    if let Verdict::Refused(_, _) = head {
-        return head;
-    }
-    let nothing = ask_zeros(state, NOTHING, LOOPS);
-    if let Verdict::Refused(_, _) = nothing {
-        return nothing;
-    }
-    let counts = ask_loops(state, lines, loops);
-    if let Verdict::Refused(_, _) = counts {
-        return counts;
-    }
+    ask_head(state, rows, script, ticks)?;
+    ask_zeros(state, NOTHING, LOOPS)?;
+    ask_loops(state, lines, loops)?;
     ask_zeros(state, LOOPS + EACH_LOOP * loops, STATE)
 }
 
@@ -326,18 +278,15 @@ fn status_in(status: u64, row: usize) -> Status
     ensures { result ≡ status_in status row }
 {
     if status == WAITS {
-        let ending = Ending::NoPick;
-        return Status::Over(ending, row);
+        return Status::Over(Ending::NoPick, row);
     }
     if status <= FULL {
         return Status::Going;
     }
     if status == ENDED {
-        let ending = Ending::Ended;
-        return Status::Over(ending, row);
+        return Status::Over(Ending::Ended, row);
     }
-    let ending = Ending::Range;
-    Status::Over(ending, row)
+    Status::Over(Ending::Range, row)
 }
 
 // What a step gives it: a finished script gets nothing.
@@ -370,12 +319,10 @@ pub fn counts_in(state: &[u64], loops: usize) -> [[u64; 3]; 16]
 {
     let none: [u64; 3] = [0; 3];
     let mut counts = [none; 16];
-    let mut k: usize = 0;
-    while k < loops {
+    for k in 0..loops {
         let j = LOOPS + EACH_LOOP * k;
         let turns = state[j + TURNS];
         counts[k] = [turns, state[j + ALL] - turns, state[j + MOST]];
-        k += 1;
     }
     counts
 }
@@ -396,11 +343,7 @@ pub fn clear(state: &mut [u64])
     requires { length state.old ≡ 64 }
     ensures { state.new ≡ replicate 64 0 }
 {
-    let mut j: usize = 0;
-    while j < state.len() {
-        state[j] = 0;
-        j += 1;
-    }
+    state.fill(0);
 }
 
 fn due_number(due: bool) -> u64
@@ -414,13 +357,13 @@ fn put_head(state: &mut [u64], standing: Standing, total: u64)
     requires { state.old ≡ replicate 64 0 }
     ensures { state.new ≡ head_numbers standing total ++ replicate 48 0 }
 {
-    let spent = smaller(standing.ticks, total);
+    let spent = standing.ticks.min(total);
     state[STATUS] = standing.status;
     state[ROW] = standing.row as u64;
     state[TEST_DUE] = due_number(standing.due);
     state[LEFT] = standing.left;
     state[TICKS] = spent;
-    state[USED] = smaller(standing.used, spent);
+    state[USED] = standing.used.min(spent);
 }
 
 // The three numbers of a loop from place j on, cut to its line.
@@ -428,9 +371,9 @@ fn put_loop(state: &mut [u64], j: usize, line: LoopLine, count: LoopCount, turns
     requires { j + 2 < length state.old }
     ensures { LoopPut (line_of line) turns count.all count.most j state.old state.new }
 {
-    let all = smaller(count.all, line.total);
-    let most = smaller(smaller(count.most, line.turns), all);
-    state[j + TURNS] = smaller(turns, most);
+    let all = count.all.min(line.total);
+    let most = count.most.min(line.turns).min(all);
+    state[j + TURNS] = turns.min(most);
     state[j + ALL] = all;
     state[j + MOST] = most;
 }
@@ -459,8 +402,7 @@ pub fn write_state(
     put_head(state, standing, total);
     let listed = loops.counts;
     let many = loops.count;
-    let mut k: usize = 0;
-    while k < many {
+    for k in 0..many {
         put_loop(
             state,
             LOOPS + EACH_LOOP * k,
@@ -468,6 +410,5 @@ pub fn write_state(
             listed[k],
             turns_of(counts, k),
         );
-        k += 1;
     }
 }

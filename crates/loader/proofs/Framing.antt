@@ -8,7 +8,7 @@ use lib.Dec.{T}
 use lib.IntN.{ℤ}
 use lib.ListN.{length, get_or, take, drop}
 use lib.Seq.{take_at, drop-append-add}
-use Rattle.rules.specs.declared.Verdict.TheVariants.{Passed, Refused}
+use Rattle.rules.specs.Verdicts.{passed as Passed, refused as Refused}
 use Rattle.rules.specs.declared.Prices.{Prices}
 use Rattle.rules.specs.Scripts.{Script, report_ticks}
 use Rattle.rules.specs.Values.{Store}
@@ -25,8 +25,7 @@ use Rattle.calls_lists.proofs.Fits.{fitted}
 use Rattle.calls_lists.proofs.Extents.{part_length}
 use Rattle.calls_scripts.specs.Held.{no_part, no_progress}
 use Rattle.calls_scripts.proofs.Readiness.{plays_at}
-use Rattle.calls_frames.specs.declared.Frames as code
-use Rattle.calls_frames.specs.Answers.{no_answer, no_frames, ToldPlayed, no_played, ToldFrames, FramesAnswered, Framed, FramedScripts}
+use Rattle.calls_frames.specs.Answers.{FramesAnswer, no_answer, no_frames, ToldPlayed, no_played, ToldFrames, FramesAnswered, Framed, FramedScripts}
 use Rattle.loader.specs.Kept.{verdict_number, lent_verdict}
 use Rattle.loader.specs.Framing.{script_meant, frames_number, most_by, frames_first, OnTime, FramedCall}
 use Rattle.loader.proofs.Laws.{lent_no, lent_room}
@@ -45,7 +44,7 @@ cast_lent prices scratch q p e [] l = absurd (omega arith)
 cast_lent prices scratch q p e (h ∷ hs) l = ap (λ j. enters j h (readiness prices scratch hs)) (lent_no prices scratch h.file e)
 
 -- the answer, the stores after it, and which script is refused
-abbrev Meant : List ℕ → ℕ → Lent → ℕ → List ℤ → code.Frames → Type 0
+abbrev Meant : List ℕ → ℕ → Lent → ℕ → List ℤ → FramesAnswer → Type 0
 Meant prices scratch l q new f = Framed (frames_reply prices scratch l q) l.stores new f × (f.script ≡ script_meant prices scratch l q)
 
 module _ (prices : List ℕ) (scratch : ℕ) (l : Lent) (q : ℕ) where
@@ -68,18 +67,18 @@ module _ (prices : List ℕ) (scratch : ℕ) (l : Lent) (q : ℕ) where
         let no : frames_reply prices scratch l q ≡ FramesReply.refuses n p = reply ∙ ap (played_by (prices_of prices) q) (cast_lent prices scratch n p e (parts_of l) (omega (arith, fits.some))) in
         (rw no (record { told = refl; stores = refl }), rw (yes-20, e) refl)
 
-    pub framed_yes : lent_verdict prices scratch ≡ Passed → (new : List ℤ) (f : code.Frames) → FramedScripts prices l q new f → Meant prices scratch l q new f
+    pub framed_yes : lent_verdict prices scratch ≡ Passed → (new : List ℤ) (f : FramesAnswer) → FramedScripts prices l q new f → Meant prices scratch l q new f
     framed_yes e new f h =
         (rw (reply ∙ ap (played_by (prices_of prices) q) (cast_scratch prices scratch scratch_size (lent_room prices scratch e) (omega arith) (parts_of l))) h.framed, rw (yes-20, e) h.script)
 
 -- ---- the answer's numbers
-told_number : (f : code.Frames) (r : FramesReply) → FramesAnswered f r → verdict_number f.verdict ≡ frames_number r
+told_number : (f : FramesAnswer) (r : FramesReply) → FramesAnswered f r → verdict_number f.verdict ≡ frames_number r
 told_number f (played rs m) t = ap verdict_number t.verdict
-told_number f (FramesReply.refuses q p) t = ap (λ (z : code.Frames). verdict_number z.verdict) t
+told_number f (FramesReply.refuses q p) t = ap (λ (z : FramesAnswer). verdict_number z.verdict) t
 
-told_first : (f : code.Frames) (r : FramesReply) → FramesAnswered f r → most_by f.verdict f.most ≡ frames_first r
+told_first : (f : FramesAnswer) (r : FramesReply) → FramesAnswered f r → most_by f.verdict f.most ≡ frames_first r
 told_first f (played rs m) t = λ i. most_by (t.verdict i) (t.most i)
-told_first f (FramesReply.refuses q p) t = ap (λ (z : code.Frames). most_by z.verdict z.most) t
+told_first f (FramesReply.refuses q p) t = ap (λ (z : FramesAnswer). most_by z.verdict z.most) t
 
 -- ---- in time
 -- script j of those that are as alone
@@ -121,7 +120,7 @@ alone_store : (π : Prices) (script : Script) (store : List ℤ) (picks : List �
 unfolding alone
 alone_store π script store picks allowance f = list_length (length script.ranges) _
 
-module _ (prices : List ℕ) (scratch : ℕ) (l : Lent) (q : ℕ) (new : List ℤ) (f : code.Frames) where
+module _ (prices : List ℕ) (scratch : ℕ) (l : Lent) (q : ℕ) (new : List ℤ) (f : FramesAnswer) where
   abbrev π : Prices
   π = prices_of prices
 
@@ -196,7 +195,7 @@ module _ (prices : List ℕ) (scratch : ℕ) (l : Lent) (q : ℕ) (new : List �
   in_time (played rs m) e h v =
       let (ps, accepts, as_alone, highest) = all_in_time prices scratch l q rs m e in
       all_on_time rs m h.told h.stores (did_fit rs m e) ps accepts as_alone highest
-  in_time (FramesReply.refuses n p) e h v = absurd (let z : f.verdict ≡ Refused n p = ap (λ (y : code.Frames). y.verdict) h.told in let y : ◌≡◌ {A = ℕ} 0 1 = cc in omega arith)
+  in_time (FramesReply.refuses n p) e h v = absurd (let z : f.verdict ≡ Refused n p = ap (λ (y : FramesAnswer). y.verdict) h.told in let y : ◌≡◌ {A = ℕ} 0 1 = cc in omega arith)
 
   pub framed_call : Meant prices scratch l q new f → FramedCall prices scratch l q new f
   framed_call (h, script) =

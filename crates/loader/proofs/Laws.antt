@@ -5,27 +5,29 @@ use mathlib.Core.List.{List, ◌++◌}
 use Prim.Native.Nat.{ℕ, ◌≤◌}
 use native.Mathlib.Omega.{arith}
 use lib.IntN.{ℤ}
-use lib.ListN.{length, take, drop}
+use lib.ListN.{length, drop}
 use lib.Seq.{drop_at}
 use lib.Dec.{T, leb, leb→le}
-use Rattle.rules.specs.declared.Verdict.{Verdict}
-use Rattle.rules.specs.declared.Verdict.TheVariants.{Passed, Refused}
-use Rattle.rules.specs.declared.Reply.{Reply}
+use Rattle.rules.specs.Verdicts.{passed as Passed, refused as Refused}
+use Rattle.rules.specs.Replies.{Reply}
 use Rattle.rules.specs.File.{file_script}
-use Rattle.rules.specs.Calls.{Judged, refuses, prices_of, prices_verdict, Priced, judged_priced, scratch_size, judged_file, judged, reply_of, buffer_of, RunReply, ran, run_reply, store_after}
+use Rattle.rules.specs.Calls.{Judged, ending_number, refuses, prices_of, prices_verdict, Priced, judged_priced, scratch_size, judged_file, judged, reply_of, buffer_of, RunReply, ran, run_reply, store_after}
 use Rattle.rules.proofs.Demand3File.{demand3_call}
-use Rattle.calls.specs.Told.{MeasuredAs, Told, RanAs, ToldNo}
+use Rattle.std.specs.Prelude.{Result, Ok, Err}
+use Rattle.rules.specs.declared.Refusal.{Refusal}
+use Rattle.rules.specs.Replies.{reply_by}
+use Rattle.calls.specs.Told.{MeasuredAs, Told, ending_in, ticks_in, counts_in, RanAs}
 use Rattle.rules_live.specs.Live.{StepLent}
 use Rattle.rules_live.specs.LiveCalls.{start_reply, state_started, step_reply, store_stepped, state_stepped, cues_stepped}
 use Rattle.calls_live.specs.declared.Started.{Started}
 use Rattle.calls_live.specs.declared.StepDone.{StepDone}
-use Rattle.calls_live.specs.Told.{StartedAs, ToldNoStep, SteppedAs}
+use Rattle.calls_live.specs.Told.{StartedAs, SteppedAs}
 use Rattle.calls.specs.declared.Measured.{Measured}
 use Rattle.calls.specs.declared.Outcome.{Outcome}
 use Rattle.calls.proofs.Runs.{told_says}
 use Rattle.calls.specs.declared.figures.Figures.{Figures}
-use Rattle.calls.specs.Figures.{no_figures, FiguresAs}
-use Rattle.loader.specs.Kept.{reply_number, reply_place, verdict_number, first_by, run_number, run_first, lent_verdict, Reported, KeptCall, ScratchKept}
+use Rattle.calls.specs.Figures.{FiguresAs}
+use Rattle.loader.specs.Kept.{reply_number, reply_place, answer_number, first_of, run_number, run_first, lent_verdict, Reported, KeptCall, ScratchKept}
 
 -- the questions 1 and 16
 module _ (prices : List ℕ) (scratch : ℕ) where
@@ -78,37 +80,41 @@ module _ {prices : List ℕ} {j : Judged} {old : List ℕ} where
   pub reported_same : {k : Judged} {new : List ℕ} {r : Reply} → j ≡ k → Reported prices k old new r → Reported prices j old new r
   reported_same e h = rw e h
 
-  pub reported_as : {k : Judged} {new : List ℕ} {m : Measured} → j ≡ k → MeasuredAs prices k old new m → Reported prices j old new m.reply
+  pub reported_as : {k : Judged} {new : List ℕ} {m : Measured} → j ≡ k → MeasuredAs prices k old new m → Reported prices j old new (reply_by m.reply)
   reported_as e h = rw e (record { answer = h.reply; number = ap reply_number h.reply; place = ap reply_place h.reply; buffer = h.buffer })
 
 -- figures that are refused, and those of a file that is judged as its script is
 module _ (prices : List ℕ) {j : Judged} (new : List (List ℕ)) where
-  pub figured_no : {q p : ℕ} → j ≡ refuses q p → {v : Verdict} → v ≡ Refused q p → FiguresAs prices j new (no_figures v)
-  figured_no e z = rw e (z, refl, refl, refl)
+  pub figured_no : {q p : ℕ} → j ≡ refuses q p → FiguresAs prices j new (Err (record { number = q; place = p }))
+  figured_no e = rw e (refl, refl)
 
-  pub figured_same : {k : Judged} (r : Figures) → j ≡ k → FiguresAs prices k new r → FiguresAs prices j new r
+  pub figured_same : {k : Judged} (r : Result Figures Refusal) → j ≡ k → FiguresAs prices k new r → FiguresAs prices j new r
   figured_same r e h = rw e h
 
 -- the numbers of an answer that tells a reply
-told_number : (o : Outcome) (reply : RunReply) → Told o reply → verdict_number o.verdict ≡ run_number reply
-told_number o (ran a cs) t = ap verdict_number t.verdict
-told_number o (RunReply.refuses q p) t = ap verdict_number t.verdict
+told_number : (o : Result Outcome Refusal) (reply : RunReply) → Told o reply → answer_number o ≡ run_number reply
+told_number (Ok o) (ran a cs) t = refl
+told_number (Ok o) (RunReply.refuses q p) t = absurd t
+told_number (Err r) (ran a cs) t = absurd t
+told_number (Err r) (RunReply.refuses q p) t = t.number
 
-told_first : (o : Outcome) (reply : RunReply) → Told o reply → first_by o.verdict o.ending ≡ run_first reply
-told_first o (ran a cs) t = λ j. first_by (t.verdict j) (t.ending j)
-told_first o (RunReply.refuses q p) t = ap (λ v. first_by v o.ending) t.verdict
+told_first : (o : Result Outcome Refusal) (reply : RunReply) → Told o reply → first_of o ≡ run_first reply
+told_first (Ok o) (ran a cs) t = ap ending_number t.ending
+told_first (Ok o) (RunReply.refuses q p) t = absurd t
+told_first (Err r) (ran a cs) t = absurd t
+told_first (Err r) (RunReply.refuses q p) t = t.place
 
 -- a run that is refused, and one that is judged as another is
-module _ (prices : List ℕ) {store : List ℤ} (picks : List ℕ) (allowance : ℕ) {o : Outcome} {j : Judged} where
-  pub ran_no : {q p : ℕ} → j ≡ refuses q p → ToldNo o q p → RanAs (run_reply prices j store picks allowance) store store o
+module _ (prices : List ℕ) {store : List ℤ} (picks : List ℕ) (allowance : ℕ) {j : Judged} where
+  pub ran_no : {q p : ℕ} → j ≡ refuses q p → RanAs (run_reply prices j store picks allowance) store store (Err (record { number = q; place = p }))
   unfolding run_reply store_after
-  ran_no e t = rw e (record { told = t; store = refl })
+  ran_no e = rw e (record { told = record { number = refl; place = refl }; store = refl })
 
-  pub ran_same : {k : Judged} {new : List ℤ} → j ≡ k → RanAs (run_reply prices k store picks allowance) store new o → RanAs (run_reply prices j store picks allowance) store new o
+  pub ran_same : {k : Judged} {new : List ℤ} {o : Result Outcome Refusal} → j ≡ k → RanAs (run_reply prices k store picks allowance) store new o → RanAs (run_reply prices j store picks allowance) store new o
   ran_same e r = rw e r
 
 -- its numbers, and demand 3
-pub kept : (prices : List ℕ) (scratch : ℕ) (file : List ℕ) {store new : List ℤ} (picks : List ℕ) (allowance : ℕ) {o : Outcome}
+pub kept : (prices : List ℕ) (scratch : ℕ) (file : List ℕ) {store new : List ℤ} (picks : List ℕ) (allowance : ℕ) {o : Result Outcome Refusal}
     → RanAs (run_reply prices (judged prices scratch file) store picks allowance) store new o → KeptCall prices (judged prices scratch file) store new picks allowance o
 kept prices scratch file {store} picks allowance {o} r =
     let reply = run_reply prices (judged prices scratch file) store picks allowance in
@@ -116,22 +122,22 @@ kept prices scratch file {store} picks allowance {o} r =
       answer = r;
       number = told_number o reply r.told;
       first = told_first o reply r.told;
-      demand3 = demand3_call prices store picks allowance o.ending o.ticks (take o.loops o.counts) scratch file (told_says o reply r.told);
+      demand3 = demand3_call prices store picks allowance (ending_in o) (ticks_in o) (counts_in o) scratch file (told_says o reply r.told);
     }
 
 -- a start and a step that are refused, and those that are judged as another is
 module _ (prices : List ℕ) (store : List ℤ) (ns : List ℕ) {j : Judged} where
-  pub started_no : {v : Verdict} {q p : ℕ} → j ≡ refuses q p → v ≡ Refused q p → {r : Started} → (r.verdict ≡ v) × (r.ticks ≡ 0) × (r.loops ≡ 0) → StartedAs (start_reply prices j store ns) ns ns r
+  pub started_no : {q p : ℕ} → j ≡ refuses q p → StartedAs (start_reply prices j store ns) ns ns (Err (record { number = q; place = p }))
   unfolding start_reply state_started
-  started_no e f (a, b, c) = rw e (record { told = (a ∙ f, b, c); new_state = refl })
+  started_no e = rw e (record { told = (refl, refl); new_state = refl })
 
-  pub started_same : {k : Judged} {new : List ℕ} {r : Started} → j ≡ k → StartedAs (start_reply prices k store ns) ns new r → StartedAs (start_reply prices j store ns) ns new r
+  pub started_same : {k : Judged} {new : List ℕ} {r : Result Started Refusal} → j ≡ k → StartedAs (start_reply prices k store ns) ns new r → StartedAs (start_reply prices j store ns) ns new r
   started_same e h = rw e h
 
-  pub stepped_no : (l : StepLent) {cues : List ℕ} {r : StepDone} {q p : ℕ} → j ≡ refuses q p → ToldNoStep r q p → SteppedAs (step_reply prices j store ns l) store store ns ns cues cues r
+  pub stepped_no : (l : StepLent) {cues : List ℕ} {q p : ℕ} → j ≡ refuses q p → SteppedAs (step_reply prices j store ns l) store store ns ns cues cues (Err (record { number = q; place = p }))
   unfolding step_reply store_stepped state_stepped cues_stepped
-  stepped_no l e t = rw e (record { told = t; new_store = refl; new_state = refl; new_cues = refl })
+  stepped_no l e = rw e (record { told = (refl, refl); new_store = refl; new_state = refl; new_cues = refl })
 
-  pub stepped_same : (l : StepLent) {k : Judged} {new : List ℤ} {ns' cues cues' : List ℕ} {r : StepDone} → j ≡ k → SteppedAs (step_reply prices k store ns l) store new ns ns' cues cues' r
+  pub stepped_same : (l : StepLent) {k : Judged} {new : List ℤ} {ns' cues cues' : List ℕ} {r : Result StepDone Refusal} → j ≡ k → SteppedAs (step_reply prices k store ns l) store new ns ns' cues cues' r
       → SteppedAs (step_reply prices j store ns l) store new ns ns' cues cues' r
   stepped_same l e h = rw e h

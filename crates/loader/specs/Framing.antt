@@ -1,7 +1,7 @@
 -- What the call of frames promises.
 use Rattle.std.specs.Prelude.{◌≡◌, cond, List, ℕ, ◌≤◌, ◌<◌, ℤ, length, get_or}
-use Rattle.rules.specs.declared.Verdict.{Verdict}
-use Rattle.rules.specs.declared.Verdict.TheVariants.{Passed, Refused}
+use Rattle.rules.specs.Verdicts.{Verdict}
+use Rattle.rules.specs.Verdicts.{passed as Passed, refused as Refused}
 use Rattle.rules.specs.declared.Prices.{Prices}
 use Rattle.rules.specs.Scripts.{Script, report_ticks}
 use Rattle.rules.specs.Calls.{prices_of}
@@ -10,8 +10,7 @@ use Rattle.rules_frames.specs.InTime.{alone, Accepts, FirstFrame, all_alone, Gre
 use Rattle.calls_lists.specs.Parts.{part_of}
 use Rattle.calls_scripts.specs.Held.{no_part, no_progress, refused_script}
 use Rattle.calls_frames.specs.declared.Played.{Played}
-use Rattle.calls_frames.specs.declared.Frames.{Frames}
-use Rattle.calls_frames.specs.Answers.{no_answer, ToldPlayed, Framed}
+use Rattle.calls_frames.specs.Answers.{FramesAnswer, no_answer, ToldPlayed, Framed}
 use Rattle.loader.specs.Kept.{verdict_number, lent_verdict}
 
 -- its answer by document 02's numbers: 0, or a refusal's number; the most ticks in one frame, or a refusal's place
@@ -48,7 +47,7 @@ pub record OnTime (π : Prices) (q : ℕ) (script : Script) (h : ScriptPart) (x 
 
 -- the call: its answer, also by its numbers, and the stores are document 02's; which script is refused; and if it is accepted, each script's own answer is in time, and `most` is the greatest sum, over the frames, of what the
 -- runs alone take
-pub record FramedCall (prices : List ℕ) (scratch : ℕ) (l : Lent) (q : ℕ) (new : List ℤ) (f : Frames) : Type 0 where
+pub record FramedCall (prices : List ℕ) (scratch : ℕ) (l : Lent) (q : ℕ) (new : List ℤ) (f : FramesAnswer) : Type 0 where
   pub answer : Framed (frames_reply prices scratch l q) l.stores new f
   pub number : verdict_number f.verdict ≡ frames_number (frames_reply prices scratch l q)
   pub first : most_by f.verdict f.most ≡ frames_first (frames_reply prices scratch l q)

@@ -1,18 +1,18 @@
 -- What the two calls promise.
-use Rattle.std.specs.Prelude.{◌≡◌, cond, List, ℕ, ◌<◌, leb, ℤ, length, take, drop}
-use Rattle.rules.specs.declared.Reply.{Reply}
-use Rattle.rules.specs.declared.Reply.TheVariants.{Accepted}
-use Rattle.rules.specs.declared.Verdict.{Verdict}
-use Rattle.rules.specs.declared.Verdict.TheVariants.{Passed}
-use Rattle.rules.specs.declared.Ending.{Ending}
+use Rattle.std.specs.Prelude.{◌≡◌, cond, List, ℕ, ◌<◌, leb, ℤ, Result, Ok, Err, length, drop}
+use Rattle.rules.specs.Replies.{Reply}
+use Rattle.rules.specs.Replies.{Accepted}
+use Rattle.rules.specs.Verdicts.{Verdict}
+use Rattle.rules.specs.Verdicts.{passed as Passed}
+use Rattle.rules.specs.declared.Refusal.{Refusal}
 use Rattle.rules.specs.Calls.{Judged, prices_verdict, scratch_size, judged, reply_of, buffer_of, RunReply, ran, refuses, run_reply, ending_number}
 use Rattle.rules.specs.Claim.{Demand3Of}
 use Rattle.calls.specs.declared.Outcome.{Outcome}
-use Rattle.calls.specs.Told.{RanAs}
+use Rattle.calls.specs.Told.{ending_in, ticks_in, counts_in, RanAs}
 
 -- the questions 1 and 16, of a scratch of that length and the prices
 abbrev pub lent_verdict : List ℕ → ℕ → Verdict
-lent_verdict prices scratch = cond (leb scratch_size scratch) (prices_verdict 4 0 prices) (Verdict.Refused 1 scratch_size)
+lent_verdict prices scratch = cond (leb scratch_size scratch) (prices_verdict 4 0 prices) (Verdict.refused 1 scratch_size)
 
 -- the questions 1, 16 and 2 to 13 of a call
 abbrev pub judgement : List ℕ → List ℕ → List ℕ → Judged
@@ -28,15 +28,20 @@ abbrev pub reply_place : Reply → ℕ
 reply_place (Accepted n) = n
 reply_place (Reply.Refused q p) = p
 
--- a run's: 0, or a refusal's number; the ending's number, or a refusal's place
+-- a verdict's: 0, or a refusal's number
 abbrev pub verdict_number : Verdict → ℕ
 verdict_number Passed = 0
-verdict_number (Verdict.Refused q p) = q
+verdict_number (Verdict.refused q p) = q
 
--- the ending's number, or a refusal's place
-abbrev pub first_by : Verdict → Ending → ℕ
-first_by Passed ending = ending_number ending
-first_by (Verdict.Refused q p) ending = p
+-- that of a call's answer
+abbrev pub answer_number : {A : Type 0} → Result A Refusal → ℕ
+answer_number (Ok x) = 0
+answer_number (Err r) = r.number
+
+-- the number of a run's ending, or a refusal's place
+abbrev pub first_of : Result Outcome Refusal → ℕ
+first_of (Ok o) = ending_number o.ending
+first_of (Err r) = r.place
 
 -- what a run call's reply has for them
 abbrev pub run_number : RunReply → ℕ
@@ -57,11 +62,11 @@ pub record Reported (prices : List ℕ) (judgement : Judged) (old new : List ℕ
 
 -- a run call: its answer, also by its numbers, and the store are document 01's; and for an accepted file, a store inside its ranges and an allowance of the ticks of the
 -- report under the same prices or more, this answer keeps within the report: not spent, its ticks, turns and totals at most the report's, exact loops exactly
-pub record KeptCall (prices : List ℕ) (judgement : Judged) (store new : List ℤ) (picks : List ℕ) (allowance : ℕ) (o : Outcome) : Type 0 where
+pub record KeptCall (prices : List ℕ) (judgement : Judged) (store new : List ℤ) (picks : List ℕ) (allowance : ℕ) (o : Result Outcome Refusal) : Type 0 where
   pub answer : RanAs (run_reply prices judgement store picks allowance) store new o
-  pub number : verdict_number o.verdict ≡ run_number (run_reply prices judgement store picks allowance)
-  pub first : first_by o.verdict o.ending ≡ run_first (run_reply prices judgement store picks allowance)
-  pub demand3 : Demand3Of prices judgement store picks allowance o.ending o.ticks (take o.loops o.counts)
+  pub number : answer_number o ≡ run_number (run_reply prices judgement store picks allowance)
+  pub first : first_of o ≡ run_first (run_reply prices judgement store picks allowance)
+  pub demand3 : Demand3Of prices judgement store picks allowance (ending_in o) (ticks_in o) (counts_in o)
 
 -- the lent scratch: every number past the first 1,024 keeps its value, and all of them where 1 refuses
 pub record ScratchKept (old new : List ℕ) : Type 0 where

@@ -3,6 +3,9 @@
 #![tactic(auto)]
 
 ghost use Rattle.std.specs.Prelude.{◌≡◌, length};
+ghost use Rattle.rules.specs.Verdicts.{verdict_of};
+ghost use Rattle.rules.specs.Replies.{reply_by};
+ghost use Rattle.calls_frames.specs.Answers.{frames_answer};
 ghost use Rattle.rules.specs.File.{file_script};
 ghost use Rattle.rules.specs.Report.{longest_report};
 ghost use Rattle.rules.specs.Calls.{prices_of, Priced, judged_file, run_reply};
@@ -19,8 +22,9 @@ use calls::figures::Figures;
 use calls::prices::{ask_prices, prices_of};
 use calls_frames::Frames;
 use calls_live::{Started, StepDone, Turn};
+use calls_scripts::ScriptRefusal;
 use reader::load;
-use rules::{Reply, Verdict};
+use rules::{Refusal, Verdict};
 
 // How many numbers the lent scratch has at least: question 1.
 pub const SCRATCH: usize = 1_024;
@@ -37,47 +41,49 @@ pub fn longest_report() -> usize
 
 // The questions of what is lent beside the file: 1 of the scratch, by its length, then 16 of the prices.
 fn ask_lent(prices: &[u32], scratch: usize) -> Verdict
-    ensures { result ≡ lent_verdict prices.now scratch }
+    ensures { verdict_of result ≡ lent_verdict prices.now scratch }
 {
     if scratch < SCRATCH {
-        return Verdict::Refused(1, SCRATCH);
+        return Err(Refusal {
+            number: 1,
+            place: SCRATCH,
+        });
     }
     ask_prices(prices)
 }
 
 // The report of a file under prices that 16 has passed, its rows in the lent table: the questions 2 to 14, 17 and 19.
-fn report_file(file: &[u8], prices: &[u32], table: &mut [u32], buffer: &mut [u8]) -> Reply
+fn report_file(
+    file: &[u8],
+    prices: &[u32],
+    table: &mut [u32],
+    buffer: &mut [u8],
+) -> Result<usize, Refusal>
     requires { Priced prices.now × (length table.old ≡ 1_024) }
     ensures { Reported prices.now (judged_file (prices_of prices.now) (file_script file.now))
-        buffer.old buffer.new result }
+        buffer.old buffer.new (reply_by result) }
 {
-    let none: [i32; 2] = [0; 2];
-    let mut ranges = [none; 16];
-    let l = load(file, &mut ranges, table);
-    let verdict = l.verdict;
-    match verdict {
-        Verdict::Passed => {
-            let measured = calls::measure_script(file, &table[..], l, ranges, prices, buffer);
-            let reply = measured.reply;
-            reply
-        }
-        Verdict::Refused(q, p) => Reply::Refused(q, p),
-    }
+    let mut ranges = [[0i32; 2]; 16];
+    let script = load(file, &mut ranges, table)?;
+    let measured = calls::measure_script(file, &table[..], script, ranges, prices, buffer);
+    measured.reply
 }
 
 // The report of a file under four lent prices: the questions 1, 16, 2 to 14, 17 and 19. Accepted, the report is at the front of the buffer,
 // and
 // the answer is its length. Refused, the buffer is untouched. The first 1,024 numbers of the scratch are written over; the others keep
 // their values.
-pub fn report(file: &[u8], prices: &[u32], scratch: &mut [u32], buffer: &mut [u8]) -> Reply
-    ensures answer { Reported prices.now (judgement prices.now scratch.old file.now) buffer.old buffer.new result }
+pub fn report(
+    file: &[u8],
+    prices: &[u32],
+    scratch: &mut [u32],
+    buffer: &mut [u8],
+) -> Result<usize, Refusal>
+    ensures answer { Reported prices.now (judgement prices.now scratch.old file.now) buffer.old buffer.new (reply_by result) }
     ensures scratch { ScratchKept scratch.old scratch.new }
 {
-    let lent = ask_lent(prices, scratch.len());
-    match lent {
-        Verdict::Passed => report_file(file, prices, &mut scratch[..SCRATCH], buffer),
-        Verdict::Refused(q, p) => Reply::Refused(q, p),
-    }
+    ask_lent(prices, scratch.len())?;
+    report_file(file, prices, &mut scratch[..SCRATCH], buffer)
 }
 
 // The figures of a file under prices that 16 has passed, its rows in the lent table: the questions 2 to 13, 17 and 19.
@@ -86,22 +92,14 @@ fn figures_file(
     prices: &[u32],
     table: &mut [u32],
     lines: &mut [[u64; 7]; 16],
-) -> Figures
+) -> Result<Figures, Refusal>
     requires { Priced prices.now × (length table.old ≡ 1_024) }
     ensures { FiguresAs prices.now (judged_file (prices_of prices.now) (file_script file.now)) lines.new result }
 {
-    let blank: [u64; 7] = [0; 7];
-    *lines = [blank; 16];
-    let none: [i32; 2] = [0; 2];
-    let mut ranges = [none; 16];
-    let l = load(file, &mut ranges, table);
-    let verdict = l.verdict;
-    match verdict {
-        Verdict::Passed => {
-            calls::figures::figures_script(file, &table[..], l, ranges, prices, lines)
-        }
-        Verdict::Refused(_, _) => calls::figures::no_figures(verdict),
-    }
+    *lines = [[0; 7]; 16];
+    let mut ranges = [[0i32; 2]; 16];
+    let script = load(file, &mut ranges, table)?;
+    calls::figures::figures_script(file, &table[..], script, ranges, prices, lines)
 }
 
 // What the report of a file under four lent prices says, as numbers: the questions 1, 16, 2 to 13, 17 and 19. Accepted, the answer has the
@@ -112,15 +110,12 @@ pub fn figures(
     prices: &[u32],
     scratch: &mut [u32],
     lines: &mut [[u64; 7]; 16],
-) -> Figures
+) -> Result<Figures, Refusal>
     ensures answer { FiguresAs prices.now (judgement prices.now scratch.old file.now) lines.new result }
     ensures scratch { ScratchKept scratch.old scratch.new }
 {
-    let lent = ask_lent(prices, scratch.len());
-    match lent {
-        Verdict::Passed => figures_file(file, prices, &mut scratch[..SCRATCH], lines),
-        Verdict::Refused(_, _) => calls::figures::no_figures(lent),
-    }
+    ask_lent(prices, scratch.len())?;
+    figures_file(file, prices, &mut scratch[..SCRATCH], lines)
 }
 
 // The run of a file under prices that 16 has passed, its rows in the lent table: the questions 2 to 13, 15, 17 and 19.
@@ -131,30 +126,25 @@ fn run_file(
     store: &mut [i32],
     picks: &[u8],
     allowance: u64,
-) -> Outcome
+) -> Result<Outcome, Refusal>
     requires { Priced prices.now × (length table.old ≡ 1_024) }
     ensures { RanAs
         (run_reply prices.now (judged_file (prices_of prices.now) (file_script file.now))
         store.old picks.now allowance)
         store.old store.new result }
 {
-    let none: [i32; 2] = [0; 2];
-    let mut ranges = [none; 16];
-    let l = load(file, &mut ranges, table);
-    let verdict = l.verdict;
-    match verdict {
-        Verdict::Passed => calls::run_script(
-            file,
-            &table[..],
-            l,
-            ranges,
-            prices,
-            store,
-            picks,
-            allowance,
-        ),
-        Verdict::Refused(q, p) => calls::refusal(q, p),
-    }
+    let mut ranges = [[0i32; 2]; 16];
+    let script = load(file, &mut ranges, table)?;
+    calls::run_script(
+        file,
+        &table[..],
+        script,
+        ranges,
+        prices,
+        store,
+        picks,
+        allowance,
+    )
 }
 
 // The run of a file under four lent prices: the questions 1, 16, 2 to 13, 15, 17 and 19. The store is overwritten with the final one;
@@ -169,23 +159,20 @@ pub fn run(
     store: &mut [i32],
     picks: &[u8],
     allowance: u64,
-) -> Outcome
+) -> Result<Outcome, Refusal>
     ensures answer { KeptCall prices.now (judgement prices.now scratch.old file.now)
         store.old store.new picks.now allowance result }
     ensures scratch { ScratchKept scratch.old scratch.new }
 {
-    let lent = ask_lent(prices, scratch.len());
-    match lent {
-        Verdict::Passed => run_file(
-            file,
-            prices,
-            &mut scratch[..SCRATCH],
-            store,
-            picks,
-            allowance,
-        ),
-        Verdict::Refused(q, p) => calls::refusal(q, p),
-    }
+    ask_lent(prices, scratch.len())?;
+    run_file(
+        file,
+        prices,
+        &mut scratch[..SCRATCH],
+        store,
+        picks,
+        allowance,
+    )
 }
 
 // The start of a live run of a file under prices that 16 has passed: the questions 2 to 13, 15, 17, 19 and 21.
@@ -195,23 +182,16 @@ fn start_file(
     table: &mut [u32],
     store: &[i32],
     state: &mut [u64],
-) -> Started
+) -> Result<Started, Refusal>
     requires { Priced prices.now × (length table.old ≡ 1_024) }
     ensures { StartedAs
         (start_reply prices.now (judged_file (prices_of prices.now) (file_script file.now))
         store.now state.old)
         state.old state.new result }
 {
-    let none: [i32; 2] = [0; 2];
-    let mut ranges = [none; 16];
-    let l = load(file, &mut ranges, table);
-    let verdict = l.verdict;
-    match verdict {
-        Verdict::Passed => {
-            calls_live::start_script(file, &table[..], l, ranges, prices, store, state)
-        }
-        Verdict::Refused(_, _) => calls_live::no_start(verdict),
-    }
+    let mut ranges = [[0i32; 2]; 16];
+    let script = load(file, &mut ranges, table)?;
+    calls_live::start_script(file, &table[..], script, ranges, prices, store, state)
 }
 
 // The start of a live run of a file under four lent prices: the questions 1, 16, 2 to 13, 15, 17, 19 and 21. The state is overwritten with
@@ -222,18 +202,15 @@ pub fn start(
     scratch: &mut [u32],
     store: &[i32],
     state: &mut [u64],
-) -> Started
+) -> Result<Started, Refusal>
     ensures answer { StartedAs
         (start_reply prices.now (judgement prices.now scratch.old file.now)
         store.now state.old)
         state.old state.new result }
     ensures scratch { ScratchKept scratch.old scratch.new }
 {
-    let lent = ask_lent(prices, scratch.len());
-    match lent {
-        Verdict::Passed => start_file(file, prices, &mut scratch[..SCRATCH], store, state),
-        Verdict::Refused(_, _) => calls_live::no_start(lent),
-    }
+    ask_lent(prices, scratch.len())?;
+    start_file(file, prices, &mut scratch[..SCRATCH], store, state)
 }
 
 // A step of a live run of a file under prices that 16 has passed: the questions 2 to 13, 15, 17, 19, 21 and 22.
@@ -246,25 +223,20 @@ fn step_file(
     q: u64,
     picks: &[u8],
     cues: &mut [u32],
-) -> StepDone
+) -> Result<StepDone, Refusal>
     requires { Priced prices.now × (length table.old ≡ 1_024) }
     ensures { SteppedAs
         (step_reply prices.now (judged_file (prices_of prices.now) (file_script file.now))
         store.old state.old (step_lent q picks.now (length cues.old)))
         store.old store.new state.old state.new cues.old cues.new result }
 {
-    let none: [i32; 2] = [0; 2];
-    let mut ranges = [none; 16];
-    let l = load(file, &mut ranges, table);
-    let verdict = l.verdict;
-    if let Verdict::Refused(number, place) = verdict {
-        return calls_live::no_step(number, place);
-    }
+    let mut ranges = [[0i32; 2]; 16];
+    let script = load(file, &mut ranges, table)?;
     let by_kind = prices_of(prices);
     let turn = Turn {
-        script: l,
+        script,
         prices: by_kind,
-        q: q,
+        q,
     };
     calls_live::step_script(file, &table[..], ranges, turn, store, state, picks, cues)
 }
@@ -281,27 +253,24 @@ pub fn step(
     q: u64,
     picks: &[u8],
     cues: &mut [u32],
-) -> StepDone
+) -> Result<StepDone, Refusal>
     ensures answer { SteppedAs
         (step_reply prices.now (judgement prices.now scratch.old file.now)
         store.old state.old (step_lent q picks.now (length cues.old)))
         store.old store.new state.old state.new cues.old cues.new result }
     ensures scratch { ScratchKept scratch.old scratch.new }
 {
-    let lent = ask_lent(prices, scratch.len());
-    match lent {
-        Verdict::Passed => step_file(
-            file,
-            prices,
-            &mut scratch[..SCRATCH],
-            store,
-            state,
-            q,
-            picks,
-            cues,
-        ),
-        Verdict::Refused(number, place) => calls_live::no_step(number, place),
-    }
+    ask_lent(prices, scratch.len())?;
+    step_file(
+        file,
+        prices,
+        &mut scratch[..SCRATCH],
+        store,
+        state,
+        q,
+        picks,
+        cues,
+    )
 }
 
 // The frames of up to 8 scripts under four lent prices: the questions 20, 1 and 16, then script by script 2 to 13, 15, 17 and 19. Files,
@@ -319,11 +288,11 @@ pub fn frames(
     prices: &[u32],
     q: u64,
     scratch: &mut [u32],
-) -> Frames
+) -> Result<Frames, ScriptRefusal>
     ensures answer { FramedCall prices.now (length scratch.old)
         (lent_of files.now file_lengths.now stores.old store_lengths.now
         picks.now pick_lengths.now)
-        q stores.new result }
+        q stores.new (frames_answer result) }
     ensures scratch { scratch.new ≡ scratch.old }
 {
     let fits = calls_lists::fitting(
@@ -336,20 +305,21 @@ pub fn frames(
         q,
     );
     if !fits {
-        return calls_frames::refusal(20, 0, 0);
+        let refusal = Refusal {
+            number: 20,
+            place: 0,
+        };
+        return Err(ScriptRefusal::from(refusal));
     }
-    let lent = ask_lent(prices, scratch.len());
-    match lent {
-        Verdict::Passed => calls_frames::run_frames(
-            files,
-            file_lengths,
-            stores,
-            store_lengths,
-            picks,
-            pick_lengths,
-            prices,
-            q,
-        ),
-        Verdict::Refused(number, place) => calls_frames::refusal(number, place, 0),
-    }
+    ask_lent(prices, scratch.len())?;
+    calls_frames::run_frames(
+        files,
+        file_lengths,
+        stores,
+        store_lengths,
+        picks,
+        pick_lengths,
+        prices,
+        q,
+    )
 }

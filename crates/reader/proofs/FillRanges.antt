@@ -5,12 +5,12 @@ use Prim.Native.Nat.{ℕ, zero, suc, ◌+◌, ◌-◌, ◌≤◌, ◌<◌}
 use native.Mathlib.Omega.{arith}
 use native.Mathlib.Numerals.{add-one}
 use lib.IntN.{ℤ, pos}
+use Rattle.std.specs.Prelude.{Ok}
 use lib.ListN.{length, get_or, take, drop, set, replicate, length-set, length-drop}
 use lib.Seq.{drop-drop, take-suc-set, get_or-set_other}
 use Rattle.rules.specs.File.{refused, range_lines}
 use Rattle.rules.proofs.Laws.{pairs_length, pairs_set}
 use Rattle.reader.specs.declared.lines.Ranged.{Ranged}
-use Rattle.reader.specs.declared.head.Ranges.{Ranges}
 use Rattle.reader.specs.Lines.{file_lines, range_read, RangeRead}
 use Rattle.reader.specs.Head.{RangeArray, ranges_of, RangesRead}
 use Rattle.rules.specs.Scripts.{pair_range, pair_ranges, BlankFrom}
@@ -61,7 +61,7 @@ module _ (file : List ℕ) (at n : ℕ) (ranges : List (List ℤ)) (next i : ℕ
   unfolding range_read
   ranges_wrong q f = step (Ranged.Wrong q) f
 
-pub ranges_all : (file : List ℕ) (at n : ℕ) (ranges : List (List ℤ)) (next i : ℕ) → RangesUpto file at n ranges next i → n ≤ i → RangesRead file at n (Ranges.Until next) ranges
+pub ranges_all : (file : List ℕ) (at n : ℕ) (ranges : List (List ℤ)) (next i : ℕ) → RangesUpto file at n ranges next i → n ≤ i → RangesRead file at n (Ok next) ranges
 unfolding range_lines ranges_of
 ranges_all file at n ranges next i u h =
     let e : i ≡ n = omega (arith, u.few) in

@@ -9,8 +9,8 @@ use lib.IntN.{ℤ}
 use lib.ListN.{length, take, drop, length-drop}
 use lib.Seq.{length-take-le}
 use Rattle.rules.specs.declared.Row.{Row}
-use Rattle.rules.specs.declared.Verdict.{Verdict}
-use Rattle.rules.specs.declared.Verdict.TheVariants.{Passed, Refused}
+use Rattle.rules.specs.Verdicts.{Verdict}
+use Rattle.rules.specs.Verdicts.{passed as Passed, refused as Refused}
 use Rattle.rules.specs.Questions
 use Rattle.rules.specs.Questions.{asked}
 use Rattle.rules.proofs.Laws.{kinds_first, pairs_length}
@@ -22,11 +22,9 @@ use Rattle.rules.specs.Text.{prefixed, split}
 use Rattle.rules.specs.File.{Reading, read, refused, then_lines, unless, turn_of, first_refusal, asks_rest, asks_closed, last_line, row_lines, no_rows}
 use Rattle.reader.specs.Open.{nest_of}
 use Rattle.reader.proofs.NestingLaws.{closed_depth, open_depth}
-use Rattle.reader.specs.declared.head.Head.{Head}
-use Rattle.reader.specs.declared.Loaded.{Loaded}
 use Rattle.reader.specs.Lines.{file_lines}
-use Rattle.reader.specs.Head.{HeadRead, passing, head_read}
-use Rattle.reader.specs.Read.{rows_verdict, if_read, read_answer, loaded_answer, WrittenRows, RowsPart, ReadAs}
+use Rattle.reader.specs.Head.{HeadAnswer, HeadRead, passing, head_read}
+use Rattle.reader.specs.Read.{LoadAnswer, rows_verdict, if_read, read_answer, loaded_answer, WrittenRows, RowsPart, ReadAs}
 use Rattle.reader.proofs.NextLine.{split_some}
 use Rattle.reader.proofs.FillRows.{Stop, given, RowsRead}
 
@@ -83,7 +81,7 @@ module _ (file : List ℕ) (at vars n : ℕ) (l : Stop) (f : RowsRead file at va
     all_read h o = last ∙ rw (ends_at h, closed_depth l.blocks o) refl
 
 -- a head and what follows it: the first no of both, and the script
-module _ (file : List ℕ) (ranges : List (List ℤ)) (h : Head) (l : Stop) (f : RowsRead file h.at h.vars h.count l) where
+module _ (file : List ℕ) (ranges : List (List ℤ)) (h : HeadAnswer) (l : Stop) (f : RowsRead file h.at h.vars h.count l) where
   abbrev tail : Reading Script
   tail = then_lines (row_lines h.vars h.count (4 + h.vars) (file_lines (drop h.at file)) no_rows) (last_line (4 + h.vars + h.count) (take h.vars (pair_ranges ranges)))
 
@@ -137,7 +135,7 @@ loaded file Passed vars count rows ranges reading e small long all =
     rw (← e, a, b) refl
 loaded file (Refused q p) vars count rows ranges reading e small long all = rw (← e) refl
 
-pub loads : (file : List ℕ) (reading : Reading Script) (h : Head) (r : Loaded) (rows : List Row) (ranges : List (List ℤ)) → HeadRead file reading h ranges → RowsPart file h r rows → ReadAs file reading r rows ranges
+pub loads : (file : List ℕ) (reading : Reading Script) (h : HeadAnswer) (r : LoadAnswer) (rows : List Row) (ranges : List (List ℤ)) → HeadRead file reading h ranges → RowsPart file h r rows → ReadAs file reading r rows ranges
 loads file reading h r rows ranges a b = record {
   answer = same ∙ loaded file r.verdict h.vars h.count rows ranges reading (b.script ranges ∙ a.script) a.within.vars (λ z. (a.pairs (b.passes z)).long) (omega (arith, b.long, a.within.count));
   blank = λ z. subst (λ n. BlankFrom n ranges) (sym (b.vars ∙ ap (λ v. if_read v h.vars) z)) (a.pairs (b.passes z)).blank;

@@ -1,11 +1,12 @@
 -- The rows of a file that was read can stand in the table, and the table has them. Assumes nothing.
 use mathlib.Core.Path.{◌≡◌, refl, sym, ap, subst, ◌∙◌}
-use mathlib.Core.List.{List}
+use mathlib.Core.List.{List, []}
 use Prim.Native.Nat.{ℕ, ◌≤◌}
 use native.Mathlib.Omega.{arith}
 use lib.IntN.{ℤ}
-use lib.ListN.{length, take}
+use lib.ListN.{length, take, replicate, length-replicate}
 use Rattle.rules.specs.declared.Row.{Row}
+use Rattle.rules.specs.declared.Kind.{Kind}
 use Rattle.rules.specs.Blocks.{kinds_of}
 use Rattle.rules.specs.Nesting.{nest_rows}
 use Rattle.rules.specs.Scripts.{Script, pair_ranges, script_of, Legal}
@@ -15,11 +16,10 @@ use Rattle.rules.proofs.ReadLegal.{read_legal, read_short}
 use Rattle.table.specs.Code.{rows_of}
 use Rattle.table.specs.Paired.{script_rows, Closing, Packable, Table}
 use Rattle.table.proofs.Limits.{legal_fine}
-use Rattle.table.proofs.Whole.{packed_kinds, packed_at, own_table}
-use Rattle.reader.specs.declared.Loaded.{Loaded}
-use Rattle.reader.specs.Read.{ReadAnswer, read_answer, loaded_answer, ReadAs, LoadedAs}
+use Rattle.table.proofs.Whole.{packed_kinds, packed_at, own_table, fill_none, fill_done}
+use Rattle.reader.specs.Read.{LoadAnswer, no_load, ReadAnswer, read_answer, loaded_answer, ReadAs, LoadedAs}
 
-module _ (file : List ℕ) (l : Loaded) (rows : List Row) (ranges : List (List ℤ)) (e : ReadAs file (file_script file) l rows ranges) where
+module _ (file : List ℕ) (l : LoadAnswer) (rows : List Row) (ranges : List (List ℤ)) (e : ReadAs file (file_script file) l rows ranges) where
   abbrev script : Script
   script = script_of file ranges l.vars rows l.count
 
@@ -65,3 +65,20 @@ module _ (file : List ℕ) (l : Loaded) (rows : List Row) (ranges : List (List �
         };
         table = own_table file rows l.count t b;
       }
+
+-- a refused file has no row in the table
+pub refused_loads : (file : List ℕ) (q p : ℕ) (ranges : List (List ℤ)) (t : List ℕ) → refused q p ≡ file_script file → length t ≡ 1_024 → LoadedAs file (file_script file) (no_load q p) ranges t
+unfolding read_answer script_of
+refused_loads file q p ranges t e h =
+    let rows : List Row = replicate 256 (record { kind = Kind.End }) in
+    let r : ReadAs file (file_script file) (no_load q p) rows ranges = rw (← e) (record {
+      answer = refl;
+      blank = λ z. absurd (let y : ◌≡◌ {A = ℕ} 0 1 = cc in omega arith);
+      written = λ i k. absurd (omega arith);
+    }) in
+    of_rows rows (length-replicate {A = Row} 256 (record { kind = Kind.End })) r
+  where
+    of_rows : (rows : List Row) → length rows ≡ 256 → ReadAs file (file_script file) (no_load q p) rows ranges → LoadedAs file (file_script file) (no_load q p) ranges t
+    of_rows rows n r =
+        let packs = read_packable file (no_load q p) rows ranges r t h in
+        read_loaded file (no_load q p) rows ranges r t (fill_done rows 0 t t _ n packs (fill_none rows 0 t n packs [] []) file (read_closes file (no_load q p) rows ranges r))

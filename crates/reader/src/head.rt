@@ -2,20 +2,18 @@
 ghost use Rattle.std.specs.Prelude.{◌≡◌, ◌≤◌, length, drop};
 ghost use Rattle.rules.specs.File.{then_lines, vars_key, count_line, range_part, file_script};
 ghost use Rattle.reader.specs.Lines.{file_lines};
-ghost use Rattle.reader.specs.Head.{RangesRead, no_head, CountPart, HeadRead, NotTooLong};
+ghost use Rattle.reader.specs.Head.{RangesRead, head_answer, CountPart, HeadRead, NotTooLong};
 
 use crate::lines::{CountLine, Ranged, count_line, range_line, script_line};
-use rules::Verdict;
+use rules::Refusal;
 
-// The range lines end before this byte, or the first no with its line.
-#[derive(Clone, Copy)]
-pub enum Ranges {
-    Until(usize),
-    Refused(u32, usize),
-}
-
-// The n range lines from byte `at` on, into the lent array.
-fn read_ranges(file: &[u8], at: usize, n: usize, ranges: &mut [[i32; 2]; 16]) -> Ranges
+// The n range lines from byte `at` on, into the lent array: the byte where they end, or the first no with its line.
+fn read_ranges(
+    file: &[u8],
+    at: usize,
+    n: usize,
+    ranges: &mut [[i32; 2]; 16],
+) -> Result<usize, Refusal>
     requires { (at ≤ length file.now) × (n ≤ 16) }
     ensures { RangesRead file.now at n result ranges.new }
 {
@@ -32,90 +30,87 @@ fn read_ranges(file: &[u8], at: usize, n: usize, ranges: &mut [[i32; 2]; 16]) ->
                 next = next + k;
                 i += 1;
             }
-            Ranged::Wrong(q) => {
-                return Ranges::Refused(q, 3 + i);
+            Ranged::Wrong(number) => {
+                return Err(Refusal {
+                    number,
+                    place: 3 + i,
+                });
             }
         }
     }
-    Ranges::Until(next)
+    Ok(next)
 }
 
-// The lines before the rows: all their questions have yes, or the first no; what they say, and the byte where the rows begin.
-#[derive(Clone, Copy)]
+// What the lines before the rows say, and the byte where the rows begin.
+#[derive(Clone, Copy, Debug, PartialEq, Eq)]
 pub struct Head {
-    pub verdict: Verdict,
     pub vars: usize,
     pub count: usize,
     pub at: usize,
 }
 
-fn refused(number: u32, place: usize) -> Head
-    ensures { result ≡ no_head number place }
-{
-    let verdict = Verdict::Refused(number, place);
-    Head {
-        verdict,
-        vars: 0,
-        count: 0,
-        at: 0,
-    }
-}
-
 // `rows=R`
-fn load_count(file: &[u8], at: usize, vars: usize) -> Head
+fn load_count(file: &[u8], at: usize, vars: usize) -> Result<Head, Refusal>
     requires { (at ≤ length file.now) × (vars ≤ 16) }
-    ensures { CountPart file.now at vars result }
+    ensures { CountPart file.now at vars (head_answer result) }
 {
     let c = count_line(&file[at..], b"rows=", 256);
     match c {
-        CountLine::Count(n, k) => {
-            let verdict = Verdict::Passed;
-            Head {
-                verdict,
-                vars,
-                count: n,
-                at: at + k,
-            }
-        }
-        CountLine::Wrong(q) => refused(q, 3 + vars),
+        CountLine::Count(count, k) => Ok(Head {
+            vars,
+            count,
+            at: at + k,
+        }),
+        CountLine::Wrong(number) => Err(Refusal {
+            number,
+            place: 3 + vars,
+        }),
     }
 }
 
 // The ranges and on.
-fn load_ranges(file: &[u8], at: usize, vars: usize, ranges: &mut [[i32; 2]; 16]) -> Head
+fn load_ranges(
+    file: &[u8],
+    at: usize,
+    vars: usize,
+    ranges: &mut [[i32; 2]; 16],
+) -> Result<Head, Refusal>
     requires { (at ≤ length file.now) × (vars ≤ 16) }
-    ensures { HeadRead file.now (range_part vars (file_lines (drop at file.now))) result ranges.new }
+    ensures { HeadRead file.now (range_part vars (file_lines (drop at file.now))) (head_answer result) ranges.new }
 {
-    let r = read_ranges(file, at, vars, ranges);
-    match r {
-        Ranges::Until(next) => load_count(file, next, vars),
-        Ranges::Refused(q, p) => refused(q, p),
-    }
+    let next = read_ranges(file, at, vars, ranges)?;
+    load_count(file, next, vars)
 }
 
 // `vars=V` and on.
-fn load_vars(file: &[u8], at: usize, ranges: &mut [[i32; 2]; 16]) -> Head
+fn load_vars(file: &[u8], at: usize, ranges: &mut [[i32; 2]; 16]) -> Result<Head, Refusal>
     requires { at ≤ length file.now }
     ensures { HeadRead file.now
-        (then_lines (count_line vars_key 16 2 (file_lines (drop at file.now))) range_part) result ranges.new }
+        (then_lines (count_line vars_key 16 2 (file_lines (drop at file.now))) range_part) (head_answer result) ranges.new }
 {
     let c = count_line(&file[at..], b"vars=", 16);
     match c {
         CountLine::Count(n, k) => load_ranges(file, at + k, n, ranges),
-        CountLine::Wrong(q) => refused(q, 2),
+        CountLine::Wrong(number) => Err(Refusal { number, place: 2 }),
     }
 }
 
+// The most bytes of a file: question 2.
+const LONGEST_FILE: usize = 16_384;
+
 // The lines before the rows.
-pub fn load_head(file: &[u8], ranges: &mut [[i32; 2]; 16]) -> Head
-    ensures { HeadRead file.now (file_script file.now) result ranges.new × NotTooLong file.now result }
+pub fn load_head(file: &[u8], ranges: &mut [[i32; 2]; 16]) -> Result<Head, Refusal>
+    ensures { HeadRead file.now (file_script file.now) (head_answer result) ranges.new × NotTooLong file.now (head_answer result) }
 {
-    if 16_384 < file.len() {
-        return refused(2, 16_384);
+    if LONGEST_FILE < file.len() {
+        return Err(Refusal {
+            number: 2,
+            place: LONGEST_FILE,
+        });
     }
     let c = script_line(file);
     match c {
         CountLine::Count(_, k) => load_vars(file, k, ranges),
-        CountLine::Wrong(q) => refused(q, 1),
+        CountLine::Wrong(number) => Err(Refusal { number, place: 1 }),
     }
 }

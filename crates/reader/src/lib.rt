@@ -7,15 +7,15 @@ pub mod nesting;
 pub mod rows;
 
 ghost use Rattle.std.specs.Prelude.{◌≡◌, ◌+◌, ◌≤◌, length};
-ghost use Rattle.rules.specs.Questions;
+ghost use Rattle.rules.specs.Verdicts.{verdict_of};
 ghost use Rattle.rules.specs.File.{file_script};
-ghost use Rattle.reader.specs.Read.{LineRead, rows_verdict, if_read, LoadedAs};
+ghost use Rattle.reader.specs.Read.{LineRead, rows_verdict, load_answer, LoadedAs};
 
 use crate::head::load_head;
 use crate::lines::keyed;
 use crate::nesting::{Blocks, nest_row};
 use crate::rows::{RowLine, row_of};
-use rules::{BLANK, Row, Verdict};
+use rules::{BLANK, Refusal, Row, Verdict};
 use table::put_next;
 
 // The next line's row. The rest begins at the file's byte `base`.
@@ -31,45 +31,32 @@ fn row_line(rest: &[u8], base: usize, vars: u32) -> RowLine
 
 // The questions after the head: of the line where the rows stopped, 3 of bytes after the last row, 6 of blocks that are open there.
 fn ask_rows(stopped: u32, line: usize, more: bool, depth: usize, end: usize) -> Verdict
-    ensures { result ≡ rows_verdict stopped line more depth end }
+    ensures { verdict_of result ≡ rows_verdict stopped line more depth end }
 {
     if stopped != 0 {
-        return Verdict::Refused(stopped, line);
+        return Err(Refusal {
+            number: stopped,
+            place: line,
+        });
     }
     if more {
-        return Verdict::Refused(3, end);
+        return Err(Refusal {
+            number: 3,
+            place: end,
+        });
     }
     if depth != 0 {
-        return Verdict::Refused(6, end);
+        return Err(Refusal {
+            number: 6,
+            place: end,
+        });
     }
-    Verdict::Passed
+    Ok(())
 }
 
-// One verdict after the other.
-fn and_then(first: Verdict, later: Verdict) -> Verdict
-    ensures { result ≡ Questions.and_then first later }
-{
-    match first {
-        Verdict::Passed => later,
-        Verdict::Refused(q, p) => Verdict::Refused(q, p),
-    }
-}
-
-// A number of a file that is read; refused, 0.
-fn if_read(verdict: Verdict, n: usize) -> usize
-    ensures { result ≡ if_read verdict n }
-{
-    match verdict {
-        Verdict::Passed => n,
-        Verdict::Refused(_, _) => 0,
-    }
-}
-
-// A loaded file: all questions have yes, or the first no; the number of variables; and how many rows are in the table. A refused file
-// has none.
-#[derive(Clone, Copy)]
+// A loaded file: the number of variables, and how many rows are in the table.
+#[derive(Clone, Copy, Debug, PartialEq, Eq)]
 pub struct Loaded {
-    pub verdict: Verdict,
     pub vars: usize,
     pub count: usize,
 }
@@ -83,11 +70,11 @@ const NONE_OPEN: Blocks = Blocks {
 
 // A file's script, or its first no: the ranges in the pairs of the lent array, the rows in the lent table. Both loops stand here, since
 // an array of rows that is handed on is copied, 8 KB.
-pub fn load(file: &[u8], ranges: &mut [[i32; 2]; 16], table: &mut [u32]) -> Loaded
+pub fn load(file: &[u8], ranges: &mut [[i32; 2]; 16], table: &mut [u32]) -> Result<Loaded, Refusal>
     requires { length table.old ≡ 1_024 }
-    ensures { LoadedAs file.now (file_script file.now) result ranges.new table.new }
+    ensures { LoadedAs file.now (file_script file.now) (load_answer result) ranges.new table.new }
 {
-    let head = load_head(file, ranges);
+    let head = load_head(file, ranges)?;
     let mut rows = [BLANK; 256];
     let mut blocks = NONE_OPEN;
     let mut next = head.at;
@@ -116,23 +103,13 @@ pub fn load(file: &[u8], ranges: &mut [[i32; 2]; 16], table: &mut [u32]) -> Load
     }
     let line = 4 + head.vars + i;
     let end = 4 + head.vars + head.count;
-    let first = head.verdict;
-    let later = ask_rows(stopped, line, next < file.len(), blocks.depth, end);
-    let verdict = and_then(first, later);
-    let vars = if_read(verdict, head.vars);
-    let count = if_read(verdict, head.count);
+    ask_rows(stopped, line, next < file.len(), blocks.depth, end)?;
     let mut open = table::NONE_OPEN;
-    let mut j: usize = 0;
-    while j < count {
-        let row = rows[j];
-        let kind = row.kind;
-        let after = put_next(table, j, kind, open);
-        open = after;
-        j += 1;
+    for j in 0..head.count {
+        open = put_next(table, j, rows[j].kind, open);
     }
-    Loaded {
-        verdict,
-        vars,
-        count,
-    }
+    Ok(Loaded {
+        vars: head.vars,
+        count: head.count,
+    })
 }

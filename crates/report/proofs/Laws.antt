@@ -14,7 +14,7 @@ use mir.Val.{Fits, SFits}
 use borrow.Author.Tests.{le-leb, lt-leb}
 use Rattle.ints.proofs.Parts.{ints, add_parts, minus_parts}
 use Rattle.rules.specs.declared.LoopLine.{LoopLine}
-use Rattle.rules.specs.declared.Reply.TheVariants.{Accepted, Refused}
+use Rattle.rules.specs.Replies.{Accepted, Refused}
 use Rattle.rules.specs.Calls.{buffer_reply, written}
 use Rattle.rules.specs.Figures.{Line}
 use Rattle.rules.specs.Report.{line_of, lines_of, joined, sign, size, decimal, step_name, first_end, second_end, exact_name, key_line, loop_line, loop_lines, report_text, ticks_key}

@@ -4,6 +4,7 @@
 pub mod pieces;
 
 ghost use Rattle.std.specs.Prelude.{◌≡◌, ◌≤◌, length};
+ghost use Rattle.rules.specs.Replies.{reply_by};
 ghost use Rattle.rules.specs.Calls.{buffer_reply, written};
 ghost use Rattle.rules.specs.Report.{joined, decimal, sign, size, step_name, first_end, second_end, exact_name, loop_line, line_of, report_text};
 ghost use Rattle.analysis_lines.specs.Coded.{lines_in, first_lines, LineTable};
@@ -12,7 +13,7 @@ ghost use Rattle.report.specs.Lines.{end_number, head_text, loops_text};
 
 use crate::pieces::{Label, Piece};
 use analysis_lines::line_at;
-use rules::{LoopLine, Reply};
+use rules::{LoopLine, Refusal};
 use rules_steps::Step;
 
 // How far z is from 0.
@@ -221,15 +222,17 @@ pub fn write_report(
     loops: usize,
     ticks: u64,
     buffer: &mut [u8],
-) -> Reply
+) -> Result<usize, Refusal>
     requires { LineTable loops lines.now }
-    ensures { (result ≡ buffer_reply (report_text rows (first_lines lines.now loops) ticks) (length buffer.old))
+    ensures { (reply_by result ≡ buffer_reply (report_text rows (first_lines lines.now loops) ticks) (length buffer.old))
         × (buffer.new ≡ written (report_text rows (first_lines lines.now loops) ticks) buffer.old) }
 {
     let len = report_len(rows, lines, loops, ticks);
     if buffer.len() < len {
-        return Reply::Refused(14, len);
+        return Err(Refusal {
+            number: 14,
+            place: len,
+        });
     }
-    let wrote = put_lines(rows, lines, loops, ticks, buffer);
-    Reply::Accepted(wrote)
+    Ok(put_lines(rows, lines, loops, ticks, buffer))
 }

@@ -12,7 +12,7 @@ use Rattle.rules.specs.declared.Change.TheVariants.{Add, Sub, Mul, Div}
 use Rattle.rules.specs.declared.Operator.{Operator}
 use Rattle.rules.specs.declared.Ending.{Ending}
 use Rattle.rules.specs.declared.LoopCount.{LoopCount}
-use Rattle.rules.specs.declared.Reply.{Reply}
+use Rattle.rules.specs.Replies.{Reply}
 use Rattle.rules_steps.specs.declared.Step.{Step}
 use Rattle.rules.specs.Expressions.{Expr, constant, variable, apply, operate}
 use Rattle.rules.specs.Values.{lowest, highest, choose, limited, operated, value, compares, tried, decide}

@@ -29,7 +29,7 @@ use Rattle.rules.proofs.AcceptedExactly.{all_words, all_yes}
 use Rattle.rules.proofs.Order.{said, lines_order, prices_order, judged_in_order}
 use Rattle.rules.specs.Refusals.{is_reading, is_refusal, RefusalNumbers, Over13, PlaceOf13File, SameCallsFromAnyScratch}
 
-same_refused : {q p r t : ℕ} → Verdict.Refused q p ≡ refused r t → q ≡ r
+same_refused : {q p r t : ℕ} → Verdict.refused q p ≡ refused r t → q ≡ r
 same_refused e = cc
 
 -- the number of a first no is that of one of the questions

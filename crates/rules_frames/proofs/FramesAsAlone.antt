@@ -13,8 +13,7 @@ use Rattle.rules.specs.declared.Ending.{Ending}
 use Rattle.rules.specs.declared.Ending.TheVariants.{Spent}
 use Rattle.rules.specs.Blocks.{RowKind, Block, parts, to_end, build}
 use Rattle.rules.specs.declared.Prices.{Prices}
-use Rattle.rules.specs.declared.Verdict.{Verdict}
-use Rattle.rules.specs.declared.Verdict.TheVariants.{Passed as passed, Refused as refused}
+use Rattle.rules.specs.Verdicts.{Verdict, passed, refused}
 use Rattle.rules.specs.Scripts.{none, some, Script, store_of, tree_of, report_ticks, Accepted, StoreIn}
 use Rattle.rules.specs.Run.{State, Entry, Out, go, halt, run}
 use Rattle.rules.specs.Answers.{Answer, answer, run_tree, store_list, sum_at, most_at}

@@ -5,8 +5,7 @@ use Rattle.rules.specs.declared.LoopCount.{LoopCount}
 use Rattle.rules.specs.declared.Ending.{Ending}
 use Rattle.rules.specs.declared.Ending.TheVariants.{Ended, Spent, NoPick}
 use Rattle.rules.specs.declared.Prices.{Prices}
-use Rattle.rules.specs.declared.Verdict.{Verdict}
-use Rattle.rules.specs.declared.Verdict.TheVariants.{Passed as passed, Refused as refused}
+use Rattle.rules.specs.Verdicts.{Verdict, passed, refused}
 use Rattle.rules.specs.Scripts.{Script, store_of, report_ticks}
 use Rattle.rules.specs.Run.{State}
 use Rattle.rules.specs.Answers.{store_list}

@@ -3,7 +3,7 @@ use Rattle.std.specs.Prelude.{List, [], ◌∷◌, ◌≡◌, ℕ, suc, ◌+◌,
 use Rattle.rules.specs.Blocks.{RowKind}
 use Rattle.rules.specs.declared.Ending.TheVariants.{Spent}
 use Rattle.rules.specs.declared.Prices.{Prices}
-use Rattle.rules.specs.declared.Verdict.TheVariants.{Passed as passed}
+use Rattle.rules.specs.Verdicts.{passed}
 use Rattle.rules.specs.Scripts.{All, Script, report_ticks, Accepted, StoreIn}
 use Rattle.rules.specs.Answers.{Answer, store_list}
 use Rattle.rules_machine.specs.RowMachine.{Place, Next, more, over, next, pairs, rank, Partners, Replies}

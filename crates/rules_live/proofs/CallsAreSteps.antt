@@ -14,7 +14,7 @@ use Rattle.rules.specs.declared.Ending.{Ending}
 use Rattle.rules.specs.declared.Ending.TheVariants.{Ended, Spent, NoPick}
 use Rattle.rules.specs.declared.LoopCount.{LoopCount}
 use Rattle.rules.specs.declared.Prices.{Prices}
-use Rattle.rules.specs.declared.Verdict.TheVariants.{Passed as passed, Refused as refused}
+use Rattle.rules.specs.Verdicts.{passed, refused}
 use Rattle.rules.specs.Blocks.{RowKind}
 use Rattle.rules.specs.Values.{lowest, highest, in_limits, Store}
 use Rattle.rules.specs.Run.{Entry}

@@ -11,8 +11,7 @@ use Rattle.ints.proofs.Diffs.{and_in}
 use Rattle.rules.specs.declared.Ending.{Ending}
 use Rattle.rules.specs.declared.Ending.TheVariants.{Ended, Spent, NoPick}
 use Rattle.rules.specs.declared.Prices.{Prices}
-use Rattle.rules.specs.declared.Verdict.{Verdict}
-use Rattle.rules.specs.declared.Verdict.TheVariants.{Passed as passed}
+use Rattle.rules.specs.Verdicts.{Verdict, passed}
 use Rattle.rules.specs.Blocks.{RowKind, View, is_pick, is_end, view_of, view_at}
 use Rattle.rules.specs.Figures.{Line}
 use Rattle.rules.specs.Scripts.{All, none, some, Script, report_ticks, report_lines, Legal}

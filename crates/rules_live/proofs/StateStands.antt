@@ -9,8 +9,7 @@ use lib.IntN.{ℤ, pos}
 use lib.ListN.{length, drop}
 use Rattle.ints.proofs.Diffs.{both}
 use Rattle.rules.specs.declared.Prices.{Prices}
-use Rattle.rules.specs.declared.Verdict.{Verdict}
-use Rattle.rules.specs.declared.Verdict.TheVariants.{Passed as passed, Refused as refused}
+use Rattle.rules.specs.Verdicts.{Verdict, passed, refused}
 use Rattle.rules.specs.Blocks.{RowKind, View, is_plain, is_pick, is_else, is_end, is_loop, view_of, view_at}
 use Rattle.rules.specs.Values.{lowest, highest, in_limits, Store}
 use Rattle.rules.specs.Ranges.{Range}

@@ -6,8 +6,7 @@ use native.Mathlib.Omega.{arith}
 use lib.IntN.{ℤ}
 use lib.ListN.{length}
 use Rattle.rules.specs.declared.Prices.{Prices}
-use Rattle.rules.specs.declared.Verdict.{Verdict}
-use Rattle.rules.specs.declared.Verdict.TheVariants.{Passed as passed, Refused as refused}
+use Rattle.rules.specs.Verdicts.{Verdict, passed, refused}
 use Rattle.rules.specs.Bounds.{FinePrices}
 use Rattle.rules.specs.Blocks.{RowKind}
 use Rattle.rules.specs.Answers.{store_list}

@@ -4,8 +4,7 @@ use Rattle.rules.specs.declared.Prices.{Prices}
 use Rattle.rules.specs.Values.{lowest, highest}
 use Rattle.rules.specs.Ranges.{Range}
 use Rattle.rules.specs.Answers.{store_list}
-use Rattle.rules.specs.declared.Verdict.{Verdict}
-use Rattle.rules.specs.declared.Verdict.TheVariants.{Passed as passed, Refused as refused}
+use Rattle.rules.specs.Verdicts.{Verdict, passed, refused}
 use Rattle.rules.specs.Bounds.{FinePrices}
 use Rattle.rules.specs.Scripts.{All, Script, report_ticks, report_lines, Accepted}
 use Rattle.rules.specs.Calls.{Judged, accepted, prices_of, judged, store_verdict, over}

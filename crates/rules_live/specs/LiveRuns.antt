@@ -9,7 +9,7 @@ use Rattle.rules.specs.Bounds.{FinePrices}
 use Rattle.rules.specs.Scripts.{All, Pairwise, Script, report_ticks, report_lines, Accepted, StoreIn}
 use Rattle.rules.specs.Run.{State, Entry}
 use Rattle.rules.specs.Answers.{Answer}
-use Rattle.rules.specs.declared.Verdict.TheVariants.{Passed as passed}
+use Rattle.rules.specs.Verdicts.{passed}
 use Rattle.rules.specs.Calls.{accepted, prices_of, judged, store_verdict, loop_rows, counts_at, run_script}
 use Rattle.rules.specs.Claim.{Lined, Counts-fit}
 use Rattle.rules_machine.specs.RowMachine.{TurnCounts, Place, Next, more, over, counts_of}

@@ -7,8 +7,7 @@ use Rattle.rules.specs.declared.Ending.TheVariants.{Ended}
 use Rattle.rules.specs.declared.Prices.{Prices}
 use Rattle.rules.specs.Blocks.{View, is_plain, is_pick, is_else, is_end, is_loop, view_at}
 use Rattle.rules.specs.Figures.{Line}
-use Rattle.rules.specs.declared.Verdict.{Verdict}
-use Rattle.rules.specs.declared.Verdict.TheVariants.{Passed as passed, Refused as refused}
+use Rattle.rules.specs.Verdicts.{Verdict, passed, refused}
 use Rattle.rules.specs.Scripts.{Script, store_of, report_ticks, report_lines}
 use Rattle.rules.specs.Calls.{is_loop_row, loop_rows}
 use Rattle.rules_machine.specs.RowMachine.{TurnCounts, Phase, fresh, testing, Place}

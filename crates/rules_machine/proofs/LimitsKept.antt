@@ -14,7 +14,7 @@ use Rattle.rules.specs.Blocks.{from, changed, off, Plain, Test, Form, while, do_
 use Rattle.rules.specs.Ranges.{Env, after_row, join, at_start, ordered, sort}
 use Rattle.rules.specs.Steps.{Sole, other, sole, sole_of}
 use Rattle.rules.specs.Trips.{Way, own, broken, copied, chase, watched, limit_way, copies, sole_way, way_of, keeps, trip_by, inside, outside, after}
-use Rattle.rules.specs.declared.Verdict.TheVariants.{Passed as passed}
+use Rattle.rules.specs.Verdicts.{passed}
 use Rattle.rules.specs.Questions.{and_then, of_trip, loops_verdict, blocks_verdict, verdict}
 use Rattle.rules.specs.Scripts.{Script, start_env, tree_of, Accepted}
 use Rattle.rules.specs.Written.{Composed}

@@ -8,7 +8,7 @@ ghost use Rattle.rules_steps.specs.Ends.{EndsWithin};
 use ints::min_max::{higher, larger, lower, smaller};
 
 // How a variable moves in one turn: the least and the most change, a factor, a divisor, or not known.
-#[derive(Clone, Copy)]
+#[derive(Clone, Copy, Debug, PartialEq, Eq)]
 pub enum Step {
     Add(i64, i64),
     Grow(u64, u64),
@@ -49,7 +49,7 @@ impl Step {
 }
 
 // Two steps to be joined: of one kind, with the ends of both, or a mixture.
-#[derive(Clone, Copy)]
+#[derive(Clone, Copy, Debug, PartialEq, Eq)]
 pub enum Two {
     Adds(i64, i64, i64, i64),
     Grows(u64, u64, u64, u64),

@@ -9,9 +9,9 @@ use lib.ListN.{length, take, drop, length-append, length-take, length-drop, drop
 use lib.Seq.{take-append_seam, take_at, drop_at}
 use borrow.Author.Tests.{le-leb}
 use borrow.Rule.Slice.PartMut.{mid_of, put_mid}
-use Rattle.rules.specs.declared.Reply.TheVariants.{Accepted, Refused}
-use Rattle.rules.specs.declared.Verdict.{Verdict}
-use Rattle.rules.specs.declared.Verdict.TheVariants.{Passed}
+use Rattle.rules.specs.Replies.{Accepted, Refused}
+use Rattle.rules.specs.Verdicts.{Verdict}
+use Rattle.rules.specs.Verdicts.{passed as Passed}
 use Rattle.rules.specs.Figures.{ones}
 use Rattle.rules.specs.Scripts.{Script, report_ticks, script_of}
 use Rattle.rules.specs.File.{file_script}
@@ -293,7 +293,7 @@ module _ (file counts lengths reports fired cues : List ℕ) (sheet : Sheet) (js
 same_script : (script s : Script) (v : Verdict) → judged_by script v ≡ accepted s → script ≡ s
 unfolding judged_by
 same_script script s Passed e = cc
-same_script script s (Verdict.Refused q p) e = absurd (let z : ◌≡◌ {A = ℕ} 0 1 = cc in omega arith)
+same_script script s (Verdict.refused q p) e = absurd (let z : ◌≡◌ {A = ℕ} 0 1 = cc in omega arith)
 
 module _ (file : List ℕ) (l : Loaded) (ranges : List (List ℤ)) (t : List ℕ) (e : LoadedAs file (file_script file) l ranges t) (z : l.verdict ≡ Passed) where
   abbrev held : Script

@@ -84,7 +84,7 @@ went c =
 returns : tie.Need-returns-then-not-frame invariant-loop-k decreases-loop-k
 returns c fs ss ps roles on =
     let l = c.loop-k in
-    playing_out _ _ _ _ _ _ on _ _ _ _ _ _ (l.invariant.1 _ _ _ _ on) (omega (arith, c.if-k-all.false, on.number)) (not-true _ c.if-not-frame.true) _ c.larger-most.ensures
+    playing_out _ _ _ _ _ _ on _ _ _ _ _ _ (l.invariant.1 _ _ _ _ on) (omega (arith, c.if-k-all.false, on.number)) (not-true _ c.if-not-frame.true) _ c.max-most.ensures
 
 add-new-frame : tie.Need-overflow_add-frame invariant-loop-k decreases-loop-k
 add-new-frame c = let l = c.loop-k in let on = l.invariant.0.4 in let h = playing_late _ _ _ _ _ _ on (l.invariant.1 _ _ _ _ on) in search rules
@@ -102,7 +102,7 @@ loop_again_2 c =
     let l = c.loop-k in (
       l.invariant.0,
       λ fs ss ps roles on.
-          rw c.new_frame-frame-else-k-all.ensures (playing_frame _ _ _ _ _ _ on _ _ _ _ _ _ (l.invariant.1 _ _ _ _ on) (omega (arith, c.if-k-all.false, on.number)) (not-false _ c.if-not-frame.false) _ c.larger-most.ensures),
+          rw c.new_frame-frame-else-k-all.ensures (playing_frame _ _ _ _ _ _ on _ _ _ _ _ _ (l.invariant.1 _ _ _ _ on) (omega (arith, c.if-k-all.false, on.number)) (not-false _ c.if-not-frame.false) _ c.max-most.ensures),
     )
 
 pub play_spec : {M : Type 1} → statement M

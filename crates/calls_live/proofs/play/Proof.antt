@@ -3,7 +3,6 @@ use mathlib.Core.Path.{refl, sym, ◌∙◌}
 use borrow.Author.Tests.{not-true, not-false}
 use Rattle.calls_live.proofs.Playing.{at_pick, stays_over, may_go, goes_far}
 use borrow.Author.Rules.{rules}
-use native.Mathlib.Omega.{arith}
 use Rattle.calls_live.proofs.play.Statement.{statement}
 use Rattle.calls_live.proofs.play.Tie as tie
 

@@ -1,4 +1,5 @@
 use Rattle.std.proofs.Common.{◌≡◌, ◌-◌, length}
+use Rattle.rules.specs.Verdicts.{passed}
 use Rattle.rules.specs.File.{file_script}
 use Rattle.table.proofs.Whole.{Filled}
 use Rattle.reader.specs.Read.{ReadAs}
@@ -13,7 +14,4 @@ decreases-loop-i l = l.head.count - l.i
 
 abbrev pub invariant-loop-j : goal.invariant-loop-j
 invariant-loop-j l =
-    ReadAs l.file (file_script l.file) (record { verdict = l.verdict; vars = l.vars; count = l.count }) l.rows l.ranges × (length l.rows ≡ 256) × (length l.initial.table ≡ 1_024) × Filled l.rows l.count l.table l.open l.j
-
-abbrev pub decreases-loop-j : goal.decreases-loop-j
-decreases-loop-j l = l.count - l.j
+    ReadAs l.file (file_script l.file) (record { verdict = passed; vars = l.head.vars; count = l.head.count }) l.rows l.ranges × (length l.rows ≡ 256) × (length l.initial.table ≡ 1_024) × Filled l.rows l.head.count l.table l.open l.j

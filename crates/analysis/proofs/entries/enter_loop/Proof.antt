@@ -8,7 +8,7 @@ use mathlib.Core.List.{List}
 use Prim.Native.Nat.{ℕ, ◌*◌, ◌≤◌}
 use Rattle.rules.specs.declared.Row.{Row}
 use Rattle.rules.specs.declared.Kind.{Kind}
-use Rattle.rules.specs.declared.Verdict.TheVariants.{Refused as refused}
+use Rattle.rules.specs.Verdicts.{refused}
 use Rattle.rules.specs.Steps.{starts}
 use Rattle.rules.specs.Ranges.{Env, at_start}
 use Rattle.rules.specs.Trips.{Trip, turns_of, inner_of, outer_of}

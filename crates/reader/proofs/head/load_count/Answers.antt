@@ -27,4 +27,4 @@ pub returns-in-Count : goal.returns-in-Count
 returns-in-Count c = count_says _ _ _ _ _ (subst (CountRead _ _ _) c.in-Count.is (line (goal.at.returns-in-Count c).After-count_line-c)) c.requires.0 c.requires.1
 
 pub returns-in-Wrong : goal.returns-in-Wrong
-returns-in-Wrong c = count_refused _ _ _ _ _ c.refused.ensures (subst (CountRead _ _ _) c.in-Wrong.is (line (goal.at.returns-in-Wrong c).After-count_line-c))
+returns-in-Wrong c = count_refused _ _ _ _ _ refl (subst (CountRead _ _ _) c.in-Wrong.is (line (goal.at.returns-in-Wrong c).After-count_line-c))

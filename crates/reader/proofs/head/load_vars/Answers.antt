@@ -33,4 +33,4 @@ pub returns-in-Count : goal.returns-in-Count
 returns-in-Count c = rw (after_count _ c.args.file.now c.args.at _ _ _ _ range_part (subst (CountRead _ _ _) c.in-Count.is (line (goal.at.returns-in-Count c).After-count_line-c))) c.load_ranges.ensures
 
 pub returns-in-Wrong : goal.returns-in-Wrong
-returns-in-Wrong c = head_refused _ _ _ _ _ _ c.refused.ensures (after_wrong _ _ _ _ _ range_part (subst (CountRead _ _ _) c.in-Wrong.is (line (goal.at.returns-in-Wrong c).After-count_line-c)))
+returns-in-Wrong c = head_refused _ _ _ _ _ _ refl (after_wrong _ _ _ _ _ range_part (subst (CountRead _ _ _) c.in-Wrong.is (line (goal.at.returns-in-Wrong c).After-count_line-c)))
