@@ -6,12 +6,13 @@
 ghost use Rattle.std.specs.Prelude.{◌≡◌, ◌≤◌, length, IfOk, IfSome};
 
 use calls_frames::{Frames, Played};
+use calls_scripts::ScriptRefusal;
 use host::{Host, System};
 use loader::SCRATCH;
 use program_parts::{Expected, WORD, print_unexpected};
 use program_words::lists::read_word_values;
 use program_words::{pick_count, put_picks, read_number};
-use rules::Verdict;
+use rules::Refusal;
 use std::process::ExitCode;
 
 // A call is lent no more scripts.
@@ -138,12 +139,15 @@ fn read_scripts(host: &impl Host, first: usize, scripts: usize, room: &mut Room)
         values: 0,
     };
     for k in 0..scripts {
+        let files = &mut room.files[..];
+        let picks = &mut room.picks[..];
+        let stores = &mut room.stores[..];
         let script = read_script(
             host,
             first + 3 * k,
-            &mut room.files[all.file..all.file + 16_385],
-            &mut room.picks[all.picks..],
-            &mut room.stores[all.values..all.values + 17],
+            &mut files[all.file..all.file + 16_385],
+            &mut picks[all.picks..],
+            &mut stores[all.values..all.values + 17],
         );
         match script {
             Ok(share) => {
@@ -186,12 +190,12 @@ fn print_scripts(host: &impl Host, f: Frames, stores: &[i32], lengths: &[usize])
     println!(host; "most={most}");
 }
 
-// Prints a refusal. Where it is of a script, which it is, from 0, stands before it.
-fn print_refused(host: &impl Host, number: u32, place: usize, script: usize) {
-    if script != 0 {
-        print_which(host, script - 1);
+// Prints a refusal. Where it is of a script, which it is stands before it.
+fn print_refused(host: &impl Host, refused: ScriptRefusal) {
+    if refused.script > 0 {
+        print_which(host, refused.script - 1);
     }
-    program_parts::print_refusal(host, number, place);
+    program_parts::print_refusal(host, refused.refusal);
 }
 
 // The call for so many scripts, which take so much of what is lent, and what it prints.
@@ -199,10 +203,11 @@ fn play(host: &impl Host, scripts: usize, all: Share, room: &mut Room, prices: &
     requires { (scripts ≤ 8) × (all.file ≤ 131_080) × (all.picks ≤ 131_072) × (all.values ≤ 136) }
 {
     let mut scratch = [0u32; SCRATCH];
-    let f = loader::frames(
+    let stores = &mut room.stores[..];
+    let answer = loader::frames(
         &room.files[..all.file],
         &room.file_lengths[..scripts],
-        &mut room.stores[..all.values],
+        &mut stores[..all.values],
         &room.store_lengths[..scripts],
         &room.picks[..all.picks],
         &room.pick_lengths[..scripts],
@@ -210,14 +215,14 @@ fn play(host: &impl Host, scripts: usize, all: Share, room: &mut Room, prices: &
         q,
         &mut scratch,
     );
-    match f.verdict {
-        Verdict::Passed => print_scripts(
+    match answer {
+        Ok(f) => print_scripts(
             host,
             f,
-            &room.stores[..all.values],
+            &stores[..all.values],
             &room.store_lengths[..scripts],
         ),
-        Verdict::Refused(number, place) => print_refused(host, number, place, f.script),
+        Err(refused) => print_refused(host, refused),
     }
 }
 
@@ -269,7 +274,13 @@ fn start(host: &impl Host, first: usize, arguments: usize, prices: &[u32], q: u6
     if scripts * 3 != words {
         usage(host);
     } else if SCRIPTS < scripts {
-        program_parts::print_refusal(host, 20, 0);
+        program_parts::print_refusal(
+            host,
+            Refusal {
+                number: 20,
+                place: 0,
+            },
+        );
     } else {
         with_room(host, first, scripts, prices, q);
     }

@@ -28,7 +28,8 @@ pub trait Host {
     fn argument_count(&self) -> usize;
 
     // Argument i, put at the front of `word`: empty for one that is missing or longer than the word.
-    fn argument<'a>(&self, i: usize, word: &'a mut [u8]) -> &'a [u8];
+    fn argument<'a>(&self, i: usize, word: &'a mut [u8]) -> &'a [u8]
+        ensures { length result.now ≤ length word.old };
 
     // Standard input.
     fn reader(&self) -> Self::Reader;

@@ -13,7 +13,7 @@ use live_state::STATE;
 use loader::SCRATCH;
 use program_parts::{Expected, Store, WORD, print_unexpected};
 use program_words::{pick_count, put_picks, read_number};
-use rules::Verdict;
+use rules::Refusal;
 use std::process::ExitCode;
 
 // How many picks are held that no frame has used.
@@ -48,11 +48,11 @@ struct Desk {
 fn write_step(
     host: &impl Host,
     frame: u64,
-    d: StepDone,
+    answer: Result<StepDone, Refusal>,
     cues: &[u32],
     text: &[u8],
 ) -> Result<(), Lost>
-    requires { text.now ≡ step_text frame d cues.now }
+    requires { text.now ≡ step_text frame answer cues.now }
 {
     host.write(text)
 }
@@ -69,7 +69,7 @@ fn play_frame(
     let mut scratch = [0u32; SCRATCH];
     let mut cues = [0u32; CUES];
     let mut text = [0u8; answer_text::steps::STEP];
-    let done = loader::step(
+    let answer = loader::step(
         script.file,
         script.prices,
         &mut scratch,
@@ -79,9 +79,9 @@ fn play_frame(
         picks,
         &mut cues,
     );
-    let n = answer_text::steps::put_step(frame, done, &cues, &mut text);
-    write_step(host, frame, done, &cues, &text[..n]).ok()?;
-    matches!(done.verdict, Verdict::Passed).then_some(done)
+    let n = answer_text::steps::put_step(frame, answer, &cues, &mut text);
+    write_step(host, frame, answer, &cues, &text[..n]).ok()?;
+    answer.ok()
 }
 
 // Takes the used picks off those held: the others stand in front, in their order.
@@ -208,7 +208,7 @@ fn play_line(
 fn print_answer(host: &impl Host, script: Script<'_>, store: &mut [i32], state: &mut [u64]) {
     let mut scratch = [0u32; SCRATCH];
     let mut none = [0u32; 0];
-    let d = loader::step(
+    let answer = loader::step(
         script.file,
         script.prices,
         &mut scratch,
@@ -218,8 +218,10 @@ fn print_answer(host: &impl Host, script: Script<'_>, store: &mut [i32], state: 
         b"",
         &mut none,
     );
-    let o = answer_text::steps::so_far(d);
-    program_parts::print_outcome(host, o, store);
+    match answer {
+        Ok(d) => program_parts::print_outcome(host, answer_text::steps::so_far(d), store),
+        Err(refusal) => program_parts::print_refusal(host, refusal),
+    }
 }
 
 // Plays the lines of standard input. A proved loop has to end: it counts its turns up to a number that no input reaches.
@@ -254,9 +256,9 @@ fn play(host: &impl Host, script: Script<'_>, store: &mut [i32]) {
     let mut state = [0u64; STATE];
     let mut picks = [0u8; HELD];
     let started = loader::start(script.file, script.prices, &mut scratch, store, &mut state);
-    match started.verdict {
-        Verdict::Passed => play_lines(host, script, store, &mut state, &mut picks),
-        Verdict::Refused(number, place) => program_parts::print_refusal(host, number, place),
+    match started {
+        Ok(_) => play_lines(host, script, store, &mut state, &mut picks),
+        Err(refusal) => program_parts::print_refusal(host, refusal),
     }
 }
 

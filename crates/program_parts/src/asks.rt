@@ -53,7 +53,9 @@ pub fn ask_picks(
     let mut lent = 0;
     for _ in 0..u64::MAX {
         let mut cues = [0u32; CUES];
-        let d = step_within(terms, store, state, &picks[lent..count], &mut cues);
+        let Ok(d) = step_within(terms, store, state, &picks[lent..count], &mut cues) else {
+            break;
+        };
         lent = count;
         if d.status != live_state::WAITS {
             if !goes_on(terms.allowed, d, state) {

@@ -1,6 +1,6 @@
 // The cues that a run does, one a line: `cue=N ROW TICK`. The run is made in steps: without room for a cue a step stops before the next
 // one, and says its row and the ticks so far; the step after it has room for that one.
-ghost use Rattle.std.specs.Prelude.{◌≡◌, ◌≤◌, length};
+ghost use Rattle.std.specs.Prelude.{◌≡◌, ◌≤◌, length, IfSome};
 ghost use Rattle.answer_text.specs.Steps.{cue_line};
 
 use crate::steps::{Terms, goes_on, started, step_within};
@@ -44,29 +44,29 @@ fn print_cue(host: &impl Host, n: u32, row: usize, tick: u64) -> Result<(), Lost
     write_cue(host, n, row, tick, &text[..k])
 }
 
-// The next step, with room for the cue that is next.
+// The next step, with room for the cue that is next; none if it is refused.
 pub fn next_cue(
     terms: Terms<'_>,
     picks: &[u8],
     store: &mut [i32],
     state: &mut [u64],
     at: CuePlace,
-) -> CuePlace
+) -> Option<CuePlace>
     requires { (length state.old ≡ 64) × (at.used ≤ length picks.now) }
-    ensures { result.used ≤ length picks.now }
+    ensures { IfSome result (λ next. next.used ≤ length picks.now) }
 {
     let mut cues = [0u32; 1];
     let room = if at.due { 1 } else { 0 };
     let left = &picks[at.used..];
-    let d = step_within(terms, store, state, left, &mut cues[..room]);
-    CuePlace {
+    let d = step_within(terms, store, state, left, &mut cues[..room]).ok()?;
+    Some(CuePlace {
         used: at.used + d.used.min(left.len()),
         did: (d.cues > 0).then_some(cues[0]),
         due: d.status == live_state::FULL,
         row: d.row,
         tick: d.all_ticks,
         on: goes_on(terms.allowed, d, state),
-    }
+    })
 }
 
 // Prints the cues of a run that has been started. A proved loop has to end: it counts its turns up to a number that no run reaches.
@@ -81,7 +81,9 @@ fn list_cues(
 {
     let mut at = BEFORE_CUES;
     for _ in 0..u64::MAX {
-        let next = next_cue(terms, picks, store, state, at);
+        let Some(next) = next_cue(terms, picks, store, state, at) else {
+            break;
+        };
         if let Some(number) = next.did {
             print_cue(host, number, at.row, at.tick)?;
         }
@@ -96,7 +98,7 @@ fn list_cues(
 // Prints the cues that a run from a store does, in order; nothing of one that is refused.
 pub fn print_cues(host: &impl Host, terms: Terms<'_>, picks: &[u8], store: Store) {
     let mut after = store;
-    if let Some(mut state) = started(terms, store.as_slice()) {
+    if let Ok(mut state) = started(terms, store.as_slice()) {
         let _ = list_cues(
             host,
             terms,

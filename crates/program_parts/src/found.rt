@@ -30,7 +30,7 @@ fn draw_picks(terms: Terms<'_>, seed: u64, store: &mut [i32], picks: &mut [u8]) 
 {
     put_drawn(seed, picks);
     let mut scratch = [0u32; SCRATCH];
-    let o = loader::run(
+    let answer = loader::run(
         terms.file,
         terms.prices,
         &mut scratch,
@@ -38,7 +38,10 @@ fn draw_picks(terms: Terms<'_>, seed: u64, store: &mut [i32], picks: &mut [u8]) 
         picks,
         terms.allowed,
     );
-    o.used.min(picks.len())
+    match answer {
+        Ok(o) => o.used.min(picks.len()),
+        Err(_) => 0,
+    }
 }
 
 // Finds the picks of a run from a store, and prints them; of a run that is refused there are none. A word of them stands in picks already.
@@ -54,7 +57,7 @@ pub fn find_picks(
     if let PicksBy::Word = by {
         return picks.len();
     }
-    let Some(mut state) = started(terms, store.as_slice()) else {
+    let Ok(mut state) = started(terms, store.as_slice()) else {
         return 0;
     };
     let mut after = store;

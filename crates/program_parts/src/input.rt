@@ -1,10 +1,14 @@
 // What is read of standard input and of files.
+ghost use Rattle.std.specs.Prelude.{◌≤◌, length, IfSome, MatchResult};
+
 use host::Host;
 use std::io;
 use std::io::Read;
 
 // Reads until the buffer is full or the input ends; an error holds what was read before a read failed.
-pub fn read_all<'a>(from: &mut impl Read, buffer: &'a mut [u8]) -> Result<&'a [u8], &'a [u8]> {
+pub fn read_all<'a>(from: &mut impl Read, buffer: &'a mut [u8]) -> Result<&'a [u8], &'a [u8]>
+    ensures { MatchResult result (λ all. length all.now ≤ length buffer.old) (λ some. length some.now ≤ length buffer.old) }
+{
     let mut at = 0;
     while at < buffer.len() {
         match from.read(&mut buffer[at..]) {
@@ -17,7 +21,9 @@ pub fn read_all<'a>(from: &mut impl Read, buffer: &'a mut [u8]) -> Result<&'a [u
 }
 
 // Reads the file of that name; none if it cannot be opened, or a read of it fails.
-pub fn read_file<'a>(host: &impl Host, path: &[u8], buffer: &'a mut [u8]) -> Option<&'a [u8]> {
+pub fn read_file<'a>(host: &impl Host, path: &[u8], buffer: &'a mut [u8]) -> Option<&'a [u8]>
+    ensures { IfSome result (λ all. length all.now ≤ length buffer.old) }
+{
     let mut file = host.open(path)?;
     read_all(&mut file, buffer).ok()
 }

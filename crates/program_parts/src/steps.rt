@@ -4,7 +4,7 @@ ghost use Rattle.std.specs.Prelude.{◌≡◌, length};
 use calls_live::{MOST_TICKS, StepDone};
 use live_state::{LEFT, STATE, TICKS};
 use loader::SCRATCH;
-use rules::Verdict;
+use rules::Refusal;
 
 // What a run is made of and with: a file's bytes, the prices, and the ticks that it may take.
 #[derive(Clone, Copy)]
@@ -32,7 +32,7 @@ pub fn step_within(
     state: &mut [u64],
     picks: &[u8],
     cues: &mut [u32],
-) -> StepDone
+) -> Result<StepDone, Refusal>
     requires { length state.old ≡ 64 }
 {
     let mut scratch = [0u32; SCRATCH];
@@ -53,19 +53,13 @@ pub fn step_within(
 pub fn goes_on(allowed: u64, d: StepDone, state: &[u64]) -> bool
     requires { length state.now ≡ 64 }
 {
-    match d.verdict {
-        Verdict::Refused(_, _) => false,
-        Verdict::Passed => {
-            d.status == live_state::FULL
-                || d.status == live_state::GOING && next_ticks(allowed, state) > 0
-        }
-    }
+    d.status == live_state::FULL || d.status == live_state::GOING && next_ticks(allowed, state) > 0
 }
 
-// The state of a live run that is started; none of one that is refused.
-pub fn started(terms: Terms<'_>, store: &[i32]) -> Option<[u64; STATE]> {
+// The state of a live run that is started.
+pub fn started(terms: Terms<'_>, store: &[i32]) -> Result<[u64; STATE], Refusal> {
     let mut scratch = [0u32; SCRATCH];
     let mut state = [0u64; STATE];
-    let start = loader::start(terms.file, terms.prices, &mut scratch, store, &mut state);
-    matches!(start.verdict, Verdict::Passed).then_some(state)
+    loader::start(terms.file, terms.prices, &mut scratch, store, &mut state)?;
+    Ok(state)
 }
