@@ -28,7 +28,16 @@ struct Listing {
     came: Came,
 }
 
-// Reads a block of standard input. After 65 lines there is no need of more.
+// What came of a read of so many bytes. After 65 lines there is no need of more.
+fn came_of(n: usize, line: usize) -> Came {
+    if n > 0 && line < LINES {
+        Came::More
+    } else {
+        Came::End
+    }
+}
+
+// Reads a block of standard input.
 fn read_block(
     host: &impl Host,
     line: usize,
@@ -45,12 +54,10 @@ fn read_block(
         };
     };
     let next = season_sheet::names::push_all(line, &block[..n], names, lengths);
-    let came = if n > 0 && next < LINES {
-        Came::More
-    } else {
-        Came::End
-    };
-    Listing { line: next, came }
+    Listing {
+        line: next,
+        came: came_of(n, next),
+    }
 }
 
 // Reads the names. A proved loop has to end, and nothing says that standard input does: the loop counts its turns up to a number that no
@@ -134,13 +141,7 @@ fn print_figures(host: &impl Host, file: &[u8]) {
 }
 
 // Prints the line of name k: the name, and its file's ticks or refusal, or that it cannot be read.
-fn print_line(
-    host: &impl Host,
-    k: usize,
-    names: &[u8],
-    lengths: &[usize; 66],
-    file: Option<&[u8]>,
-)
+fn print_line(host: &impl Host, k: usize, names: &[u8], lengths: &[usize; 66], file: Option<&[u8]>)
     requires { (k < 64) × (length names.now ≡ 16_640) }
 {
     let from = k * LINE;
@@ -205,13 +206,7 @@ fn print_no_sheet(host: &impl Host) {
 }
 
 // Prints the sheet of the names that are kept, if no read of them failed.
-fn print_season(
-    host: &impl Host,
-    list: Listing,
-    names: &[u8],
-    lengths: &[usize; 66],
-    listing: bool,
-)
+fn print_season(host: &impl Host, list: Listing, names: &[u8], lengths: &[usize; 66], listing: bool)
     requires { length names.now ≡ 16_640 }
 {
     let count = season_sheet::names::count(list.line, lengths);
@@ -261,8 +256,12 @@ fn from_input(host: &impl Host, listing: bool) {
 
 fn help(host: &impl Host) {
     println!(host; "season [files] [FILE ..]");
-    println!(host; "prints one sheet for up to 64 scripts: how many are accepted and refused, their ticks and groups");
-    println!(host; "their names are arguments, or stand on standard input, one a line; a file called files is ./files");
+    println!(host;
+        "prints one sheet for up to 64 scripts: how many are accepted and refused, their ticks and groups"
+    );
+    println!(host;
+        "their names are arguments, or stand on standard input, one a line; a file called files is ./files"
+    );
     println!(host; "files: first a line for each name, with its ticks, its refusal or unreadable");
     println!(host; "example: season files examples/rain.eff examples/stuck.eff");
 }
