@@ -11,13 +11,13 @@ use Rattle.rules.specs.Report.{decimal, joined, ticks_key, newline, gap}
 use Rattle.rules.specs.Calls.{over}
 use Rattle.rules.specs.declared.Ending.TheVariants.{Ended, Spent, NoPick}
 use Rattle.rules.specs.declared.Ending.{Ending}
-use Rattle.rules.specs.Verdicts.{Verdict}
-use Rattle.rules.specs.Verdicts.{passed as Passed}
+use Rattle.rules.specs.declared.Refusal.{Refusal}
+use Rattle.std.specs.Prelude.{Result, Ok, Err, IfOk}
 use Rattle.rules_live.specs.LiveCalls.{StepReply, stepped, cues_stepped}
 use Rattle.calls_live.specs.declared.StepDone.{StepDone}
 use Rattle.calls_live.specs.Told.{SteppedAs}
 use Rattle.answer_text.specs.Texts.{used_key, listed}
-use Rattle.answer_text.specs.Steps.{frame_key, all_key, cues_key, going_word, waits_word, full_word, ended_word, range_word, status_word, cue_text, step_front, step_text_by, ending_of}
+use Rattle.answer_text.specs.Steps.{frame_key, all_key, cues_key, going_word, waits_word, full_word, ended_word, range_word, status_word, cue_text, step_front, ending_of}
 
 -- ---- the word of a status, by the tests of the code
 pub going_word_lem : (s : ℕ) → s ≡ 0 → going_word ≡ status_word s
@@ -59,16 +59,13 @@ unfolding step_front joined
 step_front_lem frame d =
     eight frame_key (decimal frame) (status_word d.status) (decimal d.row) ((gap ++ ticks_key) ++ decimal d.ticks) ((gap ++ all_key) ++ decimal d.all_ticks) ((gap ++ used_key) ++ decimal d.used) (gap ++ cues_key)
 
-pub step_passed : (v : Verdict) (frame : ℕ) (d : StepDone) (cues : List ℕ) → v ≡ Passed → step_front frame d ++ (listed cue_text true (take d.cues cues) ++ newline) ≡ step_text_by v frame d cues
-unfolding step_text_by
-step_passed v frame d cues e = rw e refl
-
 -- a step fires no more cues than its list has places
-pub few_cues : (reply : StepReply) (store store' : List ℤ) (state state' cues cues' : List ℕ) (d : StepDone) → SteppedAs reply store store' state state' cues cues' d → length cues' ≡ length cues → d.cues ≤ length cues
+pub few_cues : (reply : StepReply) (store store' : List ℤ) (state state' cues cues' : List ℕ) (r : Result StepDone Refusal) → SteppedAs reply store store' state state' cues cues' r → length cues' ≡ length cues → IfOk r (λ (d : StepDone). d.cues ≤ length cues)
 unfolding cues_stepped over
-few_cues (stepped a s t) store store' state state' cues cues' d h l =
+few_cues (stepped a s t) store store' state state' cues cues' (Ok d) h l =
     omega (arith, h.told.cues, l, ap length h.new_cues, length-append a.cues (drop (length a.cues) cues))
-few_cues (StepReply.refuses q p) store store' state state' cues cues' d h l = omega (arith, h.told.cues)
+few_cues (StepReply.refuses q p) store store' state state' cues cues' (Ok d) h l = absurd h.told
+few_cues reply store store' state state' cues cues' (Err r) h l = tt
 
 -- ---- how a run ends that is cut off
 pub ending_ended : (s : ℕ) → s ≡ 3 → Ended ≡ ending_of s

@@ -1,9 +1,8 @@
 -- What is printed of a live run: of a step `frame=N WORD ROW ticks=T all=A used=U cues=N,N,..`, of a cue `cue=N ROW TICK`, and the answer so far.
-use Rattle.std.specs.Prelude.{Bool, true, cond, List, [], ◌∷◌, ◌++◌, ℕ, eqb, take}
+use Rattle.std.specs.Prelude.{Result, Ok, Err, Bool, true, cond, List, [], ◌∷◌, ◌++◌, ℕ, eqb, take}
 use Rattle.rules.specs.declared.Ending.{Ending}
 use Rattle.rules.specs.declared.Ending.TheVariants.{Ended, Spent, NoPick}
-use Rattle.rules.specs.Verdicts.{Verdict}
-use Rattle.rules.specs.Verdicts.{passed as Passed, refused as Refused}
+use Rattle.rules.specs.declared.Refusal.{Refusal}
 use Rattle.rules.specs.Report.{decimal, joined, ticks_key, newline, gap}
 use Rattle.rules_season.specs.Season.{refusal_text}
 use Rattle.calls.specs.declared.Outcome.{Outcome}
@@ -59,14 +58,10 @@ unfoldable pub step_front : ℕ → StepDone → List ℕ
 step_front frame d =
     joined (frame_key ∷ decimal frame ∷ status_word d.status ∷ decimal d.row ∷ gap ∷ ticks_key ∷ decimal d.ticks ∷ gap ∷ all_key ∷ decimal d.all_ticks ∷ gap ∷ used_key ∷ decimal d.used ∷ gap ∷ cues_key ∷ [])
 
--- by its verdict, d what the step answered and cues the list after it
-unfoldable pub step_text_by : Verdict → ℕ → StepDone → List ℕ → List ℕ
-step_text_by Passed frame d cues = step_front frame d ++ (listed cue_text true (take d.cues cues) ++ newline)
-step_text_by (Refused q p) frame d cues = refusal_text q p
-
--- the line of a step, the frame-th, or its refusal
-abbrev pub step_text : ℕ → StepDone → List ℕ → List ℕ
-step_text frame d cues = step_text_by d.verdict frame d cues
+-- the line of a step, the frame-th, by what it answers and the list of cues after it; or its refusal
+unfoldable pub step_text : ℕ → Result StepDone Refusal → List ℕ → List ℕ
+step_text frame (Ok d) cues = step_front frame d ++ (listed cue_text true (take d.cues cues) ++ newline)
+step_text frame (Err r) cues = refusal_text r.number r.place
 
 -- `cue=N ROW TICK`
 abbrev pub cue_line : ℕ → ℕ → ℕ → List ℕ
@@ -79,7 +74,6 @@ ending_of s = cond (eqb s 3) Ended (cond (eqb s 4) Ending.Range (cond (eqb s 1) 
 -- its answer
 abbrev pub so_far : StepDone → Outcome
 so_far d = record {
-  verdict = d.verdict;
   ending = ending_of d.status;
   row = d.row;
   ticks = d.all_ticks;

@@ -1,13 +1,12 @@
 -- What is printed of a run's answer: `ending=WORD ROW`, `ticks=`, `used=`, `store=` and the values, and a line `loop=ROW ALL MOST` for each loop.
-use Rattle.std.specs.Prelude.{Bool, true, false, cond, List, [], ◌∷◌, ◌++◌, ℕ, ℤ, length, take}
+use Rattle.std.specs.Prelude.{Result, Ok, Err, Bool, true, false, cond, List, [], ◌∷◌, ◌++◌, ℕ, ℤ, length, take}
 use Rattle.rules.specs.declared.Ending.{Ending}
 use Rattle.rules.specs.declared.Ending.TheVariants.{Ended, Spent, NoPick}
 use Rattle.rules.specs.declared.LoopCount.{LoopCount}
 use Rattle.rules.specs.Report.{decimal, sign, size, joined, loop_key, ticks_key, newline, gap}
 use Rattle.rules.specs.Answers.{store_list}
 use Rattle.rules.specs.Calls.{RunReply, ran, refuses}
-use Rattle.rules.specs.Verdicts.{Verdict}
-use Rattle.rules.specs.Verdicts.{passed as Passed, refused as Refused}
+use Rattle.rules.specs.declared.Refusal.{Refusal}
 use Rattle.rules_season.specs.Season.{refusal_text}
 use Rattle.calls.specs.declared.Outcome.{Outcome}
 
@@ -69,11 +68,7 @@ unfoldable pub reply_text : RunReply → List ℤ → List ℕ
 reply_text (ran a counts) old = run_text a.ending a.row a.ticks a.used (store_list (length old) a.store) counts
 reply_text (refuses q p) old = refusal_text q p
 
--- the same from an outcome in code, of the store after the call
-unfoldable pub verdict_text : Verdict → Outcome → List ℤ → List ℕ
-verdict_text Passed o store = run_text o.ending o.row o.ticks o.used store (take o.loops o.counts)
-verdict_text (Refused q p) o store = refusal_text q p
-
--- by its verdict
-abbrev pub outcome_text : Outcome → List ℤ → List ℕ
-outcome_text o store = verdict_text o.verdict o store
+-- the same from an answer in code, of the store after the call
+unfoldable pub outcome_text : Result Outcome Refusal → List ℤ → List ℕ
+outcome_text (Ok o) store = run_text o.ending o.row o.ticks o.used store (take o.loops o.counts)
+outcome_text (Err r) store = refusal_text r.number r.place

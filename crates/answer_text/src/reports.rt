@@ -5,18 +5,18 @@ ghost use Rattle.report.specs.Pieces.{Wrote};
 ghost use Rattle.answer_text.specs.Printed.{PrintedIn, printed};
 
 use loader::{REPORT, SCRATCH};
-use rules::Reply;
+use rules::Refusal;
 
 // How many bytes hold every report and every refusal.
 pub const TEXT: usize = REPORT;
 
 // Writes a refusal.
-pub fn put_refusal(number: u32, place: usize, out: &mut [u8]) -> usize
+pub fn put_refusal(refusal: Refusal, out: &mut [u8]) -> usize
     requires { 50 ≤ length out.old }
-    ensures { Wrote (refusal_text number place) out.old out.new result }
+    ensures { Wrote (refusal_text refusal.number refusal.place) out.old out.new result }
 {
-    let at = report::pieces::put_number(b"refused=", number as u64, out);
-    at + report::pieces::put_entry(b" ", place as u64, &mut out[at..])
+    let at = report::pieces::put_number(b"refused=", refusal.number as u64, out);
+    at + report::pieces::put_entry(b" ", refusal.place as u64, &mut out[at..])
 }
 
 // Writes the report of a file under prices, or its refusal.
@@ -25,9 +25,8 @@ pub fn put_report(file: &[u8], prices: &[u32], out: &mut [u8]) -> usize
     ensures { PrintedIn (printed prices.now file.now) out.old out.new result }
 {
     let mut scratch = [0u32; SCRATCH];
-    let reply = loader::report(file, prices, &mut scratch, out);
-    match reply {
-        Reply::Accepted(length) => length,
-        Reply::Refused(number, place) => put_refusal(number, place, out),
+    match loader::report(file, prices, &mut scratch, out) {
+        Ok(length) => length,
+        Err(refusal) => put_refusal(refusal, out),
     }
 }

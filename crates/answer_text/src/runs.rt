@@ -1,7 +1,7 @@
 // What a program prints of a run's answer, written into a lent buffer: how it ended, its ticks, the picks it used, its store and the
 // turns of its loops; or its refusal. The same of a live run: a step, a cue, and the answer so far.
 
-ghost use Rattle.std.specs.Prelude.{◌≡◌, ◌++◌, ◌+◌, ◌*◌, ◌≤◌, eqb, length, take};
+ghost use Rattle.std.specs.Prelude.{◌≡◌, ◌++◌, ◌+◌, ◌*◌, ◌≤◌, length, take, IfOk};
 ghost use Rattle.rules.specs.Report.{decimal, newline};
 ghost use Rattle.rules.specs.Calls.{scratch_size, judged, run_reply};
 ghost use Rattle.report.specs.Pieces.{Wrote};
@@ -11,7 +11,7 @@ ghost use Rattle.answer_text.specs.Adding.{Adds};
 
 use calls::Outcome;
 use loader::SCRATCH;
-use rules::{Ending, LoopCount, Verdict};
+use rules::{Ending, LoopCount, Refusal};
 
 // How many bytes hold every answer of a run whose store has at most 17 numbers.
 pub const TEXT: usize = 2_048;
@@ -51,24 +51,14 @@ fn add_value(first: bool, v: i32, at: usize, out: &mut [u8]) -> usize
     add_number(b" ", n, at, out)
 }
 
-// Is this the first one?
-pub fn is_first(i: usize) -> bool
-    ensures { result ≡ eqb i 0 }
-{
-    i == 0
-}
-
 // Writes the values of a store, one space between two.
 fn add_values(store: &[i32], at: usize, out: &mut [u8]) -> usize
     requires { (length store.now ≤ 17) × (at + 374 ≤ length out.old) }
     ensures { Adds (values_text store.now) at out.old out.new result × (result ≤ at + 374) }
 {
     let mut end = at;
-    let mut i: usize = 0;
-    while i < store.len() {
-        let first = is_first(i);
-        end = add_value(first, store[i], end, out);
-        i += 1;
+    for (i, value) in store.iter().enumerate() {
+        end = add_value(i == 0, *value, end, out);
     }
     end
 }
@@ -98,11 +88,8 @@ fn add_counts(counts: [LoopCount; 16], loops: usize, at: usize, out: &mut [u8]) 
     ensures { Adds (count_texts (take loops counts)) at out.old out.new result × (result ≤ at + 1_088) }
 {
     let mut end = at;
-    let mut i: usize = 0;
-    while i < loops {
-        let count = counts[i];
-        end = add_count(count, end, out);
-        i += 1;
+    for i in 0..loops {
+        end = add_count(counts[i], end, out);
     }
     end
 }
@@ -146,23 +133,20 @@ fn put_run(o: Outcome, store: &[i32], out: &mut [u8]) -> usize
     ensures { Wrote (run_text o.ending o.row o.ticks o.used store.now (take o.loops o.counts))
         out.old out.new result × (result ≤ 2_048) }
 {
-    let ending = o.ending;
-    let counts = o.counts;
-    let a = add_front(ending, o.row, o.ticks, o.used, out);
+    let a = add_front(o.ending, o.row, o.ticks, o.used, out);
     let b = add_values(store, a, out);
     let c = end_line(b, out);
-    add_counts(counts, o.loops, c, out)
+    add_counts(o.counts, o.loops, c, out)
 }
 
 // Writes what a run call answers, the store as the call left it: the run, or its refusal.
-pub fn put_outcome(o: Outcome, store: &[i32], out: &mut [u8]) -> usize
-    requires { (o.loops ≤ 16) × (length store.now ≤ 17) × (length out.old ≡ 2_048) }
-    ensures { Wrote (outcome_text o store.now) out.old out.new result × (result ≤ 2_048) }
+pub fn put_outcome(answer: Result<Outcome, Refusal>, store: &[i32], out: &mut [u8]) -> usize
+    requires { IfOk answer (λ o. o.loops ≤ 16) × (length store.now ≤ 17) × (length out.old ≡ 2_048) }
+    ensures { Wrote (outcome_text answer store.now) out.old out.new result × (result ≤ 2_048) }
 {
-    let verdict = o.verdict;
-    match verdict {
-        Verdict::Passed => put_run(o, store, out),
-        Verdict::Refused(number, place) => crate::reports::put_refusal(number, place, out),
+    match answer {
+        Ok(o) => put_run(o, store, out),
+        Err(refusal) => crate::reports::put_refusal(refusal, out),
     }
 }
 
@@ -181,6 +165,6 @@ pub fn put_answer(
         out.old out.new result × (result ≤ 2_048) }
 {
     let mut scratch = [0u32; SCRATCH];
-    let o = loader::run(file, prices, &mut scratch, store, picks, allowance);
-    put_outcome(o, &store[..], out)
+    let answer = loader::run(file, prices, &mut scratch, store, picks, allowance);
+    put_outcome(answer, store, out)
 }

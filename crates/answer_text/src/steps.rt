@@ -1,15 +1,15 @@
 // What a program prints of a live run, written into a lent buffer: the line of a step, that of a cue, and the answer so far.
-ghost use Rattle.std.specs.Prelude.{◌≡◌, true, ◌++◌, ◌+◌, ◌≤◌, length};
+ghost use Rattle.std.specs.Prelude.{◌≡◌, true, ◌++◌, ◌+◌, ◌≤◌, length, IfOk};
 ghost use Rattle.rules.specs.Report.{decimal, newline};
 ghost use Rattle.report.specs.Pieces.{Wrote};
 ghost use Rattle.answer_text.specs.Texts.{listed};
 ghost use Rattle.answer_text.specs.Adding.{Adds};
 ghost use Rattle.answer_text.specs.Steps.{status_word, cue_text, step_front, step_text, cue_line, ending_of, so_far};
 
-use crate::runs::{add_number, add_text, add_three, end_line, is_first};
+use crate::runs::{add_number, add_text, add_three, end_line};
 use calls::Outcome;
 use calls_live::StepDone;
-use rules::{Ending, Verdict};
+use rules::{Ending, Refusal};
 
 // How many cues a printed step has at most.
 pub const CUES: usize = 1_024;
@@ -57,11 +57,8 @@ fn add_cues(cues: &[u32], at: usize, out: &mut [u8]) -> usize
     ensures { Adds (listed cue_text true cues.now) at out.old out.new result × (result ≤ at + 21_504) }
 {
     let mut end = at;
-    let mut i: usize = 0;
-    while i < cues.len() {
-        let first = is_first(i);
-        end = add_cue(first, cues[i], end, out);
-        i += 1;
+    for (i, cue) in cues.iter().enumerate() {
+        end = add_cue(i == 0, *cue, end, out);
     }
     end
 }
@@ -91,15 +88,18 @@ fn put_done(frame: u64, d: StepDone, cues: &[u32], out: &mut [u8]) -> usize
 }
 
 // Writes the line of a step, the frame-th, by its answer and the list of cues after it; or its refusal.
-pub fn put_step(frame: u64, d: StepDone, cues: &[u32], out: &mut [u8]) -> usize
-    requires { (d.cues ≤ length cues.now) × (length cues.now ≤ 1_024) × (length out.old ≡ 21_700) }
-    ensures { Wrote (step_text frame d cues.now) out.old out.new result × (result ≤ 21_700) }
+pub fn put_step(
+    frame: u64,
+    answer: Result<StepDone, Refusal>,
+    cues: &[u32],
+    out: &mut [u8],
+) -> usize
+    requires { IfOk answer (λ d. d.cues ≤ length cues.now) × (length cues.now ≤ 1_024) × (length out.old ≡ 21_700) }
+    ensures { Wrote (step_text frame answer cues.now) out.old out.new result × (result ≤ 21_700) }
 {
-    let verdict = d.verdict;
-    let n = d.cues;
-    match verdict {
-        Verdict::Passed => put_done(frame, d, &cues[..n], out),
-        Verdict::Refused(number, place) => crate::reports::put_refusal(number, place, out),
+    match answer {
+        Ok(d) => put_done(frame, d, &cues[..d.cues], out),
+        Err(refusal) => crate::reports::put_refusal(refusal, out),
     }
 }
 
@@ -131,16 +131,13 @@ fn ending_of(status: u64) -> Ending
 pub fn so_far(d: StepDone) -> Outcome
     ensures { result ≡ so_far d }
 {
-    let verdict = d.verdict;
     let counts = d.counts;
-    let ending = ending_of(d.status);
     Outcome {
-        verdict: verdict,
-        ending: ending,
+        ending: ending_of(d.status),
         row: d.row,
         ticks: d.all_ticks,
         used: d.all_used as usize,
         loops: d.loops,
-        counts: counts,
+        counts,
     }
 }

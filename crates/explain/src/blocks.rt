@@ -1,10 +1,6 @@
 // The blocks that are open before a line, by the lines of the file.
-use crate::marked::{print_file_line, span_of};
+use crate::marked::{line_at, print_file_line};
 use host::Host;
-use ints::min_max::smaller_size;
-use program_parts::{print_number, print_text};
-use program_words::is_word;
-use reading::text::starts_with;
 
 // The lines, from 0, that begin the open blocks; a file that has come so far has at most 8.
 #[derive(Clone, Copy)]
@@ -15,19 +11,11 @@ struct Heads {
 
 // Does a row begin a block?
 fn opens(line: &[u8]) -> bool {
-    if is_word(line, b"row=pick") {
-        return true;
-    }
-    if starts_with(line, b"row=for ") {
-        return true;
-    }
-    if starts_with(line, b"row=while ") {
-        return true;
-    }
-    if starts_with(line, b"row=do ") {
-        return true;
-    }
-    starts_with(line, b"row=hold ")
+    line == b"row=pick".as_slice()
+        || line.starts_with(b"row=for ")
+        || line.starts_with(b"row=while ")
+        || line.starts_with(b"row=do ")
+        || line.starts_with(b"row=hold ")
 }
 
 // The open blocks after line k.
@@ -43,7 +31,7 @@ fn after(heads: Heads, line: &[u8], k: usize) -> Heads {
             };
         }
     }
-    if is_word(line, b"row=end") {
+    if line == b"row=end".as_slice() {
         if depth > 0 {
             return Heads {
                 lines,
@@ -54,48 +42,30 @@ fn after(heads: Heads, line: &[u8], k: usize) -> Heads {
     Heads { lines, depth }
 }
 
-// Those after line k of a file, if it is there.
-fn after_line(heads: Heads, file: &[u8], k: usize) -> Heads {
-    let line = span_of(file, k);
-    let start = line.start;
-    let end = line.end;
-    after(heads, &file[start..end], k)
-}
-
-// The line that begins the innermost block that is open before line `place`, or `place` where none is open.
-fn head_before(file: &[u8], first: usize, place: usize) -> usize {
-    let none: [usize; 8] = [0; 8];
+// The line that begins the innermost block that is open before line `place`, if one is open.
+fn head_before(file: &[u8], first: usize, place: usize) -> Option<usize> {
     let mut heads = Heads {
-        lines: none,
+        lines: [0; 8],
         depth: 0,
     };
-    let mut k = first;
-    while k < place {
-        let next = after_line(heads, file, k);
-        heads = next;
-        k += 1;
+    for k in first..place {
+        heads = after(heads, line_at(file, k), k);
     }
-    let depth = heads.depth;
-    let lines = heads.lines;
-    if depth == 0 {
-        return place;
-    }
-    if depth <= 8 { lines[depth - 1] } else { place }
+    let open = heads.depth.checked_sub(1)?;
+    heads.lines.get(open).copied()
 }
 
 // The block that is open before line `place`, from 1, of a file of V variables.
 pub fn print_open(host: &impl Host, file: &[u8], vars: u32, place: usize) {
-    let last = place - smaller_size(place, 1);
-    let head = head_before(file, 3 + vars as usize, last);
-    if head >= last {
-        print_text(host, b"  no block is open before this line\n");
-        return;
+    let last = place - place.min(1);
+    match head_before(file, 3 + vars as usize, last) {
+        Some(head) if head < last => {
+            println!(host;
+                "  the innermost block that is open before this line begins on line {}",
+                head + 1
+            );
+            print_file_line(host, file, head);
+        }
+        _ => println!(host; "  no block is open before this line"),
     }
-    print_text(
-        host,
-        b"  the innermost block that is open before this line begins on line ",
-    );
-    print_number(host, (head + 1) as u64);
-    print_text(host, b"\n");
-    print_file_line(host, file, head);
 }

@@ -3,175 +3,124 @@ ghost use Rattle.std.specs.Prelude.{◌≤◌, length};
 
 use crate::marked::print_marked;
 use host::Host;
-use ints::min_max::smaller_size;
-use line_causes::{Fault, LineKind, agree, cause_of};
-use program_parts::print_text;
-use reading::text::position;
+use line_causes::{Cause, Fault, LineKind, Wanted, agree, cause_of};
 
-// What is wanted, by its letter.
-fn print_wanted(host: &impl Host, wants: u8) {
-    match wants {
-        line_causes::NAME => print_text(
-            host,
-            b"the name of a row: set, add, sub, mul, div, cue, off, pick, else, end, while, do, for or hold",
-        ),
-        line_causes::NUMBER => print_text(host, b"a number"),
-        line_causes::ONE => print_text(host, b"the number 1"),
-        line_causes::VARIABLE => print_text(host, b"a variable, v and its number"),
-        line_causes::COMPARES => print_text(host, b"a comparison: < <= > >= == or !="),
-        line_causes::ORDERED => print_text(host, b"one of < <= > >="),
-        line_causes::EXPRESSION => print_text(
-            host,
-            b"a number, a variable or an expression without spaces",
-        ),
-        line_causes::STEP => print_text(host, b"a step: add, sub, mul or div"),
-        _ => print_text(host, b"nothing more"),
-    }
+// What is wanted.
+fn print_wanted(host: &impl Host, wants: Wanted) {
+    let what = match wants {
+        Wanted::Name => {
+            "the name of a row: set, add, sub, mul, div, cue, off, pick, else, end, while, do, for or hold"
+        }
+        Wanted::Number => "a number",
+        Wanted::One => "the number 1",
+        Wanted::Variable => "a variable, v and its number",
+        Wanted::Comparison => "a comparison: < <= > >= == or !=",
+        Wanted::Ordered => "one of < <= > >=",
+        Wanted::Expression => "a number, a variable or an expression without spaces",
+        Wanted::Step => "a step: add, sub, mul or div",
+        Wanted::Known | Wanted::Nothing => "nothing more",
+    };
+    println!(host; "{what}");
 }
 
 // How many bytes two words have in common at their fronts and, of what is left, at their ends.
 fn common(word: &[u8], name: &[u8]) -> usize
     ensures { result ≤ length name.now }
 {
-    let most = smaller_size(word.len(), name.len());
-    let front = smaller_size(agree(name, word), most);
-    let left = most - front;
-    let mut k: usize = 0;
-    while k < left {
+    let most = word.len().min(name.len());
+    let front = agree(name, word).min(most);
+    for k in 0..most - front {
         if word[word.len() - 1 - k] != name[name.len() - 1 - k] {
-            break;
+            return front + k;
         }
-        k += 1;
     }
-    front + k
+    most
 }
 
 // Is a name near a word: do they differ by a byte, or by two of a longer name?
 fn is_near(word: &[u8], name: &[u8]) -> bool {
     let left = name.len() - common(word, name);
-    if name.len() < word.len() {
-        if word.len() - name.len() > 1 {
-            return false;
-        }
-    }
-    if left <= 1 {
-        return true;
-    }
-    if name.len() > 3 {
-        return left == 2;
-    }
-    false
+    let most = if name.len() > 3 { 2 } else { 1 };
+    word.len() <= name.len() + 1 && left <= most
 }
 
-fn print_if_near(host: &impl Host, word: &[u8], name: &[u8]) {
-    if is_near(word, name) {
-        print_text(host, b"  a name near it is ");
-        print_text(host, name);
-        print_text(host, b"\n");
-    }
-}
-
-// The names of rows that are near a word.
-fn print_near(host: &impl Host, word: &[u8]) {
-    print_if_near(host, word, b"set");
-    print_if_near(host, word, b"add");
-    print_if_near(host, word, b"sub");
-    print_if_near(host, word, b"mul");
-    print_if_near(host, word, b"div");
-    print_if_near(host, word, b"cue");
-    print_if_near(host, word, b"off");
-    print_if_near(host, word, b"pick");
-    print_if_near(host, word, b"else");
-    print_if_near(host, word, b"end");
-    print_if_near(host, word, b"while");
-    print_if_near(host, word, b"do");
-    print_if_near(host, word, b"for");
-    print_if_near(host, word, b"hold");
-}
+// The names of rows.
+const NAMES: [&str; 14] = [
+    "set", "add", "sub", "mul", "div", "cue", "off", "pick", "else", "end", "while", "do", "for",
+    "hold",
+];
 
 // Those that are near the word at the front of a text.
-fn print_word_near(host: &impl Host, text: &[u8]) {
-    let end = smaller_size(position(text, b' '), text.len());
-    print_near(host, &text[0..end]);
+fn print_near(host: &impl Host, text: &[u8]) {
+    let word = text.split(|b| *b == b' ').next().unwrap_or(text);
+    for name in NAMES {
+        if is_near(word, name.as_bytes()) {
+            println!(host; "  a name near it is {name}");
+        }
+    }
 }
 
 // A word that is not the one that is wanted.
-fn print_other(host: &impl Host, line: &[u8], wants: u8, at: usize) {
-    if wants != line_causes::NAME {
-        print_text(host, b"  another word stands here; wanted is\n  ");
+fn print_other(host: &impl Host, line: &[u8], wants: Wanted, at: usize) {
+    if wants != Wanted::Name {
+        print!(host; "  another word stands here; wanted is\n  ");
         print_wanted(host, wants);
-        print_text(host, b"\n");
         return;
     }
-    print_text(host, b"  an unknown word; wanted is\n  ");
+    print!(host; "  an unknown word; wanted is\n  ");
     print_wanted(host, wants);
-    print_text(host, b"\n");
     if at < line.len() {
-        print_word_near(host, &line[at..]);
+        print_near(host, &line[at..]);
     }
 }
 
 // The key that a line is to have.
-fn print_key(host: &impl Host, kind: LineKind) {
+fn key_of(kind: LineKind) -> &'static str {
     match kind {
-        LineKind::Script => print_text(host, b"script="),
-        LineKind::Vars => print_text(host, b"vars="),
-        LineKind::Range => print_text(host, b"range="),
-        LineKind::Rows => print_text(host, b"rows="),
-        LineKind::Row => print_text(host, b"row="),
+        LineKind::Script => "script=",
+        LineKind::Vars => "vars=",
+        LineKind::Range => "range=",
+        LineKind::Rows => "rows=",
+        LineKind::Row => "row=",
     }
 }
 
 // A fault of spaces and bytes.
 fn print_byte_fault(host: &impl Host, fault: Fault) {
     match fault {
-        Fault::Empty => print_text(host, b"  an empty line; a script has none\n"),
-        Fault::Comment => print_text(host, b"  a comment; a script has none\n"),
-        Fault::ByteMark => print_text(host, b"  a byte order mark stands before the first key\n"),
-        Fault::Space => print_text(
-            host,
-            b"  a space too many: one stands between words, none before the key\n",
+        Fault::Empty => println!(host; "  an empty line; a script has none"),
+        Fault::Comment => println!(host; "  a comment; a script has none"),
+        Fault::ByteMark => println!(host; "  a byte order mark stands before the first key"),
+        Fault::Space => println!(host;
+            "  a space too many: one stands between words, none before the key"
         ),
-        Fault::SpaceAtEnd => print_text(host, b"  a space after the last word\n"),
-        Fault::Tab => print_text(host, b"  a tab; one space stands between words\n"),
-        Fault::Return => print_text(
-            host,
-            b"  a carriage return; a line ends in LF alone, not in CR LF\n",
+        Fault::SpaceAtEnd => println!(host; "  a space after the last word"),
+        Fault::Tab => println!(host; "  a tab; one space stands between words"),
+        Fault::Return => println!(host;
+            "  a carriage return; a line ends in LF alone, not in CR LF"
         ),
-        Fault::Foreign => print_text(host, b"  a byte that is not plain ASCII\n"),
-        Fault::NoLineFeed => print_text(
-            host,
-            b"  no LF ends the line; the last line has one too\n",
-        ),
+        Fault::Foreign => println!(host; "  a byte that is not plain ASCII"),
+        Fault::NoLineFeed => println!(host; "  no LF ends the line; the last line has one too"),
         _ => (),
     }
 }
 
 // A fault of words.
-fn print_word_fault(
-    host: &impl Host,
-    kind: LineKind,
-    line: &[u8],
-    fault: Fault,
-    wants: u8,
-    at: usize,
-) {
-    match fault {
+fn print_word_fault(host: &impl Host, kind: LineKind, line: &[u8], cause: Cause) {
+    match cause.fault {
         Fault::Key => {
-            print_text(host, b"  the line is to begin with ");
-            print_key(host, kind);
-            print_text(host, b"\n");
+            let key = key_of(kind);
+            println!(host; "  the line is to begin with {key}");
         }
-        Fault::Plus => print_text(host, b"  a number has no +\n"),
-        Fault::Zero => print_text(host, b"  a number has no leading zero, and 0 no minus\n"),
-        Fault::Other => print_other(host, line, wants, at),
-        Fault::Broken => print_text(host, b"  the expression breaks here\n"),
+        Fault::Plus => println!(host; "  a number has no +"),
+        Fault::Zero => println!(host; "  a number has no leading zero, and 0 no minus"),
+        Fault::Other => print_other(host, line, cause.wants, cause.at),
+        Fault::Broken => println!(host; "  the expression breaks here"),
         Fault::Missing => {
-            print_text(host, b"  a word is missing here; wanted is\n  ");
-            print_wanted(host, wants);
-            print_text(host, b"\n");
+            print!(host; "  a word is missing here; wanted is\n  ");
+            print_wanted(host, cause.wants);
         }
-        Fault::TooMany => print_text(host, b"  a word too many\n"),
+        Fault::TooMany => println!(host; "  a word too many"),
         _ => (),
     }
 }
@@ -179,9 +128,8 @@ fn print_word_fault(
 // The line with its mark, and the cause.
 pub fn print_fault(host: &impl Host, kind: LineKind, line: &[u8], lf: bool) {
     let cause = cause_of(kind, lf, line);
-    let fault = cause.fault;
     print_marked(host, line, cause.at);
-    print_text(host, b"\ncause\n");
-    print_byte_fault(host, fault);
-    print_word_fault(host, kind, line, fault, cause.wants, cause.at);
+    println!(host; "\ncause");
+    print_byte_fault(host, cause.fault);
+    print_word_fault(host, kind, line, cause);
 }

@@ -4,21 +4,15 @@ ghost use Rattle.std.specs.Prelude.{◌+◌, ◌*◌, ◌≤◌, ◌<◌, length
 use crate::terms::{Deed, first_row};
 use expressions::leaves::digits_at;
 use host::Host;
-use ints::min_max::smaller_size;
-use program_parts::{print_number, print_text};
 use rules::{Comparison, Kind, Operand};
 use table::{kind_at, operand_at, watched_at};
 
 // Does an expression name v?
 fn names_in(word: &[u8], v: u8) -> bool {
-    let mut i: usize = 0;
-    while i < word.len() {
-        if word[i] == b'v' {
-            if digits_at(word, i + 1).value == v as u32 {
-                return true;
-            }
+    for i in 0..word.len() {
+        if word[i] == b'v' && digits_at(word, i + 1).value == v as u32 {
+            return true;
         }
-        i += 1;
     }
     false
 }
@@ -29,8 +23,8 @@ fn names(file: &[u8], x: Operand, v: u8) -> bool {
         Operand::Constant(_) => false,
         Operand::Variable(w) => w == v,
         Operand::Expression(at, n) => {
-            let from = smaller_size(at as usize, file.len());
-            let to = from + smaller_size(n as usize, file.len() - from);
+            let from = (at as usize).min(file.len());
+            let to = from + (n as usize).min(file.len() - from);
             names_in(&file[from..to], v)
         }
     }
@@ -40,10 +34,9 @@ fn names(file: &[u8], x: Operand, v: u8) -> bool {
 fn counter(rows: &[u32], from: usize, end: usize, v: u8) -> u8
     requires { 4 * end ≤ length rows.now }
 {
-    let set = first_row(rows, from, end, v, Deed::Sets);
-    if set >= end {
+    let Some(set) = first_row(rows, from, end, v, Deed::Sets) else {
         return v;
-    }
+    };
     match operand_at(rows, set) {
         Operand::Variable(w) => w,
         _ => v,
@@ -54,20 +47,15 @@ fn counter(rows: &[u32], from: usize, end: usize, v: u8) -> u8
 fn watched(rows: &[u32], from: usize, end: usize, flag: u8) -> u8
     requires { 4 * end ≤ length rows.now }
 {
-    let off = first_row(rows, from, end, flag, Deed::Clears);
-    if off >= end {
-        return flag;
+    match first_row(rows, from, end, flag, Deed::Clears) {
+        Some(off) => watched_at(rows, off),
+        None => flag,
     }
-    watched_at(rows, off)
 }
 
 // Does a figure grow with the distance from start to limit? That of == and != does not.
 fn is_ordered(c: Comparison) -> bool {
-    match c {
-        Comparison::Equal => false,
-        Comparison::Different => false,
-        _ => true,
-    }
+    !matches!(c, Comparison::Equal | Comparison::Different)
 }
 
 // Is the loop from row `head` to row `end` counted from v?
@@ -75,10 +63,7 @@ fn rests_on(file: &[u8], rows: &[u32], head: usize, end: usize, v: u8) -> bool
     requires { (4 * head + 3 < length rows.now) × (4 * end ≤ length rows.now) }
 {
     match kind_at(rows, head) {
-        Kind::While(w, c, x) => {
-            is_ordered(c) && (counter(rows, head + 1, end, w) == v || names(file, x, v))
-        }
-        Kind::Do(w, c, x) => {
+        Kind::While(w, c, x) | Kind::Do(w, c, x) => {
             is_ordered(c) && (counter(rows, head + 1, end, w) == v || names(file, x, v))
         }
         Kind::For(_, s, c, x, _) => is_ordered(c) && (names(file, s, v) || names(file, x, v)),
@@ -94,13 +79,11 @@ fn is_wide(range: [i32; 2]) -> bool {
 
 // That v is not known, and what helps.
 fn print_variable(host: &impl Host, v: u8, declared: [i32; 2]) {
-    print_text(host, b"        v");
-    print_number(host, v as u64);
-    print_text(host, b" is not known here (-L to L): ");
+    print!(host; "        v{v} is not known here (-L to L): ");
     if is_wide(declared) {
-        print_text(host, b"give it a narrower range= or ");
+        print!(host; "give it a narrower range= or ");
     }
-    print_text(host, b"set it before the loop\n");
+    println!(host; "set it before the loop");
 }
 
 // A line for each variable of the sum of 2^v that the loop is counted from.
@@ -117,10 +100,8 @@ pub fn print_unknown(
 {
     let mut rest = sum;
     for v in 0..16 {
-        if rest % 2 == 1 {
-            if rests_on(file, rows, head, end, v) {
-                print_variable(host, v, ranges[v as usize]);
-            }
+        if rest % 2 == 1 && rests_on(file, rows, head, end, v) {
+            print_variable(host, v, ranges[v as usize]);
         }
         rest /= 2;
     }

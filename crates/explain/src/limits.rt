@@ -2,11 +2,9 @@
 ghost use Rattle.std.specs.Prelude.{◌≤◌, ◌<◌, length};
 
 use crate::marked::print_marked;
-use expressions::leaves::{digits_at, is_digit};
+use expressions::leaves::digits_at;
 use host::Host;
 use line_causes::LineKind;
-use program_parts::{print_number, print_text};
-use reading::text::{position, starts_with};
 
 const L: u32 = 1_000_000_000;
 
@@ -22,34 +20,21 @@ pub struct Limits {
 fn begins(line: &[u8], i: usize, variable: bool) -> bool
     requires { i < length line.now }
 {
-    if !is_digit(line[i]) {
-        return false;
-    }
     if i == 0 {
-        return !variable;
+        return line[i].is_ascii_digit() && !variable;
     }
     let before = line[i - 1];
-    if is_digit(before) {
-        return false;
-    }
-    (before == b'v') == variable
+    line[i].is_ascii_digit() && !before.is_ascii_digit() && (before == b'v') == variable
 }
 
 // Does `-` before byte i belong to the number there?
 fn is_negative(line: &[u8], i: usize) -> bool
     requires { i < length line.now }
 {
-    if i < 2 {
+    if i < 2 || line[i - 1] != b'-' {
         return false;
     }
-    if line[i - 1] != b'-' {
-        return false;
-    }
-    let before = line[i - 2];
-    if is_digit(before) {
-        return false;
-    }
-    before != b')'
+    !matches!(line[i - 2], b'0'..=b'9' | b')')
 }
 
 // Is the number at byte i outside the limits?
@@ -57,29 +42,21 @@ fn is_outside(line: &[u8], i: usize, limits: Limits) -> bool
     requires { i < length line.now }
 {
     let value = digits_at(line, i).value;
-    if value > limits.high {
-        return true;
-    }
     if is_negative(line, i) {
-        return !limits.minus;
+        value > limits.high || !limits.minus
+    } else {
+        value > limits.high || value < limits.low
     }
-    value < limits.low
 }
 
-// The first number from byte `from` on that is outside, or the line's length.
-pub fn first_outside(line: &[u8], from: usize, variable: bool, limits: Limits) -> usize
-    ensures { result ≤ length line.now }
-{
-    let mut i = from;
-    while i < line.len() {
-        if begins(line, i, variable) {
-            if is_outside(line, i, limits) {
-                return i;
-            }
+// The first number from byte `from` on that is outside.
+fn first_outside(line: &[u8], from: usize, variable: bool, limits: Limits) -> Option<usize> {
+    for i in from..line.len() {
+        if begins(line, i, variable) && is_outside(line, i, limits) {
+            return Some(i);
         }
-        i += 1;
     }
-    line.len()
+    None
 }
 
 const ANY: Limits = Limits {
@@ -122,19 +99,14 @@ const ROWS: Limits = Limits {
 fn amounts(line: &[u8], at: usize) -> Limits
     requires { at ≤ length line.now }
 {
-    if starts_with(&line[at..], b"mul ") {
-        return FROM_1;
+    let words = &line[at..];
+    if words.starts_with(b"mul ") || words.starts_with(b"div ") {
+        FROM_1
+    } else if words.starts_with(b"add ") || words.starts_with(b"sub ") {
+        FROM_0
+    } else {
+        ANY
     }
-    if starts_with(&line[at..], b"div ") {
-        return FROM_1;
-    }
-    if starts_with(&line[at..], b"add ") {
-        return FROM_0;
-    }
-    if starts_with(&line[at..], b"sub ") {
-        return FROM_0;
-    }
-    ANY
 }
 
 // Those of a line.
@@ -143,13 +115,11 @@ fn limits_of(kind: LineKind, line: &[u8]) -> Limits {
         LineKind::Vars => VARS,
         LineKind::Rows => ROWS,
         LineKind::Row => {
-            if starts_with(line, b"row=cue ") {
-                return CUES;
+            if line.starts_with(b"row=cue ") {
+                CUES
+            } else {
+                amounts(line, line.len().min(4))
             }
-            if line.len() < 4 {
-                return ANY;
-            }
-            amounts(line, 4)
         }
         _ => ANY,
     }
@@ -159,29 +129,24 @@ fn limits_of(kind: LineKind, line: &[u8]) -> Limits {
 fn step_at(line: &[u8]) -> usize
     ensures { result ≤ length line.now }
 {
-    let mut i = line.len();
-    while i > 4 {
-        i -= 1;
-        if line[i] == b' ' {
-            return i - 3;
-        }
+    match line.iter().rposition(|b| *b == b' ') {
+        Some(i) if i >= 4 => i - 3,
+        _ => line.len(),
     }
-    line.len()
 }
 
 // A number outside its limits, marked, and the limits.
 fn print_outside(host: &impl Host, line: &[u8], at: usize, limits: Limits) {
     print_marked(host, line, at);
-    print_text(host, b"\ncause\n  this number is not from ");
+    let high = limits.high;
     if limits.minus {
-        print_text(host, b"-");
-        print_number(host, limits.high as u64);
+        println!(host; "\ncause\n  this number is not from -{high} to {high}");
     } else {
-        print_number(host, limits.low as u64);
+        println!(host;
+            "\ncause\n  this number is not from {} to {high}",
+            limits.low
+        );
     }
-    print_text(host, b" to ");
-    print_number(host, limits.high as u64);
-    print_text(host, b"\n");
 }
 
 // The step of a for, or a range that begins above its end.
@@ -190,12 +155,13 @@ fn print_others(host: &impl Host, kind: LineKind, line: &[u8]) {
         LineKind::Row => {
             let step = step_at(line);
             let limits = amounts(line, step);
-            print_outside(host, line, first_outside(line, step, false, limits), limits);
+            let at = first_outside(line, step, false, limits).unwrap_or(line.len());
+            print_outside(host, line, at, limits);
         }
         _ => {
-            let second = position(line, b' ');
+            let second = line.iter().position(|b| *b == b' ').unwrap_or(line.len());
             print_marked(host, line, second);
-            print_text(host, b"\ncause\n  the range begins above its end\n");
+            println!(host; "\ncause\n  the range begins above its end");
         }
     }
 }
@@ -203,28 +169,20 @@ fn print_others(host: &impl Host, kind: LineKind, line: &[u8]) {
 // What is wrong with a line that 4 refuses.
 pub fn print_limits(host: &impl Host, kind: LineKind, line: &[u8]) {
     let limits = limits_of(kind, line);
-    let at = first_outside(line, 0, false, limits);
-    if at < line.len() {
-        print_outside(host, line, at, limits);
-        return;
+    match first_outside(line, 0, false, limits) {
+        Some(at) => print_outside(host, line, at, limits),
+        None => print_others(host, kind, line),
     }
-    print_others(host, kind, line);
 }
 
 // What is wrong with a line that 5 refuses, in a file of V variables.
 pub fn print_variable(host: &impl Host, line: &[u8], vars: u32) {
-    let at = first_outside(
-        line,
-        4,
-        true,
-        Limits {
-            minus: false,
-            low: 0,
-            high: if vars > 0 { vars - 1 } else { 0 },
-        },
-    );
+    let below = Limits {
+        minus: false,
+        low: 0,
+        high: vars.saturating_sub(1),
+    };
+    let at = first_outside(line, 4, true, below).unwrap_or(line.len());
     print_marked(host, line, at);
-    print_text(host, b"\ncause\n  this variable is not below V: vars=");
-    print_number(host, vars as u64);
-    print_text(host, b"\n");
+    println!(host; "\ncause\n  this variable is not below V: vars={vars}");
 }

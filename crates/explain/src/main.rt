@@ -22,49 +22,36 @@ ghost use Rattle.calls.specs.Held.{Given};
 ghost use Rattle.explain.specs.Asked.{Asked};
 
 use calls::prices::{ask_prices, prices_of};
-use drawing::{Drawing, draw_file};
+use drawing::{Shown, draw_file};
 use host::{Host, System};
-use ints::min_max::smaller_size;
-use program_parts::{STORE, WORD, print_text, print_wrong_listed, print_wrong_picks};
-use program_words::lists::{Values, read_word_values};
+use program_parts::{
+    Expected, STORE, Store, WORD, print_text, print_unexpected, print_wrong_listed,
+};
+use program_words::lists::read_word_values;
 use program_words::{pick_count, put_picks};
 use reader::{Loaded, load};
-use reading::text::starts_with;
 use refusal::print_refused;
-use rules::{Prices, Verdict};
+use rules::Prices;
 use show::print_script;
 use std::process::ExitCode;
 
 fn help(host: &impl Host) {
-    print_text(
-        host,
-        b"explain [prices=A,C,P,T] [run=PICKS [values=V,..]] [FILE ..]\n",
+    println!(host; "explain [prices=A,C,P,T] [run=PICKS [values=V,..]] [FILE ..]");
+    println!(host;
+        "prints each script, FILE or standard input, row by row with its turns and ticks in a margin"
     );
-    print_text(
-        host,
-        b"prints each script, FILE or standard input, row by row with its turns and ticks in a margin\n",
+    println!(host;
+        "of a refused one the line or row, the cause and the remedy; prices are 1 if they are not given"
     );
-    print_text(
-        host,
-        b"of a refused one the line or row, the cause and the remedy; prices are 1 if they are not given\n",
+    println!(host;
+        "with run= the run by these picks, 0 and 1 or - for none, and its cues drawn over its ticks"
     );
-    print_text(
-        host,
-        b"with run= the run by these picks, 0 and 1 or - for none, and its cues drawn over its ticks\n",
+    println!(host;
+        "values=V,..: the store, v0 first; without it each is 0, or the low end of a range without 0"
     );
-    print_text(
-        host,
-        b"values=V,..: the store, v0 first; without it each is 0, or the low end of a range without 0\n",
-    );
-    print_text(
-        host,
-        b"explain refused=NUMBER prints the cause and the remedy of a refusal\n",
-    );
-    print_text(host, b"example: explain examples/listing.eff\n");
-    print_text(
-        host,
-        b"example: explain run=- values=0,1 examples/listing.eff\n",
-    );
+    println!(host; "explain refused=NUMBER prints the cause and the remedy of a refusal");
+    println!(host; "example: explain examples/listing.eff");
+    println!(host; "example: explain run=- values=0,1 examples/listing.eff");
 }
 
 // Prints a script that has been read, from its table of rows.
@@ -79,20 +66,17 @@ fn explain_rows(
 )
     requires { Asked file.now ranges vars rows.now count prices }
 {
-    let none: [u64; 7] = [0; 7];
-    let mut lines = [none; 16];
+    let mut lines = [[0u64; 7]; 16];
     let mut own = [0u64; 256];
-    let found = analysis::analyse(file, rows, count, ranges, prices, &mut lines, &mut own);
-    let verdict = found.verdict;
-    if let Verdict::Refused(number, place) = verdict {
-        rows::print_refused_rows(host, file, vars, rows, count, number, place);
-        return;
+    match analysis::analyse(file, rows, count, ranges, prices, &mut lines, &mut own) {
+        Ok(found) => {
+            let mut figures = [[0u64; 4]; 256];
+            explain_margin::put_lines(&lines, found.loops, &mut figures);
+            explain_margin::put_ticks(&own, &mut figures);
+            print_script(host, file, vars, rows, count, &figures, found.ticks, ranges);
+        }
+        Err(refusal) => rows::print_refused_rows(host, file, vars, rows, count, refusal),
     }
-    let zero: [u64; 4] = [0; 4];
-    let mut figures = [zero; 256];
-    explain_margin::put_lines(&lines, found.loops, &mut figures);
-    explain_margin::put_ticks(&own, &mut figures);
-    print_script(host, file, vars, rows, count, &figures, found.ticks, ranges);
 }
 
 // Prints a script that has been read.
@@ -114,93 +98,71 @@ fn explain_script(
 fn explain_priced(host: &impl Host, file: &[u8], prices: &[u32])
     requires { Priced prices.now }
 {
-    let none: [i32; 2] = [0; 2];
-    let mut ranges = [none; 16];
-    let mut table: [u32; 1024] = [0; 1024];
-    let l = load(file, &mut ranges, &mut table);
-    let verdict = l.verdict;
-    match verdict {
-        Verdict::Passed => explain_script(host, file, &table, l, ranges, prices),
-        Verdict::Refused(number, place) => print_refused(host, file, number, place),
+    let mut ranges = [[0i32; 2]; 16];
+    let mut table = [0u32; 1024];
+    match load(file, &mut ranges, &mut table) {
+        Ok(script) => explain_script(host, file, &table, script, ranges, prices),
+        Err(refusal) => print_refused(host, file, refusal),
     }
 }
 
 // Prints a file's script, or its refusal.
 pub fn explain_file(host: &impl Host, file: &[u8], prices: &[u32]) {
-    let lent = ask_prices(prices);
-    match lent {
-        Verdict::Passed => explain_priced(host, file, prices),
-        Verdict::Refused(number, place) => print_refused(host, file, number, place),
+    match ask_prices(prices) {
+        Ok(()) => explain_priced(host, file, prices),
+        Err(refusal) => print_refused(host, file, refusal),
     }
 }
 
-// The same, or its run by picks, drawn.
-fn show_file(host: &impl Host, file: &[u8], prices: &[u32], picks: &[u8], drawing: Drawing) {
-    if drawing.asked {
-        draw_file(host, file, prices, picks, drawing);
+// Prints what is to be shown of a file; none if it cannot be read.
+fn show_file(host: &impl Host, file: Option<&[u8]>, prices: &[u32], shown: Shown<'_>) {
+    let Some(file) = file else {
+        println!(host; "error=cannot read the file");
         return;
+    };
+    match shown {
+        Shown::Figures => explain_file(host, file, prices),
+        Shown::Run(picks, given) => draw_file(host, file, prices, picks, given),
     }
-    explain_file(host, file, prices);
 }
 
 // The file on standard input.
-fn explain_input(host: &impl Host, prices: &[u32], picks: &[u8], drawing: Drawing) {
-    let mut file = [0u8; 16385];
-    let mut from = host.reader();
-    let input = program_parts::read_all(&mut from, &mut file);
-    let length = input.length;
-    if input.failed {
-        program_parts::cannot_read(host);
-        return;
-    }
-    show_file(host, &file[..length], prices, picks, drawing);
+fn explain_input(host: &impl Host, prices: &[u32], shown: Shown<'_>) {
+    let mut buffer = [0u8; 16385];
+    let file = program_parts::read_all(&mut host.reader(), &mut buffer).ok();
+    show_file(host, file, prices, shown);
 }
 
 // The file of that name, after its name.
-fn explain_named(host: &impl Host, name: &[u8], prices: &[u32], picks: &[u8], drawing: Drawing) {
+fn explain_named(host: &impl Host, name: &[u8], prices: &[u32], shown: Shown<'_>) {
     print_text(host, name);
-    print_text(host, b"\n");
-    let mut file = [0u8; 16385];
-    let input = program_parts::read_file(host, name, &mut file);
-    let length = input.length;
-    if input.failed {
-        program_parts::cannot_read(host);
-        return;
-    }
-    show_file(host, &file[..length], prices, picks, drawing);
+    println!(host; "");
+    let mut buffer = [0u8; 16385];
+    let file = program_parts::read_file(host, name, &mut buffer);
+    show_file(host, file, prices, shown);
 }
 
 // What argument i asks for: the words of a refusal, or the file of that name.
-fn explain_argument(host: &impl Host, i: usize, prices: &[u32], picks: &[u8], drawing: Drawing) {
-    let mut word = [0u8; WORD];
-    let n = host.argument(i, &mut word);
-    if refusal::asks_refusal(&word[..n]) {
-        refusal::print_words(host, &word[..n]);
-        return;
+fn explain_argument(host: &impl Host, i: usize, prices: &[u32], shown: Shown<'_>) {
+    let mut buffer = [0u8; WORD];
+    let word = host.argument(i, &mut buffer);
+    match word.strip_prefix(b"refused=") {
+        Some(number) => refusal::print_words(host, number),
+        None => explain_named(host, word, prices, shown),
     }
-    explain_named(host, &word[..n], prices, picks, drawing);
 }
 
 // The arguments from `first` on, an empty line between two; standard input if there is none.
-fn explain_all(
-    host: &impl Host,
-    first: usize,
-    arguments: usize,
-    prices: &[u32],
-    picks: &[u8],
-    drawing: Drawing,
-) {
+fn explain_all(host: &impl Host, first: usize, arguments: usize, prices: &[u32], shown: Shown<'_>) {
     if arguments <= first {
-        explain_input(host, prices, picks, drawing);
+        explain_input(host, prices, shown);
         return;
     }
-    let mut i = first;
-    while i < arguments {
+    for i in first..arguments {
         if i > first {
-            print_text(host, b"\n");
+            println!(host; "");
         }
-        explain_argument(host, i, prices, picks, drawing);
-        i += 1;
+        explain_argument(host, i, prices, shown);
     }
 }
 
@@ -208,32 +170,19 @@ fn explain_all(
 fn draw_all(host: &impl Host, first: usize, arguments: usize, prices: &[u32], picks: &[u8])
     requires { first ≤ 3 }
 {
-    let mut values = [0i32; STORE];
-    let mut word = [0u8; WORD];
-    let n = host.argument(first, &mut word);
-    if !starts_with(&word[..n], b"values=") {
-        let some = Drawing {
-            asked: true,
-            given: false,
-            count: 0,
-            values: values,
-        };
-        explain_all(host, first, arguments, prices, picks, some);
+    let mut buffer = [0u8; WORD];
+    let word = host.argument(first, &mut buffer);
+    let Some(list) = word.strip_prefix(b"values=") else {
+        explain_all(host, first, arguments, prices, Shown::Run(picks, None));
         return;
-    }
-    let from = smaller_size(7, n);
-    let read = read_word_values(&word[from..n], &mut values);
-    match read {
-        Values::Count(count) => {
-            let these = Drawing {
-                asked: true,
-                given: true,
-                count: count,
-                values: values,
-            };
-            explain_all(host, first + 1, arguments, prices, picks, these);
+    };
+    let mut values = [0i32; STORE];
+    match read_word_values(list, &mut values) {
+        Ok(count) => {
+            let given = Some(Store::new(values, count));
+            explain_all(host, first + 1, arguments, prices, Shown::Run(picks, given));
         }
-        Values::Wrong(at) => print_wrong_listed(host, at, &word[from..n], b','),
+        Err(at) => print_wrong_listed(host, at, list, b','),
     }
 }
 
@@ -248,10 +197,9 @@ fn draw_word(
 )
     requires { first ≤ 3 }
 {
-    if put_picks(word, picks) {
-        draw_all(host, first, arguments, prices, &picks[..]);
-    } else {
-        print_wrong_picks(host, word);
+    match put_picks(word, picks) {
+        Some(()) => draw_all(host, first, arguments, prices, picks),
+        None => print_unexpected(host, Expected::Picks, word),
     }
 }
 
@@ -268,34 +216,24 @@ fn draw_by(host: &impl Host, first: usize, arguments: usize, prices: &[u32], wor
 fn explain_words(host: &impl Host, first: usize, arguments: usize, prices: &[u32])
     requires { first ≤ 2 }
 {
-    let mut word = [0u8; WORD];
-    let n = host.argument(first, &mut word);
-    if starts_with(&word[..n], b"run=") {
-        let from = smaller_size(4, n);
-        draw_by(host, first + 1, arguments, prices, &word[from..n]);
-        return;
+    let mut buffer = [0u8; WORD];
+    let word = host.argument(first, &mut buffer);
+    match word.strip_prefix(b"run=") {
+        Some(picks) => draw_by(host, first + 1, arguments, prices, picks),
+        None => explain_all(host, first, arguments, prices, Shown::Figures),
     }
-    let none = Drawing {
-        asked: false,
-        given: false,
-        count: 0,
-        values: [0; STORE],
-    };
-    explain_all(host, first, arguments, prices, b"", none);
 }
 
 // What the arguments ask for.
 fn run(host: &impl Host) {
-    let arguments = host.argument_count();
     if program_parts::asks_help(host) {
         help(host);
         return;
     }
+    let arguments = host.argument_count();
     let mut prices = [1u32; 5];
-    let read = program_parts::read_prices(host, &mut prices);
-    let count = read.count;
-    if read.good {
-        explain_words(host, read.next, arguments, &prices[..count]);
+    if let Some(read) = program_parts::read_prices(host, &mut prices) {
+        explain_words(host, read.next, arguments, read.prices);
     }
 }
 

@@ -4,8 +4,6 @@ ghost use Rattle.std.specs.Prelude.{◌≤◌, length};
 use crate::show::{print_shown, print_spaces};
 use explain_margin::{LinePlace, line_of};
 use host::Host;
-use ints::min_max::smaller_size;
-use program_parts::print_text;
 
 // Where the texts stand, how many bytes of a line are shown, and how many of them before the mark where the line is cut.
 const INDENT: usize = 2;
@@ -19,12 +17,10 @@ fn first_shown(length: usize, at: usize) -> usize
     ensures { (result ≤ at) × (result ≤ length) }
 {
     if length <= ROOM {
-        return 0;
+        0
+    } else {
+        at.saturating_sub(BEFORE).min(length)
     }
-    if at <= BEFORE {
-        return 0;
-    }
-    smaller_size(at - BEFORE, length)
 }
 
 // The line, cut round byte `at`, and where that byte stands.
@@ -32,16 +28,16 @@ fn print_cut(host: &impl Host, line: &[u8], at: usize) -> usize
     ensures { result ≤ at }
 {
     let from = first_shown(line.len(), at);
-    let to = from + smaller_size(ROOM, line.len() - from);
+    let to = from + ROOM.min(line.len() - from);
     print_spaces(host, INDENT);
     if from > 0 {
-        print_text(host, b"..");
+        print!(host; "..");
     }
     print_shown(host, &line[from..to]);
     if to < line.len() {
-        print_text(host, b"..");
+        print!(host; "..");
     }
-    print_text(host, b"\n");
+    println!(host; "");
     from
 }
 
@@ -50,10 +46,10 @@ pub fn print_marked(host: &impl Host, line: &[u8], at: usize) {
     let from = print_cut(host, line, at);
     print_spaces(host, INDENT);
     if from > 0 {
-        print_text(host, b"  ");
+        print!(host; "  ");
     }
     print_spaces(host, at - from);
-    print_text(host, b"^\n");
+    println!(host; "^");
 }
 
 // A line without a mark.
@@ -72,8 +68,7 @@ pub struct Span {
 pub fn span_of(file: &[u8], k: usize) -> Span
     ensures { (result.start ≤ result.end) × (result.end ≤ length file.now) }
 {
-    let line = line_of(file, k);
-    match line {
+    match line_of(file, k) {
         LinePlace::At(start, end) => Span { start, end },
         LinePlace::Missing => Span {
             start: file.len(),
@@ -82,14 +77,17 @@ pub fn span_of(file: &[u8], k: usize) -> Span
     }
 }
 
+// Line k of a file, from 0, without its LF; empty where there is none.
+pub fn line_at(file: &[u8], k: usize) -> &[u8] {
+    let span = span_of(file, k);
+    &file[span.start..span.end]
+}
+
 // Line k of a file, from 0, or that there is none.
 pub fn print_file_line(host: &impl Host, file: &[u8], k: usize) {
-    let line = span_of(file, k);
-    let start = line.start;
-    let end = line.end;
-    if start < file.len() {
-        print_plain(host, &file[start..end]);
-        return;
+    if span_of(file, k).start < file.len() {
+        print_plain(host, line_at(file, k));
+    } else {
+        println!(host; "  (the file ends before this line)");
     }
-    print_text(host, b"  (the file ends before this line)\n");
 }

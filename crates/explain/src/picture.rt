@@ -3,9 +3,7 @@ ghost use Rattle.std.specs.Prelude.{◌≡◌, ◌≤◌, length};
 
 use crate::show::print_right;
 use host::Host;
-use ints::min_max::{larger_size, smaller, smaller_size};
-use live_state::STATE;
-use program_parts::{BEFORE_CUES, CuePlace, STORE, begins, next_cue, print_number, print_text};
+use program_parts::{BEFORE_CUES, Store, Terms, next_cue, print_text, started};
 
 // The picture has no more columns, and no more lines than a script has rows.
 const COLUMNS: usize = 80;
@@ -14,91 +12,71 @@ const LINES: usize = 256;
 
 const MARKS: usize = 20_480;
 
-// The line of a cue number among the first lines, or the one after them.
-fn line_of(numbers: &[u32], lines: usize, number: u32) -> usize {
-    let n = smaller_size(lines, numbers.len());
-    let mut i: usize = 0;
-    while i < n {
-        if numbers[i] == number {
-            return i;
-        }
-        i += 1;
-    }
-    n
-}
-
 // Marks a place: `*` for a cue that fires there once, `#` for one that fires more often.
 fn put_mark(marks: &mut [u8], at: usize) {
-    if at < marks.len() {
-        marks[at] = if marks[at] == b' ' { b'*' } else { b'#' };
+    if let Some(mark) = marks.get_mut(at) {
+        *mark = if *mark == b' ' { b'*' } else { b'#' };
     }
 }
 
-// Keeps the cue number of a line.
-fn put_number(numbers: &mut [u32], line: usize, number: u32) {
-    if line < numbers.len() {
-        numbers[line] = number;
-    }
+// The line of a cue number, or the one after the last.
+fn line_of(numbers: &[u32], number: u32) -> usize
+    ensures { result ≤ length numbers.now }
+{
+    numbers
+        .iter()
+        .position(|n| *n == number)
+        .unwrap_or(numbers.len())
 }
 
 // Marks a cue in a column, and answers how many lines there are.
 fn mark_cue(
-    numbers: &mut [u32],
+    numbers: &mut [u32; LINES],
     lines: usize,
     marks: &mut [u8],
     number: u32,
     column: usize,
-) -> usize {
-    let line = line_of(&numbers[..], lines, number);
+) -> usize
+    requires { lines ≤ 256 }
+    ensures { result ≤ 256 }
+{
+    let line = line_of(&numbers[..lines], number);
     if line >= LINES {
         return lines;
     }
-    put_number(numbers, line, number);
-    put_mark(marks, COLUMNS * line + smaller_size(column, COLUMNS - 1));
-    larger_size(lines, line + 1)
+    numbers[line] = number;
+    put_mark(marks, COLUMNS * line + column.min(COLUMNS - 1));
+    lines.max(line + 1)
 }
 
-// Marks the cue that was next at a place, if the step to another did it, and answers how many lines there are.
-fn mark_done(
-    numbers: &mut [u32],
-    lines: usize,
-    marks: &mut [u8],
-    at: CuePlace,
-    next: CuePlace,
-    scale: u64,
-) -> usize
-    requires { 1 ≤ scale }
-{
-    if next.did {
-        let column = (at.tick / scale) as usize;
-        return mark_cue(numbers, lines, marks, next.number, column);
-    }
-    lines
-}
-
-// Marks the cues of a run that has been started, and answers how many lines there are. A proved loop has to end: it counts its turns down
-// from a number that no run uses up.
+// Marks the cues of a run that has been started, and answers how many lines there are. A proved loop has to end: it counts its turns up to
+// a number that no run reaches.
 fn mark_cues(
-    file: &[u8],
-    prices: &[u32],
+    terms: Terms<'_>,
     picks: &[u8],
     store: &mut [i32],
     state: &mut [u64],
     scale: u64,
-    numbers: &mut [u32],
+    numbers: &mut [u32; LINES],
     marks: &mut [u8],
 ) -> usize
     requires { (length state.old ≡ 64) × (1 ≤ scale) }
+    ensures { result ≤ 256 }
 {
     let mut at = BEFORE_CUES;
-    let mut lines: usize = 0;
-    let mut turns = u64::MAX;
-    while turns > 0 && at.on {
-        let next = next_cue(file, prices, u64::MAX, picks, store, state, at);
-        let marked = mark_done(numbers, lines, marks, at, next, scale);
-        lines = marked;
+    let mut lines = 0;
+    for _ in 0..u64::MAX {
+        let Some(next) = next_cue(terms, picks, store, state, at) else {
+            break;
+        };
+        if let Some(number) = next.did {
+            let column = (at.tick / scale) as usize;
+            lines = mark_cue(numbers, lines, marks, number, column);
+        }
+        if !next.on {
+            break;
+        }
         at = next;
-        turns -= 1;
     }
     lines
 }
@@ -107,10 +85,7 @@ fn mark_cues(
 fn scale_of(ticks: u64) -> u64
     ensures { 1 ≤ result }
 {
-    if ticks == 0 {
-        return 1;
-    }
-    (ticks - 1) / COLUMNS as u64 + 1
+    ticks.saturating_sub(1) / COLUMNS as u64 + 1
 }
 
 // How many columns the ticks are.
@@ -120,87 +95,43 @@ fn columns_of(ticks: u64, scale: u64) -> usize
     if ticks == 0 {
         return 0;
     }
-    smaller((ticks - 1) / scale, COLUMNS as u64 - 1) as usize + 1
+    ((ticks - 1) / scale).min(COLUMNS as u64 - 1) as usize + 1
 }
 
-// The marks of a line.
-fn print_marks(host: &impl Host, marks: &[u8], line: usize, columns: usize)
-    requires { line ≤ 256 }
-{
-    let from = smaller_size(COLUMNS * line, marks.len());
-    let to = from + smaller_size(columns, marks.len() - from);
-    print_text(host, &marks[from..to]);
-}
-
-// A cue number and its marks.
-fn print_line(host: &impl Host, number: u32, marks: &[u8], line: usize, columns: usize)
-    requires { line ≤ 256 }
-{
-    print_right(host, number as u64, 4);
-    print_text(host, b" |");
-    print_marks(host, marks, line, columns);
-    print_text(host, b"|\n");
-}
-
-// The lines one after the other.
-fn print_lines(host: &impl Host, numbers: &[u32], lines: usize, marks: &[u8], columns: usize) {
-    let n = smaller_size(smaller_size(lines, numbers.len()), LINES);
-    let mut i: usize = 0;
-    while i < n {
-        print_line(host, numbers[i], marks, i, columns);
-        i += 1;
+// The lines one after the other: a cue number and its marks.
+fn print_lines(host: &impl Host, numbers: &[u32], marks: &[u8], columns: usize) {
+    for (number, line) in numbers.iter().zip(marks.chunks(COLUMNS)) {
+        print_right(host, *number as u64, 4);
+        print!(host; " |");
+        print_text(host, &line[..columns.min(line.len())]);
+        println!(host; "|");
     }
 }
 
-// The picture: how many ticks a column is, the lines, and under them the first tick and the last.
-fn print_picture(
-    host: &impl Host,
-    ticks: u64,
-    scale: u64,
-    numbers: &[u32],
-    lines: usize,
-    marks: &[u8],
-)
-    requires { 1 ≤ scale }
-{
-    let columns = columns_of(ticks, scale);
-    print_text(host, b"\nticks of a column: ");
-    print_number(host, scale);
-    print_text(host, b"\n cue\n");
-    print_lines(host, numbers, lines, marks, columns);
-    print_text(host, b"tick  0 ");
-    print_right(host, ticks, columns - smaller_size(columns, 1));
-    print_text(host, b"\n");
-}
-
-// Draws the cues of a run from the first values of a store, which takes so many ticks.
-pub fn draw_cues(
-    host: &impl Host,
-    file: &[u8],
-    prices: &[u32],
-    picks: &[u8],
-    values: usize,
-    store: [i32; STORE],
-    ticks: u64,
-)
-    requires { values ≤ 17 }
-{
+// Draws the cues of a run from a store, which takes so many ticks: how many ticks a column is, the lines, and under them the first tick and
+// the last.
+pub fn draw_cues(host: &impl Host, terms: Terms<'_>, picks: &[u8], store: Store, ticks: u64) {
+    let Ok(mut state) = started(terms, store.as_slice()) else {
+        return;
+    };
     let mut after = store;
-    let mut state = [0u64; STATE];
-    if begins(file, prices, &after[..values], &mut state) {
-        let scale = scale_of(ticks);
-        let mut numbers = [0u32; LINES];
-        let mut marks = [b' '; MARKS];
-        let lines = mark_cues(
-            file,
-            prices,
-            picks,
-            &mut after[..values],
-            &mut state,
-            scale,
-            &mut numbers,
-            &mut marks,
-        );
-        print_picture(host, ticks, scale, &numbers, lines, &marks);
-    }
+    let values = &mut after.values[..store.count];
+    let scale = scale_of(ticks);
+    let mut numbers = [0u32; LINES];
+    let mut marks = [b' '; MARKS];
+    let lines = mark_cues(
+        terms,
+        picks,
+        values,
+        &mut state,
+        scale,
+        &mut numbers,
+        &mut marks,
+    );
+    let columns = columns_of(ticks, scale);
+    println!(host; "\nticks of a column: {scale}\n cue");
+    print_lines(host, &numbers[..lines], &marks, columns);
+    print!(host; "tick  0 ");
+    print_right(host, ticks, columns.saturating_sub(1));
+    println!(host; "");
 }

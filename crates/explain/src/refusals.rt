@@ -6,31 +6,24 @@ use program_parts::print_text;
 // Of the questions about the file and its lines.
 fn reading_cause(host: &impl Host, number: u32) {
     match number {
-        2 => print_text(host, b"  the file has more than 16,384 bytes\n"),
+        2 => println!(host; "  the file has more than 16,384 bytes"),
         3 => {
-            print_text(
-                host,
-                b"  the line is missing, or has not the shape its place wants: key, words, spaces, a number with +\n",
+            println!(host;
+                "  the line is missing, or has not the shape its place wants: key, words, spaces, a number with +"
             );
-            print_text(
-                host,
-                b"  or a leading zero, CR LF, no LF at the end, bytes after the last row, a script number other than\n",
+            println!(host;
+                "  or a leading zero, CR LF, no LF at the end, bytes after the last row, a script number other than"
             );
-            print_text(host, b"  1\n");
+            println!(host; "  1");
         }
-        4 => print_text(
-            host,
-            b"  a number is outside its limits, or LO is above HI\n",
+        4 => println!(host; "  a number is outside its limits, or LO is above HI"),
+        5 => println!(host; "  a variable is not below V"),
+        6 => println!(host;
+            "  an else or end closes no fitting block, a pick has a second else, or a block is left open"
         ),
-        5 => print_text(host, b"  a variable is not below V\n"),
-        6 => print_text(
-            host,
-            b"  an else or end closes no fitting block, a pick has a second else, or a block is left open\n",
-        ),
-        7 => print_text(host, b"  blocks more than 8 deep, or a seventeenth loop\n"),
-        17 => print_text(
-            host,
-            b"  an expression has more than 8 parentheses open together, or more than 15 operators\n",
+        7 => println!(host; "  blocks more than 8 deep, or a seventeenth loop"),
+        17 => println!(host;
+            "  an expression has more than 8 parentheses open together, or more than 15 operators"
         ),
         _ => (),
     }
@@ -40,52 +33,42 @@ fn reading_cause(host: &impl Host, number: u32) {
 fn loop_cause(host: &impl Host, number: u32) {
     match number {
         8 => {
-            print_text(
-                host,
-                b"  it is not known how the tested variable moves in a turn: the body sets it (other than as a\n",
+            println!(host;
+                "  it is not known how the tested variable moves in a turn: the body sets it (other than as a"
             );
-            print_text(
-                host,
-                b"  copied counter), an off clears it, adding, multiplying and dividing are mixed, or an inner loop\n",
+            println!(host;
+                "  copied counter), an off clears it, adding, multiplying and dividing are mixed, or an inner loop"
             );
-            print_text(host, b"  changes it\n");
+            println!(host; "  changes it");
         }
         9 => {
-            print_text(
-                host,
-                b"  the tested variable (or its difference from a limit that moves) may stand still: some way\n",
+            println!(host;
+                "  the tested variable (or its difference from a limit that moves) may stand still: some way"
             );
-            print_text(
-                host,
-                b"  through the body does not move it, or moves it the other way\n",
-            );
+            println!(host; "  through the body does not move it, or moves it the other way");
         }
         10 => {
-            print_text(
-                host,
-                b"  the body assigns the limit, or a variable of the limit's expression, and the two are no closing\n",
+            println!(host;
+                "  the body assigns the limit, or a variable of the limit's expression, and the two are no closing"
             );
-            print_text(host, b"  chases\n");
+            println!(host; "  chases");
         }
         11 => {
-            print_text(
-                host,
-                b"  the comparison does not fit: < <= want a rising variable, > >= a falling one, == != one that is\n",
+            println!(host;
+                "  the comparison does not fit: < <= want a rising variable, > >= a falling one, == != one that is"
             );
-            print_text(host, b"  added to\n");
+            println!(host; "  added to");
         }
         12 => {
-            print_text(
-                host,
-                b"  no figure exists: a variable that is multiplied may start below 1; one that is divided may be\n",
+            println!(host;
+                "  no figure exists: a variable that is multiplied may start below 1; one that is divided may be"
             );
-            print_text(
-                host,
-                b"  tested against a limit below 1 (with > below 0); or a loop with != has no single step, may step\n",
+            println!(host;
+                "  tested against a limit below 1 (with > below 0); or a loop with != has no single step, may step"
             );
-            print_text(host, b"  over its limit, or may start past it\n");
+            println!(host; "  over its limit, or may start past it");
         }
-        19 => print_text(host, b"  a hold's body breaks a term of held loops\n"),
+        19 => println!(host; "  a hold's body breaks a term of held loops"),
         _ => (),
     }
 }
@@ -93,21 +76,18 @@ fn loop_cause(host: &impl Host, number: u32) {
 // Of the questions about ticks, buffer, store and prices.
 fn ticks_cause(host: &impl Host, number: u32) {
     match number {
-        13 => print_text(
-            host,
-            b"  a block, or the whole file, may take more than 1,000,000,000,000 ticks\n",
+        13 => println!(host;
+            "  a block, or the whole file, may take more than 1,000,000,000,000 ticks"
         ),
-        14 => print_text(host, b"  report only: the buffer is too short\n"),
-        15 => print_text(
-            host,
-            b"  run and frames: the first value that is outside its range, missing or extra\n",
+        14 => println!(host; "  report only: the buffer is too short"),
+        15 => println!(host;
+            "  run and frames: the first value that is outside its range, missing or extra"
         ),
         16 => {
-            print_text(
-                host,
-                b"  the first lent price that is not from 1 to 1,000, is missing (three prices: 3) or extra (five:\n",
+            println!(host;
+                "  the first lent price that is not from 1 to 1,000, is missing (three prices: 3) or extra (five:"
             );
-            print_text(host, b"  4)\n");
+            println!(host; "  4)");
         }
         _ => (),
     }
@@ -116,26 +96,20 @@ fn ticks_cause(host: &impl Host, number: u32) {
 // Of the other questions of a call.
 fn call_cause(host: &impl Host, number: u32) {
     match number {
-        1 => print_text(
-            host,
-            b"  the lent scratch has fewer than 1,024 32-bit numbers\n",
-        ),
-        18 => print_text(
-            host,
-            b"  the season sheet only, before any file is read: no name, or more than 64\n",
+        1 => println!(host; "  the lent scratch has fewer than 1,024 32-bit numbers"),
+        18 => println!(host;
+            "  the season sheet only, before any file is read: no name, or more than 64"
         ),
         20 => {
-            print_text(
-                host,
-                b"  frames only: no script or more than 8; lists of lengths that differ in number, or do not add up\n",
+            println!(host;
+                "  frames only: no script or more than 8; lists of lengths that differ in number, or do not add up"
             );
-            print_text(host, b"  to what is lent; q below 1 or above 1,000,000\n");
+            println!(host; "  to what is lent; q below 1 or above 1,000,000");
         }
-        21 => print_text(
-            host,
-            b"  live only: the first number of the state that no run of this file can have there\n",
+        21 => println!(host;
+            "  live only: the first number of the state that no run of this file can have there"
         ),
-        22 => print_text(host, b"  live only: q above 1,000,000\n"),
+        22 => println!(host; "  live only: q above 1,000,000"),
         _ => (),
     }
 }
@@ -151,25 +125,18 @@ pub fn print_cause(host: &impl Host, number: u32) {
 // Of the questions about the file and its lines.
 fn reading_remedy(host: &impl Host, number: u32) {
     match number {
-        2 => print_text(host, b"  shorten it, or split it into two scripts\n"),
+        2 => println!(host; "  shorten it, or split it into two scripts"),
         3 => {
-            print_text(
-                host,
-                b"  write the line as the format of the script file says; check V and R against the lines that\n",
+            println!(host;
+                "  write the line as the format of the script file says; check V and R against the lines that"
             );
-            print_text(host, b"  follow\n");
+            println!(host; "  follow");
         }
-        4 => print_text(host, b"  use a number inside the limits\n"),
-        5 => print_text(
-            host,
-            b"  use v0 to v(V-1), or raise vars= and add a range\n",
-        ),
-        6 => print_text(
-            host,
-            b"  give each block one end, each pick at most one else\n",
-        ),
-        7 => print_text(host, b"  flatten the blocks, or split the script\n"),
-        17 => print_text(host, b"  set a variable to part of it first\n"),
+        4 => println!(host; "  use a number inside the limits"),
+        5 => println!(host; "  use v0 to v(V-1), or raise vars= and add a range"),
+        6 => println!(host; "  give each block one end, each pick at most one else"),
+        7 => println!(host; "  flatten the blocks, or split the script"),
+        17 => println!(host; "  set a variable to part of it first"),
         _ => (),
     }
 }
@@ -178,36 +145,28 @@ fn reading_remedy(host: &impl Host, number: u32) {
 fn loop_remedy(host: &impl Host, number: u32) {
     match number {
         8 => {
-            print_text(
-                host,
-                b"  move the tested variable by one kind of row only, outside inner loops; or copy a counter into it\n",
+            println!(host;
+                "  move the tested variable by one kind of row only, outside inner loops; or copy a counter into it"
             );
-            print_text(host, b"  by the terms of a copied counter\n");
+            println!(host; "  by the terms of a copied counter");
         }
-        9 => print_text(
-            host,
-            b"  move it on every way through the body, both branches of a pick included\n",
+        9 => println!(host;
+            "  move it on every way through the body, both branches of a pick included"
         ),
         10 => {
-            print_text(
-                host,
-                b"  copy the limit to another variable before the loop; or, if the limit is a variable alone, move\n",
+            println!(host;
+                "  copy the limit to another variable before the loop; or, if the limit is a variable alone, move"
             );
-            print_text(host, b"  both by add and sub alone\n");
+            println!(host; "  both by add and sub alone");
         }
-        11 => print_text(host, b"  turn the comparison or the step round\n"),
-        12 => print_text(
-            host,
-            b"  narrow the ranges, set the start before the loop, or use < or >\n",
-        ),
+        11 => println!(host; "  turn the comparison or the step round"),
+        12 => println!(host; "  narrow the ranges, set the start before the loop, or use < or >"),
         19 => {
-            print_text(
-                host,
-                b"  one off for the flag, directly in the body, and no other row that assigns it; move the watched\n",
+            println!(host;
+                "  one off for the flag, directly in the body, and no other row that assigns it; move the watched"
             );
-            print_text(
-                host,
-                b"  variable by add and sub alone toward the comparison, all its rows on one side of the off\n",
+            println!(host;
+                "  variable by add and sub alone toward the comparison, all its rows on one side of the off"
             );
         }
         _ => (),
@@ -217,16 +176,14 @@ fn loop_remedy(host: &impl Host, number: u32) {
 // Of the questions about ticks, buffer, store and prices.
 fn ticks_remedy(host: &impl Host, number: u32) {
     match number {
-        13 => print_text(
-            host,
-            b"  fewer turns, or fewer loops inside each other; start with the block that the place names\n",
+        13 => println!(host;
+            "  fewer turns, or fewer loops inside each other; start with the block that the place names"
         ),
-        14 => print_text(
-            host,
-            b"  lend a buffer of at least that length; 2,089 bytes hold every report\n",
+        14 => println!(host;
+            "  lend a buffer of at least that length; 2,089 bytes hold every report"
         ),
-        15 => print_text(host, b"  give V values, each inside its range\n"),
-        16 => print_text(host, b"  lend four prices, each from 1 to 1,000\n"),
+        15 => println!(host; "  give V values, each inside its range"),
+        16 => println!(host; "  lend four prices, each from 1 to 1,000"),
         _ => (),
     }
 }
@@ -234,17 +191,15 @@ fn ticks_remedy(host: &impl Host, number: u32) {
 // Of the other questions of a call.
 fn call_remedy(host: &impl Host, number: u32) {
     match number {
-        1 => print_text(host, b"  lend a longer scratch\n"),
-        18 => print_text(host, b"  give 1 to 64 names, one a line\n"),
-        20 => print_text(
-            host,
-            b"  lend a length of file, store and picks for each script, and 1 to 1,000,000 ticks a frame\n",
+        1 => println!(host; "  lend a longer scratch"),
+        18 => println!(host; "  give 1 to 64 names, one a line"),
+        20 => println!(host;
+            "  lend a length of file, store and picks for each script, and 1 to 1,000,000 ticks a frame"
         ),
-        21 => print_text(
-            host,
-            b"  lend the 64 numbers as the last start or step of this file and these prices left them\n",
+        21 => println!(host;
+            "  lend the 64 numbers as the last start or step of this file and these prices left them"
         ),
-        22 => print_text(host, b"  lend at most 1,000,000 ticks a step\n"),
+        22 => println!(host; "  lend at most 1,000,000 ticks a step"),
         _ => (),
     }
 }

@@ -7,19 +7,15 @@ use crate::refusals::{print_cause, print_remedy};
 use crate::terms::print_term;
 use explain_margin::is_head;
 use host::Host;
-use ints::min_max::smaller_size;
-use program_parts::{print_number, print_refusal, print_text};
+use program_parts::print_refusal;
+use rules::Refusal;
 use table::{Tag, partner_at, tag_at};
 
 // Row `row`, which stands on line 4 + V + row.
 fn print_row(host: &impl Host, file: &[u8], vars: usize, row: usize)
     requires { (vars ≤ 16) × (row ≤ 256) }
 {
-    print_text(host, b"\nrow ");
-    print_number(host, row as u64);
-    print_text(host, b", line ");
-    print_number(host, (4 + vars + row) as u64);
-    print_text(host, b"\n");
+    println!(host; "\nrow {row}, line {}", 4 + vars + row);
     print_file_line(host, file, 3 + vars + row);
 }
 
@@ -28,14 +24,10 @@ fn pick_of(rows: &[u32], p: usize) -> usize
     requires { 4 * p ≤ length rows.now }
     ensures { result ≤ p }
 {
-    let mut i: usize = 0;
-    while i < p {
-        if is_head(rows, i) {
-            if partner_at(rows, i) == p {
-                return i;
-            }
+    for i in 0..p {
+        if is_head(rows, i) && partner_at(rows, i) == p {
+            return i;
         }
-        i += 1;
     }
     p
 }
@@ -45,7 +37,7 @@ fn head_of(rows: &[u32], end: usize) -> usize
     requires { 4 * end + 3 < length rows.now }
     ensures { result ≤ end }
 {
-    let p = smaller_size(partner_at(rows, end), end);
+    let p = partner_at(rows, end).min(end);
     match tag_at(rows, p) {
         Tag::Else => pick_of(rows, p),
         _ => p,
@@ -54,7 +46,7 @@ fn head_of(rows: &[u32], end: usize) -> usize
 
 // The figure of a block that 13 refuses: it is not counted past the limit.
 fn print_over(host: &impl Host) {
-    print_text(host, b"\nits figure: more than 1000000000000 ticks\n");
+    println!(host; "\nits figure: more than 1000000000000 ticks");
 }
 
 // The block that an `end` row ends, from its head, and its figure.
@@ -62,7 +54,7 @@ fn print_block(host: &impl Host, file: &[u8], vars: usize, rows: &[u32], end: us
     requires { (vars ≤ 16) × (end ≤ 256) × (4 * end + 3 < length rows.now) }
 {
     let head = head_of(rows, end);
-    print_text(host, b"\nthe block");
+    print!(host; "\nthe block");
     print_row(host, file, vars, head);
     print_row(host, file, vars, end);
     print_over(host);
@@ -75,12 +67,12 @@ pub fn print_refused_rows(
     vars: usize,
     rows: &[u32],
     count: usize,
-    number: u32,
-    place: usize,
+    refusal: Refusal,
 )
     requires { (vars ≤ 16) × (count ≤ 256) × (4 * count ≤ length rows.now) }
 {
-    print_refusal(host, number, place);
+    let Refusal { number, place } = refusal;
+    print_refusal(host, refusal);
     if place < count {
         if number == 13 {
             print_block(host, file, vars, rows, place);
@@ -88,14 +80,14 @@ pub fn print_refused_rows(
             print_row(host, file, vars, place);
         }
     } else {
-        print_text(host, b"\nthe whole file\n");
+        println!(host; "\nthe whole file");
         print_over(host);
     }
-    print_text(host, b"\ncause\n");
+    println!(host; "\ncause");
     print_cause(host, number);
     if place < count {
         print_term(host, rows, count, number, place);
     }
-    print_text(host, b"\nremedy\n");
+    println!(host; "\nremedy");
     print_remedy(host, number);
 }

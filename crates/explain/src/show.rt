@@ -10,45 +10,38 @@ use explain_margin::{
     put_shown, room, share,
 };
 use host::Host;
-use ints::min_max::smaller_size;
-use program_parts::{print_front, print_number, print_text};
+use program_parts::print_text;
 use table::{partner_at, tag_at};
 
 // The `row=` of a row's line.
 const KEY: usize = 4;
 
-// The bar's marks, and a hundred per cent.
+// The bar, its marks, and a hundred per cent.
+const BAR: [u8; 10] = [b'#'; 10];
+
 const MARKS: u64 = 10;
 
 const PER_CENT: u64 = 100;
 
 pub fn print_spaces(host: &impl Host, n: usize) {
-    let blank = [b' '; LINE];
-    print_front(host, &blank, n);
+    let width = n.min(LINE);
+    print!(host; "{:width$}", "");
 }
 
 // A number at the right end of a column.
 pub fn print_right(host: &impl Host, n: u64, width: usize) {
-    let mut text = [0u8; 20];
-    let k = report::pieces::put_number(b"", n, &mut text);
-    print_spaces(host, width - smaller_size(k, width));
-    print_front(host, &text, k);
-}
-
-// A heading of five letters at the right end of a column.
-fn print_heading(host: &impl Host, word: &[u8], width: usize) {
-    print_spaces(host, width - smaller_size(word.len(), width));
-    print_text(host, word);
+    print!(host; "{n:>width$}");
 }
 
 fn print_headings(host: &impl Host, w: Widths) {
-    print_text(host, b"row ");
-    print_heading(host, b"turns", w.turns);
-    print_text(host, b" ");
-    print_heading(host, b"total", w.total);
-    print_text(host, b"       ");
-    print_heading(host, b"ticks", w.ticks);
-    print_text(host, b" share              script\n");
+    let Widths {
+        turns,
+        total,
+        ticks,
+    } = w;
+    print!(host; "row {:>turns$}", "turns");
+    print!(host; " {:>total$}", "total");
+    println!(host; "       {:>ticks$} share              script", "ticks");
 }
 
 // Of a loop its turns, total and exact or most; of another row nothing.
@@ -60,12 +53,12 @@ fn print_turns(host: &impl Host, figures: [u64; 4], w: Widths)
         return;
     }
     print_right(host, figures[TURNS], w.turns);
-    print_text(host, b" ");
+    print!(host; " ");
     print_right(host, figures[TOTAL], w.total);
     if figures[EXACT] == IS_EXACT {
-        print_text(host, b" exact");
+        print!(host; " exact");
     } else {
-        print_text(host, b" most ");
+        print!(host; " most ");
     }
 }
 
@@ -73,14 +66,12 @@ fn print_turns(host: &impl Host, figures: [u64; 4], w: Widths)
 fn print_bar(host: &impl Host, part: u64, whole: u64)
     requires { whole ≤ 1_000_000_000_001 }
 {
-    let marks = [b'#'; 10];
-    let n = share(part, whole, MARKS) as usize;
-    print_text(host, b" [");
-    print_front(host, &marks, n);
-    print_spaces(host, 10 - smaller_size(n, 10));
-    print_text(host, b"] ");
-    print_right(host, share(part, whole, PER_CENT), 3);
-    print_text(host, b"%  ");
+    let marks = (share(part, whole, MARKS) as usize).min(BAR.len());
+    let per_cent = share(part, whole, PER_CENT);
+    print!(host; " [");
+    print_text(host, &BAR[..marks]);
+    print_spaces(host, BAR.len() - marks);
+    print!(host; "] {per_cent:>3}%  ");
 }
 
 // Of a block the ticks of one pass, and the share of all its passes.
@@ -88,7 +79,7 @@ fn print_block(host: &impl Host, head: bool, ticks: u64, passes: u64, whole: u64
     requires { Narrow w }
 {
     if head {
-        print_text(host, b" ");
+        print!(host; " ");
         print_right(host, ticks, w.ticks);
         print_bar(host, times(passes, cap(ticks)), cap(whole));
     } else {
@@ -100,7 +91,7 @@ fn print_block(host: &impl Host, head: bool, ticks: u64, passes: u64, whole: u64
 pub fn print_shown(host: &impl Host, text: &[u8]) {
     let mut line = [0u8; LINE];
     let n = put_shown(text, &mut line);
-    print_front(host, &line, n);
+    print_text(host, &line[..n.min(LINE)]);
 }
 
 // A text from a column on, in as many lines as it takes.
@@ -109,25 +100,24 @@ pub fn print_wrapped(host: &impl Host, text: &[u8], column: usize) {
     let mut at: usize = 0;
     while at < text.len() {
         if at > 0 {
-            print_text(host, b"\n");
+            println!(host; "");
             print_spaces(host, column);
         }
         let end = line_end(at, width, text.len());
         print_shown(host, &text[at..end]);
         at = end;
     }
-    print_text(host, b"\n");
+    println!(host; "");
 }
 
 // The text of line k without its first bytes, from a column on.
 pub fn print_line(host: &impl Host, file: &[u8], k: usize, without: usize, column: usize) {
-    let line = line_of(file, k);
-    match line {
+    match line_of(file, k) {
         LinePlace::At(start, end) => {
-            let from = start + smaller_size(without, end - start);
+            let from = start + without.min(end - start);
             print_wrapped(host, &file[from..end], column);
         }
-        LinePlace::Missing => print_text(host, b"\n"),
+        LinePlace::Missing => println!(host; ""),
     }
 }
 
@@ -146,7 +136,7 @@ fn print_row(
     requires { (4 * i + 3 < length rows.now) × (vars ≤ 16) × Narrow w }
 {
     print_right(host, i as u64, 3);
-    print_text(host, b" ");
+    print!(host; " ");
     print_turns(host, figures, w);
     print_block(
         host,
@@ -197,14 +187,11 @@ fn print_rows(
     requires { (count ≤ 256) × (4 * count ≤ length rows.now) × (vars ≤ 16) × (length figures.now ≡ 256) × Narrow w }
 {
     let mut nest = OUTSIDE;
-    let mut i: usize = 0;
-    while i < count {
+    for i in 0..count {
         let row = figures[i];
         print_row(host, file, vars, rows, i, row, nest, w, whole);
         print_rests(host, file, rows, count, i, figures, ranges);
-        let next = after_row(nest, tag_at(rows, i), row[TOTAL]);
-        nest = next;
-        i += 1;
+        nest = after_row(nest, tag_at(rows, i), row[TOTAL]);
     }
 }
 
@@ -226,9 +213,7 @@ pub fn print_script(
         total: column(greatest(figures, TOTAL)),
         ticks: column(greatest(figures, TICKS)),
     };
-    print_text(host, b"ticks=");
-    print_number(host, whole);
-    print_text(host, b"\n\n");
+    println!(host; "ticks={whole}\n");
     print_headings(host, w);
     print_rows(host, file, vars, rows, count, figures, w, whole, ranges);
 }

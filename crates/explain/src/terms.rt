@@ -1,9 +1,7 @@
 // The row, and the term, for which a loop is refused by 8, 9, 10 or 19.
-ghost use Rattle.std.specs.Prelude.{◌+◌, ◌*◌, ◌≤◌, ◌<◌, length};
+ghost use Rattle.std.specs.Prelude.{◌+◌, ◌*◌, ◌≤◌, ◌<◌, length, IfSome};
 
 use host::Host;
-use ints::min_max::smaller_size;
-use program_parts::{print_number, print_text};
 use rules::Operand;
 use table::{Tag, assigns, limit_at, partner_at, tag_at, variable_at, watched_at};
 
@@ -20,39 +18,26 @@ pub enum Deed {
 fn does(rows: &[u32], i: usize, v: u8, deed: Deed) -> bool
     requires { 4 * i + 3 < length rows.now }
 {
-    if variable_at(rows, i) != v {
-        return false;
-    }
-    match deed {
-        Deed::Assigns => assigns(rows, i),
-        Deed::Sets => match tag_at(rows, i) {
-            Tag::Set => true,
-            Tag::For => true,
-            _ => false,
-        },
-        Deed::Clears => match tag_at(rows, i) {
-            Tag::Off => true,
-            _ => false,
-        },
-        Deed::Moves => match tag_at(rows, i) {
-            Tag::Move => true,
-            _ => false,
-        },
-    }
+    variable_at(rows, i) == v
+        && match deed {
+            Deed::Assigns => assigns(rows, i),
+            Deed::Sets => matches!(tag_at(rows, i), Tag::Set | Tag::For),
+            Deed::Clears => matches!(tag_at(rows, i), Tag::Off),
+            Deed::Moves => matches!(tag_at(rows, i), Tag::Move),
+        }
 }
 
-// The first row from `from` on, before `end`, that does it, or `end`.
-pub fn first_row(rows: &[u32], from: usize, end: usize, v: u8, deed: Deed) -> usize
+// The first row from `from` on, before `end`, that does it.
+pub fn first_row(rows: &[u32], from: usize, end: usize, v: u8, deed: Deed) -> Option<usize>
     requires { 4 * end ≤ length rows.now }
+    ensures { IfSome result (λ row. row < end) }
 {
-    let mut i = from;
-    while i < end {
+    for i in from..end {
         if does(rows, i, v, deed) {
-            return i;
+            return Some(i);
         }
-        i += 1;
     }
-    end
+    None
 }
 
 // Does row i begin a part of a block round row r: a loop, or a branch of a pick?
@@ -60,47 +45,34 @@ fn is_round(rows: &[u32], i: usize, r: usize) -> bool
     requires { 4 * i + 3 < length rows.now }
 {
     match tag_at(rows, i) {
-        Tag::End => false,
-        Tag::Set => false,
-        Tag::Move => false,
-        Tag::Cue => false,
-        Tag::Off => false,
+        Tag::End | Tag::Set | Tag::Move | Tag::Cue | Tag::Off => false,
         _ => partner_at(rows, i) > r,
     }
 }
 
-// The first block from row `from` on round row r, or r.
-fn block_round(rows: &[u32], from: usize, r: usize) -> usize
+// The first block from row `from` on round row r.
+fn block_round(rows: &[u32], from: usize, r: usize) -> Option<usize>
     requires { 4 * r ≤ length rows.now }
 {
-    let mut i = from;
-    while i < r {
+    for i in from..r {
         if is_round(rows, i, r) {
-            return i;
+            return Some(i);
         }
-        i += 1;
     }
-    r
+    None
 }
 
 // `row R WHAT vN`
-fn print_deed(host: &impl Host, row: usize, what: &[u8], v: u8) {
-    print_text(host, b"  row ");
-    print_number(host, row as u64);
-    print_text(host, what);
-    print_number(host, v as u64);
-    print_text(host, b"\n");
+fn print_deed(host: &impl Host, row: usize, what: &str, v: u8) {
+    println!(host; "  row {row} {what}{v}");
 }
 
 // Where row r stands in a block inside the loop.
 fn print_round(host: &impl Host, rows: &[u32], from: usize, r: usize)
     requires { 4 * r ≤ length rows.now }
 {
-    let head = block_round(rows, from, r);
-    if head < r {
-        print_text(host, b"  it stands in the block of row ");
-        print_number(host, head as u64);
-        print_text(host, b"\n");
+    if let Some(head) = block_round(rows, from, r) {
+        println!(host; "  it stands in the block of row {head}");
     }
 }
 
@@ -108,31 +80,25 @@ fn print_round(host: &impl Host, rows: &[u32], from: usize, r: usize)
 fn print_unknown(host: &impl Host, rows: &[u32], from: usize, end: usize, v: u8)
     requires { 4 * end ≤ length rows.now }
 {
-    let set = first_row(rows, from, end, v, Deed::Sets);
-    if set < end {
-        print_deed(host, set, b" sets v", v);
+    if let Some(set) = first_row(rows, from, end, v, Deed::Sets) {
+        print_deed(host, set, "sets v", v);
         print_round(host, rows, from, set);
-        return;
+    } else if let Some(off) = first_row(rows, from, end, v, Deed::Clears) {
+        print_deed(host, off, "clears v", v);
+    } else {
+        print_moves(host, rows, from, end, v);
     }
-    let off = first_row(rows, from, end, v, Deed::Clears);
-    if off < end {
-        print_deed(host, off, b" clears v", v);
-        return;
-    }
-    print_moves(host, rows, from, end, v);
 }
 
 // All rows that move a variable.
 fn print_moves(host: &impl Host, rows: &[u32], from: usize, end: usize, v: u8)
     requires { 4 * end ≤ length rows.now }
 {
-    let mut i = from;
-    while i < end {
+    for i in from..end {
         if does(rows, i, v, Deed::Moves) {
-            print_deed(host, i, b" moves v", v);
+            print_deed(host, i, "moves v", v);
             print_round(host, rows, from, i);
         }
-        i += 1;
     }
 }
 
@@ -140,13 +106,11 @@ fn print_moves(host: &impl Host, rows: &[u32], from: usize, end: usize, v: u8)
 fn print_standing(host: &impl Host, rows: &[u32], from: usize, end: usize, v: u8)
     requires { 4 * end ≤ length rows.now }
 {
-    if first_row(rows, from, end, v, Deed::Assigns) < end {
+    if first_row(rows, from, end, v, Deed::Assigns).is_some() {
         print_moves(host, rows, from, end, v);
-        return;
+    } else {
+        println!(host; "  no row of the body moves v{v}");
     }
-    print_text(host, b"  no row of the body moves v");
-    print_number(host, v as u64);
-    print_text(host, b"\n");
 }
 
 // 10: the row that assigns the limit.
@@ -155,12 +119,11 @@ fn print_limit(host: &impl Host, rows: &[u32], head: usize, end: usize)
 {
     match limit_at(rows, head) {
         Operand::Variable(w) => {
-            let row = first_row(rows, head, end, w, Deed::Assigns);
-            print_deed(host, row, b" assigns the limit, v", w);
+            let row = first_row(rows, head, end, w, Deed::Assigns).unwrap_or(end);
+            print_deed(host, row, "assigns the limit, v", w);
         }
-        _ => print_text(
-            host,
-            b"  the limit is an expression: two that close on each other want a variable alone\n",
+        _ => println!(host;
+            "  the limit is an expression: two that close on each other want a variable alone"
         ),
     }
 }
@@ -170,39 +133,31 @@ fn print_watched(host: &impl Host, rows: &[u32], from: usize, off: usize, end: u
     requires { (4 * off + 3 < length rows.now) × (4 * end ≤ length rows.now) }
 {
     let w = watched_at(rows, off);
-    let set = first_row(rows, from, end, w, Deed::Sets);
-    if set < end {
-        print_deed(host, set, b" sets the watched v", w);
+    if let Some(set) = first_row(rows, from, end, w, Deed::Sets) {
+        print_deed(host, set, "sets the watched v", w);
     }
-    if first_row(rows, from, end, w, Deed::Moves) < end {
+    if first_row(rows, from, end, w, Deed::Moves).is_some() {
         print_moves(host, rows, from, end, w);
-        return;
+    } else {
+        println!(host; "  no row of the body moves the watched v{w}");
     }
-    print_text(host, b"  no row of the body moves the watched v");
-    print_number(host, w as u64);
-    print_text(host, b"\n");
 }
 
 // 19: the flag's rows, then the watched variable's.
 fn print_held(host: &impl Host, rows: &[u32], from: usize, end: usize, v: u8)
     requires { 4 * end ≤ length rows.now }
 {
-    let off = first_row(rows, from, end, v, Deed::Clears);
-    if off >= end {
-        print_text(host, b"  no row of the body is an off for v");
-        print_number(host, v as u64);
-        print_text(host, b"\n");
+    let Some(off) = first_row(rows, from, end, v, Deed::Clears) else {
+        println!(host; "  no row of the body is an off for v{v}");
         return;
-    }
-    print_deed(host, off, b" is the off for v", v);
+    };
+    print_deed(host, off, "is the off for v", v);
     print_round(host, rows, from, off);
-    let other = first_row(rows, from, off, v, Deed::Assigns);
-    if other < off {
-        print_deed(host, other, b" assigns it too, v", v);
+    if let Some(other) = first_row(rows, from, off, v, Deed::Assigns) {
+        print_deed(host, other, "assigns it too, v", v);
     }
-    let later = first_row(rows, off + 1, end, v, Deed::Assigns);
-    if later < end {
-        print_deed(host, later, b" assigns it too, v", v);
+    if let Some(later) = first_row(rows, off + 1, end, v, Deed::Assigns) {
+        print_deed(host, later, "assigns it too, v", v);
     }
     print_watched(host, rows, from, off, end);
 }
@@ -211,7 +166,7 @@ fn print_held(host: &impl Host, rows: &[u32], from: usize, end: usize, v: u8)
 pub fn print_term(host: &impl Host, rows: &[u32], count: usize, number: u32, head: usize)
     requires { (head < count) × (count ≤ 256) × (4 * count ≤ length rows.now) }
 {
-    let end = smaller_size(partner_at(rows, head), count);
+    let end = partner_at(rows, head).min(count);
     let v = variable_at(rows, head);
     match number {
         8 => print_unknown(host, rows, head + 1, end, v),

@@ -1,15 +1,22 @@
 // What the programs take of the system: their arguments, standard input, files by name, and what they print.
 #![tactic(auto)]
 
-ghost use Rattle.std.specs.Prelude.{◌≡◌, ◌≤◌, length, IfOk};
-ghost use Rattle.io.specs.Counts.{IsPrefixLen};
+ghost use Rattle.std.specs.Prelude.{◌≤◌, length, IfOk};
 
 use std::cell::Cell;
 use std::env::{Env, FillError};
+use std::fmt::{Display, Write};
 use std::io::{Eprint, ErrorKind, Print, Read};
 use std::process::ExitCode;
 use std::rt::Files;
-use std::{fs, io};
+use std::{fmt, fs, io};
+
+// Why a text is not written whole: a write failed, or nobody reads standard output any more.
+#[derive(Clone, Copy, Debug, PartialEq, Eq)]
+pub enum Lost {
+    Cut,
+    Gone,
+}
 
 // The system, as a program sees it.
 pub trait Host {
@@ -20,9 +27,9 @@ pub trait Host {
     // How many arguments there are, the program's own name among them.
     fn argument_count(&self) -> usize;
 
-    // Puts argument i at the front of `word` and answers its length: 0 for one that is missing or longer than the word.
-    fn argument(&self, i: usize, word: &mut [u8]) -> usize
-        ensures { IsPrefixLen result word.new };
+    // Argument i, put at the front of `word`: empty for one that is missing or longer than the word.
+    fn argument<'a>(&self, i: usize, word: &'a mut [u8]) -> &'a [u8]
+        ensures { length result.now ≤ length word.old };
 
     // Standard input.
     fn reader(&self) -> Self::Reader;
@@ -30,17 +37,32 @@ pub trait Host {
     // The file of that name, if it can be opened for reading. A name that is not UTF-8 opens none: std's names are text.
     fn open(&self, name: &[u8]) -> Option<Self::File>;
 
-    // Writes a text on standard output; false if it is not written whole. Then no text is written any more, so that nothing follows the
-    // gap, and it is said on standard error, once, unless nobody reads standard output any more.
-    fn print(&self, text: &[u8]) -> bool;
+    // Writes a text on standard output. Once one is not written whole, no text is written any more, so that nothing follows the gap, and it
+    // is said on standard error, once, unless nobody reads standard output any more.
+    fn write(&self, text: &[u8]) -> Result<(), Lost>;
+
+    // Writes what a value displays, piece by piece; `print!(host; "..")` calls it.
+    final fn print<D: Display + Drop>(&self, value: D)
+    where
+        Self: Sized,
+    {
+        let _ = write!(Output(self), "{value}");
+    }
+
+    // The same, and a line feed; `println!(host; "..")` calls it.
+    final fn println<D: Display + Drop>(&self, value: D)
+    where
+        Self: Sized,
+    {
+        let _ = write!(Output(self), "{value}\n");
+    }
 }
 
-// A runtime, whether output is lost, and whether it is because its reader has gone.
+// A runtime, and why output is lost, if it is.
 #[derive(Drop)]
 pub struct System<R> {
     rt: R,
-    lost: Cell<bool>,
-    gone: Cell<bool>,
+    lost: Cell<Option<Lost>>,
 }
 
 // Standard input, or nothing.
@@ -62,18 +84,22 @@ impl<R> System<R> {
     pub fn new(rt: R) -> System<R> {
         System {
             rt,
-            lost: Cell::new(false),
-            gone: Cell::new(false),
+            lost: Cell::new(None),
         }
+    }
+
+    fn is_gone(&self) -> bool {
+        self.lost.get() == Some(Lost::Gone)
     }
 
     // The exit status: 0, but 141 if the reader of standard output has gone, which is what a shell tells of a program that the system ends
     // for that.
     pub fn status(&self) -> ExitCode {
-        if self.gone.get() {
-            return ExitCode::from(141);
+        if self.is_gone() {
+            ExitCode::from(141)
+        } else {
+            ExitCode::SUCCESS
         }
-        ExitCode::SUCCESS
     }
 }
 
@@ -87,12 +113,13 @@ impl<R: Env + Files + Input + Print + Eprint> Host for System<R> {
         count_arguments(&self.rt)
     }
 
-    fn argument(&self, i: usize, word: &mut [u8]) -> usize {
-        self.rt.arg(i, word).unwrap_or(0)
+    fn argument<'a>(&self, i: usize, word: &'a mut [u8]) -> &'a [u8] {
+        let n = self.rt.arg(i, word).unwrap_or(0);
+        &word[..n]
     }
 
     fn reader(&self) -> Source<R::Reader> {
-        if self.gone.get() {
+        if self.is_gone() {
             return Source { from: None };
         }
         Source {
@@ -101,39 +128,47 @@ impl<R: Env + Files + Input + Print + Eprint> Host for System<R> {
     }
 
     fn open(&self, name: &[u8]) -> Option<R::File> {
-        if self.gone.get() {
+        if self.is_gone() {
             return None;
         }
         let path = str::from_utf8(name).ok()?;
         fs::open(&self.rt, path).ok()
     }
 
-    fn print(&self, text: &[u8]) -> bool {
-        if text.len() == 0 {
-            return true;
+    fn write(&self, text: &[u8]) -> Result<(), Lost> {
+        if text.is_empty() {
+            return Ok(());
         }
-        if self.lost.get() {
-            return false;
+        if let Some(lost) = self.lost.get() {
+            return Err(lost);
         }
-        match write_out(&self.rt, text) {
-            Written::Whole => return true,
-            Written::Cut => {
+        let written = write_out(&self.rt, text);
+        if let Err(lost) = written {
+            self.lost.set(Some(lost));
+            if lost == Lost::Cut {
                 let _ = self.rt.eprint("error=cannot write\n");
             }
-            Written::Gone => self.gone.set(true),
         }
-        self.lost.set(true);
-        false
+        written
+    }
+}
+
+// What is displayed, on its way to standard output.
+#[derive(Drop)]
+struct Output<'a, H>(&'a H);
+
+impl<H: Host> Write for Output<'_, H> {
+    fn write_str(&mut self, text: &str) -> fmt::Result {
+        match self.0.write(text.as_bytes()) {
+            Ok(()) => Ok(()),
+            Err(_) => Err(fmt::Error),
+        }
     }
 }
 
 fn is_missing(rt: &impl Env, i: usize) -> bool {
     let mut front = [0u8; 1];
-    match rt.arg(i, &mut front) {
-        Ok(_) => false,
-        Err(FillError::TooLong) => false,
-        Err(FillError::NotPresent) => true,
-    }
+    matches!(rt.arg(i, &mut front), Err(FillError::NotPresent))
 }
 
 // The place of the first argument that is missing.
@@ -146,48 +181,28 @@ fn count_arguments(rt: &impl Env) -> usize {
     usize::MAX
 }
 
-// What became of a text: it is written whole; it is not; or its reader has gone.
-#[derive(Clone, Copy)]
-enum Written {
-    Whole,
-    Cut,
-    Gone,
-}
-
-// How many bytes a write took, and whether its reader has gone.
-#[derive(Clone, Copy)]
-struct Taken {
-    count: usize,
-    gone: bool,
-}
-
-// Writes once.
-fn write_some(rt: &impl Print, text: &[u8]) -> Taken
-    ensures { result.count ≤ length text.now }
+// Writes once, and answers how many bytes are taken: none by a write that fails while there is a reader.
+fn write_some(rt: &impl Print, text: &[u8]) -> Result<usize, Lost>
+    ensures { IfOk result (λ count. count ≤ length text.now) }
 {
     match rt.write_some(text) {
-        Ok(count) => Taken { count, gone: false },
-        Err(error) => Taken {
-            count: 0,
-            gone: error.kind() == ErrorKind::BrokenPipe,
-        },
+        Ok(count) => Ok(count),
+        Err(error) if error.kind() == ErrorKind::BrokenPipe => Err(Lost::Gone),
+        Err(_) => Ok(0),
     }
 }
 
 // Writes until all of a text is written or a write takes nothing.
-fn write_all(rt: &impl Print, text: &[u8]) -> Written {
-    let mut done = 0;
-    while done < text.len() {
-        let taken = write_some(rt, &text[done..]);
-        if taken.gone {
-            return Written::Gone;
+fn write_all(rt: &impl Print, text: &[u8]) -> Result<(), Lost> {
+    let mut rest = text;
+    while !rest.is_empty() {
+        let count = write_some(rt, rest)?;
+        if count == 0 {
+            return Err(Lost::Cut);
         }
-        if taken.count == 0 {
-            return Written::Cut;
-        }
-        done += taken.count;
+        rest = &rest[count..];
     }
-    Written::Whole
+    Ok(())
 }
 
 // Whether standard output is a regular file, where the system tells.
@@ -200,16 +215,13 @@ fn writes_to_file(rt: &impl Files) -> bool {
 
 // Writes a text. A file that took a part only has no room for the rest: it is not tried again, since a write past a limit of its size would
 // end the program.
-fn write_out<R: Files + Print>(rt: &R, text: &[u8]) -> Written {
-    let taken = write_some(rt, text);
-    if taken.count == text.len() {
-        return Written::Whole;
-    }
-    if taken.gone {
-        return Written::Gone;
+fn write_out<R: Files + Print>(rt: &R, text: &[u8]) -> Result<(), Lost> {
+    let count = write_some(rt, text)?;
+    if count == text.len() {
+        return Ok(());
     }
     if writes_to_file(rt) {
-        return Written::Cut;
+        return Err(Lost::Cut);
     }
-    write_all(rt, &text[taken.count..])
+    write_all(rt, &text[count..])
 }

@@ -1,55 +1,44 @@
 // Where an expression breaks.
-ghost use Rattle.std.specs.Prelude.{◌≡◌, cond, suc, ◌+◌, ◌≤◌, ◌<◌, length, drop};
+ghost use Rattle.std.specs.Prelude.{◌≡◌, cond, ◌+◌, ◌≤◌, ◌<◌, length, drop, IfSome};
 ghost use Rattle.rules.specs.Parse.{is_mark};
-ghost use Rattle.line_causes.specs.Breaks.{to_mark, leaf_text, is_leaf, on, operates, mark_turn, turn_of, broken_at};
+ghost use Rattle.line_causes.specs.Breaks.{to_mark, leaf_text, is_leaf, on, mark_turn, turn_of, broken_at};
 
 use crate::shapes::is_variable;
 use program_words::is_number;
 
 // A number, a variable or `(` is due; inside a number or a variable; after `)`.
-#[derive(Clone, Copy)]
+#[derive(Clone, Copy, Debug, PartialEq, Eq)]
 pub enum Mode {
     Due,
     Inside,
     Shut,
 }
 
-// Whether the expression goes on, and how.
+// How an expression goes on, with so many parentheses open.
 #[derive(Clone, Copy)]
 pub struct Turn {
-    pub good: bool,
     pub mode: Mode,
     pub depth: usize,
 }
 
 // ( ) * + -
+#[tactic(auto, unfolding(rules::specs::Parse::is_mark))]
 fn is_mark(b: u8) -> bool
     ensures { result ≡ is_mark b }
 {
-    if b < b'(' {
-        return false;
-    }
-    if b <= b'+' {
-        return true;
-    }
-    b == b'-'
+    matches!(b, b'('..=b'+' | b'-')
 }
 
 // How many bytes stand before the first mark.
 fn to_mark(s: &[u8]) -> usize
-    ensures { (result ≡ to_mark s.now) × (result ≤ length s.now) }
+    ensures value { result ≡ to_mark s.now }
+    ensures upper_bound { result ≤ length s.now }
 {
-    let mut i: usize = 0;
-    while i < s.len() {
-        if is_mark(s[i]) {
-            return i;
-        }
-        i += 1;
-    }
-    i
+    s.iter().position(|b| is_mark(*b)).unwrap_or(s.len())
 }
 
 // Is it a number or a variable?
+#[tactic(auto, unfolding(crate::specs::Breaks::is_leaf))]
 fn is_leaf(t: &[u8]) -> bool
     ensures { result ≡ is_leaf t.now }
 {
@@ -66,112 +55,89 @@ fn leaf_at(t: &[u8], at: usize) -> bool
     is_leaf(&t[at..end])
 }
 
-fn operates(b: u8) -> bool
-    ensures { result ≡ operates b }
-{
-    if b == b'*' {
-        return true;
-    }
-    if b == b'+' {
-        return true;
-    }
-    b == b'-'
-}
-
 // After a number, a variable or a parenthesis.
-fn mark_turn(depth: usize, b: u8) -> Turn
-    ensures { (result ≡ mark_turn depth b) × (result.depth ≤ depth) }
+#[tactic(auto, unfolding(crate::specs::Breaks::mark_turn, crate::specs::Breaks::operates))]
+fn mark_turn(depth: usize, b: u8) -> Option<Turn>
+    ensures value { result ≡ mark_turn depth b }
+    ensures open { IfSome result (λ turn. turn.depth ≤ depth) }
 {
-    if operates(b) {
-        return Turn {
-            good: true,
+    match b {
+        b'*' | b'+' | b'-' => Some(Turn {
             mode: Mode::Due,
             depth,
-        };
-    }
-    if b == b')' {
-        if depth > 0 {
-            return Turn {
-                good: true,
-                mode: Mode::Shut,
-                depth: depth - 1,
-            };
-        }
-    }
-    Turn {
-        good: false,
-        mode: Mode::Shut,
-        depth,
+        }),
+        b')' if depth > 0 => Some(Turn {
+            mode: Mode::Shut,
+            depth: depth - 1,
+        }),
+        _ => None,
     }
 }
 
 // Where a number, a variable or `(` is due.
-fn due_turn(t: &[u8], at: usize, depth: usize) -> Turn
+#[tactic(auto, using(crate::proofs::Laws::head_at), unfolding(crate::specs::Breaks::turn_of))]
+fn due_turn(t: &[u8], at: usize, depth: usize) -> Option<Turn>
     requires { (at < length t.now) × (depth ≤ at) }
-    ensures { (result ≡ turn_of Mode.Due depth (drop at t.now)) × (result.depth ≤ at + 1) }
+    ensures value { result ≡ turn_of Mode.Due depth (drop at t.now) }
+    ensures open { IfSome result (λ turn. turn.depth ≤ at + 1) }
 {
     if t[at] == b'(' {
-        return Turn {
-            good: true,
+        return Some(Turn {
             mode: Mode::Due,
             depth: depth + 1,
-        };
+        });
     }
     if leaf_at(t, at) {
-        return Turn {
-            good: true,
+        return Some(Turn {
             mode: Mode::Inside,
             depth,
-        };
+        });
     }
-    Turn {
-        good: false,
-        mode: Mode::Due,
-        depth,
-    }
+    None
 }
 
 // Inside a number or a variable.
-fn inside_turn(depth: usize, b: u8) -> Turn
-    ensures { (result ≡ cond (is_mark b) (mark_turn depth b) (on Mode.Inside depth)) × (result.depth ≤ depth) }
+fn inside_turn(depth: usize, b: u8) -> Option<Turn>
+    ensures value { result ≡ cond (is_mark b) (mark_turn depth b) (on Mode.Inside depth) }
+    ensures open { IfSome result (λ turn. turn.depth ≤ depth) }
 {
     if is_mark(b) {
         return mark_turn(depth, b);
     }
-    Turn {
-        good: true,
+    Some(Turn {
         mode: Mode::Inside,
         depth,
-    }
+    })
 }
 
-// What the byte `at` of an expression does.
-fn turn_at(t: &[u8], at: usize, mode: Mode, depth: usize) -> Turn
-    requires { (at < length t.now) × (depth ≤ at) }
-    ensures { (result ≡ turn_of mode depth (drop at t.now)) × (result.depth ≤ at + 1) }
+// What the byte `at` of an expression does, if it goes on there.
+#[tactic(auto, using(crate::proofs::Laws::head_at), unfolding(crate::specs::Breaks::turn_of))]
+fn turn_at(t: &[u8], at: usize, turn: Turn) -> Option<Turn>
+    requires { (at < length t.now) × (turn.depth ≤ at) }
+    ensures value { result ≡ turn_of turn.mode turn.depth (drop at t.now) }
+    ensures open { IfSome result (λ next. next.depth ≤ at + 1) }
 {
-    match mode {
-        Mode::Due => due_turn(t, at, depth),
-        Mode::Inside => inside_turn(depth, t[at]),
-        Mode::Shut => mark_turn(depth, t[at]),
+    match turn.mode {
+        Mode::Due => due_turn(t, at, turn.depth),
+        Mode::Inside => inside_turn(turn.depth, t[at]),
+        Mode::Shut => mark_turn(turn.depth, t[at]),
     }
 }
 
 // How many bytes of a word may be the beginning of an expression.
 pub fn broken_at(t: &[u8]) -> usize
-    ensures { (result ≡ broken_at t.now) × (result ≤ length t.now) }
+    ensures value { result ≡ broken_at t.now }
+    ensures upper_bound { result ≤ length t.now }
 {
-    let mut mode = Mode::Due;
-    let mut depth: usize = 0;
-    let mut at: usize = 0;
-    while at < t.len() {
-        let next = turn_at(t, at, mode, depth);
-        if !next.good {
+    let mut turn = Turn {
+        mode: Mode::Due,
+        depth: 0,
+    };
+    for at in 0..t.len() {
+        let Some(next) = turn_at(t, at, turn) else {
             return at;
-        }
-        mode = next.mode;
-        depth = next.depth;
-        at += 1;
+        };
+        turn = next;
     }
-    at
+    t.len()
 }

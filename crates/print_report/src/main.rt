@@ -2,52 +2,44 @@
 #![tactic(auto)]
 
 use host::{Host, System};
-use program_parts::{WORD, print_text};
+use program_parts::WORD;
 use std::process::ExitCode;
 
 fn help(host: &impl Host) {
-    print_text(host, b"print_report [FILE]\n");
-    print_text(
-        host,
-        b"prints the report of a script, FILE or standard input, or its refusal, `refused=NUMBER PLACE`\n",
+    println!(host; "print_report [FILE]");
+    println!(host;
+        "prints the report of a script, FILE or standard input, or its refusal, `refused=NUMBER PLACE`"
     );
-    print_text(host, b"example: print_report examples/listing.eff\n");
+    println!(host; "example: print_report examples/listing.eff");
 }
 
 // The file that argument 1 names.
 fn report_named(host: &impl Host) {
-    let mut name = [0u8; WORD];
-    let n = host.argument(1, &mut name);
-    program_parts::report_file(host, &name[..n]);
+    let mut buffer = [0u8; WORD];
+    program_parts::report_file(host, host.argument(1, &mut buffer));
 }
 
 // Says that there is an argument too many.
 fn refuse_more(host: &impl Host) {
-    let mut word = [0u8; WORD];
-    let n = host.argument(2, &mut word);
+    let mut buffer = [0u8; WORD];
     program_parts::print_wrong(
         host,
-        b"error=print_report takes one FILE, not also",
-        &word[..n],
+        "error=print_report takes one FILE, not also",
+        host.argument(2, &mut buffer),
     );
 }
 
 // What the arguments ask for.
 fn run(host: &impl Host) {
-    let arguments = host.argument_count();
     if program_parts::asks_help(host) {
         help(host);
         return;
     }
-    if arguments < 2 {
-        program_parts::report_input(host);
-        return;
+    match host.argument_count() {
+        0 | 1 => program_parts::report_input(host),
+        2 => report_named(host),
+        _ => refuse_more(host),
     }
-    if arguments > 2 {
-        refuse_more(host);
-        return;
-    }
-    report_named(host);
 }
 
 fn main(rt: HostRuntime) -> ExitCode {

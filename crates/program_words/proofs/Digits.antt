@@ -1,6 +1,6 @@
 -- Digits one by one, and the number that they spell. Assumes nothing.
 use mathlib.Core.Path.{◌≡◌, refl, sym, ◌∙◌, ap}
-use mathlib.Core.Bool.{Bool, true, false, cond}
+use mathlib.Core.Bool.{Bool, true, false, cond, ◌&&◌}
 use mathlib.Core.List.{List, [], ◌∷◌}
 use Prim.Native.Nat.{ℕ, suc, ◌+◌, ◌*◌, ◌-◌, ◌≤◌, ◌<◌}
 use native.Mathlib.Omega.{arith}
@@ -10,22 +10,9 @@ use lib.ListN.{length, get_or, drop}
 use Rattle.rules.specs.Text.{is_digit, all_digits, value_from}
 use Rattle.reading.proofs.TextLaws.{all_more, all_stop, all_end, value_more, value_end}
 use Rattle.program_words.specs.Words.{digit_of, sized, spelled_in}
-use Rattle.program_words.specs.declared.Number.{Number}
-use Rattle.program_words.specs.declared.Number.TheVariants.{Is, Malformed}
+use Rattle.std.specs.Prelude.{Option, None, Some}
 
 -- ---- one digit
-pub digit_low : (b : ℕ) → b < 48 → 10 ≡ digit_of b
-unfolding digit_of is_digit
-digit_low b h = rw (lt-leb 48 b h)
-
-pub digit_high : (b : ℕ) → 48 ≤ b → 57 < b → 10 ≡ digit_of b
-unfolding digit_of is_digit
-digit_high b h k = rw (le-leb 48 b h, lt-leb b 57 k)
-
-pub digit_in : (b : ℕ) → 48 ≤ b → b ≤ 57 → b - 48 ≡ digit_of b
-unfolding digit_of is_digit
-digit_in b h k = rw (le-leb 48 b h, le-leb b 57 k)
-
 -- a byte is a digit, or it has no value
 pub data Read (b : ℕ) : Type 0 where
   digit : is_digit b ≡ true → digit_of b ≡ b - 48 → digit_of b ≤ 9 → Read b
@@ -40,20 +27,50 @@ reads b = by (leb 48 b) (leb b 57) refl refl
     by true false e f = other (rw (e, f)) (rw (e, f))
     by false q e f = other (rw e) (rw e)
 
--- by the test of the code
-pub digit_not : (b d : ℕ) → d ≡ digit_of b → 9 < d → is_digit b ≡ false
-digit_not b d e h = by (reads b)
-  where
-    by : Read b → is_digit b ≡ false
-    by (digit p q l) = absurd (omega arith)
-    by (other p q) = p
+-- by the range of the code
+pub digit_in : (b : ℕ) → 48 ≤ b → b ≤ 57 → Some (b - 48) ≡ cond (is_digit b) (Some (digit_of b)) None
+unfolding digit_of is_digit
+digit_in b h k = rw (le-leb 48 b h, le-leb b 57 k)
 
-pub digit_is : (b d : ℕ) → d ≡ digit_of b → d ≤ 9 → is_digit b ≡ true
-digit_is b d e h = by (reads b)
+pub digit_low : (b : ℕ) → b < 48 → None ≡ cond (is_digit b) (Some (digit_of b)) None
+unfolding digit_of is_digit
+digit_low b h = rw (lt-leb 48 b h)
+
+pub digit_high : (b : ℕ) → 57 < b → None ≡ cond (is_digit b) (Some (digit_of b)) None
+unfolding digit_of is_digit
+digit_high b h = go (leb 48 b)
   where
-    by : Read b → is_digit b ≡ true
-    by (digit p q l) = p
-    by (other p q) = absurd (omega arith)
+    go : (t : Bool) → None ≡ cond (t && leb b 57) (Some (cond (t && leb b 57) (b - 48) 10)) None
+    go true = rw (lt-leb b 57 h)
+    go false = refl
+
+-- by the answer of the code
+pub digit_none : (b : ℕ) → None ≡ cond (is_digit b) (Some (digit_of b)) None → is_digit b ≡ false
+digit_none b e = by (is_digit b) refl e
+  where
+    by : (t : Bool) → is_digit b ≡ t → None ≡ cond t (Some (digit_of b)) None → is_digit b ≡ false
+    by true f g = absurd (cc)
+    by false f g = f
+
+pub digit_some : (b d : ℕ) → Some d ≡ cond (is_digit b) (Some (digit_of b)) None → (is_digit b ≡ true) × (d ≡ b - 48)
+digit_some b d e = by (reads b) e
+  where
+    by : Read b → Some d ≡ cond (is_digit b) (Some (digit_of b)) None → (is_digit b ≡ true) × (d ≡ b - 48)
+    by (digit p q l) f = (p, let g = rw p at f in cc)
+    by (other p q) f = let g = rw p at f in absurd (cc)
+
+pub digit_here : (b : ℕ) → 48 ≤ b → b ≤ 57 → is_digit b ≡ true
+unfolding is_digit
+digit_here b h k = rw (le-leb 48 b h, le-leb b 57 k)
+
+pub digit_range : (b : ℕ) → is_digit b ≡ true → (48 ≤ b) × (b ≤ 57)
+unfolding is_digit
+digit_range b e = go (leb 48 b) (leb b 57) refl refl e
+  where
+    go : (p q : Bool) → leb 48 b ≡ p → leb b 57 ≡ q → (p && q) ≡ true → (48 ≤ b) × (b ≤ 57)
+    go true true f g h = (leb-true 48 b f, leb-true b 57 g)
+    go true false f g h = absurd (cc)
+    go false q f g h = absurd (cc)
 
 -- ---- the number up to a byte
 pub record Spelling (w : List ℕ) (n i : ℕ) : Type 0 where
@@ -68,40 +85,31 @@ unfolding value_from
 value_grows [] a = omega arith
 value_grows (b ∷ s) a = omega (arith, value_grows s (a * 10 + (b - 48)))
 
-too_large : (v : ℕ) → 18_446_744_073_709_551_615 < v → sized v ≡ Malformed
+too_large : (v : ℕ) → 18_446_744_073_709_551_615 < v → sized v ≡ None
 unfolding sized
 too_large v h = rw (lt-leb v 18_446_744_073_709_551_615 h)
 
-either : (t : Bool) (x : Number) → x ≡ Malformed → cond t x Malformed ≡ Malformed
+either : (t : Bool) (x : Option ℕ) → x ≡ None → cond t x None ≡ None
 either true x e = e
 either false x e = refl
 
 module _ (w : List ℕ) (n i : ℕ) (now : Spelling w n i) where
-  module _ (h : i < length w) (d : ℕ) (e : d ≡ digit_of (get_or w i 0)) where
+  module _ (h : i < length w) where
     -- no digit
-    pub spelling_stops : 9 < d → Malformed ≡ spelled_in w
+    pub spelling_stops : is_digit (get_or w i 0) ≡ false → None ≡ spelled_in w
     unfolding spelled_in
-    spelling_stops k = by (reads (get_or w i 0))
-      where
-        by : Read (get_or w i 0) → Malformed ≡ cond (all_digits w) (sized (value_from 0 w)) Malformed
-        by (digit p q l) = absurd (omega arith)
-        by (other p q) = rw (now.digits, all_stop w i h p)
+    spelling_stops p = rw (now.digits, all_stop w i h p)
 
-    -- one digit more
-    pub spelling_more : d ≤ 9 → Spelling w (n * 10 + d) (suc i)
-    spelling_more k = by (reads (get_or w i 0))
-      where
-        by : Read (get_or w i 0) → Spelling w (n * 10 + d) (suc i)
-        by (digit p q l) = record { digits = now.digits ∙ all_more w i h p; value = now.value ∙ value_more w i n h ∙ ap (λ x. value_from (n * 10 + x) (drop (suc i) w)) (sym (e ∙ q)) }
-        by (other p q) = absurd (omega arith)
+    module _ (d : ℕ) (e : (is_digit (get_or w i 0) ≡ true) × (d ≡ get_or w i 0 - 48)) where
+      -- one digit more
+      pub spelling_more : Spelling w (n * 10 + d) (suc i)
+      spelling_more = record { digits = now.digits ∙ all_more w i h e.0; value = now.value ∙ value_more w i n h ∙ ap (λ x. value_from (n * 10 + x) (drop (suc i) w)) (sym e.1) }
 
-    -- too many
-    pub spelling_past : d ≤ 9 → 18_446_744_073_709_551_615 < n * 10 + d → Malformed ≡ spelled_in w
-    unfolding spelled_in
-    spelling_past k l =
-        let more = spelling_more k in
-        sym (either (all_digits w) _ (too_large _ (omega (arith, more.value, value_grows (drop (suc i) w) (n * 10 + d)))))
+      -- too many
+      pub spelling_past : 18_446_744_073_709_551_615 < n * 10 + d → None ≡ spelled_in w
+      unfolding spelled_in
+      spelling_past l = sym (either (all_digits w) _ (too_large _ (omega (arith, spelling_more.value, value_grows (drop (suc i) w) (n * 10 + d)))))
 
-  pub spelling_ends : length w ≤ i → n ≤ 18_446_744_073_709_551_615 → Is n ≡ spelled_in w
+  pub spelling_ends : length w ≤ i → n ≤ 18_446_744_073_709_551_615 → Some n ≡ spelled_in w
   unfolding spelled_in sized
   spelling_ends h k = rw (now.digits, all_end w i h, now.value, value_end w i n h, le-leb n 18_446_744_073_709_551_615 k)

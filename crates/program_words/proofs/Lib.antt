@@ -1,4 +1,5 @@
 -- The words of a program's arguments and input: numbers, picks, lists.
+pub mod Slices
 pub mod Bits
 pub mod Digits
 pub mod Words

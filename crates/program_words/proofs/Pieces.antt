@@ -1,16 +1,13 @@
--- The pieces of a text between separators, one after the other. Assumes nothing.
-use mathlib.Core.Path.{◌≡◌, refl, sym, ap, ◌∙◌}
+-- Where the first piece of a text ends. Assumes nothing.
+use mathlib.Core.Path.{◌≡◌, ap, ◌∙◌}
 use mathlib.Core.Bool.{Bool, true, false, cond}
 use mathlib.Core.List.{List, [], ◌∷◌}
-use Prim.Native.Nat.{ℕ, suc, ◌+◌, ◌-◌, ◌≤◌, ◌<◌}
+use Prim.Native.Nat.{ℕ, suc, ◌+◌, ◌-◌, ◌≤◌}
 use native.Mathlib.Omega.{arith}
-use borrow.Author.Tests.{eqb-true, eqb-false}
 use lib.Dec.{eqb}
 use lib.ListN.{length, take, drop, length-drop}
-use lib.Seq.{drop-drop, take_all}
-use Rattle.rules.specs.Text.{split}
 use Rattle.reading.specs.Words.{before}
-use Rattle.reading.proofs.TextLaws.{part_rest, split_more, split_last}
+use Rattle.reading.proofs.TextLaws.{part_rest}
 
 before_within : (b : ℕ) (s : List ℕ) → before b s ≤ length s
 unfolding before
@@ -28,24 +25,3 @@ module _ (b : ℕ) (s : List ℕ) (at end : ℕ) (w : at ≤ length s) (e : end 
 
   pub piece_within : (at ≤ end) × (end ≤ length s)
   piece_within = (omega (arith, ends), omega (arith, ends, before_within b (drop at s), length-drop at s))
-
-  pub piece_last : end ≡ length s → split b (drop at s) ≡ take (end - at) (drop at s) ∷ []
-  piece_last h =
-      split_last b (drop at s) (omega (arith, ends, length-drop at s))
-      ∙ ap (λ p. p ∷ []) (sym (take_all (end - at) (drop at s) (omega (arith, length-drop at s))))
-
-  pub piece_more : (end ≡ length s → ⊥) → split b (drop at s) ≡ take (end - at) (drop at s) ∷ split b (drop (end + 1) s)
-  piece_more h =
-      let long : before b (drop at s) < length (drop at s) = omega (arith, ends, length-drop at s, piece_within, h) in
-      let n : before b (drop at s) ≡ end - at = omega (arith, ends) in
-      let m : at + suc (before b (drop at s)) ≡ end + 1 = omega (arith, ends) in
-      split_more b (drop at s) long
-      ∙ ap (λ k. take k (drop at s) ∷ split b (drop (suc (before b (drop at s))) (drop at s))) n
-      ∙ ap (λ t. take (end - at) (drop at s) ∷ split b t) (drop-drop (suc (before b (drop at s))) at s ∙ ap (λ k. drop k s) m)
-
-  pub piece_first : (ps : List (List ℕ)) × (split b (drop at s) ≡ take (end - at) (drop at s) ∷ ps)
-  piece_first = go (eqb end (length s)) refl
-    where
-      go : (t : Bool) → eqb end (length s) ≡ t → (ps : List (List ℕ)) × (split b (drop at s) ≡ take (end - at) (drop at s) ∷ ps)
-      go true h = (_, piece_last (eqb-true _ _ h))
-      go false h = (_, piece_more (eqb-false _ _ h))

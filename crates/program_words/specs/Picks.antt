@@ -1,10 +1,9 @@
 -- Picks that a program finds itself: `picks=random:SEED`, drawn from a seed, and `picks=ask`.
-use Rattle.std.specs.Prelude.{cond, List, [], ◌∷◌, ℕ, zero, suc, ◌+◌, ◌*◌, ◌/◌, ◌%◌, drop}
+use Rattle.std.specs.Prelude.{Option, None, Some, cond, List, [], ◌∷◌, ℕ, zero, suc, ◌+◌, ◌*◌, ◌/◌, ◌%◌, drop}
 use Rattle.rules.specs.Text.{starts_with, equals}
-use Rattle.program_words.specs.declared.Number as numbers
 use Rattle.program_words.specs.Words.{number_in}
 use Rattle.program_words.specs.declared.picks.PicksBy.{PicksBy}
-use Rattle.program_words.specs.declared.picks.PicksBy.TheVariants.{Word, Seed, Ask, Malformed}
+use Rattle.program_words.specs.declared.picks.PicksBy.TheVariants.{Word, Seed, Ask}
 
 -- `picks=ask`
 abbrev pub ask_word : List ℕ
@@ -15,13 +14,13 @@ abbrev pub random_key : List ℕ
 random_key = 112 ∷ 105 ∷ 99 ∷ 107 ∷ 115 ∷ 61 ∷ 114 ∷ 97 ∷ 110 ∷ 100 ∷ 111 ∷ 109 ∷ 58 ∷ []
 
 -- a seed, if it is a number
-abbrev pub seed_of : numbers.Number → PicksBy
-seed_of (numbers.TheVariants.Is n) = Seed n
-seed_of numbers.TheVariants.Malformed = Malformed
+abbrev pub seed_of : Option ℕ → Option PicksBy
+seed_of (Some n) = Some (Seed n)
+seed_of None = None
 
 -- how a word says the picks
-unfoldable pub picks_by : List ℕ → PicksBy
-picks_by w = cond (equals ask_word w) Ask (cond (starts_with random_key w) (seed_of (number_in (drop 13 w))) Word)
+unfoldable pub picks_by : List ℕ → Option PicksBy
+picks_by w = cond (equals ask_word w) (Some Ask) (cond (starts_with random_key w) (seed_of (number_in (drop 13 w))) (Some Word))
 
 -- the generator: the next number, below 2^31
 unfoldable pub next_drawn : ℕ → ℕ

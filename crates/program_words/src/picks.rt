@@ -2,32 +2,26 @@
 ghost use Rattle.std.specs.Prelude.{◌≡◌, ◌<◌, length};
 ghost use Rattle.program_words.specs.Picks.{picks_by, next_drawn, seed_picks};
 
-use crate::{Number, is_word, read_number};
-use reading::text::starts_with;
+use crate::read_number;
 
-// How a word says the picks: it is a word of them; they are drawn from a seed; they are asked for; or its seed is no number.
+// How a word says the picks: it is a word of them; they are drawn from a seed; or they are asked for.
 #[derive(Clone, Copy)]
 pub enum PicksBy {
     Word,
     Seed(u64),
     Ask,
-    Malformed,
 }
 
-// How this word says them.
-pub fn picks_by(word: &[u8]) -> PicksBy
+// How this word says them; none if its seed is no number.
+pub fn picks_by(word: &[u8]) -> Option<PicksBy>
     ensures { result ≡ picks_by word.now }
 {
-    if is_word(word, b"picks=ask") {
-        return PicksBy::Ask;
+    if word == b"picks=ask".as_slice() {
+        return Some(PicksBy::Ask);
     }
-    if !starts_with(word, b"picks=random:") {
-        return PicksBy::Word;
-    }
-    let seed = read_number(&word[13..]);
-    match seed {
-        Number::Is(n) => PicksBy::Seed(n),
-        Number::Malformed => PicksBy::Malformed,
+    match word.strip_prefix(b"picks=random:") {
+        Some(seed) => Some(PicksBy::Seed(read_number(seed)?)),
+        None => Some(PicksBy::Word),
     }
 }
 
@@ -44,10 +38,8 @@ pub fn put_drawn(seed: u64, picks: &mut [u8])
     ensures { picks.new ≡ seed_picks seed (length picks.old) }
 {
     let mut x = seed % 2_147_483_648;
-    let mut i: usize = 0;
-    while i < picks.len() {
+    for pick in picks {
         x = next_drawn(x);
-        picks[i] = (x / 1_073_741_824) as u8;
-        i += 1;
+        *pick = (x / 1_073_741_824) as u8;
     }
 }

@@ -2,11 +2,11 @@
 #![tactic(auto)]
 
 use host::System;
-use program_parts::LineKind;
+use program_parts::{answer_input, report_file};
 use std::process::ExitCode;
 
 fn main(rt: HostRuntime) -> ExitCode {
     let host = System::new(rt);
-    program_parts::answer_input(&host, LineKind::File);
+    answer_input(&host, |host, name| report_file(host, name));
     host.status()
 }

@@ -3,11 +3,11 @@
 #![tactic(auto)]
 
 use host::System;
-use program_parts::LineKind;
+use program_parts::{answer_input, run_line};
 use std::process::ExitCode;
 
 fn main(rt: HostRuntime) -> ExitCode {
     let host = System::new(rt);
-    program_parts::answer_input(&host, LineKind::Run);
+    answer_input(&host, |host, line| run_line(host, line));
     host.status()
 }

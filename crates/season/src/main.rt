@@ -2,31 +2,42 @@
 // `files` first a line for each name. For no name or more than 64 it prints `refused=18 0`.
 #![tactic(auto)]
 
-ghost use Rattle.std.specs.Prelude.{◌≡◌, true, ◌≤◌, ◌<◌, length};
-ghost use Rattle.io.specs.Counts.{IsPrefixLen};
+ghost use Rattle.std.specs.Prelude.{◌≡◌, ◌≤◌, ◌<◌, length};
 ghost use Rattle.season.specs.Listed.{Listed, SheetOf};
 
-use byte_slices::find;
 use host::{Host, System};
-use ints::min_max::smaller_size;
-use program_parts::{
-    Input, WORD, print_front, print_number, print_refusal, print_text, read_file, read_some,
-};
-use rules::Reply;
+use program_parts::{WORD, is_argument, print_refusal, print_text, read_file};
 use season_sheet::files::{CUES, FILES, REPORTS, add_file};
 use season_sheet::names::{LINE, LINES, ROOM};
 use season_sheet::sheet::{Sheet, TEXT};
+use std::io::Read;
 use std::process::ExitCode;
 
-// The names so far: the line that is open, whether more is to be read, and whether a read failed.
+// What came of a read: there may be more; there is no need of more; or it failed.
+#[derive(Clone, Copy, Debug, PartialEq, Eq)]
+enum Came {
+    More,
+    End,
+    Failed,
+}
+
+// The names so far: the line that is open, and what came of the last read.
 #[derive(Clone, Copy)]
 struct Listing {
     line: usize,
-    more: bool,
-    failed: bool,
+    came: Came,
 }
 
-// Reads a block of standard input. After 65 lines there is no need of more.
+// What came of a read of so many bytes. After 65 lines there is no need of more.
+fn came_of(n: usize, line: usize) -> Came {
+    if n > 0 && line < LINES {
+        Came::More
+    } else {
+        Came::End
+    }
+}
+
+// Reads a block of standard input.
 fn read_block(
     host: &impl Host,
     line: usize,
@@ -36,34 +47,35 @@ fn read_block(
     ensures { (Listed line names.old lengths.old → Listed result.line names.new lengths.new) }
 {
     let mut block = io::large_buffer();
-    let mut from = host.reader();
-    let input = read_some(&mut from, &mut block);
-    let n = input.length;
+    let Ok(n) = host.reader().read(&mut block) else {
+        return Listing {
+            line,
+            came: Came::Failed,
+        };
+    };
     let next = season_sheet::names::push_all(line, &block[..n], names, lengths);
     Listing {
         line: next,
-        more: n > 0 && next < LINES,
-        failed: input.failed,
+        came: came_of(n, next),
     }
 }
 
-// Reads the names. A proved loop has to end, and nothing says that standard input does: the loop counts its turns down, from a number that
-// no run uses up.
+// Reads the names. A proved loop has to end, and nothing says that standard input does: the loop counts its turns up to a number that no
+// run reaches.
 fn read_names(host: &impl Host, names: &mut [u8; ROOM], lengths: &mut [usize; 66]) -> Listing
     ensures { Listed result.line names.new lengths.new }
 {
-    let mut line = season_sheet::names::start(names, lengths);
-    let mut more = true;
-    let mut failed = false;
-    let mut turns = u64::MAX;
-    while turns > 0 && more {
-        let list = read_block(host, line, names, lengths);
-        line = list.line;
-        more = list.more;
-        failed = list.failed;
-        turns -= 1;
+    let mut list = Listing {
+        line: season_sheet::names::start(names, lengths),
+        came: Came::More,
+    };
+    for _ in 0..u64::MAX {
+        list = read_block(host, list.line, names, lengths);
+        if list.came != Came::More {
+            break;
+        }
     }
-    Listing { line, more, failed }
+    list
 }
 
 // Keeps argument i as a name.
@@ -76,9 +88,9 @@ fn keep_argument(
 ) -> usize
     ensures { (Listed line names.old lengths.old → Listed result names.new lengths.new) }
 {
-    let mut word = [0u8; WORD];
-    let n = host.argument(i, &mut word);
-    let next = season_sheet::names::push_all(line, &word[..n], names, lengths);
+    let mut buffer = [0u8; WORD];
+    let word = host.argument(i, &mut buffer);
+    let next = season_sheet::names::push_all(line, word, names, lengths);
     season_sheet::names::push_all(next, b"\n", names, lengths)
 }
 
@@ -93,43 +105,28 @@ fn argument_names(
     ensures { Listed result names.new lengths.new }
 {
     let mut line = season_sheet::names::start(names, lengths);
-    let mut i = first;
-    while i < arguments {
-        let next = keep_argument(host, i, line, names, lengths);
-        line = next;
-        i += 1;
+    for i in first..arguments {
+        line = keep_argument(host, i, line, names, lengths);
     }
     line
 }
 
-// Reads the file of name k. A name that is not to be opened, and a file that cannot be opened or read, has no byte.
-fn read_named(
+// Reads the file of name k; none of a name that is not to be opened, and of a file that cannot be opened or read.
+fn read_named<'a>(
     host: &impl Host,
     k: usize,
     names: &[u8],
     lengths: &[usize; 66],
-    file: &mut [u8],
-) -> Input
+    file: &'a mut [u8],
+) -> Option<&'a [u8]>
     requires { (k < 64) × (length names.now ≡ 16_640) }
-    ensures { IsPrefixLen result.length file.new × (result.failed ≡ true → result.length ≡ 0) }
 {
     let n = season_sheet::names::opened(k, names, lengths);
     if n == 0 {
-        return Input {
-            length: 0,
-            failed: true,
-        };
+        return None;
     }
-    let a = k * LINE;
-    let e = a + n;
-    let input = read_file(host, &names[a..e], file);
-    if input.failed {
-        return Input {
-            length: 0,
-            failed: true,
-        };
-    }
-    input
+    let from = k * LINE;
+    read_file(host, &names[from..from + n], file)
 }
 
 // Prints what is found of a file: its ticks, or its refusal.
@@ -137,37 +134,23 @@ fn print_figures(host: &impl Host, file: &[u8]) {
     let mut report = [0u8; 2_089];
     let mut cues = [0u32; 256];
     let found = season_sheet::files::measure(file, &mut report, &mut cues);
-    let reply = found.reply;
-    match reply {
-        Reply::Accepted(_) => {
-            print_text(host, b"ticks=");
-            print_number(host, found.ticks);
-            print_text(host, b"\n");
-        }
-        Reply::Refused(number, place) => print_refusal(host, number, place),
+    match found.reply {
+        Ok(_) => println!(host; "ticks={}", found.ticks),
+        Err(refusal) => print_refusal(host, refusal),
     }
 }
 
 // Prints the line of name k: the name, and its file's ticks or refusal, or that it cannot be read.
-fn print_line(
-    host: &impl Host,
-    k: usize,
-    names: &[u8],
-    lengths: &[usize; 66],
-    unreadable: bool,
-    file: &[u8],
-)
+fn print_line(host: &impl Host, k: usize, names: &[u8], lengths: &[usize; 66], file: Option<&[u8]>)
     requires { (k < 64) × (length names.now ≡ 16_640) }
 {
-    let a = k * LINE;
-    let e = a + smaller_size(lengths[k], LINE);
-    print_text(host, &names[a..e]);
-    print_text(host, b": ");
-    if unreadable {
-        print_text(host, b"unreadable\n");
-        return;
+    let from = k * LINE;
+    print_text(host, &names[from..from + lengths[k].min(LINE)]);
+    print!(host; ": ");
+    match file {
+        Some(file) => print_figures(host, file),
+        None => println!(host; "unreadable"),
     }
-    print_figures(host, file);
 }
 
 // The sheet of the first `count` names; with `listing` it prints a line for each.
@@ -187,16 +170,14 @@ fn sheet_of(
     let mut fired = [0usize; FILES];
     let mut cues = [0u32; CUES];
     let mut sheet = season_sheet::sheet::empty(counts);
-    let mut k = 0;
-    while k < count {
-        let mut file = [0u8; 16_385];
-        let input = read_named(host, k, names, lengths, &mut file);
-        let n = input.length;
+    for k in 0..count {
+        let mut buffer = [0u8; 16_385];
+        let file = read_named(host, k, names, lengths, &mut buffer);
         if listing {
-            print_line(host, k, names, lengths, input.failed, &file[..n]);
+            print_line(host, k, names, lengths, file);
         }
-        let next = add_file(
-            &file[..n],
+        sheet = add_file(
+            file.unwrap_or(b""),
             sheet,
             counts,
             &mut firsts,
@@ -204,8 +185,6 @@ fn sheet_of(
             &mut fired,
             &mut cues,
         );
-        sheet = next;
-        k += 1;
     }
     sheet
 }
@@ -217,75 +196,54 @@ fn print_sheet(host: &impl Host, count: usize, names: &[u8], lengths: &[usize; 6
     let mut text = [0u8; TEXT];
     let sheet = sheet_of(host, count, names, lengths, listing, &mut counts);
     let n = season_sheet::sheet::put_sheet(sheet, &counts, &mut text);
-    print_front(host, &text, n);
+    print_text(host, &text[..n.min(TEXT)]);
 }
 
 fn print_no_sheet(host: &impl Host) {
     let mut text = [0u8; 64];
     let n = season_sheet::sheet::put_refusal(&mut text);
-    print_front(host, &text, n);
+    print_text(host, &text[..n.min(64)]);
 }
 
 // Prints the sheet of the names that are kept, if no read of them failed.
-fn print_season(
-    host: &impl Host,
-    line: usize,
-    names: &[u8],
-    lengths: &[usize; 66],
-    failed: bool,
-    listing: bool,
-)
+fn print_season(host: &impl Host, list: Listing, names: &[u8], lengths: &[usize; 66], listing: bool)
     requires { length names.now ≡ 16_640 }
 {
-    let count = season_sheet::names::count(line, lengths);
+    let count = season_sheet::names::count(list.line, lengths);
     if count == 0 {
         print_no_sheet(host);
-        return;
+    } else if list.came == Came::Failed {
+        println!(host; "error=cannot read the names");
+    } else {
+        print_sheet(host, count, names, lengths, listing);
     }
-    if failed {
-        print_text(host, b"error=cannot read the names\n");
-        return;
-    }
-    print_sheet(host, count, names, lengths, listing);
 }
 
-// The first argument that holds a line feed, or the number of arguments.
-fn broken_name(host: &impl Host, first: usize, arguments: usize) -> usize {
-    let mut i = first;
-    while i < arguments {
-        if holds_line_feed(host, i) {
-            return i;
-        }
-        i += 1;
+// Says so of an argument that holds a line feed: it is no name of a line.
+fn refuse_name(host: &impl Host, i: usize) -> bool {
+    let mut buffer = [0u8; WORD];
+    let word = host.argument(i, &mut buffer);
+    let broken = word.contains(&b'\n');
+    if broken {
+        program_parts::print_wrong(host, "error=a name holds a line feed", word);
     }
-    arguments
-}
-
-// Whether argument i holds a line feed.
-fn holds_line_feed(host: &impl Host, i: usize) -> bool {
-    let mut word = [0u8; WORD];
-    let n = host.argument(i, &mut word);
-    find(&word, 0, n, b'\n') < n
-}
-
-// Says that a name is no name of a line.
-fn refuse_name(host: &impl Host, i: usize) {
-    let mut word = [0u8; WORD];
-    let n = host.argument(i, &mut word);
-    program_parts::print_wrong(host, b"error=a name holds a line feed", &word[..n]);
+    broken
 }
 
 // The names that the arguments from `first` on are.
 fn from_arguments(host: &impl Host, first: usize, arguments: usize, listing: bool) {
-    let broken = broken_name(host, first, arguments);
-    if broken < arguments {
-        refuse_name(host, broken);
-        return;
+    for i in first..arguments {
+        if refuse_name(host, i) {
+            return;
+        }
     }
     let mut names = [0u8; ROOM];
     let mut lengths = [0usize; 66];
-    let line = argument_names(host, first, arguments, &mut names, &mut lengths);
-    print_season(host, line, &names, &lengths, false, listing);
+    let list = Listing {
+        line: argument_names(host, first, arguments, &mut names, &mut lengths),
+        came: Came::End,
+    };
+    print_season(host, list, &names, &lengths, listing);
 }
 
 // The names on standard input.
@@ -293,57 +251,35 @@ fn from_input(host: &impl Host, listing: bool) {
     let mut names = [0u8; ROOM];
     let mut lengths = [0usize; 66];
     let list = read_names(host, &mut names, &mut lengths);
-    print_season(host, list.line, &names, &lengths, list.failed, listing);
-}
-
-// The names from the arguments, from `first` on, or from standard input if there is none.
-fn start(host: &impl Host, first: usize, arguments: usize, listing: bool) {
-    if first < arguments {
-        from_arguments(host, first, arguments, listing);
-        return;
-    }
-    from_input(host, listing);
-}
-
-// Whether the first argument asks for a line for each name.
-fn asks_files(host: &impl Host) -> bool {
-    let mut word = [0u8; 6];
-    let n = host.argument(1, &mut word);
-    program_words::is_word(&word[..n], b"files")
+    print_season(host, list, &names, &lengths, listing);
 }
 
 fn help(host: &impl Host) {
-    print_text(host, b"season [files] [FILE ..]\n");
-    print_text(
-        host,
-        b"prints one sheet for up to 64 scripts: how many are accepted and refused, their ticks and groups\n",
+    println!(host; "season [files] [FILE ..]");
+    println!(host;
+        "prints one sheet for up to 64 scripts: how many are accepted and refused, their ticks and groups"
     );
-    print_text(
-        host,
-        b"their names are arguments, or stand on standard input, one a line; a file called files is ./files\n",
+    println!(host;
+        "their names are arguments, or stand on standard input, one a line; a file called files is ./files"
     );
-    print_text(
-        host,
-        b"files: first a line for each name, with its ticks, its refusal or unreadable\n",
-    );
-    print_text(
-        host,
-        b"example: season files examples/rain.eff examples/stuck.eff\n",
-    );
+    println!(host; "files: first a line for each name, with its ticks, its refusal or unreadable");
+    println!(host; "example: season files examples/rain.eff examples/stuck.eff");
 }
 
-// What the arguments ask for.
+// What the arguments ask for: names, or those on standard input if there is none; with `files` before them a line for each.
 fn run(host: &impl Host) {
-    let arguments = host.argument_count();
     if program_parts::asks_help(host) {
         help(host);
         return;
     }
-    if asks_files(host) {
-        start(host, 2, arguments, true);
-        return;
+    let arguments = host.argument_count();
+    let listing = is_argument(host, 1, b"files");
+    let first = if listing { 2 } else { 1 };
+    if first < arguments {
+        from_arguments(host, first, arguments, listing);
+    } else {
+        from_input(host, listing);
     }
-    start(host, 1, arguments, false);
 }
 
 fn main(rt: HostRuntime) -> ExitCode {

@@ -9,7 +9,10 @@ use lib.ListN.{length, take, drop, length-append, length-take, length-drop, drop
 use lib.Seq.{take-append_seam, take_at, drop_at}
 use borrow.Author.Tests.{le-leb}
 use borrow.Rule.Slice.PartMut.{mid_of, put_mid}
-use Rattle.rules.specs.Replies.{Accepted, Refused}
+use Rattle.std.specs.Prelude.{Ok, Err}
+use Rattle.rules.specs.declared.Refusal.{Refusal}
+use Rattle.rules.specs.Replies.{Accepted, Refused, reply_by}
+use Rattle.reader.specs.Read.{load_answer}
 use Rattle.rules.specs.Verdicts.{Verdict}
 use Rattle.rules.specs.Verdicts.{passed as Passed}
 use Rattle.rules.specs.Figures.{ones}
@@ -46,9 +49,9 @@ ones_priced = refl
 pub measured_same : {j k : Judged} {old new : List ℕ} {m : Measured} → j ≡ k → MeasuredAs four_ones k old new m → MeasuredAs four_ones j old new m
 measured_same {old = old} {new} {m} e h = subst (λ z. MeasuredAs four_ones z old new m) (sym e) h
 
-pub measured_no : {j : Judged} {old : List ℕ} {q p : ℕ} → j ≡ refuses q p → MeasuredAs four_ones j old old (record { reply = Refused q p; ticks = 0 })
+pub measured_no : {j : Judged} {old : List ℕ} {r : Refusal} → j ≡ refuses r.number r.place → MeasuredAs four_ones j old old (record { reply = Err r; ticks = 0 })
 unfolding reply_of buffer_of
-measured_no {old = old} {q} {p} e = measured_same e (record { reply = refl; buffer = refl; ticks = refl; few = omega arith })
+measured_no {old = old} {r} e = measured_same e (record { reply = refl; buffer = refl; ticks = refl; few = omega arith })
 
 -- ---- what was measured
 pub record Took (s : Script) (len : ℕ) (new : List ℕ) (ticks : ℕ) : Type 0 where
@@ -59,7 +62,7 @@ pub record Took (s : Script) (len : ℕ) (new : List ℕ) (ticks : ℕ) : Type 0
 
 module _ (file old new : List ℕ) (m : Measured) (h : MeasuredAs four_ones (judged four_ones 1_024 file) old new m) (room : longest_report ≤ length old) where
   -- an accepted file: its report is at the front
-  taken : (s : Script) → judged four_ones 1_024 file ≡ accepted s → (m.reply ≡ Accepted (length (script_report ones s))) × Took s (length (script_report ones s)) new m.ticks × (length new ≡ length old)
+  taken : (s : Script) → judged four_ones 1_024 file ≡ accepted s → (reply_by m.reply ≡ Accepted (length (script_report ones s))) × Took s (length (script_report ones s)) new m.ticks × (length new ≡ length old)
   unfolding reply_of buffer_of buffer_reply written over
   taken s e =
       let short : length (script_report ones s) ≤ longest_report = longest_report_lem four_ones 1_024 file s e in
@@ -78,11 +81,11 @@ module _ (file old new : List ℕ) (m : Measured) (h : MeasuredAs four_ones (jud
       )
 
   -- a refused one: nothing is written
-  left : (q p : ℕ) → judged four_ones 1_024 file ≡ refuses q p → (m.reply ≡ Refused q p) × (new ≡ old)
+  left : (q p : ℕ) → judged four_ones 1_024 file ≡ refuses q p → (reply_by m.reply ≡ Refused q p) × (new ≡ old)
   unfolding reply_of buffer_of
   left q p e = (h.reply ∙ ap (λ j. reply_of four_ones j (length old)) e, h.buffer ∙ ap (λ j. buffer_of four_ones j old) e)
 
-  pub was_accepted : (len : ℕ) → m.reply ≡ Accepted len → (s : Script) × (judged four_ones 1_024 file ≡ accepted s) × Took s len new m.ticks × (length new ≡ length old)
+  pub was_accepted : (len : ℕ) → reply_by m.reply ≡ Accepted len → (s : Script) × (judged four_ones 1_024 file ≡ accepted s) × Took s len new m.ticks × (length new ≡ length old)
   was_accepted len r = go (judged four_ones 1_024 file) refl
     where
       go : (j : Judged) → judged four_ones 1_024 file ≡ j → (s : Script) × (judged four_ones 1_024 file ≡ accepted s) × Took s len new m.ticks × (length new ≡ length old)
@@ -92,7 +95,7 @@ module _ (file old new : List ℕ) (m : Measured) (h : MeasuredAs four_ones (jud
           (s, e, subst (λ z. Took s z new m.ticks) f t, n)
       go (refuses q p) e = let (a, n) = left q p e in absurd (let z : ◌≡◌ {A = ℕ} 0 1 = cc in omega arith)
 
-  pub was_refused : (q p : ℕ) → m.reply ≡ Refused q p → (judged four_ones 1_024 file ≡ refuses q p) × (new ≡ old)
+  pub was_refused : (q p : ℕ) → reply_by m.reply ≡ Refused q p → (judged four_ones 1_024 file ≡ refuses q p) × (new ≡ old)
   was_refused q p r = go (judged four_ones 1_024 file) refl
     where
       go : (j : Judged) → judged four_ones 1_024 file ≡ j → (judged four_ones 1_024 file ≡ refuses q p) × (new ≡ old)
@@ -257,7 +260,7 @@ module _ (file counts lengths reports fired cues : List ℕ) (sheet : Sheet) (js
       pub also : length then_cues ≡ length cues
       pub kept : Firsts (scripts_of js) (kept_by sheet) lengths after fired then_cues
 
-    pub adds : (len : ℕ) → m.reply ≡ Accepted len → Adds len
+    pub adds : (len : ℕ) → reply_by m.reply ≡ Accepted len → Adds len
     unfolding over
     adds len r =
         let (s, j, t, n) = was_accepted file behind ys (as_measured m) e.measured behind_room len r in
@@ -283,7 +286,7 @@ module _ (file counts lengths reports fired cues : List ℕ) (sheet : Sheet) (js
       pub also : length then_cues ≡ length cues
       pub kept : Firsts (scripts_of js) (kept_by sheet) lengths after fired then_cues
 
-    pub leaves : (q p : ℕ) → m.reply ≡ Refused q p → Leaves q p
+    pub leaves : (q p : ℕ) → reply_by m.reply ≡ Refused q p → Leaves q p
     leaves q p r =
         let (j, n) = was_refused file behind ys (as_measured m) e.measured behind_room q p r in
         let k : length ys ≡ length reports - sheet.used = ap length n ∙ behind_long in
@@ -295,18 +298,18 @@ unfolding judged_by
 same_script script s Passed e = cc
 same_script script s (Verdict.refused q p) e = absurd (let z : ◌≡◌ {A = ℕ} 0 1 = cc in omega arith)
 
-module _ (file : List ℕ) (l : Loaded) (ranges : List (List ℤ)) (t : List ℕ) (e : LoadedAs file (file_script file) l ranges t) (z : l.verdict ≡ Passed) where
+module _ (file : List ℕ) (script : Loaded) (ranges : List (List ℤ)) (t : List ℕ) (e : LoadedAs file (file_script file) (load_answer (Ok script)) ranges t) where
   abbrev held : Script
-  held = read_script file t l ranges
+  held = read_script file t script ranges
 
   judged_is : judged four_ones 1_024 file ≡ judged_script four_ones held
-  judged_is = lent_yes four_ones 1_024 ones_priced file ∙ file_read four_ones file l ranges t e z
+  judged_is = lent_yes four_ones 1_024 ones_priced file ∙ file_read four_ones file (load_answer (Ok script)) ranges t e refl
 
-  pub found_read : {old new cues cues' : List ℕ} {m : Measured} {n : ℕ} → MeasuredAs four_ones (judged_script four_ones held) old new m → Wrote (cues_of (script_rows file (rows_of t) l.count)) cues cues' n → n ≤ l.count → 256 ≤ length cues
+  pub found_read : {old new cues cues' : List ℕ} {m : Measured} {n : ℕ} → MeasuredAs four_ones (judged_script four_ones held) old new m → Wrote (cues_of (script_rows file (rows_of t) script.count)) cues cues' n → n ≤ script.count → 256 ≤ length cues
       → FoundAs (judged four_ones 1_024 file) old new cues cues' (record { reply = m.reply; ticks = m.ticks; cues = n })
   unfolding script_of
   found_read {cues = cues} {cues'} {n = n} h w f r =
-      let few = (file_given four_ones file l ranges t e z).size in
+      let few = (file_given four_ones file (load_answer (Ok script)) ranges t e refl).size in
       record {
         measured = measured_same judged_is h;
         fires = λ s g. subst (λ x. Wrote (cues_of x.rows) cues cues' n) (same_script held s _ (sym judged_is ∙ g)) w;
@@ -314,7 +317,7 @@ module _ (file : List ℕ) (l : Loaded) (ranges : List (List ℤ)) (t : List ℕ
         same = wrote_length _ _ _ _ (omega (arith, w.count)) w;
       }
 
-pub found_no : {j : Judged} {old cues : List ℕ} {q p : ℕ} → j ≡ refuses q p → FoundAs j old old cues cues (record { reply = Refused q p; ticks = 0; cues = 0 })
+pub found_no : {j : Judged} {old cues : List ℕ} {r : Refusal} → j ≡ refuses r.number r.place → FoundAs j old old cues cues (record { reply = Err r; ticks = 0; cues = 0 })
 found_no e = record {
   measured = measured_no e;
   fires = λ s f. absurd (let z : ◌≡◌ {A = ℕ} 0 1 = cc in omega arith);

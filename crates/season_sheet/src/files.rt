@@ -8,7 +8,7 @@ use crate::groups::{Kept, keep_first};
 use crate::sheet::{Sheet, with_accepted, with_refused};
 use calls::measure_script;
 use reader::load;
-use rules::{Reply, Verdict};
+use rules::Refusal;
 
 // How many files a season has at most, the bytes of that many longest reports, and the cues of that many files of 256 rows.
 pub const FILES: usize = 64;
@@ -20,7 +20,7 @@ pub const CUES: usize = 16_384;
 // What is found of a file: the answer of a report call, the ticks, and how many cues it has.
 #[derive(Clone, Copy)]
 pub struct FileFigures {
-    pub reply: Reply,
+    pub reply: Result<usize, Refusal>,
     pub ticks: u64,
     pub cues: usize,
 }
@@ -30,31 +30,23 @@ pub fn measure(file: &[u8], rest: &mut [u8], cues: &mut [u32]) -> FileFigures
     requires { 256 ≤ length cues.old }
     ensures { FoundAs (judged four_ones 1_024 file.now) rest.old rest.new cues.old cues.new result }
 {
-    let none: [i32; 2] = [0; 2];
-    let mut ranges = [none; 16];
-    let mut table: [u32; 1024] = [0; 1024];
-    let l = load(file, &mut ranges, &mut table);
-    let verdict = l.verdict;
-    match verdict {
-        Verdict::Passed => {
-            let ones = [1u32; 4];
-            let fired = put_cues(&table, l.count, cues);
-            let measured = measure_script(file, &table, l, ranges, &ones, rest);
-            let reply = measured.reply;
+    let mut ranges = [[0i32; 2]; 16];
+    let mut table = [0u32; 1024];
+    match load(file, &mut ranges, &mut table) {
+        Ok(script) => {
+            let fired = put_cues(&table, script.count, cues);
+            let measured = measure_script(file, &table, script, ranges, &[1; 4], rest);
             FileFigures {
-                reply: reply,
+                reply: measured.reply,
                 ticks: measured.ticks,
                 cues: fired,
             }
         }
-        Verdict::Refused(q, p) => {
-            let no = Reply::Refused(q, p);
-            FileFigures {
-                reply: no,
-                ticks: 0,
-                cues: 0,
-            }
-        }
+        Err(refusal) => FileFigures {
+            reply: Err(refusal),
+            ticks: 0,
+            cues: 0,
+        },
     }
 }
 
@@ -83,13 +75,12 @@ pub fn add_file(
         cued: cued,
     };
     let found = measure(file, &mut reports[used..], &mut cues[cued..]);
-    let reply = found.reply;
-    match reply {
-        Reply::Accepted(len) => {
+    match found.reply {
+        Ok(len) => {
             let count = found.cues;
             let fresh = keep_first(kept, len, count, lengths, &reports[..], fired, &cues[..]);
             with_accepted(sheet, found.ticks, len, count, fresh)
         }
-        Reply::Refused(q, _) => with_refused(sheet, q, counts),
+        Err(refusal) => with_refused(sheet, refusal.number, counts),
     }
 }

@@ -29,10 +29,7 @@ fn same_cues(first: &[u32], cues: &[u32]) -> bool
 fn same_group(first: &[u8], report: &[u8], fired: &[u32], cues: &[u32]) -> bool
     ensures { ((a b : Script) → first.now ≡ script_report ones a → report.now ≡ script_report ones b → fired.now ≡ cues_of a.rows → cues.now ≡ cues_of b.rows → result ≡ same_group a b) }
 {
-    if program_words::is_word(report, first) {
-        return same_cues(fired, cues);
-    }
-    false
+    report == first && same_cues(fired, cues)
 }
 
 // Whether a file is in one of the groups.

@@ -6,8 +6,6 @@ ghost use Rattle.report.specs.Pieces.{Wrote};
 ghost use Rattle.season_sheet.specs.Figures.{SheetIs, Accepting, CounterRaised, Refusing, front_text, met_text, numbers_text};
 ghost use Rattle.season_sheet.specs.Figures.{tail_text, SheetWritten};
 
-use ints::min_max::larger;
-
 // The figures, but for the refusals by number, which stand in an array of 21; and how many bytes the reports and how many numbers the cues
 // of the groups' first files take.
 #[derive(Clone, Copy)]
@@ -54,7 +52,7 @@ pub fn with_accepted(sheet: Sheet, ticks: u64, len: usize, count: usize, fresh: 
         × (sheet.used + len ≤ 133_696) × (sheet.cued + count ≤ 16_384) }
     ensures { Accepting sheet ticks len count fresh result }
 {
-    let most = larger(sheet.greatest, ticks);
+    let most = sheet.greatest.max(ticks);
     let one = if_fresh(fresh, 1);
     let bytes = if_fresh(fresh, len);
     let numbers = if_fresh(fresh, count);

@@ -2,118 +2,84 @@
 // first line that differs, as it is found here, or the refusal.
 #![tactic(auto)]
 
-ghost use Rattle.std.specs.Prelude.{◌≡◌, ◌+◌, ◌≤◌, ◌<◌, length};
+ghost use Rattle.std.specs.Prelude.{◌≡◌, ◌≤◌, length};
 
 use answer_text::reports::{TEXT, put_report};
-use byte_slices::find;
 use host::{Host, System};
-use program_parts::{WORD, print_number, print_text, print_unread, read_file};
+use program_parts::{WORD, print_text, print_unread, read_file};
 use std::process::ExitCode;
 
 fn form(host: &impl Host) {
-    print_text(host, b"verify [prices=A,C,P,T] FILE REPORT\n");
+    println!(host; "verify [prices=A,C,P,T] FILE REPORT");
 }
 
 fn help(host: &impl Host) {
     form(host);
-    print_text(
-        host,
-        b"prints same, if REPORT is the report of the script FILE as print_report prints it\n",
+    println!(host;
+        "prints same, if REPORT is the report of the script FILE as print_report prints it"
     );
-    print_text(
-        host,
-        b"else differs=LINE and that line as it is found here, or the refusal; the prices are 1 if they are not given\n",
+    println!(host;
+        "else differs=LINE and that line as it is found here, or the refusal; the prices are 1 if they are not given"
     );
-    print_text(
-        host,
-        b"example: verify examples/rain.eff archive/rain.report\n",
-    );
+    println!(host; "example: verify examples/rain.eff archive/rain.report");
 }
 
-// A byte of a text, the number of its line, and where that line starts.
+// A line of a text: its number, from 1, and where it starts.
 #[derive(Clone, Copy)]
-struct Place {
-    at: usize,
-    line: usize,
+struct Line {
+    number: usize,
     start: usize,
 }
 
-// The next byte's place.
-fn passed(p: Place, b: u8) -> Place
-    requires { (p.at < 2_089) × (p.line ≤ p.at + 1) × (p.start ≤ p.at) }
-    ensures { (result.at ≡ p.at + 1) × (result.line ≤ result.at + 1) × (result.start ≤ result.at) }
-{
-    let at = p.at + 1;
-    if b == b'\n' {
-        return Place {
-            at,
-            line: p.line + 1,
-            start: at,
-        };
-    }
-    Place {
-        at,
-        line: p.line,
-        start: p.start,
-    }
-}
-
-// Where two texts differ first, or where the shorter one ends.
-fn differ(here: &[u8], there: &[u8]) -> Place
+// The line in which two texts differ first, or in which the shorter one ends.
+fn differ(here: &[u8], there: &[u8]) -> Line
     requires { length here.now ≤ 2_089 }
-    ensures { (result.start ≤ result.at) × (result.at ≤ length here.now) }
+    ensures { result.start ≤ length here.now }
 {
-    let both = ints::min_max::smaller_size(here.len(), there.len());
-    let mut p = Place {
-        at: 0,
-        line: 1,
+    let mut line = Line {
+        number: 1,
         start: 0,
     };
-    while p.at < both {
-        let at = p.at;
+    for at in 0..here.len().min(there.len()) {
         if here[at] != there[at] {
-            return p;
+            break;
         }
-        let next = passed(p, here[at]);
-        p = next;
+        if here[at] == b'\n' {
+            line = Line {
+                number: line.number + 1,
+                start: at + 1,
+            };
+        }
     }
-    p
+    line
 }
 
-// Prints the line of a text that starts at a byte, with its number.
-fn print_line(host: &impl Host, line: usize, text: &[u8], start: usize)
-    requires { start ≤ length text.now }
+// Prints a line of a text, with its number.
+fn print_line(host: &impl Host, line: Line, text: &[u8])
+    requires { line.start ≤ length text.now }
 {
-    print_text(host, b"differs=");
-    print_number(host, line as u64);
-    if start == text.len() {
-        print_text(host, b" nothing\n");
+    let number = line.number;
+    print!(host; "differs={number} ");
+    let rest = &text[line.start..];
+    if rest.is_empty() {
+        println!(host; "nothing");
         return;
     }
-    let end = find(text, start, text.len(), b'\n');
-    print_text(host, b" ");
-    print_text(host, &text[start..end]);
-    print_text(host, b"\n");
+    print_text(host, rest.split(|b| *b == b'\n').next().unwrap_or(rest));
+    println!(host; "");
 }
 
 // Compares what is found here with what is kept there.
 fn compare(host: &impl Host, here: &[u8], there: &[u8])
     requires { length here.now ≤ 2_089 }
 {
-    let p = differ(here, there);
-    let at = p.at;
-    let start = p.start;
-    if here.len() == there.len() {
-        if at == here.len() {
-            print_text(host, b"same\n");
-            return;
-        }
-    }
-    if reading::text::starts_with(here, b"refused=") {
+    if here == there {
+        println!(host; "same");
+    } else if here.starts_with(b"refused=") {
         print_text(host, here);
-        return;
+    } else {
+        print_line(host, differ(here, there), here);
     }
-    print_line(host, p.line, here, start);
 }
 
 // The report of a file, beside another.
@@ -128,56 +94,38 @@ fn verify_named(host: &impl Host, i: usize, prices: &[u32])
     requires { i ≤ 2 }
 {
     let mut name = [0u8; WORD];
-    let n = host.argument(i, &mut name);
-    let mut file = [0u8; 16_385];
-    let script = read_file(host, &name[..n], &mut file);
-    if script.failed {
-        print_unread(host, &name[..n]);
+    let script = host.argument(i, &mut name);
+    let mut buffer = [0u8; 16_385];
+    let Some(file) = read_file(host, script, &mut buffer) else {
+        print_unread(host, script);
         return;
-    }
+    };
     let mut other = [0u8; WORD];
-    let m = host.argument(i + 1, &mut other);
-    let mut kept = [0u8; 2_090];
-    let report = read_file(host, &other[..m], &mut kept);
-    if report.failed {
-        print_unread(host, &other[..m]);
-        return;
-    }
-    let length = script.length;
-    let size = report.length;
-    verify_report(host, &file[..length], prices, &kept[..size]);
-}
-
-// The same, if there are just two names.
-fn start(host: &impl Host, i: usize, arguments: usize, prices: &[u32])
-    requires { i ≤ 2 }
-{
-    if arguments != i + 2 {
-        print_text(host, b"error=usage: ");
-        form(host);
-        return;
-    }
-    verify_named(host, i, prices);
-}
-
-// Reads the prices, if the first argument has them.
-fn read_and_start(host: &impl Host, arguments: usize) {
-    let mut prices = [1u32; 5];
-    let read = program_parts::read_prices(host, &mut prices);
-    let count = read.count;
-    if read.good {
-        start(host, read.next, arguments, &prices[..count]);
+    let report = host.argument(i + 1, &mut other);
+    let mut room = [0u8; 2_090];
+    match read_file(host, report, &mut room) {
+        Some(kept) => verify_report(host, file, prices, kept),
+        None => print_unread(host, report),
     }
 }
 
-// What the arguments ask for.
+// What the arguments ask for: just two names, after the prices.
 fn run(host: &impl Host) {
-    let arguments = host.argument_count();
     if program_parts::asks_help(host) {
         help(host);
         return;
     }
-    read_and_start(host, arguments);
+    let arguments = host.argument_count();
+    let mut prices = [1u32; 5];
+    let Some(read) = program_parts::read_prices(host, &mut prices) else {
+        return;
+    };
+    if arguments == read.next + 2 {
+        verify_named(host, read.next, read.prices);
+    } else {
+        print!(host; "error=usage: ");
+        form(host);
+    }
 }
 
 fn main(rt: HostRuntime) -> ExitCode {

@@ -1,10 +1,8 @@
-use Prim.Native.Nat.{◌+◌, ◌-◌}
+use mathlib.Core.Path.{◌≡◌}
 use lib.ListN.{length}
 use Rattle.line_causes.proofs.Laws.{WordsRead}
 use Rattle.line_causes.proofs.cause_in.Given as goal
 
-abbrev pub invariant-loop-lf : goal.invariant-loop-lf
-invariant-loop-lf l = WordsRead l.shape l.lf l.line l.from l.at l.k
-
-abbrev pub decreases-loop-lf : goal.decreases-loop-lf
-decreases-loop-lf l = length l.line + 1 - l.at
+-- the words passed are what is wanted
+abbrev pub invariant-loop-word : goal.invariant-loop-word
+invariant-loop-word l = (l.count ≡ length l.yielded) × WordsRead l.shape l.lf l.line l.from l.at l.count

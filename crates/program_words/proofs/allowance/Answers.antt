@@ -1,12 +1,13 @@
 -- `program_words::allowance` meets its contract.
 use mathlib.Core.Path.{sym}
-use Rattle.program_words.specs.Words.{allowance_in}
+use Rattle.program_words.specs.Words.{plan_word, allowance_in}
+use Rattle.program_words.proofs.Slices.{word_is}
 use Rattle.program_words.proofs.allowance.Goals as goal
 
-pub returns-then-is_word : goal.returns-then-is_word
+pub returns-then-eq : goal.returns-then-eq
 unfolding allowance_in
-returns-then-is_word c = rw (sym c.is_word.ensures, c.if-is_word.true)
+returns-then-eq c = rw (sym (word_is plan_word _ _ _ c.as_slice.ensures c.eq.ensures), c.if-eq.true)
 
-pub returns : goal.returns
+pub returns-else-eq : goal.returns-else-eq
 unfolding allowance_in
-returns c = rw (sym c.is_word.ensures, c.if-is_word.false) c.read_number.ensures
+returns-else-eq c = rw (sym (word_is plan_word _ _ _ c.as_slice.ensures c.eq.ensures), c.if-eq.false) c.read_number.ensures

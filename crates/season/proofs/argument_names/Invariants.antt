@@ -4,6 +4,3 @@ use Rattle.season.proofs.argument_names.Given as goal
 
 abbrev pub invariant-loop-i : goal.invariant-loop-i
 invariant-loop-i g l = Listed l.line l.names l.lengths
-
-abbrev pub decreases-loop-i : goal.decreases-loop-i
-decreases-loop-i g l = l.arguments - l.i

@@ -21,15 +21,15 @@ unfolding judged_all
 loop-k-init g c =
     ([], refl, omega arith, holds_none _ _ _ _ _ _ c.empty-sheet.ensures (length-replicate {A = ℕ} 64 0) (length-replicate {A = ℕ} 133_696 0) (length-replicate {A = ℕ} 64 0) (length-replicate {A = ℕ} 16_384 0))
 
-pub add_file-next-requires : goal.add_file-next-requires
-add_file-next-requires g c =
+pub add_file-sheet-requires : goal.add_file-sheet-requires
+add_file-sheet-requires g c =
     let (files, n, l, h) = c.loop-k.invariant in
     (judged_all files, h, omega (arith, judged_count files, n, c.loop-k-test.true, c.requires.0))
 
 pub loop-k-preserved : goal.loop-k-preserved
 loop-k-preserved g c =
     let (files, n, l, h) = c.loop-k.invariant in
-    one_more_lem _ _ files _ _ _ _ _ _ _ n c.loop-k-test.true (c.add_file-next.ensures (judged_all files) h)
+    one_more_lem _ _ files _ _ _ _ _ _ _ n c.loop-k-test.true (c.add_file-sheet.ensures (judged_all files) h)
 
 pub returns : goal.returns
 returns g c =

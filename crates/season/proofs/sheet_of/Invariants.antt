@@ -6,6 +6,3 @@ use Rattle.season.proofs.sheet_of.Given as goal
 
 abbrev pub invariant-loop-k : goal.invariant-loop-k
 invariant-loop-k g l = (files : List (List ℕ)) × (length files ≡ l.k) × (l.k ≤ l.count) × SeasonSoFar (judged_all files) l.sheet l.counts l.firsts l.reports l.fired l.cues
-
-abbrev pub decreases-loop-k : goal.decreases-loop-k
-decreases-loop-k g l = l.count - l.k

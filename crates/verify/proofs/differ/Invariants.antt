@@ -1,8 +1,5 @@
-use Rattle.std.proofs.Common.{length, ◌-◌, ◌+◌, ◌≤◌}
+use Rattle.std.proofs.Common.{◌+◌, ◌≤◌}
 use Rattle.verify.proofs.differ.Given as goal
 
-abbrev pub invariant-loop-p : goal.invariant-loop-p
-invariant-loop-p l = (l.p.at ≤ l.both) × (l.p.line ≤ l.p.at + 1) × (l.p.start ≤ l.p.at) × (l.both ≤ length l.here) × (l.both ≤ length l.there)
-
-abbrev pub decreases-loop-p : goal.decreases-loop-p
-decreases-loop-p l = l.both - l.p.at
+abbrev pub invariant-loop-at : goal.invariant-loop-at
+invariant-loop-at l = (l.line.number ≤ l.at + 1) × (l.line.start ≤ l.at)

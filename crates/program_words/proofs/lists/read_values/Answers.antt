@@ -1,77 +1,36 @@
--- `program_words::lists::read_values` meets its contract. The measure is what is left of the list. Assumes nothing.
+-- `program_words::lists::read_values` meets its contract.
+use mathlib.Core.Path.{sym, ◌∙◌}
+use native.Mathlib.Omega.{arith}
 use borrow.Author.Rules.{rules}
-use mathlib.Core.Path.{sym, ap, ◌∙◌}
-use Prim.Native.Nat.{◌+◌, ◌≤◌}
-use lib.ListN.{length}
-use Rattle.program_words.proofs.Pieces.{piece_within}
-use Rattle.program_words.proofs.ListsLaws.{values_start, values_size, values_wrong, values_last, values_more}
+use Rattle.std.proofs.Common.{tests}
+use Rattle.std.proofs.lemmas.Result.{err_from_is_err_and}
+use Rattle.std.proofs.lemmas.List.{length_push}
+use Rattle.program_words.proofs.Slices.{word_turn, words_end}
+use Rattle.program_words.proofs.ListsLaws.{kept_not, kept_one, value_wrong, value_right, values_wrong, values_more, values_end}
 use Rattle.program_words.proofs.lists.read_values.Goals as goal
 
-pub loop-separator-init : goal.loop-separator-init
-loop-separator-init c = values_start _ _ _
+pub returns-in_err-ok_or : goal.returns-in_err-ok_or
+returns-in_err-ok_or c =
+    let s = c.split-word-items.ensures in
+    let t = word_turn c.args.separator c.args.list.now _ _ _ s.rest s.done s.closure c.into_iter-word-iterator.ensures.into_iter_gives c.loop-word.yielded _ c.loop-word.yielded_by _ _ c.next.ensures.steps (λ x b q k. search (rules, tests)) c.in-Some.word c.in-Some.is in
+    let o = kept_not _ _ _ c.in_err-ok_or.ensures.value in
+    let p = err_from_is_err_and c.from_residual.result c.from_residual.ensures.1 in
+    let i = c.loop-word.invariant in
+    let r = values_wrong _ _ _ _ i.1 c.in-Some.word.now _ i.0 t _ c.keep_value.ensures.store_after (value_wrong _ (sym o.0 ∙ c.keep_value.ensures.value)) in
+    record { value = rw (p.1, p.2, o.1) r.0; store_after = r.1 }
 
-pub overflow_add-end : goal.overflow_add-end
-overflow_add-end c =
-    let l = c.loop-separator in
-    let h : l.at + c.position.result ≤ length c.args.list.now = (piece_within _ c.args.list.now l.at _ l.invariant.within (ap (λ n. l.at + n) c.position.ensures)).1 in
-    search rules
+pub loop-word-preserved : goal.loop-word-preserved
+loop-word-preserved c =
+    let s = c.split-word-items.ensures in
+    let t = word_turn c.args.separator c.args.list.now _ _ _ s.rest s.done s.closure c.into_iter-word-iterator.ensures.into_iter_gives c.loop-word.yielded _ c.loop-word.yielded_by _ _ c.next.ensures.steps (λ x b q k. search (rules, tests)) c.in-Some.word c.in-Some.is in
+    let i = c.loop-word.invariant in (
+      omega (arith, i.0, length_push c.loop-word.yielded c.in-Some.word),
+      values_more _ _ _ _ i.1 c.in-Some.word.now _ i.0 t _ c.keep_value.ensures.store_after (value_right _ _ (sym (kept_one _ _ _ c.in_ok-ok_or.ensures.value) ∙ c.keep_value.ensures.value)),
+    )
 
-pub slice_bounds-keep_value-end : goal.slice_bounds-keep_value-end
-slice_bounds-keep_value-end c =
-    let l = c.loop-separator in
-    let h : l.at + c.position.result ≤ length c.args.list.now = (piece_within _ c.args.list.now l.at _ l.invariant.within (ap (λ n. l.at + n) c.position.ensures)).1 in
-    search rules
-
-pub shape_of-store-then-not-keep_value : goal.shape_of-store-then-not-keep_value
-shape_of-store-then-not-keep_value c =
-    let l = c.loop-separator in
-    values_size _ _ _ _ l.at l.count l.invariant _ (ap (λ n. l.at + n) c.position.ensures) _ c.keep_value.ensures.store_after
-
-pub returns-then-not-keep_value-clause-value : goal.returns-then-not-keep_value-clause-value
-returns-then-not-keep_value-clause-value c = (let l = c.loop-separator in
-    values_wrong _ _ _ _ l.at l.count l.invariant _ (ap (λ n. l.at + n) c.position.ensures) _ c.keep_value.ensures.store_after
-    (sym c.keep_value.ensures.value ∙ c.if-not-keep_value.true)).0
-
-pub returns-then-not-keep_value-clause-store_after : goal.returns-then-not-keep_value-clause-store_after
-returns-then-not-keep_value-clause-store_after c = (let l = c.loop-separator in
-    values_wrong _ _ _ _ l.at l.count l.invariant _ (ap (λ n. l.at + n) c.position.ensures) _ c.keep_value.ensures.store_after
-    (sym c.keep_value.ensures.value ∙ c.if-not-keep_value.true)).1
-
-pub overflow_add-count : goal.overflow_add-count
-overflow_add-count c =
-    let l = c.loop-separator in
-    let h : l.at + c.position.result ≤ length c.args.list.now = (piece_within _ c.args.list.now l.at _ l.invariant.within (ap (λ n. l.at + n) c.position.ensures)).1 in
-    search rules
-
-pub shape_of-store-then-end-list : goal.shape_of-store-then-end-list
-shape_of-store-then-end-list c =
-    let l = c.loop-separator in
-    values_size _ _ _ _ l.at l.count l.invariant _ (ap (λ n. l.at + n) c.position.ensures) _ c.keep_value.ensures.store_after
-
-pub returns-then-end-list-clause-value : goal.returns-then-end-list-clause-value
-returns-then-end-list-clause-value c = (let l = c.loop-separator in
-    values_last _ _ _ _ l.at l.count l.invariant _ (ap (λ n. l.at + n) c.position.ensures) _ c.keep_value.ensures.store_after
-    (sym c.keep_value.ensures.value ∙ c.if-not-keep_value.false) c.if-end-list.true).0
-
-pub returns-then-end-list-clause-store_after : goal.returns-then-end-list-clause-store_after
-returns-then-end-list-clause-store_after c = (let l = c.loop-separator in
-    values_last _ _ _ _ l.at l.count l.invariant _ (ap (λ n. l.at + n) c.position.ensures) _ c.keep_value.ensures.store_after
-    (sym c.keep_value.ensures.value ∙ c.if-not-keep_value.false) c.if-end-list.true).1
-
-pub overflow_add-at : goal.overflow_add-at
-overflow_add-at c =
-    let l = c.loop-separator in
-    let h : l.at + c.position.result ≤ length c.args.list.now = (piece_within _ c.args.list.now l.at _ l.invariant.within (ap (λ n. l.at + n) c.position.ensures)).1 in
-    search rules
-
-pub loop-separator-smaller : goal.loop-separator-smaller
-loop-separator-smaller c =
-    let l = c.loop-separator in
-    let h : l.at + c.position.result ≤ length c.args.list.now = (piece_within _ c.args.list.now l.at _ l.invariant.within (ap (λ n. l.at + n) c.position.ensures)).1 in
-    search rules
-
-pub loop-separator-preserved : goal.loop-separator-preserved
-loop-separator-preserved c =
-    let l = c.loop-separator in
-    values_more _ _ _ _ l.at l.count l.invariant _ (ap (λ n. l.at + n) c.position.ensures) _ c.keep_value.ensures.store_after
-    (sym c.keep_value.ensures.value ∙ c.if-not-keep_value.false) c.if-end-list.false
+pub returns : goal.returns
+returns c =
+    let s = c.split-word-items.ensures in
+    let e = words_end c.args.separator c.args.list.now _ _ _ s.rest s.done s.closure c.into_iter-word-iterator.ensures.into_iter_gives c.loop-word.yielded _ c.loop-word.yielded_by _ _ c.next.ensures.steps (λ x b q k. search (rules, tests)) c.in-None.is in
+    let r = values_end _ _ _ _ c.loop-word.invariant.1 (c.loop-word.invariant.0 ∙ e) in
+    record { value = r.0; store_after = r.1 }

@@ -1,10 +1,9 @@
-use Prim.Native.Nat.{◌+◌, ◌-◌}
+use mathlib.Core.Path.{◌≡◌}
 use lib.ListN.{length}
+use Rattle.rules.specs.Text.{split}
 use Rattle.program_words.proofs.ListsLaws.{ValuesRead}
 use Rattle.program_words.proofs.lists.read_values.Given as goal
 
-abbrev pub invariant-loop-separator : goal.invariant-loop-separator
-invariant-loop-separator l = ValuesRead l.separator l.list l.initial.store l.store l.at l.count
-
-abbrev pub decreases-loop-separator : goal.decreases-loop-separator
-decreases-loop-separator l = length l.list + 1 - l.at
+-- the words passed are values, and are kept
+abbrev pub invariant-loop-word : goal.invariant-loop-word
+invariant-loop-word l = (l.count ≡ length l.yielded) × ValuesRead (split l.fn.separator l.fn.list) l.fn.store l.store l.count

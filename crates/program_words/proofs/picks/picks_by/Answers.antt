@@ -1,37 +1,29 @@
 -- `picks::picks_by` meets its contract.
-use borrow.Author.Rules.{rules}
-use mathlib.Core.Path.{sym, ◌∙◌}
-use Rattle.reading.proofs.TextLaws.{part_rest}
-use Rattle.program_words.specs.Picks.{random_key, picks_by}
-use Rattle.program_words.proofs.ListWords.{starts_long}
+use mathlib.Core.Path.{sym, ◌∙◌, ap}
+use Rattle.program_words.specs.Picks.{ask_word, random_key, seed_of, picks_by}
+use Rattle.program_words.specs.Words.{number_in}
+use Rattle.program_words.proofs.Slices.{word_is, starts_is}
 use Rattle.program_words.proofs.picks.picks_by.Goals as goal
 
-pub returns-then-is_word : goal.returns-then-is_word
+pub returns-then-eq : goal.returns-then-eq
 unfolding picks_by
-returns-then-is_word c = rw (sym c.is_word.ensures, c.if-is_word.true)
+returns-then-eq c = rw (sym (word_is ask_word _ _ _ c.as_slice.ensures c.eq.ensures), c.if-eq.true)
 
-pub returns-then-not-starts_with : goal.returns-then-not-starts_with
+pub returns-in_err-read_number-in-Some : goal.returns-in_err-read_number-in-Some
 unfolding picks_by
-returns-then-not-starts_with c =
-    let e = sym c.starts_with.ensures ∙ c.if-not-starts_with.true in
-    rw (sym c.is_word.ensures, c.if-is_word.false, e)
+returns-in_err-read_number-in-Some c =
+    let k = c.in-Some.ensures.cases in
+    rw (sym (word_is ask_word _ _ _ c.as_slice.ensures c.eq.ensures), c.if-eq.false, starts_is random_key c.args.word.now ∙ k.0)
+    (c.from_residual.ensures ∙ ap seed_of (c.in_err-read_number-in-Some.ensures ∙ ap number_in k.1))
 
-pub slice_bounds-read_number-count : goal.slice_bounds-read_number-count
-slice_bounds-read_number-count c = let h = starts_long random_key _ (sym c.starts_with.ensures ∙ c.if-not-starts_with.false) in search rules
-
-pub slice_bounds-read_number-start : goal.slice_bounds-read_number-start
-slice_bounds-read_number-start c = let h = starts_long random_key _ (sym c.starts_with.ensures ∙ c.if-not-starts_with.false) in search rules
-
-pub returns-in-Is : goal.returns-in-Is
+pub returns-in_ok-read_number-in-Some : goal.returns-in_ok-read_number-in-Some
 unfolding picks_by
-returns-in-Is c =
-    let e = sym c.starts_with.ensures ∙ c.if-not-starts_with.false in
-    let k = simp part_rest at c.read_number-seed.ensures in
-    rw (sym c.is_word.ensures, c.if-is_word.false, e, sym k, c.in-Is.is)
+returns-in_ok-read_number-in-Some c =
+    let k = c.in-Some.ensures.cases in
+    rw (sym (word_is ask_word _ _ _ c.as_slice.ensures c.eq.ensures), c.if-eq.false, starts_is random_key c.args.word.now ∙ k.0)
+    (ap seed_of (c.in_ok-read_number-in-Some.ensures ∙ ap number_in k.1))
 
-pub returns-in-Malformed : goal.returns-in-Malformed
+pub returns-in-None : goal.returns-in-None
 unfolding picks_by
-returns-in-Malformed c =
-    let e = sym c.starts_with.ensures ∙ c.if-not-starts_with.false in
-    let k = simp part_rest at c.read_number-seed.ensures in
-    rw (sym c.is_word.ensures, c.if-is_word.false, e, sym k, c.in-Malformed.is)
+returns-in-None c =
+    rw (sym (word_is ask_word _ _ _ c.as_slice.ensures c.eq.ensures), c.if-eq.false, starts_is random_key c.args.word.now ∙ c.in-None.ensures.cases)
