@@ -2,8 +2,6 @@
 ghost use Rattle.std.specs.Prelude.{◌≡◌, ◌+◌, ◌-◌, ◌≤◌, ◌<◌, min, max};
 ghost use Rattle.explain_margin.specs.Columns.{ColumnOf, Narrow, share_of};
 
-use ints::min_max::smaller_size;
-
 // A line has no more columns.
 pub const LINE: usize = 100;
 
@@ -50,7 +48,7 @@ pub fn line_end(at: usize, width: usize, length: usize) -> usize
     requires { at ≤ length }
     ensures { result ≡ at + min width (length - at) }
 {
-    at + smaller_size(width, length - at)
+    at + width.min(length - at)
 }
 
 // How much of the whole a part is, no more than all of it, where the whole is `of`; rounded down.

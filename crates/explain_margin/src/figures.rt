@@ -7,7 +7,6 @@ ghost use Rattle.analysis_lines.specs.Coded.{lines_in};
 ghost use Rattle.explain_margin.specs.Figures.{exact_mark, line_figures, put_lines, ticks_beside, put_ticks, is_head, most_in};
 
 use analysis_lines::line_at;
-use ints::min_max::larger;
 use rules::LoopLine;
 use table::{Shape, shape_at};
 
@@ -54,11 +53,8 @@ pub fn put_lines(lines: &[[u64; 7]; 16], loops: usize, figures: &mut [[u64; 4]; 
     ensures { (figures.new ≡ put_lines (take loops (lines_in lines.now)) figures.old)
         × (length figures.new ≡ 256) }
 {
-    let mut k: usize = 0;
-    while k < loops {
-        let line = line_at(lines, k);
-        put_line(figures, line);
-        k += 1;
+    for k in 0..loops {
+        put_line(figures, line_at(lines, k));
     }
 }
 
@@ -67,12 +63,7 @@ pub fn is_head(rows: &[u32], i: usize) -> bool
     requires { 4 * i + 3 < length rows.now }
     ensures { result ≡ is_head (shape_of (kind_at (rows_of rows.now) i)) }
 {
-    match shape_at(rows, i) {
-        Shape::Plain => false,
-        Shape::Branch => true,
-        Shape::Loop => true,
-        Shape::Close => false,
-    }
+    matches!(shape_at(rows, i), Shape::Branch | Shape::Loop)
 }
 
 // What the analysis noted at row i, beside its other figures.
@@ -94,10 +85,8 @@ pub fn put_ticks(own: &[u64; 256], figures: &mut [[u64; 4]; 256])
     ensures { (figures.new ≡ put_ticks own.now 256 figures.old)
         × (length figures.new ≡ 256) }
 {
-    let mut i: usize = 0;
-    while i < 256 {
+    for i in 0..256 {
         put_own(figures, i, own[i]);
-        i += 1;
     }
 }
 
@@ -107,10 +96,8 @@ pub fn greatest(figures: &[[u64; 4]; 256], column: usize) -> u64
     ensures { result ≡ most_in column figures.now }
 {
     let mut most: u64 = 0;
-    let mut i: usize = 0;
-    while i < 256 {
-        most = larger(most, figures[i][column]);
-        i += 1;
+    for i in 0..256 {
+        most = most.max(figures[i][column]);
     }
     most
 }

@@ -2,7 +2,6 @@
 ghost use Rattle.std.specs.Prelude.{◌≡◌, ◌*◌, ◌-◌, ◌≤◌, min};
 ghost use Rattle.explain_margin.specs.Nesting.{passes_of, written_at, opened_by, closed_by, nest_after};
 
-use ints::min_max::smaller_size;
 use table::Tag;
 
 // How many blocks are open, and for each depth the passes there: the total of the loop next round it, 1 outside all loops.
@@ -30,25 +29,17 @@ pub fn passes_here(nest: OpenBlocks) -> u64
 fn out_of(depth: usize) -> usize
     ensures { result ≡ depth - 1 }
 {
-    if depth == 0 { 0 } else { depth - 1 }
+    depth.saturating_sub(1)
 }
 
 // How deep a row is written: an else or end stands with its head.
+#[tactic(auto, unfolding(crate::specs::Nesting::written_at))]
 fn written_at(tag: Tag, depth: usize) -> usize
     ensures { result ≡ written_at tag depth }
 {
     match tag {
-        Tag::End => out_of(depth),
-        Tag::Else => out_of(depth),
-        Tag::Pick => depth,
-        Tag::Set => depth,
-        Tag::Move => depth,
-        Tag::Cue => depth,
-        Tag::While => depth,
-        Tag::Do => depth,
-        Tag::For => depth,
-        Tag::Off => depth,
-        Tag::Hold => depth,
+        Tag::End | Tag::Else => out_of(depth),
+        _ => depth,
     }
 }
 
@@ -56,7 +47,7 @@ fn written_at(tag: Tag, depth: usize) -> usize
 pub fn indent(tag: Tag, depth: usize) -> usize
     ensures { (result ≡ 2 * min 8 (written_at tag depth)) × (result ≤ 16) }
 {
-    2 * smaller_size(8, written_at(tag, depth))
+    2 * written_at(tag, depth).min(8)
 }
 
 // One block more is open, with these passes inside. A file that was read has at most 8.
@@ -87,20 +78,14 @@ fn closed(nest: OpenBlocks) -> OpenBlocks
 }
 
 // After a row; `total` is the total of the loop whose head it is.
+#[tactic(auto, unfolding(crate::specs::Nesting::nest_after))]
 pub fn after_row(nest: OpenBlocks, tag: Tag, total: u64) -> OpenBlocks
     ensures { result ≡ nest_after tag total nest }
 {
     match tag {
         Tag::End => closed(nest),
-        Tag::Else => nest,
         Tag::Pick => opened(nest, passes_here(nest)),
-        Tag::Set => nest,
-        Tag::Move => nest,
-        Tag::Cue => nest,
-        Tag::While => opened(nest, total),
-        Tag::Do => opened(nest, total),
-        Tag::For => opened(nest, total),
-        Tag::Off => nest,
-        Tag::Hold => opened(nest, total),
+        Tag::While | Tag::Do | Tag::For | Tag::Hold => opened(nest, total),
+        _ => nest,
     }
 }

@@ -3,7 +3,6 @@ ghost use Rattle.std.specs.Prelude.{◌≡◌};
 ghost use Rattle.rules.specs.Text.{lf, split};
 ghost use Rattle.explain_margin.specs.Places.{within, place_kind, line_from, StandsIn, shown_byte, ShownAs};
 
-use ints::min_max::smaller_size;
 use reading::text::position;
 
 // What the place of a question is: a line of the file, from 1; a row, from 0; or neither.
@@ -81,11 +80,9 @@ fn shown(b: u8) -> u8
 pub fn put_shown(text: &[u8], out: &mut [u8]) -> usize
     ensures { ShownAs text.now out.old out.new result }
 {
-    let n = smaller_size(text.len(), out.len());
-    let mut i: usize = 0;
-    while i < n {
+    let n = text.len().min(out.len());
+    for i in 0..n {
         out[i] = shown(text[i]);
-        i += 1;
     }
     n
 }

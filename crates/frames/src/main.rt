@@ -95,7 +95,8 @@ fn read_script(
     store: &mut [i32],
 ) -> Result<Share, Wrong>
     requires { i ≤ 99 }
-    ensures { IfOk result (λ share. (share.file ≤ length file.old) × (share.picks ≤ length picks.old) × (share.values ≤ length store.old)) }
+    ensures { IfOk result (λ share. (share.file ≤ length file.old) × (share.picks ≤ length picks.old)
+        × (share.values ≤ length store.old)) }
 {
     Ok(Share {
         file: read_path(host, i, file)?,

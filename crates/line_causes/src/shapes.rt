@@ -1,6 +1,7 @@
 // What a line's words are to be.
 ghost use Rattle.std.specs.Prelude.{◌≡◌};
-ghost use Rattle.line_causes.specs.Shapes.{is_variable, is_ordered, is_comparison, is_step, is_bare, is_test, is_expression, shape_of, fits};
+ghost use Rattle.line_causes.specs.Shapes.{is_variable, is_ordered, is_comparison, is_step, is_bare, is_test};
+ghost use Rattle.line_causes.specs.Shapes.{is_expression, shape_of, fits};
 
 use program_words::is_number;
 use reading::order::LineQuestion;

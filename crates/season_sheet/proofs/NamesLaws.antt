@@ -1,15 +1,16 @@
 -- What is kept of an input. Assumes nothing.
 use mathlib.Core.Path.{◌≡◌, refl, sym, ap, ◌∙◌, subst}
 use mathlib.Core.Logic.{◌⊎◌, inl, inr}
-use mathlib.Core.Bool.{Bool, true, false, not, cond, ◌&&◌}
+use mathlib.Core.Bool.{Bool, true, false, not, cond, ◌&&◌, ◌||◌}
 use mathlib.Core.List.{List, [], ◌∷◌, ◌++◌}
 use Prim.Native.Nat.{ℕ, zero, suc, ◌+◌, ◌*◌, ◌-◌, ◌≤◌, ◌<◌, min}
 use native.Mathlib.Numerals.{add-one}
 use native.Mathlib.Omega.{arith}
 use lib.Dec.{T, leb, eqb, eqb→eq}
-use lib.ListN.{length, get_or, take, drop, set, length-append, length-drop, length-set, drop_of_length-le}
-use lib.Seq.{drop-cons, take_all, take-append-le, get_or-set_same, get_or-set_other, take-suc-set, take-set-le, drop-set-add}
-use borrow.Author.Tests.{le-leb, lt-leb, eq-eqb, ne_eqb, eqb-true, eqb-false}
+use lib.ListN.{length, get_or, take, drop, set, length-append, length-drop, length-set}
+use lib.Seq.{take_all, take-append-le, get_or-set_same, get_or-set_other, take-suc-set, take-set-le, drop-set-add}
+use borrow.Author.Tests.{le-leb, lt-leb, eqb-true, eqb-false}
+use Rattle.std.specs.List.{list_any}
 use Rattle.rules.specs.Text.{lf, split}
 use Rattle.rules_season.specs.Season.{until_last, names_of, holds_zero, good_name}
 use Rattle.season_sheet.specs.Kept.{NamesKept, listed, Opened}
@@ -224,18 +225,11 @@ unfolding listed
 listed_all [] h = refl
 listed_all (n ∷ ns) h = rw (le-leb 1 (length (n ∷ ns)) (omega arith), le-leb (length (n ∷ ns)) 64 h)
 
--- ---- a 0 byte, from a place on
-pub zero_here : (name : List ℕ) (i : ℕ) → i < length name → get_or name i 0 ≡ 0 → holds_zero (drop i name) ≡ true
+-- ---- a 0 byte
+pub zeros_are : (s : List ℕ) → list_any (λ b. eqb b 0) s ≡ holds_zero s
 unfolding holds_zero
-zero_here name i h e = rw (drop-cons name i 0 h, eq-eqb _ _ e)
-
-pub zero_later : (name : List ℕ) (i : ℕ) → i < length name → (get_or name i 0 ≡ 0 → ⊥) → holds_zero (drop i name) ≡ holds_zero (drop (suc i) name)
-unfolding holds_zero
-zero_later name i h e = rw (drop-cons name i 0 h, ne_eqb _ _ e)
-
-pub zero_none : (name : List ℕ) (i : ℕ) → length name ≤ i → holds_zero (drop i name) ≡ false
-unfolding holds_zero
-zero_none name i h = rw (drop_of_length-le name {i = i} h)
+zeros_are [] = refl
+zeros_are (b ∷ s) = ap (λ t. eqb b 0 || t) (zeros_are s)
 
 -- ---- which name is opened
 pub empty_shut : (name : List ℕ) → length name ≡ 0 → false ≡ good_name name

@@ -60,11 +60,8 @@ pub fn put_cues(rows: &[u32], count: usize, out: &mut [u32]) -> usize
         × (result ≤ count) }
 {
     let mut at: usize = 0;
-    let mut j: usize = 0;
-    while j < count {
-        let kind = kind_at(rows, j);
-        at = put_cue(kind, at, out);
-        j += 1;
+    for j in 0..count {
+        at = put_cue(kind_at(rows, j), at, out);
     }
     at
 }

@@ -12,22 +12,13 @@ ghost use Rattle.season_sheet.specs.Firsts.{total, cut_by, script_cues, Behind, 
 fn same_cues(first: &[u32], cues: &[u32]) -> bool
     ensures { result ≡ equals first.now cues.now }
 {
-    if first.len() != cues.len() {
-        return false;
-    }
-    let mut i = 0;
-    while i < first.len() {
-        if cues[i] != first[i] {
-            return false;
-        }
-        i += 1;
-    }
-    true
+    cues == first
 }
 
 // Whether a file is in the group of a first file, by their reports and their cue numbers.
 fn same_group(first: &[u8], report: &[u8], fired: &[u32], cues: &[u32]) -> bool
-    ensures { ((a b : Script) → first.now ≡ script_report ones a → report.now ≡ script_report ones b → fired.now ≡ cues_of a.rows → cues.now ≡ cues_of b.rows → result ≡ same_group a b) }
+    ensures { ((a b : Script) → first.now ≡ script_report ones a → report.now ≡ script_report ones b
+        → fired.now ≡ cues_of a.rows → cues.now ≡ cues_of b.rows → result ≡ same_group a b) }
 {
     report == first && same_cues(fired, cues)
 }

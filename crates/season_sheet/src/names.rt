@@ -52,10 +52,8 @@ pub fn push_all(at: usize, block: &[u8], names: &mut [u8; ROOM], lengths: &mut [
         (input ++ block.now) result names.new lengths.new) }
 {
     let mut line = at;
-    let mut i = 0;
-    while i < block.len() {
-        line = push(line, block[i], names, lengths);
-        i += 1;
+    for &b in block {
+        line = push(line, b, names, lengths);
     }
     line
 }
@@ -64,10 +62,7 @@ pub fn push_all(at: usize, block: &[u8], names: &mut [u8; ROOM], lengths: &mut [
 fn filled(length: usize) -> usize
     ensures { (result ≡ cond (eqb length 0) 0 1) × (result ≤ 1) }
 {
-    if length > 0 {
-        return 1;
-    }
-    0
+    length.min(1)
 }
 
 // How many names there are: what stands after the last LF is one if it is not empty. 0 for no name or more than 64.
@@ -88,14 +83,7 @@ pub fn count(at: usize, lengths: &[usize; 66]) -> usize
 fn holds_zero(name: &[u8]) -> bool
     ensures { result ≡ holds_zero name.now }
 {
-    let mut i = 0;
-    while i < name.len() {
-        if name[i] == 0 {
-            return true;
-        }
-        i += 1;
-    }
-    false
+    name.iter().any(|&b| b == 0)
 }
 
 // Whether a name is opened: not an empty one, none over 255 bytes, none with a 0 byte.

@@ -121,10 +121,8 @@ fn put_numbers(counts: &[u64; 21], out: &mut [u8]) -> usize
     ensures { Wrote (numbers_text (λ q. get_or counts.now q 0)) out.old out.new result × (result ≤ 1_000) }
 {
     let mut at: usize = 0;
-    let mut q: usize = 1;
-    while q < 21 {
+    for q in 1..21 {
         at += put_met(q, counts[q], &mut out[at..]);
-        q += 1;
     }
     at
 }
