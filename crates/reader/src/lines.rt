@@ -12,13 +12,7 @@ fn has_line(rest: &[u8]) -> bool
     ensures { result ≡ ltb (before 10 rest.now) (length rest.now) }
 {
     let n = rest.len();
-    if n == 0 {
-        return false;
-    }
-    if rest[n - 1] == b'\n' {
-        return true;
-    }
-    position(rest, b'\n') < n
+    (0 < n && rest[n - 1] == b'\n') || position(rest, b'\n') < n
 }
 
 // Whether there is a next line, and it has the key.
