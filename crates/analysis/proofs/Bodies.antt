@@ -1,4 +1,6 @@
 -- The passes of a loop's body as code holds them are those of the rules, but for where totals stop.
+use Rattle.std.specs.Option.{is_some}
+use Rattle.std.specs.Prelude.{Some, None}
 use mathlib.Core.Path.{◌≡◌, refl, sym, ap, ◌∙◌}
 use mathlib.Core.Bool.{Bool, true, false, cond, ◌&&◌}
 use Prim.Native.Nat.{ℕ, ◌+◌, ◌*◌}
@@ -26,8 +28,8 @@ module _ (r : Round) (κ : Pass) (form : Form) (ρ : Env) (test : Test) (body : 
   -- by whether it sums
   abbrev by_values : ℕ → Bool → Round
   by_values total b = cond b
-      (record { count = n; by = first_end (step test.tested body); times = capped (r.count * r.times); x = (ρ test.tested).lo; v = test.tested; known = true })
-      (record { count = 1; by = pos 0; times = total; x = pos 0; v = test.tested; known = false })
+      (record { count = n; by = first_end (step test.tested body); times = capped (r.count * r.times); v = test.tested; x = Some ((ρ test.tested).lo) })
+      (record { count = 1; by = pos 0; times = total; v = test.tested; x = None })
 
   body_is : (total : ℕ) → body_of (trip form ρ test body) test.tested n total r ≡ by_values total (sums form ρ test body)
   unfolding sums trip_by
@@ -35,8 +37,8 @@ module _ (r : Round) (κ : Pass) (form : Form) (ρ : Env) (test : Test) (body : 
     where
       by : (w : Way) → body_of (trip_by w form ρ test body) test.tested (turns_of (trip_by w form ρ test body)) total r
           ≡ cond (is_own w && (is_exact (trip_by w form ρ test body) && (is_add (step test.tested body) && (ordered (sort test.comparison) && leb (turns_of (trip_by w form ρ test body)) 4_096))))
-          (record { count = turns_of (trip_by w form ρ test body); by = first_end (step test.tested body); times = capped (r.count * r.times); x = (ρ test.tested).lo; v = test.tested; known = true })
-          (record { count = 1; by = pos 0; times = total; x = pos 0; v = test.tested; known = false })
+          (record { count = turns_of (trip_by w form ρ test body); by = first_end (step test.tested body); times = capped (r.count * r.times); v = test.tested; x = Some ((ρ test.tested).lo) })
+          (record { count = 1; by = pos 0; times = total; v = test.tested; x = None })
       by own = refl
       by (copied w ahead) = refl
       by (chase w) = refl
@@ -48,19 +50,19 @@ module _ (r : Round) (κ : Pass) (form : Form) (ρ : Env) (test : Test) (body : 
     q_is : q ≡ by_values total (sums form ρ test body)
     q_is = e ∙ body_is total
 
-    pub body_known : q.known ≡ sums form ρ test body
-    body_known = ap (λ (z : Round). z.known) q_is ∙ by (sums form ρ test body)
+    pub body_known : is_some q.x ≡ sums form ρ test body
+    body_known = ap (λ (z : Round). is_some z.x) q_is ∙ by (sums form ρ test body)
       where
-        by : (b : Bool) → (by_values total b).known ≡ b
+        by : (b : Bool) → is_some (by_values total b).x ≡ b
         by true = refl
         by false = refl
 
-    pub body_sum : (f : Pass → ℕ) → sum_over (pass_in q q.known) q.by q.count f
+    pub body_sum : (f : Pass → ℕ) → sum_over (pass_in q (is_some q.x)) q.by q.count f
         ≡ sum_over (first_pass form ρ test body) (in_body (round_of r) κ form ρ test body).by (in_body (round_of r) κ form ρ test body).count f
     unfolding first_pass in_body
-    body_sum f = ap (λ (z : Round). sum_over (pass_in z z.known) z.by z.count f) q_is ∙ by (sums form ρ test body)
+    body_sum f = ap (λ (z : Round). sum_over (pass_in z (is_some z.x)) z.by z.count f) q_is ∙ by (sums form ρ test body)
       where
-        by : (b : Bool) → sum_over (pass_in (by_values total b) (by_values total b).known) (by_values total b).by (by_values total b).count f
+        by : (b : Bool) → sum_over (pass_in (by_values total b) (is_some (by_values total b).x)) (by_values total b).by (by_values total b).count f
             ≡ sum_over (cond b (valued test.tested (ρ test.tested).lo) any)
             (cond b (record { count = n; by = first_end (step test.tested body); times = often (round_of r) }) (alike (total_of (round_of r) κ form ρ test body))).by
             (cond b (record { count = n; by = first_end (step test.tested body); times = often (round_of r) }) (alike (total_of (round_of r) κ form ρ test body))).count f
@@ -68,11 +70,11 @@ module _ (r : Round) (κ : Pass) (form : Form) (ρ : Env) (test : Test) (body : 
         by false = refl
 
     pub body_lines : total ≡ capped (total_of (round_of r) κ form ρ test body) → (β : Env) (b : Block)
-        → capped_lines (lines (round_of q) (pass_in q q.known) β b) ≡ capped_lines (lines (in_body (round_of r) κ form ρ test body) (first_pass form ρ test body) β b)
+        → capped_lines (lines (round_of q) (pass_in q (is_some q.x)) β b) ≡ capped_lines (lines (in_body (round_of r) κ form ρ test body) (first_pass form ρ test body) β b)
     unfolding first_pass in_body
-    body_lines h β b = ap (λ (z : Round). capped_lines (lines (round_of z) (pass_in z z.known) β b)) q_is ∙ by (sums form ρ test body)
+    body_lines h β b = ap (λ (z : Round). capped_lines (lines (round_of z) (pass_in z (is_some z.x)) β b)) q_is ∙ by (sums form ρ test body)
       where
-        by : (s : Bool) → capped_lines (lines (round_of (by_values total s)) (pass_in (by_values total s) (by_values total s).known) β b)
+        by : (s : Bool) → capped_lines (lines (round_of (by_values total s)) (pass_in (by_values total s) (is_some (by_values total s).x)) β b)
             ≡ capped_lines (lines (cond s (record { count = n; by = first_end (step test.tested body); times = often (round_of r) }) (alike (total_of (round_of r) κ form ρ test body)))
             (cond s (valued test.tested (ρ test.tested).lo) any) β b)
         by true = cap_lines n (first_end (step test.tested body)) _ _ (omega arith) (valued test.tested (ρ test.tested).lo) β b

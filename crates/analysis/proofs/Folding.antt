@@ -7,6 +7,7 @@ use lib.ListN.{set}
 use native.Mathlib.Omega.{arith}
 use lib.Dec.{leb}
 use lib.IntN.{ℤ, pos}
+use Rattle.std.specs.Prelude.{Option, Some, None}
 use Rattle.rules.specs.Blocks.{Plain, Test, Form, Last, no_step, step_by, with_last, Block, done, plain, pick, loop, snoc}
 use Rattle.rules.specs.Steps.{sets, starts, assigns, step, first_end}
 use Rattle.rules.specs.Ranges.{Env, after_row, join, at_start}
@@ -23,7 +24,7 @@ use Rattle.rules.specs.Questions.{and_then, asked, tick_limit, of_trip, loops_ve
 use Rattle.analysis_ticks.specs.Capped.{capped}
 use Rattle.analysis_ticks.proofs.Caps.{cap_mul}
 use Rattle.analysis_ticks.specs.declared.passes.Round.{Round}
-use Rattle.analysis_ticks.specs.Rounds.{round_of, pass_in}
+use Rattle.analysis_ticks.specs.Rounds.{round_of, pass_by, pass_in}
 use Rattle.analysis.specs.Tallies.{FoldState, last_price}
 use Rattle.analysis.specs.Known.{not_known}
 use Rattle.analysis.specs.Own.{put_own}
@@ -127,16 +128,16 @@ kept_none false = refl
 
 pub later_in : (r : Round) (kept : Bool) (f : ℕ → Bool) → later f (pass_in r kept) ≡ pass_in r (kept && not (f r.v))
 unfolding later
-later_in r kept f = by r.known kept
+later_in r kept f = by r.x kept
   where
-    flip : (b : Bool) → cond b any (valued r.v r.x) ≡ cond (not b) (valued r.v r.x) any
-    flip true = refl
-    flip false = refl
+    flip : (x : ℤ) (b : Bool) → cond b any (valued r.v x) ≡ cond (not b) (valued r.v x) any
+    flip x true = refl
+    flip x false = refl
 
-    by : (k p : Bool) → later f (cond (k && p) (valued r.v r.x) any) ≡ cond (k && (p && not (f r.v))) (valued r.v r.x) any
-    by true true = flip (f r.v)
-    by true false = refl
-    by false p = refl
+    by : (k : Option ℤ) (p : Bool) → later f (pass_by r.v k p) ≡ pass_by r.v k (p && not (f r.v))
+    by (Some x) true = flip x (f r.v)
+    by (Some x) false = refl
+    by None p = refl
 
 -- ---- states
 module _ (π : Prices) (r : Round) (x : FoldState) where

@@ -1,4 +1,5 @@
 -- The analysis' walk, row by row: what the code carries is what the fold carries.
+use Rattle.std.specs.Option.{is_some}
 use mathlib.Core.Path.{◌≡◌, refl, sym, ap, ap₂, subst, ◌∙◌, fun_ext}
 use mathlib.Core.Logic.{inl, inr}
 use mathlib.Core.Bool.{Bool, false, not, cond, ◌&&◌}
@@ -299,28 +300,28 @@ module _ {text : List ℕ} (π : Prices) {rows : List Row} {count : ℕ} (round 
     -- G: the ticks of the passes as they are walked
     module _ (x : LoopEntry) {first : LentTally} (en : EntryPassed text π i test.tested round (kind_at rows i) (trip form σ test body) t x first) where
       abbrev inner : (Pass → ℕ) → ℕ
-      inner f = sum_over (pass_in x.round x.round.known) x.round.by x.round.count f
+      inner f = sum_over (pass_in x.round (is_some x.round.x)) x.round.by x.round.count f
 
       inner_is : (f : Pass → ℕ) → inner f ≡ sum_over (first_pass form σ test body) (in_body (round_of round) κ form σ test body).by (in_body (round_of round) κ form σ test body).count f
       inner_is = body_sum round κ form σ test body (capped (W * round.times)) x.round en.round
 
-      sums_known : x.round.known ≡ sums form σ test body
+      sums_known : is_some x.round.x ≡ sums form σ test body
       sums_known = body_known round κ form σ test body (capped (W * round.times)) x.round en.round
 
       pub with_last_lem : inner (λ j. ticks π j β body) ≡ x.round.count * last_ticks text π (kind_at rows i) + inner (λ j. ticks π j β (block_at text rows count (i + 1)))
       with_last_lem =
           let p = last_ticks text π (kind_at rows i) in
           ap inner (fun_ext λ j. same.ticked j β)
-          ∙ over_add (pass_in x.round x.round.known) x.round.by x.round.count (λ _. p) (λ j. ticks π j β (block_at text rows count (i + 1)))
-          ∙ ap (λ z. z + inner (λ j. ticks π j β (block_at text rows count (i + 1)))) (over_same (pass_in x.round x.round.known) x.round.by x.round.count p)
+          ∙ over_add (pass_in x.round (is_some x.round.x)) x.round.by x.round.count (λ _. p) (λ j. ticks π j β (block_at text rows count (i + 1)))
+          ∙ ap (λ z. z + inner (λ j. ticks π j β (block_at text rows count (i + 1)))) (over_same (pass_in x.round (is_some x.round.x)) x.round.by x.round.count p)
 
       with_tests : inner (λ j. ticks π j β body) + x.exit.ran.tests * π.test ≡ inner turn
       with_tests =
           omega (
             arith,
             ap (λ z. z * π.test) en.ran.tests,
-            over_add (pass_in x.round x.round.known) x.round.by x.round.count (λ j. ticks π j β body) (λ _. π.test),
-            over_same (pass_in x.round x.round.known) x.round.by x.round.count π.test,
+            over_add (pass_in x.round (is_some x.round.x)) x.round.by x.round.count (λ j. ticks π j β body) (λ _. π.test),
+            over_same (pass_in x.round (is_some x.round.x)) x.round.by x.round.count π.test,
           )
 
       own_is : capped (x.exit.ran.own * (inner (λ j. ticks π j β body) + x.exit.ran.tests * π.test) + 1 * once π form) ≡ capped (own_ticks π round (tallied t ρ) i e form test body)
@@ -354,14 +355,14 @@ module _ {text : List ℕ} (π : Prices) {rows : List Row} {count : ℕ} (round 
       body_walkable k fine h = lined_walkable k fine en.fine en.lined (omega (arith, mul-le-mul en.fine.few (last_small fine text (kind_at rows i)))) (loop_room h)
 
       pub body_by : {ρ' : Env} {ranges : List (List ℤ)} {b : LentTally} → ρ' ≡ β → PassedPart text π rows count (i + 1) ρ' x.round first ranges b
-          → Part π x.round x.round.known β (x.round.count * last_ticks text π (kind_at rows i)) (over_of t.over) (first_lines t.lines t.loops ++ (line_for i (trip form σ test body) (turns form σ test body) (capped (W * round.times)) ∷ [])) (t.loops + 1) t.own (block_at text rows count (i + 1)) ranges b
+          → Part π x.round (is_some x.round.x) β (x.round.count * last_ticks text π (kind_at rows i)) (over_of t.over) (first_lines t.lines t.loops ++ (line_for i (trip form σ test body) (turns form σ test body) (capped (W * round.times)) ∷ [])) (t.loops + 1) t.own (block_at text rows count (i + 1)) ranges b
       body_by {ρ'} {ranges} {b} e p =
           let s = x.round.count * last_ticks text π (kind_at rows i) in
           let ls = first_lines t.lines t.loops ++ (line_for i (trip form σ test body) (turns form σ test body) (capped (W * round.times)) ∷ []) in
-          subst (λ z. Part π x.round x.round.known z s (over_of t.over) ls (t.loops + 1) t.own (block_at text rows count (i + 1)) ranges b) e (part_of x.round.known s (over_of t.over) ls (t.loops + 1) t.own (en.lined.value _) p)
+          subst (λ z. Part π x.round (is_some x.round.x) z s (over_of t.over) ls (t.loops + 1) t.own (block_at text rows count (i + 1)) ranges b) e (part_of (is_some x.round.x) s (over_of t.over) ls (t.loops + 1) t.own (en.lined.value _) p)
 
       pub past_loop_lem : {inner-ranges ranges : List (List ℤ)} {b r : LentTally} {keep : Bool}
-          → Part π x.round x.round.known β (x.round.count * last_ticks text π (kind_at rows i)) (over_of t.over) (first_lines t.lines t.loops ++ (line_for i (trip form σ test body) (turns form σ test body) (capped (W * round.times)) ∷ [])) (t.loops + 1) t.own (block_at text rows count (i + 1)) inner-ranges b
+          → Part π x.round (is_some x.round.x) β (x.round.count * last_ticks text π (kind_at rows i)) (over_of t.over) (first_lines t.lines t.loops ++ (line_for i (trip form σ test body) (turns form σ test body) (capped (W * round.times)) ∷ [])) (t.loops + 1) t.own (block_at text rows count (i + 1)) inner-ranges b
           → ((G : ℕ) → b.spent ≡ capped G → BlockClosed t b i e (capped (x.exit.ran.own * (G + x.exit.ran.tests * π.test) + 1 * once π form)) (capped (x.exit.ran.all * (G + x.exit.ran.tests * π.test) + round.count * once π form)) keep r)
           → keep ≡ (t.kept && not (starts round.v form test)) && not (assigns round.v body) → env_of ranges ≡ outside form σ test body
           → {os : List ℕ} {sum : ℕ} → NotedFor (length r.own) ρ sum → os ≡ set r.own e sum → PassedBlock text π rows count i ρ round t ranges (with_own r os)
@@ -373,8 +374,8 @@ module _ {text : List ℕ} (π : Prices) {rows : List Row} {count : ℕ} (round 
           let c = f G (p.spent ∙ ap capped (sym with_last_lem)) in
           let L : line_for i (trip form σ test body) n (capped (W * round.times)) ≡ capped_line (line (round_of round) (start_pass form test (pass_in round t.kept)) i form σ test body)
           = ap (λ z. line_for i (trip form σ test body) n (capped z)) (sym total_is ∙ ap (λ j. total_of (round_of round) j form σ test body) (sym start_is)) in
-          let lined : capped_lines (lines (round_of x.round) (pass_in x.round x.round.known) β (block_at text rows count (i + 1))) ≡ capped_lines (lines (in_body (round_of round) (start_pass form test (pass_in round t.kept)) form σ test body) (first_pass form σ test body) β body)
-          = ap capped_lines (sym (same.lined (round_of x.round) (pass_in x.round x.round.known) β))
+          let lined : capped_lines (lines (round_of x.round) (pass_in x.round (is_some x.round.x)) β (block_at text rows count (i + 1))) ≡ capped_lines (lines (in_body (round_of round) (start_pass form test (pass_in round t.kept)) form σ test body) (first_pass form σ test body) β body)
+          = ap capped_lines (sym (same.lined (round_of x.round) (pass_in x.round (is_some x.round.x)) β))
           ∙ body_lines round κ form σ test body (capped (W * round.times)) x.round en.round (ap capped (sym total_is)) β body
           ∙ ap (λ j. capped_lines (lines (in_body (round_of round) j form σ test body) (first_pass form σ test body) β body)) (sym start_is) in
           let y : tallied (with_own r os) (env_of ranges) ≡ past_loop π round (tallied t ρ) i e form test body = state_is s

@@ -1,4 +1,5 @@
 -- The analysis' answer, from what the walk over the whole file found.
+use Rattle.std.specs.Prelude.{None}
 use mathlib.Core.Path.{◌≡◌, refl, ap, sym, ◌∙◌}
 use mathlib.Core.Bool.{false}
 use mathlib.Core.List.{List, []}
@@ -35,7 +36,7 @@ use Rattle.analysis.proofs.Legals.{env_is, file_is, few_in}
 
 -- the one pass of a file's rows
 abbrev pub alone : Round
-alone = record { count = 1; by = pos 0; times = 1; x = pos 0; v = 0; known = false }
+alone = record { count = 1; by = pos 0; times = 1; v = 0; x = None }
 
 -- a refusal has not passed
 pub not_both : {A : Type 0} {v : Verdict} {q p : ℕ} → v ≡ refused q p → v ≡ passed → A

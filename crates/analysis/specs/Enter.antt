@@ -1,4 +1,5 @@
 -- Entering and leaving a loop.
+use Rattle.std.specs.Option.{is_some}
 use Rattle.std.specs.Prelude.{◌≡◌, Bool, not, cond, ◌&&◌, List, ℕ, ◌+◌, ◌*◌, ◌<◌, ℤ, Result, Ok, Err}
 use Rattle.rules.specs.declared.Row.{Row}
 use Rattle.rules.specs.declared.Kind.{Kind}
@@ -50,8 +51,8 @@ pub record EntryPassed (text : List ℕ) (π : Prices) (i v : ℕ) (r : Round) (
   pub verdict : of_trip i τ ≡ passed
   pub round : e.round ≡ body_of τ v (turns_of τ) (capped (walked_at text r t.kept k τ * r.times)) r
   pub fine : FineRound e.round
-  pub ran : PassCountsOf e.round.known e.round.count (turns_of τ) (capped (walked_at text r t.kept k τ)) r.count e.exit.ran
-  pub lined : LineAdded t i τ (turns_of τ) (capped (walked_at text r t.kept k τ * r.times)) (e.round.count * last_ticks text π k) e.round.known first
+  pub ran : PassCountsOf (is_some e.round.x) e.round.count (turns_of τ) (capped (walked_at text r t.kept k τ)) r.count e.exit.ran
+  pub lined : LineAdded t i τ (turns_of τ) (capped (walked_at text r t.kept k τ * r.times)) (e.round.count * last_ticks text π k) (is_some e.round.x) first
 
 -- what leaves a loop, from what is found of it
 pub record ExitOf (one : Loop) (counts : PassCounts) (x : Exit) : Type 0 where

@@ -1,4 +1,5 @@
 // Entering and leaving a loop: its questions 19 and 8 to 12, its line, and the passes of its body.
+ghost use Rattle.std.specs.Option.{is_some};
 ghost use Rattle.std.specs.Prelude.{◌≡◌, not, ◌&&◌, List, ℕ, ◌+◌, ◌*◌, ◌≤◌, ◌<◌, length};
 ghost use Rattle.rules.specs.Bounds.{FinePrices};
 ghost use Rattle.rules.specs.Steps.{starts};
@@ -34,10 +35,10 @@ pub struct PassCounts {
 
 // Of a loop of these turns, inner the passes of its body: once in each of `count` passes if it sums, else `all` in these.
 fn pass_counts(inner: Round, turns: u64, all: u64, count: u64) -> PassCounts
-    ensures { PassCountsOf inner.known inner.count turns all count result }
+    ensures { PassCountsOf (is_some inner.x) inner.count turns all count result }
 {
     let tests = inner.count;
-    if inner.known {
+    if inner.x.is_some() {
         PassCounts {
             own: 1,
             all: count,
@@ -120,7 +121,7 @@ pub fn enter_loop(
             let total = times(all, round.times);
             let inner = body(trip, one.tested, turns, total, round);
             let spent = inner.count * last_ticks(kind, prices);
-            let first = lined(lines, t, trip, turns, total, spent, inner.known);
+            let first = lined(lines, t, trip, turns, total, spent, inner.x.is_some());
             let exit = exit_of(one, pass_counts(inner, turns, all, round.count));
             inside(r, one);
             Ok(LoopEntry {

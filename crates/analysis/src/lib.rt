@@ -171,9 +171,8 @@ const ALONE: Round = Round {
     count: 1,
     by: 0,
     times: 1,
-    x: 0,
     v: 0,
-    known: false,
+    x: None,
 };
 
 // Nothing is found yet.

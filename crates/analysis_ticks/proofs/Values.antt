@@ -1,11 +1,12 @@
 -- Sums over values, and what a triangle's trip has.
-use mathlib.Core.Path.{◌≡◌, refl, sym, ap, ◌∙◌, fun_ext}
+use mathlib.Core.Path.{◌≡◌, refl, sym, ap, ap₂, ◌∙◌, fun_ext}
 use mathlib.Core.Bool.{Bool, true, false, not, cond, ◌&&◌, false≢true}
 use Prim.Native.Nat.{ℕ, suc, ◌+◌, ◌*◌, ◌-◌, ◌≤◌, ◌<◌}
 use native.Mathlib.Nat.{mul-le-mul, mul_comm}
 use borrow.Author.Tests.{leb-true}
 use native.Mathlib.Numerals.{add-one}
 use native.Mathlib.Omega.{arith}
+use Rattle.std.specs.Prelude.{Option, Some, None}
 use lib.IntN.{ℤ, pos, ◌+ℤ◌, ◌-ℤ◌, ◌*ℤ◌}
 use lib.Signed.{◌≤ℤ◌}
 use mir.Syntax.{w64}
@@ -27,7 +28,7 @@ use Rattle.rules.specs.Steps.{is_add, first_end}
 use Rattle.rules.specs.Ranges.{Range, edge, sort, ordered, suits}
 use Rattle.rules.specs.Turns.{climb}
 use Rattle.rules.specs.Trips.{Trip, is_exact}
-use Rattle.rules.specs.Passes.{any, valued, sum, sum_over, from_constant}
+use Rattle.rules.specs.Passes.{valued, sum, sum_over, from_constant}
 use Rattle.rules.specs.Questions.{asked, loop_verdict, of_trip}
 use Rattle.rules.proofs.Triangles.{over_same}
 use Rattle.analysis_turns.proofs.Few.{climb_few}
@@ -36,7 +37,7 @@ use Rattle.analysis_loops.specs.declared.trips.Trip as code
 use Rattle.analysis_loops.specs.Found.{start_of, free_of, trip_of}
 use Rattle.analysis_ticks.specs.Capped.{capped}
 use Rattle.analysis_ticks.specs.declared.passes.Round.{Round}
-use Rattle.analysis_ticks.specs.Rounds.{round_of, pass_in, FineRound, is_base, sums_by, triangle_by, climb_to, turns_by, walked_by, Rises, body_of}
+use Rattle.analysis_ticks.specs.Rounds.{round_of, pass_by, pass_in, FineRound, is_base, sums_by, triangle_by, climb_to, turns_by, walked_by, Rises, body_of}
 
 -- ---- Booleans
 pub no_not : {b : Bool} → not b ≡ true → b ≡ false
@@ -117,23 +118,27 @@ sum_is t r x a n =
 
 -- ---- all passes of one entry
 module _ (form : Form) (limit : Expr) (τ : Trip) (m : ℕ) (r : Round) (kept : Bool) where
-  abbrev all : Bool → ℕ
-  all b = sum_over (cond b (valued r.v r.x) any) r.by r.count (λ j. turns_by j form limit τ m)
+  abbrev all : Option ℤ → Bool → ℕ
+  all x b = sum_over (pass_by r.v x b) r.by r.count (λ j. turns_by j form limit τ m)
 
-  pub walked_none : r.known && kept ≡ false → walked_by (round_of r) (pass_in r kept) form limit τ m ≡ m * r.count
+  pub walked_unknown : r.x ≡ None → walked_by (round_of r) (pass_in r kept) form limit τ m ≡ m * r.count
   unfolding sum_over turns_by
-  walked_none h = ap all h ∙ mul_comm r.count m
+  walked_unknown e = ap (λ x. all x kept) e ∙ mul_comm r.count m
 
-  module _ (h : r.known && kept ≡ true) where
-    pub walked_same : triangle_by form limit τ r.v ≡ false → walked_by (round_of r) (pass_in r kept) form limit τ m ≡ m * r.count
+  module _ (x : ℤ) (e : r.x ≡ Some x) where
+    pub walked_none : kept ≡ false → walked_by (round_of r) (pass_in r kept) form limit τ m ≡ m * r.count
     unfolding sum_over turns_by
-    walked_same t =
-        ap all h ∙ ap (λ f. sum f 0 r.count) (fun_ext λ i. ap (λ b. cond b (climb_to τ (r.x +ℤ r.by *ℤ pos i)) m) t)
-        ∙ over_same (valued r.v r.x) r.by r.count m ∙ mul_comm r.count m
+    walked_none h = ap₂ all e h ∙ mul_comm r.count m
 
-    pub walked_sum : triangle_by form limit τ r.v ≡ true → walked_by (round_of r) (pass_in r kept) form limit τ m ≡ sum (λ i. climb_to τ (r.x +ℤ r.by *ℤ pos i)) 0 r.count
+    pub walked_same : kept ≡ true → triangle_by form limit τ r.v ≡ false → walked_by (round_of r) (pass_in r kept) form limit τ m ≡ m * r.count
     unfolding sum_over turns_by
-    walked_sum t = ap all h ∙ ap (λ f. sum f 0 r.count) (fun_ext λ i. ap (λ b. cond b (climb_to τ (r.x +ℤ r.by *ℤ pos i)) m) t)
+    walked_same h t =
+        ap₂ all e h ∙ ap (λ f. sum f 0 r.count) (fun_ext λ i. ap (λ b. cond b (climb_to τ (x +ℤ r.by *ℤ pos i)) m) t)
+        ∙ over_same (valued r.v x) r.by r.count m ∙ mul_comm r.count m
+
+    pub walked_sum : kept ≡ true → triangle_by form limit τ r.v ≡ true → walked_by (round_of r) (pass_in r kept) form limit τ m ≡ sum (λ i. climb_to τ (x +ℤ r.by *ℤ pos i)) 0 r.count
+    unfolding sum_over turns_by
+    walked_sum h t = ap₂ all e h ∙ ap (λ f. sum f 0 r.count) (fun_ext λ i. ap (λ b. cond b (climb_to τ (x +ℤ r.by *ℤ pos i)) m) t)
 
 -- ---- a triangle rises
 asked_first : (n p : ℕ) (b : Bool) (v : Verdict) → asked n p b v ≡ passed → b ≡ true
@@ -184,22 +189,22 @@ module _ (t : code.Trip) (v n total : ℕ) (r : Round) where
   body_adds h = and_left (is_add t.step) _ (and_right (is_exact (trip_of t)) _ (and_right (is_base (trip_of t)) _ h))
 
   pub body_yes : sums_by (trip_of t) n ≡ true → v < 16 → (o : ℕ) → o ≡ capped (r.count * r.times) → (a : ℤ) → a ≡ first_end t.step → Near 512 a
-      → let q : Round = record { count = n; by = a; times = o; x = t.start.lo; v = v; known = true } in (q ≡ body_of (trip_of t) v n total r) × FineRound q
+      → let q : Round = record { count = n; by = a; times = o; v = v; x = Some t.start.lo } in (q ≡ body_of (trip_of t) v n total r) × FineRound q
   body_yes h w o p a e near =
       let own = and_left (not (free_of t.counter)) _ (and_left (is_base (trip_of t)) _ h) in
       let few = and_right (ordered (sort t.comparison)) _ (and_right (is_add t.step) _ (and_right (is_exact (trip_of t)) _ (and_right (is_base (trip_of t)) _ h))) in
       let s : Range = record { lo = t.start.lo; hi = t.start.hi } in
       let z = sym (own_start t.counter own s (record { lo = t.limit.lo; hi = t.limit.hi })) in (
-        (λ j. record { count = n; by = e j; times = p j; x = (z j).lo; v = v; known = true }) ∙ sym (ap (λ b. cond b (record { count = n; by = first_end t.step; times = capped (r.count * r.times); x = (trip_of t).start.lo; v = v; known = true }) no) h),
+        (λ j. record { count = n; by = e j; times = p j; v = v; x = Some ((z j).lo) }) ∙ sym (ap (λ b. cond b (record { count = n; by = first_end t.step; times = capped (r.count * r.times); v = v; x = Some ((trip_of t).start.lo) }) no) h),
         record { few = leb-true n 4_096 few; near = near; small = omega arith; var = w },
       )
     where
       no : Round
-      no = record { count = 1; by = pos 0; times = total; x = pos 0; v = v; known = false }
+      no = record { count = 1; by = pos 0; times = total; v = v; x = None }
 
   pub body_no : sums_by (trip_of t) n ≡ false → v < 16 → total ≤ 1_000_000_000_001
-      → let q : Round = record { count = 1; by = pos 0; times = total; x = pos 0; v = v; known = false } in (q ≡ body_of (trip_of t) v n total r) × FineRound q
+      → let q : Round = record { count = 1; by = pos 0; times = total; v = v; x = None } in (q ≡ body_of (trip_of t) v n total r) × FineRound q
   body_no h w l = (
-    sym (ap (λ b. cond b (record { count = n; by = first_end t.step; times = capped (r.count * r.times); x = (trip_of t).start.lo; v = v; known = true }) (record { count = 1; by = pos 0; times = total; x = pos 0; v = v; known = false })) h),
+    sym (ap (λ b. cond b (record { count = n; by = first_end t.step; times = capped (r.count * r.times); v = v; x = Some ((trip_of t).start.lo) }) (record { count = 1; by = pos 0; times = total; v = v; x = None })) h),
     record { few = omega arith; near = omega ints; small = l; var = w },
   )

@@ -1,5 +1,5 @@
 -- The passes of a block as code holds them; the loops that sum and the triangles, from a loop's trip τ and its turns n.
-use Rattle.std.specs.Prelude.{◌≡◌, Bool, true, false, not, cond, ◌&&◌, ℕ, ◌*◌, ◌≤◌, ◌<◌, leb, ℤ, pos}
+use Rattle.std.specs.Prelude.{◌≡◌, Option, Some, None, Bool, true, not, cond, ◌&&◌, ℕ, ◌*◌, ◌≤◌, ◌<◌, leb, ℤ, pos}
 use Rattle.rules_steps.specs.Ends.{Near, EndsWithin}
 use Rattle.rules.specs.Expressions.{Expr}
 use Rattle.rules.specs.Values.{upward}
@@ -19,9 +19,13 @@ use Rattle.analysis_ticks.specs.declared.passes.Round.{Round}
 abbrev pub round_of : Round → figures.Round
 round_of r = record { count = r.count; by = r.by; times = r.times }
 
--- what is known in the first pass; kept: the variable is not assigned so far
+-- what is known in the first pass, where v holds x, if that is known; kept: the variable is not assigned so far
+abbrev pub pass_by : ℕ → Option ℤ → Bool → Pass
+pass_by v (Some x) kept = cond kept (valued v x) any
+pass_by v None kept = any
+
 abbrev pub pass_in : Round → Bool → Pass
-pass_in r kept = cond (r.known && kept) (valued r.v r.x) any
+pass_in r kept = pass_by r.v r.x kept
 
 -- how large its numbers are
 pub record FineRound (r : Round) : Type 0 where
@@ -65,11 +69,11 @@ pub record Rises (t : code.Trip) : Type 0 where
 
 -- the passes of a pick's branch
 abbrev pub branch_of : Round → Round
-branch_of r = record { count = 1; by = pos 0; times = capped (r.count * r.times); x = r.x; v = r.v; known = false }
+branch_of r = record { count = 1; by = pos 0; times = capped (r.count * r.times); v = r.v; x = None }
 
 -- the passes of a loop's body, v its tested variable, total its turns in all
 abbrev pub body_of : Trip → ℕ → ℕ → ℕ → Round → Round
 body_of τ v n total r =
     cond (sums_by τ n)
-    (record { count = n; by = first_end τ.step; times = capped (r.count * r.times); x = τ.start.lo; v = v; known = true })
-    (record { count = 1; by = pos 0; times = total; x = pos 0; v = v; known = false })
+    (record { count = n; by = first_end τ.step; times = capped (r.count * r.times); v = v; x = Some τ.start.lo })
+    (record { count = 1; by = pos 0; times = total; v = v; x = None })

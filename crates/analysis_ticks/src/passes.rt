@@ -25,16 +25,15 @@ use analysis_turns::moves::climb;
 use rules::{AddLoop, Comparison, Kind, Operand};
 use rules_steps::Step;
 
-// The passes of a block: `count` of one entry of the loop round it, its variable moved by `by` in each, `times` over; if known, its
-// variable v holds x in the first.
+// The passes of a block: `count` of one entry of the loop round it, its variable v moved by `by` in each, `times` over; x is what v holds
+// in the first, if that is known.
 #[derive(Clone, Copy, Debug, PartialEq, Eq)]
 pub struct Round {
     pub count: u64,
     pub by: i64,
     pub times: u64,
-    pub x: i32,
     pub v: u8,
-    pub known: bool,
+    pub x: Option<i32>,
 }
 
 // A base kind: turns are counted by the tested variable's own step, and it is no hold that breaks its terms.
@@ -139,15 +138,12 @@ fn climbs(start: i64, limit: i64, step: i64, by: i64, count: u64) -> u64
     all
 }
 
-// A triangle's turns, added over the values of the variable round it.
-fn summed(trip: Trip, round: Round) -> u64
+// A triangle's turns, added over the values of the variable round it, x the first.
+fn summed(trip: Trip, x: i32, round: Round) -> u64
     requires { Rises trip × FineRound round }
-    ensures { result ≡ sum (λ i. climb_to (trip_of trip) (round.x +ℤ round.by *ℤ pos i)) 0 round.count }
+    ensures { result ≡ sum (λ i. climb_to (trip_of trip) (x +ℤ round.by *ℤ pos i)) 0 round.count }
 {
-    let first = Interval {
-        lo: round.x,
-        hi: round.x,
-    };
+    let first = Interval { lo: x, hi: x };
     let limit = edge(trip.comparison, WideInterval::from(first));
     climbs(
         i64::from(trip.start.lo),
@@ -166,15 +162,12 @@ pub fn walked(kind: Kind, trip: Trip, turns: u64, round: Round, kept: bool) -> u
     ensures { ((text : List ℕ) → Written text kind → result ≡ capped
         (walked_by (round_of round) (pass_in round kept) (form_of text kind) (test_of text kind).limit (trip_of trip) turns)) }
 {
-    let valued = round.known && kept;
-    if !valued {
-        return times(turns, round.count);
+    if let Some(x) = round.x {
+        if kept && triangle(kind, trip, round.v) {
+            return cap(summed(trip, x, round));
+        }
     }
-    if triangle(kind, trip, round.v) {
-        cap(summed(trip, round))
-    } else {
-        times(turns, round.count)
-    }
+    times(turns, round.count)
 }
 
 // The passes of a pick's branch: all alike.
@@ -186,7 +179,7 @@ pub fn branch(round: Round) -> Round
         count: 1,
         by: 0,
         times: times(round.count, round.times),
-        known: false,
+        x: None,
         ..round
     }
 }
@@ -201,18 +194,14 @@ pub fn body(trip: Trip, v: u8, turns: u64, total: u64, round: Round) -> Round
             count: turns,
             by: first_end(trip.step),
             times: times(round.count, round.times),
-            x: trip.start.lo,
             v,
-            known: true,
+            x: Some(trip.start.lo),
         }
     } else {
         Round {
-            count: 1,
-            by: 0,
             times: total,
-            x: 0,
             v,
-            known: false,
+            ..branch(round)
         }
     }
 }

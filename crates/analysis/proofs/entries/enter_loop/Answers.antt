@@ -1,4 +1,5 @@
 -- `analysis::entries::enter_loop` meets its contract.
+use Rattle.std.specs.Option.{is_some}
 use mathlib.Core.Path.{◌≡◌, sym, ap, subst, ◌∙◌}
 use mathlib.Core.Bool.{not, cond, ◌&&◌}
 use borrow.Author.Rules.{rules}
@@ -108,7 +109,7 @@ returns-in-Ok c = λ os.
     ∙ (λ j. capped (walked_by (round_of r) (pass_in r (ke j)) (form_of text (kd j)) (test_of text (kd j)).limit (tr j) (tu j))) in
     let to : c.times-total.result ≡ capped (W * r.times) = c.times-total.ensures ∙ ap (λ z. capped (z * r.times)) al ∙ omega (arith, cap_times W r.times 0) in
     let b = c.body-inner.ensures in
-    let l = c.lined-first.ensures os in
+    let l = rw c.is_some.ensures at c.lined-first.ensures os in
     let n = c.body-inner.result.count in
     let k = c.pass_counts.ensures in
     record {
@@ -118,7 +119,7 @@ returns-in-Ok c = λ os.
         verdict = ap (of_trip a.t.next) (sym tr) ∙ f.0 a.t.next;
         round = b.0 ∙ (λ j. body_of (tr j) (one.tested j) (tu j) (to j) r);
         fine = b.1;
-        ran = rw c.exit_of-exit.ensures.ran (record { own = k.own ∙ ap (cond c.body-inner.result.known 1) tu; all = k.all ∙ ap (cond c.body-inner.result.known r.count) al; tests = k.tests });
+        ran = rw c.exit_of-exit.ensures.ran (record { own = k.own ∙ ap (cond (is_some c.body-inner.result.x) 1) tu; all = k.all ∙ ap (cond (is_some c.body-inner.result.x) r.count) al; tests = k.tests });
         lined = lined_is tr tu to (ap (λ m. n * m) (c.last_ticks.ensures text ∙ ap (last_ticks text a.prices) kd)) l;
       };
     }

@@ -18,4 +18,4 @@ returns-then-sums c =
     simp (to_z-of_z f, to_z-of_z g) (body_yes a.trip a.v a.turns a.total a.round (sym c.sums.ensures ∙ c.if-sums.true) c.requires.1 _ c.times.ensures _ c.first_end.ensures.0 c.first_end.ensures.1)
 
 pub returns-else-sums : goal.returns-else-sums
-returns-else-sums c = let a = c.args in body_no a.trip a.v a.turns a.total a.round (sym c.sums.ensures ∙ c.if-sums.false) c.requires.1 c.requires.2
+returns-else-sums c = let a = c.args in rw c.branch-round.ensures.0 (body_no a.trip a.v a.turns a.total a.round (sym c.sums.ensures ∙ c.if-sums.false) c.requires.1 c.requires.2)

@@ -34,7 +34,7 @@ pub returns : goal.returns
 returns c =
     let a = c.args in
     let f : SFits w32 a.trip.start.lo = search rules in
-    let g : SFits w32 a.round.x = search rules in
+    let g : SFits w32 a.x = search rules in
     let b : SFits w64 a.round.by = search rules in
     let h : SFits w64 c.edge-limit.result = sfits_of c.edge-limit.type_inv in
     let k : SFits w64 c.first_end.result = sfits_of c.first_end.type_inv in
@@ -42,4 +42,4 @@ returns c =
     let n = simp (to_z-of_z g) at c.from.ensures.0 in
     let l = c.edge-limit.ensures.0 ∙ ap (edge a.trip.comparison) n in
     e ∙ (λ j. sum (λ i. climb (record { start = a.trip.start.lo; limit = l j +ℤ a.round.by *ℤ pos i; step = c.first_end.ensures.0 j })) 0 a.round.count)
-    ∙ sum_is a.trip c.requires.0 a.round.x a.round.by a.round.count
+    ∙ sum_is a.trip c.requires.0 a.x a.round.by a.round.count

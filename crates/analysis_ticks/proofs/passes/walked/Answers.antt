@@ -1,21 +1,15 @@
 -- By what is known in the first pass.
-use mathlib.Core.Bool.{◌&&◌}
-use mathlib.Core.Path.{◌≡◌, sym, ap, ◌∙◌}
+use borrow.Author.Rules.{rules}
+use mathlib.Core.Path.{sym, ap, ◌∙◌}
+use mir.Syntax.{w32}
+use mir.Val.{SFits}
+use mir.Facts.{to_z-of_z}
 use Rattle.analysis_steps.specs.Tree.{form_of, test_of}
 use Rattle.analysis_loops.specs.Found.{trip_of}
 use Rattle.analysis_ticks.specs.Capped.{capped}
-use Rattle.analysis_ticks.proofs.Values.{walked_none, walked_same, walked_sum, rises}
+use Rattle.analysis_ticks.proofs.Values.{walked_unknown, walked_none, walked_same, walked_sum, rises}
 use Rattle.analysis_ticks.proofs.passes.walked.Goals as goal
-use Rattle.analysis_ticks.proofs.passes.walked.Goals.{then-round, else-round}
-
-pub returns-then-not-valued : goal.returns-then-not-valued
-returns-then-not-valued c = λ text h.
-    let a = c.args in
-    let e : c.if-round.valued ≡ a.round.known && a.kept = elim c.if-round.branch [
-      | then-round w ↦ w.valued-is ∙ sym (ap (λ b. b && a.kept) w.if-round.true)
-      | else-round w ↦ w.valued-is ∙ w.if-round.false ∙ sym (ap (λ b. b && a.kept) w.if-round.false)
-    ] in
-    c.times.ensures ∙ ap capped (sym (walked_none (form_of text a.kind) (test_of text a.kind).limit (trip_of a.trip) a.turns a.round a.kept (sym e ∙ c.if-not-valued.true)))
+use Rattle.analysis_ticks.proofs.passes.walked.Goals.{in-Some+else-kept, else-kept-via-then-kept+else-triangle, else-kept-via-else-kept, in_default}
 
 pub summed-requires : goal.summed-requires
 summed-requires c =
@@ -26,17 +20,17 @@ summed-requires c =
 pub returns-then-triangle : goal.returns-then-triangle
 returns-then-triangle c = λ text h.
     let a = c.args in
-    let e : c.if-round.valued ≡ a.round.known && a.kept = elim c.if-round.branch [
-      | then-round w ↦ w.valued-is ∙ sym (ap (λ b. b && a.kept) w.if-round.true)
-      | else-round w ↦ w.valued-is ∙ w.if-round.false ∙ sym (ap (λ b. b && a.kept) w.if-round.false)
-    ] in
-    c.cap.ensures ∙ ap capped (c.summed.ensures ∙ sym (walked_sum (form_of text a.kind) (test_of text a.kind).limit (trip_of a.trip) a.turns a.round a.kept (sym e ∙ c.if-not-valued.false) (sym (c.triangle.ensures text h) ∙ c.if-triangle.true)))
+    let f : SFits w32 c.in-Some.x = search rules in
+    let s = simp (to_z-of_z f) at c.summed.ensures in
+    c.cap.ensures ∙ ap capped (s ∙ sym (walked_sum (form_of text a.kind) (test_of text a.kind).limit (trip_of a.trip) a.turns a.round a.kept c.in-Some.x c.in-Some.is c.if-kept.true (sym (c.triangle.ensures text h) ∙ c.if-triangle.true)))
 
-pub returns-else-triangle : goal.returns-else-triangle
-returns-else-triangle c = λ text h.
+pub returns : goal.returns
+returns c = λ text h.
     let a = c.args in
-    let e : c.if-round.valued ≡ a.round.known && a.kept = elim c.if-round.branch [
-      | then-round w ↦ w.valued-is ∙ sym (ap (λ b. b && a.kept) w.if-round.true)
-      | else-round w ↦ w.valued-is ∙ w.if-round.false ∙ sym (ap (λ b. b && a.kept) w.if-round.false)
-    ] in
-    c.times-else-triangle.ensures ∙ ap capped (sym (walked_same (form_of text a.kind) (test_of text a.kind).limit (trip_of a.trip) a.turns a.round a.kept (sym e ∙ c.if-not-valued.false) (sym (c.triangle.ensures text h) ∙ c.if-triangle.false)))
+    c.times.ensures ∙ ap capped (elim c.match-round.branch [
+      | in-Some+else-kept w ↦ elim w.else-kept.branch [
+        | else-kept-via-then-kept+else-triangle u ↦ sym (walked_same (form_of text a.kind) (test_of text a.kind).limit (trip_of a.trip) a.turns a.round a.kept w.in-Some.x w.in-Some.is u.if-kept.true (sym (u.triangle.ensures text h) ∙ u.if-triangle.false))
+        | else-kept-via-else-kept u ↦ sym (walked_none (form_of text a.kind) (test_of text a.kind).limit (trip_of a.trip) a.turns a.round a.kept w.in-Some.x w.in-Some.is u.if-kept.false)
+      ]
+      | in_default w ↦ sym (walked_unknown (form_of text a.kind) (test_of text a.kind).limit (trip_of a.trip) a.turns a.round a.kept w.in_default.is)
+    ])
