@@ -62,7 +62,7 @@ fn opened(nest: OpenBlocks, inside: u64) -> OpenBlocks
     passes[depth + 1] = inside;
     OpenBlocks {
         depth: depth + 1,
-        passes: passes,
+        passes,
     }
 }
 
@@ -73,7 +73,7 @@ fn closed(nest: OpenBlocks) -> OpenBlocks
     let passes = nest.passes;
     OpenBlocks {
         depth: out_of(nest.depth),
-        passes: passes,
+        passes,
     }
 }
 

@@ -304,7 +304,7 @@ pub fn machine_in(state: &[u64], q: u64) -> Machine
     let status = state[STATUS];
     let row = state[ROW] as usize;
     Machine {
-        row: row,
+        row,
         testing: state[TEST_DUE] != 0,
         left: state[LEFT] + given(status, q),
         used: 0,

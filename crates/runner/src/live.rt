@@ -120,7 +120,7 @@ fn stopped(m: Machine, fired: usize, full: bool) -> Stop
 {
     Stop {
         machine: m,
-        fired: fired,
-        full: full,
+        fired,
+        full,
     }
 }

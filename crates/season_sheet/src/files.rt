@@ -71,8 +71,8 @@ pub fn add_file(
     let cued = sheet.cued;
     let kept = Kept {
         groups: sheet.groups,
-        used: used,
-        cued: cued,
+        used,
+        cued,
     };
     let found = measure(file, &mut reports[used..], &mut cues[cued..]);
     match found.reply {
