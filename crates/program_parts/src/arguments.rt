@@ -30,7 +30,7 @@ pub struct PricesRead<'a> {
 
 // Keeps the prices of the first argument, `prices=A,C,P,T`; without it there are four, as they are lent. Says so of one that is no number.
 pub fn read_prices<'a>(host: &impl Host, prices: &'a mut [u32; 5]) -> Option<PricesRead<'a>>
-    ensures { IfSome result (λ read. read.next ≤ 2) }
+    ensures { IfSome result (λ read. (length read.prices.now ≤ 5) × (read.next ≤ 2)) }
 {
     let mut buffer = [0u8; WORD];
     let word = host.argument(1, &mut buffer);

@@ -29,26 +29,45 @@ pub enum Piece {
     Number(u64),
 }
 
-// The bytes of a fixed text.
-#[tactic(auto, unfolding(rules::specs::Report::report_key, rules::specs::Report::rows_key, rules::specs::Report::loops_key, rules::specs::Report::loop_key, rules::specs::Report::ticks_key, rules::specs::Report::gap, rules::specs::Report::newline))]
-fn letters(label: Label) -> &'static [u8]
-    ensures text { result.now ≡ label_text label }
-    ensures few { length result.now ≤ 7 }
+// The bytes of a fixed text, and then zeros. An array by value: from a byte string the library would call `memmove`, which nobody lends it.
+fn letters(label: Label) -> [u8; 7]
+    ensures { take (length (label_text label)) result ≡ label_text label }
 {
     match label {
-        Label::Report => b"report=",
-        Label::Rows => b"rows=",
-        Label::Loops => b"loops=",
-        Label::Loop => b"loop=",
-        Label::Ticks => b"ticks=",
-        Label::Space => b" ",
-        Label::Newline => b"\n",
-        Label::Minus => b"-",
-        Label::Add => b"add",
-        Label::Grow => b"grow",
-        Label::Shrink => b"shrink",
-        Label::Exact => b"exact",
-        Label::Most => b"most",
+        Label::Report => [b'r', b'e', b'p', b'o', b'r', b't', b'='],
+        Label::Rows => [b'r', b'o', b'w', b's', b'=', 0, 0],
+        Label::Loops => [b'l', b'o', b'o', b'p', b's', b'=', 0],
+        Label::Loop => [b'l', b'o', b'o', b'p', b'=', 0, 0],
+        Label::Ticks => [b't', b'i', b'c', b'k', b's', b'=', 0],
+        Label::Space => [b' ', 0, 0, 0, 0, 0, 0],
+        Label::Newline => [b'\n', 0, 0, 0, 0, 0, 0],
+        Label::Minus => [b'-', 0, 0, 0, 0, 0, 0],
+        Label::Add => [b'a', b'd', b'd', 0, 0, 0, 0],
+        Label::Grow => [b'g', b'r', b'o', b'w', 0, 0, 0],
+        Label::Shrink => [b's', b'h', b'r', b'i', b'n', b'k', 0],
+        Label::Exact => [b'e', b'x', b'a', b'c', b't', 0, 0],
+        Label::Most => [b'm', b'o', b's', b't', 0, 0, 0],
+    }
+}
+
+// How many bytes a fixed text has.
+fn label_len(label: Label) -> usize
+    ensures { (result ≡ length (label_text label)) × (result ≤ 7) }
+{
+    match label {
+        Label::Report => 7,
+        Label::Rows => 5,
+        Label::Loops => 6,
+        Label::Loop => 5,
+        Label::Ticks => 6,
+        Label::Space => 1,
+        Label::Newline => 1,
+        Label::Minus => 1,
+        Label::Add => 3,
+        Label::Grow => 4,
+        Label::Shrink => 6,
+        Label::Exact => 5,
+        Label::Most => 4,
     }
 }
 
@@ -69,7 +88,7 @@ fn digits_len(k: u32, n: u64) -> usize
 pub fn key_len(key: Label, n: u64) -> usize
     ensures { (result ≡ length (key_line (label_text key) n)) × (result ≤ 28) }
 {
-    letters(key).len() + digits_len(20, n) + 1
+    label_len(key) + digits_len(20, n) + 1
 }
 
 // How many bytes a piece has.
@@ -78,7 +97,7 @@ fn piece_len(piece: Piece) -> usize
 {
     match piece {
         Piece::Nothing => 0,
-        Piece::Fixed(label) => letters(label).len(),
+        Piece::Fixed(label) => label_len(label),
         Piece::Number(n) => digits_len(20, n),
     }
 }
@@ -116,7 +135,9 @@ fn put_label(label: Label, out: &mut [u8]) -> usize
     requires { length (label_text label) ≤ length out.old }
     ensures { Wrote (label_text label) out.old out.new result }
 {
-    byte_slices::copy(letters(label), out)
+    let text = letters(label);
+    let len = label_len(label);
+    byte_slices::copy(&text[..len], out)
 }
 
 // Writes a key, as its bytes, and a number after it.
@@ -143,7 +164,9 @@ pub fn put_key(key: Label, n: u64, out: &mut [u8]) -> usize
     requires { length (key_line (label_text key) n) ≤ length out.old }
     ensures { Wrote (key_line (label_text key) n) out.old out.new result }
 {
-    put_entry(letters(key), n, out)
+    let text = letters(key);
+    let len = label_len(key);
+    put_entry(&text[..len], n, out)
 }
 
 // Writes a piece.
