@@ -1,5 +1,5 @@
 // The number of a line that is outside its limits, and the variable that is not below V.
-ghost use Rattle.std.specs.Prelude.{◌≤◌, ◌<◌, length};
+ghost use Rattle.std.specs.Prelude.{◌≤◌, ◌<◌, length, IfSome};
 
 use crate::marked::print_marked;
 use expressions::leaves::digits_at;
@@ -50,7 +50,9 @@ fn is_outside(line: &[u8], i: usize, limits: Limits) -> bool
 }
 
 // The first number from byte `from` on that is outside.
-fn first_outside(line: &[u8], from: usize, variable: bool, limits: Limits) -> Option<usize> {
+pub fn first_outside(line: &[u8], from: usize, variable: bool, limits: Limits) -> Option<usize>
+    ensures { IfSome result (λ at. at ≤ length line.now) }
+{
     for i in from..line.len() {
         if begins(line, i, variable) && is_outside(line, i, limits) {
             return Some(i);
