@@ -34,7 +34,10 @@ returns-then-c c =
 
 pub returns-then-c-le-MOST_OPERATORS : goal.returns-then-c-le-MOST_OPERATORS
 unfolding end_question decided first_refusal
-returns-then-c-le-MOST_OPERATORS c = rw c.if-c.false (rw (le-leb _ _ c.if-c-le-DEEPEST.true, le-leb _ _ c.if-c-le-MOST_OPERATORS.true) at (open_none _ (sizes_of c.args.c) c.if-c-gt0.false))
+returns-then-c-le-MOST_OPERATORS c =
+    let d : c.args.c.deep ≤ 8 = omega (arith, c.if-c-le-DEEPEST.true) in
+    let o : c.args.c.ops ≤ 15 = omega (arith, c.if-c-le-MOST_OPERATORS.true) in
+    rw c.if-c.false (rw (le-leb _ _ d, le-leb _ _ o) at (open_none _ (sizes_of c.args.c) c.if-c-gt0.false))
 
 pub returns : goal.returns
 unfolding end_question decided
