@@ -63,7 +63,7 @@ module _ (prices : List ℕ) (l : Lent) where
         by : (j : ℕ) → j < k + 1 → Dec (j ≡ k) → Enters j (part_of table_lengths j tables') (record { verdict = Passed; count = (get_or (set each k now) j nobody).count })
         by j l (yes z) =
             rw (z, get_or-set_same each k now nobody (omega (arith, h.long)), put_part table_lengths k p.table at.table tables tables' t few (tables_whole tables h.whole) put)
-            (record { verdict = sym passes ∙ entered.verdict; held = λ z. entered.held passes })
+            (record { verdict = sym passes ∙ entered.verdict; rows = entered.rows; held = λ z. entered.held passes })
         by j l (no z) =
             rw (get_or-set_other each k j now nobody z, put_others table_lengths k p.table at.table tables tables' t few (tables_whole tables h.whole) put j (omega arith) z) (h.enters j (omega (arith, z)))
 

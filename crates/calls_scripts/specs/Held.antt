@@ -71,9 +71,10 @@ abbrev pub entered_by : Result ℕ Refusal → Entered
 entered_by (Ok n) = record { verdict = Passed; count = n }
 entered_by (Err r) = record { verdict = Refused r.number r.place; count = 0 }
 
--- its own questions, and it is held if they have yes
+-- its own questions; the table has the rows of an accepted file, also where its store is refused; and it is held if they have yes
 pub record EnteredAs (prices file : List ℕ) (store : List ℤ) (t : List ℕ) (e : Entered) : Type 0 where
   pub verdict : e.verdict ≡ admitted (judged_file (prices_of prices) (file_script file)) store
+  pub rows : (script : Script) → judged_file (prices_of prices) (file_script file) ≡ accepted script → (count : ℕ) × HeldAs file script count t
   pub held : e.verdict ≡ Passed → (script : Script) → judged_file (prices_of prices) (file_script file) ≡ accepted script → HeldAs file script e.count t
 
 -- it may be read at its places

@@ -21,15 +21,27 @@ returns-in_err-script c =
     let e = c.in_err-script in
     let r = file_refused c.args.prices.now c.args.file.now _ _ _ e.ensures refl in
     rw (passed_on c.from_residual.result e.field-0.0 c.from_residual.ensures)
-    (record { verdict = ap (λ j. admitted j c.args.store.now) (sym r); held = λ z. absurd (let y : ◌≡◌ {A = ℕ} 0 1 = cc in omega arith) })
+    (record {
+      verdict = ap (λ j. admitted j c.args.store.now) (sym r);
+      rows = λ script e. absurd (let y : ◌≡◌ {A = ℕ} 0 1 = cc (sym r ∙ e) in omega arith);
+      held = λ z. absurd (let y : ◌≡◌ {A = ℕ} 0 1 = cc in omega arith);
+    })
 
 pub returns-in_err-ask_script : goal.returns-in_err-ask_script
 returns-in_err-ask_script c =
+    let prices = c.args.prices.now in
+    let file = c.args.file.now in
+    let l = load_answer (Ok c.in_ok-script.script) in
     let e = c.in_err-ask_script in
     let f = c.from_residual-in_err-ask_script in
-    let r = file_read c.args.prices.now c.args.file.now (load_answer (Ok c.in_ok-script.script)) _ _ c.in_ok-script.ensures refl in
+    let g = file_given prices file l _ _ c.in_ok-script.ensures refl in
+    let r = file_read prices file l _ _ c.in_ok-script.ensures refl in
     rw (passed_on f.result e.field-0.0 f.ensures)
-    (record { verdict = sym (ap verdict_of e.was) ∙ c.ask_script.ensures ∙ ap (λ j. admitted j c.args.store.now) (sym r); held = λ z. absurd (let y : ◌≡◌ {A = ℕ} 0 1 = cc in omega arith) })
+    (record {
+      verdict = sym (ap verdict_of e.was) ∙ c.ask_script.ensures ∙ ap (λ j. admitted j c.args.store.now) (sym r);
+      rows = λ script a. (l.count, held_as file _ _ _ g script (judged_accepted (prices_of prices) _ script _ g.legal refl (sym r ∙ a)).0);
+      held = λ z. absurd (let y : ◌≡◌ {A = ℕ} 0 1 = cc in omega arith);
+    })
 
 pub returns : goal.returns
 returns c =
@@ -40,5 +52,6 @@ returns c =
     let r = file_read prices file l _ _ c.in_ok-script.ensures refl in
     record {
       verdict = sym (ap verdict_of c.in_ok-ask_script.was) ∙ c.ask_script.ensures ∙ ap (λ j. admitted j c.args.store.now) (sym r);
+      rows = λ script a. (l.count, held_as file _ _ _ g script (judged_accepted (prices_of prices) _ script _ g.legal refl (sym r ∙ a)).0);
       held = λ z script e. held_as file _ _ _ g script (judged_accepted (prices_of prices) _ script _ g.legal refl (sym r ∙ e)).0;
     }
