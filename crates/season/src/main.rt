@@ -2,7 +2,7 @@
 // `files` first a line for each name. For no name or more than 64 it prints `refused=18 0`.
 #![tactic(auto)]
 
-ghost use Rattle.std.specs.Prelude.{◌≡◌, ◌≤◌, ◌<◌, length};
+ghost use Rattle.std.specs.Prelude.{◌≡◌, ◌≤◌, ◌<◌, length, IfSome};
 ghost use Rattle.season.specs.Listed.{Listed, SheetOf};
 
 use host::{Host, System};
@@ -120,6 +120,7 @@ fn read_named<'a>(
     file: &'a mut [u8],
 ) -> Option<&'a [u8]>
     requires { (k < 64) × (length names.now ≡ 16_640) }
+    ensures { IfSome result (λ all. length all.now ≤ length file.old) }
 {
     let n = season_sheet::names::opened(k, names, lengths);
     if n == 0 {
