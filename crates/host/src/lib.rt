@@ -41,12 +41,14 @@ pub trait Host {
     // is said on standard error, once, unless nobody reads standard output any more.
     fn write(&self, text: &[u8]) -> Result<(), Lost>;
 
-    // Writes what a value displays, piece by piece; `print!(host; "..")` calls it.
+    // Writes what a value displays, at once if it is no longer than `LINE`; `print!(host; "..")` calls it.
     final fn print<D: Display + Drop>(&self, value: D)
     where
         Self: Sized,
     {
-        let _ = write!(Output(self), "{value}");
+        let mut output = Output::new(self);
+        let _ = write!(output, "{value}");
+        let _ = output.flush();
     }
 
     // The same, and a line feed; `println!(host; "..")` calls it.
@@ -54,7 +56,9 @@ pub trait Host {
     where
         Self: Sized,
     {
-        let _ = write!(Output(self), "{value}\n");
+        let mut output = Output::new(self);
+        let _ = write!(output, "{value}\n");
+        let _ = output.flush();
     }
 }
 
@@ -153,16 +157,52 @@ impl<R: Env + Files + Input + Print + Eprint> Host for System<R> {
     }
 }
 
-// What is displayed, on its way to standard output.
+// How many bytes of what is displayed are gathered before they are written.
+const LINE: usize = 256;
+
+// What is displayed, on its way to standard output: its pieces are gathered, so that a line is one write.
 #[derive(Drop)]
-struct Output<'a, H>(&'a H);
+struct Output<'a, H> {
+    host: &'a H,
+    text: [u8; LINE],
+    length: usize,
+    ghost few: { length ≤ 256 },
+}
+
+impl<H: Host> Output<'_, H> {
+    fn new(host: &H) -> Output<'_, H> {
+        Output {
+            host,
+            text: [0; LINE],
+            length: 0,
+        }
+    }
+
+    // Writes what is gathered.
+    fn flush(&mut self) -> Result<(), Lost> {
+        let written = self.host.write(&self.text[..self.length]);
+        self.length = 0;
+        written
+    }
+
+    // Gathers a piece. Where there is no room for it, what is gathered is written first; a piece that is longer still is written by itself.
+    fn gather(&mut self, piece: &[u8]) -> Result<(), Lost> {
+        if piece.len() > LINE - self.length {
+            self.flush()?;
+        }
+        if piece.len() > LINE - self.length {
+            return self.host.write(piece);
+        }
+        let end = self.length + piece.len();
+        self.text[self.length..end].copy_from_slice(piece);
+        self.length = end;
+        Ok(())
+    }
+}
 
 impl<H: Host> Write for Output<'_, H> {
     fn write_str(&mut self, text: &str) -> fmt::Result {
-        match self.0.write(text.as_bytes()) {
-            Ok(()) => Ok(()),
-            Err(_) => Err(fmt::Error),
-        }
+        self.gather(text.as_bytes()).map_err(|_| fmt::Error)
     }
 }
 
