@@ -15,7 +15,7 @@ ghost use Rattle.diftanew.specs.Numbers.{Sevens, filled, in_a_row, Figured-in-nu
 
 use calls::Outcome;
 use calls::figures::Figures;
-use calls_frames::{Frames, Played};
+use calls_frames::Played;
 use calls_live::StepDone;
 use rules::{Ending, LoopCount, Refusal};
 
@@ -69,9 +69,9 @@ fn refuse<const N: usize>(refusal: Refusal, answer: &mut [u64; N]) -> u32
 }
 
 // The counts of up to 16 loops, each with its head row, from `first` on. A file has no more loops.
-fn put_counts(counts: [LoopCount; 16], loops: usize, first: usize, numbers: &mut [u64])
+fn put_counts(counts: &[LoopCount; 16], loops: usize, first: usize, numbers: &mut [u64])
     requires { first + 48 ≤ length numbers.old }
-    ensures { numbers.new ≡ loop_numbers first (min loops 16) counts numbers.old }
+    ensures { numbers.new ≡ loop_numbers first (min loops 16) counts.now numbers.old }
 {
     for k in 0..loops.min(16) {
         let c = counts[k];
@@ -81,19 +81,18 @@ fn put_counts(counts: [LoopCount; 16], loops: usize, first: usize, numbers: &mut
     }
 }
 
-// A run as numbers.
-fn numbers(o: Outcome) -> [u64; 53]
-    ensures { result ≡ numbers_of o }
+// A run as numbers. They are put where they are told, and what is large is read where it stands: a copy would take stack while the files
+// are read.
+fn put_run(o: &Outcome, answer: &mut [u64; 53])
+    ensures { answer.new ≡ numbers_of o.now }
 {
-    let counts = o.counts;
-    let mut a = [0u64; 53];
-    a[0] = ending_number(o.ending);
-    a[1] = o.row as u64;
-    a[2] = o.ticks;
-    a[3] = o.used as u64;
-    a[4] = o.loops as u64;
-    put_counts(counts, o.loops, 5, &mut a[..]);
-    a
+    *answer = [0; 53];
+    answer[0] = ending_number(o.ending);
+    answer[1] = o.row as u64;
+    answer[2] = o.ticks;
+    answer[3] = o.used as u64;
+    answer[4] = o.loops as u64;
+    put_counts(&o.counts, o.loops, 5, &mut answer[..]);
 }
 
 // The run of a file under four lent prices. Answers 0, with the answer's numbers as the header lays them out, or the refusal's number, with
@@ -112,12 +111,12 @@ pub extern "C" fn diftanew_run(
         store.old store.new picks.now allowance result answer.new }
     ensures scratch { ScratchKept scratch.old scratch.new }
 {
-    match loader::run(file, prices, scratch, store, picks, allowance) {
+    match &loader::run(file, prices, scratch, store, picks, allowance) {
         Ok(outcome) => {
-            *answer = numbers(outcome);
+            put_run(outcome, answer);
             0
         }
-        Err(refusal) => refuse(refusal, answer),
+        Err(refusal) => refuse(*refusal, answer),
     }
 }
 
@@ -130,6 +129,7 @@ fn put_line(told: [u64; 7], at: usize, answer: &mut [u64; 115])
 }
 
 // What a report says as numbers, its loops' one after the other.
+#[inline(never)]
 fn figures_numbers(f: Figures, lines: [[u64; 7]; 16]) -> [u64; 115]
     requires { (f.loops ≤ 16) × Sevens f.loops lines }
     ensures { result ≡ filled 115 (f.ticks ∷ f.vars ∷ f.loops ∷ in_a_row (take f.loops lines)) }
@@ -169,29 +169,26 @@ pub extern "C" fn diftanew_figures(
 }
 
 // One script's 54 numbers, from `at` on: its frame, then the numbers of a run's answer.
-fn put_script(p: Played, at: usize, answer: &mut [u64; 433])
+fn put_script(p: &Played, at: usize, answer: &mut [u64; 433])
     requires { (at + 54 ≤ 433) × (length answer.old ≡ 433) }
-    ensures { answer.new ≡ paste (set answer.old at p.frame) (at + 1) (numbers_of p.outcome) 53 }
+    ensures { answer.new ≡ paste (set answer.old at p.now.frame) (at + 1) (numbers_of p.now.outcome) 53 }
 {
-    let o = p.outcome;
-    let n = numbers(o);
+    let mut run = [0u64; 53];
+    put_run(&p.outcome, &mut run);
     answer[at] = p.frame;
-    answer[at + 1..at + 54].copy_from_slice(&n);
+    answer[at + 1..at + 54].copy_from_slice(&run);
 }
 
 // A call of frames as numbers.
 #[inline(never)]
-fn frames_numbers(f: Frames) -> [u64; 433]
-    ensures { result ≡ frames_numbers (frames_answer (Ok f)) }
+fn put_frames(most: u64, scripts: &[Played; 8], answer: &mut [u64; 433])
+    ensures { answer.new ≡ frames_numbers (frames_answer (Ok (record { most = most; scripts = scripts.now }))) }
 {
-    let scripts = f.scripts;
-    let mut a = [0u64; 433];
-    a[0] = f.most;
+    *answer = [0; 433];
+    answer[0] = most;
     for k in 0..8 {
-        let p = scripts[k];
-        put_script(p, 1 + 54 * k, &mut a);
+        put_script(&scripts[k], 1 + 54 * k, answer);
     }
-    a
 }
 
 // The frames of up to 8 scripts under four lent prices. Answers 0, with the answer's numbers as the header lays them out, or the refusal's
@@ -215,7 +212,7 @@ pub extern "C" fn diftanew_frames(
         q stores.new result answer.new }
     ensures scratch { scratch.new ≡ scratch.old }
 {
-    match loader::frames(
+    match &loader::frames(
         files,
         file_lengths,
         stores,
@@ -227,7 +224,7 @@ pub extern "C" fn diftanew_frames(
         scratch,
     ) {
         Ok(frames) => {
-            *answer = frames_numbers(frames);
+            put_frames(frames.most, &frames.scripts, answer);
             0
         }
         Err(refused) => {
@@ -278,7 +275,7 @@ fn step_numbers(s: StepDone) -> [u64; 56]
     a[5] = s.all_used;
     a[6] = s.cues as u64;
     a[7] = s.loops as u64;
-    put_counts(counts, s.loops, 8, &mut a[..]);
+    put_counts(&counts, s.loops, 8, &mut a[..]);
     a
 }
 

@@ -10,5 +10,5 @@ use Rattle.diftanew.proofs.put_script.Goals as goal
 
 pub returns : goal.returns
 returns c =
-    let n : length c.numbers-n.result ≡ 53 = search rules in
-    put_mid-paste (c.args.at + 1) (c.args.at + 54 - (c.args.at + 1)) (set c.args.answer.now c.args.at c.args.p.frame) c.copy_from_slice.new.self (numbers_of c.args.p.outcome) 53 (c.copy_from_slice.ensures.after ∙ c.numbers-n.ensures) (omega arith) (rw (← c.numbers-n.ensures) (sym n))
+    let n : length c.put_run.new.answer ≡ 53 = search rules in
+    put_mid-paste (c.args.at + 1) (c.args.at + 54 - (c.args.at + 1)) (set c.args.answer.now c.args.at c.args.p.now.frame) c.copy_from_slice.new.self (numbers_of c.args.p.now.outcome) 53 (c.copy_from_slice.ensures.after ∙ c.put_run.ensures) (omega arith) (rw (← c.put_run.ensures) (sym n))

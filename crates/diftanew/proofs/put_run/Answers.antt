@@ -1,6 +1,6 @@
--- `diftanew::numbers` meets its contract. Assumes nothing.
+-- `diftanew::put_run` meets its contract. Assumes nothing.
 use Rattle.diftanew.specs.Numbers.{head_numbers, numbers_of}
-use Rattle.diftanew.proofs.numbers.Goals as goal
+use Rattle.diftanew.proofs.put_run.Goals as goal
 
 pub returns : goal.returns
 unfolding numbers_of head_numbers
