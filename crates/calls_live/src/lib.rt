@@ -241,8 +241,10 @@ fn step_on(
     }
 }
 
-// The most ticks that a step is given: question 22.
+// The most ticks that a step is given, and the number of that question.
 pub const MOST_TICKS: u64 = 1_000_000;
+
+pub const TICKS_QUESTION: u32 = 22;
 
 // The questions of a step after the script has been judged: 15 read so that every value from −L to L passes, 21, 22.
 fn ask_step(
@@ -267,7 +269,7 @@ fn ask_step(
     live_state::ask_state(state, rows, by, script.ticks, lines, script.loops)?;
     if script.q > MOST_TICKS {
         return Err(Refusal {
-            number: 22,
+            number: TICKS_QUESTION,
             place: 0,
         });
     }
