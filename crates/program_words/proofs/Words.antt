@@ -47,23 +47,18 @@ other_natural (b ∷ []) n h = one_natural (b ∷ []) refl
 other_natural (b ∷ (c ∷ w)) n h = many_natural (b ∷ (c ∷ w)) (omega arith) (h (omega arith))
 
 -- ---- numbers
-natural_digits : (w : List ℕ) → is_natural w ≡ true → all_digits w ≡ true
-unfolding is_natural all_digits
-natural_digits [] e = absurd (cc)
-natural_digits (b ∷ []) e = rw e
-natural_digits (b ∷ (c ∷ w)) e = go (eqb b 48) e
-  where
-    go : (t : Bool) → cond t false (all_digits (b ∷ (c ∷ w))) ≡ true → all_digits (b ∷ (c ∷ w)) ≡ true
-    go true f = absurd (cc)
-    go false f = f
-
-pub natural_number : (w : List ℕ) → is_natural w ≡ true → spelled_in w ≡ number_in w
-unfolding number_in spelled_in
-natural_number w e = rw (e, natural_digits w e)
-
-pub other_number : (w : List ℕ) → is_natural w ≡ false → None ≡ number_in w
+pub none_number : (w : List ℕ) → length w ≡ 0 → None ≡ number_in w
 unfolding number_in
-other_number w e = rw e
+none_number w e = rw (← none_natural w e)
+
+pub zero_number : (w : List ℕ) → 1 < length w → get_or w 0 0 ≡ 48 → None ≡ number_in w
+unfolding number_in
+zero_number w l h = rw (← zero_natural w l h)
+
+-- any other word is read as far as its digits spell a number
+pub word_number : (w : List ℕ) → (length w ≡ 0 → ⊥) → (1 < length w → get_or w 0 0 ≡ 48 → ⊥) → spelled_in w ≡ number_in w
+unfolding number_in spelled_in
+word_number w n h = rw (other_natural w n h)
 
 -- ---- a number of either sign
 plain_first : (b : ℕ) → cond (eqb b 45) true false ≡ false → eqb b 45 ≡ false

@@ -33,13 +33,14 @@ fn spelled(word: &[u8]) -> Option<u64>
 }
 
 // The number that a word is.
+#[tactic(auto, using(crate::proofs::Words::none_number, crate::proofs::Words::zero_number, crate::proofs::Words::word_number))]
 pub fn read_number(word: &[u8]) -> Option<u64>
     ensures { result ≡ number_in word.now }
 {
-    if is_natural(word) {
-        spelled(word)
-    } else {
-        None
+    match word {
+        [] => None,
+        [b'0', _, ..] => None,
+        _ => spelled(word),
     }
 }
 
