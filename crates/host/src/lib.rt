@@ -41,7 +41,7 @@ pub trait Host {
     // is said on standard error, once, unless nobody reads standard output any more.
     fn write(&self, text: &[u8]) -> Result<(), Lost>;
 
-    // Writes what a value displays, at once if it is no longer than `LINE`; `print!(host; "..")` calls it.
+    // Writes what a value displays, in one write if that has no more than `LINE` bytes; `print!(host; "..")` calls it.
     final fn print<D: Display + Drop>(&self, value: D)
     where
         Self: Sized,
@@ -51,7 +51,7 @@ pub trait Host {
         let _ = output.flush();
     }
 
-    // The same, and a line feed; `println!(host; "..")` calls it.
+    // The same of a value and a line feed; `println!(host; "..")` calls it.
     final fn println<D: Display + Drop>(&self, value: D)
     where
         Self: Sized,

@@ -46,16 +46,20 @@ pub fn print_unexpected(host: &impl Host, expected: Expected, word: &[u8]) {
     let number = is_number(word);
     let other = match expected {
         Expected::Value(at) => {
-            print!(host; "error=value {at} is not ");
+            print!(host; "error=value {at}");
             if number {
-                "from -2147483648 to 2147483647"
+                " is not from -2147483648 to 2147483647"
             } else {
-                "a number"
+                " is not a number"
             }
         }
         Expected::Price(at) => {
-            print!(host; "error=price {at} is not ");
-            if number { "from 1 to 1000" } else { "a number" }
+            print!(host; "error=price {at}");
+            if number {
+                " is not from 1 to 1000"
+            } else {
+                " is not a number"
+            }
         }
         Expected::Allowance if number => "error=allowance is not from 0 to 18446744073709551615",
         Expected::Allowance => "error=allowance is not a number or plan",

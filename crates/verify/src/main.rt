@@ -59,12 +59,12 @@ fn print_line(host: &impl Host, line: Line, text: &[u8])
     requires { line.start ≤ length text.now }
 {
     let number = line.number;
-    print!(host; "differs={number} ");
     let rest = &text[line.start..];
     if rest.is_empty() {
-        println!(host; "nothing");
+        println!(host; "differs={number} nothing");
         return;
     }
+    print!(host; "differs={number} ");
     print_text(host, rest.split(|b| *b == b'\n').next().unwrap_or(rest));
     println!(host; "");
 }
