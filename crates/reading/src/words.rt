@@ -179,7 +179,8 @@ pub fn asks_change(name: Name, w: Word) -> Answer
 {
     match name {
         Name::Add | Name::Sub => asks_number(0, 1_000_000_000, w),
-        Name::Mul | Name::Div => asks_number(1, 1_000_000_000, w),
+        Name::Mul => asks_number(1, 1_000_000_000, w),
+        Name::Div => asks_number(1, 1_000_000_000, w),
         _ => Err(LineQuestion::Shape),
     }
 }

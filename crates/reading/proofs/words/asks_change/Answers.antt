@@ -16,4 +16,8 @@ returns-in-Add c = c.asks_number.ensures ∙ two c.args.name Name.Add Name.Sub c
 
 pub returns-in-Mul : goal.returns-in-Mul
 unfolding highest
-returns-in-Mul c = c.asks_number-in-Mul.ensures ∙ two c.args.name Name.Mul Name.Div c.args.w c.in-Mul.is refl
+returns-in-Mul c = c.asks_number-in-Mul.ensures ∙ ap (λ x. asks_change x c.args.w) (sym c.in-Mul.is)
+
+pub returns-in-Div : goal.returns-in-Div
+unfolding highest
+returns-in-Div c = c.asks_number-in-Div.ensures ∙ ap (λ x. asks_change x c.args.w) (sym c.in-Div.is)
